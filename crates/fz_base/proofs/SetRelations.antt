@@ -1,0 +1,76 @@
+-- From what ranges cover to the sets of their numbers.
+use Rattle.std.proofs.Common.{◌≡◌, ℤ, ◌≤ℤ◌, Bool, true, false, not, ◌&&◌, ◌||◌, ◌↔◌, List, refl, sym, ap, ◌∙◌}
+use Rattle.std.specs.List.{list_any}
+use Rattle.std.specs.List.Sorted.{IsPermutation}
+use Rattle.std.specs.Ordering.{int_eq}
+use Rattle.std.proofs.lemmas.List.Sorted.{list_any-IsPermutation}
+use Rattle.std.specs.Cmp.{int_cmp_total, both_ways}
+use Rattle.std.specs.FinSet.{contains, from_list, contains-from_list, union, intersection, difference, is_subset, contains-union, contains-intersection, contains-difference, is_subset-contains, contains-is_subset}
+use Rattle.std.proofs.lemmas.Bool.{false≢true}
+use Rattle.fz_base.specs.declared.ranges.Range.{Range}
+use Rattle.fz_base.specs.declared.ranges.Rule.TheVariants.{Union, Intersect, Minus, Symdiff}
+use Rattle.fz_base.specs.Sets.{NumberSet, numbers_between, symmetric_difference, LiesWithin}
+use Rattle.fz_base.specs.Ranges.{numbers_of, covers, is_between, keeps}
+use Rattle.fz_base.proofs.Numbers.{contains-numbers_of, contains-numbers_between, contains-symmetric_difference, same_numbers}
+
+-- a list of ranges that are those of the set
+pub seen : (s : NumberSet) (rs ls : List Range) → numbers_of rs ≡ s → ls ≡ rs → (x : ℤ) → covers ls x ≡ contains s x
+seen s rs ls view e x = rw (e, ← view) (sym (contains-numbers_of rs x))
+
+-- ranges that cover what a set contains
+pub made : (rs : List Range) (s : NumberSet) → ((x : ℤ) → covers rs x ≡ contains s x) → numbers_of rs ≡ s
+made rs s is = same_numbers (numbers_of rs) s (λ x. contains-numbers_of rs x ∙ is x)
+
+pub between_made : (lo hi : ℤ) (out : List Range) → ((x : ℤ) → covers out x ≡ is_between lo hi x) → numbers_of out ≡ numbers_between lo hi
+between_made lo hi out is = made out (numbers_between lo hi) (λ x. is x ∙ sym (contains-numbers_between lo hi x))
+
+pub listed_made : (numbers sorted : List ℤ) (out : List Range) → IsPermutation numbers sorted → ((x : ℤ) → covers out x ≡ list_any (int_eq x) sorted) → numbers_of out ≡ from_list numbers
+listed_made numbers sorted out moved is =
+    made out (from_list numbers) (λ x. is x ∙ sym (list_any-IsPermutation (int_eq x) numbers sorted moved) ∙ sym (contains-from_list int_cmp_total numbers x))
+
+in_both : (p q : Bool) → (p && not q) ≡ false → p ≡ true → q ≡ true
+in_both true true e h = refl
+in_both true false e h = sym e
+in_both false q e h = absurd (false≢true h)
+
+in_no_other : (p q : Bool) → (p ≡ true → q ≡ true) → (p && not q) ≡ false
+in_no_other true q h = ap not (h refl)
+in_no_other false q h = refl
+
+alike : (p q : Bool) → ((p && not q) || (q && not p)) ≡ false → p ≡ q
+alike true true e = refl
+alike true false e = e
+alike false true e = sym e
+alike false false e = refl
+
+not_apart : (p : Bool) → ((p && not p) || (p && not p)) ≡ false
+not_apart true = refl
+not_apart false = refl
+
+module _ (s t : NumberSet) (a b : List Range) (is_a : (x : ℤ) → covers a x ≡ contains s x) (is_b : (x : ℤ) → covers b x ≡ contains t x) where
+  pub union_made : (out : List Range) → ((x : ℤ) → covers out x ≡ keeps Union (covers a x) (covers b x)) → numbers_of out ≡ union s t
+  union_made out kept = made out (union s t) (λ x. kept x ∙ rw (is_a x, is_b x) (sym (contains-union int_cmp_total s t x)))
+
+  pub intersection_made : (out : List Range) → ((x : ℤ) → covers out x ≡ keeps Intersect (covers a x) (covers b x)) → numbers_of out ≡ intersection s t
+  intersection_made out kept = made out (intersection s t) (λ x. kept x ∙ rw (is_a x, is_b x) (sym (contains-intersection int_cmp_total s t x)))
+
+  pub difference_made : (out : List Range) → ((x : ℤ) → covers out x ≡ keeps Minus (covers a x) (covers b x)) → numbers_of out ≡ difference s t
+  difference_made out kept = made out (difference s t) (λ x. kept x ∙ rw (is_a x, is_b x) (sym (contains-difference int_cmp_total s t x)))
+
+  pub symmetric_difference_made : (out : List Range) → ((x : ℤ) → covers out x ≡ keeps Symdiff (covers a x) (covers b x)) → numbers_of out ≡ symmetric_difference s t
+  symmetric_difference_made out kept = made out (symmetric_difference s t) (λ x. kept x ∙ rw (is_a x, is_b x) (sym (contains-symmetric_difference s t x)))
+
+  pub is_subset_is : (r : Bool) → (r ≡ true ↔ ((x : ℤ) → keeps Minus (covers a x) (covers b x) ≡ false)) → r ≡ is_subset s t
+  is_subset_is r h =
+      both_ways r (is_subset s t)
+      (λ e. contains-is_subset int_cmp_total s t (λ x in_s. sym (is_b x) ∙ in_both (covers a x) (covers b x) (h.0 e x) (is_a x ∙ in_s)))
+      (λ e. h.1 (λ x. in_no_other (covers a x) (covers b x) (λ in_a. is_b x ∙ is_subset-contains int_cmp_total s t e x (sym (is_a x) ∙ in_a))))
+
+  pub equals_is : (r : Bool) → (r ≡ true ↔ ((x : ℤ) → keeps Symdiff (covers a x) (covers b x) ≡ false)) → (r ≡ true ↔ (s ≡ t))
+  equals_is r h = (
+    λ e. same_numbers s t (λ x. sym (is_a x) ∙ alike (covers a x) (covers b x) (h.0 e x) ∙ is_b x),
+    λ e. h.1 (λ x. rw (is_a x, is_b x, e) (not_apart (contains t x))),
+  )
+
+pub lies_within_is : (s : NumberSet) (a : List Range) → ((x : ℤ) → covers a x ≡ contains s x) → (lo hi : ℤ) (r : Bool) → (r ≡ true ↔ ((x : ℤ) → covers a x ≡ true → (lo ≤ℤ x) × (x ≤ℤ hi))) → (r ≡ true ↔ LiesWithin lo hi s)
+lies_within_is s a is_a lo hi r h = (λ e x in_s. h.0 e x (is_a x ∙ in_s), λ all. h.1 (λ x in_a. all x (sym (is_a x) ∙ in_a)))

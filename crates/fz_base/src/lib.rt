@@ -1,0 +1,18 @@
+//! What the other crates of the checker stand on: places in a source ([`Span`]), finite sets of whole
+//! numbers ([`IntSet`]) and the values of FlatZinc over int, bool and set ([`Value`]).
+//!
+//! A set is kept as ranges of 64-bit numbers, so `1..1000000000` takes no more memory than `1..2`.
+//! It has no limit but memory. Calls that make a set take an allocator and refuse only where memory
+//! runs out; calls that ask something of a set take no memory and always succeed.
+#![tactic(auto)]
+
+mod ranges;
+mod sets;
+mod span;
+#[cfg(test)]
+mod tests;
+mod value;
+
+pub use sets::{IntSet, SetError};
+pub use span::Span;
+pub use value::Value;

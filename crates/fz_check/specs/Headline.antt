@@ -1,0 +1,24 @@
+-- What an accepted stream has (this project's profile).
+use Rattle.std.specs.Prelude.{◌≡◌, ℕ, ◌≤◌, List, length, map}
+use Rattle.fz_syntax.specs.Text.{IsTextOfTree}
+use Rattle.fz_stream.specs.Parts.{StreamPart, IsStreamText}
+use Rattle.fz_stream.specs.Found.{blocks_in}
+use Rattle.fz_model.specs.Located.{LocatedTree, bare_of}
+use Rattle.fz_model.specs.Names.{HasNoFault}
+use Rattle.fz_verdict.specs.Blocks.{Block, bare_of_block}
+use Rattle.fz_verdict.specs.Headline.{HaveSolutions}
+
+-- The model's bytes are a text of a tree without faults; the stream's bytes are a text of parts, of which so many are blocks, at least
+-- one; and for these blocks there are assignments, one per block, each of which extends its block, lies inside all declared domains,
+-- satisfies every definition and constraint, and has an objective strictly better than the block before it.
+pub record HasSolutions (model stream : List ℕ) (count : ℕ) : Type 0 where
+  pub tree : LocatedTree
+  pub text_of_model : IsTextOfTree model (bare_of tree)
+  pub no_fault : HasNoFault tree
+  pub parts : List StreamPart
+  pub text_of_stream : IsStreamText stream parts
+  pub blocks : List Block
+  pub blocks_are : map bare_of_block blocks ≡ blocks_in parts
+  pub counted : length blocks ≡ count
+  pub at_least_one : 1 ≤ count
+  pub solutions : HaveSolutions tree blocks

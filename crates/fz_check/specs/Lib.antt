@@ -1,0 +1,6 @@
+pub mod View
+pub mod Simple
+pub mod Refusal
+pub mod Telling
+pub mod Headline
+pub mod Lines

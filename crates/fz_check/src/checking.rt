@@ -1,0 +1,115 @@
+//! The check of a stream against a model.
+
+ghost use Rattle.std.specs.Prelude.{◌≡◌, ℕ, List, map, IfOk, Err};
+ghost use Rattle.fz_syntax.specs.SyntaxError.{SyntaxError as SyntaxFault};
+ghost use Rattle.fz_syntax.specs.Tree.{Tree};
+ghost use Rattle.fz_syntax.specs.Text.{IsTextOfTree};
+ghost use Rattle.fz_syntax.specs.Tokens.{toks};
+ghost use Rattle.fz_syntax.specs.Limits.{LexesWithNumbersInLimit};
+ghost use Rattle.fz_stream.specs.Parts.{StreamPart, IsStreamText};
+ghost use Rattle.fz_check.specs.Simple.{Beside, IsJudged};
+ghost use Rattle.fz_check.specs.Headline.{HasSolutions};
+ghost use Rattle.fz_check.specs.View.{verdict_view};
+
+use crate::error::{BlockError, CheckError};
+use crate::judge::judge;
+use crate::report::{Answer, Report, answer_to};
+use crate::scalars::{Scalars, Unfit};
+use crate::verdict::Verdict;
+use fz_stream::{Block, Stream, StreamError, blocks};
+use fz_syntax::{SyntaxError, parse, to_text};
+use std::alloc::Global;
+
+/// A block that can't be judged, by its number from 1, and why.
+type Unjudged = (usize, BlockError);
+
+/// The verdicts on the blocks, in order.
+fn judge_blocks<'a>(
+    alloc: Global,
+    model: &Scalars<'a>,
+    blocks: &[Block<'_>],
+) -> Result<Vec<Verdict<'a>>, Unjudged>
+    ensures { IfOk result (λ v. Beside (IsJudged (map (λ k. k.now) model.now.names.keys) model.now.variables.items model.now.posted.items) blocks.now v.items) }
+{
+    let mut verdicts = Vec::new(alloc);
+    for (place, block) in blocks.iter().enumerate() {
+        let number = place + 1;
+        let verdict = match judge(alloc, model, block) {
+            Ok(verdict) => verdict,
+            Err(error) => return Err((number, error)),
+        };
+        if verdicts.push(verdict).is_err() {
+            return Err((number, BlockError::Memory));
+        }
+    }
+    Ok(verdicts)
+}
+
+/// Judges each block of a stream against a model. The model's text, its names, the whole stream and then
+/// the blocks are looked at in this order, and the first fault refuses the check.
+///
+/// # Errors
+///
+/// `Model` where the model's bytes are a text of no tree, `Names` for a fault of its names, `NotYet` where
+/// the tree has a part that is not judged yet, `Stream` where the stream's bytes are a text of no blocks
+/// and claims, `Block` where a block does not fit the model, and want of memory.
+pub fn check<'a>(
+    alloc: Global,
+    model: &'a [u8],
+    stream: &[u8],
+) -> Result<Report<'a>, CheckError>
+    // A yes is a yes: what is accepted has solutions.
+    ensures accepted { IfOk result (λ r. (count : ℕ) → r.answer ≡ Answer.Accepted count → HasSolutions model.now stream.now count) }
+    // The model is refused only where its bytes are a text of no tree.
+    ensures no_tree { (e : SyntaxFault) → result ≡ Err (CheckError.Model e) → (t : Tree) → IsTextOfTree model.now t → ⊥ }
+{
+    let ast = match parse(alloc, model) {
+        Ok(ast) => ast,
+        Err(SyntaxError::Memory) => return Err(CheckError::Memory),
+        Err(error) => return Err(CheckError::Model(error)),
+    };
+    let scalars = match Scalars::of(alloc, &ast) {
+        Ok(scalars) => scalars,
+        Err(Unfit::Names(error)) => return Err(CheckError::Names(error)),
+        Err(Unfit::NotYet) => return Err(CheckError::NotYet),
+        Err(Unfit::Memory) => return Err(CheckError::Memory),
+    };
+    let Stream { blocks, claims } = match blocks(alloc, stream) {
+        Ok(stream) => stream,
+        Err(StreamError::Memory) => return Err(CheckError::Memory),
+        Err(error) => return Err(CheckError::Stream(error)),
+    };
+    let verdicts = match judge_blocks(alloc, &scalars, &blocks) {
+        Ok(verdicts) => verdicts,
+        Err((_, BlockError::Memory)) => return Err(CheckError::Memory),
+        Err((number, error)) => return Err(CheckError::Block(number, error)),
+    };
+    let answer = answer_to(&verdicts);
+    Ok(Report {
+        verdicts,
+        claims,
+        answer,
+    })
+}
+
+/// The canonical text of a model: one line an item, as `to_text` writes it.
+///
+/// # Errors
+///
+/// `Model` where the bytes are a text of no tree, and want of memory.
+pub fn show(alloc: Global, model: &[u8]) -> Result<Vec<u8>, CheckError>
+    // The text lexes to the tokens of the tree of which the bytes are a text.
+    ensures reads_back { IfOk result (λ text. (t : Tree) → IsTextOfTree model.now t → LexesWithNumbersInLimit text.items (toks t)) }
+    // It is refused only where the bytes are a text of no tree.
+    ensures no_tree { (e : SyntaxFault) → result ≡ Err (CheckError.Model e) → (t : Tree) → IsTextOfTree model.now t → ⊥ }
+{
+    let ast = match parse(alloc, model) {
+        Ok(ast) => ast,
+        Err(SyntaxError::Memory) => return Err(CheckError::Memory),
+        Err(error) => return Err(CheckError::Model(error)),
+    };
+    match to_text(alloc, &ast) {
+        Ok(text) => Ok(text),
+        Err(_) => Err(CheckError::Memory),
+    }
+}

@@ -1,0 +1,95 @@
+use fz_base::Span;
+use fz_model::ModelError;
+use fz_stream::StreamError;
+use fz_syntax::SyntaxError;
+use std::alloc::{AllocError, AllocFailed};
+use thiserror::Error;
+
+/// Why a block cannot be judged: its first fault against the model, or want of memory. Spans count
+/// from the stream's first byte.
+#[derive(Clone, Copy, Debug, PartialEq, Eq, Error)]
+pub enum BlockError {
+    /// A printed name is not declared.
+    #[error("UnknownName")]
+    UnknownName(Span),
+    /// A printed value is of another kind than its name.
+    #[error("Kind")]
+    Kind(Span),
+    /// A printed array has another number of elements than its name.
+    #[error("Length")]
+    Length(Span),
+    #[error("Memory")]
+    Memory,
+}
+
+/// Why a check has no report.
+#[derive(Clone, Copy, Debug, PartialEq, Eq, Error)]
+pub enum CheckError {
+    /// The model's bytes are a text of no tree.
+    #[error("model: {0}")]
+    Model(SyntaxError),
+    /// The model's tree has a fault; this is the leftmost.
+    #[error("model: {0}")]
+    Names(ModelError),
+    /// The stream's bytes are no text of blocks and claims.
+    #[error("stream: {0}")]
+    Stream(StreamError),
+    /// The block of this number, from 1, has a fault against the model.
+    #[error("block {0}: {1}")]
+    Block(usize, BlockError),
+    #[error("memory")]
+    Memory,
+    /// A read failed.
+    #[error("read")]
+    Read,
+    /// A write failed.
+    #[error("write")]
+    Write,
+    /// The model has a part that cannot be judged yet.
+    #[error("not yet")]
+    NotYet,
+}
+
+impl From<AllocError> for CheckError {
+    ghost use Rattle.std.specs.Prelude.{◌≡◌};
+    ghost use Rattle.fz_check.specs.declared.error.CheckError.TheVariants.{Memory};
+
+    ghost from_gives = { λ _ e. e ≡ Memory };
+
+    fn from(_e: AllocError) -> CheckError {
+        CheckError::Memory
+    }
+}
+
+impl<T: Drop> From<AllocFailed<T>> for CheckError {
+    ghost use Rattle.std.specs.Prelude.{◌≡◌};
+    ghost use Rattle.fz_check.specs.declared.error.CheckError.TheVariants.{Memory};
+
+    ghost from_gives = { λ _ e. e ≡ Memory };
+
+    fn from(_e: AllocFailed<T>) -> CheckError {
+        CheckError::Memory
+    }
+}
+
+impl From<AllocError> for BlockError {
+    ghost use Rattle.std.specs.Prelude.{◌≡◌};
+    ghost use Rattle.fz_check.specs.declared.error.BlockError.TheVariants.{Memory};
+
+    ghost from_gives = { λ _ e. e ≡ Memory };
+
+    fn from(_e: AllocError) -> BlockError {
+        BlockError::Memory
+    }
+}
+
+impl<T: Drop> From<AllocFailed<T>> for BlockError {
+    ghost use Rattle.std.specs.Prelude.{◌≡◌};
+    ghost use Rattle.fz_check.specs.declared.error.BlockError.TheVariants.{Memory};
+
+    ghost from_gives = { λ _ e. e ≡ Memory };
+
+    fn from(_e: AllocFailed<T>) -> BlockError {
+        BlockError::Memory
+    }
+}

@@ -1,0 +1,221 @@
+-- The tokens ahead of a place are what stands there: each step of the lexer takes the first of them, and those of a
+-- source without a fault are the ones that it lexes to.
+use Rattle.std.proofs.Common.{◌≡◌, ◌≢◌, ℕ, zero, suc, ◌+◌, ◌<◌, ◌≤◌, ◌^◌, List, [], ◌∷◌, ◌++◌, length, drop, get_or, ℤ, pos, negsuc, Option, Some, None, true, false, eqb, ⊎_elim, refl, sym, ap, ◌∙◌, subst, arith}
+use Rattle.std.specs.Prelude.{Result, Ok, Err, IfOk, IfErr, OnOk, IsOk}
+use Rattle.std.specs.Result.{result_unwrap_or}
+use Rattle.std.specs.List.{position_or_len}
+use Rattle.std.proofs.lemmas.List.{length-drop, append-nil, get_or_past}
+use Rattle.std.proofs.lemmas.Bool.{eqb-true, eqb-false, cases_Bool, cases_lt, ltb-true, ltb-false}
+use Rattle.std.proofs.lemmas.Int.{ints}
+use Rattle.fz_lex.specs.Byte.{is_blank, is_line_feed}
+use Rattle.fz_lex.specs.Token.{TokenValue, Word, Whole, FloatText, StringText, Marked}
+use Rattle.fz_lex.specs.Lexing.{SpannedToken, CutBetween, nothing, blank, comment, spelling, IsWholeComment, IsLongestSpelling, NothingBegins, LexesToSpanned}
+use Rattle.fz_lex.specs.Limits.{most_bytes, IsWithinLimit, IsTokenWithinLimit, AreWithinLimit, LexesWithinLimits}
+use Rattle.fz_lex.specs.Scan.{FrontToken, found, none, front_of}
+use Rattle.fz_lex.specs.Ahead.{gap_from, is_whole_within, is_within, tokens_at, tokens_from, tokens_ahead}
+use Rattle.fz_lex.specs.View.{spanned}
+use Rattle.fz_lex.specs.Left.{first_and}
+use Rattle.fz_lex.specs.Found.{NextFrom, FaultFrom, IsScanned, IsScanFault}
+use Rattle.fz_lex.specs.declared.token.Token.{Token}
+use Rattle.fz_lex.specs.declared.error.SyntaxError.{SyntaxError}
+use Rattle.fz_lex.specs.declared.error.SyntaxError.TheVariants.{TooLong, BadByte, TooLarge, Float, Syntax, TooDeep, TooMany, Memory}
+use Rattle.fz_lex.proofs.Laws.{found_is_longest, longest_is_positive, none_begins}
+use Rattle.fz_lex.proofs.Cuts.{at_place, cut_then, cut_forward, cut_continues, cut_stays, comment_positive, no_cut_from, no_limit_from}
+use Rattle.fz_lex.proofs.Lexed.{all_right, only_fault}
+
+-- why nothing more is read from a place on
+pub data IsStop (source : List ℕ) (place : ℕ) : Type 0 where
+  at_end : place ≡ length source → IsStop source place
+  at_fault : place < length source → NothingBegins (drop place source) → IsStop source place
+  at_large : (n : ℕ) (z : ℤ) → place < length source → IsLongestSpelling (drop place source) n (Whole z) → (¬ (IsWithinLimit z)) → IsStop source place
+
+-- the tokens from a place on, up to where nothing more is read
+pub record AreAhead (source : List ℕ) (place : ℕ) (tokens : List SpannedToken) : Type 0 where
+  pub stop : ℕ
+  pub cut : CutBetween source place stop tokens
+  pub numbers : AreWithinLimit tokens
+  pub stopped : IsStop source stop
+
+-- ---- There is one such list.
+
+stop_within : {source : List ℕ} {place : ℕ} → IsStop source place → place ≤ length source
+stop_within (at_end e) = omega arith
+stop_within (at_fault h n) = omega arith
+stop_within (at_large n z h l o) = omega arith
+
+no_more : {source : List ℕ} {p q : ℕ} {R : List SpannedToken} → IsStop source p → q ≤ length source → CutBetween source p q R → AreWithinLimit R → R ≡ []
+no_more (at_end e) h c w = cut_stays c (omega arith)
+no_more {source} {p} {q} (at_fault k n) h c w = ⊎_elim (λ l. absurd (no_cut_from c l n)) (λ l. cut_stays c l) (cases_lt p q)
+no_more {source} {p} {q} (at_large m z k l o) h c w = ⊎_elim (λ less. absurd (no_limit_from m z c less l o w)) (λ less. cut_stays c less) (cases_lt p q)
+
+ahead_before : (source : List ℕ) (p : ℕ) (S T : List SpannedToken) → (a : AreAhead source p S) (b : AreAhead source p T) → a.stop ≤ b.stop → S ≡ T
+ahead_before source p S T a b h =
+    let d = cut_continues a.cut b.cut h in
+    let all : AreWithinLimit (S ++ d.rest) = subst AreWithinLimit d.is b.numbers in
+    let none_left = no_more a.stopped (stop_within b.stopped) d.cut (all_right (λ t. IsTokenWithinLimit t.token) S d.rest all) in
+    sym (d.is ∙ (ap (λ R. S ++ R) none_left ∙ append-nil S))
+
+pub ahead_once : (source : List ℕ) (p : ℕ) (S T : List SpannedToken) → AreAhead source p S → AreAhead source p T → S ≡ T
+ahead_once source p S T a b = ⊎_elim (λ h. ahead_before source p S T a b (omega arith)) (λ h. sym (ahead_before source p T S b a h)) (cases_lt a.stop b.stop)
+
+-- ---- `tokens_ahead` gives it.
+
+-- what stands between a place and the next token
+record IsGap (source : List ℕ) (place end : ℕ) : Type 0 where
+  cut : CutBetween source place end []
+  within : end ≤ length source
+  no_blank : is_blank (get_or source end 0) ≡ false
+  no_comment : get_or source end 0 ≢ 37
+
+gap_at_end : (source : List ℕ) (place : ℕ) → place ≡ length source → IsGap source place place
+gap_at_end source place e =
+    let past = get_or_past source place 0 (omega arith) in
+    record { cut = nothing place; within = omega arith; no_blank = rw past refl; no_comment = λ h. omega arith }
+
+comment_within : (bytes : List ℕ) → position_or_len is_line_feed bytes ≤ length bytes
+comment_within [] = omega arith
+comment_within (b ∷ rest) =
+    let shorter = comment_within rest in
+    ⊎_elim (λ h. rw h (omega arith)) (λ h. rw h (omega arith)) (cases_Bool (is_line_feed b))
+
+before_end : (source : List ℕ) (place b : ℕ) → place ≤ length source → get_or source place 0 ≡ b → 0 < b → place < length source
+before_end source place b h e p = ⊎_elim (λ l. l) (λ l. absurd (let past = get_or_past source place 0 l in omega arith)) (cases_lt place (length source))
+
+blank_before_end : (source : List ℕ) (place : ℕ) → is_blank (get_or source place 0) ≡ true → place < length source
+blank_before_end source place b = ⊎_elim (λ l. l) (λ l. absurd (let past = get_or_past source place 0 l in let f = rw past at b in cc f)) (cases_lt place (length source))
+
+gap_is : (room : ℕ) (source : List ℕ) (place : ℕ) → place ≤ length source → length source ≤ place + room → IsGap source place (gap_from room source place)
+unfolding gap_from
+gap_is zero source place h r = gap_at_end source place (omega arith)
+gap_is (suc room) source place h r =
+    ⊎_elim
+    (λ b.
+    let before = blank_before_end source place b in
+    let g = gap_is room source (place + 1) (omega arith) (omega arith) in
+    rw b (record { cut = blank place _ _ before b g.cut; within = g.within; no_blank = g.no_blank; no_comment = g.no_comment }))
+    (λ b. rw b (
+    ⊎_elim
+    (λ c.
+    let is_percent : get_or source place 0 ≡ 37 = eqb-true (get_or source place 0) 37 c in
+    let n = position_or_len is_line_feed (drop place source) in
+    let whole : IsWholeComment (drop place source) n = record { begins = at_place source place ∙ is_percent; runs = refl } in
+    let positive = comment_positive (drop place source) n whole in
+    let shorter = comment_within (drop place source) in
+    let len = length-drop place source in
+    let before = before_end source place 37 h is_percent (omega arith) in
+    let g = gap_is room source (place + n) (omega arith) (omega arith) in
+    rw c (record { cut = comment place n _ _ whole g.cut; within = g.within; no_blank = g.no_blank; no_comment = g.no_comment }))
+    (λ c. rw c (record { cut = nothing place; within = h; no_blank = b; no_comment = eqb-false (get_or source place 0) 37 c }))
+    (cases_Bool (eqb (get_or source place 0) 37))))
+    (cases_Bool (is_blank (get_or source place 0)))
+
+whole_within : (z : ℤ) → is_whole_within z ≡ true → IsWithinLimit z
+whole_within (pos n) h = let l = ltb-true n (2 ^ 63) h in (omega (arith, ints), omega (arith, ints))
+whole_within (negsuc n) h = let l = ltb-true n (2 ^ 63) h in (omega (arith, ints), omega (arith, ints))
+
+whole_outside : (z : ℤ) → is_whole_within z ≡ false → ¬ (IsWithinLimit z)
+whole_outside (pos n) h w = let l = ltb-false n (2 ^ 63) h in omega (arith, ints, w.1)
+whole_outside (negsuc n) h w = let l = ltb-false n (2 ^ 63) h in omega (arith, ints, w.0)
+
+token_within : (t : TokenValue) → is_within t ≡ true → IsTokenWithinLimit t
+token_within (Word text) h = tt
+token_within (Whole z) h = whole_within z h
+token_within (FloatText text) h = tt
+token_within (StringText text) h = tt
+token_within (Marked m) h = tt
+
+-- a token outside the limit stops the list
+stop_at_token : (source : List ℕ) (start n : ℕ) (t : TokenValue) → start < length source → IsLongestSpelling (drop start source) n t → is_within t ≡ false → IsStop source start
+stop_at_token source start n (Word text) h l o = absurd (cc o)
+stop_at_token source start n (Whole z) h l o = at_large n z h l (whole_outside z o)
+stop_at_token source start n (FloatText text) h l o = absurd (cc o)
+stop_at_token source start n (StringText text) h l o = absurd (cc o)
+stop_at_token source start n (Marked m) h l o = absurd (cc o)
+
+-- what is found behind the gap, and the tokens from its end on
+ahead_at : (source : List ℕ) (place start : ℕ) (rest : ℕ → List SpannedToken) (front : FrontToken) → IsGap source place start → front_of (drop start source) ≡ front
+    → ((end : ℕ) → start < end → end ≤ length source → AreAhead source end (rest end)) → AreAhead source place (tokens_at rest start front)
+ahead_at source place start rest none g f r =
+    ⊎_elim
+    (λ h. record {
+      stop = start;
+      cut = g.cut;
+      numbers = tt;
+      stopped = at_fault h (record {
+        a_byte = omega (arith, length-drop start source);
+        no_blank = rw at_place g.no_blank;
+        no_comment = λ e. g.no_comment (sym (at_place source start) ∙ e);
+        no_spelling = none_begins (drop start source) f;
+      });
+    })
+    (λ h. let w = g.within in record { stop = start; cut = g.cut; numbers = tt; stopped = at_end (omega arith) })
+    (cases_lt start (length source))
+ahead_at source place start rest (found t n) g f r =
+    let l = found_is_longest (drop start source) t n f in
+    let positive = longest_is_positive (drop start source) t n l in
+    let within = l.within in
+    let len = length-drop start source in
+    ⊎_elim
+    (λ w.
+    let a = r (start + n) (omega arith) (omega arith) in
+    let token : SpannedToken = record { token = t; start = start; end = start + n } in
+    rw w (record { stop = a.stop; cut = cut_then g.cut (spelling start n _ token _ refl refl l a.cut); numbers = (token_within t w, a.numbers); stopped = a.stopped }))
+    (λ w. rw w (record { stop = start; cut = g.cut; numbers = tt; stopped = stop_at_token source start n t (omega arith) l w }))
+    (cases_Bool (is_within t))
+
+ahead_from : (room : ℕ) (source : List ℕ) (place : ℕ) → place ≤ length source → length source ≤ place + room → AreAhead source place (tokens_from room source place)
+unfolding tokens_from
+ahead_from zero source place h r = record { stop = place; cut = nothing place; numbers = tt; stopped = at_end (omega arith) }
+ahead_from (suc room) source place h r =
+    let start = gap_from (length source) source place in
+    let g = gap_is (length source) source place h (omega arith) in
+    ahead_at source place start (λ end. tokens_from room source end) (front_of (drop start source)) g refl (λ end l w. ahead_from room source end w (let f = cut_forward g.cut in omega arith))
+
+pub ahead_is : (source : List ℕ) (place : ℕ) → place ≤ length source → AreAhead source place (tokens_ahead source place)
+ahead_is source place h = ahead_from (length source) source place h (omega arith)
+
+-- ---- The lexer's steps.
+
+pub ahead_token : (source : List ℕ) (place end : ℕ) (t : Token) → place ≤ length source → end ≤ length source → NextFrom source place end (Some t) → tokens_ahead source place ≡ spanned t ∷ tokens_ahead source end
+ahead_token source place end t h k n =
+    let a = ahead_is source end k in
+    ahead_once source place _ _ (ahead_is source place h) (record { stop = a.stop; cut = cut_then n.0 a.cut; numbers = (n.1, a.numbers); stopped = a.stopped })
+
+pub ahead_none : (source : List ℕ) (place end : ℕ) → place ≤ length source → NextFrom source place end None → tokens_ahead source place ≡ []
+ahead_none source place end h n =
+    ahead_once source place _ _ (ahead_is source place h) (record { stop = length source; cut = n; numbers = tt; stopped = at_end refl })
+
+pub ahead_fault : (source : List ℕ) (place : ℕ) (e : SyntaxError) → place ≤ length source → FaultFrom source place e → tokens_ahead source place ≡ []
+ahead_fault source place TooLong h f = absurd f
+ahead_fault source place (BadByte span) h f =
+    let n = f.1 in
+    ahead_once source place _ _ (ahead_is source place h) (record { stop = span.start; cut = f.0; numbers = tt; stopped = at_fault (omega (arith, n.a_byte, length-drop span.start source)) n })
+ahead_fault source place (TooLarge span) h f =
+    let l = f.3 in
+    let positive = longest_is_positive _ _ _ l in
+    ahead_once source place _ _ (ahead_is source place h) (record { stop = span.start; cut = f.2; numbers = tt; stopped = at_large f.0 f.1 (omega (arith, l.within, positive, length-drop span.start source)) l f.4 })
+ahead_fault source place (Float span) h f = absurd f
+ahead_fault source place (Syntax span) h f = absurd f
+ahead_fault source place (TooDeep span) h f = absurd f
+ahead_fault source place (TooMany span) h f = absurd f
+ahead_fault source place Memory h f = absurd f
+
+-- ---- A source without a fault lexes to the tokens ahead of its first byte.
+
+pub lexed_ahead : (source : List ℕ) (tokens : List SpannedToken) → LexesToSpanned source tokens → AreWithinLimit tokens → tokens ≡ tokens_ahead source 0
+lexed_ahead source tokens l w =
+    ahead_once source 0 _ _ (record { stop = length source; cut = l; numbers = w; stopped = at_end refl }) (ahead_is source 0 (omega arith))
+
+-- what a reader has left after a step of the lexer: the tokens ahead of where the lexer was
+pub step_leaves : (source : List ℕ) (place end : ℕ) (r : Result (Option Token) SyntaxError) → place ≤ length source → end ≤ length source → IfOk r (NextFrom source place end) → IfErr r (FaultFrom source place) → first_and (result_unwrap_or r None) (tokens_ahead source end) ≡ tokens_ahead source place
+step_leaves source place end (Ok (Some t)) h k n f = sym (ahead_token source place end t h k n)
+step_leaves source place end (Ok None) h k n f = sym (ahead_none source place end h n)
+step_leaves source place end (Err e) h k n f = sym (ahead_fault source place e h f)
+
+pub scanned_lexes : (source : List ℕ) (r : Result (Unit {0}) SyntaxError) → length source ≤ most_bytes → OnOk r (IsScanned source) → OnOk r (LexesWithinLimits source (tokens_ahead source 0))
+scanned_lexes source (Err e) h s = s
+scanned_lexes source (Ok v) h s = subst (LexesWithinLimits source) (lexed_ahead source s.0 s.1 s.2) (record { short = h; lexes = s.1; numbers = s.2 })
+
+pub only_scanned : (source : List ℕ) (T : List SpannedToken) (r : Result (Unit {0}) SyntaxError) → LexesWithinLimits source T → IfErr r (IsScanFault source) → IsOk r
+only_scanned source T (Ok v) h f = refl
+only_scanned source T (Err e) h f = absurd (f.1 (only_fault source T h e f.0))

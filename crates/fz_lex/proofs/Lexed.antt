@@ -1,0 +1,55 @@
+-- What a lexed source lexes to, and that it is refused for no other reason.
+use Rattle.std.proofs.Common.{◌≡◌, ℕ, ◌<◌, List, [], ◌∷◌, ◌++◌, length, refl, subst, arith}
+use Rattle.std.specs.List.{AllByRecursion}
+use Rattle.std.proofs.lemmas.List.{length-drop}
+use Rattle.fz_lex.specs.Lexing.{SpannedToken}
+use Rattle.fz_lex.specs.Limits.{IsTokenWithinLimit, AreWithinLimit, LexesWithinLimits}
+use Rattle.fz_lex.specs.View.{IsLexicalFault, IsPlacedWithin, all_spanned}
+use Rattle.fz_lex.specs.Found.{IsLexed}
+use Rattle.fz_lex.specs.declared.token.Token.{Token}
+use Rattle.fz_lex.specs.declared.error.SyntaxError.{SyntaxError}
+use Rattle.fz_lex.specs.declared.error.SyntaxError.TheVariants.{TooLong, BadByte, TooLarge, Float, Syntax, TooDeep, TooMany, Memory}
+use Rattle.fz_lex.proofs.Laws.{longest_is_positive}
+use Rattle.fz_lex.proofs.Cuts.{cut_once, cut_continues, no_cut_from, no_limit_from}
+
+pub all_right : {X : Type 0} (P : X → Type 0) (xs ys : List X) → AllByRecursion P (xs ++ ys) → AllByRecursion P ys
+all_right P [] ys h = h
+all_right P (x ∷ xs) ys h = all_right P xs ys h.1
+
+pub only_tokens : (source : List ℕ) (T : List SpannedToken) → LexesWithinLimits source T → (tokens : List Token) → IsLexed source tokens → all_spanned tokens ≡ T
+only_tokens source T h tokens l = cut_once l.0 h.lexes
+
+pub only_fault : (source : List ℕ) (T : List SpannedToken) → LexesWithinLimits source T → (e : SyntaxError) → IsLexicalFault source e → e ≡ Memory
+only_fault source T h TooLong f = let s = h.short in absurd (omega arith)
+only_fault source T h (BadByte span) f =
+    let n = f.3 in
+    let byte : span.start < length source = omega (arith, n.a_byte, length-drop span.start source) in
+    let d = cut_continues f.1 h.lexes (omega arith) in
+    absurd (no_cut_from d.cut byte n)
+only_fault source T h (TooLarge span) f =
+    let l = f.5 in
+    let positive = longest_is_positive _ _ _ l in
+    let byte : span.start < length source = omega (arith, l.within, positive, length-drop span.start source) in
+    let d = cut_continues f.3 h.lexes (omega arith) in
+    let all : AreWithinLimit (f.0 ++ d.rest) = subst AreWithinLimit d.is h.numbers in
+    absurd (no_limit_from f.1 f.2 d.cut byte l f.6 (all_right (λ t. IsTokenWithinLimit t.token) f.0 d.rest all))
+only_fault source T h (Float span) f = absurd f
+only_fault source T h (Syntax span) f = absurd f
+only_fault source T h (TooDeep span) f = absurd f
+only_fault source T h (TooMany span) f = absurd f
+only_fault source T h Memory f = refl
+
+pub fault_placed : (source : List ℕ) (e : SyntaxError) → IsLexicalFault source e → IsPlacedWithin (length source) e
+fault_placed source TooLong f = tt
+fault_placed source (BadByte span) f =
+    let n = f.3 in
+    (omega arith, omega (arith, n.a_byte, length-drop span.start source))
+fault_placed source (TooLarge span) f =
+    let l = f.5 in
+    let positive = longest_is_positive _ _ _ l in
+    (omega arith, omega (arith, l.within, positive, length-drop span.start source))
+fault_placed source (Float span) f = absurd f
+fault_placed source (Syntax span) f = absurd f
+fault_placed source (TooDeep span) f = absurd f
+fault_placed source (TooMany span) f = absurd f
+fault_placed source Memory f = tt

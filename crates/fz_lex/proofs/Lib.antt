@@ -1,0 +1,15 @@
+pub mod AheadLaws
+pub mod Covers
+pub mod Cuts
+pub mod Fronts
+pub mod Joined
+pub mod Laws
+pub mod Lexed
+pub mod Next
+pub mod Numbers
+pub mod Printed
+pub mod Rows
+pub mod Runs
+pub mod Spelled
+pub mod StringRest
+pub mod Texts

@@ -1,0 +1,95 @@
+-- What stands at a place behind blanks and comments, from what the code finds there.
+use Rattle.std.proofs.Common.{◌≡◌, ◌≢◌, ℕ, ◌+◌, ◌-◌, ◌<◌, ◌≤◌, List, [], ◌∷◌, ◌++◌, length, take, drop, get_or, slice_range, IsFalse, refl, sym, ap, ◌∙◌, subst, arith}
+use Rattle.std.proofs.lemmas.List.{take_rest, length-drop, append-nil}
+use Rattle.std.specs.List.{AllByRecursion}
+use Rattle.fz_lex.specs.Byte.{is_blank}
+use Rattle.fz_lex.specs.Lexing.{SpannedToken, CutBetween, CutUpTo, IsLongestSpelling}
+use Rattle.fz_lex.specs.Limits.{IsTokenWithinLimit, AreWithinLimit}
+use Rattle.fz_lex.specs.View.{token_value, IsLexicalFault}
+use Rattle.fz_lex.specs.Found.{IsFrontOf, FaultFrom}
+use Rattle.fz_lex.specs.declared.token.TokenKind.{TokenKind}
+use Rattle.fz_lex.specs.declared.scanner.Front.TheVariants.{Found, OutsideLimit, Nothing}
+use Rattle.fz_lex.specs.declared.error.SyntaxError.{SyntaxError}
+use Rattle.fz_lex.specs.declared.error.SyntaxError.TheVariants.{TooLong, BadByte, TooLarge, Float, Syntax, TooDeep, TooMany, Memory}
+use Rattle.fz_lex.proofs.Laws.{found_is_longest, longest_is_positive, none_begins}
+use Rattle.fz_lex.proofs.Cuts.{gap_then_token, cut_then, cut_forward, at_place}
+
+-- the rest of the source, as the code sees it
+abbrev pub rest_from : List ℕ → ℕ → List ℕ
+rest_from source start = take (length source - start) (drop start source)
+
+module _ (source : List ℕ) (place start : ℕ) (in_range : start ≤ length source) (gap : CutBetween source place start []) where
+  found_longest : (kind : TokenKind) (len : ℕ) → IsFrontOf (rest_from source start) (Found kind len) → IsLongestSpelling (drop start source) len (token_value kind (take len (drop start source)))
+  found_longest kind len f = let e = (rw take_rest at f.0) in found_is_longest (drop start source) _ len e
+
+  pub found_within : (kind : TokenKind) (len : ℕ) → IsFrontOf (rest_from source start) (Found kind len) → start + len ≤ length source
+  found_within kind len f = let l = found_longest kind len f in let w = l.within in omega (arith, length-drop start source)
+
+  pub found_moves : (kind : TokenKind) (len : ℕ) → IsFrontOf (rest_from source start) (Found kind len) → place < start + len
+  found_moves kind len f =
+      let l = longest_is_positive _ _ len (found_longest kind len f) in
+      let g = cut_forward gap in
+      omega arith
+
+  slice_is : (len : ℕ) → slice_range source start (start + len) ≡ take len (drop start source)
+  slice_is len = ap (λ n. take n (drop start source)) (omega arith)
+
+  pub found_cut : (kind : TokenKind) (len : ℕ) (t : SpannedToken) → IsFrontOf (rest_from source start) (Found kind len) → t.start ≡ start → t.end ≡ start + len → t.token ≡ token_value kind (slice_range source start (start + len)) → CutBetween source place (start + len) (t ∷ [])
+  found_cut kind len t f s e v =
+      let is : t.token ≡ token_value kind (take len (drop start source)) = v ∙ ap (token_value kind) (slice_is len) in
+      gap_then_token source place start len t gap s e (subst (λ u. IsLongestSpelling (drop start source) len u) (sym is) (found_longest kind len f))
+
+  pub found_limit : (kind : TokenKind) (len : ℕ) → IsFrontOf (rest_from source start) (Found kind len) → IsTokenWithinLimit (token_value kind (slice_range source start (start + len)))
+  found_limit kind len f =
+      let same : take len (rest_from source start) ≡ slice_range source start (start + len) = ap (take len) (take_rest source start) ∙ sym (slice_is len) in
+      subst (λ text. IsTokenWithinLimit (token_value kind text)) same f.1
+
+  pub outside_within : (len : ℕ) → IsFrontOf (rest_from source start) (OutsideLimit len) → start + len ≤ length source
+  outside_within len f =
+      let e = (rw take_rest at f.1) in
+      let l = found_is_longest (drop start source) _ len e in
+      let w = l.within in
+      omega (arith, length-drop start source)
+
+  pub outside_fault : (len : ℕ) → IsFrontOf (rest_from source start) (OutsideLimit len) → FaultFrom source place (TooLarge (record { start = start; end = start + len }))
+  outside_fault len f =
+      let e = (rw take_rest at f.1) in
+      (len, f.0, gap, found_is_longest (drop start source) _ len e, f.2, refl)
+
+  pub nothing_fault : IsFrontOf (rest_from source start) Nothing → start < length source → IsFalse (is_blank (get_or source start 0)) → get_or source start 0 ≢ 37 → FaultFrom source place (BadByte (record { start = start; end = start + 1 }))
+  nothing_fault f l b k =
+      let e = (rw take_rest at f) in (
+        gap,
+        record {
+          a_byte = omega (arith, length-drop start source);
+          no_blank = rw at_place b;
+          no_comment = λ h. k (sym (at_place source start) ∙ h);
+          no_spelling = none_begins (drop start source) e;
+        },
+        refl,
+      )
+
+-- a fault behind tokens that are cut off already is a fault of the source
+pub fault_after : (source : List ℕ) (place : ℕ) (before : List SpannedToken) → CutUpTo source place before → AreWithinLimit before → (e : SyntaxError) → FaultFrom source place e → IsLexicalFault source e
+fault_after source place before c w TooLong f = absurd f
+fault_after source place before c w (BadByte span) f = (before ++ [], cut_then c f.0, rw append-nil w, f.1, f.2)
+fault_after source place before c w (TooLarge span) f = (before ++ [], f.0, f.1, cut_then c f.2, rw append-nil w, f.3, f.4, f.5)
+fault_after source place before c w (Float span) f = absurd f
+fault_after source place before c w (Syntax span) f = absurd f
+fault_after source place before c w (TooDeep span) f = absurd f
+fault_after source place before c w (TooMany span) f = absurd f
+fault_after source place before c w Memory f = absurd f
+
+pub fault_is_no_memory : (source : List ℕ) (place : ℕ) (e : SyntaxError) → FaultFrom source place e → e ≢ Memory
+fault_is_no_memory source place TooLong f m = absurd f
+fault_is_no_memory source place (BadByte span) f m = cc m
+fault_is_no_memory source place (TooLarge span) f m = cc m
+fault_is_no_memory source place (Float span) f m = absurd f
+fault_is_no_memory source place (Syntax span) f m = absurd f
+fault_is_no_memory source place (TooDeep span) f m = absurd f
+fault_is_no_memory source place (TooMany span) f m = absurd f
+fault_is_no_memory source place Memory f m = absurd f
+
+pub all_push : {X : Type 0} (P : X → Type 0) (xs : List X) (x : X) → AllByRecursion P xs → P x → AllByRecursion P (xs ++ x ∷ [])
+all_push P [] x h p = (p, tt)
+all_push P (y ∷ ys) x h p = (h.0, all_push P ys x h.1 p)

@@ -1,0 +1,44 @@
+-- The tokens that stand ahead of a place of a source: those up to its end, or up to the first fault from there on.
+-- `Tokens`, which reads them one by one, is said by this list; that it is the list of "lexes to" is proved.
+use Rattle.std.specs.Prelude.{ℕ, zero, suc, ◌+◌, ◌^◌, List, [], ◌∷◌, length, drop, slice_index, Bool, true, nat_lt, ◌==◌, if◌then◌else◌, ℤ, pos, negsuc}
+use Rattle.std.specs.List.{position_or_len}
+use Rattle.fz_lex.specs.Byte.{is_blank, is_line_feed}
+use Rattle.fz_lex.specs.Token.{TokenValue, Word, Whole, FloatText, StringText, Marked}
+use Rattle.fz_lex.specs.Lexing.{SpannedToken}
+use Rattle.fz_lex.specs.Scan.{FrontToken, found, none, front_of}
+
+-- where the blanks and comments end that begin at a place, with room for so many of them
+unfoldable pub gap_from : ℕ → List ℕ → ℕ → ℕ
+gap_from zero source place = place
+gap_from (suc room) source place =
+    if is_blank (slice_index source place) then gap_from room source (place + 1)
+    else (if slice_index source place == 37 then gap_from room source (place + position_or_len is_line_feed (drop place source))
+    else place)
+
+-- whether a number is within the limit
+abbrev pub is_whole_within : ℤ → Bool
+is_whole_within (pos n) = nat_lt n (2 ^ 63)
+is_whole_within (negsuc n) = nat_lt n (2 ^ 63)
+
+-- whether a token is
+abbrev pub is_within : TokenValue → Bool
+is_within (Word text) = true
+is_within (Whole z) = is_whole_within z
+is_within (FloatText text) = true
+is_within (StringText text) = true
+is_within (Marked m) = true
+
+-- what is found at a place, and then the tokens from its end on
+abbrev pub tokens_at : (ℕ → List SpannedToken) → ℕ → FrontToken → List SpannedToken
+tokens_at from start none = []
+tokens_at from start (found t n) = if is_within t then (record { token = t; start = start; end = start + n }) ∷ from (start + n) else []
+
+-- the tokens from a place on, with room for so many of them
+unfoldable pub tokens_from : ℕ → List ℕ → ℕ → List SpannedToken
+tokens_from zero source place = []
+tokens_from (suc room) source place =
+    tokens_at (λ end. tokens_from room source end) (gap_from (length source) source place) (front_of (drop (gap_from (length source) source place) source))
+
+-- the tokens ahead of a place: each holds a byte, so there is room for all
+abbrev pub tokens_ahead : List ℕ → ℕ → List SpannedToken
+tokens_ahead source place = tokens_from (length source) source place

@@ -1,0 +1,15 @@
+-- What a reader of tokens has left: its first token, and those ahead of the place that it has come to.
+use Rattle.std.specs.Prelude.{List, [], ◌∷◌, Option, Some, None}
+use Rattle.fz_lex.specs.Lexing.{SpannedToken}
+use Rattle.fz_lex.specs.View.{spanned}
+use Rattle.fz_lex.specs.Ahead.{tokens_ahead}
+use Rattle.fz_lex.specs.declared.token.Token.{Token}
+use Rattle.fz_lex.specs.declared.ahead.Tokens.{Tokens}
+
+abbrev pub first_and : Option Token → List SpannedToken → List SpannedToken
+first_and None rest = []
+first_and (Some t) rest = spanned t ∷ rest
+
+-- the tokens that are left
+abbrev pub left : Tokens → List SpannedToken
+left t = first_and t.first (tokens_ahead t.lexer.source.now t.lexer.place)

@@ -1,0 +1,61 @@
+-- A token of the code as the plain data that the definitions speak of, and what a refusal tells of the source
+-- (this project's profile).
+use Rattle.std.specs.Prelude.{◌≡◌, ℕ, ◌+◌, ◌<◌, ◌≤◌, List, length, drop, slice_range, map, ℤ}
+use Rattle.std.specs.List.{AllByRecursion}
+use Rattle.fz_base.specs.declared.span.Span.{Span}
+use Rattle.fz_lex.specs.Token.{TokenValue, Word, Whole, FloatText, StringText, Marked}
+use Rattle.fz_lex.specs.Lexing.{SpannedToken, CutUpTo, NothingBegins, IsLongestSpelling}
+use Rattle.fz_lex.specs.Limits.{most_bytes, IsWithinLimit, AreWithinLimit}
+use Rattle.fz_lex.specs.declared.token.TokenKind.{TokenKind}
+use Rattle.fz_lex.specs.declared.token.TokenKind.TheVariants as kinds
+use Rattle.fz_lex.specs.declared.token.Token.{Token}
+use Rattle.fz_lex.specs.declared.error.SyntaxError.{SyntaxError}
+use Rattle.fz_lex.specs.declared.error.SyntaxError.TheVariants.{TooLong, BadByte, TooLarge, Float, Syntax, TooDeep, TooMany, Memory}
+
+-- The token of a kind with a text.
+abbrev pub token_value : TokenKind → List ℕ → TokenValue
+token_value kinds.Word text = Word text
+token_value (kinds.Whole z) text = Whole z
+token_value kinds.FloatText text = FloatText text
+token_value kinds.Str text = StringText text
+token_value (kinds.Mark m) text = Marked m
+
+abbrev pub spanned : Token → SpannedToken
+spanned t = record { token = token_value t.kind t.text.now; start = t.span.start; end = t.span.end }
+
+abbrev pub all_spanned : List Token → List SpannedToken
+all_spanned tokens = map spanned tokens
+
+-- The text of each token is the slice of the source at its span.
+abbrev pub TextsAreSlices : List ℕ → List Token → Type 0
+TextsAreSlices source tokens = AllByRecursion (λ t. t.text.now ≡ slice_range source t.span.start t.span.end) tokens
+
+-- The span lies within the first bytes, as many as said.
+abbrev pub IsSpanWithin : ℕ → Span → Type 0
+IsSpanWithin end span = (span.start ≤ span.end) × (span.end ≤ end)
+
+-- The span of an error, where it has one, lies within a source of this length.
+abbrev pub IsPlacedWithin : ℕ → SyntaxError → Type 0
+IsPlacedWithin end TooLong = Unit {0}
+IsPlacedWithin end (BadByte span) = IsSpanWithin end span
+IsPlacedWithin end (TooLarge span) = IsSpanWithin end span
+IsPlacedWithin end (Float span) = IsSpanWithin end span
+IsPlacedWithin end (Syntax span) = IsSpanWithin end span
+IsPlacedWithin end (TooDeep span) = IsSpanWithin end span
+IsPlacedWithin end (TooMany span) = IsSpanWithin end span
+IsPlacedWithin end Memory = Unit {0}
+
+-- What a refusal by the lexer tells of the source. The first two say that the source is cut up to the place
+-- of the fault, with numbers within the limit: at a bad byte nothing begins, and at a number that is too
+-- large the longest text of any token is that of a number outside the limit.
+abbrev pub IsLexicalFault : List ℕ → SyntaxError → Type 0
+IsLexicalFault source TooLong = most_bytes < length source
+IsLexicalFault source (BadByte span) =
+    (before : List SpannedToken) × CutUpTo source span.start before × AreWithinLimit before × NothingBegins (drop span.start source) × (span.end ≡ span.start + 1)
+IsLexicalFault source (TooLarge span) =
+    (before : List SpannedToken) × (n : ℕ) × (z : ℤ) × CutUpTo source span.start before × AreWithinLimit before × IsLongestSpelling (drop span.start source) n (Whole z) × (¬ (IsWithinLimit z)) × (span.end ≡ span.start + n)
+IsLexicalFault source (Float span) = ⊥
+IsLexicalFault source (Syntax span) = ⊥
+IsLexicalFault source (TooDeep span) = ⊥
+IsLexicalFault source (TooMany span) = ⊥
+IsLexicalFault source Memory = Unit {0}

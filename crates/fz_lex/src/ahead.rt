@@ -1,0 +1,84 @@
+//! Reads the tokens of a source one by one, with no list of them.
+
+ghost use Rattle.std.specs.Prelude.{◌≡◌, ◌<◌, ◌∷◌, [], List, length, drop, IsOk, IfErr, IfSome, IfNone, OnOk};
+ghost use Rattle.fz_lex.specs.Limits.{most_bytes, LexesWithinLimits};
+ghost use Rattle.fz_lex.specs.Lexing.{SpannedToken};
+ghost use Rattle.fz_lex.specs.View.{spanned, IsLexicalFault, IsPlacedWithin};
+ghost use Rattle.fz_lex.specs.Ahead.{tokens_ahead};
+ghost use Rattle.fz_lex.specs.Found.{IsScanned, IsScanFault};
+ghost use Rattle.fz_lex.specs.Left.{left};
+
+use crate::error::SyntaxError;
+use crate::lexer::{Lexer, MOST_BYTES};
+use crate::token::Token;
+
+/// Tells whether a text consists of tokens, blanks and comments, by the rules of `lex`. It takes no memory.
+///
+/// # Errors
+/// Those of `lex`, but never `Memory`.
+pub fn check_tokens(source: &[u8]) -> Result<(), SyntaxError>
+    // The source lexes to the tokens ahead of its first byte, within the limits.
+    ensures found { OnOk result (LexesWithinLimits source.now (tokens_ahead source.now 0)) }
+    ensures only { (tokens : List SpannedToken) → LexesWithinLimits source.now tokens → IsOk result }
+    ensures too_long { most_bytes < length source.now → result ≡ Err SyntaxError.TooLong }
+    ensures refused { IfErr result (IsLexicalFault source.now) }
+    ensures placed { IfErr result (IsPlacedWithin (length source.now)) }
+{
+    if source.len() > MOST_BYTES {
+        return Err(SyntaxError::TooLong);
+    }
+    scan(source)
+}
+
+fn scan(source: &[u8]) -> Result<(), SyntaxError>
+    ensures found { OnOk result (IsScanned source.now) }
+    ensures refused { IfErr result (IsScanFault source.now) }
+{
+    let mut lexer = Lexer { source, place: 0 };
+    while let Some(_token) = lexer.next_token()? {}
+    Ok(())
+}
+
+/// The tokens of a text that are left to read, up to its end or to its first lexical fault.
+#[derive(Drop)]
+pub struct Tokens<'a> {
+    lexer: Lexer<'a>,
+    first: Option<Token<'a>>,
+}
+
+impl<'a> Tokens<'a> {
+    /// All tokens of a text.
+    pub fn new(source: &'a [u8]) -> Tokens<'a>
+        ensures { left result ≡ tokens_ahead source.now 0 }
+    {
+        let lexer = Lexer { source, place: 0 };
+        let mut tokens = Tokens { lexer, first: None };
+        tokens.load();
+        tokens
+    }
+
+    /// The first token that is left.
+    #[inline]
+    pub fn first(&self) -> Option<Token<'a>>
+        ensures none { IfNone result (left self.now ≡ []) }
+        ensures some { IfSome result (λ t. left self.now ≡ spanned t ∷ drop 1 (left self.now)) }
+    {
+        self.first
+    }
+
+    /// Goes on behind the first token; where none is left, nothing changes.
+    #[inline]
+    pub fn advance(&mut self)
+        ensures { left self.new ≡ drop 1 (left self.old) }
+    {
+        if self.first.is_some() {
+            self.load();
+        }
+    }
+
+    fn load(&mut self)
+        ensures { left self.new ≡ tokens_ahead self.old.lexer.source.now self.old.lexer.place }
+    {
+        self.first = self.lexer.next_token().unwrap_or(None);
+    }
+}

@@ -1,0 +1,54 @@
+ghost use Rattle.std.specs.Prelude.{◌≡◌};
+
+use fz_base::Span;
+use std::alloc::{AllocError, AllocFailed};
+use thiserror::Error;
+
+/// Why a text is refused. A place counts bytes from the front of the text that was handed in.
+#[derive(Clone, Copy, Debug, PartialEq, Eq, Error)]
+pub enum SyntaxError {
+    /// It has more than 16,777,216 bytes.
+    #[error("TooLong")]
+    TooLong,
+    /// No blank, comment or token begins at this byte.
+    #[error("BadByte")]
+    BadByte(Span),
+    /// This whole number needs more than 64 bits.
+    #[error("TooLarge")]
+    TooLarge(Span),
+    /// A float, or the word `float`, where none is allowed.
+    #[error("Float")]
+    Float(Span),
+    /// A token that no text of the grammar has here; at the end of the text, an empty span.
+    #[error("Syntax")]
+    Syntax(Span),
+    /// The name of an annotation at depth 33.
+    #[error("TooDeep")]
+    TooDeep(Span),
+    /// An element past the 1,048,576th of a list, or a size above that.
+    #[error("TooMany")]
+    TooMany(Span),
+    /// No memory was left.
+    #[error("Memory")]
+    Memory,
+}
+
+impl From<AllocError> for SyntaxError {
+    ghost use Rattle.fz_lex.specs.declared.error.SyntaxError.TheVariants.{Memory};
+
+    ghost from_gives = { λ _ e. e ≡ Memory };
+
+    fn from(_e: AllocError) -> SyntaxError {
+        SyntaxError::Memory
+    }
+}
+
+impl<T: Drop> From<AllocFailed<T>> for SyntaxError {
+    ghost use Rattle.fz_lex.specs.declared.error.SyntaxError.TheVariants.{Memory};
+
+    ghost from_gives = { λ _ e. e ≡ Memory };
+
+    fn from(_e: AllocFailed<T>) -> SyntaxError {
+        SyntaxError::Memory
+    }
+}

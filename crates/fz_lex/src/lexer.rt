@@ -1,0 +1,119 @@
+//! Goes over a source token by token, and lists its tokens.
+
+ghost use Rattle.std.specs.Prelude.{◌≡◌, ◌≢◌, ◌<◌, ◌≤◌, [], List, length, slice_index, IsFalse, IfOk, IfErr, OnErr, MatchResult};
+ghost use Rattle.fz_lex.specs.Byte as bytes_spec;
+ghost use Rattle.fz_lex.specs.Limits.{most_bytes, LexesWithinLimits};
+ghost use Rattle.fz_lex.specs.Lexing.{SpannedToken, CutBetween, AreInOrder};
+ghost use Rattle.fz_lex.specs.View.{all_spanned, TextsAreSlices, IsLexicalFault, IsPlacedWithin};
+ghost use Rattle.fz_lex.specs.Found.{NextFrom, FaultFrom, IsLexed};
+
+use crate::error::SyntaxError;
+use crate::scanner::{Front, comment_len, is_blank, read_front};
+use crate::token::Token;
+use fz_base::Span;
+use std::alloc::Global;
+
+/// The most bytes of a text that is read.
+pub(crate) const MOST_BYTES: usize = 16_777_216;
+
+/// The place up to which blanks and whole comments stand from a place on.
+fn gap_end(source: &[u8], from: usize) -> usize
+    requires { from ≤ length source.now }
+    ensures within { (from ≤ result) × (result ≤ length source.now) }
+    ensures gap { CutBetween source.now from result [] }
+    ensures stops { result < length source.now
+        → IsFalse (bytes_spec.is_blank (slice_index source.now result)) × (slice_index source.now result ≢ 37) }
+{
+    let mut place = from;
+    while place < source.len() {
+        if is_blank(source[place]) {
+            place += 1;
+        } else if source[place] == b'%' {
+            place += comment_len(&source[place..]);
+        } else {
+            return place;
+        }
+    }
+    place
+}
+
+/// Goes over a text token by token.
+#[derive(Drop)]
+pub(crate) struct Lexer<'a> {
+    pub(crate) source: &'a [u8],
+    pub(crate) place: usize,
+    ghost within: { place ≤ length source.now },
+}
+
+impl<'a> Lexer<'a> {
+    /// The next token, or none at the end of the text. After an error the lexer is where it was.
+    #[inline(always)]
+    pub(crate) fn next_token(&mut self) -> Result<Option<Token<'a>>, SyntaxError>
+        ensures source { self.new.source.now ≡ self.old.source.now }
+        ensures token { IfOk result (NextFrom self.old.source.now self.old.place self.new.place) }
+        ensures fault { IfErr result (FaultFrom self.old.source.now self.old.place) }
+        ensures stays { OnErr result (self.new.place ≡ self.old.place) }
+    {
+        let source = self.source;
+        let start = gap_end(source, self.place);
+        if start == source.len() {
+            return Ok(None);
+        }
+        match read_front(&source[start..]) {
+            Front::Found(kind, len) => {
+                let end = start + len;
+                self.place = end;
+                Ok(Some(Token {
+                    kind,
+                    span: Span { start, end },
+                    text: &source[start..end],
+                }))
+            }
+            Front::OutsideLimit(len) => Err(SyntaxError::TooLarge(Span {
+                start,
+                end: start + len,
+            })),
+            Front::Nothing => Err(SyntaxError::BadByte(Span {
+                start,
+                end: start + 1,
+            })),
+        }
+    }
+}
+
+fn tokens<'a>(alloc: Global, source: &'a [u8]) -> Result<Vec<Token<'a>>, SyntaxError>
+    ensures found { IfOk result (λ tokens. IsLexed source.now tokens.items) }
+    ensures refused { IfErr result (IsLexicalFault source.now) }
+{
+    let mut lexer = Lexer { source, place: 0 };
+    let mut tokens = Vec::new(alloc);
+    while let Some(token) = lexer.next_token()? {
+        tokens.push(token)?;
+    }
+    Ok(tokens)
+}
+
+/// The tokens of a text in order, each with its place and its text. Blanks and comments lie between them, and
+/// each token is the longest that begins at its place (MiniZinc Handbook, FlatZinc grammar).
+///
+/// # Errors
+/// `TooLong` where the text has more than 16,777,216 bytes; else the leftmost of `BadByte`, a byte at which nothing
+/// begins, and `TooLarge`, a whole number outside 64 bits; `Memory` where none is left. No other error comes.
+pub fn lex<'a>(alloc: Global, source: &'a [u8]) -> Result<Vec<Token<'a>>, SyntaxError>
+    // What is given is what the source lexes to, within the limits.
+    ensures found { IfOk result (λ tokens. LexesWithinLimits source.now (all_spanned tokens.items)) }
+    ensures texts { IfOk result (λ tokens. TextsAreSlices source.now tokens.items) }
+    ensures in_order { IfOk result (λ tokens. AreInOrder 0 (length source.now) (all_spanned tokens.items)) }
+    // What the source lexes to within the limits is given, unless memory runs out.
+    ensures only { (tokens : List SpannedToken) → LexesWithinLimits source.now tokens
+        → MatchResult result (λ given. all_spanned given.items ≡ tokens) (λ e. e ≡ SyntaxError.Memory) }
+    // Which fault it is.
+    ensures too_long { most_bytes < length source.now → result ≡ Err SyntaxError.TooLong }
+    ensures refused { IfErr result (IsLexicalFault source.now) }
+    ensures placed { IfErr result (IsPlacedWithin (length source.now)) }
+{
+    if source.len() > MOST_BYTES {
+        return Err(SyntaxError::TooLong);
+    }
+    tokens(alloc, source)
+}

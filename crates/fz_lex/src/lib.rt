@@ -1,0 +1,16 @@
+//! The tokens of FlatZinc, and the lexer that cuts a text into them.
+#![tactic(auto)]
+
+mod ahead;
+mod error;
+mod lexer;
+mod scanner;
+mod token;
+
+pub use ahead::{Tokens, check_tokens};
+pub use error::SyntaxError;
+pub use lexer::lex;
+pub use token::{Mark, Token, TokenKind};
+
+#[cfg(test)]
+mod tests;

@@ -1,0 +1,37 @@
+use fz_base::Span;
+
+/// A mark of the language: `(` `)` `[` `]` `{` `}` `,` `;` `:` `::` `=` `..`.
+#[derive(Clone, Copy, Debug, PartialEq, Eq)]
+pub enum Mark {
+    OpenParen,
+    CloseParen,
+    OpenBracket,
+    CloseBracket,
+    OpenBrace,
+    CloseBrace,
+    Comma,
+    Semicolon,
+    Colon,
+    ColonColon,
+    Equals,
+    DotDot,
+}
+
+/// What a token is: a word (a name or a reserved word), a whole number with its value, a float, a string, or a mark.
+/// Floats and strings have no value; their text is kept as it stands.
+#[derive(Clone, Copy, Debug, PartialEq, Eq)]
+pub enum TokenKind {
+    Word,
+    Whole(i64),
+    FloatText,
+    Str,
+    Mark(Mark),
+}
+
+/// A token, where it stands in its source, and its text: the slice of the source at its span.
+#[derive(Clone, Copy, Debug)]
+pub struct Token<'a> {
+    pub kind: TokenKind,
+    pub span: Span,
+    pub text: &'a [u8],
+}

@@ -1,0 +1,195 @@
+-- What the end of a stream makes of what a splitter keeps.
+use Rattle.std.proofs.Common.{◌≡◌, ◌≢◌, ℕ, ◌+◌, ◌<◌, Option, Some, None, List, [], ◌∷◌, ◌++◌, length, take, refl, sym, ap, ◌∙◌, subst, ⊎_elim, append-nil, length-append, arith, Result, Ok, Err, IfOk, IfErr, IsSome, is_some, true, false}
+use Rattle.std.specs.List.{AllByRecursion}
+use Rattle.fz_stream.specs.declared.held.Ended.{Ended}
+use Rattle.fz_stream.specs.declared.held.Held.{Held}
+use Rattle.fz_stream.specs.declared.error.StreamError.{StreamError}
+use Rattle.fz_stream.specs.declared.error.StreamError.TheVariants.{Memory}
+use Rattle.fz_stream.specs.declared.line.LineKind.TheVariants.{Blank, Item}
+use Rattle.fz_stream.specs.Lines.{Line, lines_of, joined, kind_of, HasNoFeed, IsFiller}
+use Rattle.fz_stream.specs.Parts.{StreamPart, AreBlockLines, AreLinesOfPart, GoesOnAfter, IsStreamText}
+use Rattle.fz_stream.specs.Broken.{IsBrokenAtEndAfter}
+use Rattle.fz_stream.specs.Keeping.{Keeps, HasLine, IsHeld, DropsLine, JoinsLine, GoesOnHolding, EndsPart, BreaksBlock, CanBeRead, EndsOpen, EndsStream}
+use Rattle.fz_stream.proofs.PartLemmas.{every_append, AreLinesOf-push}
+use Rattle.fz_stream.proofs.TakeLemmas.{ends_readable}
+use Rattle.fz_stream.proofs.SplitLemmas.{lines_after, goes_on_after, lines_of-begun, no_end}
+
+-- the current line isn't empty
+pub some_current : (h : Held) (i : IsHeld h) → h.line < length h.buffer.items → (first : ℕ) × (rest : List ℕ) × (i.current ≡ first ∷ rest)
+some_current h i l = by i.current (omega (arith, l, i.lines.place, ap length i.lines.bytes, length-append (joined i.body) i.current))
+  where
+    by : (c : List ℕ) → 0 < length c → (first : ℕ) × (rest : List ℕ) × (c ≡ first ∷ rest)
+    by [] l = absurd (omega (arith, l))
+    by (x ∷ c) l = (x, c, refl)
+
+-- the current line is empty
+no_current : (h : Held) (i : IsHeld h) → h.line ≡ length h.buffer.items → i.current ≡ []
+no_current h i e = by i.current (omega (arith, e, i.lines.place, ap length i.lines.bytes, length-append (joined i.body) i.current))
+  where
+    by : (c : List ℕ) → length c ≡ 0 → c ≡ []
+    by [] l = refl
+    by (x ∷ c) l = absurd (omega (arith, l))
+
+abbrev IsOpenAt : ℕ → List Line → Type 0
+IsOpenAt n body = (n ≡ 0 → body ≡ []) × (n ≢ 0 → body ≢ [])
+
+filled : (l : Line) (lines : List Line) → AreBlockLines (l ∷ lines) → 0 < length (joined (l ∷ lines))
+unfolding kind_of
+filled [] lines own = absurd (let no : Blank ≡ Item = own.0 in cc)
+filled (x ∷ l) lines own = omega arith
+
+open_at : (body : List Line) (n : ℕ) → n ≡ length (joined body) → AreBlockLines body → IsOpenAt n body
+open_at [] n e own = ((λ z. refl), (λ z. absurd (z e)))
+open_at (l ∷ body) n e own =
+    let some = filled l body own in
+    ((λ z. absurd (omega (arith, z, e, some))), (λ z none. (let no : l ∷ body ≡ [] = none in cc)))
+
+module _ (bytes : List ℕ) (parts : List StreamPart) (h : Held) (i : IsHeld h) (k : Keeps bytes parts h.buffer.items) where
+  stands_at : GoesOnAfter bytes parts k.gap i.body (lines_of i.current)
+  stands_at = goes_on_after bytes parts h.buffer.items k i.body i.lines.whole i.lines.own i.current i.lines.bytes
+
+  -- there is no current line
+  pub ends_open_without : h.line ≡ length h.buffer.items → EndsOpen h bytes parts
+  ends_open_without e =
+      let open_is = open_at i.body h.line i.lines.place i.lines.own in
+      record {
+        gap = k.gap;
+        body = i.body;
+        stands = subst (GoesOnAfter bytes parts k.gap i.body) (ap lines_of (no_current h i e)) stands_at;
+        none = open_is.0;
+        some = open_is.1;
+      }
+
+  module _ (l : h.line < length h.buffer.items) where
+    last_is : lines_of i.current ≡ i.current ∷ []
+    last_is =
+        let c = some_current h i l in
+        ap lines_of c.2 ∙ lines_of-begun c.0 c.1 (subst HasNoFeed c.2 i.begun) ∙ ap (λ x. x ∷ []) (sym c.2)
+
+    stands : GoesOnAfter bytes parts k.gap i.body (i.current ∷ [])
+    stands = subst (GoesOnAfter bytes parts k.gap i.body) last_is stands_at
+
+    -- the last line ends nothing
+    pub ends_open : (new : Held) → GoesOnHolding h new i.body i.current → EndsOpen new bytes parts
+    ends_open new g = ⊎_elim dropped joined_to g
+      where
+        dropped : DropsLine new i.body i.current → EndsOpen new bytes parts
+        dropped d = record {
+          gap = k.gap ++ i.current ∷ [];
+          body = [];
+          stands = record {
+            covers = record {
+              covered = stands.covers.covered;
+              whole = stands.covers.whole ∙ ap (λ l. stands.covers.covered ++ l) (ap (λ b. k.gap ++ (b ++ i.current ∷ [])) d.none ∙ sym (append-nil _));
+              of_parts = stands.covers.of_parts;
+            };
+            fillers = every_append IsFiller k.gap (i.current ∷ []) stands.fillers (d.fills, tt);
+            own = tt;
+          };
+          none = λ z. refl;
+          some = λ z. absurd (z d.line_is);
+        }
+
+        joined_to : JoinsLine h new i.body i.current → EndsOpen new bytes parts
+        joined_to j = record {
+          gap = k.gap;
+          body = i.body ++ i.current ∷ [];
+          stands = record {
+            covers = record {
+              covered = stands.covers.covered;
+              whole = stands.covers.whole ∙ ap (λ b. stands.covers.covered ++ (k.gap ++ b)) (sym (append-nil _));
+              of_parts = stands.covers.of_parts;
+            };
+            fillers = stands.fillers;
+            own = j.own;
+          };
+          none = λ z. absurd (omega (arith, z, j.line_is, l));
+          some = λ z none. nothing i.body none;
+        }
+          where
+            nothing : (b : List Line) → b ++ i.current ∷ [] ≡ [] → ⊥
+            nothing [] e = (let no : i.current ∷ [] ≡ [] = e in cc)
+            nothing (x ∷ b) e = (let no : x ∷ (b ++ i.current ∷ []) ≡ [] = e in cc)
+
+    -- the last line ends a part
+    pub ends_stream : (new : Held) (ended : Ended) → new.before + length new.buffer.items ≡ h.before + length h.buffer.items → new.buffer.items ≡ h.buffer.items → EndsPart new i.body i.current ended
+        → h.before + length h.buffer.items ≡ length bytes → EndsStream new bytes parts (Some ended)
+    ends_stream new ended count same e size =
+        let place : length (joined k.covered) + length (joined k.gap) ≡ new.before =
+        omega (arith, count, ap length same, size, ap length k.whole, length-append (joined k.covered) (joined k.gap ++ h.buffer.items), length-append (joined k.gap) h.buffer.items) in
+        let here = e.lines (length (joined k.covered)) k.gap k.fillers place in (
+          e.part,
+          e.is,
+          record {
+            rest = [];
+            covers = record {
+              covered = k.covered ++ (k.gap ++ (i.body ++ i.current ∷ []));
+              whole = lines_after bytes parts h.buffer.items k i.body i.lines.whole i.lines.own i.current i.lines.bytes ∙ ap (λ l. k.covered ++ (k.gap ++ (i.body ++ l))) last_is ∙ sym (append-nil _);
+              of_parts =
+                  AreLinesOf-push 0 k.covered (k.gap ++ (i.body ++ i.current ∷ [])) parts e.part k.of_parts
+                  (subst (λ s. AreLinesOfPart s (k.gap ++ (i.body ++ i.current ∷ [])) e.part) (let z : length (joined k.covered) ≡ 0 + length (joined k.covered) = omega arith in z) here);
+            };
+            fillers = tt;
+          },
+        )
+
+    -- the last line can't stand there
+    pub ends_broken : BreaksBlock i.body i.current → IsBrokenAtEndAfter bytes parts
+    ends_broken b = record { gap = k.gap; body = i.body; rest = i.current ∷ []; stands = stands; begun = b.begun; breaks = (no_end i.current i.begun, b.cannot) }
+
+-- no block is left open
+pub ends_text : (bytes : List ℕ) (parts : List StreamPart) (h : Held) → EndsOpen h bytes parts → h.line ≡ 0 → IsStreamText bytes parts
+ends_text bytes parts h e z = record {
+  rest = e.gap;
+  covers = record {
+    covered = e.stands.covers.covered;
+    whole = e.stands.covers.whole ∙ ap (λ l. e.stands.covers.covered ++ l) (ap (λ b. e.gap ++ (b ++ [])) (e.none z) ∙ append-nil _);
+    of_parts = e.stands.covers.of_parts;
+  };
+  fillers = e.stands.fillers;
+}
+
+-- a block is left open
+pub ends_left_open : (bytes : List ℕ) (parts : List StreamPart) (h : Held) → EndsOpen h bytes parts → h.line ≢ 0 → IsBrokenAtEndAfter bytes parts
+ends_left_open bytes parts h e z = record { gap = e.gap; body = e.body; rest = []; stands = e.stands; begun = e.some z; breaks = tt }
+
+-- the same for what the end of the last line answers
+module _ (h new : Held) (i : IsHeld h) (l : h.line < length h.buffer.items) where
+  pub all_goes_on : (r : Result (Option Ended) StreamError) → IfOk r (λ r. r ≡ None → (body : List Line) (line : Line) → HasLine h body line → GoesOnHolding h new body line)
+      → IfOk r (λ r. r ≡ None → (bytes : List ℕ) (parts : List StreamPart) → Keeps bytes parts h.buffer.items → EndsOpen new bytes parts)
+  all_goes_on (Ok r) g = λ none bytes parts k. ends_open bytes parts h i k l new (g none i.body i.current i.lines)
+  all_goes_on (Err e) g = tt
+
+  pub all_ends : (r : Result (Option Ended) StreamError) → new.before + length new.buffer.items ≡ h.before + length h.buffer.items
+      → IfOk r (λ r. IsSome r → (new.buffer.items ≡ h.buffer.items) × (new.line ≡ h.line))
+      → IfOk r (λ r. (ended : Ended) → r ≡ Some ended → (body : List Line) (line : Line) → HasLine h body line → EndsPart new body line ended)
+      → IfOk r (λ r. (ended : Ended) → r ≡ Some ended → (bytes : List ℕ) (parts : List StreamPart) → Keeps bytes parts h.buffer.items → h.before + length h.buffer.items ≡ length bytes → EndsStream new bytes parts (Some ended))
+  all_ends (Ok r) count same g = λ ended is bytes parts k size. ends_stream bytes parts h i k l new ended count (same (ap is_some is)).0 (g ended is i.body i.current i.lines) size
+  all_ends (Err e) count same g = tt
+
+  pub all_readable : (r : Result (Option Ended) StreamError) → IfOk r (λ r. (ended : Ended) → r ≡ Some ended → (body : List Line) (line : Line) → HasLine h body line → EndsPart new body line ended)
+      → IfOk r (λ r. CanBeRead r (take new.line new.buffer.items))
+  all_readable (Ok None) g = tt
+  all_readable (Ok (Some ended)) g = ends_readable new i.body i.current ended (g ended refl i.body i.current i.lines)
+  all_readable (Err e) g = tt
+
+  pub all_broken : (r : Result (Option Ended) StreamError) → IfErr r (λ e. e ≢ Memory → (body : List Line) (line : Line) → HasLine h body line → BreaksBlock body line)
+      → IfErr r (λ e. e ≢ Memory → (bytes : List ℕ) (parts : List StreamPart) → Keeps bytes parts h.buffer.items → IsBrokenAtEndAfter bytes parts)
+  all_broken (Ok r) g = tt
+  all_broken (Err e) g = λ known bytes parts k. ends_broken bytes parts h i k l (g known i.body i.current i.lines)
+
+-- what the end of the last line answers is what the stream ends with
+pub stream_ends : (h new : Held) (ended : Option Ended) → (ended ≡ None → new.line ≡ 0)
+    → (ended ≡ None → (bytes : List ℕ) (parts : List StreamPart) → Keeps bytes parts h.buffer.items → EndsOpen new bytes parts)
+    → ((e : Ended) → ended ≡ Some e → (bytes : List ℕ) (parts : List StreamPart) → Keeps bytes parts h.buffer.items → h.before + length h.buffer.items ≡ length bytes → EndsStream new bytes parts (Some e))
+    → (bytes : List ℕ) (parts : List StreamPart) → Keeps bytes parts h.buffer.items → h.before + length h.buffer.items ≡ length bytes → EndsStream new bytes parts ended
+stream_ends h new None z open_ ends bytes parts k size = ends_text bytes parts new (open_ refl bytes parts k) (z refl)
+stream_ends h new (Some e) z open_ ends bytes parts k size = ends e refl bytes parts k size
+
+pub none_from : (ended : Option Ended) → is_some ended ≡ false → ended ≡ None
+none_from None e = refl
+none_from (Some ended) e = absurd (let no : true ≡ false = e in cc)
+
+pub some_from : (ended : Option Ended) → is_some ended ≡ true → ended ≡ None → ⊥
+some_from None e n = (let no : false ≡ true = e in cc)
+some_from (Some ended) e n = (let no : Some ended ≡ None = n in cc)

@@ -1,0 +1,16 @@
+pub mod LineLemmas
+pub mod NameLemmas
+pub mod PartLemmas
+pub mod ReadingLemmas
+pub mod SoFar
+pub mod FoundLemmas
+pub mod SplitLemmas
+pub mod StepLemmas
+pub mod EndLemmas
+pub mod TakeLemmas
+pub mod LastLemmas
+pub mod FeedLemmas
+pub mod TakenLemmas
+pub mod FaultLemmas
+pub mod PlaceLemmas
+pub mod Rows

@@ -1,0 +1,222 @@
+-- What a splitter may keep after a line, or a part of one.
+use Rattle.std.proofs.Common.{◌≡◌, ◌≢◌, ℕ, ◌+◌, List, [], ◌∷◌, ◌++◌, length, take, refl, sym, ap, ◌∙◌, subst, inl, inr, ◌⊎◌, ⊎_elim, zero, suc, ◌<◌, ◌-◌, length-append, append_assoc, append-nil, arith, cond, get_or}
+use Rattle.std.proofs.lemmas.Bool.{ne_eqb, eq-eqb, cases_eq}
+use Rattle.std.proofs.lemmas.List.{get_or_at}
+use Rattle.std.specs.List.{AllByRecursion}
+use Rattle.fz_stream.specs.Lines.{Line, lines_of, onto_first, joined, kind_of, HasNoFeed, EndsWithFeed, IsFiller}
+use Rattle.fz_stream.specs.Parts.{StreamPart, AreBlockLines, AreLinesOfPart, AreLinesOf, Covers, GoesOnAfter}
+use Rattle.fz_stream.specs.Broken.{IsBrokenAfter, CannotFollow}
+use Rattle.fz_stream.specs.Splitting.{Holds}
+use Rattle.fz_stream.specs.Keeping.{Keeps}
+use Rattle.fz_stream.proofs.LineLemmas.{joined-lines_of}
+use Rattle.fz_stream.proofs.PartLemmas.{every_append, every_left, every_right, joined-append, joined_one, AreLinesOf-push}
+
+-- the step of `lines_of` at a byte that is no LF
+onto : (x : ℕ) (xs : List ℕ) → x ≢ 10 → lines_of (x ∷ xs) ≡ onto_first x (lines_of xs)
+onto x xs n = ap (λ t. cond t ((x ∷ []) ∷ lines_of xs) (onto_first x (lines_of xs))) (ne_eqb x 10 n)
+
+-- a whole line is the first of what begins with it
+lines_of-front : (front rest : List ℕ) → HasNoFeed front → lines_of (front ++ (10 ∷ rest)) ≡ (front ++ 10 ∷ []) ∷ lines_of rest
+lines_of-front [] rest h = refl
+lines_of-front (x ∷ front) rest h = onto x (front ++ (10 ∷ rest)) h.0 ∙ ap (onto_first x) (lines_of-front front rest h.1)
+
+lines_of-line : (line rest : List ℕ) → EndsWithFeed line → lines_of (line ++ rest) ≡ line ∷ lines_of rest
+lines_of-line line rest w =
+    ap (λ l. lines_of (l ++ rest)) w.2 ∙ ap lines_of (append_assoc w.0 (10 ∷ []) rest) ∙ lines_of-front w.0 rest w.1 ∙ ap (λ l. l ∷ lines_of rest) (sym w.2)
+
+-- whole lines are the first lines of what begins with them
+pub lines_of-lines : (lines : List Line) (rest : List ℕ) → AllByRecursion EndsWithFeed lines → lines_of (joined lines ++ rest) ≡ lines ++ lines_of rest
+lines_of-lines [] rest h = refl
+lines_of-lines (l ∷ lines) rest h = ap lines_of (append_assoc l (joined lines) rest) ∙ lines_of-line l (joined lines ++ rest) h.0 ∙ ap (λ ls. l ∷ ls) (lines_of-lines lines rest h.1)
+
+-- bytes without LF are one line
+pub lines_of-begun : (x : ℕ) (xs : List ℕ) → HasNoFeed (x ∷ xs) → lines_of (x ∷ xs) ≡ (x ∷ xs) ∷ []
+lines_of-begun x [] h = onto x [] h.0
+lines_of-begun x (y ∷ ys) h = onto x (y ∷ ys) h.0 ∙ ap (onto_first x) (lines_of-begun y ys h.1)
+
+-- what has no LF doesn't end with one
+pub no_end : (line : List ℕ) → HasNoFeed line → EndsWithFeed line → ⊥
+no_end line h w = ((every_right (λ b. b ≢ 10) w.0 (10 ∷ []) (subst HasNoFeed w.2 h)).0) refl
+
+module _ (bytes : List ℕ) (parts : List StreamPart) (held : List ℕ) (h : Keeps bytes parts held) where
+  -- what is kept is followed by bytes
+  pub keeps_more : (more : List ℕ) → Keeps (bytes ++ more) parts (held ++ more)
+  keeps_more more = record {
+    covered = h.covered;
+    gap = h.gap;
+    whole = ap (λ l. l ++ more) h.whole ∙ append_assoc (joined h.covered) (joined h.gap ++ held) more ∙ ap (λ l. joined h.covered ++ l) (append_assoc (joined h.gap) held more);
+    ended = h.ended;
+    of_parts = h.of_parts;
+    fillers = h.fillers;
+  }
+
+  module _ (body : List Line) (whole : AllByRecursion EndsWithFeed body) (own : AreBlockLines body) where
+    all_ended : AllByRecursion EndsWithFeed (h.covered ++ (h.gap ++ body))
+    all_ended =
+        every_append EndsWithFeed h.covered (h.gap ++ body) (every_left EndsWithFeed h.covered h.gap h.ended)
+        (every_append EndsWithFeed h.gap body (every_right EndsWithFeed h.covered h.gap h.ended) whole)
+
+    -- the lines of all that was taken
+    pub lines_after : (current : List ℕ) → held ≡ joined body ++ current → lines_of bytes ≡ h.covered ++ (h.gap ++ (body ++ lines_of current))
+    lines_after current e =
+        let grouped : joined (h.covered ++ (h.gap ++ body)) ++ current ≡ joined h.covered ++ (joined h.gap ++ (joined body ++ current)) =
+        ap (λ l. l ++ current) (joined-append h.covered (h.gap ++ body) ∙ ap (λ l. joined h.covered ++ l) (joined-append h.gap body)) ∙ simp append_assoc in
+        ap lines_of (h.whole ∙ ap (λ l. joined h.covered ++ (joined h.gap ++ l)) e ∙ sym grouped) ∙ lines_of-lines (h.covered ++ (h.gap ++ body)) current all_ended ∙ simp append_assoc
+
+    -- after the parts stand the gap, the body and the lines of what follows it
+    pub goes_on_after : (current : List ℕ) → held ≡ joined body ++ current → GoesOnAfter bytes parts h.gap body (lines_of current)
+    goes_on_after current e = record { covers = record { covered = h.covered; whole = lines_after current e; of_parts = h.of_parts }; fillers = h.fillers; own = own }
+
+    pub holds_current : (current : List ℕ) → held ≡ joined body ++ current → HasNoFeed current → Holds bytes parts held
+    holds_current current e begun = record {
+      gap = h.gap;
+      body = body;
+      current = current;
+      stands = record { covers = record { covered = h.covered; whole = lines_after current e; of_parts = h.of_parts }; fillers = h.fillers; own = own };
+      ended = all_ended;
+      goes_on = begun;
+      held_are = e;
+    }
+
+    module _ (more : List ℕ) (line : Line) (e : held ++ more ≡ joined body ++ line) (ends : EndsWithFeed line) where
+      all_bytes : bytes ++ more ≡ joined h.covered ++ (joined h.gap ++ (joined body ++ line))
+      all_bytes =
+          ap (λ l. l ++ more) h.whole ∙ append_assoc (joined h.covered) (joined h.gap ++ held) more ∙ ap (λ l. joined h.covered ++ l) (append_assoc (joined h.gap) held more)
+          ∙ ap (λ l. joined h.covered ++ (joined h.gap ++ l)) e
+
+      as_lines : bytes ++ more ≡ joined (h.covered ++ (h.gap ++ (body ++ line ∷ [])))
+      as_lines =
+          all_bytes ∙ sym (joined-append h.covered (h.gap ++ (body ++ line ∷ [])) ∙ ap (λ l. joined h.covered ++ l) (joined-append h.gap (body ++ line ∷ [])
+          ∙ ap (λ l. joined h.gap ++ l) (joined-append body (line ∷ []) ∙ ap (λ l. joined body ++ l) (joined_one line))))
+
+      all_whole : AllByRecursion EndsWithFeed (h.covered ++ (h.gap ++ (body ++ line ∷ [])))
+      all_whole =
+          every_append EndsWithFeed h.covered (h.gap ++ (body ++ line ∷ [])) (every_left EndsWithFeed h.covered h.gap h.ended)
+          (every_append EndsWithFeed h.gap (body ++ line ∷ []) (every_right EndsWithFeed h.covered h.gap h.ended) (every_append EndsWithFeed body (line ∷ []) whole (ends, tt)))
+
+      -- a blank line or a comment where no block is open: it is dropped
+      pub keeps_filler : body ≡ [] → IsFiller line → Keeps (bytes ++ more) parts []
+      keeps_filler none fills = record {
+        covered = h.covered;
+        gap = h.gap ++ line ∷ [];
+        whole = all_bytes ∙ ap (λ b. joined h.covered ++ (joined h.gap ++ (joined b ++ line))) none
+            ∙ ap (λ l. joined h.covered ++ l) (sym (append-nil _ ∙ joined-append h.gap (line ∷ []) ∙ ap (λ l. joined h.gap ++ l) (joined_one line)));
+        ended = subst (AllByRecursion EndsWithFeed) (append_assoc h.covered h.gap (line ∷ [])) (every_append EndsWithFeed (h.covered ++ h.gap) (line ∷ []) h.ended (ends, tt));
+        of_parts = h.of_parts;
+        fillers = every_append IsFiller h.gap (line ∷ []) h.fillers (fills, tt);
+      }
+
+      module _ (part : StreamPart) (here : AreLinesOfPart (length (joined h.covered)) (h.gap ++ (body ++ line ∷ [])) part) where
+        pushed : AreLinesOf 0 (h.covered ++ (h.gap ++ (body ++ line ∷ []))) (parts ++ part ∷ [])
+        pushed =
+            AreLinesOf-push 0 h.covered (h.gap ++ (body ++ line ∷ [])) parts part h.of_parts
+            (subst (λ s. AreLinesOfPart s (h.gap ++ (body ++ line ∷ [])) part) (let z : length (joined h.covered) ≡ 0 + length (joined h.covered) = omega arith in z) here)
+
+        -- the line ends a part
+        pub ends_part : Covers (bytes ++ more) (parts ++ part ∷ []) []
+        ends_part = record {
+          covered = h.covered ++ (h.gap ++ (body ++ line ∷ []));
+          whole = ap lines_of (as_lines ∙ sym (append-nil _)) ∙ lines_of-lines (h.covered ++ (h.gap ++ (body ++ line ∷ []))) [] all_whole;
+          of_parts = pushed;
+        }
+
+        -- after which nothing is kept
+        pub keeps_nothing : Keeps (bytes ++ more) (parts ++ part ∷ []) []
+        keeps_nothing = record {
+          covered = h.covered ++ (h.gap ++ (body ++ line ∷ []));
+          gap = [];
+          whole = as_lines ∙ sym (append-nil _);
+          ended = subst (AllByRecursion EndsWithFeed) (sym (append-nil _)) all_whole;
+          of_parts = pushed;
+          fillers = tt;
+        }
+
+      -- the line can't follow the open block, whatever bytes follow it
+      pub breaks : body ≢ [] → CannotFollow (joined body) (kind_of line) → (rest : List ℕ) → IsBrokenAfter (bytes ++ (more ++ rest)) parts
+      breaks begun cannot rest = record {
+        gap = h.gap;
+        body = body;
+        line = line;
+        rest = lines_of rest;
+        stands = record { covers = record { covered = h.covered; whole = lines; of_parts = h.of_parts }; fillers = h.fillers; own = own };
+        begun = begun;
+        ends = ends;
+        breaks = cannot;
+      }
+        where
+          lines : lines_of (bytes ++ (more ++ rest)) ≡ h.covered ++ (h.gap ++ (body ++ (line ∷ lines_of rest)))
+          lines =
+              ap lines_of (sym (append_assoc bytes more rest) ∙ ap (λ l. l ++ rest) as_lines) ∙ lines_of-lines (h.covered ++ (h.gap ++ (body ++ line ∷ []))) rest all_whole
+              ∙ simp append_assoc
+
+-- what is held, without what it is
+pub keeps_held : (bytes : List ℕ) (parts : List StreamPart) (held : List ℕ) → Holds bytes parts held → Keeps bytes parts held
+keeps_held bytes parts held h = record {
+  covered = h.stands.covers.covered;
+  gap = h.gap;
+  whole =
+      sym (joined-lines_of bytes) ∙ ap joined h.stands.covers.whole ∙ joined-append h.stands.covers.covered _
+      ∙ ap (λ l. joined h.stands.covers.covered ++ l) (joined-append h.gap _ ∙ ap (λ l. joined h.gap ++ l) (joined-append h.body (lines_of h.current) ∙ ap (λ l. joined h.body ++ l) (joined-lines_of h.current) ∙ sym h.held_are));
+  ended = every_left EndsWithFeed (h.stands.covers.covered ++ h.gap) h.body (subst (AllByRecursion EndsWithFeed) (sym (append_assoc h.stands.covers.covered h.gap h.body)) h.ended);
+  of_parts = h.stands.covers.of_parts;
+  fillers = h.stands.fillers;
+}
+
+-- the first line of some bytes is whole, or has no LF
+pub first_cut : (xs : List ℕ) (line : Line) (lines : List Line) → lines_of xs ≡ line ∷ lines → EndsWithFeed line ⊎ HasNoFeed line
+first_cut [] line lines e = absurd (let no : [] ≡ line ∷ lines = e in cc)
+first_cut (x ∷ xs) line lines e = by (cases_eq x 10) (lines_of xs) refl (first_cut xs)
+  where
+    by : (x ≡ 10) ⊎ (x ≡ 10 → ⊥) → (ls : List Line) → lines_of xs ≡ ls → ((l : Line) (m : List Line) → lines_of xs ≡ l ∷ m → EndsWithFeed l ⊎ HasNoFeed l) → EndsWithFeed line ⊎ HasNoFeed line
+    by (inl t) ls s ih =
+        let h : (x ∷ []) ∷ lines_of xs ≡ line ∷ lines = sym (ap (λ b. cond b ((x ∷ []) ∷ lines_of xs) (onto_first x (lines_of xs))) (eq-eqb x 10 t)) ∙ e in
+        let k : x ∷ [] ≡ line = cc in
+        inl ([], tt, sym k ∙ ap (λ y. y ∷ []) t)
+    by (inr n) [] s ih =
+        let h : (x ∷ []) ∷ [] ≡ line ∷ lines = sym (onto x xs n ∙ ap (onto_first x) s) ∙ e in
+        let k : x ∷ [] ≡ line = cc in
+        inr (subst HasNoFeed k (n, tt))
+    by (inr n) (l ∷ m) s ih =
+        let h : (x ∷ l) ∷ m ≡ line ∷ lines = sym (onto x xs n ∙ ap (onto_first x) s) ∙ e in
+        let k : x ∷ l ≡ line = cc in
+        ⊎_elim (λ w. inl (x ∷ w.0, (n, w.1), sym k ∙ ap (λ y. x ∷ y) w.2)) (λ w. inr (subst HasNoFeed k (n, w))) (ih l m s)
+
+no_feed_at : (line : List ℕ) (i : ℕ) → HasNoFeed line → i < length line → get_or line i 0 ≡ 10 → ⊥
+no_feed_at [] i h l e = omega (arith, l)
+no_feed_at (x ∷ line) zero h l e = h.0 e
+no_feed_at (x ∷ line) (suc i) h l e = no_feed_at line i h.1 (omega (arith, l)) e
+
+-- the last byte tells which
+pub whole_from_last : (line : Line) → EndsWithFeed line ⊎ HasNoFeed line → 0 < length line → get_or line (length line - 1) 0 ≡ 10 → EndsWithFeed line
+whole_from_last line (inl w) l e = w
+whole_from_last line (inr n) l e = absurd (no_feed_at line (length line - 1) n (omega arith) e)
+
+pub begun_from_last : (line : Line) → EndsWithFeed line ⊎ HasNoFeed line → (get_or line (length line - 1) 0 ≡ 10 → ⊥) → HasNoFeed line
+begun_from_last line (inr n) e = n
+begun_from_last line (inl w) e =
+    let size : length line ≡ length w.0 + 1 = ap length w.2 ∙ length-append w.0 (10 ∷ []) in
+    absurd (e (ap (λ l. get_or l (length line - 1) 0) w.2 ∙ get_or_at w.0 10 [] 0 (length line - 1) (omega (arith, size))))
+
+-- a line that has begun, and the rest of it
+pub whole_joined : (current part : List ℕ) → HasNoFeed current → EndsWithFeed part → EndsWithFeed (current ++ part)
+whole_joined current part n w = (current ++ w.0, every_append (λ b. b ≢ 10) current w.0 n w.1, ap (λ l. current ++ l) w.2 ∙ sym (append_assoc current w.0 (10 ∷ [])))
+
+-- bytes that end with LF have none before their last
+no_feed_front : (front line : List ℕ) (n : ℕ) → HasNoFeed front → line ≡ front ++ 10 ∷ [] → n < length line → HasNoFeed (take n line)
+no_feed_front front [] n h e l = absurd (omega arith)
+no_feed_front front (x ∷ line) zero h e l = tt
+no_feed_front [] (x ∷ line) (suc n) h e l = absurd (let t : line ≡ [] = cc in omega (arith, l, ap length t))
+no_feed_front (y ∷ front) (x ∷ line) (suc n) h e l =
+    let s : x ≡ y = cc in
+    let t : line ≡ front ++ 10 ∷ [] = cc in
+    (subst (λ b. b ≢ 10) (sym s) h.0, no_feed_front front line n h.1 t (omega arith))
+
+no_feed_take : (line : List ℕ) (n : ℕ) → HasNoFeed line → HasNoFeed (take n line)
+no_feed_take line zero h = tt
+no_feed_take [] (suc n) h = tt
+no_feed_take (x ∷ line) (suc n) h = (h.0, no_feed_take line n h.1)
+
+-- a line has no LF before its last byte
+pub no_feed_before : (line : Line) (n : ℕ) → EndsWithFeed line ⊎ HasNoFeed line → n < length line → HasNoFeed (take n line)
+no_feed_before line n (inl w) l = no_feed_front w.0 line n w.1 w.2 l
+no_feed_before line n (inr h) l = no_feed_take line n h

@@ -1,0 +1,36 @@
+use Rattle.std.proofs.Common.{◌≡◌, ◌≢◌, ◌+◌, ◌-◌, ◌<◌, length, Err, arith, sym, ap, ◌∙◌, subst}
+use Rattle.fz_syntax.specs.SyntaxError.TheVariants.{TooLong}
+use Rattle.fz_syntax.specs.Places.{IsSpanWithin}
+use Rattle.fz_stream.specs.Faults.{IsFaultWithin}
+use Rattle.fz_stream.specs.Step.{item_fault, IsBlockFault}
+use Rattle.fz_stream.specs.declared.error.StreamError.TheVariants.{Memory}
+use Rattle.fz_stream.proofs.FaultLemmas.{placed_more, placed_fault, block_fault, no_value}
+use Rattle.fz_stream.proofs.PlaceLemmas.{placed_found}
+use Rattle.fz_stream.proofs.block.read_block.Goals as goal
+
+pub item_fault-requires : goal.item_fault-requires
+item_fault-requires c = placed_more (length c.args.text.now) _ c.in-Err.e (omega (arith, c.requires.fits)) c.in-Err.ensures.placed
+
+pub returns-in-Err : goal.returns-in-Err
+returns-in-Err c =
+    let short : c.in-Err.e ≡ TooLong → ⊥ = λ e. absurd (omega (arith, c.requires.short, (c.read_items.ensures.too_long).0 (c.in-Err.is ∙ ap Err e))) in
+    record {
+      offset = tt;
+      text = tt;
+      items = tt;
+      only = tt;
+      places = tt;
+      refused = λ known items t. no_value c.args.offset c.in-Err.e items (subst (λ f. f ≡ Memory → ⊥) c.item_fault.ensures known) (c.in-Err.ensures.only items t.0);
+      fault = subst IsBlockFault (sym c.item_fault.ensures) (block_fault c.args.offset c.in-Err.e short);
+      place = subst (IsFaultWithin (c.args.offset + length c.args.text.now)) (sym c.item_fault.ensures) (placed_fault c.args.offset (length c.args.text.now) c.in-Err.e c.in-Err.ensures.placed);
+    }
+
+pub moved_span-requires : goal.moved_span-requires
+moved_span-requires c =
+    let w = placed_found c.args.text.now (length c.args.text.now) _ _ _ c.in-Some.span c.in-Some.is c.deref.ensures.value c.in_ok-span.ensures.place c.in-Ok.ensures.stands in
+    (w.0, omega (arith, w.1, c.requires.fits))
+
+pub returns-in-Some-clause-place : goal.returns-in-Some-clause-place
+returns-in-Some-clause-place c =
+    let w = placed_found c.args.text.now (length c.args.text.now) _ _ _ c.in-Some.span c.in-Some.is c.deref.ensures.value c.in_ok-span.ensures.place c.in-Ok.ensures.stands in
+    subst (IsSpanWithin (c.args.offset + length c.args.text.now)) (sym c.moved_span.ensures) (omega (arith, w.0), omega (arith, w.1))

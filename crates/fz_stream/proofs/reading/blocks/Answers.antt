@@ -1,0 +1,91 @@
+use Rattle.std.proofs.Common.{◌≡◌, ◌≢◌, ℕ, List, [], map, ◌∷◌, ◌++◌, length, take, drop, None, Some, sym, ap, ◌∙◌, subst, arith, refl}
+use Rattle.std.proofs.lemmas.List.{map_push, length-map, take_rest}
+use Rattle.std.proofs.lemmas.Result.{err_from_is_err_and}
+use Rattle.fz_syntax.specs.View.{bare_items}
+use Rattle.fz_stream.specs.Found.{block_of, HasPlaces}
+use Rattle.fz_stream.proofs.PartLemmas.{every_append}
+use Rattle.fz_stream.proofs.FoundLemmas.{read_in_order, read_before_markers}
+use Rattle.fz_stream.proofs.SoFar.{ReadSoFar, start_so_far, so_far_goes_on, so_far_block, so_far_claim, so_far_no_block, so_far_no_claim, so_far_read_at, so_far_open_at}
+use Rattle.fz_stream.specs.Parts.{IsBlockText}
+use Rattle.fz_stream.specs.declared.line.ClaimKind.{ClaimKind}
+use Rattle.fz_stream.specs.declared.reading.Claim.{Claim}
+use Rattle.fz_stream.specs.Step.{step_of, IsBlockFault}
+use Rattle.fz_stream.specs.declared.error.StreamError.TheVariants.{TooLong}
+use Rattle.fz_stream.proofs.reading.blocks.Goals as goal
+use Rattle.fz_stream.proofs.reading.blocks.Goals.{in-GoesOn, in-EndsBlock+in_ok-block-in-EndsBlock+in_ok-push-in-EndsBlock, in-Claims+in_ok-push-in-Claims}
+
+abbrev claim_at : ℕ → ClaimKind → Claim
+claim_at n k = record { after = n; kind = k }
+
+pub loop-at-init : goal.loop-at-init
+loop-at-init c = record {
+  so_far = rw (c.new-blocks.ensures.items, c.new-claims.ensures.items) (start_so_far c.args.stream.now);
+  places = rw c.new-blocks.ensures.items tt;
+}
+
+pub returns-in_err-block-in-EndsBlock-clause-too_long :
+    goal.returns-in_err-block-in-EndsBlock-clause-too_long
+returns-in_err-block-in-EndsBlock-clause-too_long c =
+    let p = err_from_is_err_and c.from_residual.result c.from_residual.ensures.1 in (
+      λ h. (
+          let same : p.0 ≡ TooLong = cc in
+          absurd (subst IsBlockFault (sym p.2 ∙ same) c.in_err-block-in-EndsBlock.ensures.fault)),
+      λ long. absurd (omega (arith, long)),
+    )
+
+pub returns-in_err-block-in-EndsBlock-clause-refused :
+    goal.returns-in_err-block-in-EndsBlock-clause-refused
+returns-in_err-block-in-EndsBlock-clause-refused c =
+    let p = err_from_is_err_and c.from_residual.result c.from_residual.ensures.1 in
+    rw (p.1, p.2) (λ known _.
+    so_far_no_block _ _ _ _ _ c.loop-at.invariant.so_far _ (take_rest c.args.stream.now c.loop-at.at) c.first_line-line.result.now c.first_line-line.ensures.within c.first_line-line.ensures.cut c.in-EndsBlock.start
+    (ap (step_of _ _) (sym c.line_kind.ensures) ∙ sym c.in-EndsBlock.ensures) (c.in_err-block-in-EndsBlock.ensures.refused known))
+
+pub returns-in-Breaks-clause-refused : goal.returns-in-Breaks-clause-refused
+returns-in-Breaks-clause-refused c _ _ =
+    so_far_no_claim _ _ _ _ _ c.loop-at.invariant.so_far _ (take_rest c.args.stream.now c.loop-at.at) c.first_line-line.result.now c.first_line-line.ensures.within c.first_line-line.ensures.cut c.in-Breaks.start
+    (ap (step_of _ _) (sym c.line_kind.ensures) ∙ sym c.in-Breaks.ensures)
+
+pub loop-at-preserved : goal.loop-at-preserved
+loop-at-preserved c =
+    elim c.match-after_line.branch [
+      | in-GoesOn w ↦ record {
+        so_far = rw (w.begun-is, w.blocks-is, w.claims-is) (
+          so_far_goes_on _ _ _ _ _ c.loop-at.invariant.so_far _ (take_rest c.args.stream.now c.loop-at.at) c.first_line-line.result.now c.first_line-line.ensures.within c.first_line-line.ensures.cut _
+          (ap (step_of _ _) (sym c.line_kind.ensures) ∙ sym w.in-GoesOn.ensures));
+        places = rw w.blocks-is c.loop-at.invariant.places;
+      }
+      | in-EndsBlock+in_ok-block-in-EndsBlock+in_ok-push-in-EndsBlock w ↦ record {
+        so_far = rw (w.begun-is, w.blocks-is, w.claims-is, w.in_ok-push-in-EndsBlock.ensures.items, map_push) (
+          so_far_block _ _ _ _ _ c.loop-at.invariant.so_far _ (take_rest c.args.stream.now c.loop-at.at) c.first_line-line.result.now c.first_line-line.ensures.within c.first_line-line.ensures.cut w.in-EndsBlock.start
+          (ap (step_of _ _) (sym c.line_kind.ensures) ∙ sym w.in-EndsBlock.ensures) (block_of w.in_ok-block-in-EndsBlock.block)
+          w.in_ok-block-in-EndsBlock.ensures.offset w.in_ok-block-in-EndsBlock.ensures.text
+          (subst (λ t. IsBlockText t (bare_items w.in_ok-block-in-EndsBlock.block.items.items)) (sym w.in_ok-block-in-EndsBlock.ensures.text) w.in_ok-block-in-EndsBlock.ensures.items)
+          (λ others h. w.in_ok-block-in-EndsBlock.ensures.only others (subst (λ t. IsBlockText t others) w.in_ok-block-in-EndsBlock.ensures.text h)));
+        places = rw (w.blocks-is, w.in_ok-push-in-EndsBlock.ensures.items) (every_append HasPlaces _ _ c.loop-at.invariant.places (w.in_ok-block-in-EndsBlock.ensures.places, tt));
+      }
+      | in-Claims+in_ok-push-in-Claims w ↦ record {
+        so_far = rw (w.begun-is, w.blocks-is, w.claims-is, w.in_ok-push-in-Claims.ensures.items) (
+          so_far_claim _ _ _ _ _ c.loop-at.invariant.so_far _ (take_rest c.args.stream.now c.loop-at.at) c.first_line-line.result.now c.first_line-line.ensures.within c.first_line-line.ensures.cut w.in-Claims.kind
+          (ap (step_of _ _) (sym c.line_kind.ensures) ∙ sym w.in-Claims.ensures) _
+          (ap (λ (n : ℕ). claim_at n w.in-Claims.kind) (w.len-after.ensures ∙ c.loop-at.blocks.ok.0 ∙ sym (length-map c.loop-at.blocks.items block_of))));
+        places = rw w.blocks-is c.loop-at.invariant.places;
+      }
+    ]
+
+pub returns-in-Some-clause-refused : goal.returns-in-Some-clause-refused
+returns-in-Some-clause-refused c _ _ = so_far_open_at c.args.stream.now c.loop-at.at _ _ (omega (arith, c.loop-at-test.false)) c.loop-at.begun c.in-Some.start c.in-Some.is c.loop-at.invariant.so_far
+
+pub returns-clause-read : goal.returns-clause-read
+returns-clause-read c = so_far_read_at c.args.stream.now c.loop-at.at _ _ (omega (arith, c.loop-at-test.false)) c.loop-at.begun c.in-None.is c.loop-at.invariant.so_far
+
+pub returns-clause-places : goal.returns-clause-places
+returns-clause-places c = c.loop-at.invariant.places
+
+pub returns-clause-before_markers : goal.returns-clause-before_markers
+returns-clause-before_markers c = read_before_markers _ _ _ (so_far_read_at c.args.stream.now c.loop-at.at _ _ (omega (arith, c.loop-at-test.false)) c.loop-at.begun c.in-None.is c.loop-at.invariant.so_far)
+
+pub returns-clause-claims_in_order : goal.returns-clause-claims_in_order
+returns-clause-claims_in_order c =
+    read_in_order _ _ _ _ (so_far_read_at c.args.stream.now c.loop-at.at _ _ (omega (arith, c.loop-at-test.false)) c.loop-at.begun c.in-None.is c.loop-at.invariant.so_far)
+    (omega (arith, c.loop-at.blocks.ok.0, length-map c.loop-at.blocks.items block_of))

@@ -1,0 +1,41 @@
+-- Streams that no further bytes can mend (this project's profile).
+use Rattle.std.specs.Prelude.{◌≢◌, ℕ, List, [], ◌∷◌}
+use Rattle.fz_syntax.specs.Tree.{Printed}
+use Rattle.fz_stream.specs.declared.line.LineKind.{LineKind}
+use Rattle.fz_stream.specs.declared.line.LineKind.TheVariants.{Blank, Comment, Marker, Claim, Item}
+use Rattle.fz_stream.specs.Lines.{Line, joined, kind_of, EndsWithFeed}
+use Rattle.fz_stream.specs.Parts.{StreamPart, IsBlockText, GoesOnAfter}
+
+-- A line of this kind can't follow an open block of this text: a claim, or a marker where the text isn't one of a block.
+abbrev pub CannotFollow : List ℕ → LineKind → Type 0
+CannotFollow text (Claim kind) = Unit {0}
+CannotFollow text Marker = (items : List Printed) → IsBlockText text items → ⊥
+CannotFollow text Blank = ⊥
+CannotFollow text Comment = ⊥
+CannotFollow text Item = ⊥
+
+-- The bytes are broken after the parts: a block is open, and then comes a line, which ends with LF and can't follow it.
+pub record IsBrokenAfter (bytes : List ℕ) (parts : List StreamPart) : Type 0 where
+  pub gap : List Line
+  pub body : List Line
+  pub line : Line
+  pub rest : List Line
+  pub stands : GoesOnAfter bytes parts gap body (line ∷ rest)
+  pub begun : body ≢ []
+  pub ends : EndsWithFeed line
+  pub breaks : CannotFollow (joined body) (kind_of line)
+
+-- what stands behind an open block of this text at the end of the stream: nothing, or a last line without LF that can't follow it
+abbrev pub CannotEnd : List ℕ → List Line → Type 0
+CannotEnd text [] = Unit {0}
+CannotEnd text (line ∷ []) = (EndsWithFeed line → ⊥) × CannotFollow text (kind_of line)
+CannotEnd text (line ∷ next ∷ lines) = ⊥
+
+-- The bytes are broken at their end after the parts: a block is open, and the stream ends there or with a line that can't follow it.
+pub record IsBrokenAtEndAfter (bytes : List ℕ) (parts : List StreamPart) : Type 0 where
+  pub gap : List Line
+  pub body : List Line
+  pub rest : List Line
+  pub stands : GoesOnAfter bytes parts gap body rest
+  pub begun : body ≢ []
+  pub breaks : CannotEnd (joined body) rest

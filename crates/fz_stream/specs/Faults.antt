@@ -1,0 +1,29 @@
+-- What a refusal of a stream may be, and where its place lies (this project's profile).
+use Rattle.std.specs.Prelude.{◌≢◌, ℕ}
+use Rattle.fz_syntax.specs.Places.{IsSpanWithin, IsPlacedWithin}
+use Rattle.fz_syntax.specs.SyntaxError.{SyntaxError}
+use Rattle.fz_syntax.specs.SyntaxError.TheVariants.{TooLong as TextTooLong, Memory as TextMemory}
+use Rattle.fz_stream.specs.declared.error.StreamError.{StreamError}
+use Rattle.fz_stream.specs.declared.error.StreamError.TheVariants.{TooLong, Item, DuplicateName, Unfinished, Memory, Failed}
+
+-- a fault of a block's text: neither want of memory, nor too many bytes, which no block has
+abbrev pub IsItemFault : SyntaxError → Type 0
+IsItemFault e = (e ≢ TextMemory) × (e ≢ TextTooLong)
+
+-- what a stream may be refused as, where nothing has failed before
+abbrev pub IsStreamFault : StreamError → Type 0
+IsStreamFault TooLong = Unit {0}
+IsStreamFault (Item e) = IsItemFault e
+IsStreamFault (DuplicateName span) = Unit {0}
+IsStreamFault (Unfinished span) = Unit {0}
+IsStreamFault Memory = Unit {0}
+IsStreamFault Failed = ⊥
+
+-- the place that a refusal names, if it names one, lies within so many bytes of the stream
+abbrev pub IsFaultWithin : ℕ → StreamError → Type 0
+IsFaultWithin n TooLong = Unit {0}
+IsFaultWithin n (Item e) = IsPlacedWithin n e
+IsFaultWithin n (DuplicateName span) = IsSpanWithin n span
+IsFaultWithin n (Unfinished span) = IsSpanWithin n span
+IsFaultWithin n Memory = Unit {0}
+IsFaultWithin n Failed = Unit {0}

@@ -1,0 +1,107 @@
+-- The text of an open block and the current line, as a splitter keeps them. It serves private functions alone: a reader
+-- of the public contracts need not believe it.
+use Rattle.std.specs.Prelude.{◌≡◌, ◌≢◌, ℕ, ◌+◌, List, [], ◌∷◌, ◌++◌, length, take, Option, Some, None, ◌⊎◌}
+use Rattle.std.specs.List.{AllByRecursion}
+use Rattle.fz_syntax.specs.Tree.{Printed}
+use Rattle.fz_stream.specs.declared.held.Ended.{Ended}
+use Rattle.fz_stream.specs.declared.held.Ended.TheVariants.{BlockEnded, ClaimEnded}
+use Rattle.fz_stream.specs.declared.held.Held.{Held}
+use Rattle.fz_stream.specs.Lines.{Line, joined, kind_of, HasNoFeed, EndsWithFeed, IsFiller}
+use Rattle.fz_stream.specs.Parts.{SolutionBlock, StreamPart, BlockPart, ClaimPart, IsBlockText, AreBlockLines, AreLinesOfPart, AreLinesOf, Covers, IsStreamText, GoesOnAfter}
+use Rattle.fz_stream.specs.Broken.{CannotFollow}
+
+-- The bytes are the lines of the parts, then blank lines and comments, then the bytes held.
+pub record Keeps (bytes : List ℕ) (parts : List StreamPart) (held : List ℕ) : Type 0 where
+  pub covered : List Line
+  pub gap : List Line
+  pub whole : bytes ≡ joined covered ++ (joined gap ++ held)
+  pub ended : AllByRecursion EndsWithFeed (covered ++ gap)
+  pub of_parts : AreLinesOf 0 covered parts
+  pub fillers : AllByRecursion IsFiller gap
+
+-- The buffer is the whole lines of the open block, and one more line.
+pub record HasLine (h : Held) (body : List Line) (line : Line) : Type 0 where
+  pub bytes : h.buffer.items ≡ joined body ++ line
+  pub place : h.line ≡ length (joined body)
+  pub whole : AllByRecursion EndsWithFeed body
+  pub own : AreBlockLines body
+
+-- The last line has begun and has no LF yet.
+pub record IsHeld (h : Held) : Type 0 where
+  pub body : List Line
+  pub current : Line
+  pub lines : HasLine h body current
+  pub begun : HasNoFeed current
+
+-- The line is a blank line or a comment outside a block, and it was dropped.
+pub record DropsLine (new : Held) (body : List Line) (line : Line) : Type 0 where
+  pub none : body ≡ []
+  pub fills : IsFiller line
+  pub empty : new.buffer.items ≡ []
+  pub line_is : new.line ≡ 0
+
+-- The line joins the open block, or opens one.
+pub record JoinsLine (old new : Held) (body : List Line) (line : Line) : Type 0 where
+  pub own : AreBlockLines (body ++ line ∷ [])
+  pub same : new.buffer.items ≡ old.buffer.items
+  pub line_is : new.line ≡ length old.buffer.items
+
+-- Nothing has ended.
+abbrev pub GoesOnHolding : Held → Held → List Line → Line → Type 0
+GoesOnHolding old new body line = DropsLine new body line ⊎ JoinsLine old new body line
+
+-- what a part that ended is, by the place and the text of a block
+abbrev pub EndedAs : Ended → ℕ → List ℕ → StreamPart → Type 0
+EndedAs BlockEnded offset text (BlockPart block) = (block.offset ≡ offset) × (block.text ≡ text)
+EndedAs BlockEnded offset text (ClaimPart kind) = ⊥
+EndedAs (ClaimEnded kind) offset text (BlockPart block) = ⊥
+EndedAs (ClaimEnded kind) offset text (ClaimPart other) = kind ≡ other
+
+-- With blank lines and comments before it, what is held is the lines of a part.
+pub record EndsPart (h : Held) (body : List Line) (line : Line) (ended : Ended) : Type 0 where
+  pub part : StreamPart
+  pub is : EndedAs ended h.before (take h.line h.buffer.items) part
+  pub lines : (start : ℕ) (gap : List Line) → AllByRecursion IsFiller gap → start + length (joined gap) ≡ h.before → AreLinesOfPart start (gap ++ (body ++ line ∷ [])) part
+
+-- The line can't follow the open block.
+pub record BreaksBlock (body : List Line) (line : Line) : Type 0 where
+  pub begun : body ≢ []
+  pub cannot : CannotFollow (joined body) (kind_of line)
+
+-- a block that waits has a text that can be read
+abbrev pub CanBeRead : Option Ended → List ℕ → Type 0
+CanBeRead None text = Unit {0}
+CanBeRead (Some BlockEnded) text = (items : List Printed) × IsBlockText text items
+CanBeRead (Some (ClaimEnded kind)) text = Unit {0}
+
+-- All of the piece was taken, and no part ended.
+pub record KeepsAll (old new : Held) (piece : List ℕ) (n : ℕ) : Type 0 where
+  pub whole : n ≡ length piece
+  pub held : IsHeld new
+  pub keeps : (bytes : List ℕ) (parts : List StreamPart) → Keeps bytes parts old.buffer.items → Keeps (bytes ++ piece) parts new.buffer.items
+
+-- A part ended with the last of the bytes that were taken.
+pub record TakesPart (new : Held) (bytes taken : List ℕ) (parts : List StreamPart) (ended : Ended) : Type 0 where
+  pub part : StreamPart
+  pub is : EndedAs ended new.before (take new.line new.buffer.items) part
+  pub completes : Covers (bytes ++ taken) (parts ++ part ∷ []) []
+  pub keeps : Keeps (bytes ++ taken) (parts ++ part ∷ []) []
+
+-- At the end of the stream a block is open whose lines are the body, or none is.
+pub record EndsOpen (h : Held) (bytes : List ℕ) (parts : List StreamPart) : Type 0 where
+  pub gap : List Line
+  pub body : List Line
+  pub stands : GoesOnAfter bytes parts gap body []
+  pub none : h.line ≡ 0 → body ≡ []
+  pub some : h.line ≢ 0 → body ≢ []
+
+-- What stands at the end of the stream: the bytes are a text of the parts, and of one more where one ended.
+abbrev pub EndsStream : Held → List ℕ → List StreamPart → Option Ended → Type 0
+EndsStream h bytes parts None = IsStreamText bytes parts
+EndsStream h bytes parts (Some ended) =
+    (part : StreamPart) × EndedAs ended h.before (take h.line h.buffer.items) part × IsStreamText bytes (parts ++ part ∷ [])
+
+-- what is held while nothing waits, or a part does
+abbrev pub held_while : Option Ended → List ℕ → List ℕ
+held_while None bytes = bytes
+held_while (Some ended) bytes = []

@@ -1,0 +1,14 @@
+-- What a part that a splitter lends stands for.
+use Rattle.fz_stream.specs.declared.splitter.Part.{Part}
+use Rattle.fz_stream.specs.declared.splitter.Part.TheVariants.{Block, Claim}
+use Rattle.fz_stream.specs.Found.{block_of, HasPlaces}
+use Rattle.fz_stream.specs.Parts.{StreamPart, BlockPart, ClaimPart}
+
+abbrev pub part_of : Part → StreamPart
+part_of (Block block) = BlockPart (block_of block)
+part_of (Claim kind) = ClaimPart kind
+
+-- of a block, its items have their places in its text
+abbrev pub HasPlacesOfItems : Part → Type 0
+HasPlacesOfItems (Block block) = HasPlaces block
+HasPlacesOfItems (Claim kind) = Unit {0}

@@ -1,0 +1,10 @@
+pub mod Lines
+pub mod Parts
+pub mod Broken
+pub mod Faults
+pub mod Found
+pub mod Splitting
+pub mod Lending
+pub mod Step
+pub mod Keeping
+pub mod Inside

@@ -1,0 +1,62 @@
+-- How one line changes what is open, and how a place in a block is one in the stream. It serves private functions alone:
+-- a reader of the public contracts need not believe it.
+use Rattle.std.specs.Prelude.{ℕ, ◌+◌, Option, Some, None, if◌then◌else◌, ◌==◌}
+use Rattle.fz_syntax.specs.Span.{Span}
+use Rattle.fz_syntax.specs.SyntaxError.{SyntaxError}
+use Rattle.fz_syntax.specs.SyntaxError.TheVariants.{TooLong as TextTooLong, BadByte, TooLarge, Float, Syntax, TooDeep, TooMany, Memory as TextMemory}
+use Rattle.fz_stream.specs.declared.line.ClaimKind.{ClaimKind}
+use Rattle.fz_stream.specs.declared.line.LineKind.{LineKind}
+use Rattle.fz_stream.specs.declared.line.LineKind.TheVariants.{Blank, Comment, Marker, Claim, Item}
+use Rattle.fz_stream.specs.declared.error.StreamError.{StreamError}
+use Rattle.fz_stream.specs.declared.error.StreamError.TheVariants.{TooLong, Item as OfItem, DuplicateName, Unfinished, Memory, Failed}
+use Rattle.fz_stream.specs.declared.step.Step.{Step}
+use Rattle.fz_stream.specs.declared.step.Step.TheVariants.{GoesOn, EndsBlock, Claims, Breaks}
+use Rattle.fz_stream.specs.Faults.{IsItemFault}
+
+-- begun is where the text of the begun block begins, and at is where the line begins
+abbrev pub step_of : Option ℕ → ℕ → LineKind → Step
+step_of begun at Blank = GoesOn begun
+step_of begun at Comment = GoesOn begun
+step_of None at Item = GoesOn (Some at)
+step_of (Some start) at Item = GoesOn (Some start)
+step_of None at Marker = EndsBlock at
+step_of (Some start) at Marker = EndsBlock start
+step_of None at (Claim kind) = Claims kind
+step_of (Some start) at (Claim kind) = Breaks start
+
+-- what may be wrong with a block's text, or want of memory
+abbrev pub IsBlockFault : StreamError → Type 0
+IsBlockFault TooLong = ⊥
+IsBlockFault (OfItem e) = IsItemFault e
+IsBlockFault (DuplicateName span) = Unit {0}
+IsBlockFault (Unfinished span) = ⊥
+IsBlockFault Memory = Unit {0}
+IsBlockFault Failed = ⊥
+
+-- neither a limit nor an earlier failure
+abbrev pub IsLineFault : StreamError → Type 0
+IsLineFault TooLong = ⊥
+IsLineFault (OfItem e) = IsItemFault e
+IsLineFault (DuplicateName span) = Unit {0}
+IsLineFault (Unfinished span) = Unit {0}
+IsLineFault Memory = Unit {0}
+IsLineFault Failed = ⊥
+
+-- where the open block begins, whose whole lines have this length
+abbrev pub begun_of : ℕ → ℕ → Option ℕ
+begun_of line before = if line == 0 then None else Some before
+
+-- a span of a text that begins at the offset, as one of the stream
+abbrev pub moved_span : ℕ → Span → Span
+moved_span offset span = record { start = offset + span.start; end = offset + span.end }
+
+-- the fault of a text that begins at the offset
+abbrev pub item_fault : ℕ → SyntaxError → StreamError
+item_fault offset TextTooLong = OfItem TextTooLong
+item_fault offset (BadByte span) = OfItem (BadByte (moved_span offset span))
+item_fault offset (TooLarge span) = OfItem (TooLarge (moved_span offset span))
+item_fault offset (Float span) = OfItem (Float (moved_span offset span))
+item_fault offset (Syntax span) = OfItem (Syntax (moved_span offset span))
+item_fault offset (TooDeep span) = OfItem (TooDeep (moved_span offset span))
+item_fault offset (TooMany span) = OfItem (TooMany (moved_span offset span))
+item_fault offset TextMemory = Memory

@@ -1,0 +1,71 @@
+ghost use Rattle.std.specs.Prelude.{◌≡◌, ◌≢◌, ◌+◌, ◌≤◌, List, Any, length, IfOk, IfErr, IfSome, IfNone};
+ghost use Rattle.fz_syntax.specs.Limits.{most_bytes};
+ghost use Rattle.fz_syntax.specs.Tree.{Printed as PlainPrinted};
+ghost use Rattle.fz_syntax.specs.View.{bare_items};
+ghost use Rattle.fz_stream.specs.Faults.{IsFaultWithin};
+ghost use Rattle.fz_stream.specs.Found.{HasPlaces};
+ghost use Rattle.fz_stream.specs.Parts.{IsBlockText, HasDistinctNames};
+ghost use Rattle.fz_stream.specs.Step.{IsBlockFault};
+
+use crate::error::{StreamError, item_fault, moved_span};
+use fz_syntax::{Printed, Span, read_items};
+use indexmap::IndexSet;
+use std::alloc::{AllocError, Global};
+
+/// What a solver printed of one solution.
+#[derive(Drop)]
+pub struct Block<'a> {
+    /// Where the text begins in the stream.
+    pub offset: usize,
+    /// From the first byte of the first item line to the first byte of the marker's line.
+    pub text: &'a [u8],
+    /// What the text prints. Places count from the text's first byte.
+    pub items: Vec<Printed<'a>>,
+}
+
+/// The place of the first name that is printed a second time.
+fn repeated_name(alloc: Global, items: &[Printed<'_>]) -> Result<Option<Span>, AllocError>
+    ensures none { IfOk result (λ found. IfNone found (HasDistinctNames (bare_items items.now))) }
+    ensures some { IfOk result (λ found. IfSome found (λ _. HasDistinctNames (bare_items items.now) → ⊥)) }
+    ensures place { IfOk result (λ found. IfSome found (λ span. Any (λ p. p.name.span ≡ span) items.now)) }
+{
+    let mut names = IndexSet::new(alloc);
+    for item in items {
+        let (_, is_new) = names.insert_full(item.name.text)?;
+        if !is_new {
+            return Ok(Some(item.name.span));
+        }
+    }
+    Ok(None)
+}
+
+/// The block whose text this is.
+pub fn read_block<'a>(
+    alloc: Global,
+    offset: usize,
+    text: &'a [u8],
+) -> Result<Block<'a>, StreamError>
+    requires fits { offset + length text.now ≤ usize.MAX }
+    requires short { length text.now ≤ most_bytes }
+    ensures offset { IfOk result (λ b. b.offset ≡ offset) }
+    ensures text { IfOk result (λ b. b.text.now ≡ text.now) }
+    ensures items { IfOk result (λ b. IsBlockText text.now (bare_items b.items.items)) }
+    ensures only { IfOk result (λ b. (others : List PlainPrinted) → IsBlockText text.now others → others ≡ bare_items b.items.items) }
+    ensures places { IfOk result HasPlaces }
+    ensures refused { IfErr result (λ e. e ≢ StreamError.Memory → (items : List PlainPrinted) → IsBlockText text.now items → ⊥) }
+    ensures fault { IfErr result IsBlockFault }
+    ensures place { IfErr result (IsFaultWithin (offset + length text.now)) }
+{
+    let items = match read_items(alloc, text) {
+        Ok(items) => items,
+        Err(e) => return Err(item_fault(e, offset)),
+    };
+    if let Some(span) = repeated_name(alloc, &items)? {
+        return Err(StreamError::DuplicateName(moved_span(span, offset)));
+    }
+    Ok(Block {
+        offset,
+        text,
+        items,
+    })
+}

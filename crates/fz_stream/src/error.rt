@@ -1,0 +1,91 @@
+ghost use Rattle.std.specs.Prelude.{◌≡◌, ◌≤◌, ◌+◌, ◌-◌};
+ghost use Rattle.fz_syntax.specs.Places.{IsSpanWithin, IsPlacedWithin};
+ghost use Rattle.fz_stream.specs.Step.{moved_span, item_fault};
+
+use fz_syntax::{Span, SyntaxError};
+use std::alloc::{AllocError, AllocFailed};
+use thiserror::Error;
+
+/// Why a stream is refused. Each place counts from the stream's first byte.
+#[derive(Clone, Copy, Debug, PartialEq, Eq, Error)]
+pub enum StreamError {
+    /// The stream is too long to be read whole, or a splitter would hold or take too many bytes.
+    #[error("TooLong")]
+    TooLong,
+    /// The text of a block is none of printed items. The fault is neither `Memory` nor `TooLong`.
+    #[error("{0}")]
+    Item(SyntaxError),
+    /// A block prints a name twice: the place of the second printing.
+    #[error("DuplicateName")]
+    DuplicateName(Span),
+    /// A claim stands in an open block, or the stream ends in one: from the block's first byte to
+    /// the first byte of the claim's line, or to the stream's end.
+    #[error("Unfinished")]
+    Unfinished(Span),
+    /// There is no memory left.
+    #[error("Memory")]
+    Memory,
+    /// The splitter failed before.
+    #[error("Failed")]
+    Failed,
+}
+
+impl<T: Drop> From<AllocFailed<T>> for StreamError {
+    ghost use Rattle.fz_stream.specs.declared.error.StreamError.TheVariants.{Memory};
+
+    ghost from_gives = { λ _ e. e ≡ Memory };
+
+    fn from(_: AllocFailed<T>) -> StreamError {
+        StreamError::Memory
+    }
+}
+
+impl From<AllocError> for StreamError {
+    ghost use Rattle.fz_stream.specs.declared.error.StreamError.TheVariants.{Memory};
+
+    ghost from_gives = { λ _ e. e ≡ Memory };
+
+    fn from(_: AllocError) -> StreamError {
+        StreamError::Memory
+    }
+}
+
+/// The place in the stream of a place in a text that begins at the offset.
+pub fn moved_span(span: Span, offset: usize) -> Span
+    requires { IsSpanWithin (usize.MAX - offset) span }
+    ensures { result ≡ moved_span offset span }
+{
+    Span {
+        start: offset + span.start,
+        end: offset + span.end,
+    }
+}
+
+/// The fault of a text that begins at the offset, as one of the stream.
+pub fn item_fault(error: SyntaxError, offset: usize) -> StreamError
+    requires { IsPlacedWithin (usize.MAX - offset) error }
+    ensures { result ≡ item_fault offset error }
+{
+    match error {
+        SyntaxError::Memory => StreamError::Memory,
+        SyntaxError::TooLong => StreamError::Item(error),
+        SyntaxError::BadByte(span) => {
+            StreamError::Item(SyntaxError::BadByte(moved_span(span, offset)))
+        }
+        SyntaxError::TooLarge(span) => {
+            StreamError::Item(SyntaxError::TooLarge(moved_span(span, offset)))
+        }
+        SyntaxError::Float(span) => {
+            StreamError::Item(SyntaxError::Float(moved_span(span, offset)))
+        }
+        SyntaxError::Syntax(span) => {
+            StreamError::Item(SyntaxError::Syntax(moved_span(span, offset)))
+        }
+        SyntaxError::TooDeep(span) => {
+            StreamError::Item(SyntaxError::TooDeep(moved_span(span, offset)))
+        }
+        SyntaxError::TooMany(span) => {
+            StreamError::Item(SyntaxError::TooMany(moved_span(span, offset)))
+        }
+    }
+}

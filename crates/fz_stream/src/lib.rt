@@ -1,0 +1,18 @@
+//! Streams of solver output: their solution blocks and claims, read whole or in pieces.
+#![tactic(auto)]
+
+mod block;
+mod error;
+mod held;
+mod line;
+mod reading;
+mod splitter;
+mod step;
+#[cfg(test)]
+mod tests;
+
+pub use block::Block;
+pub use error::StreamError;
+pub use line::ClaimKind;
+pub use reading::{Claim, Stream, blocks};
+pub use splitter::{Part, Splitter};

@@ -1,0 +1,83 @@
+-- What the parser's loops keep.
+use Rattle.std.proofs.Common.{◌≡◌, ◌+◌, ℕ, suc, Bool, true, false, List, [], ◌∷◌, ◌++◌, length, map, Ok, Err, refl, sym, ap, subst, ◌∙◌, arith, length-append}
+use Rattle.std.proofs.lemmas.List.{map_push}
+use Rattle.fz_syntax.specs.declared.parser.refusal.Refusal.{Refusal}
+use Rattle.fz_lex.specs.declared.token.Mark.{Mark}
+use Rattle.fz_lex.specs.declared.token.Mark.TheVariants.{Comma}
+use Rattle.fz_lex.specs.declared.token.Mark.TheVariants.{ColonColon}
+use Rattle.fz_lex.specs.Token.{TokenValue}
+use Rattle.fz_syntax.specs.Tree.{Note}
+use Rattle.fz_syntax.specs.Shape.{Limits}
+use Rattle.fz_syntax.specs.Reading.{Read, Reader, is_mark, next_is, next_passes, many_at, after_token, separated_at, any_number, note_at, notes_at}
+use Rattle.fz_syntax.specs.Outcome.{Fails}
+use Rattle.fz_syntax.proofs.Lists.{Shrinks, with_front, loop_step, loop_fails, loop_ends}
+use Rattle.fz_syntax.proofs.Separated.{separated_starts, marked_step, marked_fails, marked_ends, Taken, fails_like}
+
+-- The parts so far, and those that are still read, each behind the mark, are all of them.
+pub record Continues {A : Type 0} (m : Mark) (part : ℕ → Reader A) (front : List A) (tokens : List TokenValue) (all : Read (List A)) : Type 0 where
+  pub so_far : with_front front (many_at (is_mark m) (after_token part) (length front) tokens) ≡ all
+
+-- a list that grew by one
+pub grown : {A B : Type 0} (view : A → B) (items front : List A) (x : A) → items ≡ front ++ x ∷ [] → map view items ≡ map view front ++ view x ∷ []
+grown view items front x e = ap (map view) e ∙ map_push view front x
+
+pub separated_init : {A : Type 0} (element : ℕ → Reader A) (tokens : List TokenValue) (x : A) (rest : List TokenValue) (made items : List A) → made ≡ [] → items ≡ made ++ x ∷ [] → element 0 tokens ≡ Ok (x, rest)
+    → Continues Comma element items rest (separated_at element tokens)
+separated_init {A} element tokens x rest made items empty one found =
+    let only : items ≡ x ∷ [] = one ∙ ap (λ (xs : List A). xs ++ x ∷ []) empty in
+    subst (λ (xs : List A). Continues Comma element xs rest (separated_at element tokens)) (sym only) (record { so_far = separated_starts element tokens x rest found })
+
+pub keeps_on : {A : Type 0} (m : Mark) (part : ℕ → Reader A) → Shrinks part → (front items : List A) (before after : List TokenValue) (x : A) (rest : List TokenValue) (all : Read (List A)) → (i : ℕ) → i ≡ length front → items ≡ front ++ x ∷ [] → (b : Bool) → b ≡ true → b ≡ next_is m before → Taken m before after
+    → part i after ≡ Ok (x, rest) → Continues m part front before all → Continues m part items rest all
+keeps_on {A} m part shrinks front items before after x rest all i at grew b wanted tested taken found c =
+    let one : length (front ++ x ∷ []) ≡ length front + 1 = omega (arith, length-append front (x ∷ [])) in
+    let step = marked_step m part shrinks front (length front) before after x rest all (sym tested ∙ wanted) taken (ap (λ j. part j after) (sym at) ∙ found) c.so_far in
+    subst (λ (xs : List A). Continues m part xs rest all) (sym grew) (record { so_far = subst (λ (n : ℕ). with_front (front ++ x ∷ []) (many_at (is_mark m) (after_token part) n rest) ≡ all) (sym one) step })
+
+pub stops : {A : Type 0} (e : Refusal) (m : Mark) (part : ℕ → Reader A) (front : List A) (before after left : List TokenValue) (all : Read (List A)) (i : ℕ) → i ≡ length front → (b : Bool) → b ≡ true → b ≡ next_is m before → Taken m before after
+    → Continues m part front before all → Fails e (part i after) left → Fails e all left
+stops e m part front before after left all i at b wanted tested taken c h =
+    marked_fails e m part front (length front) before after left all (sym tested ∙ wanted) taken c.so_far (subst (λ (j : ℕ). Fails e (part j after) left) at h)
+
+pub is_whole_list : {A : Type 0} (m : Mark) (part : ℕ → Reader A) (front : List A) (before after : List TokenValue) (all : Read (List A)) (b : Bool) → b ≡ false → b ≡ next_is m before → Taken m before after
+    → Continues m part front before all → all ≡ Ok (front, after)
+is_whole_list m part front before after all b wanted tested taken c = marked_ends m part front (length front) before after all (sym tested ∙ wanted) taken c.so_far
+
+pub length_seen : {A B : Type 0} (view : A → B) (xs : List A) → length xs ≡ length (map view xs)
+length_seen view [] = refl
+length_seen view (x ∷ xs) = ap suc (length_seen view xs)
+
+pub front_of_none : {A : Type 0} (read : Read (List A)) → with_front [] read ≡ read
+front_of_none (Ok x) = refl
+front_of_none (Err f) = refl
+
+-- no annotation was read yet
+pub notes_begin : (limits : Limits) (tokens : List TokenValue) (front : List Note) → front ≡ [] → Continues ColonColon (any_number (note_at limits limits.depth)) front tokens (notes_at limits tokens)
+unfolding notes_at
+notes_begin limits tokens front empty =
+    subst (λ (xs : List Note). Continues ColonColon (any_number (note_at limits limits.depth)) xs tokens (notes_at limits tokens)) (sym empty)
+    (record { so_far = front_of_none (many_at (is_mark ColonColon) (after_token (any_number (note_at limits limits.depth))) 0 tokens) })
+
+-- The items so far, and those that are still read, are all of them.
+pub record Gathers {A : Type 0} (more : TokenValue → Bool) (item : Reader A) (front : List A) (tokens : List TokenValue) (all : Read (List A)) : Type 0 where
+  pub so_far : with_front front (many_at more (any_number item) (length front) tokens) ≡ all
+
+pub gathers_begin : {A : Type 0} (more : TokenValue → Bool) (item : Reader A) (tokens : List TokenValue) (front : List A) → front ≡ [] → Gathers more item front tokens (many_at more (any_number item) 0 tokens)
+gathers_begin {A} more item tokens front empty =
+    subst (λ (xs : List A). Gathers more item xs tokens (many_at more (any_number item) 0 tokens)) (sym empty) (record { so_far = front_of_none (many_at more (any_number item) 0 tokens) })
+
+pub gathers_on : {A : Type 0} (more : TokenValue → Bool) (item : Reader A) → Shrinks (any_number item) → (front items : List A) (tokens : List TokenValue) (x : A) (rest : List TokenValue) (all : Read (List A)) → items ≡ front ++ x ∷ [] → (b : Bool) → b ≡ true → b ≡ next_passes more tokens
+    → item tokens ≡ Ok (x, rest) → Gathers more item front tokens all → Gathers more item items rest all
+gathers_on {A} more item shrinks front items tokens x rest all grew b wanted tested found g =
+    let one : length (front ++ x ∷ []) ≡ length front + 1 = omega (arith, length-append front (x ∷ [])) in
+    let step = loop_step more (any_number item) shrinks front (length front) tokens x rest all (sym tested ∙ wanted) found g.so_far in
+    subst (λ (xs : List A). Gathers more item xs rest all) (sym grew) (record { so_far = subst (λ (n : ℕ). with_front (front ++ x ∷ []) (many_at more (any_number item) n rest) ≡ all) (sym one) step })
+
+pub gathers_stop : {A : Type 0} (e : Refusal) (more : TokenValue → Bool) (item : Reader A) (front : List A) (tokens left : List TokenValue) (all : Read (List A)) (b : Bool) → b ≡ true → b ≡ next_passes more tokens
+    → Gathers more item front tokens all → Fails e (item tokens) left → Fails e all left
+gathers_stop e more item front tokens left all b wanted tested g h =
+    fails_like e (item tokens) all left (λ f found. loop_fails more (any_number item) front (length front) tokens f all (sym tested ∙ wanted) found g.so_far) h
+
+pub gathers_all : {A : Type 0} (more : TokenValue → Bool) (item : Reader A) (front : List A) (tokens : List TokenValue) (all : Read (List A)) (b : Bool) → b ≡ false → b ≡ next_passes more tokens
+    → Gathers more item front tokens all → all ≡ Ok (front, tokens)
+gathers_all more item front tokens all b wanted tested g = loop_ends more (any_number item) front (length front) tokens all (sym tested ∙ wanted) g.so_far

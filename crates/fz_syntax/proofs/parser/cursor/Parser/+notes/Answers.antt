@@ -1,0 +1,86 @@
+use Rattle.std.proofs.Common.{sym, subst, ◌∙◌, ap, map, refl, arith}
+use Rattle.std.proofs.lemmas.Result.{err_from_is_err_and}
+use Rattle.fz_lex.specs.declared.token.Mark.TheVariants.{Comma}
+use Rattle.fz_syntax.specs.Spots.{arg_spots, note_basic_spots}
+use Rattle.fz_syntax.proofs.Walks.{walk_first, walk_more, walk_end, note_walk, listed_walk}
+use Rattle.fz_syntax.proofs.Folds.{note_unfolds, list_unfolds}
+use Rattle.fz_syntax.specs.Walk.{Walk}
+use Rattle.fz_syntax.specs.View.{bare_arg, bare_basic}
+use Rattle.fz_syntax.specs.Reading.{any_number, at_most, note_at, note_arg_at, note_basic_at, begins_note_basic}
+use Rattle.fz_syntax.specs.Shape.{the_limits}
+use Rattle.fz_syntax.proofs.Separated.{separated_fails}
+use Rattle.fz_syntax.proofs.Running.{separated_init, keeps_on, stops, is_whole_list, grown, length_seen}
+use Rattle.fz_syntax.proofs.NoteLaws.{note_list_shrinks, note_args_shrink}
+use Rattle.fz_syntax.proofs.parser.cursor.Parser.+notes.Goals as goal
+
+pub separated_note_args-returns-in_err-note_arg-clause-read : goal.separated_note_args-returns-in_err-note_arg-clause-read
+separated_note_args-returns-in_err-note_arg-clause-read t c =
+    let p = err_from_is_err_and c.from_residual.result c.from_residual.ensures.1 in
+    rw (p.1, p.2) (separated_fails c.in_err-note_arg.field-0.0 (any_number (note_arg_at the_limits c.args.depth (note_at the_limits c.args.depth))) _ _ c.in_err-note_arg.ensures.read)
+
+pub separated_note_args-more_args-init : goal.separated_note_args-more_args-init
+separated_note_args-more_args-init t c = record {
+  continues = separated_init (any_number (note_arg_at the_limits c.args.depth (note_at the_limits c.args.depth))) _ _ _ _ _ (ap (map bare_arg) c.new-arguments.ensures.items) (grown bare_arg _ _ _ c.in_ok-push.ensures.items) c.in_ok-note_arg.ensures.read;
+  shorter = omega arith;
+  same_end = omega arith;
+  walked = walk_first arg_spots _ _ _ c.new-arguments.ensures.items c.in_ok-push.ensures.items c.in_ok-note_arg.ensures.walked;
+}
+
+pub separated_note_args-returns-in_err-arg-clause-read : goal.separated_note_args-returns-in_err-arg-clause-read
+separated_note_args-returns-in_err-arg-clause-read t c =
+    let p = err_from_is_err_and c.from_residual-in_err-arg.result c.from_residual-in_err-arg.ensures.1 in
+    rw (p.1, p.2) (stops c.in_err-arg.field-0.0 Comma (any_number (note_arg_at the_limits c.args.depth (note_at the_limits c.args.depth))) _ _ _ _ _ _ refl _ c.more_args-test.true c.eat.ensures.found c.eat.ensures.left c.more_args.invariant.continues c.in_err-arg.ensures.read)
+
+pub separated_note_args-more_args-preserved : goal.separated_note_args-more_args-preserved
+separated_note_args-more_args-preserved t c = record {
+  continues = keeps_on Comma (any_number (note_arg_at the_limits c.args.depth (note_at the_limits c.args.depth))) (note_args_shrink the_limits c.args.depth) _ _ _ _ _ _ _ _ refl (grown bare_arg _ _ _ c.in_ok-push-2.ensures.items) _ c.more_args-test.true c.eat.ensures.found c.eat.ensures.left c.in_ok-arg.ensures.read c.more_args.invariant.continues;
+  shorter = omega arith;
+  same_end = omega arith;
+  walked = walk_more arg_spots _ _ _ c.in_ok-push-2.ensures.items (walk_end c.more_args.invariant.walked c.eat.ensures.walked) c.in_ok-arg.ensures.walked;
+}
+
+pub separated_note_args-returns-clause-read : goal.separated_note_args-returns-clause-read
+separated_note_args-returns-clause-read t c = is_whole_list Comma (any_number (note_arg_at the_limits c.args.depth (note_at the_limits c.args.depth))) _ _ _ _ _ c.more_args-test.false c.eat.ensures.found c.eat.ensures.left c.more_args.invariant.continues
+
+pub separated_note_basics-returns-in_err-listed_note_basic-clause-read : goal.separated_note_basics-returns-in_err-listed_note_basic-clause-read
+separated_note_basics-returns-in_err-listed_note_basic-clause-read t c =
+    let p = err_from_is_err_and c.from_residual.result c.from_residual.ensures.1 in
+    rw (p.1, p.2) (separated_fails c.in_err-listed_note_basic.field-0.0 (at_most the_limits.elements (begins_note_basic c.args.depth) (note_basic_at the_limits (note_at the_limits c.args.depth))) _ _ c.in_err-listed_note_basic.ensures.read)
+
+pub separated_note_basics-more_basics-init : goal.separated_note_basics-more_basics-init
+separated_note_basics-more_basics-init t c = record {
+  continues = separated_init (at_most the_limits.elements (begins_note_basic c.args.depth) (note_basic_at the_limits (note_at the_limits c.args.depth))) _ _ _ _ _ (ap (map bare_basic) c.new-basics.ensures.items) (grown bare_basic _ _ _ c.in_ok-push.ensures.items) c.in_ok-listed_note_basic.ensures.read;
+  shorter = omega arith;
+  same_end = omega arith;
+  walked = walk_first note_basic_spots _ _ _ c.new-basics.ensures.items c.in_ok-push.ensures.items c.in_ok-listed_note_basic.ensures.walked;
+}
+
+pub separated_note_basics-returns-in_err-basic-clause-read : goal.separated_note_basics-returns-in_err-basic-clause-read
+separated_note_basics-returns-in_err-basic-clause-read t c =
+    let p = err_from_is_err_and c.from_residual-in_err-basic.result c.from_residual-in_err-basic.ensures.1 in
+    rw (p.1, p.2) (stops c.in_err-basic.field-0.0 Comma (at_most the_limits.elements (begins_note_basic c.args.depth) (note_basic_at the_limits (note_at the_limits c.args.depth))) _ _ _ _ _ _ (c.len.ensures ∙ c.more_basics.basics.ok.0 ∙ length_seen bare_basic c.more_basics.basics.items) _ c.more_basics-test.true c.eat.ensures.found c.eat.ensures.left c.more_basics.invariant.continues c.in_err-basic.ensures.read)
+
+pub separated_note_basics-more_basics-preserved : goal.separated_note_basics-more_basics-preserved
+separated_note_basics-more_basics-preserved t c = record {
+  continues = keeps_on Comma (at_most the_limits.elements (begins_note_basic c.args.depth) (note_basic_at the_limits (note_at the_limits c.args.depth))) (note_list_shrinks the_limits c.args.depth) _ _ _ _ _ _ _ _ (c.len.ensures ∙ c.more_basics.basics.ok.0 ∙ length_seen bare_basic c.more_basics.basics.items) (grown bare_basic _ _ _ c.in_ok-push-2.ensures.items) _ c.more_basics-test.true c.eat.ensures.found c.eat.ensures.left c.in_ok-basic.ensures.read c.more_basics.invariant.continues;
+  shorter = omega arith;
+  same_end = omega arith;
+  walked = walk_more note_basic_spots _ _ _ c.in_ok-push-2.ensures.items (walk_end c.more_basics.invariant.walked c.eat.ensures.walked) c.in_ok-basic.ensures.walked;
+}
+
+pub separated_note_basics-returns-clause-read : goal.separated_note_basics-returns-clause-read
+separated_note_basics-returns-clause-read t c = is_whole_list Comma (at_most the_limits.elements (begins_note_basic c.args.depth) (note_basic_at the_limits (note_at the_limits c.args.depth))) _ _ _ _ _ c.more_basics-test.false c.eat.ensures.found c.eat.ensures.left c.more_basics.invariant.continues
+
+pub separated_note_args-returns-clause-walked : goal.separated_note_args-returns-clause-walked
+separated_note_args-returns-clause-walked t c = walk_end c.more_args.invariant.walked c.eat.ensures.walked
+
+pub separated_note_basics-returns-clause-walked : goal.separated_note_basics-returns-clause-walked
+separated_note_basics-returns-clause-walked t c = walk_end c.more_basics.invariant.walked c.eat.ensures.walked
+
+pub note-returns-clause-walked : goal.note-returns-clause-walked
+note-returns-clause-walked t c =
+    subst (λ s. Walk c.args.self.now c.note_args.new.self s) (sym (note_unfolds c.in_ok-name.name c.in_ok-args.args)) (note_walk c.in_ok-name.name c.in_ok-args.args.items c.in_ok-name.ensures.walked c.in_ok-args.ensures.walked)
+
+pub note_arg-returns-in_ok-note_list-clause-walked : goal.note_arg-returns-in_ok-note_list-clause-walked
+note_arg-returns-in_ok-note_list-clause-walked t c =
+    subst (λ s. Walk c.args.self.now c.note_list.new.self s) (sym (list_unfolds c.in_ok-note_list.field-0)) (listed_walk c.in_ok-note_list.field-0.items c.eat.ensures.walked c.in_ok-note_list.ensures.walked)

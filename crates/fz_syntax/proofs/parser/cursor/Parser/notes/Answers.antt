@@ -1,0 +1,38 @@
+use Rattle.std.proofs.Common.{ap, map, refl, arith}
+use Rattle.std.proofs.lemmas.Result.{err_from_is_err_and}
+use Rattle.fz_lex.specs.declared.token.Mark.TheVariants.{ColonColon}
+use Rattle.fz_syntax.specs.Spots.{note_spots}
+use Rattle.fz_syntax.proofs.Walks.{walk_zero, walk_more, walk_end}
+use Rattle.fz_syntax.specs.View.{bare_note}
+use Rattle.fz_syntax.specs.Reading.{any_number, note_at}
+use Rattle.fz_syntax.specs.Shape.{the_limits}
+use Rattle.fz_syntax.proofs.Running.{keeps_on, stops, is_whole_list, grown, notes_begin}
+use Rattle.fz_syntax.proofs.NoteLaws.{notes_shrink}
+use Rattle.fz_syntax.proofs.parser.cursor.Parser.notes.Goals as goal
+
+pub loop-self-init : goal.loop-self-init
+loop-self-init c = record {
+  continues = notes_begin the_limits _ _ (ap (map bare_note) c.new-notes.ensures.items);
+  shorter = omega arith;
+  same_end = omega arith;
+  walked = walk_zero note_spots _ c.new-notes.ensures.items;
+}
+
+pub returns-in_err-note-clause-read : goal.returns-in_err-note-clause-read
+returns-in_err-note-clause-read c =
+    let p = err_from_is_err_and c.from_residual.result c.from_residual.ensures.1 in
+    rw (p.1, p.2) (stops c.in_err-note.field-0.0 ColonColon (any_number (note_at the_limits 32)) _ _ _ _ _ _ refl _ c.loop-self-test.true c.eat.ensures.found c.eat.ensures.left c.loop-self.invariant.continues c.in_err-note.ensures.read)
+
+pub loop-self-preserved : goal.loop-self-preserved
+loop-self-preserved c = record {
+  continues = keeps_on ColonColon (any_number (note_at the_limits 32)) (notes_shrink the_limits 32) _ _ _ _ _ _ _ _ refl (grown bare_note _ _ _ c.in_ok-push.ensures.items) _ c.loop-self-test.true c.eat.ensures.found c.eat.ensures.left c.in_ok-note.ensures.read c.loop-self.invariant.continues;
+  shorter = omega arith;
+  same_end = omega arith;
+  walked = walk_more note_spots _ _ _ c.in_ok-push.ensures.items (walk_end c.loop-self.invariant.walked c.eat.ensures.walked) c.in_ok-note.ensures.walked;
+}
+
+pub returns-clause-read : goal.returns-clause-read
+returns-clause-read c = is_whole_list ColonColon (any_number (note_at the_limits 32)) _ _ _ _ _ c.loop-self-test.false c.eat.ensures.found c.eat.ensures.left c.loop-self.invariant.continues
+
+pub returns-clause-walked : goal.returns-clause-walked
+returns-clause-walked c = walk_end c.loop-self.invariant.walked c.eat.ensures.walked

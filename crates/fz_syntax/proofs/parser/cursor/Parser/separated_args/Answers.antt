@@ -1,0 +1,44 @@
+use Rattle.std.proofs.Common.{ap, map, refl, arith}
+use Rattle.std.proofs.lemmas.Result.{err_from_is_err_and}
+use Rattle.fz_lex.specs.declared.token.Mark.TheVariants.{Comma}
+use Rattle.fz_syntax.specs.Spots.{expr_spots}
+use Rattle.fz_syntax.proofs.Walks.{walk_first, walk_more, walk_end}
+use Rattle.fz_syntax.specs.View.{bare_expr}
+use Rattle.fz_syntax.specs.Reading.{any_number, expr_at}
+use Rattle.fz_syntax.specs.Shape.{the_limits}
+use Rattle.fz_syntax.proofs.Separated.{separated_fails}
+use Rattle.fz_syntax.proofs.Running.{separated_init, keeps_on, stops, is_whole_list, grown}
+use Rattle.fz_syntax.proofs.ItemLaws.{exprs_shrink}
+use Rattle.fz_syntax.proofs.parser.cursor.Parser.separated_args.Goals as goal
+
+pub returns-in_err-expr-clause-read : goal.returns-in_err-expr-clause-read
+returns-in_err-expr-clause-read c =
+    let p = err_from_is_err_and c.from_residual.result c.from_residual.ensures.1 in
+    rw (p.1, p.2) (separated_fails c.in_err-expr.field-0.0 (any_number (expr_at the_limits)) _ _ c.in_err-expr.ensures.read)
+
+pub loop-self-init : goal.loop-self-init
+loop-self-init c = record {
+  continues = separated_init (any_number (expr_at the_limits)) _ _ _ _ _ (ap (map bare_expr) c.new-exprs.ensures.items) (grown bare_expr _ _ _ c.in_ok-push.ensures.items) c.in_ok-expr.ensures.read;
+  shorter = omega arith;
+  same_end = omega arith;
+  walked = walk_first expr_spots _ _ _ c.new-exprs.ensures.items c.in_ok-push.ensures.items c.in_ok-expr.ensures.walked;
+}
+
+pub returns-in_err-expr-2-clause-read : goal.returns-in_err-expr-2-clause-read
+returns-in_err-expr-2-clause-read c =
+    let p = err_from_is_err_and c.from_residual-in_err-expr-2.result c.from_residual-in_err-expr-2.ensures.1 in
+    rw (p.1, p.2) (stops c.in_err-expr-2.field-0.0 Comma (any_number (expr_at the_limits)) _ _ _ _ _ _ refl _ c.loop-self-test.true c.eat.ensures.found c.eat.ensures.left c.loop-self.invariant.continues c.in_err-expr-2.ensures.read)
+
+pub loop-self-preserved : goal.loop-self-preserved
+loop-self-preserved c = record {
+  continues = keeps_on Comma (any_number (expr_at the_limits)) (exprs_shrink the_limits) _ _ _ _ _ _ _ _ refl (grown bare_expr _ _ _ c.in_ok-push-2.ensures.items) _ c.loop-self-test.true c.eat.ensures.found c.eat.ensures.left c.in_ok-expr-2.ensures.read c.loop-self.invariant.continues;
+  shorter = omega arith;
+  same_end = omega arith;
+  walked = walk_more expr_spots _ _ _ c.in_ok-push-2.ensures.items (walk_end c.loop-self.invariant.walked c.eat.ensures.walked) c.in_ok-expr-2.ensures.walked;
+}
+
+pub returns-clause-read : goal.returns-clause-read
+returns-clause-read c = is_whole_list Comma (any_number (expr_at the_limits)) _ _ _ _ _ c.loop-self-test.false c.eat.ensures.found c.eat.ensures.left c.loop-self.invariant.continues
+
+pub returns-clause-walked : goal.returns-clause-walked
+returns-clause-walked c = walk_end c.loop-self.invariant.walked c.eat.ensures.walked

@@ -1,0 +1,44 @@
+use Rattle.std.proofs.Common.{◌∙◌, ap, map, arith}
+use Rattle.std.proofs.lemmas.Result.{err_from_is_err_and}
+use Rattle.fz_lex.specs.declared.token.Mark.TheVariants.{Comma}
+use Rattle.fz_syntax.specs.Spots.{basic_spots}
+use Rattle.fz_syntax.proofs.Walks.{walk_first, walk_more, walk_end}
+use Rattle.fz_syntax.specs.View.{bare_expression}
+use Rattle.fz_syntax.specs.Reading.{at_most, begins_literal, literal_basic_at}
+use Rattle.fz_syntax.specs.Shape.{the_limits}
+use Rattle.fz_syntax.proofs.Separated.{separated_fails}
+use Rattle.fz_syntax.proofs.Running.{separated_init, keeps_on, stops, is_whole_list, grown, length_seen}
+use Rattle.fz_syntax.proofs.ExprLaws.{literals_shrink}
+use Rattle.fz_syntax.proofs.parser.cursor.Parser.separated_literals.Goals as goal
+
+pub returns-in_err-listed_literal-clause-read : goal.returns-in_err-listed_literal-clause-read
+returns-in_err-listed_literal-clause-read c =
+    let p = err_from_is_err_and c.from_residual.result c.from_residual.ensures.1 in
+    rw (p.1, p.2) (separated_fails c.in_err-listed_literal.field-0.0 (at_most the_limits.elements begins_literal (literal_basic_at the_limits)) _ _ c.in_err-listed_literal.ensures.read)
+
+pub loop-self-init : goal.loop-self-init
+loop-self-init c = record {
+  continues = separated_init (at_most the_limits.elements begins_literal (literal_basic_at the_limits)) _ _ _ _ _ (ap (map bare_expression) c.new-literals.ensures.items) (grown bare_expression _ _ _ c.in_ok-push.ensures.items) c.in_ok-listed_literal.ensures.read;
+  shorter = omega arith;
+  same_end = omega arith;
+  walked = walk_first basic_spots _ _ _ c.new-literals.ensures.items c.in_ok-push.ensures.items c.in_ok-listed_literal.ensures.walked;
+}
+
+pub returns-in_err-literal-clause-read : goal.returns-in_err-literal-clause-read
+returns-in_err-literal-clause-read c =
+    let p = err_from_is_err_and c.from_residual-in_err-literal.result c.from_residual-in_err-literal.ensures.1 in
+    rw (p.1, p.2) (stops c.in_err-literal.field-0.0 Comma (at_most the_limits.elements begins_literal (literal_basic_at the_limits)) _ _ _ _ _ _ (c.len.ensures ∙ c.loop-self.literals.ok.0 ∙ length_seen bare_expression c.loop-self.literals.items) _ c.loop-self-test.true c.eat.ensures.found c.eat.ensures.left c.loop-self.invariant.continues c.in_err-literal.ensures.read)
+
+pub loop-self-preserved : goal.loop-self-preserved
+loop-self-preserved c = record {
+  continues = keeps_on Comma (at_most the_limits.elements begins_literal (literal_basic_at the_limits)) (literals_shrink the_limits) _ _ _ _ _ _ _ _ (c.len.ensures ∙ c.loop-self.literals.ok.0 ∙ length_seen bare_expression c.loop-self.literals.items) (grown bare_expression _ _ _ c.in_ok-push-2.ensures.items) _ c.loop-self-test.true c.eat.ensures.found c.eat.ensures.left c.in_ok-literal.ensures.read c.loop-self.invariant.continues;
+  shorter = omega arith;
+  same_end = omega arith;
+  walked = walk_more basic_spots _ _ _ c.in_ok-push-2.ensures.items (walk_end c.loop-self.invariant.walked c.eat.ensures.walked) c.in_ok-literal.ensures.walked;
+}
+
+pub returns-clause-read : goal.returns-clause-read
+returns-clause-read c = is_whole_list Comma (at_most the_limits.elements begins_literal (literal_basic_at the_limits)) _ _ _ _ _ c.loop-self-test.false c.eat.ensures.found c.eat.ensures.left c.loop-self.invariant.continues
+
+pub returns-clause-walked : goal.returns-clause-walked
+returns-clause-walked c = walk_end c.loop-self.invariant.walked c.eat.ensures.walked

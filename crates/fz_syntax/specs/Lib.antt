@@ -1,0 +1,22 @@
+pub mod Tree
+pub mod View
+pub mod Tokens
+pub mod Shape
+pub mod Text
+pub mod Print
+pub mod Spots
+pub mod Reading
+pub mod ReadingItems
+pub mod Outcome
+pub mod Walk
+pub use Rattle.fz_lex.specs.Byte
+pub use Rattle.fz_lex.specs.Token
+pub use Rattle.fz_lex.specs.Lexing
+pub use Rattle.fz_lex.specs.Limits
+pub use Rattle.fz_lex.specs.View as Places
+pub use Rattle.fz_base.specs.Sets
+pub use Rattle.fz_base.specs.Ranges
+pub use Rattle.fz_lex.specs.declared.error.SyntaxError
+pub use Rattle.fz_lex.specs.declared.token.Mark
+pub use Rattle.fz_lex.specs.declared.token.TokenKind
+pub use Rattle.fz_base.specs.declared.span.Span

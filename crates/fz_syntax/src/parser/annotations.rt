@@ -1,0 +1,181 @@
+//! Annotations.
+
+ghost use Rattle.std.specs.Prelude.{◌≡◌, ◌≤◌, length, map, IfOk, []};
+ghost use Rattle.fz_syntax.specs.View.{lexemes, bare_note, bare_arg, bare_basic, bare_notes};
+ghost use Rattle.fz_syntax.specs.Outcome.{Gives};
+ghost use Rattle.fz_syntax.specs.Reading.{mark_at, at_most, separated_at, note_at, note_args_at, note_arg_at, note_list_at, note_basic_at, begins_note_basic, any_number, notes_at, list_at};
+ghost use Rattle.fz_lex.specs.declared.token.Mark.TheVariants.{CloseParen, CloseBracket};
+ghost use Rattle.fz_syntax.specs.Shape.{the_limits};
+ghost use Rattle.fz_syntax.specs.Spots.{note_spots, arg_spots, note_basic_spots};
+ghost use Rattle.std.specs.List.{flat_map};
+ghost use Rattle.fz_syntax.specs.Walk.{Walk};
+
+use crate::parser::cursor::{MAX_DEPTH, MAX_ELEMENTS, Parser};
+use crate::parser::refusal::Refusal;
+use crate::tree::{Note, NoteArg, NoteBasic};
+use fz_lex::{Mark, TokenKind};
+
+impl<'t, 'a> Parser<'t, 'a> {
+    /// An annotation of at most `depth` levels.
+    #[cycle(notes)]
+    #[tactic(auto, unfolding(crate::specs::Reading::note_at), using(crate::proofs::Walks::walk_skip, crate::proofs::Walks::walk_then, crate::proofs::Walks::walk_end, crate::proofs::Walks::walk_none, crate::proofs::Errors::fails_unexpected, crate::proofs::Separated::fails_bind))]
+    pub(crate) fn note(&mut self, depth: usize) -> Result<Note<'a>, Refusal>
+        ensures read { Gives (bare_note) result (note_at the_limits depth (lexemes self.old.tokens.now)) (lexemes self.new.tokens.now) }
+        ensures shorter { length self.new.tokens.now ≤ length self.old.tokens.now }
+        ensures end { self.new.end ≡ self.old.end }
+        ensures walked { IfOk result (λ n. Walk self.old self.new (note_spots n)) }
+    {
+        if depth == 0 {
+            return Err(if self.begins_name() {
+                Refusal::TooDeep
+            } else {
+                self.unexpected()
+            });
+        }
+        let name = self.name()?;
+        let args = self.note_args(depth - 1)?;
+        Ok(Note { name, args })
+    }
+
+    #[cycle(notes)]
+    #[tactic(auto, unfolding(crate::specs::Reading::note_args_at, crate::specs::Reading::mark_at), using(crate::proofs::Walks::walk_skip, crate::proofs::Walks::walk_then, crate::proofs::Walks::walk_end, crate::proofs::Walks::walk_none, crate::proofs::Errors::fails_unexpected, crate::proofs::Separated::fails_bind))]
+    pub(crate) fn note_args(&mut self, depth: usize) -> Result<Vec<NoteArg<'a>>, Refusal>
+        ensures read { Gives (λ v. map bare_arg v.items) result (note_args_at the_limits depth (note_at the_limits depth) (lexemes self.old.tokens.now)) (lexemes self.new.tokens.now) }
+        ensures shorter { length self.new.tokens.now ≤ length self.old.tokens.now }
+        ensures end { self.new.end ≡ self.old.end }
+        ensures walked { IfOk result (λ v. Walk self.old self.new (flat_map arg_spots v.items)) }
+    {
+        if !self.eat(Mark::OpenParen) {
+            return Ok(Vec::new(self.alloc));
+        }
+        let args = self.separated_note_args(depth)?;
+        self.expect(Mark::CloseParen)?;
+        Ok(args)
+    }
+
+    #[cycle(notes)]
+    pub(crate) fn separated_note_args(&mut self, depth: usize) -> Result<Vec<NoteArg<'a>>, Refusal>
+        ensures read { Gives (λ v. map bare_arg v.items) result (separated_at (any_number (note_arg_at the_limits depth (note_at the_limits depth))) (lexemes self.old.tokens.now)) (lexemes self.new.tokens.now) }
+        ensures shorter { length self.new.tokens.now ≤ length self.old.tokens.now }
+        ensures end { self.new.end ≡ self.old.end }
+        ensures walked { IfOk result (λ v. Walk self.old self.new (flat_map arg_spots v.items)) }
+    {
+        let mut arguments = Vec::new(self.alloc);
+        arguments.push(self.note_arg(depth)?)?;
+        'more_args: while self.eat(Mark::Comma) {
+            let arg = self.note_arg(depth)?;
+            arguments.push(arg)?;
+        }
+        Ok(arguments)
+    }
+
+    #[cycle(notes)]
+    #[tactic(auto, unfolding(crate::specs::Reading::note_arg_at), using(crate::proofs::Walks::walk_skip, crate::proofs::Walks::walk_then, crate::proofs::Walks::walk_end, crate::proofs::Walks::walk_none, crate::proofs::Errors::fails_unexpected, crate::proofs::Separated::fails_bind))]
+    pub(crate) fn note_arg(&mut self, depth: usize) -> Result<NoteArg<'a>, Refusal>
+        ensures read { Gives (bare_arg) result (note_arg_at the_limits depth (note_at the_limits depth) (lexemes self.old.tokens.now)) (lexemes self.new.tokens.now) }
+        ensures shorter { length self.new.tokens.now ≤ length self.old.tokens.now }
+        ensures end { self.new.end ≡ self.old.end }
+        ensures walked { IfOk result (λ a. Walk self.old self.new (arg_spots a)) }
+    {
+        if self.eat(Mark::OpenBracket) {
+            Ok(NoteArg::List(self.note_list(depth)?))
+        } else {
+            Ok(NoteArg::One(self.note_basic(depth)?))
+        }
+    }
+
+    #[cycle(notes)]
+    #[tactic(auto, unfolding(crate::specs::Reading::note_list_at, crate::specs::Reading::list_at, crate::specs::Reading::mark_at), using(crate::proofs::Walks::walk_skip, crate::proofs::Walks::walk_then, crate::proofs::Walks::walk_end, crate::proofs::Walks::walk_none, crate::proofs::Errors::fails_unexpected, crate::proofs::Separated::fails_bind))]
+    pub(crate) fn note_list(&mut self, depth: usize) -> Result<Vec<NoteBasic<'a>>, Refusal>
+        ensures read { Gives (λ v. map bare_basic v.items) result (note_list_at the_limits depth (note_at the_limits depth) (lexemes self.old.tokens.now)) (lexemes self.new.tokens.now) }
+        ensures shorter { length self.new.tokens.now ≤ length self.old.tokens.now }
+        ensures end { self.new.end ≡ self.old.end }
+        ensures walked { IfOk result (λ v. Walk self.old self.new (flat_map note_basic_spots v.items)) }
+    {
+        if self.eat(Mark::CloseBracket) {
+            return Ok(Vec::new(self.alloc));
+        }
+        let basics = self.separated_note_basics(depth)?;
+        self.expect(Mark::CloseBracket)?;
+        Ok(basics)
+    }
+
+    #[cycle(notes)]
+    pub(crate) fn separated_note_basics(
+        &mut self,
+        depth: usize,
+    ) -> Result<Vec<NoteBasic<'a>>, Refusal>
+        ensures read { Gives (λ v. map bare_basic v.items) result (separated_at (at_most the_limits.elements (begins_note_basic depth) (note_basic_at the_limits (note_at the_limits depth))) (lexemes self.old.tokens.now)) (lexemes self.new.tokens.now) }
+        ensures shorter { length self.new.tokens.now ≤ length self.old.tokens.now }
+        ensures end { self.new.end ≡ self.old.end }
+        ensures walked { IfOk result (λ v. Walk self.old self.new (flat_map note_basic_spots v.items)) }
+    {
+        let mut basics = Vec::new(self.alloc);
+        basics.push(self.listed_note_basic(depth, 0)?)?;
+        'more_basics: while self.eat(Mark::Comma) {
+            let basic = self.listed_note_basic(depth, basics.len())?;
+            basics.push(basic)?;
+        }
+        Ok(basics)
+    }
+
+    /// An element of a list that has `count` so far.
+    #[cycle(notes)]
+    pub(crate) fn listed_note_basic(
+        &mut self,
+        depth: usize,
+        count: usize,
+    ) -> Result<NoteBasic<'a>, Refusal>
+        ensures read { Gives (bare_basic) result (at_most the_limits.elements (begins_note_basic depth) (note_basic_at the_limits (note_at the_limits depth)) count (lexemes self.old.tokens.now)) (lexemes self.new.tokens.now) }
+        ensures shorter { length self.new.tokens.now ≤ length self.old.tokens.now }
+        ensures end { self.new.end ≡ self.old.end }
+        ensures walked { IfOk result (λ b. Walk self.old self.new (note_basic_spots b)) }
+    {
+        if count >= MAX_ELEMENTS && self.begins_note_basic(depth) {
+            return Err(Refusal::TooMany);
+        }
+        self.note_basic(depth)
+    }
+
+    #[cycle(notes)]
+    #[tactic(auto, unfolding(crate::specs::Reading::note_basic_at), using(crate::proofs::Walks::walk_skip, crate::proofs::Walks::walk_then, crate::proofs::Walks::walk_end, crate::proofs::Walks::walk_none, crate::proofs::Errors::fails_unexpected, crate::proofs::Separated::fails_bind))]
+    pub(crate) fn note_basic(&mut self, depth: usize) -> Result<NoteBasic<'a>, Refusal>
+        ensures read { Gives (bare_basic) result (note_basic_at the_limits (note_at the_limits depth) (lexemes self.old.tokens.now)) (lexemes self.new.tokens.now) }
+        ensures shorter { length self.new.tokens.now ≤ length self.old.tokens.now }
+        ensures end { self.new.end ≡ self.old.end }
+        ensures walked { IfOk result (λ b. Walk self.old self.new (note_basic_spots b)) }
+    {
+        if let [first, ..] = self.tokens {
+            match first.kind {
+                TokenKind::FloatText => {
+                    self.skip();
+                    return Ok(NoteBasic::Float(first.text));
+                }
+                TokenKind::Str => {
+                    self.skip();
+                    return Ok(NoteBasic::Str(first.text));
+                }
+                _ => {}
+            }
+        }
+        if self.begins_name() {
+            Ok(NoteBasic::Inner(self.note(depth)?))
+        } else {
+            Ok(NoteBasic::Lit(self.literal()?))
+        }
+    }
+
+    pub(crate) fn notes(&mut self) -> Result<Vec<Note<'a>>, Refusal>
+        ensures read { Gives (λ v. bare_notes v.items) result (notes_at the_limits (lexemes self.old.tokens.now)) (lexemes self.new.tokens.now) }
+        ensures shorter { length self.new.tokens.now ≤ length self.old.tokens.now }
+        ensures end { self.new.end ≡ self.old.end }
+        ensures walked { IfOk result (λ v. Walk self.old self.new (flat_map note_spots v.items)) }
+    {
+        let mut notes = Vec::new(self.alloc);
+        while self.eat(Mark::ColonColon) {
+            let note = self.note(MAX_DEPTH)?;
+            notes.push(note)?;
+        }
+        Ok(notes)
+    }
+}

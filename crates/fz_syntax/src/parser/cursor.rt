@@ -1,0 +1,277 @@
+//! The tokens that are left to read, and how one of them is taken.
+
+ghost use Rattle.std.specs.Prelude.{List, ◌∷◌, ◌≡◌, ◌≤◌, ◌<◌, ◌-◌, drop, length, if◌then◌else◌, IfOk, []};
+ghost use Rattle.std.specs.Bool.{OnTrue, OnFalse};
+ghost use Rattle.std.specs.List.{All};
+ghost use Rattle.fz_lex.specs.View.{IsSpanWithin, IsPlacedWithin};
+ghost use Rattle.fz_syntax.specs.View.{lexemes, bare_name};
+ghost use Rattle.fz_syntax.specs.Outcome.{Gives, IsRefusal, IsErrorOf, unexpected_kind};
+ghost use Rattle.fz_syntax.specs.Reading.{next_is, next_word, next_passes, is_float, mark_at, word_at, name_at, whole_at, is_name, is_whole, begins_literal, begins_basic, begins_note_basic, is_quoted, begins_decl};
+
+use crate::parser::kinds::{begins_decl, begins_literal, is_float, is_name, is_quoted};
+use crate::parser::refusal::Refusal;
+use crate::tree::Name;
+use fz_base::Span;
+use fz_lex::{Mark, SyntaxError, Token, TokenKind};
+use std::alloc::Global;
+
+pub(crate) const MAX_ELEMENTS: usize = 1_048_576;
+
+pub(crate) const MAX_SIZE: usize = 1_048_576;
+
+pub(crate) const MAX_DEPTH: usize = 32;
+
+/// The tokens that are left to read. After a refusal they begin with the token that was refused.
+#[derive(Drop)]
+pub(crate) struct Parser<'t, 'a> {
+    pub(crate) alloc: Global,
+    pub(crate) tokens: &'t [Token<'a>],
+    /// Where the token ended that was taken last.
+    pub(crate) reached: usize,
+    /// The length of the source.
+    pub(crate) end: usize,
+    ghost within: { All (λ t. IsSpanWithin end t.span) tokens.now },
+}
+
+impl<'t, 'a> Parser<'t, 'a> {
+    ghost use Rattle.fz_syntax.specs.Walk.{Walk, Began, start_of};
+    ghost use Rattle.fz_syntax.specs.Spots.{name_spots};
+    ghost use Rattle.fz_lex.specs.declared.token.Token.{Token};
+
+    /// Where the next token stands.
+    pub(crate) fn place(&self) -> Span
+        ensures within { IsSpanWithin self.now.end result }
+        ensures start { result.start ≡ start_of self.now.tokens.now self.now.end }
+    {
+        match self.tokens {
+            [first, ..] => first.span,
+            [] => Span {
+                start: self.end,
+                end: self.end,
+            },
+        }
+    }
+
+    /// From a place up to the end of the token that was taken last.
+    pub(crate) fn span_from(&self, start: usize) -> Span
+        ensures { (result.start ≡ start) × (result.end ≡ self.now.reached) }
+    {
+        Span {
+            start,
+            end: self.reached,
+        }
+    }
+
+    /// The error of a refusal of the next token.
+    pub(crate) fn refused(&self, refusal: Refusal) -> SyntaxError
+        ensures kind { IsErrorOf refusal result }
+        ensures placed { IsPlacedWithin self.now.end result }
+    {
+        match refusal {
+            Refusal::Float => SyntaxError::Float(self.place()),
+            Refusal::Syntax => SyntaxError::Syntax(self.place()),
+            Refusal::TooDeep => SyntaxError::TooDeep(self.place()),
+            Refusal::TooMany => SyntaxError::TooMany(self.place()),
+            Refusal::Memory => SyntaxError::Memory,
+        }
+    }
+
+    /// Takes the next token.
+    pub(crate) fn skip(&mut self)
+        ensures left { lexemes self.new.tokens.now ≡ drop 1 (lexemes self.old.tokens.now) }
+        ensures shorter { length self.new.tokens.now ≡ length self.old.tokens.now - 1 }
+        ensures end { self.new.end ≡ self.old.end }
+        ensures walked { Walk self.old self.new [] }
+        ensures began { 0 < length self.old.tokens.now → Began self.old self.new }
+        ensures reached { (t : Token) (rest : List Token) → self.old.tokens.now ≡ t ∷ rest → (self.new.tokens.now ≡ rest) × (self.new.reached ≡ t.span.end) }
+    {
+        if let [first, rest @ ..] = self.tokens {
+            self.reached = first.span.end;
+            self.tokens = rest;
+        }
+    }
+
+    pub(crate) fn next_is(&self, mark: Mark) -> bool
+        ensures { result ≡ next_is mark (lexemes self.now.tokens.now) }
+    {
+        match self.tokens {
+            [first, ..] => first.kind == TokenKind::Mark(mark),
+            [] => false,
+        }
+    }
+
+    pub(crate) fn next_word(&self, word: &[u8]) -> bool
+        ensures { result ≡ next_word word.now (lexemes self.now.tokens.now) }
+    {
+        match self.tokens {
+            [first, ..] => first.kind == TokenKind::Word && first.text == word,
+            [] => false,
+        }
+    }
+
+    pub(crate) fn unexpected(&self) -> Refusal
+        ensures { IsRefusal result (unexpected_kind (lexemes self.now.tokens.now)) }
+    {
+        match self.tokens {
+            [first, ..] if is_float(first) => Refusal::Float,
+            _ => Refusal::Syntax,
+        }
+    }
+
+    pub(crate) fn eat(&mut self, mark: Mark) -> bool
+        ensures found { result ≡ next_is mark (lexemes self.old.tokens.now) }
+        ensures left { lexemes self.new.tokens.now ≡ (if next_is mark (lexemes self.old.tokens.now) then drop 1 (lexemes self.old.tokens.now) else lexemes self.old.tokens.now) }
+        ensures shorter { length self.new.tokens.now ≤ length self.old.tokens.now }
+        ensures end { self.new.end ≡ self.old.end }
+        ensures walked { Walk self.old self.new [] }
+        ensures began { OnTrue result (Began self.old self.new) }
+        ensures kept { OnFalse result (self.new ≡ self.old) }
+        ensures taken { OnTrue result (length self.new.tokens.now < length self.old.tokens.now) }
+    {
+        let found = self.next_is(mark);
+        if found {
+            self.skip();
+        }
+        found
+    }
+
+    #[tactic(auto, unfolding(crate::specs::Reading::mark_at), using(crate::proofs::Walks::walk_skip, crate::proofs::Walks::walk_then, crate::proofs::Walks::walk_end, crate::proofs::Walks::walk_none, crate::proofs::Errors::fails_unexpected))]
+    pub(crate) fn expect(&mut self, mark: Mark) -> Result<(), Refusal>
+        ensures read { Gives (λ _. tt) result (mark_at mark (lexemes self.old.tokens.now)) (lexemes self.new.tokens.now) }
+        ensures shorter { length self.new.tokens.now ≤ length self.old.tokens.now }
+        ensures end { self.new.end ≡ self.old.end }
+        ensures walked { IfOk result (λ _. Walk self.old self.new []) }
+    {
+        if self.eat(mark) {
+            Ok(())
+        } else {
+            Err(self.unexpected())
+        }
+    }
+
+    #[tactic(auto, unfolding(crate::specs::Reading::word_at), using(crate::proofs::Walks::walk_skip, crate::proofs::Walks::walk_then, crate::proofs::Walks::walk_end, crate::proofs::Walks::walk_none, crate::proofs::Errors::fails_unexpected))]
+    pub(crate) fn expect_word(&mut self, word: &[u8]) -> Result<(), Refusal>
+        ensures read { Gives (λ _. tt) result (word_at word.now (lexemes self.old.tokens.now)) (lexemes self.new.tokens.now) }
+        ensures shorter { length self.new.tokens.now ≤ length self.old.tokens.now }
+        ensures end { self.new.end ≡ self.old.end }
+        ensures walked { IfOk result (λ _. Walk self.old self.new []) }
+    {
+        if self.eat_word(word) {
+            Ok(())
+        } else {
+            Err(self.unexpected())
+        }
+    }
+
+    pub(crate) fn eat_word(&mut self, word: &[u8]) -> bool
+        ensures found { result ≡ next_word word.now (lexemes self.old.tokens.now) }
+        ensures left { lexemes self.new.tokens.now ≡ (if next_word word.now (lexemes self.old.tokens.now) then drop 1 (lexemes self.old.tokens.now) else lexemes self.old.tokens.now) }
+        ensures shorter { length self.new.tokens.now ≤ length self.old.tokens.now }
+        ensures end { self.new.end ≡ self.old.end }
+        ensures walked { Walk self.old self.new [] }
+        ensures began { OnTrue result (Began self.old self.new) }
+        ensures kept { OnFalse result (self.new ≡ self.old) }
+        ensures taken { OnTrue result (length self.new.tokens.now < length self.old.tokens.now) }
+    {
+        let found = self.next_word(word);
+        if found {
+            self.skip();
+        }
+        found
+    }
+
+    #[tactic(auto, unfolding(crate::specs::Reading::name_at), using(crate::proofs::Walks::walk_skip, crate::proofs::Walks::walk_then, crate::proofs::Walks::walk_end, crate::proofs::Walks::walk_none, crate::proofs::Errors::fails_unexpected))]
+    pub(crate) fn name(&mut self) -> Result<Name<'a>, Refusal>
+        ensures read { Gives bare_name result (name_at (lexemes self.old.tokens.now)) (lexemes self.new.tokens.now) }
+        ensures shorter { length self.new.tokens.now ≤ length self.old.tokens.now }
+        ensures end { self.new.end ≡ self.old.end }
+        ensures walked { IfOk result (λ n. Walk self.old self.new (name_spots n)) }
+    {
+        match self.tokens {
+            [first, ..] if is_name(first) => {
+                self.skip();
+                Ok(Name {
+                    text: first.text,
+                    span: first.span,
+                })
+            }
+            _ => Err(self.unexpected()),
+        }
+    }
+
+    #[tactic(auto, unfolding(crate::specs::Reading::whole_at), using(crate::proofs::Walks::walk_skip, crate::proofs::Walks::walk_then, crate::proofs::Walks::walk_end, crate::proofs::Walks::walk_none, crate::proofs::Errors::fails_unexpected))]
+    pub(crate) fn whole(&mut self) -> Result<i64, Refusal>
+        ensures read { Gives (λ n. n) result (whole_at (lexemes self.old.tokens.now)) (lexemes self.new.tokens.now) }
+        ensures shorter { length self.new.tokens.now ≤ length self.old.tokens.now }
+        ensures end { self.new.end ≡ self.old.end }
+        ensures walked { IfOk result (λ _. Walk self.old self.new []) }
+        ensures began { IfOk result (λ _. Began self.old self.new) }
+    {
+        match self.tokens {
+            [first, ..] => match first.kind {
+                TokenKind::Whole(n) => {
+                    self.skip();
+                    Ok(n)
+                }
+                _ => Err(self.unexpected()),
+            },
+            [] => Err(self.unexpected()),
+        }
+    }
+
+    pub(crate) fn begins_whole(&self) -> bool
+        ensures { result ≡ next_passes is_whole (lexemes self.now.tokens.now) }
+    {
+        match self.tokens {
+            [first, ..] => matches!(first.kind, TokenKind::Whole(_)),
+            [] => false,
+        }
+    }
+
+    pub(crate) fn begins_name(&self) -> bool
+        ensures { result ≡ next_passes is_name (lexemes self.now.tokens.now) }
+    {
+        match self.tokens {
+            [first, ..] => is_name(first),
+            [] => false,
+        }
+    }
+
+    pub(crate) fn begins_literal(&self) -> bool
+        ensures { result ≡ next_passes begins_literal (lexemes self.now.tokens.now) }
+    {
+        match self.tokens {
+            [first, ..] => begins_literal(first),
+            [] => false,
+        }
+    }
+
+    pub(crate) fn begins_basic(&self) -> bool
+        ensures { result ≡ next_passes begins_basic (lexemes self.now.tokens.now) }
+    {
+        match self.tokens {
+            [first, ..] => is_name(first) || begins_literal(first),
+            [] => false,
+        }
+    }
+
+    pub(crate) fn begins_note_basic(&self, depth: usize) -> bool
+        ensures { result ≡ next_passes (begins_note_basic depth) (lexemes self.now.tokens.now) }
+    {
+        match self.tokens {
+            [first, ..] => {
+                is_quoted(first) || depth > 0 && is_name(first) || begins_literal(first)
+            }
+            [] => false,
+        }
+    }
+
+    pub(crate) fn begins_decl(&self) -> bool
+        ensures { result ≡ next_passes begins_decl (lexemes self.now.tokens.now) }
+    {
+        match self.tokens {
+            [first, ..] => begins_decl(first),
+            [] => false,
+        }
+    }
+}

@@ -1,0 +1,225 @@
+//! The items of a tree.
+
+ghost use Rattle.std.specs.Prelude.{◌≡◌, ◌≤◌, length, map, IfOk, []};
+ghost use Rattle.fz_syntax.specs.View.{lexemes, bare_expr, bare_param, bare_predicate, bare_constraint, bare_goal, bare_solve, bare_value, bare_decl};
+ghost use Rattle.fz_syntax.specs.Outcome.{Gives};
+ghost use Rattle.fz_syntax.specs.Reading.{mark_at, separated_at, expr_at, any_number, param_at, predicate_at, list_at, constraint_at, goal_at, solve_at, decl_at, value_at, given_value_at, may_lack_value};
+ghost use Rattle.fz_lex.specs.declared.token.Mark.TheVariants.{CloseParen};
+ghost use Rattle.fz_syntax.specs.Shape.{the_limits};
+ghost use Rattle.fz_syntax.specs.Spots.{expr_spots, param_spots, predicate_spots, constraint_spots, goal_spots, solve_spots, value_spots, decl_spots};
+ghost use Rattle.std.specs.List.{flat_map};
+ghost use Rattle.fz_syntax.specs.Walk.{Walk};
+
+use crate::parser::cursor::Parser;
+use crate::parser::kinds::may_lack_value;
+use crate::parser::refusal::Refusal;
+use crate::tree::{Constraint, Decl, Expr, Goal, Param, Predicate, Solve};
+use fz_lex::Mark;
+
+impl<'t, 'a> Parser<'t, 'a> {
+    #[tactic(auto, unfolding(crate::specs::Reading::param_at, crate::specs::Reading::var_at), using(crate::proofs::Walks::walk_skip, crate::proofs::Walks::walk_then, crate::proofs::Walks::walk_end, crate::proofs::Walks::walk_none, crate::proofs::Errors::fails_unexpected, crate::proofs::Separated::fails_bind))]
+    pub(crate) fn param(&mut self) -> Result<Param<'a>, Refusal>
+        ensures read { Gives (bare_param) result (param_at the_limits (lexemes self.old.tokens.now)) (lexemes self.new.tokens.now) }
+        ensures shorter { length self.new.tokens.now ≤ length self.old.tokens.now }
+        ensures end { self.new.end ≡ self.old.end }
+        ensures walked { IfOk result (λ p. Walk self.old self.new (param_spots p)) }
+    {
+        let array = self.param_prefix()?;
+        let is_var = self.eat_word(b"var");
+        let base = self.base()?;
+        self.expect(Mark::Colon)?;
+        let name = self.name()?;
+        Ok(Param {
+            array,
+            is_var,
+            base,
+            name,
+        })
+    }
+
+    pub(crate) fn separated_params(&mut self) -> Result<Vec<Param<'a>>, Refusal>
+        ensures read { Gives (λ v. map bare_param v.items) result (separated_at (any_number (param_at the_limits)) (lexemes self.old.tokens.now)) (lexemes self.new.tokens.now) }
+        ensures shorter { length self.new.tokens.now ≤ length self.old.tokens.now }
+        ensures end { self.new.end ≡ self.old.end }
+        ensures walked { IfOk result (λ v. Walk self.old self.new (flat_map param_spots v.items)) }
+    {
+        let mut params = Vec::new(self.alloc);
+        params.push(self.param()?)?;
+        while self.eat(Mark::Comma) {
+            let param = self.param()?;
+            params.push(param)?;
+        }
+        Ok(params)
+    }
+
+    #[tactic(auto, unfolding(crate::specs::Reading::list_at, crate::specs::Reading::mark_at), using(crate::proofs::Walks::walk_skip, crate::proofs::Walks::walk_then, crate::proofs::Walks::walk_end, crate::proofs::Walks::walk_none, crate::proofs::Errors::fails_unexpected, crate::proofs::Separated::fails_bind))]
+    pub(crate) fn params(&mut self) -> Result<Vec<Param<'a>>, Refusal>
+        ensures read { Gives (λ v. map bare_param v.items) result (list_at CloseParen (any_number (param_at the_limits)) (lexemes self.old.tokens.now)) (lexemes self.new.tokens.now) }
+        ensures shorter { length self.new.tokens.now ≤ length self.old.tokens.now }
+        ensures end { self.new.end ≡ self.old.end }
+        ensures walked { IfOk result (λ v. Walk self.old self.new (flat_map param_spots v.items)) }
+    {
+        if self.eat(Mark::CloseParen) {
+            return Ok(Vec::new(self.alloc));
+        }
+        let params = self.separated_params()?;
+        self.expect(Mark::CloseParen)?;
+        Ok(params)
+    }
+
+    #[tactic(auto, unfolding(crate::specs::Reading::predicate_at), using(crate::proofs::Walks::walk_skip, crate::proofs::Walks::walk_then, crate::proofs::Walks::walk_end, crate::proofs::Walks::walk_none, crate::proofs::Errors::fails_unexpected, crate::proofs::Separated::fails_bind))]
+    pub(crate) fn predicate(&mut self) -> Result<Predicate<'a>, Refusal>
+        ensures read { Gives (bare_predicate) result (predicate_at the_limits (lexemes self.old.tokens.now)) (lexemes self.new.tokens.now) }
+        ensures shorter { length self.new.tokens.now ≤ length self.old.tokens.now }
+        ensures end { self.new.end ≡ self.old.end }
+        ensures walked { IfOk result (λ p. Walk self.old self.new (predicate_spots p)) }
+    {
+        self.expect_word(b"predicate")?;
+        let name = self.name()?;
+        self.expect(Mark::OpenParen)?;
+        let params = self.params()?;
+        self.expect(Mark::Semicolon)?;
+        Ok(Predicate { name, params })
+    }
+
+    pub(crate) fn separated_args(&mut self) -> Result<Vec<Expr<'a>>, Refusal>
+        ensures read { Gives (λ v. map bare_expr v.items) result (separated_at (any_number (expr_at the_limits)) (lexemes self.old.tokens.now)) (lexemes self.new.tokens.now) }
+        ensures shorter { length self.new.tokens.now ≤ length self.old.tokens.now }
+        ensures end { self.new.end ≡ self.old.end }
+        ensures walked { IfOk result (λ v. Walk self.old self.new (flat_map expr_spots v.items)) }
+    {
+        let mut exprs = Vec::new(self.alloc);
+        exprs.push(self.expr()?)?;
+        while self.eat(Mark::Comma) {
+            let expr = self.expr()?;
+            exprs.push(expr)?;
+        }
+        Ok(exprs)
+    }
+
+    #[tactic(auto, unfolding(crate::specs::Reading::list_at, crate::specs::Reading::mark_at), using(crate::proofs::Walks::walk_skip, crate::proofs::Walks::walk_then, crate::proofs::Walks::walk_end, crate::proofs::Walks::walk_none, crate::proofs::Errors::fails_unexpected, crate::proofs::Separated::fails_bind))]
+    pub(crate) fn constraint_args(&mut self) -> Result<Vec<Expr<'a>>, Refusal>
+        ensures read { Gives (λ v. map bare_expr v.items) result (list_at CloseParen (any_number (expr_at the_limits)) (lexemes self.old.tokens.now)) (lexemes self.new.tokens.now) }
+        ensures shorter { length self.new.tokens.now ≤ length self.old.tokens.now }
+        ensures end { self.new.end ≡ self.old.end }
+        ensures walked { IfOk result (λ v. Walk self.old self.new (flat_map expr_spots v.items)) }
+    {
+        if self.eat(Mark::CloseParen) {
+            return Ok(Vec::new(self.alloc));
+        }
+        let args = self.separated_args()?;
+        self.expect(Mark::CloseParen)?;
+        Ok(args)
+    }
+
+    #[tactic(auto, unfolding(crate::specs::Reading::constraint_at), using(crate::proofs::Walks::walk_skip, crate::proofs::Walks::walk_then, crate::proofs::Walks::walk_end, crate::proofs::Walks::walk_none, crate::proofs::Errors::fails_unexpected, crate::proofs::Separated::fails_bind))]
+    pub(crate) fn constraint(&mut self) -> Result<Constraint<'a>, Refusal>
+        ensures read { Gives (bare_constraint) result (constraint_at the_limits (lexemes self.old.tokens.now)) (lexemes self.new.tokens.now) }
+        ensures shorter { length self.new.tokens.now ≤ length self.old.tokens.now }
+        ensures end { self.new.end ≡ self.old.end }
+        ensures walked { IfOk result (λ c. Walk self.old self.new (constraint_spots c)) }
+    {
+        self.expect_word(b"constraint")?;
+        let name = self.name()?;
+        self.expect(Mark::OpenParen)?;
+        let args = self.constraint_args()?;
+        let notes = self.notes()?;
+        self.expect(Mark::Semicolon)?;
+        Ok(Constraint { name, args, notes })
+    }
+
+    #[tactic(auto, unfolding(crate::specs::Reading::goal_at), using(crate::proofs::Walks::walk_skip, crate::proofs::Walks::walk_then, crate::proofs::Walks::walk_end, crate::proofs::Walks::walk_none, crate::proofs::Errors::fails_unexpected, crate::proofs::Separated::fails_bind))]
+    pub(crate) fn goal(&mut self) -> Result<Goal<'a>, Refusal>
+        ensures read { Gives (bare_goal) result (goal_at the_limits (lexemes self.old.tokens.now)) (lexemes self.new.tokens.now) }
+        ensures shorter { length self.new.tokens.now ≤ length self.old.tokens.now }
+        ensures end { self.new.end ≡ self.old.end }
+        ensures walked { IfOk result (λ g. Walk self.old self.new (goal_spots g)) }
+    {
+        if self.eat_word(b"minimize") {
+            Ok(Goal::Minimize(self.basic()?))
+        } else if self.eat_word(b"maximize") {
+            Ok(Goal::Maximize(self.basic()?))
+        } else {
+            self.expect_word(b"satisfy")?;
+            Ok(Goal::Satisfy)
+        }
+    }
+
+    #[tactic(auto, unfolding(crate::specs::Reading::solve_at), using(crate::proofs::Walks::walk_skip, crate::proofs::Walks::walk_then, crate::proofs::Walks::walk_end, crate::proofs::Walks::walk_none, crate::proofs::Errors::fails_unexpected, crate::proofs::Separated::fails_bind))]
+    pub(crate) fn solve(&mut self) -> Result<Solve<'a>, Refusal>
+        ensures read { Gives (bare_solve) result (solve_at the_limits (lexemes self.old.tokens.now)) (lexemes self.new.tokens.now) }
+        ensures shorter { length self.new.tokens.now ≤ length self.old.tokens.now }
+        ensures end { self.new.end ≡ self.old.end }
+        ensures walked { IfOk result (λ s. Walk self.old self.new (solve_spots s)) }
+    {
+        self.expect_word(b"solve")?;
+        let notes = self.notes()?;
+        let goal = self.goal()?;
+        self.expect(Mark::Semicolon)?;
+        Ok(Solve { notes, goal })
+    }
+
+    #[tactic(auto, unfolding(crate::specs::Reading::value_at), using(crate::proofs::Walks::walk_skip, crate::proofs::Walks::walk_then, crate::proofs::Walks::walk_end, crate::proofs::Walks::walk_none, crate::proofs::Errors::fails_unexpected, crate::proofs::Separated::fails_bind))]
+    pub(crate) fn value(&mut self, is_var: bool, array: Option<usize>) -> Result<Expr<'a>, Refusal>
+        ensures read { Gives (bare_expr) result (value_at the_limits is_var array (lexemes self.old.tokens.now)) (lexemes self.new.tokens.now) }
+        ensures shorter { length self.new.tokens.now ≤ length self.old.tokens.now }
+        ensures end { self.new.end ≡ self.old.end }
+        ensures walked { IfOk result (λ e. Walk self.old self.new (expr_spots e)) }
+    {
+        match (is_var, array) {
+            (true, None) => Ok(Expr::One(self.basic()?)),
+            (false, None) => Ok(Expr::One(self.literal_basic()?)),
+            (true, Some(_)) => {
+                self.expect(Mark::OpenBracket)?;
+                Ok(Expr::List(self.expr_list()?))
+            }
+            (false, Some(_)) => {
+                self.expect(Mark::OpenBracket)?;
+                Ok(Expr::List(self.literal_list()?))
+            }
+        }
+    }
+
+    #[tactic(auto, unfolding(crate::specs::Reading::given_value_at), using(crate::proofs::Walks::walk_skip, crate::proofs::Walks::walk_then, crate::proofs::Walks::walk_end, crate::proofs::Walks::walk_none, crate::proofs::Errors::fails_unexpected, crate::proofs::Separated::fails_bind))]
+    pub(crate) fn given_value(
+        &mut self,
+        is_var: bool,
+        array: Option<usize>,
+    ) -> Result<Option<Expr<'a>>, Refusal>
+        ensures read { Gives (bare_value) result (given_value_at the_limits is_var array (lexemes self.old.tokens.now)) (lexemes self.new.tokens.now) }
+        ensures shorter { length self.new.tokens.now ≤ length self.old.tokens.now }
+        ensures end { self.new.end ≡ self.old.end }
+        ensures walked { IfOk result (λ o. Walk self.old self.new (value_spots o)) }
+    {
+        if may_lack_value(is_var, array) && !self.next_is(Mark::Equals) {
+            return Ok(None);
+        }
+        self.expect(Mark::Equals)?;
+        Ok(Some(self.value(is_var, array)?))
+    }
+
+    #[tactic(auto, unfolding(crate::specs::Reading::decl_at, crate::specs::Reading::var_at), using(crate::proofs::Walks::walk_skip, crate::proofs::Walks::walk_then, crate::proofs::Walks::walk_end, crate::proofs::Walks::walk_none, crate::proofs::Errors::fails_unexpected, crate::proofs::Separated::fails_bind))]
+    pub(crate) fn decl(&mut self) -> Result<Decl<'a>, Refusal>
+        ensures read { Gives (bare_decl) result (decl_at the_limits (lexemes self.old.tokens.now)) (lexemes self.new.tokens.now) }
+        ensures shorter { length self.new.tokens.now ≤ length self.old.tokens.now }
+        ensures end { self.new.end ≡ self.old.end }
+        ensures walked { IfOk result (λ d. Walk self.old self.new (decl_spots d)) }
+    {
+        let length = self.prefix()?;
+        let is_var = self.eat_word(b"var");
+        let base = self.element_type(is_var)?;
+        self.expect(Mark::Colon)?;
+        let name = self.name()?;
+        let notes = self.notes()?;
+        let value = self.given_value(is_var, length)?;
+        self.expect(Mark::Semicolon)?;
+        Ok(Decl {
+            is_var,
+            length,
+            base,
+            name,
+            notes,
+            value,
+        })
+    }
+}

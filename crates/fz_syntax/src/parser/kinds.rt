@@ -1,0 +1,120 @@
+//! What a token can begin.
+
+ghost use Rattle.std.specs.Prelude.{◌≡◌};
+ghost use Rattle.fz_syntax.specs.View.{lexeme};
+ghost use Rattle.fz_syntax.specs.Reading.{is_float, is_name, begins_literal, is_quoted, may_lack_value, begins_decl};
+ghost use Rattle.fz_syntax.specs.ReadingItems.{dimensions_of, token_dimensions};
+ghost use Rattle.fz_syntax.specs.Shape.{is_one_of, type_words, item_words, truth_words, is_reserved};
+
+use fz_lex::{Mark, Token, TokenKind};
+
+pub(crate) fn is_float(token: &Token<'_>) -> bool
+    ensures { result ≡ is_float (lexeme token.now) }
+{
+    token.kind == TokenKind::FloatText
+        || token.kind == TokenKind::Word && token.text == b"float".as_slice()
+}
+
+fn is_type_word(word: &[u8]) -> bool
+    ensures { result ≡ is_one_of type_words word.now }
+{
+    matches!(
+        word,
+        b"array" | b"of" | b"var" | b"bool" | b"int" | b"float" | b"set"
+    )
+}
+
+fn is_item_word(word: &[u8]) -> bool
+    ensures { result ≡ is_one_of item_words word.now }
+{
+    word == b"predicate".as_slice()
+        || word == b"constraint".as_slice()
+        || word == b"solve".as_slice()
+        || word == b"satisfy".as_slice()
+        || word == b"minimize".as_slice()
+        || word == b"maximize".as_slice()
+}
+
+fn is_truth_word(word: &[u8]) -> bool
+    ensures { result ≡ is_one_of truth_words word.now }
+{
+    matches!(word, b"true" | b"false")
+}
+
+fn is_reserved(word: &[u8]) -> bool
+    ensures { result ≡ is_reserved word.now }
+{
+    is_type_word(word) || is_item_word(word) || is_truth_word(word)
+}
+
+pub(crate) fn is_name(token: &Token<'_>) -> bool
+    ensures { result ≡ is_name (lexeme token.now) }
+{
+    token.kind == TokenKind::Word && !is_reserved(token.text)
+}
+
+pub(crate) fn is_quoted(token: &Token<'_>) -> bool
+    ensures { result ≡ is_quoted (lexeme token.now) }
+{
+    matches!(token.kind, TokenKind::FloatText | TokenKind::Str)
+}
+
+pub(crate) fn begins_literal(token: &Token<'_>) -> bool
+    ensures { result ≡ begins_literal (lexeme token.now) }
+{
+    match token.kind {
+        TokenKind::Whole(_) => true,
+        TokenKind::Word => { token.text == b"true".as_slice() || token.text == b"false".as_slice() }
+        TokenKind::Mark(mark) => mark == Mark::OpenBrace,
+        TokenKind::FloatText | TokenKind::Str => false,
+    }
+}
+
+pub(crate) fn begins_decl(token: &Token<'_>) -> bool
+    ensures { result ≡ begins_decl (lexeme token.now) }
+{
+    token.kind == TokenKind::Word
+        && (token.text == b"var".as_slice()
+            || token.text == b"array".as_slice()
+            || token.text == b"bool".as_slice()
+            || token.text == b"int".as_slice()
+            || token.text == b"set".as_slice())
+}
+
+pub(crate) fn may_lack_value(is_var: bool, array: Option<usize>) -> bool
+    ensures { result ≡ may_lack_value is_var array }
+{
+    is_var && array.is_none()
+}
+
+/// How many index sets the array has that the word begins, or 0.
+fn dimensions_of(word: &[u8]) -> usize
+    ensures { result ≡ dimensions_of word.now }
+{
+    if word == b"array1d".as_slice() {
+        1
+    } else if word == b"array2d".as_slice() {
+        2
+    } else if word == b"array3d".as_slice() {
+        3
+    } else if word == b"array4d".as_slice() {
+        4
+    } else if word == b"array5d".as_slice() {
+        5
+    } else if word == b"array6d".as_slice() {
+        6
+    } else {
+        0
+    }
+}
+
+/// How many index sets the array has that the token begins, or 0.
+pub(crate) fn dimensions(token: &Token<'_>) -> usize
+    ensures { result ≡ token_dimensions (lexeme token.now) }
+{
+    if token.kind == TokenKind::Word {
+        dimensions_of(token.text)
+    } else {
+        0
+    }
+}

@@ -1,0 +1,168 @@
+//! The items of a solver's output.
+
+ghost use Rattle.std.specs.Prelude.{◌≡◌, ◌≤◌, ◌==◌, if◌then◌else◌, drop, length, map, IfOk, []};
+ghost use Rattle.fz_syntax.specs.View.{lexemes, bare_literal, bare_printed_value, bare_printed, bare_items};
+ghost use Rattle.fz_syntax.specs.Outcome.{Gives};
+ghost use Rattle.fz_syntax.specs.Reading.{any_number, at_most, separated_at, begins_literal, literal_at, many_at, is_name};
+ghost use Rattle.fz_syntax.specs.ReadingItems.{next_dimensions, index_set_at, index_sets_at, elements_at, printed_array_at, printed_value_at, printed_at};
+ghost use Rattle.fz_syntax.specs.Shape.{the_limits};
+ghost use Rattle.fz_syntax.specs.Spots.{literal_spots, printed_value_spots, printed_spots, item_spots};
+ghost use Rattle.std.specs.List.{flat_map};
+ghost use Rattle.fz_syntax.specs.Walk.{Walk};
+
+use crate::parser::cursor::{MAX_ELEMENTS, Parser};
+use crate::parser::kinds::dimensions;
+use crate::parser::refusal::Refusal;
+use crate::tree::{Literal, Printed, PrintedValue};
+use fz_lex::Mark;
+
+impl<'t, 'a> Parser<'t, 'a> {
+    /// Takes the word that begins an array, and gives the number of its index sets, or 0 where the next token is none.
+    fn eat_array(&mut self) -> usize
+        ensures found { result ≡ next_dimensions (lexemes self.old.tokens.now) }
+        ensures left { lexemes self.new.tokens.now ≡ (if next_dimensions (lexemes self.old.tokens.now) == 0 then lexemes self.old.tokens.now else drop 1 (lexemes self.old.tokens.now)) }
+        ensures shorter { length self.new.tokens.now ≤ length self.old.tokens.now }
+        ensures end { self.new.end ≡ self.old.end }
+        ensures walked { Walk self.old self.new [] }
+    {
+        match self.tokens {
+            [first, ..] => {
+                let found = dimensions(first);
+                if found > 0 {
+                    self.skip();
+                }
+                found
+            }
+            [] => 0,
+        }
+    }
+
+    #[tactic(auto, unfolding(crate::specs::ReadingItems::index_set_at), using(crate::proofs::Walks::walk_skip, crate::proofs::Walks::walk_then, crate::proofs::Walks::walk_end, crate::proofs::Walks::walk_none, crate::proofs::Errors::fails_unexpected, crate::proofs::Separated::fails_bind))]
+    fn index_set(&mut self) -> Result<Literal, Refusal>
+        ensures read { Gives bare_literal result (index_set_at the_limits (lexemes self.old.tokens.now)) (lexemes self.new.tokens.now) }
+        ensures shorter { length self.new.tokens.now ≤ length self.old.tokens.now }
+        ensures end { self.new.end ≡ self.old.end }
+        ensures walked { IfOk result (λ l. Walk self.old self.new (literal_spots l)) }
+    {
+        let bounds = self.bounds()?;
+        self.expect(Mark::Comma)?;
+        Ok(bounds)
+    }
+
+    fn index_sets(&mut self, count: usize) -> Result<Vec<Literal>, Refusal>
+        ensures read { Gives (λ v. map bare_literal v.items) result (index_sets_at the_limits count (lexemes self.old.tokens.now)) (lexemes self.new.tokens.now) }
+        ensures shorter { length self.new.tokens.now ≤ length self.old.tokens.now }
+        ensures end { self.new.end ≡ self.old.end }
+        ensures walked { IfOk result (λ v. Walk self.old self.new (flat_map literal_spots v.items)) }
+    {
+        let mut sets = Vec::new(self.alloc);
+        while sets.len() < count {
+            let set = self.index_set()?;
+            sets.push(set)?;
+        }
+        Ok(sets)
+    }
+
+    /// An element of a list that has `count` so far.
+    fn listed_element(&mut self, count: usize) -> Result<Literal, Refusal>
+        ensures read { Gives bare_literal result (at_most the_limits.elements begins_literal (literal_at the_limits) count (lexemes self.old.tokens.now)) (lexemes self.new.tokens.now) }
+        ensures shorter { length self.new.tokens.now ≤ length self.old.tokens.now }
+        ensures end { self.new.end ≡ self.old.end }
+        ensures walked { IfOk result (λ l. Walk self.old self.new (literal_spots l)) }
+    {
+        if count >= MAX_ELEMENTS && self.begins_literal() {
+            return Err(Refusal::TooMany);
+        }
+        self.literal()
+    }
+
+    fn separated_elements(&mut self) -> Result<Vec<Literal>, Refusal>
+        ensures read { Gives (λ v. map bare_literal v.items) result (separated_at (at_most the_limits.elements begins_literal (literal_at the_limits)) (lexemes self.old.tokens.now)) (lexemes self.new.tokens.now) }
+        ensures shorter { length self.new.tokens.now ≤ length self.old.tokens.now }
+        ensures end { self.new.end ≡ self.old.end }
+        ensures walked { IfOk result (λ v. Walk self.old self.new (flat_map literal_spots v.items)) }
+    {
+        let mut elements = Vec::new(self.alloc);
+        elements.push(self.listed_element(0)?)?;
+        while self.eat(Mark::Comma) {
+            let element = self.listed_element(elements.len())?;
+            elements.push(element)?;
+        }
+        Ok(elements)
+    }
+
+    /// An array's elements behind the bracket that opens them.
+    #[tactic(auto, unfolding(crate::specs::ReadingItems::elements_at, crate::specs::Reading::list_at, crate::specs::Reading::mark_at), using(crate::proofs::Walks::walk_skip, crate::proofs::Walks::walk_then, crate::proofs::Walks::walk_end, crate::proofs::Walks::walk_none, crate::proofs::Errors::fails_unexpected, crate::proofs::Separated::fails_bind))]
+    fn elements(&mut self) -> Result<Vec<Literal>, Refusal>
+        ensures read { Gives (λ v. map bare_literal v.items) result (elements_at the_limits (lexemes self.old.tokens.now)) (lexemes self.new.tokens.now) }
+        ensures shorter { length self.new.tokens.now ≤ length self.old.tokens.now }
+        ensures end { self.new.end ≡ self.old.end }
+        ensures walked { IfOk result (λ v. Walk self.old self.new (flat_map literal_spots v.items)) }
+    {
+        if self.eat(Mark::CloseBracket) {
+            return Ok(Vec::new(self.alloc));
+        }
+        let elements = self.separated_elements()?;
+        self.expect(Mark::CloseBracket)?;
+        Ok(elements)
+    }
+
+    /// An array behind its word, which says how many index sets it has.
+    #[tactic(auto, unfolding(crate::specs::ReadingItems::printed_array_at), using(crate::proofs::Walks::walk_skip, crate::proofs::Walks::walk_then, crate::proofs::Walks::walk_end, crate::proofs::Walks::walk_none, crate::proofs::Errors::fails_unexpected, crate::proofs::Separated::fails_bind))]
+    fn printed_array(&mut self, dimensions: usize) -> Result<PrintedValue, Refusal>
+        ensures read { Gives bare_printed_value result (printed_array_at the_limits dimensions (lexemes self.old.tokens.now)) (lexemes self.new.tokens.now) }
+        ensures shorter { length self.new.tokens.now ≤ length self.old.tokens.now }
+        ensures end { self.new.end ≡ self.old.end }
+        ensures walked { IfOk result (λ v. Walk self.old self.new (printed_value_spots v)) }
+    {
+        self.expect(Mark::OpenParen)?;
+        let indexes = self.index_sets(dimensions)?;
+        self.expect(Mark::OpenBracket)?;
+        let elements = self.elements()?;
+        self.expect(Mark::CloseParen)?;
+        Ok(PrintedValue::Array { indexes, elements })
+    }
+
+    #[tactic(auto, unfolding(crate::specs::ReadingItems::printed_value_at), using(crate::proofs::Walks::walk_skip, crate::proofs::Walks::walk_then, crate::proofs::Walks::walk_end, crate::proofs::Walks::walk_none, crate::proofs::Errors::fails_unexpected, crate::proofs::Separated::fails_bind))]
+    fn printed_value(&mut self) -> Result<PrintedValue, Refusal>
+        ensures read { Gives bare_printed_value result (printed_value_at the_limits (lexemes self.old.tokens.now)) (lexemes self.new.tokens.now) }
+        ensures shorter { length self.new.tokens.now ≤ length self.old.tokens.now }
+        ensures end { self.new.end ≡ self.old.end }
+        ensures walked { IfOk result (λ v. Walk self.old self.new (printed_value_spots v)) }
+    {
+        let dimensions = self.eat_array();
+        if dimensions == 0 {
+            Ok(PrintedValue::One(self.literal()?))
+        } else {
+            self.printed_array(dimensions)
+        }
+    }
+
+    #[tactic(auto, unfolding(crate::specs::ReadingItems::printed_at), using(crate::proofs::Walks::walk_skip, crate::proofs::Walks::walk_then, crate::proofs::Walks::walk_end, crate::proofs::Walks::walk_none, crate::proofs::Errors::fails_unexpected, crate::proofs::Separated::fails_bind))]
+    fn printed(&mut self) -> Result<Printed<'a>, Refusal>
+        ensures read { Gives bare_printed result (printed_at the_limits (lexemes self.old.tokens.now)) (lexemes self.new.tokens.now) }
+        ensures shorter { length self.new.tokens.now ≤ length self.old.tokens.now }
+        ensures end { self.new.end ≡ self.old.end }
+        ensures walked { IfOk result (λ p. Walk self.old self.new (printed_spots p)) }
+    {
+        let name = self.name()?;
+        self.expect(Mark::Equals)?;
+        let value = self.printed_value()?;
+        self.expect(Mark::Semicolon)?;
+        Ok(Printed { name, value })
+    }
+
+    pub(crate) fn printed_items(&mut self) -> Result<Vec<Printed<'a>>, Refusal>
+        ensures read { Gives (λ v. bare_items v.items) result (many_at is_name (any_number (printed_at the_limits)) 0 (lexemes self.old.tokens.now)) (lexemes self.new.tokens.now) }
+        ensures shorter { length self.new.tokens.now ≤ length self.old.tokens.now }
+        ensures end { self.new.end ≡ self.old.end }
+        ensures walked { IfOk result (λ v. Walk self.old self.new (item_spots v.items)) }
+    {
+        let mut items = Vec::new(self.alloc);
+        while self.begins_name() {
+            let item = self.printed()?;
+            items.push(item)?;
+        }
+        Ok(items)
+    }
+}

@@ -1,0 +1,66 @@
+//! Types of declarations and of parameters.
+
+ghost use Rattle.std.specs.Prelude.{◌≡◌, ◌++◌, OnOk};
+ghost use Rattle.fz_syntax.specs.View.{bare_bounds, bare_base};
+ghost use Rattle.fz_syntax.specs.Print.{bounds_text, base_text, var_text, prefix_text, param_prefix_text};
+
+use crate::printer::Printer;
+use crate::tree::{Base, Literal};
+use itoa::Buffer;
+use std::alloc::AllocError;
+
+impl Printer {
+    pub(crate) fn bounds(&mut self, bounds: &Option<Literal>) -> Result<(), AllocError>
+        ensures { OnOk result (self.new.text.items ≡ self.old.text.items ++ bounds_text (bare_bounds bounds.now)) }
+    {
+        match bounds {
+            Some(literal) => self.literal(literal),
+            None => self.put(b"int"),
+        }
+    }
+
+    pub(crate) fn base(&mut self, base: &Base) -> Result<(), AllocError>
+        ensures { OnOk result (self.new.text.items ≡ self.old.text.items ++ base_text (bare_base base.now)) }
+    {
+        match base {
+            Base::Bool => self.put(b"bool"),
+            Base::Int(bounds) => self.bounds(bounds),
+            Base::Set(bounds) => {
+                self.put(b"set of ")?;
+                self.bounds(bounds)
+            }
+        }
+    }
+
+    pub(crate) fn var(&mut self, is_var: bool) -> Result<(), AllocError>
+        ensures { OnOk result (self.new.text.items ≡ self.old.text.items ++ var_text is_var) }
+    {
+        if is_var {
+            self.put(b"var ")?;
+        }
+        Ok(())
+    }
+
+    /// What stands before the elements' type of an array.
+    pub(crate) fn prefix(&mut self, length: Option<usize>) -> Result<(), AllocError>
+        ensures { OnOk result (self.new.text.items ≡ self.old.text.items ++ prefix_text length) }
+    {
+        let Some(length) = length else {
+            return Ok(());
+        };
+        let mut buffer = Buffer::new();
+        self.put(b"array [1..")?;
+        self.put(buffer.format(length).as_bytes())?;
+        self.put(b"] of ")
+    }
+
+    pub(crate) fn param_prefix(&mut self, array: Option<Option<usize>>) -> Result<(), AllocError>
+        ensures { OnOk result (self.new.text.items ≡ self.old.text.items ++ param_prefix_text array) }
+    {
+        match array {
+            None => Ok(()),
+            Some(None) => self.put(b"array [int] of "),
+            Some(length) => self.prefix(length),
+        }
+    }
+}

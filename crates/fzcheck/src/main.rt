@@ -1,0 +1,144 @@
+//! The program `fzcheck`: its words, its files and its exit status. All judging is done by `fz_check`.
+#![tactic(auto)]
+
+mod files;
+mod words;
+
+use files::{Failure, read_up_to};
+use fz_check::{CheckError, check, refusal_text, report_text, show, status};
+use std::env;
+use std::fs;
+use std::io;
+use std::io::{Read, Write};
+use std::process::ExitCode;
+use words::{Refused, Request, read_words};
+
+/// The status where a model was shown.
+const SHOWN: u8 = 0;
+
+/// The status where the words of the command line are wrong.
+const WRONG_WORDS: u8 = 5;
+
+/// The most bytes of a model, and of a stream that is read whole.
+const MOST_BYTES: usize = 16_777_216;
+
+fn main(rt: HostRuntime) -> ExitCode {
+    ExitCode::from(run(&rt))
+}
+
+/// Carries out what the command line asks for, and gives the exit status.
+fn run(rt: &HostRuntime) -> u8 {
+    let args = match env::args(rt) {
+        Ok(args) => args,
+        Err(error) => return refuse_words(rt, error.kind()),
+    };
+    let words: Vec<String> = match args.collect(rt.alloc()) {
+        Ok(words) => words,
+        Err(_) => return refuse(rt, &CheckError::Memory),
+    };
+    match read_words(rt.alloc(), &words) {
+        Ok(Request::Show { model }) => show_file(rt, model),
+        Ok(Request::Check { model, stream }) => check_files(rt, model, stream),
+        Err(Refused::Usage) => refuse_usage(rt),
+        Err(Refused::Memory) => refuse(rt, &CheckError::Memory),
+    }
+}
+
+/// Words that can't be had: they are no text, or there is no memory for them.
+fn refuse_words(rt: &HostRuntime, kind: io::ErrorKind) -> u8 {
+    match kind {
+        io::ErrorKind::OutOfMemory => refuse(rt, &CheckError::Memory),
+        _ => refuse_usage(rt),
+    }
+}
+
+fn refuse_usage(rt: &HostRuntime) -> u8 {
+    let _ = eprintln!(rt; "usage: fzcheck show MODEL | check MODEL [STREAM]");
+    WRONG_WORDS
+}
+
+/// Tells a refusal on standard error, and gives its status.
+fn refuse(rt: &HostRuntime, error: &CheckError) -> u8 {
+    match refusal_text(rt.alloc(), error) {
+        Ok(text) => {
+            let _ = rt.stderr().write_all(&text);
+            status(&Err(*error))
+        }
+        Err(_) => {
+            let _ = eprintln!(rt; "refused: memory");
+            status(&Err(CheckError::Memory))
+        }
+    }
+}
+
+/// Prints the canonical text of the model in a file.
+fn show_file(rt: &HostRuntime, model: &str) -> u8 {
+    let Ok(mut file) = fs::open(rt, model) else {
+        return refuse(rt, &CheckError::Read);
+    };
+    let model = match read_up_to(rt.alloc(), &mut file, MOST_BYTES) {
+        Ok(model) => model,
+        Err(failure) => return refuse(rt, &failure.as_check_error()),
+    };
+    let text = match show(rt.alloc(), &model) {
+        Ok(text) => text,
+        Err(error) => return refuse(rt, &error),
+    };
+    match write_out(rt, &text) {
+        Ok(()) => SHOWN,
+        Err(_) => refuse(rt, &CheckError::Write),
+    }
+}
+
+/// Checks the file of a stream, or standard input, against the file of a model. Both are opened before
+/// anything is read.
+fn check_files(rt: &HostRuntime, model: &str, stream: Option<&str>) -> u8 {
+    let Ok(mut model_file) = fs::open(rt, model) else {
+        return refuse(rt, &CheckError::Read);
+    };
+    match stream {
+        None => check_readers(rt, &mut model_file, &mut rt.reader()),
+        Some(stream) => match fs::open(rt, stream) {
+            Ok(mut stream_file) => check_readers(rt, &mut model_file, &mut stream_file),
+            Err(_) => refuse(rt, &CheckError::Read),
+        },
+    }
+}
+
+/// Checks what one reader gives as a stream against what the other gives as a model.
+fn check_readers<M: Read, S: Read>(rt: &HostRuntime, model: &mut M, stream: &mut S) -> u8 {
+    let model = match read_up_to(rt.alloc(), model, MOST_BYTES) {
+        Ok(model) => model,
+        Err(failure) => return refuse(rt, &failure.as_check_error()),
+    };
+    let stream = match read_up_to(rt.alloc(), stream, MOST_BYTES) {
+        Ok(stream) => stream,
+        Err(Failure::Memory) => return refuse(rt, &CheckError::Memory),
+        Err(Failure::Read) => return refuse(rt, &after_model(rt, &model)),
+    };
+    let report = match check(rt.alloc(), &model, &stream) {
+        Ok(report) => report,
+        Err(error) => return refuse(rt, &error),
+    };
+    match report_text(rt.alloc(), &report) {
+        Ok(text) => match write_out(rt, &text) {
+            Ok(()) => status(&Ok(report.answer)),
+            Err(_) => refuse(rt, &CheckError::Write),
+        },
+        Err(_) => refuse(rt, &CheckError::Memory),
+    }
+}
+
+/// What is told where the stream can't be read: a fault of the model comes before it.
+fn after_model(rt: &HostRuntime, model: &[u8]) -> CheckError {
+    match check(rt.alloc(), model, b"") {
+        Err(error) => error,
+        Ok(_) => CheckError::Read,
+    }
+}
+
+fn write_out(rt: &HostRuntime, text: &[u8]) -> io::Result<()> {
+    let mut out = rt.stdout();
+    out.write_all(text)?;
+    out.flush()
+}

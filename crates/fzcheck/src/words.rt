@@ -1,0 +1,77 @@
+use clap::error::ErrorKind;
+use clap::{Arg, ArgAction, ArgMatches, Command, Error};
+use std::alloc::{AllocError, Global};
+
+/// What the command line asks for.
+#[derive(Clone, Copy)]
+pub enum Request<'a> {
+    /// Print the canonical text of the model in a file.
+    Show { model: &'a str },
+    /// Check the stream in a file, or on standard input, against the model in a file.
+    Check {
+        model: &'a str,
+        stream: Option<&'a str>,
+    },
+}
+
+/// Why the words ask for nothing.
+#[derive(Clone, Copy)]
+pub enum Refused {
+    /// They are wrong, or ask for help.
+    Usage,
+    /// There is no memory to read them.
+    Memory,
+}
+
+impl From<AllocError> for Refused {
+    fn from(_e: AllocError) -> Refused {
+        Refused::Memory
+    }
+}
+
+impl From<Error> for Refused {
+    fn from(error: Error) -> Refused {
+        match error.kind() {
+            ErrorKind::OutOfMemory => Refused::Memory,
+            _ => Refused::Usage,
+        }
+    }
+}
+
+/// What the words ask for, of which the first is the program's own name.
+pub fn read_words<'a>(alloc: Global, words: &'a [String]) -> Result<Request<'a>, Refused> {
+    let matches = command(alloc)?.try_get_matches_from(words)?;
+    match matches.subcommand() {
+        Some(("show", given)) => Ok(Request::Show {
+            model: model_of(given)?,
+        }),
+        Some(("check", given)) => Ok(Request::Check {
+            model: model_of(given)?,
+            stream: given.get_str("STREAM"),
+        }),
+        _ => Err(Refused::Usage),
+    }
+}
+
+/// The file of the model, which both commands require.
+fn model_of<'a>(given: &ArgMatches<'a>) -> Result<&'a str, Refused> {
+    given.get_str("MODEL").ok_or(Refused::Usage)
+}
+
+fn model_word<'a>(alloc: Global) -> Arg<'a> {
+    Arg::new(alloc, "MODEL")
+        .required(true)
+        .action(ArgAction::Set)
+}
+
+fn command<'a>(alloc: Global) -> Result<Command<'a>, AllocError> {
+    let stream = Arg::new(alloc, "STREAM").action(ArgAction::Set);
+    let show = Command::new(alloc, "show").arg(model_word(alloc))?;
+    let check = Command::new(alloc, "check")
+        .arg(model_word(alloc))?
+        .arg(stream)?;
+    Command::new(alloc, "fzcheck")
+        .subcommand_required(true)
+        .subcommand(show)?
+        .subcommand(check)
+}

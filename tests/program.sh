@@ -1,0 +1,61 @@
+#!/usr/bin/env bash
+# Runs the built program on what no contract speaks of: words, files, exit statuses and standard error.
+# usage: tests/program.sh PROGRAM; the last line is 'N passed, M failed'.
+set -u
+program=$(realpath "$1")
+cd "$(dirname "$0")/.."
+folder=$(mktemp -d)
+trap 'rm -rf "$folder"' EXIT
+passed=0
+failed=0
+
+# expect NAME STATUS OUT ERR COMMAND..: the command's status, standard output and standard error
+expect() {
+  local name=$1 status=$2 out=$3 err=$4
+  shift 4
+  "$@" >"$folder/out" 2>"$folder/err" </dev/null
+  local got=$?
+  if [ "$got" -eq "$status" ] && [ "$(cat "$folder/out")" = "$out" ] && [ "$(cat "$folder/err")" = "$err" ]; then
+    passed=$((passed + 1))
+  else
+    failed=$((failed + 1))
+    printf 'failed: %s: status %s, wanted %s\n' "$name" "$got" "$status"
+    cat "$folder/out" "$folder/err"
+  fi
+}
+
+usage='usage: fzcheck show MODEL | check MODEL [STREAM]'
+accepted=$'block 1: satisfied\naccepted: blocks 1'
+printf 'x = 1;\n----------\n' >"$folder/wrong.out"
+printf 'x = 3;\n' >"$folder/open.out"
+printf 'solve satisfy' >"$folder/broken.fzn"
+
+expect 'no words' 5 '' "$usage" "$program"
+expect 'help' 5 '' "$usage" "$program" help
+expect 'an unknown option' 5 '' "$usage" "$program" check --fast examples/first.fzn
+expect 'no model' 5 '' "$usage" "$program" check
+expect 'a word too many' 5 '' "$usage" "$program" show examples/first.fzn examples/first.out
+expect 'a model that is not there' 6 '' 'refused: read' "$program" check "$folder/none.fzn" examples/first.out
+expect 'a stream that is not there' 6 '' 'refused: read' "$program" check examples/first.fzn "$folder/none.out"
+expect 'a folder for a stream, after the model' 4 '' 'refused: model: Syntax at 13..13' "$program" check "$folder/broken.fzn" "$folder"
+expect 'a folder for a stream' 6 '' 'refused: read' "$program" check examples/first.fzn "$folder"
+expect 'the first model' 0 "$accepted" '' "$program" check examples/first.fzn examples/first.out
+expect 'the first model, by --' 0 "$accepted" '' "$program" check -- examples/first.fzn examples/first.out
+expect 'standard input without a block' 3 'no blocks' '' "$program" check examples/first.fzn
+expect 'a violated block' 1 $'block 1: violated: constraint 1 int_le\nrejected: block 1' '' "$program" check examples/first.fzn "$folder/wrong.out"
+expect 'an open block' 4 '' 'refused: stream: Unfinished at 0..7' "$program" check examples/first.fzn "$folder/open.out"
+expect 'a broken model' 4 '' 'refused: model: Syntax at 13..13' "$program" show "$folder/broken.fzn"
+expect 'a model shown' 0 "$(cat examples/first.fzn)" '' "$program" show examples/first.fzn
+
+# what is shown is shown as itself, and is what is written beside it
+for model in examples/*.fzn tests/shown/*.fzn; do
+  [ -e "$model" ] || continue
+  "$program" show "$model" >"$folder/shown.fzn"
+  wanted=${model%.fzn}.shown
+  [ -e "$wanted" ] || wanted=$folder/shown.fzn
+  expect "$model shown" 0 "$(cat "$wanted")" '' "$program" show "$model"
+  expect "$model shown twice" 0 "$(cat "$folder/shown.fzn")" '' "$program" show "$folder/shown.fzn"
+done
+
+echo "$passed passed, $failed failed"
+[ "$failed" -eq 0 ]
