@@ -7,7 +7,7 @@ use Rattle.fz_syntax.specs.View.{bare}
 use Rattle.fz_syntax.specs.declared.tree.Ast as the_ast
 use Rattle.fz_stream.specs.declared.block.Block as the_block
 use Rattle.fz_stream.specs.declared.reading.Claim.{Claim}
-use Rattle.fz_stream.specs.Found.{IsReadAs, block_of}
+use Rattle.fz_stream.specs.Found.{IsReadAs, AreInOrder, block_of}
 use Rattle.fz_model.specs.Meaning.{Model, Assignment}
 use Rattle.fz_model.specs.Names.{model_of}
 use Rattle.fz_model.specs.View.{located}
@@ -23,7 +23,7 @@ use Rattle.fz_check.specs.declared.scalars.Posted as the_posted
 use Rattle.fz_check.specs.declared.scalars.Variable as the_variable
 use Rattle.fz_check.specs.declared.verdict.Verdict as the_verdict
 use Rattle.fz_check.specs.declared.verdict.Verdict.TheVariants as verdicts
-use Rattle.fz_check.specs.Headline.{HasSolutions}
+use Rattle.fz_check.specs.Headline.{HasSolutions, IsOfStream}
 use Rattle.fz_check.specs.Simple.{Beside, IsJudged, IsModelOf}
 use Rattle.fz_check.specs.View.{answer_view, verdict_view}
 use Rattle.fz_check.proofs.Solved.{faultless, improves_always, passes_solved}
@@ -50,9 +50,9 @@ accepted_all vs count e =
 
 none_in : (n : ℕ) (is : Verdict → Bool) (v : Verdict) (vs : List Verdict) → first_number n is (v ∷ vs) ≡ None → (is v ≡ false) × (first_number (suc n) is vs ≡ None)
 none_in n is v vs e = (elim (is v) as (λ b. is v ≡ b → cond b (Some n) (first_number (suc n) is vs) ≡ None → (is v ≡ false) × (first_number (suc n) is vs ≡ None)) [
-    | true ↦ λ _ e. cc
-    | false ↦ λ here e. (here, e)
-  ]) refl e
+  | true ↦ λ _ e. cc
+  | false ↦ λ here e. (here, e)
+]) refl e
 
 is_satisfied : (v : the_verdict.Verdict) → is_violated (verdict_view v) ≡ false → is_undecided (verdict_view v) ≡ false → v ≡ verdicts.Satisfied
 is_satisfied verdicts.Satisfied p q = refl
@@ -99,3 +99,20 @@ module _ (a : the_ast.Ast) (names : List (List ℕ)) (vs : List the_variable.Var
         at_least_one = all.at_least_one;
         solutions = solved 1 None bs rs judged all.none_violated all.none_undecided;
       }
+
+-- the verdicts, one for each block that was read, are those of the stream
+pub of_stream : (R : the_block.Block → the_verdict.Verdict → Type 0) (stream : List ℕ) (bs : List the_block.Block) (cs : List Claim) → IsReadAs stream (map block_of bs) cs
+    → (rs : List the_verdict.Verdict) → Beside R bs rs → (answer : the_answer.Answer) → answer_view answer ≡ answer_of (map verdict_view rs)
+    → IsOfStream stream (map verdict_view rs) cs (answer_view answer)
+of_stream R stream bs cs read rs judged answer answers_to = record {
+  parts = read.parts;
+  text_of_stream = read.text;
+  one_each = length-map rs verdict_view ∙ sym (equally_many R bs rs judged) ∙ sym (length-map bs block_of) ∙ ap length read.blocks_are;
+  claims_are = read.claims_are;
+  answer_is = answers_to;
+}
+
+-- claims in the order of the blocks are in the order of the verdicts
+pub in_order : (R : the_block.Block → the_verdict.Verdict → Type 0) (bs : List the_block.Block) (rs : List the_verdict.Verdict) (cs : List Claim) (n m : ℕ) → Beside R bs rs → n ≡ length bs → m ≡ length rs
+    → AreInOrder 0 n cs → AreInOrder 0 m cs
+in_order R bs rs cs n m judged e f h = subst (λ k. AreInOrder 0 k cs) (e ∙ equally_many R bs rs judged ∙ sym f) h

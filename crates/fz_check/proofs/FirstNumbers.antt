@@ -9,9 +9,9 @@ use Rattle.fz_check.specs.View.{verdict_view}
 skip : (n : ℕ) (is : Verdict → Bool) (xs ys : List Verdict) → first_number n is xs ≡ None → first_number n is (xs ++ ys) ≡ first_number (length xs + n) is ys
 skip n is [] ys e = let p : n ≡ 0 + n = omega arith in ap (λ k. first_number k is ys) p
 skip n is (x ∷ xs) ys e = (elim (is x) as (λ b. cond b (Some n) (first_number (suc n) is xs) ≡ None → cond b (Some n) (first_number (suc n) is (xs ++ ys)) ≡ first_number (length (x ∷ xs) + n) is ys) [
-    | true ↦ λ e. cc
-    | false ↦ λ e. skip (suc n) is xs ys e ∙ (let p : length xs + suc n ≡ suc (length xs) + n = omega arith in ap (λ k. first_number k is ys) p)
-  ]) e
+  | true ↦ λ e. cc
+  | false ↦ λ e. skip (suc n) is xs ys e ∙ (let p : length xs + suc n ≡ suc (length xs) + n = omega arith in ap (λ k. first_number k is ys) p)
+]) e
 
 module _ (is : Verdict → Bool) (vs : List the_verdict.Verdict) (i : ℕ) (d : the_verdict.Verdict) (b : Bool) (lt : i < length vs) (none : first_number 1 is (map verdict_view (take i vs)) ≡ None) (told : b ≡ is (verdict_view (get_or vs i d))) where
   count : length (map verdict_view (take i vs)) + 1 ≡ i + 1

@@ -67,9 +67,9 @@ position_or_len-map f p (x ∷ xs) = ap (λ n. cond (not (p (f x))) (1 + n) 0) (
 
 position_is : (n m i : ℕ) → cond (nat_lt n m) (Some n) None ≡ Some i → (n ≡ i) × (i < m)
 position_is n m i e = (elim (nat_lt n m) as (λ b. nat_lt n m ≡ b → cond b (Some n) None ≡ Some i → (n ≡ i) × (i < m)) [
-    | true ↦ λ t e. let same : n ≡ i = cc in (same, omega (arith, ltb-true n m t, same))
-    | false ↦ λ t e. cc
-  ]) refl e
+  | true ↦ λ t e. let same : n ≡ i = cc in (same, omega (arith, ltb-true n m t, same))
+  | false ↦ λ t e. cc
+]) refl e
 
 -- what a look-up by the first key that is equal answers
 pub found_at : (x : List ℕ) (keys : List (Bor (List ℕ))) (i : ℕ) → position (λ k. bytes_eq x k.now) keys ≡ Some i → (position_or_len (bytes_eq x) (map now_of keys) ≡ i) × (i < length (map now_of keys))
@@ -84,7 +84,6 @@ two_of [] d l h = absurd (omega arith)
 two_of (x ∷ []) d l h = absurd (omega arith)
 two_of (x ∷ y ∷ []) d l h = refl
 two_of (x ∷ y ∷ z ∷ xs) d l h = absurd (omega arith)
-
 
 -- ---- states of domains
 

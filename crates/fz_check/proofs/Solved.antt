@@ -146,12 +146,12 @@ domains_hold values n (v ∷ vs) h =
 
 bytes_eq-sym : (xs ys : List ℕ) → bytes_eq xs ys ≡ bytes_eq ys xs
 bytes_eq-sym xs ys = (elim (bytes_eq xs ys) as (λ b. bytes_eq xs ys ≡ b → b ≡ bytes_eq ys xs) [
-    | true ↦ λ e. sym ((bytes_eq-Decides ys xs).1 (sym ((bytes_eq-Decides xs ys).0 e)))
-    | false ↦ λ e. (elim (bytes_eq ys xs) as (λ c. bytes_eq ys xs ≡ c → false ≡ c) [
-        | true ↦ λ f. sym e ∙ (bytes_eq-Decides xs ys).1 (sym ((bytes_eq-Decides ys xs).0 f))
-        | false ↦ λ f. refl
-      ]) refl
+  | true ↦ λ e. sym ((bytes_eq-Decides ys xs).1 (sym ((bytes_eq-Decides xs ys).0 e)))
+  | false ↦ λ e. (elim (bytes_eq ys xs) as (λ c. bytes_eq ys xs ≡ c → false ≡ c) [
+    | true ↦ λ f. sym e ∙ (bytes_eq-Decides xs ys).1 (sym ((bytes_eq-Decides ys xs).0 f))
+    | false ↦ λ f. refl
   ]) refl
+]) refl
 
 all_scalar : (xs : List the_decl.Decl) (vs : List the_variable.Variable) → Beside IsScalar xs vs → scalar_variables (map located_decl xs) ≡ map located_decl xs
 all_scalar [] [] h = refl
@@ -178,21 +178,21 @@ declares_at : (x : List ℕ) (xs : List the_decl.Decl) (vs : List the_variable.V
 declares_at x [] vs h lt = absurd (omega arith)
 declares_at x (d ∷ xs) [] h lt = absurd h
 declares_at x (d ∷ xs) (v ∷ vs) h lt = (elim (bytes_eq x (declared_name d)) as (λ b. bytes_eq x (declared_name d) ≡ b → cond (not b) (1 + position_or_len (bytes_eq x) (map declared_name xs)) 0 < suc (length (map declared_name xs)) → Declares x (d ∷ xs)) [
-    | true ↦ λ e lt. record {
-        decl = d;
-        variable = v;
-        scalar = h.0;
-        found = ap (λ b. cond b (Some (located_decl d)) (declaration (map located_decl xs) x)) (bytes_eq-sym (declared_name d) x ∙ e);
-        named = sym ((bytes_eq-Decides x (declared_name d)).0 e);
-      }
-    | false ↦ λ e lt. (let there : Declares x xs = declares_at x xs vs h.1 (omega arith) in record {
-        decl = there.decl;
-        variable = there.variable;
-        scalar = there.scalar;
-        found = ap (λ b. cond b (Some (located_decl d)) (declaration (map located_decl xs) x)) (bytes_eq-sym (declared_name d) x ∙ e) ∙ there.found;
-        named = there.named;
-      })
-  ]) refl lt
+  | true ↦ λ e lt. record {
+    decl = d;
+    variable = v;
+    scalar = h.0;
+    found = ap (λ b. cond b (Some (located_decl d)) (declaration (map located_decl xs) x)) (bytes_eq-sym (declared_name d) x ∙ e);
+    named = sym ((bytes_eq-Decides x (declared_name d)).0 e);
+  }
+  | false ↦ λ e lt. (let there : Declares x xs = declares_at x xs vs h.1 (omega arith) in record {
+    decl = there.decl;
+    variable = there.variable;
+    scalar = there.scalar;
+    found = ap (λ b. cond b (Some (located_decl d)) (declaration (map located_decl xs) x)) (bytes_eq-sym (declared_name d) x ∙ e) ∙ there.found;
+    named = there.named;
+  })
+]) refl lt
 
 -- ---- arguments
 
@@ -286,15 +286,15 @@ find_from : (x : List ℕ) (n i : ℕ) (vs : List the_variable.Variable) → pos
 find_from x n i [] e lt = absurd (omega arith)
 find_from x n i (v ∷ vs) e lt = (elim (bytes_eq x (variable_name v)) as (λ b. bytes_eq x (variable_name v) ≡ b → cond (not b) (1 + position_or_len (bytes_eq x) (map variable_name vs)) 0 ≡ i
     → first_some (place_if_named x) (numbered_from n (map shown (v ∷ vs))) ≡ Some (Scalar IntKind (Var (i + n)))) [
-    | true ↦ λ same e. ap (λ b. option_or (cond b (Some (Scalar IntKind (Var n))) None) (first_some (place_if_named x) (numbered_from (suc n) (map shown vs)))) (bytes_eq-sym (variable_name v) x ∙ same)
-        ∙ (let p : n ≡ i + n = omega arith in ap (λ k. Some (Scalar IntKind (Var k))) p)
-    | false ↦ λ other e. (let i' : ℕ = position_or_len (bytes_eq x) (map variable_name vs) in
-        let lt' : i' < length (map variable_name vs) = omega arith in
-        let there = find_from x (suc n) i' vs refl lt' in
-        let p : i' + suc n ≡ i + n = omega arith in
-        ap (λ b. option_or (cond b (Some (Scalar IntKind (Var n))) None) (first_some (place_if_named x) (numbered_from (suc n) (map shown vs)))) (bytes_eq-sym (variable_name v) x ∙ other)
-        ∙ there ∙ ap (λ k. Some (Scalar IntKind (Var k))) p)
-  ]) refl e
+      | true ↦ λ same e. ap (λ b. option_or (cond b (Some (Scalar IntKind (Var n))) None) (first_some (place_if_named x) (numbered_from (suc n) (map shown vs)))) (bytes_eq-sym (variable_name v) x ∙ same)
+          ∙ (let p : n ≡ i + n = omega arith in ap (λ k. Some (Scalar IntKind (Var k))) p)
+      | false ↦ λ other e. (let i' : ℕ = position_or_len (bytes_eq x) (map variable_name vs) in
+          let lt' : i' < length (map variable_name vs) = omega arith in
+          let there = find_from x (suc n) i' vs refl lt' in
+          let p : i' + suc n ≡ i + n = omega arith in
+          ap (λ b. option_or (cond b (Some (Scalar IntKind (Var n))) None) (first_some (place_if_named x) (numbered_from (suc n) (map shown vs)))) (bytes_eq-sym (variable_name v) x ∙ other)
+          ∙ there ∙ ap (λ k. Some (Scalar IntKind (Var k))) p)
+    ]) refl e
 
 printed_passes : (m : Model) (values : List (Option ℤ)) (xs : List the_decl.Decl) (vs : List the_variable.Variable) → m.declared ≡ map shown vs → Beside IsScalar xs vs
     → (item : the_printed.Printed) (p : Pair) → IsPair (map declared_name xs) item p → HasValue values p → printed_fails m (as_partial values) (located_printed item) ≡ None
@@ -310,6 +310,7 @@ printed_passes m values xs vs declared h item p pair has =
   where
     literal_passes : (k : the_literal_kind.LiteralKind) (z : ℤ) → k ≡ literals.Whole z → same_value (Int z) (literal_value (bare_literal_kind k)) ≡ true
     literal_passes k z e = ap (λ j. same_value (Int z) (literal_value (bare_literal_kind j))) e ∙ int_itself z
+
     printed_value : (v : the_printed_value.PrintedValue) (z : ℤ) (n : ℕ) → IsWholeValue v z → value_under (as_partial values) n ≡ Some (Int z)
         → has_printed (as_partial values) (Scalar IntKind (Var n)) (located_printed_value v) ≡ true
     printed_value (printed.One l) z n is e = ap (λ o. option_map_or (λ w. same_value w (literal_value (bare_literal_kind l.what))) o false) e ∙ literal_passes l.what z is
@@ -411,9 +412,10 @@ IsDuplicate at o = IsTrue (declares o.before o.here.name.text) × (at ≡ o.here
 
 apart : (at : Span) (bs : List Decl) (xs : List the_decl.Decl) → AreNew (map text_of bs) (map declared_name xs) → AllByRecursion (λ o. IsDuplicate at o → ⊥) (in_order_after bs (map located_decl xs))
 apart at bs [] h = tt
-apart at bs (d ∷ xs) h =
-    (λ f. no (sym (declares_is bs (declared_name d) ∙ h.0) ∙ f.0),
-    apart at (bs ++ located_decl d ∷ []) xs (subst (λ l. AreNew l (map declared_name xs)) (sym (map_push text_of bs (located_decl d))) h.1))
+apart at bs (d ∷ xs) h = (
+  λ f. no (sym (declares_is bs (declared_name d) ∙ h.0) ∙ f.0),
+  apart at (bs ++ located_decl d ∷ []) xs (subst (λ l. AreNew l (map declared_name xs)) (sym (map_push text_of bs (located_decl d))) h.1),
+)
 
 -- declarations of scalars use nothing
 no_parts : (bs : List Decl) (xs : List the_decl.Decl) (vs : List the_variable.Variable) → Beside IsScalar xs vs
@@ -430,9 +432,9 @@ IsRight at u = (UnknownAt u.known u.what at → ⊥) × (WrongKindAt u.known u.w
 declared_at : (x : List ℕ) (xs : List the_decl.Decl) → position_or_len (bytes_eq x) (map declared_name xs) < length (map declared_name xs) → declares (map located_decl xs) x ≡ true
 declared_at x [] lt = absurd (omega arith)
 declared_at x (d ∷ xs) lt = (elim (bytes_eq x (declared_name d)) as (λ b. bytes_eq x (declared_name d) ≡ b → cond (not b) (1 + position_or_len (bytes_eq x) (map declared_name xs)) 0 < suc (length (map declared_name xs)) → declares (map located_decl (d ∷ xs)) x ≡ true) [
-    | true ↦ λ e lt. ap (λ b. b || declares (map located_decl xs) x) (bytes_eq-sym (declared_name d) x ∙ e)
-    | false ↦ λ e lt. ap (λ b. b || declares (map located_decl xs) x) (bytes_eq-sym (declared_name d) x ∙ e) ∙ declared_at x xs (omega arith)
-  ]) refl lt
+  | true ↦ λ e lt. ap (λ b. b || declares (map located_decl xs) x) (bytes_eq-sym (declared_name d) x ∙ e)
+  | false ↦ λ e lt. ap (λ b. b || declares (map located_decl xs) x) (bytes_eq-sym (declared_name d) x ∙ e) ∙ declared_at x xs (omega arith)
+]) refl lt
 
 right_basic : (at : Span) (xs : List the_decl.Decl) (b : the_basic.Basic) (o : Operand) → IsOperandBasic (map declared_name xs) b o → IsRight at (use_of (map located_decl xs) None (located_basic b))
 right_basic at xs (basics.Lit l) o e = (λ f. f, λ f. f)

@@ -1,15 +1,15 @@
 //! The check of a stream against a model.
 
-ghost use Rattle.std.specs.Prelude.{◌≡◌, ℕ, List, map, IfOk, Err};
+ghost use Rattle.std.specs.Prelude.{◌≡◌, ℕ, List, map, vec_len, IfOk, Err};
 ghost use Rattle.fz_syntax.specs.SyntaxError.{SyntaxError as SyntaxFault};
 ghost use Rattle.fz_syntax.specs.Tree.{Tree};
 ghost use Rattle.fz_syntax.specs.Text.{IsTextOfTree};
 ghost use Rattle.fz_syntax.specs.Tokens.{toks};
 ghost use Rattle.fz_syntax.specs.Limits.{LexesWithNumbersInLimit};
-ghost use Rattle.fz_stream.specs.Parts.{StreamPart, IsStreamText};
+ghost use Rattle.fz_stream.specs.Found.{AreInOrder};
 ghost use Rattle.fz_check.specs.Simple.{Beside, IsJudged};
-ghost use Rattle.fz_check.specs.Headline.{HasSolutions};
-ghost use Rattle.fz_check.specs.View.{verdict_view};
+ghost use Rattle.fz_check.specs.Headline.{HasSolutions, IsOfStream};
+ghost use Rattle.fz_check.specs.View.{answer_view, verdict_view};
 
 use crate::error::{BlockError, CheckError};
 use crate::judge::judge;
@@ -53,13 +53,12 @@ fn judge_blocks<'a>(
 /// `Model` where the model's bytes are a text of no tree, `Names` for a fault of its names, `NotYet` where
 /// the tree has a part that is not judged yet, `Stream` where the stream's bytes are a text of no blocks
 /// and claims, `Block` where a block does not fit the model, and want of memory.
-pub fn check<'a>(
-    alloc: Global,
-    model: &'a [u8],
-    stream: &[u8],
-) -> Result<Report<'a>, CheckError>
+pub fn check<'a>(alloc: Global, model: &'a [u8], stream: &[u8]) -> Result<Report<'a>, CheckError>
     // A yes is a yes: what is accepted has solutions.
     ensures accepted { IfOk result (λ r. (count : ℕ) → r.answer ≡ Answer.Accepted count → HasSolutions model.now stream.now count) }
+    // The report is that of the stream's own blocks and claims, with one verdict per block.
+    ensures whole { IfOk result (λ r. IsOfStream stream.now (map verdict_view r.verdicts.items) r.claims.items (answer_view r.answer)) }
+    ensures in_order { IfOk result (λ r. AreInOrder 0 (vec_len r.verdicts) r.claims.items) }
     // The model is refused only where its bytes are a text of no tree.
     ensures no_tree { (e : SyntaxFault) → result ≡ Err (CheckError.Model e) → (t : Tree) → IsTextOfTree model.now t → ⊥ }
 {
@@ -108,8 +107,6 @@ pub fn show(alloc: Global, model: &[u8]) -> Result<Vec<u8>, CheckError>
         Err(SyntaxError::Memory) => return Err(CheckError::Memory),
         Err(error) => return Err(CheckError::Model(error)),
     };
-    match to_text(alloc, &ast) {
-        Ok(text) => Ok(text),
-        Err(_) => Err(CheckError::Memory),
-    }
+    let text = to_text(alloc, &ast)?;
+    Ok(text)
 }

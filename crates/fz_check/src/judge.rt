@@ -217,7 +217,12 @@ fn test_constraints<'a>(
         let name = constraint.predicate;
         let number = place + 1;
         // A variable without a value is told at its domain, so here the reason is an unknown constraint.
-        reason = after_point(reason, state, Fault::Constraint(number, name), Reason::Unknown(number, name))?;
+        reason = after_point(
+            reason,
+            state,
+            Fault::Constraint(number, name),
+            Reason::Unknown(number, name),
+        )?;
     }
     Ok(reason)
 }

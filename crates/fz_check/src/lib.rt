@@ -14,7 +14,6 @@ pub use checking::{check, show};
 pub use error::{BlockError, CheckError};
 pub use refusal::{refusal_text, status};
 pub use report::{Answer, Report, report_text};
-
 pub use verdict::{Fault, Reason, Verdict};
 
 #[cfg(test)]

@@ -17,11 +17,26 @@ fn told(alloc: Global, model: &str, stream: &str) -> Result<Vec<u8>, AllocError>
 #[test]
 fn judges_streams_of_the_first_model(rt: HostRuntime) -> Result<(), Fail> {
     for (stream, wanted) in [
-        ("x = 3;\n----------\n", "block 1: satisfied\naccepted: blocks 1\n"),
-        ("x = 3;\n----------", "block 1: satisfied\naccepted: blocks 1\n"),
-        ("x = 1;\n----------\n", "block 1: violated: constraint 1 int_le\nrejected: block 1\n"),
-        ("x = 6;\n----------\n", "block 1: violated: domain of x\nrejected: block 1\n"),
-        ("----------\n", "block 1: undecided: no value for x\nundecided: block 1\n"),
+        (
+            "x = 3;\n----------\n",
+            "block 1: satisfied\naccepted: blocks 1\n",
+        ),
+        (
+            "x = 3;\n----------",
+            "block 1: satisfied\naccepted: blocks 1\n",
+        ),
+        (
+            "x = 1;\n----------\n",
+            "block 1: violated: constraint 1 int_le\nrejected: block 1\n",
+        ),
+        (
+            "x = 6;\n----------\n",
+            "block 1: violated: domain of x\nrejected: block 1\n",
+        ),
+        (
+            "----------\n",
+            "block 1: undecided: no value for x\nundecided: block 1\n",
+        ),
         ("", "no blocks\n"),
         (
             "=====UNSATISFIABLE=====\n",
@@ -31,12 +46,18 @@ fn judges_streams_of_the_first_model(rt: HostRuntime) -> Result<(), Fail> {
             "x = 3;\n----------\nx = 1;\n----------\n==========\n----------\n",
             "block 1: satisfied\nblock 2: violated: constraint 1 int_le\nclaim: ========== not judged\nblock 3: undecided: no value for x\nrejected: block 2\n",
         ),
-        ("y = 1;\n----------\n", "refused: block 1: UnknownName at 0..1\n"),
+        (
+            "y = 1;\n----------\n",
+            "refused: block 1: UnknownName at 0..1\n",
+        ),
         (
             "x = 3;\n----------\ny = 1;\n----------\n",
             "refused: block 2: UnknownName at 18..19\n",
         ),
-        ("x = true;\n----------\n", "refused: block 1: Kind at 4..8\n"),
+        (
+            "x = true;\n----------\n",
+            "refused: block 1: Kind at 4..8\n",
+        ),
         ("x = 3;\n", "refused: stream: Unfinished at 0..7\n"),
     ] {
         let given = told(rt.alloc(), FIRST, stream)?;
@@ -48,13 +69,19 @@ fn judges_streams_of_the_first_model(rt: HostRuntime) -> Result<(), Fail> {
 #[test]
 fn judges_and_refuses_models(rt: HostRuntime) -> Result<(), Fail> {
     for (model, wanted) in [
-        ("solve satisfy;\n", "block 1: satisfied\naccepted: blocks 1\n"),
+        (
+            "solve satisfy;\n",
+            "block 1: satisfied\naccepted: blocks 1\n",
+        ),
         (
             "constraint foo(1);\nsolve satisfy;\n",
             "block 1: undecided: constraint 1 foo not known\nundecided: block 1\n",
         ),
         ("solve satisfy", "refused: model: Syntax at 13..13\n"),
-        ("solve minimize --5;\n", "refused: model: BadByte at 15..16\n"),
+        (
+            "solve minimize --5;\n",
+            "refused: model: BadByte at 15..16\n",
+        ),
         (
             "var 1..5: x;\nconstraint p(1.5);\nsolve satisfy;\n",
             "refused: model: Float at 26..29\n",

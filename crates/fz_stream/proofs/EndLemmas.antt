@@ -1,22 +1,20 @@
 -- What the end of a line makes of what a splitter keeps.
-use Rattle.std.proofs.Common.{◌≡◌, ◌≢◌, ℕ, ◌+◌, ◌-◌, Option, Some, None, List, [], ◌∷◌, ◌++◌, length, take, drop, refl, sym, ap, ◌∙◌, subst, inl, inr, ◌⊎◌, ⊎_elim, append-nil, length-append, arith}
+use Rattle.std.proofs.Common.{◌≡◌, ℕ, ◌-◌, Option, Some, None, List, [], ◌∷◌, ◌++◌, length, take, drop, refl, sym, ap, ◌∙◌, subst, inl, inr, ⊎_elim, length-append, arith}
 use Rattle.std.proofs.lemmas.List.{take_at, drop_at, take_all}
-use Rattle.std.specs.List.{AllByRecursion}
 use Rattle.fz_syntax.specs.Tree.{Printed}
 use Rattle.fz_syntax.proofs.Parsed.{none_text}
 use Rattle.fz_stream.specs.declared.line.ClaimKind.{ClaimKind}
-use Rattle.fz_stream.specs.declared.line.LineKind.TheVariants.{Marker, Claim, Item as ItemLine}
+use Rattle.fz_stream.specs.declared.line.LineKind.TheVariants.{Item as ItemLine}
 use Rattle.fz_stream.specs.declared.line.LineKind.{LineKind}
 use Rattle.fz_stream.specs.declared.step.Step.{Step}
 use Rattle.fz_stream.specs.declared.step.Step.TheVariants.{GoesOn, EndsBlock, Claims, Breaks}
 use Rattle.fz_stream.specs.declared.held.Ended.TheVariants.{BlockEnded, ClaimEnded}
 use Rattle.fz_stream.specs.declared.held.Held.{Held}
-use Rattle.fz_stream.specs.Lines.{Line, joined, EndsWithFeed, kind_of, IsFiller, IsFillerKind, IsInner, IsInnerKind}
-use Rattle.fz_stream.specs.Parts.{SolutionBlock, StreamPart, BlockPart, ClaimPart, IsBlockText, HasDistinctNames, AreBlockLines, AreLinesOfPart}
+use Rattle.fz_stream.specs.Lines.{Line, joined, kind_of}
+use Rattle.fz_stream.specs.Parts.{BlockPart, ClaimPart, IsBlockText, HasDistinctNames, AreBlockLines}
 use Rattle.fz_stream.specs.Broken.{CannotFollow}
 use Rattle.fz_stream.specs.Step.{step_of, begun_of}
-use Rattle.fz_stream.specs.Keeping.{HasLine, IsHeld, GoesOnHolding, EndsPart, BreaksBlock}
-use Rattle.fz_stream.proofs.PartLemmas.{every_append, joined-append, joined_one, item_inner}
+use Rattle.fz_stream.specs.Keeping.{HasLine, GoesOnHolding, EndsPart, BreaksBlock}
 use Rattle.fz_stream.proofs.StepLemmas.{goes_none, goes_some, ends_marker, claims_claim, breaks_claim, begun_none, begun_some, opens_body, joins_body}
 
 module _ (h : Held) (body : List Line) (line : Line) (l : HasLine h body line) where

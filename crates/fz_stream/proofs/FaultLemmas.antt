@@ -1,9 +1,7 @@
 -- What a refusal may be.
-use Rattle.std.proofs.Common.{◌≡◌, ◌≢◌, ℕ, zero, suc, ◌+◌, ◌<◌, ◌≤◌, List, [], ◌∷◌, length, get_or, Any, Err, Vec, Global, ap, ◌∙◌, subst, arith}
-use Rattle.std.specs.List.{AllByRecursion}
+use Rattle.std.proofs.Common.{◌≡◌, ◌≢◌, ℕ, ◌+◌, ◌≤◌, List, Err, Vec, Global, arith}
 use Rattle.fz_syntax.specs.declared.tree.Printed.{Printed}
-use Rattle.fz_syntax.specs.Places.{IsSpanWithin, IsPlacedWithin}
-use Rattle.fz_syntax.specs.Span.{Span}
+use Rattle.fz_syntax.specs.Places.{IsPlacedWithin}
 use Rattle.fz_syntax.specs.SyntaxError.{SyntaxError}
 use Rattle.fz_syntax.specs.SyntaxError.TheVariants.{TooLong as TextTooLong, BadByte, TooLarge, Float, Syntax, TooDeep, TooMany, Memory as TextMemory}
 use Rattle.fz_syntax.specs.Text.{IsValue}

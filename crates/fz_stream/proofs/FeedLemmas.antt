@@ -1,15 +1,14 @@
 -- What `feed` promises, from what its parts do.
-use Rattle.std.proofs.Common.{◌≡◌, ◌≢◌, ℕ, ◌+◌, ◌≤◌, Option, Some, None, List, [], ◌∷◌, ◌++◌, length, take, refl, sym, ap, ◌∙◌, subst, inl, inr, ◌⊎◌, arith, append-nil, length-append, length-take, IsSome}
+use Rattle.std.proofs.Common.{◌≡◌, ℕ, ◌+◌, ◌≤◌, Option, Some, None, List, [], ◌∷◌, ◌++◌, length, take, refl, sym, ◌∙◌, subst, inl, inr, arith, append-nil, length-append, length-take, IsSome}
 use Rattle.fz_stream.specs.declared.splitter.Stage.{Stage}
 use Rattle.fz_stream.specs.declared.splitter.Stage.TheVariants.{Running}
 use Rattle.fz_stream.specs.declared.held.Ended.{Ended}
 use Rattle.fz_stream.specs.declared.held.Ended.TheVariants.{BlockEnded, ClaimEnded}
 use Rattle.fz_stream.specs.declared.held.Held.{Held}
 use Rattle.fz_stream.specs.Parts.{StreamPart, BlockPart, ClaimPart, IsStreamText}
-use Rattle.fz_stream.specs.Splitting.{SplitterState, WaitingPart, WaitsFor, WaitsForLast, WaitsForMore, Holds, Fits, Fed, PassesLimit, EndsWith, most_held, most_taken}
+use Rattle.fz_stream.specs.Splitting.{SplitterState, WaitsForLast, WaitsForMore, Holds, Fits, Fed, EndsWith}
 use Rattle.fz_stream.specs.Keeping.{Keeps, IsHeld, EndedAs, KeepsAll, TakesPart, EndsStream, held_while}
 use Rattle.fz_stream.specs.Inside.{waiting_of}
-use Rattle.fz_stream.specs.Broken.{IsBrokenAfter, IsBrokenAtEndAfter}
 use Rattle.fz_stream.proofs.SplitLemmas.{keeps_held, holds_current}
 
 -- a splitter's state by its parts

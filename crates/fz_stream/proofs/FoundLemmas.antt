@@ -1,9 +1,9 @@
 -- What follows of a stream that was read.
-use Rattle.std.proofs.Common.{◌≡◌, ◌≤◌, ℕ, ◌+◌, List, [], ◌∷◌, ◌++◌, length, map, vec_len, refl, sym, ap, ◌∙◌, subst, append_assoc, length-append, arith}
+use Rattle.std.proofs.Common.{◌≡◌, ◌≤◌, ℕ, ◌+◌, List, [], ◌∷◌, ◌++◌, length, refl, sym, ap, ◌∙◌, subst, append_assoc, length-append, arith}
 use Rattle.std.specs.List.{AllByRecursion}
 use Rattle.fz_stream.specs.declared.reading.Claim.{Claim}
 use Rattle.fz_stream.specs.Lines.{Line, lines_of, joined}
-use Rattle.fz_stream.specs.Parts.{SolutionBlock, StreamPart, BlockPart, ClaimPart, AreLinesOf, IsStreamText}
+use Rattle.fz_stream.specs.Parts.{SolutionBlock, StreamPart, BlockPart, ClaimPart, AreLinesOf}
 use Rattle.fz_stream.specs.Found.{blocks_in, claims_in, IsReadAs, AreInOrder, StandsBeforeMarker}
 use Rattle.fz_stream.proofs.PartLemmas.{joined-append}
 

@@ -1,6 +1,5 @@
 -- What the end of a stream makes of what a splitter keeps.
 use Rattle.std.proofs.Common.{◌≡◌, ◌≢◌, ℕ, ◌+◌, ◌<◌, Option, Some, None, List, [], ◌∷◌, ◌++◌, length, take, refl, sym, ap, ◌∙◌, subst, ⊎_elim, append-nil, length-append, arith, Result, Ok, Err, IfOk, IfErr, IsSome, is_some, true, false}
-use Rattle.std.specs.List.{AllByRecursion}
 use Rattle.fz_stream.specs.declared.held.Ended.{Ended}
 use Rattle.fz_stream.specs.declared.held.Held.{Held}
 use Rattle.fz_stream.specs.declared.error.StreamError.{StreamError}

@@ -1,11 +1,11 @@
 -- A list of lines is cut into parts in one way.
-use Rattle.std.proofs.Common.{◌≡◌, ℕ, ◌+◌, Bool, List, [], ◌∷◌, ◌++◌, length, refl, sym, ap, ◌∙◌, subst, append_assoc, append-nil, length-append, arith}
+use Rattle.std.proofs.Common.{◌≡◌, ℕ, ◌+◌, List, [], ◌∷◌, ◌++◌, length, refl, sym, ap, ◌∙◌, subst, append_assoc, append-nil, length-append, arith}
 use Rattle.std.specs.List.{AllByRecursion}
 use Rattle.fz_stream.specs.declared.line.ClaimKind.{ClaimKind}
 use Rattle.fz_stream.specs.declared.line.LineKind.{LineKind}
 use Rattle.fz_stream.specs.declared.line.LineKind.TheVariants.{Blank, Comment, Marker, Claim, Item as ItemLine}
 use Rattle.fz_stream.specs.Lines.{Line, lines_of, joined, kind_of, IsFiller, IsFillerKind, IsInner, IsInnerKind}
-use Rattle.fz_stream.specs.Parts.{SolutionBlock, StreamPart, BlockPart, ClaimPart, IsBlockText, AreBlockLines, AreLinesOfBlock, AreLinesOfClaim, AreLinesOfPart, AreLinesOf, Covers, IsStreamText}
+use Rattle.fz_stream.specs.Parts.{StreamPart, BlockPart, ClaimPart, IsBlockText, AreBlockLines, AreLinesOfPart, AreLinesOf, IsStreamText}
 
 -- The lines, of which the first stands at byte start, are those of the parts, and then blank lines and comments.
 pub record EndAfter (start : ℕ) (lines : List Line) (parts : List StreamPart) : Type 0 where

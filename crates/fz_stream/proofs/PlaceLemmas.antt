@@ -1,5 +1,5 @@
 -- Where the names of printed items stand.
-use Rattle.std.proofs.Common.{◌≡◌, ℕ, zero, suc, ◌+◌, ◌<◌, ◌≤◌, List, [], ◌∷◌, ◌++◌, length, get_or, Any, Option, Some, IfSome, ap, ◌∙◌, subst, arith}
+use Rattle.std.proofs.Common.{◌≡◌, ℕ, zero, suc, ◌<◌, ◌≤◌, List, [], ◌∷◌, ◌++◌, length, get_or, Any, Option, Some, IfSome, ap, ◌∙◌, subst, arith}
 use Rattle.fz_syntax.specs.declared.tree.Printed.{Printed}
 use Rattle.fz_syntax.specs.Places.{IsSpanWithin}
 use Rattle.fz_syntax.specs.Span.{Span}

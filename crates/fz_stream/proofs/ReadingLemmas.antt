@@ -3,17 +3,15 @@ use Rattle.std.proofs.Common.{◌≡◌, ℕ, ◌+◌, Option, Some, None, List,
 use Rattle.std.proofs.lemmas.List.{take_at, drop_at}
 use Rattle.std.specs.List.{AllByRecursion}
 use Rattle.fz_syntax.specs.Tree.{Printed}
-use Rattle.fz_stream.specs.declared.reading.Claim.{Claim as ClaimRead}
 use Rattle.fz_stream.specs.declared.line.ClaimKind.{ClaimKind}
 use Rattle.fz_stream.specs.declared.line.LineKind.{LineKind}
 use Rattle.fz_stream.specs.declared.line.LineKind.TheVariants.{Blank, Comment, Marker, Claim, Item as ItemLine}
-use Rattle.fz_stream.specs.declared.step.Step.{Step}
 use Rattle.fz_stream.specs.declared.step.Step.TheVariants.{GoesOn, EndsBlock, Claims, Breaks}
-use Rattle.fz_stream.specs.Lines.{Line, lines_of, joined, kind_of, IsFiller, IsFillerKind, IsInner, IsInnerKind}
+use Rattle.fz_stream.specs.Lines.{Line, joined, kind_of, IsFiller, IsFillerKind, IsInner, IsInnerKind}
 use Rattle.fz_stream.specs.Parts.{SolutionBlock, StreamPart, BlockPart, ClaimPart, IsBlockText, AreBlockLines, AreLinesOfPart, AreLinesOf}
-use Rattle.fz_stream.specs.Found.{blocks_in, claims_in, IsReadAs}
+use Rattle.fz_stream.specs.Found.{blocks_in, claims_in}
 use Rattle.fz_stream.specs.Step.{step_of}
-use Rattle.fz_stream.proofs.PartLemmas.{every_append, every_right, joined-append, joined_one, inner_from_filler, item_inner, item_no_filler, marker_closes, claim_closes, inner_body, EndAfter, IsPartOf, next_part, no_part, AreLinesOf-push}
+use Rattle.fz_stream.proofs.PartLemmas.{every_append, every_right, joined-append, joined_one, inner_from_filler, item_no_filler, marker_closes, claim_closes, inner_body, EndAfter, IsPartOf, next_part, no_part, AreLinesOf-push}
 
 abbrev pub block_from : ℕ → List ℕ → List Printed → SolutionBlock
 block_from o t i = record { offset = o; text = t; items = i }

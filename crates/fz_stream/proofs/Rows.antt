@@ -1,12 +1,11 @@
 -- The definitions on worked rows.
-use Rattle.std.proofs.Common.{◌≡◌, ◌≢◌, ℕ, List, [], ◌∷◌, ◌++◌, length, refl, codes, map, arith, ap, ◌∙◌, reverse, get_or}
+use Rattle.std.proofs.Common.{◌≡◌, ◌≢◌, ℕ, List, [], ◌∷◌, ◌++◌, refl, codes, arith, ap, ◌∙◌, reverse, get_or}
 use Rattle.std.proofs.lemmas.List.{reverse-append}
 use Rattle.fz_syntax.proofs.Parsed.{none_text}
 use Rattle.fz_stream.specs.declared.line.ClaimKind.TheVariants.{Complete, Unsatisfiable, Error, UnsatOrUnbounded}
-use Rattle.fz_stream.specs.declared.line.LineKind.{LineKind}
 use Rattle.fz_stream.specs.declared.line.LineKind.TheVariants.{Blank, Comment, Marker, Claim, Item as ItemLine}
 use Rattle.fz_stream.specs.Lines.{Line, lines_of, kind_of}
-use Rattle.fz_stream.specs.Parts.{StreamPart, BlockPart, ClaimPart, HasDistinctNames, IsStreamText}
+use Rattle.fz_stream.specs.Parts.{BlockPart, ClaimPart, HasDistinctNames, IsStreamText}
 use Rattle.fz_stream.specs.Broken.{IsBrokenAfter, IsBrokenAtEndAfter}
 use Rattle.fz_stream.specs.Splitting.{Holds}
 

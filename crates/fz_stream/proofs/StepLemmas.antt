@@ -1,13 +1,12 @@
 -- What the kinds of a line and of a step say of each other.
-use Rattle.std.proofs.Common.{◌≡◌, ◌≢◌, ℕ, ◌+◌, Option, Some, None, List, [], ◌∷◌, ◌++◌, length, refl, sym, ap, ◌∙◌, subst, inl, inr, ◌⊎◌, Bool, eqb, cond, true, false, arith, length-append, append-nil}
+use Rattle.std.proofs.Common.{◌≡◌, ◌≢◌, ℕ, Option, Some, None, List, [], ◌∷◌, ◌++◌, length, refl, sym, ap, ◌∙◌, inl, inr, ◌⊎◌, Bool, eqb, cond, true, false, arith, length-append}
 use Rattle.std.proofs.lemmas.Bool.{ne_eqb, eq-eqb}
 use Rattle.std.specs.List.{AllByRecursion}
 use Rattle.fz_stream.specs.declared.line.ClaimKind.{ClaimKind}
 use Rattle.fz_stream.specs.declared.line.LineKind.{LineKind}
 use Rattle.fz_stream.specs.declared.line.LineKind.TheVariants.{Blank, Comment, Marker, Claim, Item as ItemLine}
-use Rattle.fz_stream.specs.declared.step.Step.{Step}
 use Rattle.fz_stream.specs.declared.step.Step.TheVariants.{GoesOn, EndsBlock, Claims, Breaks}
-use Rattle.fz_stream.specs.Lines.{Line, joined, EndsWithFeed, kind_of, IsFiller, IsFillerKind, IsInner, IsInnerKind}
+use Rattle.fz_stream.specs.Lines.{Line, joined, EndsWithFeed, kind_of, IsFillerKind, IsInner, IsInnerKind}
 use Rattle.fz_stream.specs.Parts.{AreBlockLines}
 use Rattle.fz_stream.specs.Step.{step_of, begun_of}
 use Rattle.fz_stream.proofs.PartLemmas.{every_append}

@@ -1,10 +1,9 @@
 -- What a part that is lent is.
 use Rattle.std.proofs.Common.{◌≡◌, ℕ, ◌+◌, Option, Some, None, List, [], ◌∷◌, ◌++◌, length, IfSome, refl, sym, ap, ◌∙◌, subst}
-use Rattle.fz_syntax.specs.Tree.{Printed}
 use Rattle.fz_stream.specs.Lines.{Line, joined}
 use Rattle.fz_stream.specs.Splitting.{SplitterState, WaitingPart, WaitingBlock, WaitingClaim, WaitsFor, WaitsForLast, WaitsForMore, Fits, EndsWith, Lends, IsPartOfItems, parts_of}
 use Rattle.fz_stream.proofs.ReadingLemmas.{three}
-use Rattle.fz_stream.specs.Parts.{SolutionBlock, StreamPart, BlockPart, ClaimPart, IsBlockText, AreLinesOf}
+use Rattle.fz_stream.specs.Parts.{StreamPart, BlockPart, ClaimPart, IsBlockText, AreLinesOf}
 
 abbrev HasText : StreamPart → Type 0
 HasText (BlockPart block) = IsBlockText block.text block.items

@@ -7,7 +7,7 @@ use Rattle.fz_stream.specs.declared.held.Ended.{Ended}
 use Rattle.fz_stream.specs.declared.held.Ended.TheVariants.{BlockEnded, ClaimEnded}
 use Rattle.fz_stream.specs.declared.held.Held.{Held}
 use Rattle.fz_stream.specs.Lines.{Line, joined, kind_of, HasNoFeed, EndsWithFeed, IsFiller}
-use Rattle.fz_stream.specs.Parts.{SolutionBlock, StreamPart, BlockPart, ClaimPart, IsBlockText, AreBlockLines, AreLinesOfPart, AreLinesOf, Covers, IsStreamText, GoesOnAfter}
+use Rattle.fz_stream.specs.Parts.{StreamPart, BlockPart, ClaimPart, IsBlockText, AreBlockLines, AreLinesOfPart, AreLinesOf, Covers, IsStreamText, GoesOnAfter}
 use Rattle.fz_stream.specs.Broken.{CannotFollow}
 
 -- The bytes are the lines of the parts, then blank lines and comments, then the bytes held.

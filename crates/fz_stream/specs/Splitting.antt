@@ -6,7 +6,7 @@ use Rattle.fz_stream.specs.declared.line.ClaimKind.{ClaimKind}
 use Rattle.fz_stream.specs.declared.splitter.Stage.{Stage}
 use Rattle.fz_stream.specs.declared.splitter.Stage.TheVariants.{Running}
 use Rattle.fz_stream.specs.Lines.{Line, lines_of, joined, HasNoFeed, EndsWithFeed}
-use Rattle.fz_stream.specs.Parts.{SolutionBlock, StreamPart, BlockPart, ClaimPart, IsBlockText, AreLinesOf, Covers, IsStreamText, GoesOnAfter}
+use Rattle.fz_stream.specs.Parts.{StreamPart, BlockPart, ClaimPart, IsBlockText, Covers, IsStreamText, GoesOnAfter}
 
 -- the most bytes that a splitter holds, and the most that it takes in all
 abbrev pub most_held : ℕ

@@ -6,11 +6,9 @@ mod words;
 
 use files::{Failure, read_up_to};
 use fz_check::{CheckError, check, refusal_text, report_text, show, status};
-use std::env;
-use std::fs;
-use std::io;
 use std::io::{Read, Write};
 use std::process::ExitCode;
+use std::{env, fs, io};
 use words::{Refused, Request, read_words};
 
 /// The status where a model was shown.

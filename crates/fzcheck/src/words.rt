@@ -6,7 +6,9 @@ use std::alloc::{AllocError, Global};
 #[derive(Clone, Copy)]
 pub enum Request<'a> {
     /// Print the canonical text of the model in a file.
-    Show { model: &'a str },
+    Show {
+        model: &'a str,
+    },
     /// Check the stream in a file, or on standard input, against the model in a file.
     Check {
         model: &'a str,

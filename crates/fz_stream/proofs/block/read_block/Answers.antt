@@ -1,8 +1,8 @@
-use Rattle.std.proofs.Common.{◌≡◌, ◌≢◌, ◌+◌, ◌-◌, ◌<◌, length, Err, arith, sym, ap, ◌∙◌, subst}
+use Rattle.std.proofs.Common.{◌≡◌, ◌+◌, length, Err, arith, sym, ap, ◌∙◌, subst}
 use Rattle.fz_syntax.specs.SyntaxError.TheVariants.{TooLong}
 use Rattle.fz_syntax.specs.Places.{IsSpanWithin}
 use Rattle.fz_stream.specs.Faults.{IsFaultWithin}
-use Rattle.fz_stream.specs.Step.{item_fault, IsBlockFault}
+use Rattle.fz_stream.specs.Step.{IsBlockFault}
 use Rattle.fz_stream.specs.declared.error.StreamError.TheVariants.{Memory}
 use Rattle.fz_stream.proofs.FaultLemmas.{placed_more, placed_fault, block_fault, no_value}
 use Rattle.fz_stream.proofs.PlaceLemmas.{placed_found}

@@ -1,4 +1,4 @@
-use Rattle.std.proofs.Common.{◌≡◌, List, map, take, ℕ}
+use Rattle.std.proofs.Common.{◌≡◌, map, take}
 use Rattle.fz_syntax.specs.View.{bare_items}
 use Rattle.fz_stream.specs.Parts.{HasDistinctNames}
 use Rattle.fz_stream.proofs.block.repeated_name.Given as goal

@@ -1,13 +1,11 @@
-use Rattle.std.proofs.Common.{◌≡◌, ℕ, List, sym, ap, ◌∙◌, refl, Some, subst, take, ◌+◌}
+use Rattle.std.proofs.Common.{◌≡◌, sym, ap, ◌∙◌, refl, subst, take, ◌+◌}
 use Rattle.std.proofs.lemmas.Result.{err_from_is_err_and}
 use Rattle.fz_syntax.specs.View.{bare_items}
-use Rattle.fz_stream.specs.declared.held.Ended.{Ended}
 use Rattle.fz_stream.specs.declared.held.Ended.TheVariants.{BlockEnded, ClaimEnded}
 use Rattle.fz_stream.specs.declared.step.Step.TheVariants.{GoesOn}
 use Rattle.fz_stream.specs.Parts.{IsBlockText}
-use Rattle.fz_stream.specs.Step.{step_of}
-use Rattle.fz_stream.specs.Keeping.{HasLine, EndsPart, BreaksBlock}
-use Rattle.fz_stream.proofs.EndLemmas.{step_is, goes_on_none, goes_on_some, ends_with_block, ends_with_claim, breaks_block, breaks_claim_in}
+use Rattle.fz_stream.specs.Keeping.{EndsPart}
+use Rattle.fz_stream.proofs.EndLemmas.{step_is, goes_on_none, goes_on_some, ends_with_block, ends_with_claim, breaks_block}
 use Rattle.fz_stream.proofs.held.end_line.Goals as goal
 
 pub returns-in_err-read_block-in-EndsBlock-clause-breaks :

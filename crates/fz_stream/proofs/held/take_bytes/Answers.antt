@@ -1,10 +1,7 @@
-use Rattle.std.proofs.Common.{◌≡◌, ℕ, ◌+◌, ◌≤◌, ◌^◌, ◌-◌, inl, inr, List, length, sym, ap, ◌∙◌, refl, subst, arith, None, Some, is_some}
+use Rattle.std.proofs.Common.{◌≡◌, ℕ, ◌+◌, ◌≤◌, ◌^◌, ◌-◌, inl, inr, List, length, ap, ◌∙◌, refl, arith, Some, is_some}
 use Rattle.std.proofs.lemmas.List.{take_rest}
 use Rattle.std.proofs.lemmas.Result.{err_from_is_err_and}
-use Rattle.fz_stream.specs.declared.held.Ended.{Ended}
-use Rattle.fz_stream.specs.declared.held.Held.{Held}
-use Rattle.fz_stream.specs.Keeping.{TakesPart}
-use Rattle.fz_stream.proofs.TakeLemmas.{start_taking, taking_begun, taking_line, takes_part, takes_broken, passes_limit, lines_mid, ends_whole, ends_readable}
+use Rattle.fz_stream.proofs.TakeLemmas.{taking_begun, taking_line, takes_part, takes_broken, passes_limit, lines_mid, ends_readable}
 use Rattle.fz_stream.proofs.held.take_bytes.Goals as goal
 use Rattle.fz_stream.proofs.held.take_bytes.Goals.{then-part-room-via-then-part-room, then-part-room-via-else-part-room+then-part-left}
 

@@ -1,8 +1,8 @@
-use Rattle.std.proofs.Common.{◌≡◌, ◌∷◌, ℕ, List, Bool, true, false, suc, ◌+◌, ◌<◌, ◌==◌, eqb, Some, None, position, take, drop, length, get_or, sym, ap, ◌∙◌, arith, add-one, refl, subst}
-use Rattle.std.proofs.lemmas.List.{length-take, length-take-le, drop_all}
+use Rattle.std.proofs.Common.{◌≡◌, ◌∷◌, ℕ, List, ◌+◌, ◌==◌, take, drop, length, sym, ◌∙◌, arith, add-one, subst}
+use Rattle.std.proofs.lemmas.List.{length-take-le}
 use Rattle.std.proofs.lemmas.List.Quantifiers.{position-Some}
 use Rattle.fz_stream.specs.Lines.{lines_of}
-use Rattle.fz_stream.proofs.LineLemmas.{lines_of-cut, no_feed, lines_of-whole}
+use Rattle.fz_stream.proofs.LineLemmas.{lines_of-cut, lines_of-whole}
 use Rattle.fz_stream.proofs.line.first_line.Goals as goal
 
 pub returns-in-Some-clause-cut : goal.returns-in-Some-clause-cut

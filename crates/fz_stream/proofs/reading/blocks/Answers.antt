@@ -1,11 +1,11 @@
-use Rattle.std.proofs.Common.{◌≡◌, ◌≢◌, ℕ, List, [], map, ◌∷◌, ◌++◌, length, take, drop, None, Some, sym, ap, ◌∙◌, subst, arith, refl}
+use Rattle.std.proofs.Common.{◌≡◌, ℕ, sym, ap, ◌∙◌, subst, arith}
 use Rattle.std.proofs.lemmas.List.{map_push, length-map, take_rest}
 use Rattle.std.proofs.lemmas.Result.{err_from_is_err_and}
 use Rattle.fz_syntax.specs.View.{bare_items}
 use Rattle.fz_stream.specs.Found.{block_of, HasPlaces}
 use Rattle.fz_stream.proofs.PartLemmas.{every_append}
 use Rattle.fz_stream.proofs.FoundLemmas.{read_in_order, read_before_markers}
-use Rattle.fz_stream.proofs.SoFar.{ReadSoFar, start_so_far, so_far_goes_on, so_far_block, so_far_claim, so_far_no_block, so_far_no_claim, so_far_read_at, so_far_open_at}
+use Rattle.fz_stream.proofs.SoFar.{start_so_far, so_far_goes_on, so_far_block, so_far_claim, so_far_no_block, so_far_no_claim, so_far_read_at, so_far_open_at}
 use Rattle.fz_stream.specs.Parts.{IsBlockText}
 use Rattle.fz_stream.specs.declared.line.ClaimKind.{ClaimKind}
 use Rattle.fz_stream.specs.declared.reading.Claim.{Claim}
@@ -51,24 +51,24 @@ loop-at-preserved c =
     elim c.match-after_line.branch [
       | in-GoesOn w ↦ record {
         so_far = rw (w.begun-is, w.blocks-is, w.claims-is) (
-          so_far_goes_on _ _ _ _ _ c.loop-at.invariant.so_far _ (take_rest c.args.stream.now c.loop-at.at) c.first_line-line.result.now c.first_line-line.ensures.within c.first_line-line.ensures.cut _
-          (ap (step_of _ _) (sym c.line_kind.ensures) ∙ sym w.in-GoesOn.ensures));
+            so_far_goes_on _ _ _ _ _ c.loop-at.invariant.so_far _ (take_rest c.args.stream.now c.loop-at.at) c.first_line-line.result.now c.first_line-line.ensures.within c.first_line-line.ensures.cut _
+            (ap (step_of _ _) (sym c.line_kind.ensures) ∙ sym w.in-GoesOn.ensures));
         places = rw w.blocks-is c.loop-at.invariant.places;
       }
       | in-EndsBlock+in_ok-block-in-EndsBlock+in_ok-push-in-EndsBlock w ↦ record {
         so_far = rw (w.begun-is, w.blocks-is, w.claims-is, w.in_ok-push-in-EndsBlock.ensures.items, map_push) (
-          so_far_block _ _ _ _ _ c.loop-at.invariant.so_far _ (take_rest c.args.stream.now c.loop-at.at) c.first_line-line.result.now c.first_line-line.ensures.within c.first_line-line.ensures.cut w.in-EndsBlock.start
-          (ap (step_of _ _) (sym c.line_kind.ensures) ∙ sym w.in-EndsBlock.ensures) (block_of w.in_ok-block-in-EndsBlock.block)
-          w.in_ok-block-in-EndsBlock.ensures.offset w.in_ok-block-in-EndsBlock.ensures.text
-          (subst (λ t. IsBlockText t (bare_items w.in_ok-block-in-EndsBlock.block.items.items)) (sym w.in_ok-block-in-EndsBlock.ensures.text) w.in_ok-block-in-EndsBlock.ensures.items)
-          (λ others h. w.in_ok-block-in-EndsBlock.ensures.only others (subst (λ t. IsBlockText t others) w.in_ok-block-in-EndsBlock.ensures.text h)));
+            so_far_block _ _ _ _ _ c.loop-at.invariant.so_far _ (take_rest c.args.stream.now c.loop-at.at) c.first_line-line.result.now c.first_line-line.ensures.within c.first_line-line.ensures.cut w.in-EndsBlock.start
+            (ap (step_of _ _) (sym c.line_kind.ensures) ∙ sym w.in-EndsBlock.ensures) (block_of w.in_ok-block-in-EndsBlock.block)
+            w.in_ok-block-in-EndsBlock.ensures.offset w.in_ok-block-in-EndsBlock.ensures.text
+            (subst (λ t. IsBlockText t (bare_items w.in_ok-block-in-EndsBlock.block.items.items)) (sym w.in_ok-block-in-EndsBlock.ensures.text) w.in_ok-block-in-EndsBlock.ensures.items)
+            (λ others h. w.in_ok-block-in-EndsBlock.ensures.only others (subst (λ t. IsBlockText t others) w.in_ok-block-in-EndsBlock.ensures.text h)));
         places = rw (w.blocks-is, w.in_ok-push-in-EndsBlock.ensures.items) (every_append HasPlaces _ _ c.loop-at.invariant.places (w.in_ok-block-in-EndsBlock.ensures.places, tt));
       }
       | in-Claims+in_ok-push-in-Claims w ↦ record {
         so_far = rw (w.begun-is, w.blocks-is, w.claims-is, w.in_ok-push-in-Claims.ensures.items) (
-          so_far_claim _ _ _ _ _ c.loop-at.invariant.so_far _ (take_rest c.args.stream.now c.loop-at.at) c.first_line-line.result.now c.first_line-line.ensures.within c.first_line-line.ensures.cut w.in-Claims.kind
-          (ap (step_of _ _) (sym c.line_kind.ensures) ∙ sym w.in-Claims.ensures) _
-          (ap (λ (n : ℕ). claim_at n w.in-Claims.kind) (w.len-after.ensures ∙ c.loop-at.blocks.ok.0 ∙ sym (length-map c.loop-at.blocks.items block_of))));
+            so_far_claim _ _ _ _ _ c.loop-at.invariant.so_far _ (take_rest c.args.stream.now c.loop-at.at) c.first_line-line.result.now c.first_line-line.ensures.within c.first_line-line.ensures.cut w.in-Claims.kind
+            (ap (step_of _ _) (sym c.line_kind.ensures) ∙ sym w.in-Claims.ensures) _
+            (ap (λ (n : ℕ). claim_at n w.in-Claims.kind) (w.len-after.ensures ∙ c.loop-at.blocks.ok.0 ∙ sym (length-map c.loop-at.blocks.items block_of))));
         places = rw w.blocks-is c.loop-at.invariant.places;
       }
     ]

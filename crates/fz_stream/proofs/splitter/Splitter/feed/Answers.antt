@@ -1,4 +1,4 @@
-use Rattle.std.proofs.Common.{◌≡◌, ◌+◌, length, Err, None, refl, sym, ap, ◌∙◌, subst, ⊎_elim}
+use Rattle.std.proofs.Common.{◌≡◌, ◌+◌, length, Err, refl, sym, ap, ◌∙◌, subst, ⊎_elim}
 use Rattle.fz_stream.specs.declared.error.StreamError.TheVariants.{TooLong, Failed as FailedBefore}
 use Rattle.fz_stream.specs.declared.splitter.Stage.TheVariants.{Running, Failed}
 use Rattle.fz_stream.specs.Faults.{IsFaultWithin}

@@ -1,4 +1,4 @@
-use Rattle.std.proofs.Common.{◌≡◌, ℕ, List, Option, Some, take, sym, ap, ◌∙◌, subst, ⊎_elim}
+use Rattle.std.proofs.Common.{◌≡◌, ℕ, List, Some, take, sym, ap, ◌∙◌, subst, ⊎_elim}
 use Rattle.fz_syntax.specs.View.{bare_items}
 use Rattle.fz_stream.specs.declared.held.Ended.TheVariants.{BlockEnded}
 use Rattle.fz_stream.specs.declared.splitter.Stage.TheVariants.{Running, Finished, Failed}
