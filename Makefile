@@ -1,30 +1,40 @@
-# make          proves every crate, builds the program and leaves it at build/fzcheck
-# make test     the gate: every proof from nothing, the must-fail edits, the tests, the built program
-# make quick    runs the program on examples/first.* with NO proof: for a first look while editing
-# make fmt      lays out the sources
-# make clean    drops what was built
+# make             proves the program with all that it stands on, builds it and leaves it at build/fzcheck
+# make test        the gate: every proof from nothing, the must-fail edits, the tests, the built program
+# make quick       runs the program on the first example with NO proof: for a first look while editing
+# make install     puts the program and its manual page in place, below PREFIX (/usr/local)
+# make fmt         lays out the sources
+# make clean       drops what was built
 
 CRATES := $(notdir $(wildcard crates/*))
+SOURCES := crates.txt $(shell find crates -type d -name out -prune -o -type f -print)
+PREFIX ?= /usr/local
 
-.PHONY: all test quick fmt clean
+.PHONY: all test quick install fmt clean
 
 all: build/fzcheck
 
-# The program is proved, built by LLVM and run once on no words (status 5); what it leaves is kept.
-build/fzcheck: $(shell find crates -type d -name out -prune -o -type f -print) crates.txt
+# The program is run once, on no words, which is how the toolchain builds it: status 5 is what that gives.
+build/fzcheck: $(SOURCES)
 	@mkdir -p build
 	cd crates/fzcheck && rt run -- >/dev/null 2>../../build/log </dev/null; \
 	  status=$$?; if [ $$status -ne 5 ]; then cat ../../build/log >&2; exit 1; fi
 	cp crates/fzcheck/out/fzcheck build/fzcheck
 
+# The gate proves and builds the program too, so nothing is proved twice here.
 test:
 	rt ci
-	$(MAKE) all
+	@mkdir -p build
+	cp crates/fzcheck/out/fzcheck build/fzcheck
 	tests/program.sh build/fzcheck
+	tests/broken/run.py build/fzcheck
 
 quick:
 	@echo "no proof is made: this only runs"
-	cd crates/fzcheck && rt try -- check ../../examples/first.fzn ../../examples/first.out
+	cd crates/fzcheck && rt try -- check data/first.fzn <stdin
+
+install: build/fzcheck
+	install -D build/fzcheck $(DESTDIR)$(PREFIX)/bin/fzcheck
+	install -D -m 644 docs/fzcheck.1 $(DESTDIR)$(PREFIX)/share/man/man1/fzcheck.1
 
 fmt:
 	for crate in $(CRATES); do (cd crates/$$crate && rt fmt); done
