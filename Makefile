@@ -1,5 +1,7 @@
 # make             proves the program with all that it stands on, builds it and leaves it at build/fzcheck
 # make test        the gate: every proof from nothing, the must-fail edits, the tests, the built program
+# make corpus      runs the built program over tests/corpus and examples, and beside a second checker on random ones
+# make bench       measures the phases of a check beside a plain program, and prints one table (some minutes)
 # make quick       runs the program on the first example with NO proof: for a first look while editing
 # make install     puts the program and its manual page in place, below PREFIX (/usr/local)
 # make fmt         lays out the sources
@@ -9,7 +11,7 @@ CRATES := $(notdir $(wildcard crates/*))
 SOURCES := crates.txt $(shell find crates -type d -name out -prune -o -type f -print)
 PREFIX ?= /usr/local
 
-.PHONY: all test quick install fmt clean
+.PHONY: all test corpus bench quick install fmt clean
 
 all: build/fzcheck
 
@@ -27,6 +29,20 @@ test:
 	cp crates/fzcheck/out/fzcheck build/fzcheck
 	tests/program.sh build/fzcheck
 	tests/broken/run.py build/fzcheck
+
+corpus: build/fzcheck
+	tests/corpus/run.py build/fzcheck tests/corpus examples
+	tests/corpus/differ.py build/fzcheck - 300
+
+# Cargo builds the plain program, from its own sources alone; the files that are measured are made into build/bench.
+bench: build/fz_bench
+	cargo build --release --offline --quiet --manifest-path bench/plain/Cargo.toml --target-dir build/plain
+	bench/run.py build/fz_bench build/plain/release/plain build/bench
+
+build/fz_bench: $(SOURCES)
+	@mkdir -p build
+	cd crates/fz_bench && rt run -- each 1 data/model.fzn data/stream.out >/dev/null
+	cp crates/fz_bench/out/fz_bench build/fz_bench
 
 quick:
 	@echo "no proof is made: this only runs"

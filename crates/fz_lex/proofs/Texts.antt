@@ -5,6 +5,7 @@ use Rattle.std.specs.List.{AllByRecursion}
 use Rattle.fz_lex.specs.Token.{TokenValue, Word, Whole, FloatText, StringText, Marked, Spells, IsTokenText, IsWordText, IsFloatText, IsStringText}
 use Rattle.fz_lex.specs.Lexing.{SpannedToken, CutBetween, nothing, blank, comment, spelling, LexesToSpanned, LexesTo}
 use Rattle.fz_lex.specs.Limits.{most_bytes, IsTokenWithinLimit, LexesWithNumbersInLimit, IsTextOfTokens}
+use Rattle.fz_lex.specs.View.{IsSpelledAtSpan}
 use Rattle.fz_lex.proofs.Cuts.{cut_once}
 
 pub spelled_text : (t : TokenValue) (b : List ℕ) → Spells t b → IsTokenText t
@@ -13,10 +14,6 @@ spelled_text (Whole z) b s = tt
 spelled_text (FloatText text) b s = subst IsFloatText s.0 s.1
 spelled_text (StringText text) b s = subst IsStringText s.0 s.1
 spelled_text (Marked m) b s = tt
-
--- where a token stands, and that its text stands there
-abbrev pub IsSpelledAtSpan : List ℕ → SpannedToken → Type 0
-IsSpelledAtSpan source t = Spells t.token (slice_range source t.start t.end)
 
 pub cut_spelled : {source : List ℕ} {p r : ℕ} {T : List SpannedToken} → CutBetween source p r T → AllByRecursion (IsSpelledAtSpan source) T
 cut_spelled (nothing p) = tt

@@ -42,3 +42,16 @@ tokens_from (suc room) source place =
 -- the tokens ahead of a place: each holds a byte, so there is room for all
 abbrev pub tokens_ahead : List ℕ → ℕ → List SpannedToken
 tokens_ahead source place = tokens_from (length source) source place
+
+-- where the tokens from a place on end: the end of the source, or the place of the first fault from there on
+abbrev pub stop_at : (ℕ → ℕ) → ℕ → FrontToken → ℕ
+stop_at from start none = start
+stop_at from start (found t n) = if is_within t then from (start + n) else start
+
+unfoldable pub stop_from : ℕ → List ℕ → ℕ → ℕ
+stop_from zero source place = place
+stop_from (suc room) source place =
+    stop_at (λ end. stop_from room source end) (gap_from (length source) source place) (front_of (drop (gap_from (length source) source place) source))
+
+abbrev pub stop_ahead : List ℕ → ℕ → ℕ
+stop_ahead source place = stop_from (length source) source place

@@ -1,5 +1,5 @@
--- What a reader of tokens has left: its first token, and those ahead of the place that it has come to.
-use Rattle.std.specs.Prelude.{List, [], ◌∷◌, Option, Some, None}
+-- What a reader of tokens reads, and what it has left: its first token, and those ahead of the place that it has come to.
+use Rattle.std.specs.Prelude.{ℕ, List, [], ◌∷◌, Option, Some, None}
 use Rattle.fz_lex.specs.Lexing.{SpannedToken}
 use Rattle.fz_lex.specs.View.{spanned}
 use Rattle.fz_lex.specs.Ahead.{tokens_ahead}
@@ -9,6 +9,10 @@ use Rattle.fz_lex.specs.declared.ahead.Tokens.{Tokens}
 abbrev pub first_and : Option Token → List SpannedToken → List SpannedToken
 first_and None rest = []
 first_and (Some t) rest = spanned t ∷ rest
+
+-- the text that is read
+abbrev pub source_of : Tokens → List ℕ
+source_of t = t.lexer.source.now
 
 -- the tokens that are left
 abbrev pub left : Tokens → List SpannedToken

@@ -3,7 +3,7 @@
 use Rattle.std.specs.Prelude.{◌≡◌, ℕ, ◌+◌, ◌<◌, ◌≤◌, List, length, drop, slice_range, map, ℤ}
 use Rattle.std.specs.List.{AllByRecursion}
 use Rattle.fz_base.specs.declared.span.Span.{Span}
-use Rattle.fz_lex.specs.Token.{TokenValue, Word, Whole, FloatText, StringText, Marked}
+use Rattle.fz_lex.specs.Token.{TokenValue, Word, Whole, FloatText, StringText, Marked, Spells}
 use Rattle.fz_lex.specs.Lexing.{SpannedToken, CutUpTo, NothingBegins, IsLongestSpelling}
 use Rattle.fz_lex.specs.Limits.{most_bytes, IsWithinLimit, AreWithinLimit}
 use Rattle.fz_lex.specs.declared.token.TokenKind.{TokenKind}
@@ -29,6 +29,10 @@ all_spanned tokens = map spanned tokens
 -- The text of each token is the slice of the source at its span.
 abbrev pub TextsAreSlices : List ℕ → List Token → Type 0
 TextsAreSlices source tokens = AllByRecursion (λ t. t.text.now ≡ slice_range source t.span.start t.span.end) tokens
+
+-- The text of the token stands in the source where the token says.
+abbrev pub IsSpelledAtSpan : List ℕ → SpannedToken → Type 0
+IsSpelledAtSpan source t = Spells t.token (slice_range source t.start t.end)
 
 -- The span lies within the first bytes, as many as said.
 abbrev pub IsSpanWithin : ℕ → Span → Type 0

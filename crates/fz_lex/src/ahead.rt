@@ -1,12 +1,13 @@
 //! Reads the tokens of a source one by one, with no list of them.
 
 ghost use Rattle.std.specs.Prelude.{◌≡◌, ◌<◌, ◌∷◌, [], List, length, drop, IsOk, IfErr, IfSome, IfNone, OnOk};
-ghost use Rattle.fz_lex.specs.Limits.{most_bytes, LexesWithinLimits};
-ghost use Rattle.fz_lex.specs.Lexing.{SpannedToken};
-ghost use Rattle.fz_lex.specs.View.{spanned, IsLexicalFault, IsPlacedWithin};
+ghost use Rattle.std.specs.List.{AllByRecursion};
+ghost use Rattle.fz_lex.specs.Limits.{most_bytes, AreWithinLimit, LexesWithinLimits};
+ghost use Rattle.fz_lex.specs.Lexing.{SpannedToken, AreInOrder, LexesToSpanned};
+ghost use Rattle.fz_lex.specs.View.{spanned, IsSpelledAtSpan, IsLexicalFault, IsPlacedWithin};
 ghost use Rattle.fz_lex.specs.Ahead.{tokens_ahead};
 ghost use Rattle.fz_lex.specs.Found.{IsScanned, IsScanFault};
-ghost use Rattle.fz_lex.specs.Left.{left};
+ghost use Rattle.fz_lex.specs.Left.{left, source_of};
 
 use crate::error::SyntaxError;
 use crate::lexer::{Lexer, MOST_BYTES};
@@ -27,14 +28,14 @@ pub fn check_tokens(source: &[u8]) -> Result<(), SyntaxError>
     if source.len() > MOST_BYTES {
         return Err(SyntaxError::TooLong);
     }
-    scan(source)
+    scan(Lexer { source, place: 0 })
 }
 
-fn scan(source: &[u8]) -> Result<(), SyntaxError>
-    ensures found { OnOk result (IsScanned source.now) }
-    ensures refused { IfErr result (IsScanFault source.now) }
+/// Goes over the rest of a text.
+fn scan(mut lexer: Lexer<'_>) -> Result<(), SyntaxError>
+    ensures found { OnOk result (IsScanned lexer.entry.source.now) }
+    ensures refused { IfErr result (IsScanFault lexer.entry.source.now) }
 {
-    let mut lexer = Lexer { source, place: 0 };
     while let Some(_token) = lexer.next_token()? {}
     Ok(())
 }
@@ -49,7 +50,11 @@ pub struct Tokens<'a> {
 impl<'a> Tokens<'a> {
     /// All tokens of a text.
     pub fn new(source: &'a [u8]) -> Tokens<'a>
-        ensures { left result ≡ tokens_ahead source.now 0 }
+        ensures source { source_of result ≡ source.now }
+        ensures all { left result ≡ tokens_ahead source.now 0 }
+        // They stand in the source one behind the other, each with its text.
+        ensures in_order { AreInOrder 0 (length source.now) (left result) }
+        ensures spelled { AllByRecursion (IsSpelledAtSpan source.now) (left result) }
     {
         let lexer = Lexer { source, place: 0 };
         let mut tokens = Tokens { lexer, first: None };
@@ -60,6 +65,7 @@ impl<'a> Tokens<'a> {
     /// The first token that is left.
     #[inline]
     pub fn first(&self) -> Option<Token<'a>>
+        ensures is { result ≡ self.now.first }
         ensures none { IfNone result (left self.now ≡ []) }
         ensures some { IfSome result (λ t. left self.now ≡ spanned t ∷ drop 1 (left self.now)) }
     {
@@ -69,15 +75,33 @@ impl<'a> Tokens<'a> {
     /// Goes on behind the first token; where none is left, nothing changes.
     #[inline]
     pub fn advance(&mut self)
-        ensures { left self.new ≡ drop 1 (left self.old) }
+        ensures left { left self.new ≡ drop 1 (left self.old) }
+        ensures source { source_of self.new ≡ source_of self.old }
     {
         if self.first.is_some() {
             self.load();
         }
     }
 
+    /// Reads on to the end of the text, and tells whether the whole text consists of tokens, blanks and comments,
+    /// with numbers within the limit. It takes no memory.
+    ///
+    /// # Errors
+    /// The leftmost of `BadByte` and `TooLarge`, wherever it stands. No other error comes.
+    pub fn finish(self) -> Result<(), SyntaxError>
+        // The whole text lexes to the tokens ahead of its first byte, with numbers within the limit.
+        ensures lexes { OnOk result (LexesToSpanned (source_of self.entry) (tokens_ahead (source_of self.entry) 0)) }
+        ensures numbers { OnOk result (AreWithinLimit (tokens_ahead (source_of self.entry) 0)) }
+        ensures only { (tokens : List SpannedToken) → LexesWithinLimits (source_of self.entry) tokens → IsOk result }
+        ensures refused { IfErr result (IsLexicalFault (source_of self.entry)) }
+        ensures placed { IfErr result (IsPlacedWithin (length (source_of self.entry))) }
+    {
+        scan(self.lexer)
+    }
+
     fn load(&mut self)
-        ensures { left self.new ≡ tokens_ahead self.old.lexer.source.now self.old.lexer.place }
+        ensures left { left self.new ≡ tokens_ahead self.old.lexer.source.now self.old.lexer.place }
+        ensures source { source_of self.new ≡ source_of self.old }
     {
         self.first = self.lexer.next_token().unwrap_or(None);
     }

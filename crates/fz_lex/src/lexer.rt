@@ -5,6 +5,7 @@ ghost use Rattle.fz_lex.specs.Byte as bytes_spec;
 ghost use Rattle.fz_lex.specs.Limits.{most_bytes, LexesWithinLimits};
 ghost use Rattle.fz_lex.specs.Lexing.{SpannedToken, CutBetween, AreInOrder};
 ghost use Rattle.fz_lex.specs.View.{all_spanned, TextsAreSlices, IsLexicalFault, IsPlacedWithin};
+ghost use Rattle.fz_lex.specs.Ahead.{stop_ahead};
 ghost use Rattle.fz_lex.specs.Found.{NextFrom, FaultFrom, IsLexed};
 
 use crate::error::SyntaxError;
@@ -14,7 +15,7 @@ use fz_base::Span;
 use std::alloc::Global;
 
 /// The most bytes of a text that is read.
-pub(crate) const MOST_BYTES: usize = 16_777_216;
+pub const MOST_BYTES: usize = 16_777_216;
 
 /// The place up to which blanks and whole comments stand from a place on.
 fn gap_end(source: &[u8], from: usize) -> usize
@@ -43,6 +44,7 @@ pub(crate) struct Lexer<'a> {
     pub(crate) source: &'a [u8],
     pub(crate) place: usize,
     ghost within: { place ≤ length source.now },
+    ghost stop: { stop_ahead source.now place ≡ stop_ahead source.now 0 },
 }
 
 impl<'a> Lexer<'a> {

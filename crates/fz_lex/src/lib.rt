@@ -9,7 +9,7 @@ mod token;
 
 pub use ahead::{Tokens, check_tokens};
 pub use error::SyntaxError;
-pub use lexer::lex;
+pub use lexer::{MOST_BYTES, lex};
 pub use token::{Mark, Token, TokenKind};
 
 #[cfg(test)]

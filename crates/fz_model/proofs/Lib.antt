@@ -1,12 +1,12 @@
-mod Rows
-pub mod Values
-pub mod Lists
-pub mod Determined
-pub mod Steps
-pub mod Points
-pub mod Numbers
-pub mod Scope
-pub mod States
-pub mod Places
-pub mod NamedKinds
-pub mod Writing
+pub use Rattle.fz_meaning.proofs.Values
+pub use Rattle.fz_meaning.proofs.Lists
+pub use Rattle.fz_meaning.proofs.Determined
+pub use Rattle.fz_meaning.proofs.Steps
+pub use Rattle.fz_meaning.proofs.Points
+pub use Rattle.fz_meaning.proofs.Numbers
+pub use Rattle.fz_meaning.proofs.Scope
+pub use Rattle.fz_meaning.proofs.States
+pub use Rattle.fz_meaning.proofs.Places
+pub use Rattle.fz_meaning.proofs.NamedKinds
+pub use Rattle.fz_meaning.proofs.Writing
+pub use Rattle.fz_scope.proofs.Reading

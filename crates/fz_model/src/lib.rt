@@ -1,32 +1,14 @@
-//! What a FlatZinc model means: names, the table of builtins, points and their states, forced steps.
+//! Models of FlatZinc: names, kinds and lengths, and what they mean. The inner crates `fz_meaning`, `fz_table`, `fz_scope` and `fz_data`
+//! have the definitions, the table of builtins, the theory of faults, and the loaded model.
 #![tactic(auto)]
 
-mod error;
-mod kind;
-mod state;
-
-ghost use Rattle.fz_model.specs.Laws.{LocatedIsBare, NumbersAgree, StepsAreForced, UnknownIsNotKnown};
-
-pub use error::ModelError;
-pub use kind::Kind;
-pub use state::State;
-
-/// A forced step has one value only.
-pub fn steps_are_forced()
-    ensures { StepsAreForced }
-{}
-
-/// Names and places number the scalar variables alike.
-pub fn numbers_agree()
-    ensures { NumbersAgree }
-{}
-
-/// The state is unknown exactly where the constraint is not known.
-pub fn unknown_is_not_known()
-    ensures { UnknownIsNotKnown }
-{}
-
-/// The tree with its places, its places left out, is the parser's plain tree.
-pub fn located_is_bare()
-    ensures { LocatedIsBare }
-{}
+pub use fz_data::{
+    Argument, Array, ArrayName, ConstraintParts, Found, Goal, Model, Partial, Place, Point,
+    PointParts, Posted, Variable, What, load,
+};
+pub use fz_meaning::{
+    Domain, Kind, ModelError, State, Term, located_is_bare, numbers_agree, steps_are_forced,
+    unknown_is_not_known,
+};
+pub use fz_scope::sources_are_in_reading_order;
+pub use fz_table::{Builtin, Filled, Known, Shape};

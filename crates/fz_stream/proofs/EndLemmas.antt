@@ -1,8 +1,11 @@
 -- What the end of a line makes of what a splitter keeps.
-use Rattle.std.proofs.Common.{◌≡◌, ℕ, ◌-◌, Option, Some, None, List, [], ◌∷◌, ◌++◌, length, take, drop, refl, sym, ap, ◌∙◌, subst, inl, inr, ⊎_elim, length-append, arith}
+use Rattle.std.proofs.Common.{◌≡◌, ℕ, ◌+◌, ◌-◌, Option, Some, None, List, [], ◌∷◌, ◌++◌, length, take, drop, refl, sym, ap, ◌∙◌, subst, inl, inr, ⊎_elim, length-append, arith}
 use Rattle.std.proofs.lemmas.List.{take_at, drop_at, take_all}
 use Rattle.fz_syntax.specs.Tree.{Printed}
+use Rattle.fz_syntax.specs.Span.{Span}
 use Rattle.fz_syntax.proofs.Parsed.{none_text}
+use Rattle.fz_stream.specs.declared.error.StreamError.{StreamError}
+use Rattle.fz_stream.specs.declared.error.StreamError.TheVariants.{Unfinished}
 use Rattle.fz_stream.specs.declared.line.ClaimKind.{ClaimKind}
 use Rattle.fz_stream.specs.declared.line.LineKind.TheVariants.{Item as ItemLine}
 use Rattle.fz_stream.specs.declared.line.LineKind.{LineKind}
@@ -14,7 +17,9 @@ use Rattle.fz_stream.specs.Lines.{Line, joined, kind_of}
 use Rattle.fz_stream.specs.Parts.{BlockPart, ClaimPart, IsBlockText, HasDistinctNames, AreBlockLines}
 use Rattle.fz_stream.specs.Broken.{CannotFollow}
 use Rattle.fz_stream.specs.Step.{step_of, begun_of}
+use Rattle.fz_stream.specs.Telling.{TellsOfText}
 use Rattle.fz_stream.specs.Keeping.{HasLine, GoesOnHolding, EndsPart, BreaksBlock}
+use Rattle.fz_stream.proofs.FaultLemmas.{tells_before_marker}
 use Rattle.fz_stream.proofs.StepLemmas.{goes_none, goes_some, ends_marker, claims_claim, breaks_claim, begun_none, begun_some, opens_body, joins_body}
 
 module _ (h : Held) (body : List Line) (line : Line) (l : HasLine h body line) where
@@ -96,19 +101,26 @@ module _ (h : Held) (body : List Line) (line : Line) (l : HasLine h body line) w
     none_apart i j d l m e = omega (arith, m)
 
     -- the text before a marker is none of a block
-    pub breaks_block : (start : ℕ) → step_of (begun_of h.line h.before) at (kind_of line) ≡ EndsBlock start → ((items : List Printed) → IsBlockText (take h.line h.buffer.items) items → ⊥) → BreaksBlock body line
-    breaks_block start s none = by body refl
+    pub breaks_block : (start : ℕ) → step_of (begun_of h.line h.before) at (kind_of line) ≡ EndsBlock start → ((items : List Printed) → IsBlockText (take h.line h.buffer.items) items → ⊥)
+        → (e : StreamError) → TellsOfText h.before (take h.line h.buffer.items) e → BreaksBlock h.before body line e
+    breaks_block start s none fault told = by body refl
       where
-        by : (b : List Line) → body ≡ b → BreaksBlock body line
+        by : (b : List Line) → body ≡ b → BreaksBlock h.before body line fault
         by [] e = absurd (none [] (subst (λ t. IsBlockText t []) (sym (text_is ∙ ap joined e)) (none_text, none_apart)))
         by (first ∷ more) e = record {
           begun = λ none. (let no : first ∷ more ≡ [] = sym e ∙ none in cc);
           cannot = subst (CannotFollow (joined body)) (sym (ends_marker at (kind_of line) (begun_of h.line h.before) start s)) (λ items t. none items (subst (λ x. IsBlockText x items) (sym text_is) t));
+          tells = tells_before_marker h.before (joined body) (Some (kind_of line)) fault (ap Some (ends_marker at (kind_of line) (begun_of h.line h.before) start s))
+              (subst (λ t. TellsOfText h.before t fault) text_is told);
         }
 
     -- a claim stands in an open block
-    pub breaks_claim_in : (n : ℕ) → step_of (begun_of h.line h.before) at (kind_of line) ≡ Breaks n → BreaksBlock body line
-    breaks_claim_in n s =
+    pub breaks_claim_in : (n : ℕ) → step_of (begun_of h.line h.before) at (kind_of line) ≡ Breaks n → (span : Span) → span.start ≡ n → span.end ≡ h.before + h.line → BreaksBlock h.before body line (Unfinished span)
+    breaks_claim_in n s span from upto =
         let k = breaks_claim at (kind_of line) (begun_of h.line h.before) n s in
         let w = begun_some body h.line h.before n l.place k.1 in
-        record { begun = λ none. (let no : w.0.0 ∷ w.0.1 ≡ [] = sym w.0.2 ∙ none in cc); cannot = subst (CannotFollow (joined body)) (sym k.0.1) tt }
+        record {
+          begun = λ none. (let no : w.0.0 ∷ w.0.1 ≡ [] = sym w.0.2 ∙ none in cc);
+          cannot = subst (CannotFollow (joined body)) (sym k.0.1) tt;
+          tells = (k.0, from ∙ w.1, upto ∙ ap (λ (m : ℕ). h.before + m) l.place);
+        }

@@ -1,5 +1,5 @@
 -- What a refusal may be.
-use Rattle.std.proofs.Common.{◌≡◌, ◌≢◌, ℕ, ◌+◌, ◌≤◌, List, Err, Vec, Global, arith}
+use Rattle.std.proofs.Common.{◌≡◌, ◌≢◌, ℕ, ◌+◌, ◌≤◌, List, length, Option, Some, Err, Vec, Global, refl, arith}
 use Rattle.fz_syntax.specs.declared.tree.Printed.{Printed}
 use Rattle.fz_syntax.specs.Places.{IsPlacedWithin}
 use Rattle.fz_syntax.specs.SyntaxError.{SyntaxError}
@@ -10,7 +10,11 @@ use Rattle.fz_syntax.specs.View.{bare_items}
 use Rattle.fz_stream.specs.declared.error.StreamError.{StreamError}
 use Rattle.fz_stream.specs.declared.error.StreamError.TheVariants.{TooLong, Item, DuplicateName, Unfinished, Memory, Failed}
 use Rattle.fz_stream.specs.Faults.{IsStreamFault, IsFaultWithin}
-use Rattle.fz_stream.specs.Step.{IsBlockFault, IsLineFault, item_fault}
+use Rattle.fz_stream.specs.Moving.{item_fault}
+use Rattle.fz_stream.specs.Telling.{TellsOfText, TellsOf}
+use Rattle.fz_stream.specs.declared.line.LineKind.{LineKind}
+use Rattle.fz_stream.specs.declared.line.LineKind.TheVariants.{Marker}
+use Rattle.fz_stream.specs.Step.{IsBlockFault, IsLineFault}
 
 -- a fault of a line, or a limit, is a fault of a stream
 pub stream_fault : (e : StreamError) → (e ≢ TooLong → IsLineFault e) → IsStreamFault e
@@ -62,6 +66,26 @@ placed_fault offset n (Syntax span) h = (omega (arith, h.0), omega (arith, h.1))
 placed_fault offset n (TooDeep span) h = (omega (arith, h.0), omega (arith, h.1))
 placed_fault offset n (TooMany span) h = (omega (arith, h.0), omega (arith, h.1))
 placed_fault offset n TextMemory h = tt
+
+-- what a refusal of a text tells of it
+pub tells_text : (offset : ℕ) (text : List ℕ) (e : SyntaxError) → IsPlacedWithin (length text) e → TellsOfText offset text (item_fault offset e)
+tells_text offset text TextTooLong h = (TextTooLong, h, refl)
+tells_text offset text (BadByte span) h = (BadByte span, h, refl)
+tells_text offset text (TooLarge span) h = (TooLarge span, h, refl)
+tells_text offset text (Float span) h = (Float span, h, refl)
+tells_text offset text (Syntax span) h = (Syntax span, h, refl)
+tells_text offset text (TooDeep span) h = (TooDeep span, h, refl)
+tells_text offset text (TooMany span) h = (TooMany span, h, refl)
+tells_text offset text TextMemory h = tt
+
+-- what it tells where a marker stands behind the text
+pub tells_before_marker : (offset : ℕ) (text : List ℕ) (behind : Option LineKind) (e : StreamError) → behind ≡ Some Marker → TellsOfText offset text e → TellsOf offset text behind e
+tells_before_marker offset text behind TooLong marker h = h
+tells_before_marker offset text behind (Item f) marker h = (marker, h)
+tells_before_marker offset text behind (DuplicateName span) marker h = (marker, h)
+tells_before_marker offset text behind (Unfinished span) marker h = absurd h
+tells_before_marker offset text behind Memory marker h = tt
+tells_before_marker offset text behind Failed marker h = h
 
 -- what a text is refused as is a fault of a block, where the text isn't too long
 pub block_fault : (offset : ℕ) (e : SyntaxError) → e ≢ TextTooLong → IsBlockFault (item_fault offset e)

@@ -1,17 +1,19 @@
 -- What the end of a stream makes of what a splitter keeps.
 use Rattle.std.proofs.Common.{◌≡◌, ◌≢◌, ℕ, ◌+◌, ◌<◌, Option, Some, None, List, [], ◌∷◌, ◌++◌, length, take, refl, sym, ap, ◌∙◌, subst, ⊎_elim, append-nil, length-append, arith, Result, Ok, Err, IfOk, IfErr, IsSome, is_some, true, false}
+use Rattle.fz_syntax.specs.Span.{Span}
 use Rattle.fz_stream.specs.declared.held.Ended.{Ended}
 use Rattle.fz_stream.specs.declared.held.Held.{Held}
 use Rattle.fz_stream.specs.declared.error.StreamError.{StreamError}
-use Rattle.fz_stream.specs.declared.error.StreamError.TheVariants.{Memory}
+use Rattle.fz_stream.specs.declared.error.StreamError.TheVariants.{Memory, Unfinished}
 use Rattle.fz_stream.specs.declared.line.LineKind.TheVariants.{Blank, Item}
 use Rattle.fz_stream.specs.Lines.{Line, lines_of, joined, kind_of, HasNoFeed, IsFiller}
 use Rattle.fz_stream.specs.Parts.{StreamPart, AreBlockLines, AreLinesOfPart, GoesOnAfter, IsStreamText}
 use Rattle.fz_stream.specs.Broken.{IsBrokenAtEndAfter}
 use Rattle.fz_stream.specs.Keeping.{Keeps, HasLine, IsHeld, DropsLine, JoinsLine, GoesOnHolding, EndsPart, BreaksBlock, CanBeRead, EndsOpen, EndsStream}
-use Rattle.fz_stream.proofs.PartLemmas.{every_append, AreLinesOf-push}
+use Rattle.fz_stream.specs.Telling.{TellsOf}
+use Rattle.fz_stream.proofs.PartLemmas.{every_append, joined-append, joined_one, AreLinesOf-push}
 use Rattle.fz_stream.proofs.TakeLemmas.{ends_readable}
-use Rattle.fz_stream.proofs.SplitLemmas.{lines_after, goes_on_after, lines_of-begun, no_end}
+use Rattle.fz_stream.proofs.SplitLemmas.{lines_after, lines_of-begun, no_end}
 
 -- the current line isn't empty
 pub some_current : (h : Held) (i : IsHeld h) → h.line < length h.buffer.items → (first : ℕ) × (rest : List ℕ) × (i.current ≡ first ∷ rest)
@@ -43,9 +45,21 @@ open_at (l ∷ body) n e own =
     let some = filled l body own in
     ((λ z. absurd (omega (arith, z, e, some))), (λ z none. (let no : l ∷ body ≡ [] = none in cc)))
 
-module _ (bytes : List ℕ) (parts : List StreamPart) (h : Held) (i : IsHeld h) (k : Keeps bytes parts h.buffer.items) where
-  stands_at : GoesOnAfter bytes parts k.gap i.body (lines_of i.current)
-  stands_at = goes_on_after bytes parts h.buffer.items k i.body i.lines.whole i.lines.own i.current i.lines.bytes
+module _ (bytes : List ℕ) (parts : List StreamPart) (h : Held) (i : IsHeld h) (k : Keeps bytes parts h.buffer.items) (all : h.before + length h.buffer.items ≡ length bytes) where
+  -- where what is held begins
+  place : h.before ≡ length (joined k.covered) + length (joined k.gap)
+  place = omega (arith, all, ap length k.whole, length-append (joined k.covered) (joined k.gap ++ h.buffer.items), length-append (joined k.gap) h.buffer.items)
+
+  abbrev stands_with : (rest : List Line) → lines_of i.current ≡ rest → GoesOnAfter bytes parts k.gap i.body rest
+  stands_with rest e = record {
+    covers = record {
+      covered = k.covered;
+      whole = lines_after bytes parts h.buffer.items k i.body i.lines.whole i.lines.own i.current i.lines.bytes ∙ ap (λ l. k.covered ++ (k.gap ++ (i.body ++ l))) e;
+      of_parts = k.of_parts;
+    };
+    fillers = k.fillers;
+    own = i.lines.own;
+  }
 
   -- there is no current line
   pub ends_open_without : h.line ≡ length h.buffer.items → EndsOpen h bytes parts
@@ -54,9 +68,11 @@ module _ (bytes : List ℕ) (parts : List StreamPart) (h : Held) (i : IsHeld h) 
       record {
         gap = k.gap;
         body = i.body;
-        stands = subst (GoesOnAfter bytes parts k.gap i.body) (ap lines_of (no_current h i e)) stands_at;
+        stands = stands_with [] (ap lines_of (no_current h i e));
         none = open_is.0;
         some = open_is.1;
+        place = λ z. place;
+        size = λ z. sym e ∙ i.lines.place;
       }
 
   module _ (l : h.line < length h.buffer.items) where
@@ -65,12 +81,12 @@ module _ (bytes : List ℕ) (parts : List StreamPart) (h : Held) (i : IsHeld h) 
         let c = some_current h i l in
         ap lines_of c.2 ∙ lines_of-begun c.0 c.1 (subst HasNoFeed c.2 i.begun) ∙ ap (λ x. x ∷ []) (sym c.2)
 
-    stands : GoesOnAfter bytes parts k.gap i.body (i.current ∷ [])
-    stands = subst (GoesOnAfter bytes parts k.gap i.body) last_is stands_at
+    abbrev stands : GoesOnAfter bytes parts k.gap i.body (i.current ∷ [])
+    stands = stands_with (i.current ∷ []) last_is
 
     -- the last line ends nothing
-    pub ends_open : (new : Held) → GoesOnHolding h new i.body i.current → EndsOpen new bytes parts
-    ends_open new g = ⊎_elim dropped joined_to g
+    pub ends_open : (new : Held) → new.before + length new.buffer.items ≡ h.before + length h.buffer.items → GoesOnHolding h new i.body i.current → EndsOpen new bytes parts
+    ends_open new count g = ⊎_elim dropped joined_to g
       where
         dropped : DropsLine new i.body i.current → EndsOpen new bytes parts
         dropped d = record {
@@ -87,6 +103,8 @@ module _ (bytes : List ℕ) (parts : List StreamPart) (h : Held) (i : IsHeld h) 
           };
           none = λ z. refl;
           some = λ z. absurd (z d.line_is);
+          place = λ z. absurd (z d.line_is);
+          size = λ z. absurd (z d.line_is);
         }
 
         joined_to : JoinsLine h new i.body i.current → EndsOpen new bytes parts
@@ -104,6 +122,8 @@ module _ (bytes : List ℕ) (parts : List StreamPart) (h : Held) (i : IsHeld h) 
           };
           none = λ z. absurd (omega (arith, z, j.line_is, l));
           some = λ z none. nothing i.body none;
+          place = λ z. (let same = ap length j.same in let b = place in omega (arith, b, count, same));
+          size = λ z. ap length (j.same ∙ i.lines.bytes ∙ sym (joined-append i.body (i.current ∷ []) ∙ ap (λ l. joined i.body ++ l) (joined_one i.current)));
         }
           where
             nothing : (b : List Line) → b ++ i.current ∷ [] ≡ [] → ⊥
@@ -112,11 +132,11 @@ module _ (bytes : List ℕ) (parts : List StreamPart) (h : Held) (i : IsHeld h) 
 
     -- the last line ends a part
     pub ends_stream : (new : Held) (ended : Ended) → new.before + length new.buffer.items ≡ h.before + length h.buffer.items → new.buffer.items ≡ h.buffer.items → EndsPart new i.body i.current ended
-        → h.before + length h.buffer.items ≡ length bytes → EndsStream new bytes parts (Some ended)
-    ends_stream new ended count same e size =
-        let place : length (joined k.covered) + length (joined k.gap) ≡ new.before =
-        omega (arith, count, ap length same, size, ap length k.whole, length-append (joined k.covered) (joined k.gap ++ h.buffer.items), length-append (joined k.gap) h.buffer.items) in
-        let here = e.lines (length (joined k.covered)) k.gap k.fillers place in (
+        → EndsStream new bytes parts (Some ended)
+    ends_stream new ended count same e =
+        let place' : length (joined k.covered) + length (joined k.gap) ≡ new.before =
+        omega (arith, count, ap length same, place) in
+        let here = e.lines (length (joined k.covered)) k.gap k.fillers place' in (
           e.part,
           e.is,
           record {
@@ -133,8 +153,16 @@ module _ (bytes : List ℕ) (parts : List StreamPart) (h : Held) (i : IsHeld h) 
         )
 
     -- the last line can't stand there
-    pub ends_broken : BreaksBlock i.body i.current → IsBrokenAtEndAfter bytes parts
-    ends_broken b = record { gap = k.gap; body = i.body; rest = i.current ∷ []; stands = stands; begun = b.begun; breaks = (no_end i.current i.begun, b.cannot) }
+    pub ends_broken : (e : StreamError) → BreaksBlock h.before i.body i.current e → IsBrokenAtEndAfter bytes parts e
+    ends_broken e b = record {
+      gap = k.gap;
+      body = i.body;
+      rest = i.current ∷ [];
+      stands = stands;
+      begun = b.begun;
+      breaks = (no_end i.current i.begun, b.cannot);
+      tells = subst (λ n. TellsOf n (joined i.body) (Some (kind_of i.current)) e) place b.tells;
+    }
 
 -- no block is left open
 pub ends_text : (bytes : List ℕ) (parts : List StreamPart) (h : Held) → EndsOpen h bytes parts → h.line ≡ 0 → IsStreamText bytes parts
@@ -149,21 +177,30 @@ ends_text bytes parts h e z = record {
 }
 
 -- a block is left open
-pub ends_left_open : (bytes : List ℕ) (parts : List StreamPart) (h : Held) → EndsOpen h bytes parts → h.line ≢ 0 → IsBrokenAtEndAfter bytes parts
-ends_left_open bytes parts h e z = record { gap = e.gap; body = e.body; rest = []; stands = e.stands; begun = e.some z; breaks = tt }
+pub ends_left_open : (bytes : List ℕ) (parts : List StreamPart) (h : Held) → EndsOpen h bytes parts → h.line ≢ 0 → (span : Span) → span.start ≡ h.before → span.end ≡ h.before + length h.buffer.items
+    → IsBrokenAtEndAfter bytes parts (Unfinished span)
+ends_left_open bytes parts h e z span from upto = record {
+  gap = e.gap;
+  body = e.body;
+  rest = [];
+  stands = e.stands;
+  begun = e.some z;
+  breaks = tt;
+  tells = (tt, from ∙ e.place z, omega (arith, upto, e.place z, e.size z));
+}
 
 -- the same for what the end of the last line answers
 module _ (h new : Held) (i : IsHeld h) (l : h.line < length h.buffer.items) where
-  pub all_goes_on : (r : Result (Option Ended) StreamError) → IfOk r (λ r. r ≡ None → (body : List Line) (line : Line) → HasLine h body line → GoesOnHolding h new body line)
-      → IfOk r (λ r. r ≡ None → (bytes : List ℕ) (parts : List StreamPart) → Keeps bytes parts h.buffer.items → EndsOpen new bytes parts)
-  all_goes_on (Ok r) g = λ none bytes parts k. ends_open bytes parts h i k l new (g none i.body i.current i.lines)
-  all_goes_on (Err e) g = tt
+  pub all_goes_on : (r : Result (Option Ended) StreamError) → new.before + length new.buffer.items ≡ h.before + length h.buffer.items → IfOk r (λ r. r ≡ None → (body : List Line) (line : Line) → HasLine h body line → GoesOnHolding h new body line)
+      → IfOk r (λ r. r ≡ None → (bytes : List ℕ) (parts : List StreamPart) → Keeps bytes parts h.buffer.items → h.before + length h.buffer.items ≡ length bytes → EndsOpen new bytes parts)
+  all_goes_on (Ok r) count g = λ none bytes parts k size. ends_open bytes parts h i k size l new count (g none i.body i.current i.lines)
+  all_goes_on (Err e) count g = tt
 
   pub all_ends : (r : Result (Option Ended) StreamError) → new.before + length new.buffer.items ≡ h.before + length h.buffer.items
       → IfOk r (λ r. IsSome r → (new.buffer.items ≡ h.buffer.items) × (new.line ≡ h.line))
       → IfOk r (λ r. (ended : Ended) → r ≡ Some ended → (body : List Line) (line : Line) → HasLine h body line → EndsPart new body line ended)
       → IfOk r (λ r. (ended : Ended) → r ≡ Some ended → (bytes : List ℕ) (parts : List StreamPart) → Keeps bytes parts h.buffer.items → h.before + length h.buffer.items ≡ length bytes → EndsStream new bytes parts (Some ended))
-  all_ends (Ok r) count same g = λ ended is bytes parts k size. ends_stream bytes parts h i k l new ended count (same (ap is_some is)).0 (g ended is i.body i.current i.lines) size
+  all_ends (Ok r) count same g = λ ended is bytes parts k size. ends_stream bytes parts h i k size l new ended count (same (ap is_some is)).0 (g ended is i.body i.current i.lines)
   all_ends (Err e) count same g = tt
 
   pub all_readable : (r : Result (Option Ended) StreamError) → IfOk r (λ r. (ended : Ended) → r ≡ Some ended → (body : List Line) (line : Line) → HasLine h body line → EndsPart new body line ended)
@@ -172,17 +209,17 @@ module _ (h new : Held) (i : IsHeld h) (l : h.line < length h.buffer.items) wher
   all_readable (Ok (Some ended)) g = ends_readable new i.body i.current ended (g ended refl i.body i.current i.lines)
   all_readable (Err e) g = tt
 
-  pub all_broken : (r : Result (Option Ended) StreamError) → IfErr r (λ e. e ≢ Memory → (body : List Line) (line : Line) → HasLine h body line → BreaksBlock body line)
-      → IfErr r (λ e. e ≢ Memory → (bytes : List ℕ) (parts : List StreamPart) → Keeps bytes parts h.buffer.items → IsBrokenAtEndAfter bytes parts)
+  pub all_broken : (r : Result (Option Ended) StreamError) → IfErr r (λ e. e ≢ Memory → (body : List Line) (line : Line) → HasLine h body line → BreaksBlock h.before body line e)
+      → IfErr r (λ e. e ≢ Memory → (bytes : List ℕ) (parts : List StreamPart) → Keeps bytes parts h.buffer.items → h.before + length h.buffer.items ≡ length bytes → IsBrokenAtEndAfter bytes parts e)
   all_broken (Ok r) g = tt
-  all_broken (Err e) g = λ known bytes parts k. ends_broken bytes parts h i k l (g known i.body i.current i.lines)
+  all_broken (Err e) g = λ known bytes parts k size. ends_broken bytes parts h i k size l e (g known i.body i.current i.lines)
 
 -- what the end of the last line answers is what the stream ends with
 pub stream_ends : (h new : Held) (ended : Option Ended) → (ended ≡ None → new.line ≡ 0)
-    → (ended ≡ None → (bytes : List ℕ) (parts : List StreamPart) → Keeps bytes parts h.buffer.items → EndsOpen new bytes parts)
+    → (ended ≡ None → (bytes : List ℕ) (parts : List StreamPart) → Keeps bytes parts h.buffer.items → h.before + length h.buffer.items ≡ length bytes → EndsOpen new bytes parts)
     → ((e : Ended) → ended ≡ Some e → (bytes : List ℕ) (parts : List StreamPart) → Keeps bytes parts h.buffer.items → h.before + length h.buffer.items ≡ length bytes → EndsStream new bytes parts (Some e))
     → (bytes : List ℕ) (parts : List StreamPart) → Keeps bytes parts h.buffer.items → h.before + length h.buffer.items ≡ length bytes → EndsStream new bytes parts ended
-stream_ends h new None z open_ ends bytes parts k size = ends_text bytes parts new (open_ refl bytes parts k) (z refl)
+stream_ends h new None z open_ ends bytes parts k size = ends_text bytes parts new (open_ refl bytes parts k size) (z refl)
 stream_ends h new (Some e) z open_ ends bytes parts k size = ends e refl bytes parts k size
 
 pub none_from : (ended : Option Ended) → is_some ended ≡ false → ended ≡ None

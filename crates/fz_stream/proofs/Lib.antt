@@ -2,6 +2,7 @@ pub mod LineLemmas
 pub mod NameLemmas
 pub mod PartLemmas
 pub mod ReadingLemmas
+pub mod StopLemmas
 pub mod SoFar
 pub mod FoundLemmas
 pub mod SplitLemmas

@@ -1,6 +1,6 @@
 -- Names that are looked up among the names before them.
-use Rattle.std.proofs.Common.{◌≡◌, ◌≢◌, ℕ, ◌+◌, ◌<◌, Bool, true, false, List, [], ◌∷◌, ◌++◌, length, take, get_or, map, Bor, refl, sym, ap, ◌∙◌, subst, arith, cond}
-use Rattle.std.proofs.lemmas.List.{get_or-map, take_more, map_push, get_or-take, length-take, map_more, length-map}
+use Rattle.std.proofs.Common.{◌≡◌, ◌≢◌, ℕ, ◌+◌, ◌<◌, Bool, true, false, List, [], ◌∷◌, ◌++◌, length, take, drop, suc, get_or, map, Bor, refl, sym, ap, ◌∙◌, subst, arith, cond, take-append-drop, drop-cons}
+use Rattle.std.proofs.lemmas.List.{get_or-map, get_or_default, take_more, map_push, get_or-take, length-take, map_more, length-map}
 use Rattle.std.proofs.lemmas.List.Quantifiers.{all_pairs_push}
 use Rattle.std.proofs.lemmas.List.Folds.{Any-from_list_any, list_any-from_Any}
 use Rattle.std.proofs.lemmas.Slice.Eq.{bytes_eq-Decides}
@@ -12,6 +12,7 @@ use Rattle.fz_syntax.specs.declared.tree.Printed.{Printed as CodePrinted}
 use Rattle.fz_syntax.specs.Tree.{Printed}
 use Rattle.fz_syntax.specs.View.{bare_printed, bare_items}
 use Rattle.fz_stream.specs.Parts.{HasDistinctNames}
+use Rattle.fz_stream.specs.Telling.{PrintsAgain}
 
 abbrev pub text_of : CodePrinted → Bor (List ℕ)
 text_of p = p.name.text
@@ -77,3 +78,20 @@ module _ (ps : List CodePrinted) (i : ℕ) (p : CodePrinted) (is : p ≡ get_or 
 
   pub names_in : (new : List (Bor (List ℕ))) → list_any (same (text_of p)) ks ≡ false → new ≡ insert_key same ks (text_of p) → new ≡ map text_of (take (i + 1) ps)
   names_in new h e = e ∙ ap (λ l. insert_key same l (text_of p)) are ∙ ap (λ q. insert_key same (map text_of (take i ps)) (text_of q)) is ∙ names_more ps i p lt (as_read h)
+
+  -- a name that is found is printed again
+  pub prints_again : list_any (same (text_of p)) ks ≡ true → HasDistinctNames (bare_items (take i ps)) → PrintsAgain ps p
+  prints_again found distinct =
+      let w = Any-from_list_any (same (text_of p)) (map text_of (take i ps)) (ap (list_any (same (text_of p))) (sym are) ∙ found) in
+      let k : ℕ = w.0 in
+      let size : length (map text_of (take i ps)) ≡ length (take i ps) = length-map (take i ps) text_of in
+      let lt' : k < length (take i ps) = omega (arith, w.2, size) in
+      let q : CodePrinted = get_or (take i ps) k p in
+      let read : text_of q ≡ w.1 = sym (get_or-map text_of (take i ps) k p w.1 lt') ∙ w.3 in
+      record {
+        front = take i ps;
+        rest = drop (suc i) ps;
+        items_are = sym (take-append-drop i ps) ∙ ap (λ l. take i ps ++ l) (drop-cons ps i p lt ∙ ap (λ x. x ∷ drop (suc i) ps) (sym is));
+        distinct = distinct;
+        its_own = (k, q, lt', get_or_default (take i ps) k q p lt', ap (λ (b : Bor (List ℕ)). b.now) read ∙ sym ((bytes_eq-Decides _ _).0 w.4));
+      }

@@ -176,7 +176,7 @@ module _ (all : List Line) (line : Line) (rest : List Line) (begun : Option ℕ)
         (n.more, front, subst (λ s. EndAfter s rest n.more) size n.others));
   }
 
-  start_is : (b : List Line) → r.body ≡ b → (o : Option ℕ) → begun ≡ o → (start : ℕ) → step_of o place Marker ≡ EndsBlock start → start ≡ length (joined r.covered) + length (joined r.gap)
+  pub start_is : (b : List Line) → r.body ≡ b → (o : Option ℕ) → begun ≡ o → (start : ℕ) → step_of o place Marker ≡ EndsBlock start → start ≡ length (joined r.covered) + length (joined r.gap)
   start_is [] e None t start s = omega (arith, r.place_is, ap (λ l. length (joined l)) e, (let h : place ≡ start = cc in h))
   start_is (x ∷ b) e None t start s = absurd (let h : None ≡ Some (length (joined r.covered) + length (joined r.gap)) = sym t ∙ subst (λ l. Begins l (length (joined r.covered) + length (joined r.gap)) begun) e r.begins in cc)
   start_is [] e (Some n) t start s = absurd (let h : Some n ≡ None = sym t ∙ subst (λ l. Begins l (length (joined r.covered) + length (joined r.gap)) begun) e r.begins in cc)

@@ -2,6 +2,7 @@
 use Rattle.std.proofs.Common.{◌≡◌, ◌≢◌, ℕ, List, [], ◌∷◌, ◌++◌, refl, codes, arith, ap, ◌∙◌, reverse, get_or}
 use Rattle.std.proofs.lemmas.List.{reverse-append}
 use Rattle.fz_syntax.proofs.Parsed.{none_text}
+use Rattle.fz_stream.specs.declared.error.StreamError.TheVariants.{Unfinished}
 use Rattle.fz_stream.specs.declared.line.ClaimKind.TheVariants.{Complete, Unsatisfiable, Error, UnsatOrUnbounded}
 use Rattle.fz_stream.specs.declared.line.LineKind.TheVariants.{Blank, Comment, Marker, Claim, Item as ItemLine}
 use Rattle.fz_stream.specs.Lines.{Line, lines_of, kind_of}
@@ -96,7 +97,7 @@ no_line : (l : Line) (lines : List Line) → l ∷ lines ≡ [] → ⊥
 no_line l lines e = cc
 
 -- `x = 1;` and a claim without LF: broken at the end, and broken for good with its LF
-broken_at_end : IsBrokenAtEndAfter (codes "x = 1;" ++ (10 ∷ codes "==========")) []
+broken_at_end : IsBrokenAtEndAfter (codes "x = 1;" ++ (10 ∷ codes "==========")) [] (Unfinished (record { start = 0; end = 7 }))
 unfolding kind_of
 broken_at_end = record {
   gap = [];
@@ -105,9 +106,10 @@ broken_at_end = record {
   stands = record { covers = record { covered = []; whole = refl; of_parts = refl }; fillers = tt; own = (refl, tt) };
   begun = no_line _ _;
   breaks = ((λ h. (let e : reverse (codes "==========") ≡ 10 ∷ reverse h.0 = ap reverse h.2 ∙ reverse-append h.0 (10 ∷ []) in omega (arith, ap (λ l. get_or l 0 0) e))), tt);
+  tells = ((Complete, refl), refl, refl);
 }
 
-broken : IsBrokenAfter (codes "x = 1;" ++ (10 ∷ codes "==========" ++ 10 ∷ [])) []
+broken : IsBrokenAfter (codes "x = 1;" ++ (10 ∷ codes "==========" ++ 10 ∷ [])) [] (Unfinished (record { start = 0; end = 7 }))
 unfolding kind_of
 broken = record {
   gap = [];
@@ -118,6 +120,7 @@ broken = record {
   begun = no_line _ _;
   ends = (codes "==========", (sign, (sign, (sign, (sign, (sign, (sign, (sign, (sign, (sign, (sign, tt)))))))))), refl);
   breaks = tt;
+  tells = ((Complete, refl), refl, refl);
 }
   where
     sign : IsNoFeed 61

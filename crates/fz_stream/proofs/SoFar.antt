@@ -1,7 +1,10 @@
 -- What the loop of `blocks` keeps.
 use Rattle.std.proofs.Common.{◌≡◌, ℕ, ◌+◌, ◌-◌, ◌≤◌, Option, Some, None, List, [], ◌∷◌, ◌++◌, length, refl, sym, ap, ◌∙◌, subst, append-nil, arith, take, drop}
 use Rattle.std.proofs.lemmas.List.{drop-drop, drop_all, length-drop}
+use Rattle.fz_syntax.specs.Span.{Span}
 use Rattle.fz_syntax.specs.Tree.{Printed}
+use Rattle.fz_stream.specs.declared.error.StreamError.{StreamError}
+use Rattle.fz_stream.specs.declared.error.StreamError.TheVariants.{Unfinished}
 use Rattle.fz_stream.specs.declared.reading.Claim.{Claim as ClaimRead}
 use Rattle.fz_stream.specs.declared.line.ClaimKind.{ClaimKind}
 use Rattle.fz_stream.specs.declared.step.Step.TheVariants.{GoesOn, EndsBlock, Claims, Breaks}
@@ -9,7 +12,9 @@ use Rattle.fz_stream.specs.Lines.{Line, lines_of, kind_of}
 use Rattle.fz_stream.specs.Parts.{SolutionBlock, StreamPart, BlockPart, ClaimPart, IsBlockText, IsStreamText}
 use Rattle.fz_stream.specs.Found.{blocks_in, claims_in, IsReadAs}
 use Rattle.fz_stream.specs.Step.{step_of}
+use Rattle.fz_stream.specs.Telling.{TellsOfText, StopsAfter}
 use Rattle.fz_stream.proofs.PartLemmas.{stream_text, end_after}
+use Rattle.fz_stream.proofs.StopLemmas.{stops_at_marker, text_within, stops_at_claim, stops_at_end}
 use Rattle.fz_stream.proofs.LineLemmas.{joined-lines_of}
 use Rattle.fz_stream.proofs.ReadingLemmas.{Reading, start_reading, goes_on, ends_block, claims_one, claims_claim, no_block, no_claim, text_read, left_open, blocks_in-append, claims_in-append}
 
@@ -78,6 +83,17 @@ module _ (stream : List ℕ) (begun : Option ℕ) (at : ℕ) (blocks : List Solu
   pub so_far_no_claim : (n : ℕ) → step_of begun at (kind_of line) ≡ Breaks n → (parts : List StreamPart) → IsStreamText stream parts → ⊥
   so_far_no_claim n e parts t = no_claim _ _ _ _ _ _ now n e parts (end_after stream parts t)
 
+  pub so_far_stops_at_marker : (start : ℕ) → step_of begun at (kind_of line) ≡ EndsBlock start → ((items : List Printed) → IsBlockText (take (at - start) (drop start stream)) items → ⊥)
+      → (fault : StreamError) → TellsOfText start (take (at - start) (drop start stream)) fault → (parts : List StreamPart) × StopsAfter stream parts fault
+  so_far_stops_at_marker start e none fault told = stops_at_marker _ _ _ _ _ _ now (joined-lines_of stream) start e none fault told
+
+  pub so_far_text_within : (start : ℕ) → step_of begun at (kind_of line) ≡ EndsBlock start → (offset : ℕ) (text : List ℕ) → offset ≡ start → text ≡ take (at - start) (drop start stream)
+      → offset + length text ≤ length stream
+  so_far_text_within start e offset text from is = omega (arith, from, ap length is, text_within _ _ _ _ _ _ now s.within start e)
+
+  pub so_far_stops_at_claim : (n : ℕ) → step_of begun at (kind_of line) ≡ Breaks n → (span : Span) → span.start ≡ n → span.end ≡ at → (parts : List StreamPart) × StopsAfter stream parts (Unfinished span)
+  so_far_stops_at_claim n e span from upto = stops_at_claim _ _ _ _ _ _ now n e span from upto
+
 module _ (stream : List ℕ) (at : ℕ) (blocks : List SolutionBlock) (claims : List ClaimRead) (end : length stream ≤ at) where
   all_read : lines_of (drop at stream) ≡ []
   all_read = ap lines_of (drop_all at stream end)
@@ -97,3 +113,8 @@ module _ (stream : List ℕ) (at : ℕ) (blocks : List SolutionBlock) (claims : 
 
   pub so_far_open_at : (n : ℕ) → begun ≡ Some n → ReadSoFar stream begun at blocks claims → (parts : List StreamPart) → IsStreamText stream parts → ⊥
   so_far_open_at n e s = so_far_open stream at blocks claims end n (subst (λ b. ReadSoFar stream b at blocks claims) e s)
+
+  pub so_far_stops_at_end : (n : ℕ) → begun ≡ Some n → ReadSoFar stream begun at blocks claims → (span : Span) → span.start ≡ n → span.end ≡ length stream
+      → (parts : List StreamPart) × StopsAfter stream parts (Unfinished span)
+  so_far_stops_at_end n e s span from upto =
+      stops_at_end stream begun at s.parts (subst (λ l. Reading (lines_of stream) l begun at s.parts) (ap lines_of (drop_all at stream end)) s.reading) n e span from (omega (arith, upto, end, s.within))

@@ -1,5 +1,5 @@
 -- What a splitter may keep after a line, or a part of one.
-use Rattle.std.proofs.Common.{◌≡◌, ◌≢◌, ℕ, ◌+◌, List, [], ◌∷◌, ◌++◌, length, take, refl, sym, ap, ◌∙◌, subst, inl, inr, ◌⊎◌, ⊎_elim, zero, suc, ◌<◌, ◌-◌, length-append, append_assoc, append-nil, arith, cond, get_or}
+use Rattle.std.proofs.Common.{◌≡◌, ◌≢◌, ℕ, ◌+◌, List, [], ◌∷◌, ◌++◌, length, take, refl, sym, ap, ◌∙◌, subst, inl, inr, ◌⊎◌, ⊎_elim, zero, suc, ◌<◌, ◌-◌, length-append, append_assoc, append-nil, arith, cond, get_or, Some}
 use Rattle.std.proofs.lemmas.Bool.{ne_eqb, eq-eqb, cases_eq}
 use Rattle.std.proofs.lemmas.List.{get_or_at}
 use Rattle.std.specs.List.{AllByRecursion}
@@ -8,6 +8,8 @@ use Rattle.fz_stream.specs.Parts.{StreamPart, AreBlockLines, AreLinesOfPart, Are
 use Rattle.fz_stream.specs.Broken.{IsBrokenAfter, CannotFollow}
 use Rattle.fz_stream.specs.Splitting.{Holds}
 use Rattle.fz_stream.specs.Keeping.{Keeps}
+use Rattle.fz_stream.specs.Telling.{TellsOf}
+use Rattle.fz_stream.specs.declared.error.StreamError.{StreamError}
 use Rattle.fz_stream.proofs.LineLemmas.{joined-lines_of}
 use Rattle.fz_stream.proofs.PartLemmas.{every_append, every_left, every_right, joined-append, joined_one, AreLinesOf-push}
 
@@ -132,8 +134,9 @@ module _ (bytes : List ℕ) (parts : List StreamPart) (held : List ℕ) (h : Kee
         }
 
       -- the line can't follow the open block, whatever bytes follow it
-      pub breaks : body ≢ [] → CannotFollow (joined body) (kind_of line) → (rest : List ℕ) → IsBrokenAfter (bytes ++ (more ++ rest)) parts
-      breaks begun cannot rest = record {
+      pub breaks : body ≢ [] → CannotFollow (joined body) (kind_of line) → (fault : StreamError) → TellsOf (length (joined h.covered) + length (joined h.gap)) (joined body) (Some (kind_of line)) fault
+          → (rest : List ℕ) → IsBrokenAfter (bytes ++ (more ++ rest)) parts fault
+      breaks begun cannot fault tells rest = record {
         gap = h.gap;
         body = body;
         line = line;
@@ -142,6 +145,7 @@ module _ (bytes : List ℕ) (parts : List StreamPart) (held : List ℕ) (h : Kee
         begun = begun;
         ends = ends;
         breaks = cannot;
+        tells = tells;
       }
         where
           lines : lines_of (bytes ++ (more ++ rest)) ≡ h.covered ++ (h.gap ++ (body ++ (line ∷ lines_of rest)))

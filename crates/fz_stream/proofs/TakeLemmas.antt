@@ -6,10 +6,12 @@ use Rattle.fz_syntax.specs.Tree.{Printed}
 use Rattle.fz_stream.specs.declared.held.Ended.{Ended}
 use Rattle.fz_stream.specs.declared.held.Ended.TheVariants.{BlockEnded, ClaimEnded}
 use Rattle.fz_stream.specs.declared.held.Held.{Held}
-use Rattle.fz_stream.specs.Lines.{Line, lines_of, joined, HasNoFeed, EndsWithFeed}
+use Rattle.fz_stream.specs.declared.error.StreamError.{StreamError}
+use Rattle.fz_stream.specs.Lines.{Line, lines_of, joined, kind_of, HasNoFeed, EndsWithFeed}
 use Rattle.fz_stream.specs.Parts.{StreamPart, BlockPart, ClaimPart, IsBlockText, AreLinesOfPart, Covers}
 use Rattle.fz_stream.specs.Broken.{IsBrokenAfter}
 use Rattle.fz_stream.specs.Splitting.{PassesLimit}
+use Rattle.fz_stream.specs.Telling.{TellsOf}
 use Rattle.fz_stream.specs.Keeping.{Keeps, DropsLine, JoinsLine, HasLine, IsHeld, GoesOnHolding, EndsPart, BreaksBlock, CanBeRead, KeepsAll, TakesPart, EndedAs}
 use Rattle.fz_stream.proofs.PartLemmas.{every_append, joined-append, joined_one}
 use Rattle.fz_stream.proofs.SplitLemmas.{keeps_more, keeps_filler, holds_current, ends_part, keeps_nothing, breaks, first_cut, whole_from_last, begun_from_last, whole_joined, no_feed_before}
@@ -182,14 +184,28 @@ module _ (old now : Held) (piece : List ℕ) (at : ℕ) (t : Taking old now piec
           }
 
       -- the line can't stand there
-      pub takes_broken : BreaksBlock t.held.body (t.held.current ++ part) → (bytes : List ℕ) (parts : List StreamPart) → Keeps bytes parts old.buffer.items → IsBrokenAfter (bytes ++ piece) parts
-      takes_broken b bytes parts k =
+      pub takes_broken : (e : StreamError) → BreaksBlock now.before t.held.body (t.held.current ++ part) e → (bytes : List ℕ) (parts : List StreamPart) → Keeps bytes parts old.buffer.items
+          → old.before + length old.buffer.items ≡ length bytes → IsBrokenAfter (bytes ++ piece) parts e
+      takes_broken e b bytes parts k size =
           let h = t.keeps bytes parts k in
+          let place : now.before ≡ length (joined h.covered) + length (joined h.gap) =
+          omega (
+            arith,
+            t.count,
+            size,
+            ap length h.whole,
+            length-append bytes (take at piece),
+            length-take at piece,
+            t.within,
+            length-append (joined h.covered) (joined h.gap ++ now.buffer.items),
+            length-append (joined h.gap) now.buffer.items,
+          ) in
           let whole : (bytes ++ take at piece) ++ (part ++ drop (at + length part) piece) ≡ bytes ++ piece =
           sym (append_assoc (bytes ++ take at piece) part (drop (at + length part) piece)) ∙ ap (λ l. l ++ drop (at + length part) piece) (joined_next bytes)
           ∙ append_assoc bytes (take (at + length part) piece) (drop (at + length part) piece) ∙ ap (λ l. bytes ++ l) (take-append-drop (at + length part) piece) in
-          subst (λ l. IsBrokenAfter l parts) whole
-          (breaks (bytes ++ take at piece) parts now.buffer.items h t.held.body t.held.lines.whole t.held.lines.own part (t.held.current ++ part) bytes_mid ends_whole b.begun b.cannot (drop (at + length part) piece))
+          subst (λ l. IsBrokenAfter l parts e) whole
+          (breaks (bytes ++ take at piece) parts now.buffer.items h t.held.body t.held.lines.whole t.held.lines.own part (t.held.current ++ part) bytes_mid ends_whole b.begun b.cannot
+          e (subst (λ n. TellsOf n (joined t.held.body) (Some (kind_of (t.held.current ++ part))) e) place b.tells) (drop (at + length part) piece))
 
 -- what ended can be read
 pub ends_readable : (new : Held) (body : List Line) (line : Line) (ended : Ended) → EndsPart new body line ended → CanBeRead (Some ended) (take new.line new.buffer.items)

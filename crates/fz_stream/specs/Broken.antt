@@ -1,10 +1,12 @@
 -- Streams that no further bytes can mend (this project's profile).
-use Rattle.std.specs.Prelude.{◌≢◌, ℕ, List, [], ◌∷◌}
+use Rattle.std.specs.Prelude.{◌≢◌, ℕ, ◌+◌, List, [], ◌∷◌, length, Some}
 use Rattle.fz_syntax.specs.Tree.{Printed}
+use Rattle.fz_stream.specs.declared.error.StreamError.{StreamError}
 use Rattle.fz_stream.specs.declared.line.LineKind.{LineKind}
 use Rattle.fz_stream.specs.declared.line.LineKind.TheVariants.{Blank, Comment, Marker, Claim, Item}
 use Rattle.fz_stream.specs.Lines.{Line, joined, kind_of, EndsWithFeed}
 use Rattle.fz_stream.specs.Parts.{StreamPart, IsBlockText, GoesOnAfter}
+use Rattle.fz_stream.specs.Telling.{TellsOf, first_kind}
 
 -- A line of this kind can't follow an open block of this text: a claim, or a marker where the text isn't one of a block.
 abbrev pub CannotFollow : List ℕ → LineKind → Type 0
@@ -15,7 +17,8 @@ CannotFollow text Comment = ⊥
 CannotFollow text Item = ⊥
 
 -- The bytes are broken after the parts: a block is open, and then comes a line, which ends with LF and can't follow it.
-pub record IsBrokenAfter (bytes : List ℕ) (parts : List StreamPart) : Type 0 where
+-- The fault tells of both.
+pub record IsBrokenAfter (bytes : List ℕ) (parts : List StreamPart) (fault : StreamError) : Type 0 where
   pub gap : List Line
   pub body : List Line
   pub line : Line
@@ -24,6 +27,7 @@ pub record IsBrokenAfter (bytes : List ℕ) (parts : List StreamPart) : Type 0 w
   pub begun : body ≢ []
   pub ends : EndsWithFeed line
   pub breaks : CannotFollow (joined body) (kind_of line)
+  pub tells : TellsOf (length (joined stands.covers.covered) + length (joined gap)) (joined body) (Some (kind_of line)) fault
 
 -- what stands behind an open block of this text at the end of the stream: nothing, or a last line without LF that can't follow it
 abbrev pub CannotEnd : List ℕ → List Line → Type 0
@@ -31,11 +35,13 @@ CannotEnd text [] = Unit {0}
 CannotEnd text (line ∷ []) = (EndsWithFeed line → ⊥) × CannotFollow text (kind_of line)
 CannotEnd text (line ∷ next ∷ lines) = ⊥
 
--- The bytes are broken at their end after the parts: a block is open, and the stream ends there or with a line that can't follow it.
-pub record IsBrokenAtEndAfter (bytes : List ℕ) (parts : List StreamPart) : Type 0 where
+-- The bytes are broken at their end after the parts: a block is open, and the stream ends there or with a line that can't
+-- follow it. The fault tells of both.
+pub record IsBrokenAtEndAfter (bytes : List ℕ) (parts : List StreamPart) (fault : StreamError) : Type 0 where
   pub gap : List Line
   pub body : List Line
   pub rest : List Line
   pub stands : GoesOnAfter bytes parts gap body rest
   pub begun : body ≢ []
   pub breaks : CannotEnd (joined body) rest
+  pub tells : TellsOf (length (joined stands.covers.covered) + length (joined gap)) (joined body) (first_kind rest) fault

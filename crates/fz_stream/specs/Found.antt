@@ -16,6 +16,10 @@ block_of b = record { offset = b.offset; text = b.text.now; items = bare_items b
 abbrev pub HasPlaces : Block → Type 0
 HasPlaces b = Stand b.text.now 0 (length b.text.now) (item_spots b.items.items)
 
+-- the block's text ends within so many bytes of the stream
+abbrev pub EndsWithin : ℕ → Block → Type 0
+EndsWithin n b = b.offset + length b.text.now ≤ n
+
 -- the blocks among the parts
 abbrev pub blocks_in : List StreamPart → List SolutionBlock
 blocks_in [] = []

@@ -3,12 +3,14 @@
 use Rattle.std.specs.Prelude.{◌≡◌, ◌≢◌, ℕ, ◌+◌, List, [], ◌∷◌, ◌++◌, length, take, Option, Some, None, ◌⊎◌}
 use Rattle.std.specs.List.{AllByRecursion}
 use Rattle.fz_syntax.specs.Tree.{Printed}
+use Rattle.fz_stream.specs.declared.error.StreamError.{StreamError}
 use Rattle.fz_stream.specs.declared.held.Ended.{Ended}
 use Rattle.fz_stream.specs.declared.held.Ended.TheVariants.{BlockEnded, ClaimEnded}
 use Rattle.fz_stream.specs.declared.held.Held.{Held}
 use Rattle.fz_stream.specs.Lines.{Line, joined, kind_of, HasNoFeed, EndsWithFeed, IsFiller}
 use Rattle.fz_stream.specs.Parts.{StreamPart, BlockPart, ClaimPart, IsBlockText, AreBlockLines, AreLinesOfPart, AreLinesOf, Covers, IsStreamText, GoesOnAfter}
 use Rattle.fz_stream.specs.Broken.{CannotFollow}
+use Rattle.fz_stream.specs.Telling.{TellsOf}
 
 -- The bytes are the lines of the parts, then blank lines and comments, then the bytes held.
 pub record Keeps (bytes : List ℕ) (parts : List StreamPart) (held : List ℕ) : Type 0 where
@@ -63,10 +65,11 @@ pub record EndsPart (h : Held) (body : List Line) (line : Line) (ended : Ended) 
   pub is : EndedAs ended h.before (take h.line h.buffer.items) part
   pub lines : (start : ℕ) (gap : List Line) → AllByRecursion IsFiller gap → start + length (joined gap) ≡ h.before → AreLinesOfPart start (gap ++ (body ++ line ∷ [])) part
 
--- The line can't follow the open block.
-pub record BreaksBlock (body : List Line) (line : Line) : Type 0 where
+-- The line can't follow the open block, whose text begins at the offset, and the fault tells of both.
+pub record BreaksBlock (offset : ℕ) (body : List Line) (line : Line) (fault : StreamError) : Type 0 where
   pub begun : body ≢ []
   pub cannot : CannotFollow (joined body) (kind_of line)
+  pub tells : TellsOf offset (joined body) (Some (kind_of line)) fault
 
 -- a block that waits has a text that can be read
 abbrev pub CanBeRead : Option Ended → List ℕ → Type 0
@@ -94,6 +97,8 @@ pub record EndsOpen (h : Held) (bytes : List ℕ) (parts : List StreamPart) : Ty
   pub stands : GoesOnAfter bytes parts gap body []
   pub none : h.line ≡ 0 → body ≡ []
   pub some : h.line ≢ 0 → body ≢ []
+  pub place : h.line ≢ 0 → h.before ≡ length (joined stands.covers.covered) + length (joined gap)
+  pub size : h.line ≢ 0 → length h.buffer.items ≡ length (joined body)
 
 -- What stands at the end of the stream: the bytes are a text of the parts, and of one more where one ended.
 abbrev pub EndsStream : Held → List ℕ → List StreamPart → Option Ended → Type 0

@@ -1,7 +1,8 @@
 -- What a part that a splitter lends stands for.
+use Rattle.std.specs.Prelude.{ℕ}
 use Rattle.fz_stream.specs.declared.splitter.Part.{Part}
 use Rattle.fz_stream.specs.declared.splitter.Part.TheVariants.{Block, Claim}
-use Rattle.fz_stream.specs.Found.{block_of, HasPlaces}
+use Rattle.fz_stream.specs.Found.{block_of, HasPlaces, EndsWithin}
 use Rattle.fz_stream.specs.Parts.{StreamPart, BlockPart, ClaimPart}
 
 abbrev pub part_of : Part → StreamPart
@@ -12,3 +13,8 @@ part_of (Claim kind) = ClaimPart kind
 abbrev pub HasPlacesOfItems : Part → Type 0
 HasPlacesOfItems (Block block) = HasPlaces block
 HasPlacesOfItems (Claim kind) = Unit {0}
+
+-- of a block, its text ends within so many bytes of the stream
+abbrev pub PartEndsWithin : ℕ → Part → Type 0
+PartEndsWithin n (Block block) = EndsWithin n block
+PartEndsWithin n (Claim kind) = Unit {0}

@@ -1,7 +1,9 @@
 pub mod Lines
 pub mod Parts
-pub mod Broken
 pub mod Faults
+pub mod Moving
+pub mod Telling
+pub mod Broken
 pub mod Found
 pub mod Splitting
 pub mod Lending

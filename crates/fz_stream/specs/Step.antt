@@ -1,9 +1,6 @@
--- How one line changes what is open, and how a place in a block is one in the stream. It serves private functions alone:
--- a reader of the public contracts need not believe it.
-use Rattle.std.specs.Prelude.{ℕ, ◌+◌, Option, Some, None, if◌then◌else◌, ◌==◌}
-use Rattle.fz_syntax.specs.Span.{Span}
-use Rattle.fz_syntax.specs.SyntaxError.{SyntaxError}
-use Rattle.fz_syntax.specs.SyntaxError.TheVariants.{TooLong as TextTooLong, BadByte, TooLarge, Float, Syntax, TooDeep, TooMany, Memory as TextMemory}
+-- How one line changes what is open. It serves private functions alone: a reader of the public contracts need not
+-- believe it.
+use Rattle.std.specs.Prelude.{ℕ, Option, Some, None, if◌then◌else◌, ◌==◌}
 use Rattle.fz_stream.specs.declared.line.LineKind.{LineKind}
 use Rattle.fz_stream.specs.declared.line.LineKind.TheVariants.{Blank, Comment, Marker, Claim, Item}
 use Rattle.fz_stream.specs.declared.error.StreamError.{StreamError}
@@ -44,18 +41,3 @@ IsLineFault Failed = ⊥
 -- where the open block begins, whose whole lines have this length
 abbrev pub begun_of : ℕ → ℕ → Option ℕ
 begun_of line before = if line == 0 then None else Some before
-
--- a span of a text that begins at the offset, as one of the stream
-abbrev pub moved_span : ℕ → Span → Span
-moved_span offset span = record { start = offset + span.start; end = offset + span.end }
-
--- the fault of a text that begins at the offset
-abbrev pub item_fault : ℕ → SyntaxError → StreamError
-item_fault offset TextTooLong = OfItem TextTooLong
-item_fault offset (BadByte span) = OfItem (BadByte (moved_span offset span))
-item_fault offset (TooLarge span) = OfItem (TooLarge (moved_span offset span))
-item_fault offset (Float span) = OfItem (Float (moved_span offset span))
-item_fault offset (Syntax span) = OfItem (Syntax (moved_span offset span))
-item_fault offset (TooDeep span) = OfItem (TooDeep (moved_span offset span))
-item_fault offset (TooMany span) = OfItem (TooMany (moved_span offset span))
-item_fault offset TextMemory = Memory

@@ -1,4 +1,5 @@
-ghost use Rattle.std.specs.Prelude.{◌≡◌, ◌≢◌, ◌+◌, ◌≤◌, List, Any, length, IfOk, IfErr, IfSome, IfNone};
+ghost use Rattle.std.specs.Prelude.{◌≡◌, ◌≢◌, ◌+◌, ◌≤◌, List, length, IfOk, IfErr, IfSome, IfNone};
+ghost use Rattle.fz_syntax.specs.declared.tree.Printed.{Printed};
 ghost use Rattle.fz_syntax.specs.Limits.{most_bytes};
 ghost use Rattle.fz_syntax.specs.Tree.{Printed as PlainPrinted};
 ghost use Rattle.fz_syntax.specs.View.{bare_items};
@@ -6,6 +7,7 @@ ghost use Rattle.fz_stream.specs.Faults.{IsFaultWithin};
 ghost use Rattle.fz_stream.specs.Found.{HasPlaces};
 ghost use Rattle.fz_stream.specs.Parts.{IsBlockText, HasDistinctNames};
 ghost use Rattle.fz_stream.specs.Step.{IsBlockFault};
+ghost use Rattle.fz_stream.specs.Telling.{PrintsAgain, TellsOfText};
 
 use crate::error::{StreamError, item_fault, moved_span};
 use fz_syntax::{Printed, Span, read_items};
@@ -27,9 +29,9 @@ pub struct Block<'a> {
 fn repeated_name(alloc: Global, items: &[Printed<'_>]) -> Result<Option<Span>, AllocError>
     ensures none { IfOk result (λ found. IfNone found (HasDistinctNames (bare_items items.now))) }
     ensures some { IfOk result (λ found. IfSome found (λ _. HasDistinctNames (bare_items items.now) → ⊥)) }
-    ensures place { IfOk result (λ found. IfSome found (λ span. Any (λ p. p.name.span ≡ span) items.now)) }
+    ensures place { IfOk result (λ found. IfSome found (λ span. (again : Printed) × PrintsAgain items.now again × (span ≡ again.name.span))) }
 {
-    let mut names = IndexSet::new(alloc);
+    let mut names = IndexSet::with_capacity(alloc, items.len())?;
     for item in items {
         let (_, is_new) = names.insert_full(item.name.text)?;
         if !is_new {
@@ -55,6 +57,7 @@ pub fn read_block<'a>(
     ensures refused { IfErr result (λ e. e ≢ StreamError.Memory → (items : List PlainPrinted) → IsBlockText text.now items → ⊥) }
     ensures fault { IfErr result IsBlockFault }
     ensures place { IfErr result (IsFaultWithin (offset + length text.now)) }
+    ensures tells { IfErr result (TellsOfText offset text.now) }
 {
     let items = match read_items(alloc, text) {
         Ok(items) => items,

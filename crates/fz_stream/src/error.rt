@@ -1,6 +1,6 @@
 ghost use Rattle.std.specs.Prelude.{◌≡◌, ◌≤◌, ◌+◌, ◌-◌};
 ghost use Rattle.fz_syntax.specs.Places.{IsSpanWithin, IsPlacedWithin};
-ghost use Rattle.fz_stream.specs.Step.{moved_span, item_fault};
+ghost use Rattle.fz_stream.specs.Moving.{moved_span, item_fault};
 
 use fz_syntax::{Span, SyntaxError};
 use std::alloc::{AllocError, AllocFailed};
@@ -50,7 +50,8 @@ impl From<AllocError> for StreamError {
     }
 }
 
-/// The place in the stream of a place in a text that begins at the offset.
+/// The place in the stream of a place in a text that begins at the offset: both ends move by the
+/// offset. A block's items have their places in the block's text, which begins at `Block::offset`.
 pub fn moved_span(span: Span, offset: usize) -> Span
     requires { IsSpanWithin (usize.MAX - offset) span }
     ensures { result ≡ moved_span offset span }

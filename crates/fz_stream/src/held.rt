@@ -57,7 +57,7 @@ fn end_line(alloc: Global, held: &mut Held) -> Result<Option<Ended>, StreamError
     ensures goes_on { IfOk result (λ r. r ≡ None → (body : List Line) (line : Line) → HasLine held.old body line → GoesOnHolding held.old held.new body line) }
     ensures ends { IfOk result (λ r. (ended : Ended) → r ≡ Some ended → (body : List Line) (line : Line) → HasLine held.old body line → EndsPart held.new body line ended) }
     ensures same { IfOk result (λ r. IsSome r → (held.new.buffer.items ≡ held.old.buffer.items) × (held.new.line ≡ held.old.line)) }
-    ensures breaks { IfErr result (λ e. e ≢ StreamError.Memory → (body : List Line) (line : Line) → HasLine held.old body line → BreaksBlock body line) }
+    ensures breaks { IfErr result (λ e. e ≢ StreamError.Memory → (body : List Line) (line : Line) → HasLine held.old body line → BreaksBlock held.old.before body line e) }
     ensures fault { IfErr result IsLineFault }
     ensures place { IfErr result (IsFaultWithin (held.old.before + length held.old.buffer.items)) }
 {
@@ -122,7 +122,8 @@ pub fn take_bytes(
         held.old.before + length held.old.buffer.items ≡ length bytes → TakesPart held.new bytes (take r.0 piece.now) parts ended) }
     ensures readable { IfOk result (λ r. CanBeRead r.1 (take held.new.line held.new.buffer.items)) }
     ensures broken { IfErr result (λ e. e ≢ StreamError.Memory → e ≢ StreamError.TooLong →
-        (bytes : List ℕ) (parts : List StreamPart) → Keeps bytes parts held.old.buffer.items → IsBrokenAfter (bytes ++ piece.now) parts) }
+        (bytes : List ℕ) (parts : List StreamPart) → Keeps bytes parts held.old.buffer.items →
+        held.old.before + length held.old.buffer.items ≡ length bytes → IsBrokenAfter (bytes ++ piece.now) parts e) }
     ensures too_long { result ≡ Err StreamError.TooLong → (bytes : List ℕ) (parts : List StreamPart) → Keeps bytes parts held.old.buffer.items →
         held.old.before + length held.old.buffer.items ≡ length bytes → PassesLimit bytes piece.now parts }
     ensures fault { IfErr result (λ e. e ≢ StreamError.TooLong → IsLineFault e) }
@@ -138,7 +139,8 @@ pub fn take_bytes(
         }
         held.buffer.extend_from_slice(part)?;
         at += part.len();
-        if part[part.len() - 1] == b'\n' {
+        let is_whole = part[part.len() - 1] == b'\n';
+        if is_whole {
             if let Some(ended) = end_line(alloc, held)? {
                 return Ok((at, Some(ended)));
             }
@@ -156,11 +158,13 @@ fn end_last_line(alloc: Global, held: &mut Held) -> Result<Option<Ended>, Stream
     ensures line_after { held.new.line ≤ length held.new.buffer.items }
     ensures taken { held.new.before + length held.new.buffer.items ≡ held.old.before + length held.old.buffer.items }
     ensures shorter { length held.new.buffer.items ≤ length held.old.buffer.items }
-    ensures goes_on { IfOk result (λ r. r ≡ None → (bytes : List ℕ) (parts : List StreamPart) → Keeps bytes parts held.old.buffer.items → EndsOpen held.new bytes parts) }
+    ensures goes_on { IfOk result (λ r. r ≡ None → (bytes : List ℕ) (parts : List StreamPart) → Keeps bytes parts held.old.buffer.items →
+        held.old.before + length held.old.buffer.items ≡ length bytes → EndsOpen held.new bytes parts) }
     ensures ends { IfOk result (λ r. (ended : Ended) → r ≡ Some ended → (bytes : List ℕ) (parts : List StreamPart) → Keeps bytes parts held.old.buffer.items →
         held.old.before + length held.old.buffer.items ≡ length bytes → EndsStream held.new bytes parts (Some ended)) }
     ensures readable { IfOk result (λ r. CanBeRead r (take held.new.line held.new.buffer.items)) }
-    ensures broken { IfErr result (λ e. e ≢ StreamError.Memory → (bytes : List ℕ) (parts : List StreamPart) → Keeps bytes parts held.old.buffer.items → IsBrokenAtEndAfter bytes parts) }
+    ensures broken { IfErr result (λ e. e ≢ StreamError.Memory → (bytes : List ℕ) (parts : List StreamPart) → Keeps bytes parts held.old.buffer.items →
+        held.old.before + length held.old.buffer.items ≡ length bytes → IsBrokenAtEndAfter bytes parts e) }
     ensures fault { IfErr result IsLineFault }
     ensures place { IfErr result (IsFaultWithin (held.old.before + length held.old.buffer.items)) }
 {
@@ -182,12 +186,14 @@ pub fn end_stream(alloc: Global, held: &mut Held) -> Result<Option<Ended>, Strea
     ensures ends { IfOk result (λ r. (bytes : List ℕ) (parts : List StreamPart) → Keeps bytes parts held.old.buffer.items →
         held.old.before + length held.old.buffer.items ≡ length bytes → EndsStream held.new bytes parts r) }
     ensures readable { IfOk result (λ r. CanBeRead r (take held.new.line held.new.buffer.items)) }
-    ensures broken { IfErr result (λ e. e ≢ StreamError.Memory → (bytes : List ℕ) (parts : List StreamPart) → Keeps bytes parts held.old.buffer.items → IsBrokenAtEndAfter bytes parts) }
+    ensures broken { IfErr result (λ e. e ≢ StreamError.Memory → (bytes : List ℕ) (parts : List StreamPart) → Keeps bytes parts held.old.buffer.items →
+        held.old.before + length held.old.buffer.items ≡ length bytes → IsBrokenAtEndAfter bytes parts e) }
     ensures fault { IfErr result IsLineFault }
     ensures place { IfErr result (IsFaultWithin (held.old.before + length held.old.buffer.items)) }
 {
     let ended = end_last_line(alloc, held)?;
-    if ended.is_none() && held.line > 0 {
+    let is_open = held.line > 0;
+    if ended.is_none() && is_open {
         let start = held.before;
         let end = start + held.buffer.len();
         return Err(StreamError::Unfinished(Span { start, end }));

@@ -12,7 +12,7 @@ mod step;
 mod tests;
 
 pub use block::Block;
-pub use error::StreamError;
+pub use error::{StreamError, moved_span};
 pub use line::ClaimKind;
 pub use reading::{Claim, Stream, blocks};
 pub use splitter::{Part, Splitter};

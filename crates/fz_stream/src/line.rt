@@ -2,6 +2,8 @@ ghost use Rattle.std.specs.Prelude.{◌≡◌, reverse, ◌∷◌, length, ◌<�
 ghost use Rattle.fz_syntax.specs.Byte.{is_blank};
 ghost use Rattle.fz_stream.specs.Lines.{kind_of, lines_of, skip_blanks, trimmed};
 
+use memchr::memchr;
+
 /// What a solver may claim of its search.
 #[derive(Clone, Copy, Debug, PartialEq, Eq)]
 pub enum ClaimKind {
@@ -104,7 +106,7 @@ pub fn line_kind(line: &[u8]) -> LineKind
 fn feed_place(bytes: &[u8]) -> Option<usize>
     ensures { result ≡ position (λ b. b == 10) bytes.now }
 {
-    bytes.iter().position(|b| *b == b'\n')
+    memchr(b'\n', bytes)
 }
 
 /// The first line of what is left of a stream.

@@ -2,8 +2,9 @@ ghost use Rattle.std.specs.Prelude.{◌≡◌, ◌≢◌, List, map, length, vec
 ghost use Rattle.std.specs.List.{AllByRecursion};
 ghost use Rattle.fz_syntax.specs.Limits.{most_bytes};
 ghost use Rattle.fz_stream.specs.Faults.{IsStreamFault, IsFaultWithin};
-ghost use Rattle.fz_stream.specs.Found.{block_of, HasPlaces, IsReadAs, AreInOrder, StandsBeforeMarker};
+ghost use Rattle.fz_stream.specs.Found.{block_of, HasPlaces, EndsWithin, IsReadAs, AreInOrder, StandsBeforeMarker};
 ghost use Rattle.fz_stream.specs.Parts.{StreamPart, IsStreamText};
+ghost use Rattle.fz_stream.specs.Telling.{StopsAfter};
 
 use crate::block::{Block, read_block};
 use crate::error::StreamError;
@@ -39,11 +40,14 @@ pub fn blocks<'a>(alloc: Global, stream: &'a [u8]) -> Result<Stream<'a>, StreamE
     ensures before_markers { IfOk result (λ found. AllByRecursion (StandsBeforeMarker stream.now) (map block_of found.blocks.items)) }
     // Places in a block's items count from its text's first byte.
     ensures places { IfOk result (λ found. AllByRecursion HasPlaces found.blocks.items) }
+    ensures within { IfOk result (λ found. AllByRecursion (EndsWithin (length stream.now)) found.blocks.items) }
     ensures claims_in_order { IfOk result (λ found. AreInOrder 0 (vec_len found.blocks) found.claims.items) }
 
     ensures too_long { (result ≡ Err StreamError.TooLong) ↔ (most_bytes < length stream.now) }
     // All else is refused only where the bytes are a text of no parts.
     ensures refused { IfErr result (λ e. e ≢ StreamError.Memory → e ≢ StreamError.TooLong → (parts : List StreamPart) → IsStreamText stream.now parts → ⊥) }
+    // The fault is that of the first block that is broken: it tells of its text and what follows it.
+    ensures stops { IfErr result (λ e. e ≢ StreamError.Memory → e ≢ StreamError.TooLong → (parts : List StreamPart) × StopsAfter stream.now parts e) }
     ensures fault { IfErr result IsStreamFault }
     ensures place { IfErr result (IsFaultWithin (length stream.now)) }
 {

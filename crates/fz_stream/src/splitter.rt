@@ -50,7 +50,7 @@ impl Model for Splitter {
 
 impl Splitter {
     ghost use Rattle.fz_stream.specs.declared.splitter.Stage.TheVariants.{Running, Finished, Failed as FailedStage};
-    ghost use Rattle.fz_stream.specs.Lending.{part_of, HasPlacesOfItems};
+    ghost use Rattle.fz_stream.specs.Lending.{part_of, HasPlacesOfItems, PartEndsWithin};
 
     /// A splitter that has taken nothing.
     pub fn new(alloc: Global) -> Splitter
@@ -80,6 +80,7 @@ impl Splitter {
         ensures lent { IfOk result (λ part. Lends self.now.waits (option_map part_of part)) }
         ensures items { IfOk result (λ part. IfSome part (λ p. IsPartOfItems (part_of p))) }
         ensures places { IfOk result (λ part. IfSome part HasPlacesOfItems) }
+        ensures within { IfOk result (λ part. IfSome part (PartEndsWithin most_taken)) }
 
         // It is the last of the parts, whatever was taken before.
         ensures given { IfOk result (λ part. (bytes : List ℕ) (parts : List StreamPart) → Fits self.now bytes parts → IsSome part →
@@ -119,7 +120,7 @@ impl Splitter {
 
         // A fault comes only where no further bytes can mend the stream.
         ensures broken { IfErr result (λ e. e ≢ StreamError.Memory → e ≢ StreamError.TooLong → e ≢ StreamError.Failed →
-            (bytes : List ℕ) (parts : List StreamPart) → Fits self.old bytes parts → IsBrokenAfter (bytes ++ piece.now) parts) }
+            (bytes : List ℕ) (parts : List StreamPart) → Fits self.old bytes parts → IsBrokenAfter (bytes ++ piece.now) parts e) }
         ensures too_long { result ≡ Err StreamError.TooLong → (bytes : List ℕ) (parts : List StreamPart) → Fits self.old bytes parts → PassesLimit bytes piece.now parts }
         ensures failed { (result ≡ Err StreamError.Failed) ↔ (self.old.stage ≡ FailedStage) }
         ensures fault { IfErr result (λ e. e ≢ StreamError.Failed → IsStreamFault e) }
@@ -154,7 +155,7 @@ impl Splitter {
 
         // A fault comes only where the bytes that were taken are a text of no parts.
         ensures broken { IfErr result (λ e. e ≢ StreamError.Memory → e ≢ StreamError.Failed →
-            (bytes : List ℕ) (parts : List StreamPart) → Fits self.old bytes parts → IsBrokenAtEndAfter bytes parts) }
+            (bytes : List ℕ) (parts : List StreamPart) → Fits self.old bytes parts → IsBrokenAtEndAfter bytes parts e) }
         ensures not_too_long { result ≢ Err StreamError.TooLong }
         ensures failed { (result ≡ Err StreamError.Failed) ↔ (self.old.stage ≡ FailedStage) }
         ensures fault { IfErr result (λ e. e ≢ StreamError.Failed → IsStreamFault e) }
@@ -168,8 +169,8 @@ impl Splitter {
         drop_part(&mut self.held, self.ended);
         self.ended = None;
         match end_stream(self.alloc, &mut self.held) {
-            Ok(ended) => {
-                self.ended = ended;
+            Ok(last) => {
+                self.ended = last;
                 self.stage = Stage::Finished;
                 Ok(())
             }

@@ -3,7 +3,7 @@
 ghost use Rattle.std.specs.Prelude.{◌≢◌, OnOk};
 ghost use Rattle.fz_stream.specs.declared.splitter.Stage.TheVariants.{Finished};
 
-use crate::{ClaimKind, Part, Splitter, StreamError, blocks};
+use crate::{ClaimKind, Part, Splitter, StreamError, blocks, moved_span};
 use fz_syntax::{Span, SyntaxError};
 use std::alloc::{AllocError, Global};
 use std::test::Fail;
@@ -104,6 +104,9 @@ fn blocks_and_claims(rt: HostRuntime) -> Result<(), Fail> {
     let carriage = b" x = 1;\r\n\r\r\n----------\r\n\t==========\r\n";
     let statistics =
         b"%%%mzn-stat: a=1\nx = 4;\n% b\n\n----------\n%%%mzn-stat-end\nx = 9;\n----------";
+    let inside =
+        b"x = 4;\n%%%mzn-stat: b=2\n%%%mzn-stat-end\ny = 5;\n----------\n%%%mzn-stat: c=3\n----------\n";
+    let lone_carriage = b"x = 1;\ry = 2;\n\r----------\r\n\r% a\r----------\n==========\r";
     let claims = b"=====UNKNOWN=====\n\n=====UNBOUNDED=====\n=====UNSATorUNBOUNDED=====";
     let many_lines = b"q = array1d(1..2,\n[1,\n2]);\nx = 4; y = {1,3};\n----------\n==========";
     let table = [
@@ -123,6 +126,16 @@ fn blocks_and_claims(rt: HostRuntime) -> Result<(), Fail> {
             statistics.as_slice(),
             [(17, 12, 1), (56, 7, 1)].as_slice(),
             [].as_slice(),
+        ),
+        (
+            inside.as_slice(),
+            [(0, 47, 2), (75, 0, 0)].as_slice(),
+            [].as_slice(),
+        ),
+        (
+            lone_carriage.as_slice(),
+            [(0, 14, 2)].as_slice(),
+            [(1, ClaimKind::Complete)].as_slice(),
         ),
         (
             claims.as_slice(),
@@ -187,6 +200,22 @@ fn refused_streams(rt: HostRuntime) -> Result<(), Fail> {
             b"x = ?;\n----------",
             StreamError::Item(SyntaxError::BadByte(span(4, 5))),
         ),
+        (
+            b"x = 1;\r----------\n",
+            StreamError::Unfinished(span(0, 18)),
+        ),
+        (
+            b"x = 1;\r\n==========\r\n",
+            StreamError::Unfinished(span(0, 8)),
+        ),
+        (
+            b"----------\n\nx = 1.5;\n----------\n",
+            StreamError::Item(SyntaxError::Float(span(16, 19))),
+        ),
+        (
+            b"x = 1;\n----------\ny = 2; z = 3;\ny = 4; z = 5;\n----------\n",
+            StreamError::DuplicateName(span(32, 33)),
+        ),
         (twice, StreamError::DuplicateName(span(7, 8))),
         (later, StreamError::DuplicateName(span(11, 12))),
     ];
@@ -196,6 +225,12 @@ fn refused_streams(rt: HostRuntime) -> Result<(), Fail> {
         assert!(rt; cuts_agree(rt.alloc(), stream), "{want:?}");
     }
     Ok(())
+}
+
+#[test]
+fn moved_places(rt: HostRuntime) {
+    let place = Span { start: 4, end: 7 };
+    assert_eq!(rt; moved_span(place, 20), span(24, 27));
 }
 
 #[test]

@@ -10,6 +10,7 @@ pub mod NoteLaws
 pub mod ItemLaws
 pub mod NoteAgain
 pub mod Whole
+pub mod Words
 pub mod Parsed
 pub mod Rows
 pub mod ItemAgain

@@ -1,5 +1,5 @@
 -- All of the tokens: what is read of them is of the grammar, spelled by them, and only that.
-use Rattle.std.proofs.Common.{◌≡◌, ◌∙◌, ◌<◌, List, [], ◌∷◌, length, Result, Ok, Err, ap, arith}
+use Rattle.std.proofs.Common.{ℕ, ◌≡◌, ◌∙◌, ◌<◌, List, [], ◌∷◌, length, Result, Ok, Err, ap, arith}
 use Rattle.std.specs.Prelude.{IfOk}
 use Rattle.std.proofs.lemmas.List.{append-nil}
 use Rattle.fz_lex.specs.declared.error.SyntaxError.{SyntaxError}
@@ -9,7 +9,11 @@ use Rattle.fz_syntax.specs.declared.parser.refusal.Refusal.TheVariants as refusa
 use Rattle.fz_lex.specs.Token.{TokenValue}
 use Rattle.fz_syntax.specs.Reading.{Fault, FaultKind, Read, Syntax, Float, TooDeep, TooMany, Reader, ended, whole}
 use Rattle.fz_syntax.specs.Outcome.{IsFault, IsWhole, IsRefusal, IsErrorOf, Fails, unexpected_kind}
-use Rattle.fz_syntax.specs.Text.{IsValue}
+use Rattle.fz_base.specs.declared.span.Span.{Span}
+use Rattle.fz_lex.specs.Lexing.{SpannedToken}
+use Rattle.fz_lex.specs.Limits.{LexesWithinLimits}
+use Rattle.fz_lex.specs.View.{IsLexicalFault}
+use Rattle.fz_syntax.specs.Text.{IsValue, IsRefusalOf}
 use Rattle.fz_syntax.proofs.ListLaws.{Takes}
 
 fault_of : {X A : Type 0} (view : X → A) (e : SyntaxError) (f : Fault) (read : Result A Fault) → read ≡ Err f → IsFault e f.kind → IsWhole view (Err e) read
@@ -107,3 +111,37 @@ not_too_long view (Err (errors.Float p)) read h e = absurd cc
 not_too_long view (Err (errors.Syntax p)) read h e = absurd cc
 not_too_long view (Err (errors.TooDeep p)) read h e = absurd cc
 not_too_long view (Err (errors.TooMany p)) read h e = absurd cc
+
+byte_none : (p : Span) (k : FaultKind) → IsFault (errors.BadByte p) k → ⊥
+byte_none p Syntax h = h
+byte_none p Float h = h
+byte_none p TooDeep h = h
+byte_none p TooMany h = h
+
+large_none : (p : Span) (k : FaultKind) → IsFault (errors.TooLarge p) k → ⊥
+large_none p Syntax h = h
+large_none p Float h = h
+large_none p TooDeep h = h
+large_none p TooMany h = h
+
+-- the grammar finds its own faults alone, and here the source lexes
+pub grammar_refuses : {X A : Type 0} (view : X → A) (source : List ℕ) (e : SyntaxError) (read : Result A Fault) (tokens : List SpannedToken) → LexesWithinLimits source tokens → IsWhole view (Err e) read → IsRefusalOf source e
+grammar_refuses view source errors.Memory read tokens lexed h = tt
+grammar_refuses view source errors.TooLong read tokens lexed h = absurd (errors_none h.0.kind h.2)
+grammar_refuses view source (errors.BadByte p) read tokens lexed h = absurd (byte_none p h.0.kind h.2)
+grammar_refuses view source (errors.TooLarge p) read tokens lexed h = absurd (large_none p h.0.kind h.2)
+grammar_refuses view source (errors.Float p) read tokens lexed h = (tokens, lexed)
+grammar_refuses view source (errors.Syntax p) read tokens lexed h = (tokens, lexed)
+grammar_refuses view source (errors.TooDeep p) read tokens lexed h = (tokens, lexed)
+grammar_refuses view source (errors.TooMany p) read tokens lexed h = (tokens, lexed)
+
+-- the lexer finds its own
+pub lexer_refuses : (source : List ℕ) (e : SyntaxError) → IsLexicalFault source e → IsRefusalOf source e
+lexer_refuses source errors.Memory f = tt
+lexer_refuses source errors.TooLong f = f
+lexer_refuses source (errors.BadByte p) f = f
+lexer_refuses source (errors.TooLarge p) f = f
+lexer_refuses source (errors.Float p) f = absurd f
+lexer_refuses source (errors.Syntax p) f = absurd f
+lexer_refuses source (errors.TooDeep p) f = absurd f
+lexer_refuses source (errors.TooMany p) f = absurd f

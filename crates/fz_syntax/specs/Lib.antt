@@ -9,6 +9,7 @@ pub mod Reading
 pub mod ReadingItems
 pub mod Outcome
 pub mod Walk
+pub mod Words
 pub use Rattle.fz_lex.specs.Byte
 pub use Rattle.fz_lex.specs.Token
 pub use Rattle.fz_lex.specs.Lexing

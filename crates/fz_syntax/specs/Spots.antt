@@ -1,6 +1,6 @@
 -- Where the names and literals of a tree stand in its source, in the order of reading. A place counts bytes from 0.
 -- (This project's profile.)
-use Rattle.std.specs.Prelude.{◌≡◌, ◌≤◌, ℕ, List, [], ◌∷◌, ◌++◌, Option, Some, None, IfSome, slice_range}
+use Rattle.std.specs.Prelude.{◌≡◌, ◌≤◌, ◌<◌, ℕ, List, [], ◌∷◌, ◌++◌, Option, Some, None, IfSome, slice_range}
 use Rattle.std.specs.List.{flat_map}
 use Rattle.fz_syntax.specs.declared.tree.Literal.{Literal}
 use Rattle.fz_syntax.specs.declared.tree.Name.{Name}
@@ -33,11 +33,11 @@ pub record Spot : Type 0 where
   pub end : ℕ
   pub text : Option (List ℕ)
 
--- From one place of the source up to another stand the spots, one behind the other, and the text of each name is
+-- From one place of the source up to another stand the spots, none of them empty, one behind the other, and the text of each name is
 -- the slice of the source where it stands.
 abbrev pub Stand : (source : List ℕ) → ℕ → ℕ → List Spot → Type 0
 Stand source from upto [] = from ≤ upto
-Stand source from upto (s ∷ spots) = (from ≤ s.start) × (s.start ≤ s.end) × IfSome s.text (λ text. text ≡ slice_range source s.start s.end) × Stand source s.end upto spots
+Stand source from upto (s ∷ spots) = (from ≤ s.start) × (s.start < s.end) × IfSome s.text (λ text. text ≡ slice_range source s.start s.end) × Stand source s.end upto spots
 
 -- ---- expressions
 

@@ -1,8 +1,10 @@
 -- Texts of a tree and of printed items, and what a call that reads them answers.
 -- (MiniZinc Handbook, FlatZinc grammar; the limits are this project's profile.)
-use Rattle.std.specs.Prelude.{◌≡◌, ℕ, List, Result, Ok, Err}
+use Rattle.std.specs.Prelude.{◌≡◌, ◌<◌, ℕ, List, length, Result, Ok, Err}
 use Rattle.std.specs.List.{AllByRecursion}
-use Rattle.fz_lex.specs.Limits.{IsTextOfTokens}
+use Rattle.fz_lex.specs.Lexing.{SpannedToken}
+use Rattle.fz_lex.specs.Limits.{most_bytes, LexesWithinLimits, IsTextOfTokens}
+use Rattle.fz_lex.specs.View.{IsLexicalFault}
 use Rattle.fz_lex.specs.declared.error.SyntaxError.{SyntaxError}
 use Rattle.fz_lex.specs.declared.error.SyntaxError.TheVariants as errors
 use Rattle.fz_syntax.specs.Tree.{Tree, Printed}
@@ -24,3 +26,15 @@ abbrev pub IsValue : {X A : Type 0} → (X → A) → Result X SyntaxError → A
 IsValue view (Ok x) value = view x ≡ value
 IsValue view (Err errors.Memory) value = Unit {0}
 IsValue view (Err _) value = ⊥
+
+-- What a refusal tells of the source. One by the lexer, which comes first, is its leftmost lexical fault; one by the
+-- grammar comes only of a source that lexes within the limits. (The order is this project's profile.)
+abbrev pub IsRefusalOf : List ℕ → SyntaxError → Type 0
+IsRefusalOf source errors.TooLong = most_bytes < length source
+IsRefusalOf source (errors.BadByte span) = IsLexicalFault source (errors.BadByte span)
+IsRefusalOf source (errors.TooLarge span) = IsLexicalFault source (errors.TooLarge span)
+IsRefusalOf source (errors.Float span) = (tokens : List SpannedToken) × LexesWithinLimits source tokens
+IsRefusalOf source (errors.Syntax span) = (tokens : List SpannedToken) × LexesWithinLimits source tokens
+IsRefusalOf source (errors.TooDeep span) = (tokens : List SpannedToken) × LexesWithinLimits source tokens
+IsRefusalOf source (errors.TooMany span) = (tokens : List SpannedToken) × LexesWithinLimits source tokens
+IsRefusalOf source errors.Memory = Unit {0}

@@ -37,9 +37,6 @@ use Rattle.fz_syntax.specs.declared.tree.NoteArg.TheOpen.{NoteArg-F, NoteBasic-F
 abbrev pub lexeme : Token → TokenValue
 lexeme t = token_value t.kind t.text.now
 
-abbrev pub lexemes : List Token → List TokenValue
-lexemes ts = map lexeme ts
-
 -- ---- expressions
 
 abbrev pub bare_literal_kind : LiteralKind → tree.Literal

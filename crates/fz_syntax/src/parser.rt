@@ -1,13 +1,13 @@
 //! From tokens to a tree, by recursive descent.
 
 ghost use Rattle.std.specs.Prelude.{ℕ, ◌≡◌, ◌<◌, ◌↔◌, length, List, [], IfOk, IfErr, MatchResult, Err};
-ghost use Rattle.std.specs.List.{All, AllByRecursion};
-ghost use Rattle.fz_lex.specs.Lexing.{AreInOrder};
-ghost use Rattle.fz_lex.specs.View.{IsSpanWithin, IsPlacedWithin, TextsAreSlices, all_spanned};
+ghost use Rattle.std.specs.List.{AllByRecursion};
+ghost use Rattle.fz_lex.specs.View.{IsPlacedWithin};
+ghost use Rattle.fz_syntax.specs.Walk.{Walk, lexemes};
 ghost use Rattle.fz_syntax.specs.Spots.{Stand, spots, item_spots};
-ghost use Rattle.fz_syntax.specs.View.{lexemes, bare, bare_items};
+ghost use Rattle.fz_syntax.specs.View.{bare, bare_items};
 ghost use Rattle.fz_syntax.specs.Outcome.{IsWhole};
-ghost use Rattle.fz_syntax.specs.Text.{IsTextOfTree, IsTextOfItems, IsValue};
+ghost use Rattle.fz_syntax.specs.Text.{IsTextOfTree, IsTextOfItems, IsValue, IsRefusalOf};
 ghost use Rattle.fz_syntax.specs.Reading.{tree_of};
 ghost use Rattle.fz_syntax.specs.ReadingItems.{items_of};
 ghost use Rattle.fz_syntax.specs.Tokens.{toks, itoks};
@@ -21,6 +21,7 @@ mod cursor;
 mod expressions;
 mod items;
 mod kinds;
+mod lists;
 mod printed;
 mod refusal;
 mod types;
@@ -28,25 +29,19 @@ mod whole;
 
 use crate::parser::cursor::Parser;
 use crate::tree::{Ast, Printed};
-use fz_lex::{SyntaxError, Token, lex};
+use fz_lex::{MOST_BYTES, SyntaxError, check_tokens};
 use std::alloc::Global;
 
+/// The tree that the tokens are that are left, up to the end of the source or its first lexical fault.
 #[tactic(auto, unfolding(crate::specs::Reading::tree_of, crate::specs::Reading::ended))]
-fn read_all<'a>(alloc: Global, tokens: &[Token<'a>], end: usize) -> Result<Ast<'a>, SyntaxError>
-    requires { All (λ t. IsSpanWithin end t.span) tokens.now }
-    ensures whole { IsWhole bare result (tree_of the_limits (lexemes tokens.now)) }
-    ensures placed { IfErr result (IsPlacedWithin end) }
-    ensures stands { IfOk result (λ a. (source : List ℕ) → AreInOrder 0 (length source) (all_spanned tokens.now) → TextsAreSlices source tokens.now → Stand source 0 (length source) (spots a)) }
+fn read_all<'a>(parser: &mut Parser<'a>) -> Result<Ast<'a>, SyntaxError>
+    ensures whole { IsWhole bare result (tree_of the_limits (lexemes parser.old)) }
+    ensures placed { IfErr result (IsPlacedWithin parser.old.end) }
+    ensures walked { IfOk result (λ a. Walk parser.old parser.new (spots a)) }
 {
-    let mut parser = Parser {
-        alloc,
-        tokens,
-        reached: 0,
-        end,
-    };
     match parser.tree() {
         Ok(ast) => {
-            if parser.tokens.is_empty() {
+            if parser.tokens.first().is_none() {
                 Ok(ast)
             } else {
                 Err(parser.refused(parser.unexpected()))
@@ -56,43 +51,16 @@ fn read_all<'a>(alloc: Global, tokens: &[Token<'a>], end: usize) -> Result<Ast<'
     }
 }
 
-/// The tree that the tokens of a source are; the source has `end` bytes.
-fn parse_tokens<'a>(alloc: Global, tokens: &[Token<'a>], end: usize) -> Result<Ast<'a>, SyntaxError>
-    requires { All (λ t. IsSpanWithin end t.span) tokens.now }
-    // What is read is a tree of the grammar, and these are its tokens.
-    ensures found { IfOk result (λ a. HasShape the_limits (bare a) × (lexemes tokens.now ≡ toks (bare a))) }
-
-    // A tree of the grammar that has these tokens is the one given, unless memory runs out.
-    ensures only { (t : tree.Tree) → HasShape the_limits t → lexemes tokens.now ≡ toks t → IsValue bare result t }
-
-    // Which fault it is.
-    ensures exact { IsWhole bare result (tree_of the_limits (lexemes tokens.now)) }
-    ensures placed { IfErr result (IsPlacedWithin end) }
-    ensures stands { IfOk result (λ a. (source : List ℕ) → AreInOrder 0 (length source) (all_spanned tokens.now) → TextsAreSlices source tokens.now → Stand source 0 (length source) (spots a)) }
-{
-    read_all(alloc, tokens, end)
-}
-
+/// The printed items that the tokens are that are left.
 #[tactic(auto, unfolding(crate::specs::ReadingItems::items_of, crate::specs::ReadingItems::items_at, crate::specs::Reading::ended))]
-fn read_all_items<'a>(
-    alloc: Global,
-    tokens: &[Token<'a>],
-    end: usize,
-) -> Result<Vec<Printed<'a>>, SyntaxError>
-    requires { All (λ t. IsSpanWithin end t.span) tokens.now }
-    ensures whole { IsWhole (λ v. bare_items v.items) result (items_of the_limits (lexemes tokens.now)) }
-    ensures placed { IfErr result (IsPlacedWithin end) }
-    ensures stands { IfOk result (λ a. (source : List ℕ) → AreInOrder 0 (length source) (all_spanned tokens.now) → TextsAreSlices source tokens.now → Stand source 0 (length source) (item_spots a.items)) }
+fn read_all_items<'a>(parser: &mut Parser<'a>) -> Result<Vec<Printed<'a>>, SyntaxError>
+    ensures whole { IsWhole (λ v. bare_items v.items) result (items_of the_limits (lexemes parser.old)) }
+    ensures placed { IfErr result (IsPlacedWithin parser.old.end) }
+    ensures walked { IfOk result (λ v. Walk parser.old parser.new (item_spots v.items)) }
 {
-    let mut parser = Parser {
-        alloc,
-        tokens,
-        reached: 0,
-        end,
-    };
     match parser.printed_items() {
         Ok(items) => {
-            if parser.tokens.is_empty() {
+            if parser.tokens.first().is_none() {
                 Ok(items)
             } else {
                 Err(parser.refused(parser.unexpected()))
@@ -102,28 +70,14 @@ fn read_all_items<'a>(
     }
 }
 
-/// The printed items that the tokens of a source are; the source has `end` bytes.
-fn parse_items<'a>(
-    alloc: Global,
-    tokens: &[Token<'a>],
-    end: usize,
-) -> Result<Vec<Printed<'a>>, SyntaxError>
-    requires { All (λ t. IsSpanWithin end t.span) tokens.now }
-    ensures found { IfOk result (λ v. AllByRecursion (IsPrinted the_limits) (bare_items v.items) × (lexemes tokens.now ≡ itoks (bare_items v.items))) }
-    ensures only { (items : List tree.Printed) → AllByRecursion (IsPrinted the_limits) items → lexemes tokens.now ≡ itoks items → IsValue (λ v. bare_items v.items) result items }
-    ensures exact { IsWhole (λ v. bare_items v.items) result (items_of the_limits (lexemes tokens.now)) }
-    ensures placed { IfErr result (IsPlacedWithin end) }
-    ensures stands { IfOk result (λ a. (source : List ℕ) → AreInOrder 0 (length source) (all_spanned tokens.now) → TextsAreSlices source tokens.now → Stand source 0 (length source) (item_spots a.items)) }
-{
-    read_all_items(alloc, tokens, end)
-}
-
 /// The tree of which the bytes are a text, by the grammar of FlatZinc. Its names and texts are slices of the source.
+///
+/// The tokens are pulled one by one, so that the tree alone takes memory.
 ///
 /// `TooLong`: the source has more than 16,777,216 bytes. `BadByte` and `TooLarge`, which the lexer finds, come next,
 /// from the whole source. `Float`, `Syntax`, `TooDeep` and `TooMany` stand at the first token with which the tokens so
 /// far no longer begin a text of the grammar within the limits; at the end it is the empty span behind the last byte.
-/// `Memory` is answered when it is met.
+/// `Memory` is answered when it is met, and the source has no lexical fault.
 pub fn parse<'a>(alloc: Global, source: &'a [u8]) -> Result<Ast<'a>, SyntaxError>
     // The source is a text of the tree that is given.
     ensures found { IfOk result (λ a. IsTextOfTree source.now (bare a)) }
@@ -137,14 +91,29 @@ pub fn parse<'a>(alloc: Global, source: &'a [u8]) -> Result<Ast<'a>, SyntaxError
     // A source past the limit, and no other, is refused as too long, whatever else is wrong with it.
     ensures too_long { (result ≡ Err TooLong) ↔ (most_bytes < length source.now) }
 
+    // A fault that the lexer finds is the leftmost one, and it comes before each that the grammar finds.
+    ensures order { IfErr result (IsRefusalOf source.now) }
+
     // The place of an error lies within the source.
     ensures placed { IfErr result (IsPlacedWithin (length source.now)) }
 
     // The names and literals stand in the source one behind the other, each name with its text.
     ensures stands { IfOk result (λ a. Stand source.now 0 (length source.now) (spots a)) }
 {
-    let tokens = lex(alloc, source)?;
-    parse_tokens(alloc, &tokens, source.len())
+    if source.len() > MOST_BYTES {
+        return Err(SyntaxError::TooLong);
+    }
+    let mut parser = Parser::new(alloc, source);
+    match read_all(&mut parser) {
+        Ok(ast) => {
+            parser.tokens.finish()?;
+            Ok(ast)
+        }
+        Err(error) => {
+            check_tokens(source)?;
+            Err(error)
+        }
+    }
 }
 
 /// The items of a text that a solver printed: `name = value;` each, in order. Spans count from the first byte of the
@@ -162,6 +131,9 @@ pub fn read_items<'a>(alloc: Global, source: &'a [u8]) -> Result<Vec<Printed<'a>
     // A source past the limit, and no other, is refused as too long, whatever else is wrong with it.
     ensures too_long { (result ≡ Err TooLong) ↔ (most_bytes < length source.now) }
 
+    // A fault that the lexer finds is the leftmost one, and it comes before each that the grammar finds.
+    ensures order { IfErr result (IsRefusalOf source.now) }
+
     // The place of an error lies within the source.
     ensures placed { IfErr result (IsPlacedWithin (length source.now)) }
 
@@ -171,6 +143,18 @@ pub fn read_items<'a>(alloc: Global, source: &'a [u8]) -> Result<Vec<Printed<'a>
     // The empty source has no items.
     ensures empty { source.now ≡ [] → MatchResult result (λ items. items.items ≡ []) (λ e. e ≡ Memory) }
 {
-    let tokens = lex(alloc, source)?;
-    parse_items(alloc, &tokens, source.len())
+    if source.len() > MOST_BYTES {
+        return Err(SyntaxError::TooLong);
+    }
+    let mut parser = Parser::new(alloc, source);
+    match read_all_items(&mut parser) {
+        Ok(items) => {
+            parser.tokens.finish()?;
+            Ok(items)
+        }
+        Err(error) => {
+            check_tokens(source)?;
+            Err(error)
+        }
+    }
 }

@@ -5,13 +5,14 @@ use Rattle.std.specs.Prelude.{⊤, ◌<ℤ◌}
 use Rattle.std.specs.List.{AllByRecursion, list_any}
 use Rattle.std.specs.Option.{option_map_or, option_or, option_and_then}
 use Rattle.fz_base.specs.declared.value.Value.{Value}
-use Rattle.fz_model.specs.declared.kind.Kind.TheVariants.{Int as IntKind}
-use Rattle.fz_model.specs.declared.state.State.{State}
-use Rattle.fz_model.specs.declared.state.State.TheVariants.{Holds, Fails, NoValue, Unknown, TooLarge}
+use Rattle.fz_model.specs.declared.Kind.TheVariants.{Int as IntKind}
+use Rattle.fz_model.specs.declared.State.{State}
+use Rattle.fz_model.specs.declared.State.TheVariants.{Holds, Fails, NoValue, Unknown, TooLarge}
 use Rattle.fz_model.specs.Values.{kind_of, same_value, same_values}
 use Rattle.fz_model.specs.Names.{literal_value}
-use Rattle.fz_model.specs.Meaning.{Term, Place, Declared, Posted, Aim, Model, Point, Partial, Assignment, value, values, value_at, whole, points, state, judged, judged_by, inside, find_name, first_some, HoldsUnder, IsSolution, IsPartial, IsAssignment, FitVariables, variables_of, variable_of, numbered, numbered_from, declared_points, definition_points, constraint_points, is_outside, both, objective, objective_of, as_int, number_at}
-use Rattle.fz_model.specs.Meaning.Term.{Var, Fixed}
+use Rattle.fz_model.specs.Meaning.{Place, Declared, Posted, Aim, Model, Point, Partial, Assignment, value, values, value_at, whole, points, state, judged, judged_by, inside, find_name, first_some, HoldsUnder, IsSolution, IsPartial, IsAssignment, FitVariables, variables_of, variable_of, numbered, numbered_from, declared_points, definition_points, constraint_points, is_outside, both, objective, objective_of, as_int, number_at}
+use Rattle.fz_model.specs.declared.Term.{Term}
+use Rattle.fz_model.specs.declared.Term.TheVariants.{Var, Fixed}
 use Rattle.fz_model.specs.Meaning.Place.{Scalar, Array}
 use Rattle.fz_model.specs.Meaning.Declared.{Parameter, ScalarVariable, ArrayOfVariables}
 use Rattle.fz_model.specs.Meaning.Aim.{Satisfy, Minimize, Maximize}

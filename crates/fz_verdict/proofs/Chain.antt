@@ -3,12 +3,13 @@ use Rattle.std.proofs.Common.{◌≡◌, ℕ, suc, zero, ◌+◌, true, false, c
 use Rattle.std.specs.List.{AllByRecursion, enumerate_from}
 use Rattle.std.specs.Option.{option_map_or, option_or}
 use Rattle.fz_base.specs.declared.value.Value.{Value}
-use Rattle.fz_model.specs.declared.kind.Kind.{Kind}
+use Rattle.fz_model.specs.declared.Kind.{Kind}
 use Rattle.fz_model.specs.Values.{kind_of}
 use Rattle.fz_model.specs.Builtins.{ArgValue}
 use Rattle.fz_model.specs.Builtins.ArgValue.{OneValue, ManyValues}
-use Rattle.fz_model.specs.Meaning.{Term, Place, Argument, Variable, Model, Point, Partial, Assignment, value, values, value_at, give, whole, option_cons, terms_in, argument_value, argument_values, row_of, row_holds, points, inside, find_name, HoldsUnder, HoldsIfKnown, IsKnownSolution, IsAssignment, FitVariables, variables_of}
-use Rattle.fz_model.specs.Meaning.Term.{Var, Fixed}
+use Rattle.fz_model.specs.Meaning.{Place, Argument, Variable, Model, Point, Partial, Assignment, value, values, value_at, give, whole, option_cons, terms_in, argument_value, argument_values, row_of, row_holds, points, inside, find_name, HoldsUnder, HoldsIfKnown, IsKnownSolution, IsAssignment, FitVariables, variables_of}
+use Rattle.fz_model.specs.declared.Term.{Term}
+use Rattle.fz_model.specs.declared.Term.TheVariants.{Var, Fixed}
 use Rattle.fz_model.specs.Meaning.Place.{Scalar, Array}
 use Rattle.fz_model.specs.Meaning.Argument.{One, ListOf}
 use Rattle.fz_model.specs.Meaning.Point.{DomainPoint, DefinitionPoint, ArrayPoint, ConstraintPoint}

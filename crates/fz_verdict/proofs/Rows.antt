@@ -1,7 +1,7 @@
 -- The definitions of verdicts, fillings and reports, computed at rows that are written out by hand.
 use Rattle.std.proofs.Common.{◌≡◌, ℕ, ℤ, pos, negsuc, true, ◌&&◌, List, [], ◌∷◌, Option, Some, None, codes, refl, IsTrue, ◌↔◌, int_le, subst, sym, le-leb, le_refl, lit<}
 use Rattle.fz_base.specs.declared.value.Value.TheVariants.{Int}
-use Rattle.fz_model.specs.declared.kind.Kind.TheVariants.{Int as IntKind}
+use Rattle.fz_model.specs.declared.Kind.TheVariants.{Int as IntKind}
 use Rattle.fz_syntax.specs.Tree.Literal.{Number, Truth as TruthWord}
 use Rattle.fz_syntax.specs.Tree.Base.{IntBase}
 use Rattle.fz_model.specs.Builtins.{rows}
@@ -10,7 +10,7 @@ use Rattle.fz_model.specs.Located.Expr.{One, Several}
 use Rattle.fz_model.specs.Located.Goal.{Satisfy, Minimize}
 use Rattle.fz_model.specs.Names.{model_of}
 use Rattle.fz_model.specs.Meaning.{Model}
-use Rattle.fz_model.specs.Meaning.Domain.{Within}
+use Rattle.fz_model.specs.declared.Domain.TheVariants.{Within}
 use Rattle.fz_model.specs.Meaning.Point.{DomainPoint}
 use Rattle.fz_model.proofs.Determined.{int_le_antisymmetric}
 use Rattle.fz_model.proofs.Values.{and_first, and_second, and_both}

@@ -3,12 +3,13 @@ use Rattle.std.proofs.Common.{◌≡◌, ℕ, suc, zero, ◌+◌, true, false, n
 use Rattle.std.specs.List.{AllByRecursion}
 use Rattle.std.specs.Option.{option_map_or, option_or}
 use Rattle.fz_base.specs.declared.value.Value.{Value}
-use Rattle.fz_model.specs.declared.kind.Kind.{Kind}
+use Rattle.fz_model.specs.declared.Kind.{Kind}
 use Rattle.fz_model.specs.Values.{kind_of, same_kind}
 use Rattle.fz_model.specs.Located.{Name, Literal, LocatedTree}
 use Rattle.fz_model.specs.Names.{HasNoFault, literal_value, model_of}
-use Rattle.fz_model.specs.Meaning.{Term, Place, Variable, Model, Partial, give, variables_of, find_name, first_some, FitVariables, IsPartial}
-use Rattle.fz_model.specs.Meaning.Term.{Var, Fixed}
+use Rattle.fz_model.specs.Meaning.{Place, Variable, Model, Partial, give, variables_of, find_name, first_some, FitVariables, IsPartial}
+use Rattle.fz_model.specs.declared.Term.{Term}
+use Rattle.fz_model.specs.declared.Term.TheVariants.{Var, Fixed}
 use Rattle.fz_model.specs.Meaning.Place.{Scalar, Array}
 use Rattle.fz_model.specs.Steps.{kind_at}
 use Rattle.fz_model.proofs.NamedKinds.{TermFits, PlaceFits, named_fits}

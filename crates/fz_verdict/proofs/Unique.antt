@@ -2,8 +2,9 @@
 use Rattle.std.proofs.Common.{◌≡◌, ℕ, List, [], ◌∷◌, ◌++◌, Some, refl, sym, ap, subst, ◌∙◌}
 use Rattle.std.specs.List.{AllByRecursion}
 use Rattle.fz_model.specs.Values.{kind_of}
-use Rattle.fz_model.specs.Meaning.{Term, Model, Point, Partial, give}
-use Rattle.fz_model.specs.Meaning.Term.{Var}
+use Rattle.fz_model.specs.Meaning.{Model, Point, Partial, give}
+use Rattle.fz_model.specs.declared.Term.{Term}
+use Rattle.fz_model.specs.declared.Term.TheVariants.{Var}
 use Rattle.fz_model.specs.Steps.{Gives, GivesNothing}
 use Rattle.fz_verdict.specs.Filling.{IsFirstStep, Chain}
 use Rattle.fz_verdict.specs.Filling.Chain.{Ends, Step}

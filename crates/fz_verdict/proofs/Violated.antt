@@ -5,12 +5,14 @@ use Rattle.std.specs.Prelude.{⊤, ◌<ℤ◌}
 use Rattle.std.specs.List.{AllByRecursion, list_any}
 use Rattle.std.specs.Option.{option_map_or, option_or, option_and_then}
 use Rattle.fz_base.specs.declared.value.Value.{Value}
-use Rattle.fz_model.specs.declared.state.State.{State}
-use Rattle.fz_model.specs.declared.state.State.TheVariants.{Holds, Fails, NoValue, Unknown, TooLarge}
+use Rattle.fz_model.specs.declared.State.{State}
+use Rattle.fz_model.specs.declared.State.TheVariants.{Holds, Fails, NoValue, Unknown, TooLarge}
 use Rattle.fz_model.specs.Values.{same_value, same_values}
 use Rattle.fz_model.specs.Names.{literal_value}
-use Rattle.fz_model.specs.Meaning.{Term, Place, Domain, Variable, Aim, Model, Point, PointName, shown_point, Partial, Assignment, value, values, value_at, whole, option_cons, argument_values, row_of, row_holds, points, state, judged_by, both, state_of_row, inside, is_outside, find_name, first_some, HoldsIfKnown, IsKnownSolution, IsAssignment, FitVariables, variables_of, objective, objective_of, as_int}
-use Rattle.fz_model.specs.Meaning.Term.{Var, Fixed}
+use Rattle.fz_model.specs.Meaning.{Place, Variable, Aim, Model, Point, PointName, shown_point, Partial, Assignment, value, values, value_at, whole, option_cons, argument_values, row_of, row_holds, points, state, judged_by, both, state_of_row, inside, is_outside, find_name, first_some, HoldsIfKnown, IsKnownSolution, IsAssignment, FitVariables, variables_of, objective, objective_of, as_int}
+use Rattle.fz_model.specs.declared.Term.{Term}
+use Rattle.fz_model.specs.declared.Domain.{Domain}
+use Rattle.fz_model.specs.declared.Term.TheVariants.{Var, Fixed}
 use Rattle.fz_model.specs.Meaning.Place.{Scalar, Array}
 use Rattle.fz_model.specs.Meaning.Aim.{Satisfy, Minimize, Maximize}
 use Rattle.fz_model.specs.Meaning.Point.{DomainPoint, DefinitionPoint, ArrayPoint, ConstraintPoint}

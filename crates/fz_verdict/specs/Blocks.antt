@@ -6,7 +6,7 @@ use Rattle.std.specs.Option.{option_or}
 use Rattle.fz_base.specs.declared.span.Span.{Span}
 use Rattle.fz_base.specs.declared.value.Value.{Value}
 use Rattle.fz_stream.specs.Parts.{SolutionBlock}
-use Rattle.fz_model.specs.declared.kind.Kind.{Kind}
+use Rattle.fz_model.specs.declared.Kind.{Kind}
 use Rattle.fz_model.specs.Values.{kind_of, same_kind}
 use Rattle.fz_syntax.specs.Tree as tree
 use Rattle.fz_model.specs.Located.{Name, Literal}

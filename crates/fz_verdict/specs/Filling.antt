@@ -4,8 +4,9 @@ use Rattle.std.specs.List.{AllByRecursion, enumerate_from}
 use Rattle.std.specs.Option.{option_map_or}
 use Rattle.fz_base.specs.declared.value.Value.{Value}
 use Rattle.fz_model.specs.Names.{literal_value}
-use Rattle.fz_model.specs.Meaning.{Term, Place, Variable, Model, Point, Partial, variables_of, value_at, give, points, find_name, first_some}
-use Rattle.fz_model.specs.Meaning.Term.{Var, Fixed}
+use Rattle.fz_model.specs.Meaning.{Place, Variable, Model, Point, Partial, variables_of, value_at, give, points, find_name, first_some}
+use Rattle.fz_model.specs.declared.Term.{Term}
+use Rattle.fz_model.specs.declared.Term.TheVariants.{Var, Fixed}
 use Rattle.fz_model.specs.Meaning.Place.{Scalar, Array}
 use Rattle.fz_model.specs.Steps.{Gives, GivesNothing}
 use Rattle.fz_verdict.specs.Blocks.{Printed, PrintedValue, Block, printed_values}

@@ -1,8 +1,8 @@
 -- The verdict on a block, and the answer on a list of blocks (the verdicts and their order are this project's profile).
 use Rattle.std.specs.Prelude.{◌≡◌, ℕ, suc, zero, ℤ, Bool, true, false, cond, List, [], ◌∷◌, length, Option, Some, None, int_lt}
 use Rattle.std.specs.Option.{option_map_or, option_or}
-use Rattle.fz_model.specs.declared.state.State.{State}
-use Rattle.fz_model.specs.declared.state.State.TheVariants.{Holds, Fails, NoValue, Unknown, TooLarge}
+use Rattle.fz_model.specs.declared.State.{State}
+use Rattle.fz_model.specs.declared.State.TheVariants.{Holds, Fails, NoValue, Unknown, TooLarge}
 use Rattle.fz_model.specs.Values.{same_value, same_values}
 use Rattle.fz_model.specs.Names.{literal_value}
 use Rattle.fz_model.specs.Meaning.{Place, Aim, Model, Variable, Point, PointName, Partial, value, values, points, state, objective, variables_of, find_name, first_some, shown_point, IsPartial}

@@ -1,44 +1,34 @@
+ghost use Rattle.std.specs.Prelude.{◌≡◌, ◌⊎◌, suc, take, IfErr, IfOk, IfSome};
+ghost use Rattle.std.specs.Io.KnownBytes.{Consumes};
+ghost use Rattle.fz_check.specs.declared.error.CheckError.{CheckError as Refusal};
+
 use fz_check::CheckError;
 use std::alloc::Global;
 use std::io::Read;
 
-/// Why the bytes of a reader can't be had.
-#[derive(Clone, Copy)]
-pub enum Failure {
-    /// A read failed.
-    Read,
-    /// There is no memory for the bytes.
-    Memory,
-}
+/// The most bytes that are read at a time.
+const PIECE: usize = 16_384;
 
-impl Failure {
-    /// The refusal that tells it.
-    pub fn as_check_error(self) -> CheckError {
-        match self {
-            Failure::Read => CheckError::Read,
-            Failure::Memory => CheckError::Memory,
-        }
-    }
-}
-
-/// The bytes of a reader up to its end. Where there are more than the most, it is not read further, and
-/// what is given is longer than that.
-pub fn read_up_to<R: Read>(alloc: Global, reader: &mut R, most: usize) -> Result<Vec<u8>, Failure> {
+/// The bytes of a reader up to its end. Where there are more than the most, one more than the most is
+/// given, and it is not read further. A read that fails is not repeated, whatever its kind, which is why
+/// this is no call of `read_to_end`: that one repeats a read that a signal interrupts.
+pub fn read_up_to<R: Read>(alloc: Global, reader: &mut R, most: u32) -> Result<Vec<u8>, CheckError>
+    ensures bytes { IfOk result (λ bytes. IfSome (R.remaining reader.old) (λ xs. bytes.items ≡ take (suc most) xs)) }
+    ensures no_more { IfOk result (λ bytes. Consumes (R.remaining reader.old) (R.remaining reader.new) bytes.items) }
+    ensures refused { IfErr result (λ e. (e ≡ Refusal.Read) ⊎ (e ≡ Refusal.Memory)) }
+{
+    let limit = most as usize + 1;
     let mut bytes = Vec::new(alloc);
-    let mut piece = [0u8; 16384];
-    for _ in 0..u64::MAX {
-        let Ok(count) = reader.read(&mut piece) else {
-            return Err(Failure::Read);
+    let mut piece = [0u8; PIECE];
+    while bytes.len() < limit {
+        let room = PIECE.min(limit - bytes.len());
+        let Ok(count) = reader.read(&mut piece[..room]) else {
+            return Err(CheckError::Read);
         };
         if count == 0 {
             break;
         }
-        if bytes.extend_from_slice(&piece[..count]).is_err() {
-            return Err(Failure::Memory);
-        }
-        if bytes.len() > most {
-            break;
-        }
+        bytes.extend_from_slice(&piece[..count])?;
     }
     Ok(bytes)
 }

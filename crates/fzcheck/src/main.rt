@@ -4,7 +4,7 @@
 mod files;
 mod words;
 
-use files::{Failure, read_up_to};
+use files::read_up_to;
 use fz_check::{CheckError, check, refusal_text, report_text, show, status};
 use std::io::{Read, Write};
 use std::process::ExitCode;
@@ -18,7 +18,7 @@ const SHOWN: u8 = 0;
 const WRONG_WORDS: u8 = 5;
 
 /// The most bytes of a model, and of a stream that is read whole.
-const MOST_BYTES: usize = 16_777_216;
+const MOST_BYTES: u32 = 16_777_216;
 
 fn main(rt: HostRuntime) -> ExitCode {
     ExitCode::from(run(&rt))
@@ -76,7 +76,7 @@ fn show_file(rt: &HostRuntime, model: &str) -> u8 {
     };
     let model = match read_up_to(rt.alloc(), &mut file, MOST_BYTES) {
         Ok(model) => model,
-        Err(failure) => return refuse(rt, &failure.as_check_error()),
+        Err(error) => return refuse(rt, &error),
     };
     let text = match show(rt.alloc(), &model) {
         Ok(text) => text,
@@ -107,12 +107,12 @@ fn check_files(rt: &HostRuntime, model: &str, stream: Option<&str>) -> u8 {
 fn check_readers<M: Read, S: Read>(rt: &HostRuntime, model: &mut M, stream: &mut S) -> u8 {
     let model = match read_up_to(rt.alloc(), model, MOST_BYTES) {
         Ok(model) => model,
-        Err(failure) => return refuse(rt, &failure.as_check_error()),
+        Err(error) => return refuse(rt, &error),
     };
     let stream = match read_up_to(rt.alloc(), stream, MOST_BYTES) {
         Ok(stream) => stream,
-        Err(Failure::Memory) => return refuse(rt, &CheckError::Memory),
-        Err(Failure::Read) => return refuse(rt, &after_model(rt, &model)),
+        Err(CheckError::Read) => return refuse(rt, &after_model(rt, &model)),
+        Err(error) => return refuse(rt, &error),
     };
     let report = match check(rt.alloc(), &model, &stream) {
         Ok(report) => report,

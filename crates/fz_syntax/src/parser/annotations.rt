@@ -1,27 +1,28 @@
 //! Annotations.
 
 ghost use Rattle.std.specs.Prelude.{◌≡◌, ◌≤◌, length, map, IfOk, []};
-ghost use Rattle.fz_syntax.specs.View.{lexemes, bare_note, bare_arg, bare_basic, bare_notes};
+ghost use Rattle.fz_syntax.specs.View.{bare_note, bare_arg, bare_basic, bare_notes};
 ghost use Rattle.fz_syntax.specs.Outcome.{Gives};
 ghost use Rattle.fz_syntax.specs.Reading.{mark_at, at_most, separated_at, note_at, note_args_at, note_arg_at, note_list_at, note_basic_at, begins_note_basic, any_number, notes_at, list_at};
 ghost use Rattle.fz_lex.specs.declared.token.Mark.TheVariants.{CloseParen, CloseBracket};
 ghost use Rattle.fz_syntax.specs.Shape.{the_limits};
 ghost use Rattle.fz_syntax.specs.Spots.{note_spots, arg_spots, note_basic_spots};
 ghost use Rattle.std.specs.List.{flat_map};
-ghost use Rattle.fz_syntax.specs.Walk.{Walk};
+ghost use Rattle.fz_syntax.specs.Walk.{Walk, lexemes};
 
 use crate::parser::cursor::{MAX_DEPTH, MAX_ELEMENTS, Parser};
+use crate::parser::lists::trimmed;
 use crate::parser::refusal::Refusal;
 use crate::tree::{Note, NoteArg, NoteBasic};
 use fz_lex::{Mark, TokenKind};
 
-impl<'t, 'a> Parser<'t, 'a> {
+impl<'a> Parser<'a> {
     /// An annotation of at most `depth` levels.
     #[cycle(notes)]
     #[tactic(auto, unfolding(crate::specs::Reading::note_at), using(crate::proofs::Walks::walk_skip, crate::proofs::Walks::walk_then, crate::proofs::Walks::walk_end, crate::proofs::Walks::walk_none, crate::proofs::Errors::fails_unexpected, crate::proofs::Separated::fails_bind))]
     pub(crate) fn note(&mut self, depth: usize) -> Result<Note<'a>, Refusal>
-        ensures read { Gives (bare_note) result (note_at the_limits depth (lexemes self.old.tokens.now)) (lexemes self.new.tokens.now) }
-        ensures shorter { length self.new.tokens.now ≤ length self.old.tokens.now }
+        ensures read { Gives (bare_note) result (note_at the_limits depth (lexemes self.old)) (lexemes self.new) }
+        ensures shorter { length (lexemes self.new) ≤ length (lexemes self.old) }
         ensures end { self.new.end ≡ self.old.end }
         ensures walked { IfOk result (λ n. Walk self.old self.new (note_spots n)) }
     {
@@ -40,8 +41,8 @@ impl<'t, 'a> Parser<'t, 'a> {
     #[cycle(notes)]
     #[tactic(auto, unfolding(crate::specs::Reading::note_args_at, crate::specs::Reading::mark_at), using(crate::proofs::Walks::walk_skip, crate::proofs::Walks::walk_then, crate::proofs::Walks::walk_end, crate::proofs::Walks::walk_none, crate::proofs::Errors::fails_unexpected, crate::proofs::Separated::fails_bind))]
     pub(crate) fn note_args(&mut self, depth: usize) -> Result<Vec<NoteArg<'a>>, Refusal>
-        ensures read { Gives (λ v. map bare_arg v.items) result (note_args_at the_limits depth (note_at the_limits depth) (lexemes self.old.tokens.now)) (lexemes self.new.tokens.now) }
-        ensures shorter { length self.new.tokens.now ≤ length self.old.tokens.now }
+        ensures read { Gives (λ v. map bare_arg v.items) result (note_args_at the_limits depth (note_at the_limits depth) (lexemes self.old)) (lexemes self.new) }
+        ensures shorter { length (lexemes self.new) ≤ length (lexemes self.old) }
         ensures end { self.new.end ≡ self.old.end }
         ensures walked { IfOk result (λ v. Walk self.old self.new (flat_map arg_spots v.items)) }
     {
@@ -55,8 +56,8 @@ impl<'t, 'a> Parser<'t, 'a> {
 
     #[cycle(notes)]
     pub(crate) fn separated_note_args(&mut self, depth: usize) -> Result<Vec<NoteArg<'a>>, Refusal>
-        ensures read { Gives (λ v. map bare_arg v.items) result (separated_at (any_number (note_arg_at the_limits depth (note_at the_limits depth))) (lexemes self.old.tokens.now)) (lexemes self.new.tokens.now) }
-        ensures shorter { length self.new.tokens.now ≤ length self.old.tokens.now }
+        ensures read { Gives (λ v. map bare_arg v.items) result (separated_at (any_number (note_arg_at the_limits depth (note_at the_limits depth))) (lexemes self.old)) (lexemes self.new) }
+        ensures shorter { length (lexemes self.new) ≤ length (lexemes self.old) }
         ensures end { self.new.end ≡ self.old.end }
         ensures walked { IfOk result (λ v. Walk self.old self.new (flat_map arg_spots v.items)) }
     {
@@ -66,14 +67,14 @@ impl<'t, 'a> Parser<'t, 'a> {
             let arg = self.note_arg(depth)?;
             arguments.push(arg)?;
         }
-        Ok(arguments)
+        Ok(trimmed(self.alloc, arguments))
     }
 
     #[cycle(notes)]
     #[tactic(auto, unfolding(crate::specs::Reading::note_arg_at), using(crate::proofs::Walks::walk_skip, crate::proofs::Walks::walk_then, crate::proofs::Walks::walk_end, crate::proofs::Walks::walk_none, crate::proofs::Errors::fails_unexpected, crate::proofs::Separated::fails_bind))]
     pub(crate) fn note_arg(&mut self, depth: usize) -> Result<NoteArg<'a>, Refusal>
-        ensures read { Gives (bare_arg) result (note_arg_at the_limits depth (note_at the_limits depth) (lexemes self.old.tokens.now)) (lexemes self.new.tokens.now) }
-        ensures shorter { length self.new.tokens.now ≤ length self.old.tokens.now }
+        ensures read { Gives (bare_arg) result (note_arg_at the_limits depth (note_at the_limits depth) (lexemes self.old)) (lexemes self.new) }
+        ensures shorter { length (lexemes self.new) ≤ length (lexemes self.old) }
         ensures end { self.new.end ≡ self.old.end }
         ensures walked { IfOk result (λ a. Walk self.old self.new (arg_spots a)) }
     {
@@ -87,8 +88,8 @@ impl<'t, 'a> Parser<'t, 'a> {
     #[cycle(notes)]
     #[tactic(auto, unfolding(crate::specs::Reading::note_list_at, crate::specs::Reading::list_at, crate::specs::Reading::mark_at), using(crate::proofs::Walks::walk_skip, crate::proofs::Walks::walk_then, crate::proofs::Walks::walk_end, crate::proofs::Walks::walk_none, crate::proofs::Errors::fails_unexpected, crate::proofs::Separated::fails_bind))]
     pub(crate) fn note_list(&mut self, depth: usize) -> Result<Vec<NoteBasic<'a>>, Refusal>
-        ensures read { Gives (λ v. map bare_basic v.items) result (note_list_at the_limits depth (note_at the_limits depth) (lexemes self.old.tokens.now)) (lexemes self.new.tokens.now) }
-        ensures shorter { length self.new.tokens.now ≤ length self.old.tokens.now }
+        ensures read { Gives (λ v. map bare_basic v.items) result (note_list_at the_limits depth (note_at the_limits depth) (lexemes self.old)) (lexemes self.new) }
+        ensures shorter { length (lexemes self.new) ≤ length (lexemes self.old) }
         ensures end { self.new.end ≡ self.old.end }
         ensures walked { IfOk result (λ v. Walk self.old self.new (flat_map note_basic_spots v.items)) }
     {
@@ -105,8 +106,8 @@ impl<'t, 'a> Parser<'t, 'a> {
         &mut self,
         depth: usize,
     ) -> Result<Vec<NoteBasic<'a>>, Refusal>
-        ensures read { Gives (λ v. map bare_basic v.items) result (separated_at (at_most the_limits.elements (begins_note_basic depth) (note_basic_at the_limits (note_at the_limits depth))) (lexemes self.old.tokens.now)) (lexemes self.new.tokens.now) }
-        ensures shorter { length self.new.tokens.now ≤ length self.old.tokens.now }
+        ensures read { Gives (λ v. map bare_basic v.items) result (separated_at (at_most the_limits.elements (begins_note_basic depth) (note_basic_at the_limits (note_at the_limits depth))) (lexemes self.old)) (lexemes self.new) }
+        ensures shorter { length (lexemes self.new) ≤ length (lexemes self.old) }
         ensures end { self.new.end ≡ self.old.end }
         ensures walked { IfOk result (λ v. Walk self.old self.new (flat_map note_basic_spots v.items)) }
     {
@@ -116,7 +117,7 @@ impl<'t, 'a> Parser<'t, 'a> {
             let basic = self.listed_note_basic(depth, basics.len())?;
             basics.push(basic)?;
         }
-        Ok(basics)
+        Ok(trimmed(self.alloc, basics))
     }
 
     /// An element of a list that has `count` so far.
@@ -126,8 +127,8 @@ impl<'t, 'a> Parser<'t, 'a> {
         depth: usize,
         count: usize,
     ) -> Result<NoteBasic<'a>, Refusal>
-        ensures read { Gives (bare_basic) result (at_most the_limits.elements (begins_note_basic depth) (note_basic_at the_limits (note_at the_limits depth)) count (lexemes self.old.tokens.now)) (lexemes self.new.tokens.now) }
-        ensures shorter { length self.new.tokens.now ≤ length self.old.tokens.now }
+        ensures read { Gives (bare_basic) result (at_most the_limits.elements (begins_note_basic depth) (note_basic_at the_limits (note_at the_limits depth)) count (lexemes self.old)) (lexemes self.new) }
+        ensures shorter { length (lexemes self.new) ≤ length (lexemes self.old) }
         ensures end { self.new.end ≡ self.old.end }
         ensures walked { IfOk result (λ b. Walk self.old self.new (note_basic_spots b)) }
     {
@@ -140,12 +141,12 @@ impl<'t, 'a> Parser<'t, 'a> {
     #[cycle(notes)]
     #[tactic(auto, unfolding(crate::specs::Reading::note_basic_at), using(crate::proofs::Walks::walk_skip, crate::proofs::Walks::walk_then, crate::proofs::Walks::walk_end, crate::proofs::Walks::walk_none, crate::proofs::Errors::fails_unexpected, crate::proofs::Separated::fails_bind))]
     pub(crate) fn note_basic(&mut self, depth: usize) -> Result<NoteBasic<'a>, Refusal>
-        ensures read { Gives (bare_basic) result (note_basic_at the_limits (note_at the_limits depth) (lexemes self.old.tokens.now)) (lexemes self.new.tokens.now) }
-        ensures shorter { length self.new.tokens.now ≤ length self.old.tokens.now }
+        ensures read { Gives (bare_basic) result (note_basic_at the_limits (note_at the_limits depth) (lexemes self.old)) (lexemes self.new) }
+        ensures shorter { length (lexemes self.new) ≤ length (lexemes self.old) }
         ensures end { self.new.end ≡ self.old.end }
         ensures walked { IfOk result (λ b. Walk self.old self.new (note_basic_spots b)) }
     {
-        if let [first, ..] = self.tokens {
+        if let Some(first) = self.tokens.first() {
             match first.kind {
                 TokenKind::FloatText => {
                     self.skip();
@@ -166,8 +167,8 @@ impl<'t, 'a> Parser<'t, 'a> {
     }
 
     pub(crate) fn notes(&mut self) -> Result<Vec<Note<'a>>, Refusal>
-        ensures read { Gives (λ v. bare_notes v.items) result (notes_at the_limits (lexemes self.old.tokens.now)) (lexemes self.new.tokens.now) }
-        ensures shorter { length self.new.tokens.now ≤ length self.old.tokens.now }
+        ensures read { Gives (λ v. bare_notes v.items) result (notes_at the_limits (lexemes self.old)) (lexemes self.new) }
+        ensures shorter { length (lexemes self.new) ≤ length (lexemes self.old) }
         ensures end { self.new.end ≡ self.old.end }
         ensures walked { IfOk result (λ v. Walk self.old self.new (flat_map note_spots v.items)) }
     {
@@ -176,6 +177,6 @@ impl<'t, 'a> Parser<'t, 'a> {
             let note = self.note(MAX_DEPTH)?;
             notes.push(note)?;
         }
-        Ok(notes)
+        Ok(trimmed(self.alloc, notes))
     }
 }

@@ -4,7 +4,8 @@ ghost use Rattle.std.specs.Prelude.{List, ◌∷◌, ◌≡◌, ◌≤◌, ◌<�
 ghost use Rattle.std.specs.Bool.{OnTrue, OnFalse};
 ghost use Rattle.std.specs.List.{All};
 ghost use Rattle.fz_lex.specs.View.{IsSpanWithin, IsPlacedWithin};
-ghost use Rattle.fz_syntax.specs.View.{lexemes, bare_name};
+ghost use Rattle.fz_lex.specs.Left.{left};
+ghost use Rattle.fz_syntax.specs.View.{bare_name};
 ghost use Rattle.fz_syntax.specs.Outcome.{Gives, IsRefusal, IsErrorOf, unexpected_kind};
 ghost use Rattle.fz_syntax.specs.Reading.{next_is, next_word, next_passes, is_float, mark_at, word_at, name_at, whole_at, is_name, is_whole, begins_literal, begins_basic, begins_note_basic, is_quoted, begins_decl};
 
@@ -12,7 +13,7 @@ use crate::parser::kinds::{begins_decl, begins_literal, is_float, is_name, is_qu
 use crate::parser::refusal::Refusal;
 use crate::tree::Name;
 use fz_base::Span;
-use fz_lex::{Mark, SyntaxError, Token, TokenKind};
+use fz_lex::{Mark, SyntaxError, TokenKind, Tokens};
 use std::alloc::Global;
 
 pub(crate) const MAX_ELEMENTS: usize = 1_048_576;
@@ -23,29 +24,47 @@ pub(crate) const MAX_DEPTH: usize = 32;
 
 /// The tokens that are left to read. After a refusal they begin with the token that was refused.
 #[derive(Drop)]
-pub(crate) struct Parser<'t, 'a> {
+pub(crate) struct Parser<'a> {
     pub(crate) alloc: Global,
-    pub(crate) tokens: &'t [Token<'a>],
+    pub(crate) tokens: Tokens<'a>,
     /// Where the token ended that was taken last.
     pub(crate) reached: usize,
     /// The length of the source.
     pub(crate) end: usize,
-    ghost within: { All (λ t. IsSpanWithin end t.span) tokens.now },
+    ghost within: { All (λ t. (t.start ≤ t.end) × (t.end ≤ end)) (left tokens) },
 }
 
-impl<'t, 'a> Parser<'t, 'a> {
-    ghost use Rattle.fz_syntax.specs.Walk.{Walk, Began, start_of};
+impl<'a> Parser<'a> {
+    ghost use Rattle.fz_syntax.specs.Walk.{IsLaidOut, Walk, Began, start_of, ahead, lexemes};
     ghost use Rattle.fz_syntax.specs.Spots.{name_spots};
-    ghost use Rattle.fz_lex.specs.declared.token.Token.{Token};
+    ghost use Rattle.fz_lex.specs.Lexing.{SpannedToken};
+    ghost use Rattle.fz_lex.specs.Ahead.{tokens_ahead};
+    ghost use Rattle.fz_lex.specs.Left.{source_of};
+
+    /// At the first token of a source.
+    pub(crate) fn new(alloc: Global, source: &'a [u8]) -> Parser<'a>
+        ensures all { ahead result ≡ tokens_ahead source.now 0 }
+        ensures source { source_of result.tokens ≡ source.now }
+        ensures end { result.end ≡ length source.now }
+        ensures reached { result.reached ≡ 0 }
+        ensures laid { IsLaidOut source.now result }
+    {
+        Parser {
+            alloc,
+            tokens: Tokens::new(source),
+            reached: 0,
+            end: source.len(),
+        }
+    }
 
     /// Where the next token stands.
     pub(crate) fn place(&self) -> Span
         ensures within { IsSpanWithin self.now.end result }
-        ensures start { result.start ≡ start_of self.now.tokens.now self.now.end }
+        ensures start { result.start ≡ start_of (ahead self.now) self.now.end }
     {
-        match self.tokens {
-            [first, ..] => first.span,
-            [] => Span {
+        match self.tokens.first() {
+            Some(first) => first.span,
+            None => Span {
                 start: self.end,
                 end: self.end,
             },
@@ -78,55 +97,55 @@ impl<'t, 'a> Parser<'t, 'a> {
 
     /// Takes the next token.
     pub(crate) fn skip(&mut self)
-        ensures left { lexemes self.new.tokens.now ≡ drop 1 (lexemes self.old.tokens.now) }
-        ensures shorter { length self.new.tokens.now ≡ length self.old.tokens.now - 1 }
+        ensures left { lexemes self.new ≡ drop 1 (lexemes self.old) }
+        ensures shorter { length (lexemes self.new) ≡ length (lexemes self.old) - 1 }
         ensures end { self.new.end ≡ self.old.end }
         ensures walked { Walk self.old self.new [] }
-        ensures began { 0 < length self.old.tokens.now → Began self.old self.new }
-        ensures reached { (t : Token) (rest : List Token) → self.old.tokens.now ≡ t ∷ rest → (self.new.tokens.now ≡ rest) × (self.new.reached ≡ t.span.end) }
+        ensures began { 0 < length (lexemes self.old) → Began self.old self.new }
+        ensures reached { (t : SpannedToken) (rest : List SpannedToken) → ahead self.old ≡ t ∷ rest → (ahead self.new ≡ rest) × (self.new.reached ≡ t.end) }
     {
-        if let [first, rest @ ..] = self.tokens {
+        if let Some(first) = self.tokens.first() {
             self.reached = first.span.end;
-            self.tokens = rest;
+            self.tokens.advance();
         }
     }
 
     pub(crate) fn next_is(&self, mark: Mark) -> bool
-        ensures { result ≡ next_is mark (lexemes self.now.tokens.now) }
+        ensures { result ≡ next_is mark (lexemes self.now) }
     {
-        match self.tokens {
-            [first, ..] => first.kind == TokenKind::Mark(mark),
-            [] => false,
+        match self.tokens.first() {
+            Some(first) => first.kind == TokenKind::Mark(mark),
+            None => false,
         }
     }
 
     pub(crate) fn next_word(&self, word: &[u8]) -> bool
-        ensures { result ≡ next_word word.now (lexemes self.now.tokens.now) }
+        ensures { result ≡ next_word word.now (lexemes self.now) }
     {
-        match self.tokens {
-            [first, ..] => first.kind == TokenKind::Word && first.text == word,
-            [] => false,
+        match self.tokens.first() {
+            Some(first) => first.kind == TokenKind::Word && first.text == word,
+            None => false,
         }
     }
 
     pub(crate) fn unexpected(&self) -> Refusal
-        ensures { IsRefusal result (unexpected_kind (lexemes self.now.tokens.now)) }
+        ensures { IsRefusal result (unexpected_kind (lexemes self.now)) }
     {
-        match self.tokens {
-            [first, ..] if is_float(first) => Refusal::Float,
+        match self.tokens.first() {
+            Some(first) if is_float(&first) => Refusal::Float,
             _ => Refusal::Syntax,
         }
     }
 
     pub(crate) fn eat(&mut self, mark: Mark) -> bool
-        ensures found { result ≡ next_is mark (lexemes self.old.tokens.now) }
-        ensures left { lexemes self.new.tokens.now ≡ (if next_is mark (lexemes self.old.tokens.now) then drop 1 (lexemes self.old.tokens.now) else lexemes self.old.tokens.now) }
-        ensures shorter { length self.new.tokens.now ≤ length self.old.tokens.now }
+        ensures found { result ≡ next_is mark (lexemes self.old) }
+        ensures left { lexemes self.new ≡ (if next_is mark (lexemes self.old) then drop 1 (lexemes self.old) else lexemes self.old) }
+        ensures shorter { length (lexemes self.new) ≤ length (lexemes self.old) }
         ensures end { self.new.end ≡ self.old.end }
         ensures walked { Walk self.old self.new [] }
         ensures began { OnTrue result (Began self.old self.new) }
         ensures kept { OnFalse result (self.new ≡ self.old) }
-        ensures taken { OnTrue result (length self.new.tokens.now < length self.old.tokens.now) }
+        ensures taken { OnTrue result (length (lexemes self.new) < length (lexemes self.old)) }
     {
         let found = self.next_is(mark);
         if found {
@@ -137,8 +156,8 @@ impl<'t, 'a> Parser<'t, 'a> {
 
     #[tactic(auto, unfolding(crate::specs::Reading::mark_at), using(crate::proofs::Walks::walk_skip, crate::proofs::Walks::walk_then, crate::proofs::Walks::walk_end, crate::proofs::Walks::walk_none, crate::proofs::Errors::fails_unexpected))]
     pub(crate) fn expect(&mut self, mark: Mark) -> Result<(), Refusal>
-        ensures read { Gives (λ _. tt) result (mark_at mark (lexemes self.old.tokens.now)) (lexemes self.new.tokens.now) }
-        ensures shorter { length self.new.tokens.now ≤ length self.old.tokens.now }
+        ensures read { Gives (λ _. tt) result (mark_at mark (lexemes self.old)) (lexemes self.new) }
+        ensures shorter { length (lexemes self.new) ≤ length (lexemes self.old) }
         ensures end { self.new.end ≡ self.old.end }
         ensures walked { IfOk result (λ _. Walk self.old self.new []) }
     {
@@ -151,8 +170,8 @@ impl<'t, 'a> Parser<'t, 'a> {
 
     #[tactic(auto, unfolding(crate::specs::Reading::word_at), using(crate::proofs::Walks::walk_skip, crate::proofs::Walks::walk_then, crate::proofs::Walks::walk_end, crate::proofs::Walks::walk_none, crate::proofs::Errors::fails_unexpected))]
     pub(crate) fn expect_word(&mut self, word: &[u8]) -> Result<(), Refusal>
-        ensures read { Gives (λ _. tt) result (word_at word.now (lexemes self.old.tokens.now)) (lexemes self.new.tokens.now) }
-        ensures shorter { length self.new.tokens.now ≤ length self.old.tokens.now }
+        ensures read { Gives (λ _. tt) result (word_at word.now (lexemes self.old)) (lexemes self.new) }
+        ensures shorter { length (lexemes self.new) ≤ length (lexemes self.old) }
         ensures end { self.new.end ≡ self.old.end }
         ensures walked { IfOk result (λ _. Walk self.old self.new []) }
     {
@@ -164,14 +183,14 @@ impl<'t, 'a> Parser<'t, 'a> {
     }
 
     pub(crate) fn eat_word(&mut self, word: &[u8]) -> bool
-        ensures found { result ≡ next_word word.now (lexemes self.old.tokens.now) }
-        ensures left { lexemes self.new.tokens.now ≡ (if next_word word.now (lexemes self.old.tokens.now) then drop 1 (lexemes self.old.tokens.now) else lexemes self.old.tokens.now) }
-        ensures shorter { length self.new.tokens.now ≤ length self.old.tokens.now }
+        ensures found { result ≡ next_word word.now (lexemes self.old) }
+        ensures left { lexemes self.new ≡ (if next_word word.now (lexemes self.old) then drop 1 (lexemes self.old) else lexemes self.old) }
+        ensures shorter { length (lexemes self.new) ≤ length (lexemes self.old) }
         ensures end { self.new.end ≡ self.old.end }
         ensures walked { Walk self.old self.new [] }
         ensures began { OnTrue result (Began self.old self.new) }
         ensures kept { OnFalse result (self.new ≡ self.old) }
-        ensures taken { OnTrue result (length self.new.tokens.now < length self.old.tokens.now) }
+        ensures taken { OnTrue result (length (lexemes self.new) < length (lexemes self.old)) }
     {
         let found = self.next_word(word);
         if found {
@@ -182,13 +201,13 @@ impl<'t, 'a> Parser<'t, 'a> {
 
     #[tactic(auto, unfolding(crate::specs::Reading::name_at), using(crate::proofs::Walks::walk_skip, crate::proofs::Walks::walk_then, crate::proofs::Walks::walk_end, crate::proofs::Walks::walk_none, crate::proofs::Errors::fails_unexpected))]
     pub(crate) fn name(&mut self) -> Result<Name<'a>, Refusal>
-        ensures read { Gives bare_name result (name_at (lexemes self.old.tokens.now)) (lexemes self.new.tokens.now) }
-        ensures shorter { length self.new.tokens.now ≤ length self.old.tokens.now }
+        ensures read { Gives bare_name result (name_at (lexemes self.old)) (lexemes self.new) }
+        ensures shorter { length (lexemes self.new) ≤ length (lexemes self.old) }
         ensures end { self.new.end ≡ self.old.end }
         ensures walked { IfOk result (λ n. Walk self.old self.new (name_spots n)) }
     {
-        match self.tokens {
-            [first, ..] if is_name(first) => {
+        match self.tokens.first() {
+            Some(first) if is_name(&first) => {
                 self.skip();
                 Ok(Name {
                     text: first.text,
@@ -201,77 +220,77 @@ impl<'t, 'a> Parser<'t, 'a> {
 
     #[tactic(auto, unfolding(crate::specs::Reading::whole_at), using(crate::proofs::Walks::walk_skip, crate::proofs::Walks::walk_then, crate::proofs::Walks::walk_end, crate::proofs::Walks::walk_none, crate::proofs::Errors::fails_unexpected))]
     pub(crate) fn whole(&mut self) -> Result<i64, Refusal>
-        ensures read { Gives (λ n. n) result (whole_at (lexemes self.old.tokens.now)) (lexemes self.new.tokens.now) }
-        ensures shorter { length self.new.tokens.now ≤ length self.old.tokens.now }
+        ensures read { Gives (λ n. n) result (whole_at (lexemes self.old)) (lexemes self.new) }
+        ensures shorter { length (lexemes self.new) ≤ length (lexemes self.old) }
         ensures end { self.new.end ≡ self.old.end }
         ensures walked { IfOk result (λ _. Walk self.old self.new []) }
         ensures began { IfOk result (λ _. Began self.old self.new) }
     {
-        match self.tokens {
-            [first, ..] => match first.kind {
+        match self.tokens.first() {
+            Some(first) => match first.kind {
                 TokenKind::Whole(n) => {
                     self.skip();
                     Ok(n)
                 }
                 _ => Err(self.unexpected()),
             },
-            [] => Err(self.unexpected()),
+            None => Err(self.unexpected()),
         }
     }
 
     pub(crate) fn begins_whole(&self) -> bool
-        ensures { result ≡ next_passes is_whole (lexemes self.now.tokens.now) }
+        ensures { result ≡ next_passes is_whole (lexemes self.now) }
     {
-        match self.tokens {
-            [first, ..] => matches!(first.kind, TokenKind::Whole(_)),
-            [] => false,
+        match self.tokens.first() {
+            Some(first) => matches!(first.kind, TokenKind::Whole(_)),
+            None => false,
         }
     }
 
     pub(crate) fn begins_name(&self) -> bool
-        ensures { result ≡ next_passes is_name (lexemes self.now.tokens.now) }
+        ensures { result ≡ next_passes is_name (lexemes self.now) }
     {
-        match self.tokens {
-            [first, ..] => is_name(first),
-            [] => false,
+        match self.tokens.first() {
+            Some(first) => is_name(&first),
+            None => false,
         }
     }
 
     pub(crate) fn begins_literal(&self) -> bool
-        ensures { result ≡ next_passes begins_literal (lexemes self.now.tokens.now) }
+        ensures { result ≡ next_passes begins_literal (lexemes self.now) }
     {
-        match self.tokens {
-            [first, ..] => begins_literal(first),
-            [] => false,
+        match self.tokens.first() {
+            Some(first) => begins_literal(&first),
+            None => false,
         }
     }
 
     pub(crate) fn begins_basic(&self) -> bool
-        ensures { result ≡ next_passes begins_basic (lexemes self.now.tokens.now) }
+        ensures { result ≡ next_passes begins_basic (lexemes self.now) }
     {
-        match self.tokens {
-            [first, ..] => is_name(first) || begins_literal(first),
-            [] => false,
+        match self.tokens.first() {
+            Some(first) => is_name(&first) || begins_literal(&first),
+            None => false,
         }
     }
 
     pub(crate) fn begins_note_basic(&self, depth: usize) -> bool
-        ensures { result ≡ next_passes (begins_note_basic depth) (lexemes self.now.tokens.now) }
+        ensures { result ≡ next_passes (begins_note_basic depth) (lexemes self.now) }
     {
-        match self.tokens {
-            [first, ..] => {
-                is_quoted(first) || depth > 0 && is_name(first) || begins_literal(first)
+        match self.tokens.first() {
+            Some(first) => {
+                is_quoted(&first) || depth > 0 && is_name(&first) || begins_literal(&first)
             }
-            [] => false,
+            None => false,
         }
     }
 
     pub(crate) fn begins_decl(&self) -> bool
-        ensures { result ≡ next_passes begins_decl (lexemes self.now.tokens.now) }
+        ensures { result ≡ next_passes begins_decl (lexemes self.now) }
     {
-        match self.tokens {
-            [first, ..] => begins_decl(first),
-            [] => false,
+        match self.tokens.first() {
+            Some(first) => begins_decl(&first),
+            None => false,
         }
     }
 }

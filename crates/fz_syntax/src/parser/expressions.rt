@@ -1,25 +1,26 @@
 //! Literals, names and lists of them.
 
 ghost use Rattle.std.specs.Prelude.{◌≡◌, ◌≤◌, length, IfOk, []};
-ghost use Rattle.fz_syntax.specs.View.{lexemes, bare_literal, bare_expression, bare_expressions, bare_expr};
+ghost use Rattle.fz_syntax.specs.View.{bare_literal, bare_expression, bare_expressions, bare_expr};
 ghost use Rattle.fz_syntax.specs.Outcome.{Gives};
 ghost use Rattle.fz_syntax.specs.Reading.{mark_at, whole_at, is_whole, begins_literal, begins_basic, at_most, separated_at, braces_at, from_whole, literal_at, basic_at, expr_list_at, expr_at, list_at, literal_basic_at};
 ghost use Rattle.fz_lex.specs.declared.token.Mark.TheVariants.{CloseBracket};
 ghost use Rattle.fz_syntax.specs.Shape.{the_limits};
 ghost use Rattle.fz_syntax.specs.Spots.{literal_spots, basic_spots, expr_spots};
 ghost use Rattle.std.specs.List.{flat_map};
-ghost use Rattle.fz_syntax.specs.Walk.{Walk};
+ghost use Rattle.fz_syntax.specs.Walk.{Walk, lexemes};
 
 use crate::parser::cursor::{MAX_ELEMENTS, Parser};
+use crate::parser::lists::trimmed;
 use crate::parser::refusal::Refusal;
 use crate::tree::{Basic, Expr, Literal, LiteralKind};
 use fz_lex::Mark;
 
-impl<'t, 'a> Parser<'t, 'a> {
+impl<'a> Parser<'a> {
     /// A number of a list that has `count` so far.
     pub(crate) fn listed_whole(&mut self, count: usize) -> Result<i64, Refusal>
-        ensures read { Gives (λ n. n) result (at_most the_limits.elements is_whole whole_at count (lexemes self.old.tokens.now)) (lexemes self.new.tokens.now) }
-        ensures shorter { length self.new.tokens.now ≤ length self.old.tokens.now }
+        ensures read { Gives (λ n. n) result (at_most the_limits.elements is_whole whole_at count (lexemes self.old)) (lexemes self.new) }
+        ensures shorter { length (lexemes self.new) ≤ length (lexemes self.old) }
         ensures end { self.new.end ≡ self.old.end }
         ensures walked { IfOk result (λ _. Walk self.old self.new []) }
     {
@@ -30,8 +31,8 @@ impl<'t, 'a> Parser<'t, 'a> {
     }
 
     pub(crate) fn numbers(&mut self) -> Result<Vec<i64>, Refusal>
-        ensures read { Gives (λ v. v.items) result (separated_at (at_most the_limits.elements is_whole whole_at) (lexemes self.old.tokens.now)) (lexemes self.new.tokens.now) }
-        ensures shorter { length self.new.tokens.now ≤ length self.old.tokens.now }
+        ensures read { Gives (λ v. v.items) result (separated_at (at_most the_limits.elements is_whole whole_at) (lexemes self.old)) (lexemes self.new) }
+        ensures shorter { length (lexemes self.new) ≤ length (lexemes self.old) }
         ensures end { self.new.end ≡ self.old.end }
         ensures walked { IfOk result (λ _. Walk self.old self.new []) }
     {
@@ -41,14 +42,14 @@ impl<'t, 'a> Parser<'t, 'a> {
             let number = self.listed_whole(numbers.len())?;
             numbers.push(number)?;
         }
-        Ok(numbers)
+        Ok(trimmed(self.alloc, numbers))
     }
 
     /// Numbers behind the brace that opened at `start`.
     #[tactic(auto, unfolding(crate::specs::Reading::braces_at, crate::specs::Reading::list_at, crate::specs::Reading::mark_at), using(crate::proofs::Walks::walk_skip, crate::proofs::Walks::walk_then, crate::proofs::Walks::walk_end, crate::proofs::Walks::walk_none, crate::proofs::Errors::fails_unexpected, crate::proofs::Separated::fails_bind))]
     pub(crate) fn braces(&mut self, start: usize) -> Result<Literal, Refusal>
-        ensures read { Gives (bare_literal) result (braces_at the_limits (lexemes self.old.tokens.now)) (lexemes self.new.tokens.now) }
-        ensures shorter { length self.new.tokens.now ≤ length self.old.tokens.now }
+        ensures read { Gives (bare_literal) result (braces_at the_limits (lexemes self.old)) (lexemes self.new) }
+        ensures shorter { length (lexemes self.new) ≤ length (lexemes self.old) }
         ensures end { self.new.end ≡ self.old.end }
         ensures walked { IfOk result (λ _. Walk self.old self.new []) }
         ensures span { IfOk result (λ l. (l.span.start ≡ start) × (l.span.end ≡ self.new.reached)) }
@@ -69,8 +70,8 @@ impl<'t, 'a> Parser<'t, 'a> {
 
     #[tactic(auto, unfolding(crate::specs::Reading::from_whole), using(crate::proofs::Walks::walk_skip, crate::proofs::Walks::walk_then, crate::proofs::Walks::walk_end, crate::proofs::Walks::walk_none, crate::proofs::Errors::fails_unexpected, crate::proofs::Separated::fails_bind))]
     pub(crate) fn from_whole(&mut self, low: i64, start: usize) -> Result<Literal, Refusal>
-        ensures read { Gives (bare_literal) result (from_whole low (lexemes self.old.tokens.now)) (lexemes self.new.tokens.now) }
-        ensures shorter { length self.new.tokens.now ≤ length self.old.tokens.now }
+        ensures read { Gives (bare_literal) result (from_whole low (lexemes self.old)) (lexemes self.new) }
+        ensures shorter { length (lexemes self.new) ≤ length (lexemes self.old) }
         ensures end { self.new.end ≡ self.old.end }
         ensures walked { IfOk result (λ _. Walk self.old self.new []) }
         ensures span { IfOk result (λ l. (l.span.start ≡ start) × (l.span.end ≡ self.new.reached)) }
@@ -90,8 +91,8 @@ impl<'t, 'a> Parser<'t, 'a> {
 
     #[tactic(auto, unfolding(crate::specs::Reading::literal_at), using(crate::proofs::Walks::walk_skip, crate::proofs::Walks::walk_then, crate::proofs::Walks::walk_end, crate::proofs::Walks::walk_none, crate::proofs::Errors::fails_unexpected, crate::proofs::Separated::fails_bind))]
     pub(crate) fn literal(&mut self) -> Result<Literal, Refusal>
-        ensures read { Gives (bare_literal) result (literal_at the_limits (lexemes self.old.tokens.now)) (lexemes self.new.tokens.now) }
-        ensures shorter { length self.new.tokens.now ≤ length self.old.tokens.now }
+        ensures read { Gives (bare_literal) result (literal_at the_limits (lexemes self.old)) (lexemes self.new) }
+        ensures shorter { length (lexemes self.new) ≤ length (lexemes self.old) }
         ensures end { self.new.end ≡ self.old.end }
         ensures walked { IfOk result (λ l. Walk self.old self.new (literal_spots l)) }
     {
@@ -118,8 +119,8 @@ impl<'t, 'a> Parser<'t, 'a> {
 
     #[tactic(auto, unfolding(crate::specs::Reading::basic_at), using(crate::proofs::Walks::walk_skip, crate::proofs::Walks::walk_then, crate::proofs::Walks::walk_end, crate::proofs::Walks::walk_none, crate::proofs::Errors::fails_unexpected, crate::proofs::Separated::fails_bind))]
     pub(crate) fn basic(&mut self) -> Result<Basic<'a>, Refusal>
-        ensures read { Gives (bare_expression) result (basic_at the_limits (lexemes self.old.tokens.now)) (lexemes self.new.tokens.now) }
-        ensures shorter { length self.new.tokens.now ≤ length self.old.tokens.now }
+        ensures read { Gives (bare_expression) result (basic_at the_limits (lexemes self.old)) (lexemes self.new) }
+        ensures shorter { length (lexemes self.new) ≤ length (lexemes self.old) }
         ensures end { self.new.end ≡ self.old.end }
         ensures walked { IfOk result (λ b. Walk self.old self.new (basic_spots b)) }
     {
@@ -132,8 +133,8 @@ impl<'t, 'a> Parser<'t, 'a> {
 
     /// An element of a list that has `count` so far.
     pub(crate) fn listed_basic(&mut self, count: usize) -> Result<Basic<'a>, Refusal>
-        ensures read { Gives (bare_expression) result (at_most the_limits.elements begins_basic (basic_at the_limits) count (lexemes self.old.tokens.now)) (lexemes self.new.tokens.now) }
-        ensures shorter { length self.new.tokens.now ≤ length self.old.tokens.now }
+        ensures read { Gives (bare_expression) result (at_most the_limits.elements begins_basic (basic_at the_limits) count (lexemes self.old)) (lexemes self.new) }
+        ensures shorter { length (lexemes self.new) ≤ length (lexemes self.old) }
         ensures end { self.new.end ≡ self.old.end }
         ensures walked { IfOk result (λ b. Walk self.old self.new (basic_spots b)) }
     {
@@ -144,8 +145,8 @@ impl<'t, 'a> Parser<'t, 'a> {
     }
 
     pub(crate) fn separated_basics(&mut self) -> Result<Vec<Basic<'a>>, Refusal>
-        ensures read { Gives (λ v. bare_expressions v.items) result (separated_at (at_most the_limits.elements begins_basic (basic_at the_limits)) (lexemes self.old.tokens.now)) (lexemes self.new.tokens.now) }
-        ensures shorter { length self.new.tokens.now ≤ length self.old.tokens.now }
+        ensures read { Gives (λ v. bare_expressions v.items) result (separated_at (at_most the_limits.elements begins_basic (basic_at the_limits)) (lexemes self.old)) (lexemes self.new) }
+        ensures shorter { length (lexemes self.new) ≤ length (lexemes self.old) }
         ensures end { self.new.end ≡ self.old.end }
         ensures walked { IfOk result (λ v. Walk self.old self.new (flat_map basic_spots v.items)) }
     {
@@ -155,14 +156,14 @@ impl<'t, 'a> Parser<'t, 'a> {
             let basic = self.listed_basic(basics.len())?;
             basics.push(basic)?;
         }
-        Ok(basics)
+        Ok(trimmed(self.alloc, basics))
     }
 
     /// A list's elements behind the bracket that opens it.
     #[tactic(auto, unfolding(crate::specs::Reading::expr_list_at, crate::specs::Reading::list_at, crate::specs::Reading::mark_at), using(crate::proofs::Walks::walk_skip, crate::proofs::Walks::walk_then, crate::proofs::Walks::walk_end, crate::proofs::Walks::walk_none, crate::proofs::Errors::fails_unexpected, crate::proofs::Separated::fails_bind))]
     pub(crate) fn expr_list(&mut self) -> Result<Vec<Basic<'a>>, Refusal>
-        ensures read { Gives (λ v. bare_expressions v.items) result (expr_list_at the_limits (lexemes self.old.tokens.now)) (lexemes self.new.tokens.now) }
-        ensures shorter { length self.new.tokens.now ≤ length self.old.tokens.now }
+        ensures read { Gives (λ v. bare_expressions v.items) result (expr_list_at the_limits (lexemes self.old)) (lexemes self.new) }
+        ensures shorter { length (lexemes self.new) ≤ length (lexemes self.old) }
         ensures end { self.new.end ≡ self.old.end }
         ensures walked { IfOk result (λ v. Walk self.old self.new (flat_map basic_spots v.items)) }
     {
@@ -176,8 +177,8 @@ impl<'t, 'a> Parser<'t, 'a> {
 
     #[tactic(auto, unfolding(crate::specs::Reading::expr_at), using(crate::proofs::Walks::walk_skip, crate::proofs::Walks::walk_then, crate::proofs::Walks::walk_end, crate::proofs::Walks::walk_none, crate::proofs::Errors::fails_unexpected, crate::proofs::Separated::fails_bind))]
     pub(crate) fn expr(&mut self) -> Result<Expr<'a>, Refusal>
-        ensures read { Gives (bare_expr) result (expr_at the_limits (lexemes self.old.tokens.now)) (lexemes self.new.tokens.now) }
-        ensures shorter { length self.new.tokens.now ≤ length self.old.tokens.now }
+        ensures read { Gives (bare_expr) result (expr_at the_limits (lexemes self.old)) (lexemes self.new) }
+        ensures shorter { length (lexemes self.new) ≤ length (lexemes self.old) }
         ensures end { self.new.end ≡ self.old.end }
         ensures walked { IfOk result (λ e. Walk self.old self.new (expr_spots e)) }
     {
@@ -190,8 +191,8 @@ impl<'t, 'a> Parser<'t, 'a> {
 
     #[tactic(auto, unfolding(crate::specs::Reading::literal_basic_at), using(crate::proofs::Walks::walk_skip, crate::proofs::Walks::walk_then, crate::proofs::Walks::walk_end, crate::proofs::Walks::walk_none, crate::proofs::Errors::fails_unexpected, crate::proofs::Separated::fails_bind))]
     pub(crate) fn literal_basic(&mut self) -> Result<Basic<'a>, Refusal>
-        ensures read { Gives (bare_expression) result (literal_basic_at the_limits (lexemes self.old.tokens.now)) (lexemes self.new.tokens.now) }
-        ensures shorter { length self.new.tokens.now ≤ length self.old.tokens.now }
+        ensures read { Gives (bare_expression) result (literal_basic_at the_limits (lexemes self.old)) (lexemes self.new) }
+        ensures shorter { length (lexemes self.new) ≤ length (lexemes self.old) }
         ensures end { self.new.end ≡ self.old.end }
         ensures walked { IfOk result (λ b. Walk self.old self.new (basic_spots b)) }
     {
@@ -200,8 +201,8 @@ impl<'t, 'a> Parser<'t, 'a> {
 
     /// An element of a list that has `count` so far.
     pub(crate) fn listed_literal(&mut self, count: usize) -> Result<Basic<'a>, Refusal>
-        ensures read { Gives (bare_expression) result (at_most the_limits.elements begins_literal (literal_basic_at the_limits) count (lexemes self.old.tokens.now)) (lexemes self.new.tokens.now) }
-        ensures shorter { length self.new.tokens.now ≤ length self.old.tokens.now }
+        ensures read { Gives (bare_expression) result (at_most the_limits.elements begins_literal (literal_basic_at the_limits) count (lexemes self.old)) (lexemes self.new) }
+        ensures shorter { length (lexemes self.new) ≤ length (lexemes self.old) }
         ensures end { self.new.end ≡ self.old.end }
         ensures walked { IfOk result (λ b. Walk self.old self.new (basic_spots b)) }
     {
@@ -212,8 +213,8 @@ impl<'t, 'a> Parser<'t, 'a> {
     }
 
     pub(crate) fn separated_literals(&mut self) -> Result<Vec<Basic<'a>>, Refusal>
-        ensures read { Gives (λ v. bare_expressions v.items) result (separated_at (at_most the_limits.elements begins_literal (literal_basic_at the_limits)) (lexemes self.old.tokens.now)) (lexemes self.new.tokens.now) }
-        ensures shorter { length self.new.tokens.now ≤ length self.old.tokens.now }
+        ensures read { Gives (λ v. bare_expressions v.items) result (separated_at (at_most the_limits.elements begins_literal (literal_basic_at the_limits)) (lexemes self.old)) (lexemes self.new) }
+        ensures shorter { length (lexemes self.new) ≤ length (lexemes self.old) }
         ensures end { self.new.end ≡ self.old.end }
         ensures walked { IfOk result (λ v. Walk self.old self.new (flat_map basic_spots v.items)) }
     {
@@ -223,14 +224,14 @@ impl<'t, 'a> Parser<'t, 'a> {
             let literal = self.listed_literal(literals.len())?;
             literals.push(literal)?;
         }
-        Ok(literals)
+        Ok(trimmed(self.alloc, literals))
     }
 
     /// A list's literals behind the bracket that opens it.
     #[tactic(auto, unfolding(crate::specs::Reading::list_at, crate::specs::Reading::mark_at), using(crate::proofs::Walks::walk_skip, crate::proofs::Walks::walk_then, crate::proofs::Walks::walk_end, crate::proofs::Walks::walk_none, crate::proofs::Errors::fails_unexpected, crate::proofs::Separated::fails_bind))]
     pub(crate) fn literal_list(&mut self) -> Result<Vec<Basic<'a>>, Refusal>
-        ensures read { Gives (λ v. bare_expressions v.items) result (list_at CloseBracket (at_most the_limits.elements begins_literal (literal_basic_at the_limits)) (lexemes self.old.tokens.now)) (lexemes self.new.tokens.now) }
-        ensures shorter { length self.new.tokens.now ≤ length self.old.tokens.now }
+        ensures read { Gives (λ v. bare_expressions v.items) result (list_at CloseBracket (at_most the_limits.elements begins_literal (literal_basic_at the_limits)) (lexemes self.old)) (lexemes self.new) }
+        ensures shorter { length (lexemes self.new) ≤ length (lexemes self.old) }
         ensures end { self.new.end ≡ self.old.end }
         ensures walked { IfOk result (λ v. Walk self.old self.new (flat_map basic_spots v.items)) }
     {

@@ -1,26 +1,27 @@
 //! The items of a tree.
 
 ghost use Rattle.std.specs.Prelude.{◌≡◌, ◌≤◌, length, map, IfOk, []};
-ghost use Rattle.fz_syntax.specs.View.{lexemes, bare_expr, bare_param, bare_predicate, bare_constraint, bare_goal, bare_solve, bare_value, bare_decl};
+ghost use Rattle.fz_syntax.specs.View.{bare_expr, bare_param, bare_predicate, bare_constraint, bare_goal, bare_solve, bare_value, bare_decl};
 ghost use Rattle.fz_syntax.specs.Outcome.{Gives};
 ghost use Rattle.fz_syntax.specs.Reading.{mark_at, separated_at, expr_at, any_number, param_at, predicate_at, list_at, constraint_at, goal_at, solve_at, decl_at, value_at, given_value_at, may_lack_value};
 ghost use Rattle.fz_lex.specs.declared.token.Mark.TheVariants.{CloseParen};
 ghost use Rattle.fz_syntax.specs.Shape.{the_limits};
 ghost use Rattle.fz_syntax.specs.Spots.{expr_spots, param_spots, predicate_spots, constraint_spots, goal_spots, solve_spots, value_spots, decl_spots};
 ghost use Rattle.std.specs.List.{flat_map};
-ghost use Rattle.fz_syntax.specs.Walk.{Walk};
+ghost use Rattle.fz_syntax.specs.Walk.{Walk, lexemes};
 
 use crate::parser::cursor::Parser;
 use crate::parser::kinds::may_lack_value;
+use crate::parser::lists::trimmed;
 use crate::parser::refusal::Refusal;
 use crate::tree::{Constraint, Decl, Expr, Goal, Param, Predicate, Solve};
 use fz_lex::Mark;
 
-impl<'t, 'a> Parser<'t, 'a> {
+impl<'a> Parser<'a> {
     #[tactic(auto, unfolding(crate::specs::Reading::param_at, crate::specs::Reading::var_at), using(crate::proofs::Walks::walk_skip, crate::proofs::Walks::walk_then, crate::proofs::Walks::walk_end, crate::proofs::Walks::walk_none, crate::proofs::Errors::fails_unexpected, crate::proofs::Separated::fails_bind))]
     pub(crate) fn param(&mut self) -> Result<Param<'a>, Refusal>
-        ensures read { Gives (bare_param) result (param_at the_limits (lexemes self.old.tokens.now)) (lexemes self.new.tokens.now) }
-        ensures shorter { length self.new.tokens.now ≤ length self.old.tokens.now }
+        ensures read { Gives (bare_param) result (param_at the_limits (lexemes self.old)) (lexemes self.new) }
+        ensures shorter { length (lexemes self.new) ≤ length (lexemes self.old) }
         ensures end { self.new.end ≡ self.old.end }
         ensures walked { IfOk result (λ p. Walk self.old self.new (param_spots p)) }
     {
@@ -38,8 +39,8 @@ impl<'t, 'a> Parser<'t, 'a> {
     }
 
     pub(crate) fn separated_params(&mut self) -> Result<Vec<Param<'a>>, Refusal>
-        ensures read { Gives (λ v. map bare_param v.items) result (separated_at (any_number (param_at the_limits)) (lexemes self.old.tokens.now)) (lexemes self.new.tokens.now) }
-        ensures shorter { length self.new.tokens.now ≤ length self.old.tokens.now }
+        ensures read { Gives (λ v. map bare_param v.items) result (separated_at (any_number (param_at the_limits)) (lexemes self.old)) (lexemes self.new) }
+        ensures shorter { length (lexemes self.new) ≤ length (lexemes self.old) }
         ensures end { self.new.end ≡ self.old.end }
         ensures walked { IfOk result (λ v. Walk self.old self.new (flat_map param_spots v.items)) }
     {
@@ -49,13 +50,13 @@ impl<'t, 'a> Parser<'t, 'a> {
             let param = self.param()?;
             params.push(param)?;
         }
-        Ok(params)
+        Ok(trimmed(self.alloc, params))
     }
 
     #[tactic(auto, unfolding(crate::specs::Reading::list_at, crate::specs::Reading::mark_at), using(crate::proofs::Walks::walk_skip, crate::proofs::Walks::walk_then, crate::proofs::Walks::walk_end, crate::proofs::Walks::walk_none, crate::proofs::Errors::fails_unexpected, crate::proofs::Separated::fails_bind))]
     pub(crate) fn params(&mut self) -> Result<Vec<Param<'a>>, Refusal>
-        ensures read { Gives (λ v. map bare_param v.items) result (list_at CloseParen (any_number (param_at the_limits)) (lexemes self.old.tokens.now)) (lexemes self.new.tokens.now) }
-        ensures shorter { length self.new.tokens.now ≤ length self.old.tokens.now }
+        ensures read { Gives (λ v. map bare_param v.items) result (list_at CloseParen (any_number (param_at the_limits)) (lexemes self.old)) (lexemes self.new) }
+        ensures shorter { length (lexemes self.new) ≤ length (lexemes self.old) }
         ensures end { self.new.end ≡ self.old.end }
         ensures walked { IfOk result (λ v. Walk self.old self.new (flat_map param_spots v.items)) }
     {
@@ -69,8 +70,8 @@ impl<'t, 'a> Parser<'t, 'a> {
 
     #[tactic(auto, unfolding(crate::specs::Reading::predicate_at), using(crate::proofs::Walks::walk_skip, crate::proofs::Walks::walk_then, crate::proofs::Walks::walk_end, crate::proofs::Walks::walk_none, crate::proofs::Errors::fails_unexpected, crate::proofs::Separated::fails_bind))]
     pub(crate) fn predicate(&mut self) -> Result<Predicate<'a>, Refusal>
-        ensures read { Gives (bare_predicate) result (predicate_at the_limits (lexemes self.old.tokens.now)) (lexemes self.new.tokens.now) }
-        ensures shorter { length self.new.tokens.now ≤ length self.old.tokens.now }
+        ensures read { Gives (bare_predicate) result (predicate_at the_limits (lexemes self.old)) (lexemes self.new) }
+        ensures shorter { length (lexemes self.new) ≤ length (lexemes self.old) }
         ensures end { self.new.end ≡ self.old.end }
         ensures walked { IfOk result (λ p. Walk self.old self.new (predicate_spots p)) }
     {
@@ -83,8 +84,8 @@ impl<'t, 'a> Parser<'t, 'a> {
     }
 
     pub(crate) fn separated_args(&mut self) -> Result<Vec<Expr<'a>>, Refusal>
-        ensures read { Gives (λ v. map bare_expr v.items) result (separated_at (any_number (expr_at the_limits)) (lexemes self.old.tokens.now)) (lexemes self.new.tokens.now) }
-        ensures shorter { length self.new.tokens.now ≤ length self.old.tokens.now }
+        ensures read { Gives (λ v. map bare_expr v.items) result (separated_at (any_number (expr_at the_limits)) (lexemes self.old)) (lexemes self.new) }
+        ensures shorter { length (lexemes self.new) ≤ length (lexemes self.old) }
         ensures end { self.new.end ≡ self.old.end }
         ensures walked { IfOk result (λ v. Walk self.old self.new (flat_map expr_spots v.items)) }
     {
@@ -94,13 +95,13 @@ impl<'t, 'a> Parser<'t, 'a> {
             let expr = self.expr()?;
             exprs.push(expr)?;
         }
-        Ok(exprs)
+        Ok(trimmed(self.alloc, exprs))
     }
 
     #[tactic(auto, unfolding(crate::specs::Reading::list_at, crate::specs::Reading::mark_at), using(crate::proofs::Walks::walk_skip, crate::proofs::Walks::walk_then, crate::proofs::Walks::walk_end, crate::proofs::Walks::walk_none, crate::proofs::Errors::fails_unexpected, crate::proofs::Separated::fails_bind))]
     pub(crate) fn constraint_args(&mut self) -> Result<Vec<Expr<'a>>, Refusal>
-        ensures read { Gives (λ v. map bare_expr v.items) result (list_at CloseParen (any_number (expr_at the_limits)) (lexemes self.old.tokens.now)) (lexemes self.new.tokens.now) }
-        ensures shorter { length self.new.tokens.now ≤ length self.old.tokens.now }
+        ensures read { Gives (λ v. map bare_expr v.items) result (list_at CloseParen (any_number (expr_at the_limits)) (lexemes self.old)) (lexemes self.new) }
+        ensures shorter { length (lexemes self.new) ≤ length (lexemes self.old) }
         ensures end { self.new.end ≡ self.old.end }
         ensures walked { IfOk result (λ v. Walk self.old self.new (flat_map expr_spots v.items)) }
     {
@@ -114,8 +115,8 @@ impl<'t, 'a> Parser<'t, 'a> {
 
     #[tactic(auto, unfolding(crate::specs::Reading::constraint_at), using(crate::proofs::Walks::walk_skip, crate::proofs::Walks::walk_then, crate::proofs::Walks::walk_end, crate::proofs::Walks::walk_none, crate::proofs::Errors::fails_unexpected, crate::proofs::Separated::fails_bind))]
     pub(crate) fn constraint(&mut self) -> Result<Constraint<'a>, Refusal>
-        ensures read { Gives (bare_constraint) result (constraint_at the_limits (lexemes self.old.tokens.now)) (lexemes self.new.tokens.now) }
-        ensures shorter { length self.new.tokens.now ≤ length self.old.tokens.now }
+        ensures read { Gives (bare_constraint) result (constraint_at the_limits (lexemes self.old)) (lexemes self.new) }
+        ensures shorter { length (lexemes self.new) ≤ length (lexemes self.old) }
         ensures end { self.new.end ≡ self.old.end }
         ensures walked { IfOk result (λ c. Walk self.old self.new (constraint_spots c)) }
     {
@@ -130,8 +131,8 @@ impl<'t, 'a> Parser<'t, 'a> {
 
     #[tactic(auto, unfolding(crate::specs::Reading::goal_at), using(crate::proofs::Walks::walk_skip, crate::proofs::Walks::walk_then, crate::proofs::Walks::walk_end, crate::proofs::Walks::walk_none, crate::proofs::Errors::fails_unexpected, crate::proofs::Separated::fails_bind))]
     pub(crate) fn goal(&mut self) -> Result<Goal<'a>, Refusal>
-        ensures read { Gives (bare_goal) result (goal_at the_limits (lexemes self.old.tokens.now)) (lexemes self.new.tokens.now) }
-        ensures shorter { length self.new.tokens.now ≤ length self.old.tokens.now }
+        ensures read { Gives (bare_goal) result (goal_at the_limits (lexemes self.old)) (lexemes self.new) }
+        ensures shorter { length (lexemes self.new) ≤ length (lexemes self.old) }
         ensures end { self.new.end ≡ self.old.end }
         ensures walked { IfOk result (λ g. Walk self.old self.new (goal_spots g)) }
     {
@@ -147,8 +148,8 @@ impl<'t, 'a> Parser<'t, 'a> {
 
     #[tactic(auto, unfolding(crate::specs::Reading::solve_at), using(crate::proofs::Walks::walk_skip, crate::proofs::Walks::walk_then, crate::proofs::Walks::walk_end, crate::proofs::Walks::walk_none, crate::proofs::Errors::fails_unexpected, crate::proofs::Separated::fails_bind))]
     pub(crate) fn solve(&mut self) -> Result<Solve<'a>, Refusal>
-        ensures read { Gives (bare_solve) result (solve_at the_limits (lexemes self.old.tokens.now)) (lexemes self.new.tokens.now) }
-        ensures shorter { length self.new.tokens.now ≤ length self.old.tokens.now }
+        ensures read { Gives (bare_solve) result (solve_at the_limits (lexemes self.old)) (lexemes self.new) }
+        ensures shorter { length (lexemes self.new) ≤ length (lexemes self.old) }
         ensures end { self.new.end ≡ self.old.end }
         ensures walked { IfOk result (λ s. Walk self.old self.new (solve_spots s)) }
     {
@@ -161,8 +162,8 @@ impl<'t, 'a> Parser<'t, 'a> {
 
     #[tactic(auto, unfolding(crate::specs::Reading::value_at), using(crate::proofs::Walks::walk_skip, crate::proofs::Walks::walk_then, crate::proofs::Walks::walk_end, crate::proofs::Walks::walk_none, crate::proofs::Errors::fails_unexpected, crate::proofs::Separated::fails_bind))]
     pub(crate) fn value(&mut self, is_var: bool, array: Option<usize>) -> Result<Expr<'a>, Refusal>
-        ensures read { Gives (bare_expr) result (value_at the_limits is_var array (lexemes self.old.tokens.now)) (lexemes self.new.tokens.now) }
-        ensures shorter { length self.new.tokens.now ≤ length self.old.tokens.now }
+        ensures read { Gives (bare_expr) result (value_at the_limits is_var array (lexemes self.old)) (lexemes self.new) }
+        ensures shorter { length (lexemes self.new) ≤ length (lexemes self.old) }
         ensures end { self.new.end ≡ self.old.end }
         ensures walked { IfOk result (λ e. Walk self.old self.new (expr_spots e)) }
     {
@@ -186,8 +187,8 @@ impl<'t, 'a> Parser<'t, 'a> {
         is_var: bool,
         array: Option<usize>,
     ) -> Result<Option<Expr<'a>>, Refusal>
-        ensures read { Gives (bare_value) result (given_value_at the_limits is_var array (lexemes self.old.tokens.now)) (lexemes self.new.tokens.now) }
-        ensures shorter { length self.new.tokens.now ≤ length self.old.tokens.now }
+        ensures read { Gives (bare_value) result (given_value_at the_limits is_var array (lexemes self.old)) (lexemes self.new) }
+        ensures shorter { length (lexemes self.new) ≤ length (lexemes self.old) }
         ensures end { self.new.end ≡ self.old.end }
         ensures walked { IfOk result (λ o. Walk self.old self.new (value_spots o)) }
     {
@@ -200,8 +201,8 @@ impl<'t, 'a> Parser<'t, 'a> {
 
     #[tactic(auto, unfolding(crate::specs::Reading::decl_at, crate::specs::Reading::var_at), using(crate::proofs::Walks::walk_skip, crate::proofs::Walks::walk_then, crate::proofs::Walks::walk_end, crate::proofs::Walks::walk_none, crate::proofs::Errors::fails_unexpected, crate::proofs::Separated::fails_bind))]
     pub(crate) fn decl(&mut self) -> Result<Decl<'a>, Refusal>
-        ensures read { Gives (bare_decl) result (decl_at the_limits (lexemes self.old.tokens.now)) (lexemes self.new.tokens.now) }
-        ensures shorter { length self.new.tokens.now ≤ length self.old.tokens.now }
+        ensures read { Gives (bare_decl) result (decl_at the_limits (lexemes self.old)) (lexemes self.new) }
+        ensures shorter { length (lexemes self.new) ≤ length (lexemes self.old) }
         ensures end { self.new.end ≡ self.old.end }
         ensures walked { IfOk result (λ d. Walk self.old self.new (decl_spots d)) }
     {

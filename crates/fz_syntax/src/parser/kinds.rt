@@ -4,6 +4,7 @@ ghost use Rattle.std.specs.Prelude.{◌≡◌};
 ghost use Rattle.fz_syntax.specs.View.{lexeme};
 ghost use Rattle.fz_syntax.specs.Reading.{is_float, is_name, begins_literal, is_quoted, may_lack_value, begins_decl};
 ghost use Rattle.fz_syntax.specs.ReadingItems.{dimensions_of, token_dimensions};
+ghost use Rattle.fz_syntax.specs.Words.{may_be_reserved};
 ghost use Rattle.fz_syntax.specs.Shape.{is_one_of, type_words, item_words, truth_words, is_reserved};
 
 use fz_lex::{Mark, Token, TokenKind};
@@ -41,10 +42,33 @@ fn is_truth_word(word: &[u8]) -> bool
     matches!(word, b"true" | b"false")
 }
 
+/// Whether a reserved word has the length of this word and its first byte. Of nearly all names this tells that they
+/// are no reserved words.
+fn may_be_reserved(word: &[u8]) -> bool
+    ensures { result ≡ may_be_reserved word.now }
+{
+    if word.is_empty() {
+        return false;
+    }
+    let first = word[0];
+    match word.len() {
+        2 => first == b'o',
+        3 => matches!(first, b'v' | b'i' | b's'),
+        4 => matches!(first, b'b' | b't'),
+        5 => matches!(first, b'a' | b'f' | b's'),
+        7 => first == b's',
+        8 => first == b'm',
+        9 => first == b'p',
+        10 => first == b'c',
+        _ => false,
+    }
+}
+
+#[tactic(auto, using(crate::proofs::Words::not_reserved))]
 fn is_reserved(word: &[u8]) -> bool
     ensures { result ≡ is_reserved word.now }
 {
-    is_type_word(word) || is_item_word(word) || is_truth_word(word)
+    may_be_reserved(word) && (is_type_word(word) || is_item_word(word) || is_truth_word(word))
 }
 
 pub(crate) fn is_name(token: &Token<'_>) -> bool

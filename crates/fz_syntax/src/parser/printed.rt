@@ -1,46 +1,47 @@
 //! The items of a solver's output.
 
 ghost use Rattle.std.specs.Prelude.{◌≡◌, ◌≤◌, ◌==◌, if◌then◌else◌, drop, length, map, IfOk, []};
-ghost use Rattle.fz_syntax.specs.View.{lexemes, bare_literal, bare_printed_value, bare_printed, bare_items};
+ghost use Rattle.fz_syntax.specs.View.{bare_literal, bare_printed_value, bare_printed, bare_items};
 ghost use Rattle.fz_syntax.specs.Outcome.{Gives};
 ghost use Rattle.fz_syntax.specs.Reading.{any_number, at_most, separated_at, begins_literal, literal_at, many_at, is_name};
 ghost use Rattle.fz_syntax.specs.ReadingItems.{next_dimensions, index_set_at, index_sets_at, elements_at, printed_array_at, printed_value_at, printed_at};
 ghost use Rattle.fz_syntax.specs.Shape.{the_limits};
 ghost use Rattle.fz_syntax.specs.Spots.{literal_spots, printed_value_spots, printed_spots, item_spots};
 ghost use Rattle.std.specs.List.{flat_map};
-ghost use Rattle.fz_syntax.specs.Walk.{Walk};
+ghost use Rattle.fz_syntax.specs.Walk.{Walk, lexemes};
 
 use crate::parser::cursor::{MAX_ELEMENTS, Parser};
 use crate::parser::kinds::dimensions;
+use crate::parser::lists::trimmed;
 use crate::parser::refusal::Refusal;
 use crate::tree::{Literal, Printed, PrintedValue};
 use fz_lex::Mark;
 
-impl<'t, 'a> Parser<'t, 'a> {
+impl<'a> Parser<'a> {
     /// Takes the word that begins an array, and gives the number of its index sets, or 0 where the next token is none.
     fn eat_array(&mut self) -> usize
-        ensures found { result ≡ next_dimensions (lexemes self.old.tokens.now) }
-        ensures left { lexemes self.new.tokens.now ≡ (if next_dimensions (lexemes self.old.tokens.now) == 0 then lexemes self.old.tokens.now else drop 1 (lexemes self.old.tokens.now)) }
-        ensures shorter { length self.new.tokens.now ≤ length self.old.tokens.now }
+        ensures found { result ≡ next_dimensions (lexemes self.old) }
+        ensures left { lexemes self.new ≡ (if next_dimensions (lexemes self.old) == 0 then lexemes self.old else drop 1 (lexemes self.old)) }
+        ensures shorter { length (lexemes self.new) ≤ length (lexemes self.old) }
         ensures end { self.new.end ≡ self.old.end }
         ensures walked { Walk self.old self.new [] }
     {
-        match self.tokens {
-            [first, ..] => {
-                let found = dimensions(first);
+        match self.tokens.first() {
+            Some(first) => {
+                let found = dimensions(&first);
                 if found > 0 {
                     self.skip();
                 }
                 found
             }
-            [] => 0,
+            None => 0,
         }
     }
 
     #[tactic(auto, unfolding(crate::specs::ReadingItems::index_set_at), using(crate::proofs::Walks::walk_skip, crate::proofs::Walks::walk_then, crate::proofs::Walks::walk_end, crate::proofs::Walks::walk_none, crate::proofs::Errors::fails_unexpected, crate::proofs::Separated::fails_bind))]
     fn index_set(&mut self) -> Result<Literal, Refusal>
-        ensures read { Gives bare_literal result (index_set_at the_limits (lexemes self.old.tokens.now)) (lexemes self.new.tokens.now) }
-        ensures shorter { length self.new.tokens.now ≤ length self.old.tokens.now }
+        ensures read { Gives bare_literal result (index_set_at the_limits (lexemes self.old)) (lexemes self.new) }
+        ensures shorter { length (lexemes self.new) ≤ length (lexemes self.old) }
         ensures end { self.new.end ≡ self.old.end }
         ensures walked { IfOk result (λ l. Walk self.old self.new (literal_spots l)) }
     {
@@ -50,8 +51,8 @@ impl<'t, 'a> Parser<'t, 'a> {
     }
 
     fn index_sets(&mut self, count: usize) -> Result<Vec<Literal>, Refusal>
-        ensures read { Gives (λ v. map bare_literal v.items) result (index_sets_at the_limits count (lexemes self.old.tokens.now)) (lexemes self.new.tokens.now) }
-        ensures shorter { length self.new.tokens.now ≤ length self.old.tokens.now }
+        ensures read { Gives (λ v. map bare_literal v.items) result (index_sets_at the_limits count (lexemes self.old)) (lexemes self.new) }
+        ensures shorter { length (lexemes self.new) ≤ length (lexemes self.old) }
         ensures end { self.new.end ≡ self.old.end }
         ensures walked { IfOk result (λ v. Walk self.old self.new (flat_map literal_spots v.items)) }
     {
@@ -60,13 +61,13 @@ impl<'t, 'a> Parser<'t, 'a> {
             let set = self.index_set()?;
             sets.push(set)?;
         }
-        Ok(sets)
+        Ok(trimmed(self.alloc, sets))
     }
 
     /// An element of a list that has `count` so far.
     fn listed_element(&mut self, count: usize) -> Result<Literal, Refusal>
-        ensures read { Gives bare_literal result (at_most the_limits.elements begins_literal (literal_at the_limits) count (lexemes self.old.tokens.now)) (lexemes self.new.tokens.now) }
-        ensures shorter { length self.new.tokens.now ≤ length self.old.tokens.now }
+        ensures read { Gives bare_literal result (at_most the_limits.elements begins_literal (literal_at the_limits) count (lexemes self.old)) (lexemes self.new) }
+        ensures shorter { length (lexemes self.new) ≤ length (lexemes self.old) }
         ensures end { self.new.end ≡ self.old.end }
         ensures walked { IfOk result (λ l. Walk self.old self.new (literal_spots l)) }
     {
@@ -77,8 +78,8 @@ impl<'t, 'a> Parser<'t, 'a> {
     }
 
     fn separated_elements(&mut self) -> Result<Vec<Literal>, Refusal>
-        ensures read { Gives (λ v. map bare_literal v.items) result (separated_at (at_most the_limits.elements begins_literal (literal_at the_limits)) (lexemes self.old.tokens.now)) (lexemes self.new.tokens.now) }
-        ensures shorter { length self.new.tokens.now ≤ length self.old.tokens.now }
+        ensures read { Gives (λ v. map bare_literal v.items) result (separated_at (at_most the_limits.elements begins_literal (literal_at the_limits)) (lexemes self.old)) (lexemes self.new) }
+        ensures shorter { length (lexemes self.new) ≤ length (lexemes self.old) }
         ensures end { self.new.end ≡ self.old.end }
         ensures walked { IfOk result (λ v. Walk self.old self.new (flat_map literal_spots v.items)) }
     {
@@ -88,14 +89,14 @@ impl<'t, 'a> Parser<'t, 'a> {
             let element = self.listed_element(elements.len())?;
             elements.push(element)?;
         }
-        Ok(elements)
+        Ok(trimmed(self.alloc, elements))
     }
 
     /// An array's elements behind the bracket that opens them.
     #[tactic(auto, unfolding(crate::specs::ReadingItems::elements_at, crate::specs::Reading::list_at, crate::specs::Reading::mark_at), using(crate::proofs::Walks::walk_skip, crate::proofs::Walks::walk_then, crate::proofs::Walks::walk_end, crate::proofs::Walks::walk_none, crate::proofs::Errors::fails_unexpected, crate::proofs::Separated::fails_bind))]
     fn elements(&mut self) -> Result<Vec<Literal>, Refusal>
-        ensures read { Gives (λ v. map bare_literal v.items) result (elements_at the_limits (lexemes self.old.tokens.now)) (lexemes self.new.tokens.now) }
-        ensures shorter { length self.new.tokens.now ≤ length self.old.tokens.now }
+        ensures read { Gives (λ v. map bare_literal v.items) result (elements_at the_limits (lexemes self.old)) (lexemes self.new) }
+        ensures shorter { length (lexemes self.new) ≤ length (lexemes self.old) }
         ensures end { self.new.end ≡ self.old.end }
         ensures walked { IfOk result (λ v. Walk self.old self.new (flat_map literal_spots v.items)) }
     {
@@ -110,8 +111,8 @@ impl<'t, 'a> Parser<'t, 'a> {
     /// An array behind its word, which says how many index sets it has.
     #[tactic(auto, unfolding(crate::specs::ReadingItems::printed_array_at), using(crate::proofs::Walks::walk_skip, crate::proofs::Walks::walk_then, crate::proofs::Walks::walk_end, crate::proofs::Walks::walk_none, crate::proofs::Errors::fails_unexpected, crate::proofs::Separated::fails_bind))]
     fn printed_array(&mut self, dimensions: usize) -> Result<PrintedValue, Refusal>
-        ensures read { Gives bare_printed_value result (printed_array_at the_limits dimensions (lexemes self.old.tokens.now)) (lexemes self.new.tokens.now) }
-        ensures shorter { length self.new.tokens.now ≤ length self.old.tokens.now }
+        ensures read { Gives bare_printed_value result (printed_array_at the_limits dimensions (lexemes self.old)) (lexemes self.new) }
+        ensures shorter { length (lexemes self.new) ≤ length (lexemes self.old) }
         ensures end { self.new.end ≡ self.old.end }
         ensures walked { IfOk result (λ v. Walk self.old self.new (printed_value_spots v)) }
     {
@@ -125,8 +126,8 @@ impl<'t, 'a> Parser<'t, 'a> {
 
     #[tactic(auto, unfolding(crate::specs::ReadingItems::printed_value_at), using(crate::proofs::Walks::walk_skip, crate::proofs::Walks::walk_then, crate::proofs::Walks::walk_end, crate::proofs::Walks::walk_none, crate::proofs::Errors::fails_unexpected, crate::proofs::Separated::fails_bind))]
     fn printed_value(&mut self) -> Result<PrintedValue, Refusal>
-        ensures read { Gives bare_printed_value result (printed_value_at the_limits (lexemes self.old.tokens.now)) (lexemes self.new.tokens.now) }
-        ensures shorter { length self.new.tokens.now ≤ length self.old.tokens.now }
+        ensures read { Gives bare_printed_value result (printed_value_at the_limits (lexemes self.old)) (lexemes self.new) }
+        ensures shorter { length (lexemes self.new) ≤ length (lexemes self.old) }
         ensures end { self.new.end ≡ self.old.end }
         ensures walked { IfOk result (λ v. Walk self.old self.new (printed_value_spots v)) }
     {
@@ -140,8 +141,8 @@ impl<'t, 'a> Parser<'t, 'a> {
 
     #[tactic(auto, unfolding(crate::specs::ReadingItems::printed_at), using(crate::proofs::Walks::walk_skip, crate::proofs::Walks::walk_then, crate::proofs::Walks::walk_end, crate::proofs::Walks::walk_none, crate::proofs::Errors::fails_unexpected, crate::proofs::Separated::fails_bind))]
     fn printed(&mut self) -> Result<Printed<'a>, Refusal>
-        ensures read { Gives bare_printed result (printed_at the_limits (lexemes self.old.tokens.now)) (lexemes self.new.tokens.now) }
-        ensures shorter { length self.new.tokens.now ≤ length self.old.tokens.now }
+        ensures read { Gives bare_printed result (printed_at the_limits (lexemes self.old)) (lexemes self.new) }
+        ensures shorter { length (lexemes self.new) ≤ length (lexemes self.old) }
         ensures end { self.new.end ≡ self.old.end }
         ensures walked { IfOk result (λ p. Walk self.old self.new (printed_spots p)) }
     {
@@ -153,8 +154,8 @@ impl<'t, 'a> Parser<'t, 'a> {
     }
 
     pub(crate) fn printed_items(&mut self) -> Result<Vec<Printed<'a>>, Refusal>
-        ensures read { Gives (λ v. bare_items v.items) result (many_at is_name (any_number (printed_at the_limits)) 0 (lexemes self.old.tokens.now)) (lexemes self.new.tokens.now) }
-        ensures shorter { length self.new.tokens.now ≤ length self.old.tokens.now }
+        ensures read { Gives (λ v. bare_items v.items) result (many_at is_name (any_number (printed_at the_limits)) 0 (lexemes self.old)) (lexemes self.new) }
+        ensures shorter { length (lexemes self.new) ≤ length (lexemes self.old) }
         ensures end { self.new.end ≡ self.old.end }
         ensures walked { IfOk result (λ v. Walk self.old self.new (item_spots v.items)) }
     {
@@ -163,6 +164,6 @@ impl<'t, 'a> Parser<'t, 'a> {
             let item = self.printed()?;
             items.push(item)?;
         }
-        Ok(items)
+        Ok(trimmed(self.alloc, items))
     }
 }

@@ -1,24 +1,24 @@
 //! Types and the lengths of arrays.
 
 ghost use Rattle.std.specs.Prelude.{◌≡◌, ◌≤◌, length, IfOk, []};
-ghost use Rattle.fz_syntax.specs.View.{lexemes, bare_literal, bare_bounds, bare_base};
+ghost use Rattle.fz_syntax.specs.View.{bare_literal, bare_bounds, bare_base};
 ghost use Rattle.fz_syntax.specs.Outcome.{Gives};
 ghost use Rattle.fz_syntax.specs.Reading.{range_at, bounds_at, int_at, base_at, plain_at, one_at, size_at, index_at, any_index_at, param_prefix_at, prefix_at, type_at};
 ghost use Rattle.fz_lex.specs.declared.token.Mark.TheVariants.{CloseBracket};
 ghost use Rattle.fz_syntax.specs.Shape.{the_limits};
 ghost use Rattle.fz_syntax.specs.Spots.{literal_spots, bounds_spots, base_spots};
-ghost use Rattle.fz_syntax.specs.Walk.{Walk};
+ghost use Rattle.fz_syntax.specs.Walk.{Walk, lexemes};
 
 use crate::parser::cursor::{MAX_SIZE, Parser};
 use crate::parser::refusal::Refusal;
 use crate::tree::{Base, Literal, LiteralKind};
 use fz_lex::{Mark, TokenKind};
 
-impl<'t, 'a> Parser<'t, 'a> {
+impl<'a> Parser<'a> {
     #[tactic(auto, unfolding(crate::specs::Reading::range_at), using(crate::proofs::Walks::walk_skip, crate::proofs::Walks::walk_then, crate::proofs::Walks::walk_end, crate::proofs::Walks::walk_none, crate::proofs::Errors::fails_unexpected, crate::proofs::Separated::fails_bind))]
     pub(crate) fn range(&mut self) -> Result<Literal, Refusal>
-        ensures read { Gives (bare_literal) result (range_at (lexemes self.old.tokens.now)) (lexemes self.new.tokens.now) }
-        ensures shorter { length self.new.tokens.now ≤ length self.old.tokens.now }
+        ensures read { Gives (bare_literal) result (range_at (lexemes self.old)) (lexemes self.new) }
+        ensures shorter { length (lexemes self.new) ≤ length (lexemes self.old) }
         ensures end { self.new.end ≡ self.old.end }
         ensures walked { IfOk result (λ l. Walk self.old self.new (literal_spots l)) }
     {
@@ -34,8 +34,8 @@ impl<'t, 'a> Parser<'t, 'a> {
 
     #[tactic(auto, unfolding(crate::specs::Reading::bounds_at), using(crate::proofs::Walks::walk_skip, crate::proofs::Walks::walk_then, crate::proofs::Walks::walk_end, crate::proofs::Walks::walk_none, crate::proofs::Errors::fails_unexpected, crate::proofs::Separated::fails_bind))]
     pub(crate) fn bounds(&mut self) -> Result<Literal, Refusal>
-        ensures read { Gives (bare_literal) result (bounds_at the_limits (lexemes self.old.tokens.now)) (lexemes self.new.tokens.now) }
-        ensures shorter { length self.new.tokens.now ≤ length self.old.tokens.now }
+        ensures read { Gives (bare_literal) result (bounds_at the_limits (lexemes self.old)) (lexemes self.new) }
+        ensures shorter { length (lexemes self.new) ≤ length (lexemes self.old) }
         ensures end { self.new.end ≡ self.old.end }
         ensures walked { IfOk result (λ l. Walk self.old self.new (literal_spots l)) }
     {
@@ -50,8 +50,8 @@ impl<'t, 'a> Parser<'t, 'a> {
     /// The word `int`, or bounds.
     #[tactic(auto, unfolding(crate::specs::Reading::int_at), using(crate::proofs::Walks::walk_skip, crate::proofs::Walks::walk_then, crate::proofs::Walks::walk_end, crate::proofs::Walks::walk_none, crate::proofs::Errors::fails_unexpected, crate::proofs::Separated::fails_bind))]
     pub(crate) fn int(&mut self) -> Result<Option<Literal>, Refusal>
-        ensures read { Gives (bare_bounds) result (int_at the_limits (lexemes self.old.tokens.now)) (lexemes self.new.tokens.now) }
-        ensures shorter { length self.new.tokens.now ≤ length self.old.tokens.now }
+        ensures read { Gives (bare_bounds) result (int_at the_limits (lexemes self.old)) (lexemes self.new) }
+        ensures shorter { length (lexemes self.new) ≤ length (lexemes self.old) }
         ensures end { self.new.end ≡ self.old.end }
         ensures walked { IfOk result (λ o. Walk self.old self.new (bounds_spots o)) }
     {
@@ -64,8 +64,8 @@ impl<'t, 'a> Parser<'t, 'a> {
 
     #[tactic(auto, unfolding(crate::specs::Reading::base_at), using(crate::proofs::Walks::walk_skip, crate::proofs::Walks::walk_then, crate::proofs::Walks::walk_end, crate::proofs::Walks::walk_none, crate::proofs::Errors::fails_unexpected, crate::proofs::Separated::fails_bind))]
     pub(crate) fn base(&mut self) -> Result<Base, Refusal>
-        ensures read { Gives (bare_base) result (base_at the_limits (lexemes self.old.tokens.now)) (lexemes self.new.tokens.now) }
-        ensures shorter { length self.new.tokens.now ≤ length self.old.tokens.now }
+        ensures read { Gives (bare_base) result (base_at the_limits (lexemes self.old)) (lexemes self.new) }
+        ensures shorter { length (lexemes self.new) ≤ length (lexemes self.old) }
         ensures end { self.new.end ≡ self.old.end }
         ensures walked { IfOk result (λ b. Walk self.old self.new (base_spots b)) }
     {
@@ -82,8 +82,8 @@ impl<'t, 'a> Parser<'t, 'a> {
     /// The type of a parameter.
     #[tactic(auto, unfolding(crate::specs::Reading::plain_at), using(crate::proofs::Walks::walk_skip, crate::proofs::Walks::walk_then, crate::proofs::Walks::walk_end, crate::proofs::Walks::walk_none, crate::proofs::Errors::fails_unexpected, crate::proofs::Separated::fails_bind))]
     pub(crate) fn plain(&mut self) -> Result<Base, Refusal>
-        ensures read { Gives (bare_base) result (plain_at (lexemes self.old.tokens.now)) (lexemes self.new.tokens.now) }
-        ensures shorter { length self.new.tokens.now ≤ length self.old.tokens.now }
+        ensures read { Gives (bare_base) result (plain_at (lexemes self.old)) (lexemes self.new) }
+        ensures shorter { length (lexemes self.new) ≤ length (lexemes self.old) }
         ensures end { self.new.end ≡ self.old.end }
         ensures walked { IfOk result (λ b. Walk self.old self.new (base_spots b)) }
     {
@@ -101,13 +101,13 @@ impl<'t, 'a> Parser<'t, 'a> {
 
     #[tactic(auto, unfolding(crate::specs::Reading::one_at), using(crate::proofs::Walks::walk_skip, crate::proofs::Walks::walk_then, crate::proofs::Walks::walk_end, crate::proofs::Walks::walk_none, crate::proofs::Errors::fails_unexpected, crate::proofs::Separated::fails_bind))]
     pub(crate) fn one(&mut self) -> Result<(), Refusal>
-        ensures read { Gives (λ _. tt) result (one_at (lexemes self.old.tokens.now)) (lexemes self.new.tokens.now) }
-        ensures shorter { length self.new.tokens.now ≤ length self.old.tokens.now }
+        ensures read { Gives (λ _. tt) result (one_at (lexemes self.old)) (lexemes self.new) }
+        ensures shorter { length (lexemes self.new) ≤ length (lexemes self.old) }
         ensures end { self.new.end ≡ self.old.end }
         ensures walked { IfOk result (λ _. Walk self.old self.new []) }
     {
-        match self.tokens {
-            [first, ..] => {
+        match self.tokens.first() {
+            Some(first) => {
                 if first.kind == TokenKind::Whole(1) {
                     self.skip();
                     Ok(())
@@ -115,19 +115,19 @@ impl<'t, 'a> Parser<'t, 'a> {
                     Err(self.unexpected())
                 }
             }
-            [] => Err(self.unexpected()),
+            None => Err(self.unexpected()),
         }
     }
 
     #[tactic(auto, unfolding(crate::specs::Reading::size_at), using(crate::proofs::Walks::walk_skip, crate::proofs::Walks::walk_then, crate::proofs::Walks::walk_end, crate::proofs::Walks::walk_none, crate::proofs::Errors::fails_unexpected, crate::proofs::Separated::fails_bind))]
     pub(crate) fn size(&mut self) -> Result<usize, Refusal>
-        ensures read { Gives (λ n. n) result (size_at the_limits (lexemes self.old.tokens.now)) (lexemes self.new.tokens.now) }
-        ensures shorter { length self.new.tokens.now ≤ length self.old.tokens.now }
+        ensures read { Gives (λ n. n) result (size_at the_limits (lexemes self.old)) (lexemes self.new) }
+        ensures shorter { length (lexemes self.new) ≤ length (lexemes self.old) }
         ensures end { self.new.end ≡ self.old.end }
         ensures walked { IfOk result (λ _. Walk self.old self.new []) }
     {
-        match self.tokens {
-            [first, ..] => match first.kind {
+        match self.tokens.first() {
+            Some(first) => match first.kind {
                 TokenKind::Whole(n) => match usize::try_from(n) {
                     Ok(size) => {
                         if size <= MAX_SIZE {
@@ -141,14 +141,14 @@ impl<'t, 'a> Parser<'t, 'a> {
                 },
                 _ => Err(self.unexpected()),
             },
-            [] => Err(self.unexpected()),
+            None => Err(self.unexpected()),
         }
     }
 
     #[tactic(auto, unfolding(crate::specs::Reading::index_at), using(crate::proofs::Walks::walk_skip, crate::proofs::Walks::walk_then, crate::proofs::Walks::walk_end, crate::proofs::Walks::walk_none, crate::proofs::Errors::fails_unexpected, crate::proofs::Separated::fails_bind))]
     pub(crate) fn index(&mut self) -> Result<usize, Refusal>
-        ensures read { Gives (λ n. n) result (index_at the_limits (lexemes self.old.tokens.now)) (lexemes self.new.tokens.now) }
-        ensures shorter { length self.new.tokens.now ≤ length self.old.tokens.now }
+        ensures read { Gives (λ n. n) result (index_at the_limits (lexemes self.old)) (lexemes self.new) }
+        ensures shorter { length (lexemes self.new) ≤ length (lexemes self.old) }
         ensures end { self.new.end ≡ self.old.end }
         ensures walked { IfOk result (λ _. Walk self.old self.new []) }
     {
@@ -159,8 +159,8 @@ impl<'t, 'a> Parser<'t, 'a> {
 
     #[tactic(auto, unfolding(crate::specs::Reading::any_index_at), using(crate::proofs::Walks::walk_skip, crate::proofs::Walks::walk_then, crate::proofs::Walks::walk_end, crate::proofs::Walks::walk_none, crate::proofs::Errors::fails_unexpected, crate::proofs::Separated::fails_bind))]
     pub(crate) fn any_index(&mut self) -> Result<Option<usize>, Refusal>
-        ensures read { Gives (λ n. n) result (any_index_at the_limits (lexemes self.old.tokens.now)) (lexemes self.new.tokens.now) }
-        ensures shorter { length self.new.tokens.now ≤ length self.old.tokens.now }
+        ensures read { Gives (λ n. n) result (any_index_at the_limits (lexemes self.old)) (lexemes self.new) }
+        ensures shorter { length (lexemes self.new) ≤ length (lexemes self.old) }
         ensures end { self.new.end ≡ self.old.end }
         ensures walked { IfOk result (λ _. Walk self.old self.new []) }
     {
@@ -173,8 +173,8 @@ impl<'t, 'a> Parser<'t, 'a> {
 
     #[tactic(auto, unfolding(crate::specs::Reading::param_prefix_at, crate::specs::Reading::array_at), using(crate::proofs::Walks::walk_skip, crate::proofs::Walks::walk_then, crate::proofs::Walks::walk_end, crate::proofs::Walks::walk_none, crate::proofs::Errors::fails_unexpected, crate::proofs::Separated::fails_bind))]
     pub(crate) fn param_prefix(&mut self) -> Result<Option<Option<usize>>, Refusal>
-        ensures read { Gives (λ n. n) result (param_prefix_at the_limits (lexemes self.old.tokens.now)) (lexemes self.new.tokens.now) }
-        ensures shorter { length self.new.tokens.now ≤ length self.old.tokens.now }
+        ensures read { Gives (λ n. n) result (param_prefix_at the_limits (lexemes self.old)) (lexemes self.new) }
+        ensures shorter { length (lexemes self.new) ≤ length (lexemes self.old) }
         ensures end { self.new.end ≡ self.old.end }
         ensures walked { IfOk result (λ _. Walk self.old self.new []) }
     {
@@ -190,8 +190,8 @@ impl<'t, 'a> Parser<'t, 'a> {
 
     #[tactic(auto, unfolding(crate::specs::Reading::prefix_at, crate::specs::Reading::array_at), using(crate::proofs::Walks::walk_skip, crate::proofs::Walks::walk_then, crate::proofs::Walks::walk_end, crate::proofs::Walks::walk_none, crate::proofs::Errors::fails_unexpected, crate::proofs::Separated::fails_bind))]
     pub(crate) fn prefix(&mut self) -> Result<Option<usize>, Refusal>
-        ensures read { Gives (λ n. n) result (prefix_at the_limits (lexemes self.old.tokens.now)) (lexemes self.new.tokens.now) }
-        ensures shorter { length self.new.tokens.now ≤ length self.old.tokens.now }
+        ensures read { Gives (λ n. n) result (prefix_at the_limits (lexemes self.old)) (lexemes self.new) }
+        ensures shorter { length (lexemes self.new) ≤ length (lexemes self.old) }
         ensures end { self.new.end ≡ self.old.end }
         ensures walked { IfOk result (λ _. Walk self.old self.new []) }
     {
@@ -207,8 +207,8 @@ impl<'t, 'a> Parser<'t, 'a> {
 
     #[tactic(auto, unfolding(crate::specs::Reading::type_at), using(crate::proofs::Walks::walk_skip, crate::proofs::Walks::walk_then, crate::proofs::Walks::walk_end, crate::proofs::Walks::walk_none, crate::proofs::Errors::fails_unexpected, crate::proofs::Separated::fails_bind))]
     pub(crate) fn element_type(&mut self, is_var: bool) -> Result<Base, Refusal>
-        ensures read { Gives (bare_base) result (type_at the_limits is_var (lexemes self.old.tokens.now)) (lexemes self.new.tokens.now) }
-        ensures shorter { length self.new.tokens.now ≤ length self.old.tokens.now }
+        ensures read { Gives (bare_base) result (type_at the_limits is_var (lexemes self.old)) (lexemes self.new) }
+        ensures shorter { length (lexemes self.new) ≤ length (lexemes self.old) }
         ensures end { self.new.end ≡ self.old.end }
         ensures walked { IfOk result (λ b. Walk self.old self.new (base_spots b)) }
     {

@@ -1,22 +1,23 @@
 //! A whole tree: its items by kind.
 
 ghost use Rattle.std.specs.Prelude.{◌≡◌, ◌≤◌, length, map, codes, IfOk, []};
-ghost use Rattle.fz_syntax.specs.View.{lexemes, bare_predicate, bare_constraint, bare_decl, bare};
+ghost use Rattle.fz_syntax.specs.View.{bare_predicate, bare_constraint, bare_decl, bare};
 ghost use Rattle.fz_syntax.specs.Outcome.{Gives};
 ghost use Rattle.fz_syntax.specs.Reading.{any_number, predicate_at, constraint_at, decl_at, many_at, is_word, begins_decl, tree_at};
 ghost use Rattle.fz_syntax.specs.Shape.{the_limits};
 ghost use Rattle.fz_syntax.specs.Spots.{spots, predicate_spots, constraint_spots, decl_spots};
 ghost use Rattle.std.specs.List.{flat_map};
-ghost use Rattle.fz_syntax.specs.Walk.{Walk};
+ghost use Rattle.fz_syntax.specs.Walk.{Walk, lexemes};
 
 use crate::parser::cursor::Parser;
+use crate::parser::lists::trimmed;
 use crate::parser::refusal::Refusal;
 use crate::tree::{Ast, Constraint, Decl, Predicate};
 
-impl<'t, 'a> Parser<'t, 'a> {
+impl<'a> Parser<'a> {
     pub(crate) fn predicates(&mut self) -> Result<Vec<Predicate<'a>>, Refusal>
-        ensures read { Gives (λ v. map bare_predicate v.items) result (many_at (is_word (codes "predicate")) (any_number (predicate_at the_limits)) 0 (lexemes self.old.tokens.now)) (lexemes self.new.tokens.now) }
-        ensures shorter { length self.new.tokens.now ≤ length self.old.tokens.now }
+        ensures read { Gives (λ v. map bare_predicate v.items) result (many_at (is_word (codes "predicate")) (any_number (predicate_at the_limits)) 0 (lexemes self.old)) (lexemes self.new) }
+        ensures shorter { length (lexemes self.new) ≤ length (lexemes self.old) }
         ensures end { self.new.end ≡ self.old.end }
         ensures walked { IfOk result (λ v. Walk self.old self.new (flat_map predicate_spots v.items)) }
     {
@@ -25,12 +26,12 @@ impl<'t, 'a> Parser<'t, 'a> {
             let item = self.predicate()?;
             items.push(item)?;
         }
-        Ok(items)
+        Ok(trimmed(self.alloc, items))
     }
 
     pub(crate) fn decls(&mut self) -> Result<Vec<Decl<'a>>, Refusal>
-        ensures read { Gives (λ v. map bare_decl v.items) result (many_at begins_decl (any_number (decl_at the_limits)) 0 (lexemes self.old.tokens.now)) (lexemes self.new.tokens.now) }
-        ensures shorter { length self.new.tokens.now ≤ length self.old.tokens.now }
+        ensures read { Gives (λ v. map bare_decl v.items) result (many_at begins_decl (any_number (decl_at the_limits)) 0 (lexemes self.old)) (lexemes self.new) }
+        ensures shorter { length (lexemes self.new) ≤ length (lexemes self.old) }
         ensures end { self.new.end ≡ self.old.end }
         ensures walked { IfOk result (λ v. Walk self.old self.new (flat_map decl_spots v.items)) }
     {
@@ -39,12 +40,12 @@ impl<'t, 'a> Parser<'t, 'a> {
             let item = self.decl()?;
             items.push(item)?;
         }
-        Ok(items)
+        Ok(trimmed(self.alloc, items))
     }
 
     pub(crate) fn constraints(&mut self) -> Result<Vec<Constraint<'a>>, Refusal>
-        ensures read { Gives (λ v. map bare_constraint v.items) result (many_at (is_word (codes "constraint")) (any_number (constraint_at the_limits)) 0 (lexemes self.old.tokens.now)) (lexemes self.new.tokens.now) }
-        ensures shorter { length self.new.tokens.now ≤ length self.old.tokens.now }
+        ensures read { Gives (λ v. map bare_constraint v.items) result (many_at (is_word (codes "constraint")) (any_number (constraint_at the_limits)) 0 (lexemes self.old)) (lexemes self.new) }
+        ensures shorter { length (lexemes self.new) ≤ length (lexemes self.old) }
         ensures end { self.new.end ≡ self.old.end }
         ensures walked { IfOk result (λ v. Walk self.old self.new (flat_map constraint_spots v.items)) }
     {
@@ -53,13 +54,13 @@ impl<'t, 'a> Parser<'t, 'a> {
             let item = self.constraint()?;
             items.push(item)?;
         }
-        Ok(items)
+        Ok(trimmed(self.alloc, items))
     }
 
     #[tactic(auto, unfolding(crate::specs::Reading::tree_at), using(crate::proofs::Walks::walk_skip, crate::proofs::Walks::walk_then, crate::proofs::Walks::walk_end, crate::proofs::Walks::walk_none, crate::proofs::Errors::fails_unexpected, crate::proofs::Separated::fails_bind))]
     pub(crate) fn tree(&mut self) -> Result<Ast<'a>, Refusal>
-        ensures read { Gives (bare) result (tree_at the_limits (lexemes self.old.tokens.now)) (lexemes self.new.tokens.now) }
-        ensures shorter { length self.new.tokens.now ≤ length self.old.tokens.now }
+        ensures read { Gives (bare) result (tree_at the_limits (lexemes self.old)) (lexemes self.new) }
+        ensures shorter { length (lexemes self.new) ≤ length (lexemes self.old) }
         ensures end { self.new.end ≡ self.old.end }
         ensures walked { IfOk result (λ a. Walk self.old self.new (spots a)) }
     {

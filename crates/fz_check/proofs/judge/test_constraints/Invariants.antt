@@ -1,6 +1,6 @@
 use Rattle.std.proofs.Common.{◌≡◌, take, IsNone}
 use Rattle.std.specs.List.{AllByRecursion}
-use Rattle.fz_model.specs.declared.state.State.TheVariants.{Holds}
+use Rattle.fz_model.specs.declared.State.TheVariants.{Holds}
 use Rattle.fz_check.specs.Simple.{relation_state}
 use Rattle.fz_check.proofs.judge.test_constraints.Given as goal
 

@@ -5,6 +5,7 @@ use Rattle.fz_stream.specs.declared.held.Ended.TheVariants.{BlockEnded, ClaimEnd
 use Rattle.fz_stream.specs.declared.step.Step.TheVariants.{GoesOn}
 use Rattle.fz_stream.specs.Parts.{IsBlockText}
 use Rattle.fz_stream.specs.Keeping.{EndsPart}
+use Rattle.fz_stream.specs.Telling.{TellsOfText}
 use Rattle.fz_stream.proofs.EndLemmas.{step_is, goes_on_none, goes_on_some, ends_with_block, ends_with_claim, breaks_block}
 use Rattle.fz_stream.proofs.held.end_line.Goals as goal
 
@@ -15,7 +16,8 @@ returns-in_err-read_block-in-EndsBlock-clause-breaks c =
     rw (p.1, p.2) (λ known body line l.
     breaks_block c.args.held.now body line l _ c.in-EndsBlock.field-0
     (step_is c.args.held.now body line l (c.args.held.now.before + c.args.held.now.line) _ _ _ _ _ c.begun_at-begun.ensures c.deref.ensures.value c.line_kind-kind.ensures c.after_line.ensures c.in-EndsBlock.is)
-    (λ items t. c.in_err-read_block-in-EndsBlock.ensures.refused known items (subst (λ b. IsBlockText (take c.args.held.now.line b) items) (sym c.deref-in-EndsBlock.ensures.value) t)))
+    (λ items t. c.in_err-read_block-in-EndsBlock.ensures.refused known items (subst (λ b. IsBlockText (take c.args.held.now.line b) items) (sym c.deref-in-EndsBlock.ensures.value) t))
+    _ (subst (λ b. TellsOfText c.args.held.now.before (take c.args.held.now.line b) c.in_err-read_block-in-EndsBlock.field-0.0) c.deref-in-EndsBlock.ensures.value c.in_err-read_block-in-EndsBlock.ensures.tells))
 
 pub returns-in-GoesOn-None-clause-goes_on : goal.returns-in-GoesOn-None-clause-goes_on
 returns-in-GoesOn-None-clause-goes_on c _ body line l =

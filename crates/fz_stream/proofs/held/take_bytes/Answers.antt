@@ -15,14 +15,14 @@ pub loop-at-preserved : goal.loop-at-preserved
 loop-at-preserved c =
     let room : length c.loop-at.held.buffer.items + length c.first_line-part.result.now ≤ 2 ^ 24 = omega arith in
     let over : c.loop-at.held.before + length c.loop-at.held.buffer.items + length c.first_line-part.result.now ≤ 2 ^ 40 = omega arith in
-    taking_begun c.args.held.now c.loop-at.held c.args.piece.now c.loop-at.at c.loop-at.invariant c.first_line-part.result.now _ (take_rest c.args.piece.now c.loop-at.at) c.first_line-part.ensures.front c.first_line-part.ensures.within c.first_line-part.ensures.some c.first_line-part.ensures.cut (record { buffer = c.extend_from_slice.new.self; line = c.loop-at.held.line; before = c.loop-at.held.before }) c.in_ok-extend_from_slice.ensures.items refl refl room over c.if-part-eq10.false
+    taking_begun c.args.held.now c.loop-at.held c.args.piece.now c.loop-at.at c.loop-at.invariant c.first_line-part.result.now _ (take_rest c.args.piece.now c.loop-at.at) c.first_line-part.ensures.front c.first_line-part.ensures.within c.first_line-part.ensures.some c.first_line-part.ensures.cut (record { buffer = c.extend_from_slice.new.self; line = c.loop-at.held.line; before = c.loop-at.held.before }) c.in_ok-extend_from_slice.ensures.items refl refl room over c.if-is_whole.false
 
 pub loop-at-preserved-in_default : goal.loop-at-preserved-in_default
 loop-at-preserved-in_default c =
     let room : length c.loop-at.held.buffer.items + length c.first_line-part.result.now ≤ 2 ^ 24 = omega arith in
     let over : c.loop-at.held.before + length c.loop-at.held.buffer.items + length c.first_line-part.result.now ≤ 2 ^ 40 = omega arith in
     let l = lines_mid c.args.held.now c.loop-at.held c.args.piece.now c.loop-at.at c.loop-at.invariant c.first_line-part.result.now _ (take_rest c.args.piece.now c.loop-at.at) c.first_line-part.ensures.front c.first_line-part.ensures.within c.first_line-part.ensures.some c.first_line-part.ensures.cut (record { buffer = c.extend_from_slice.new.self; line = c.loop-at.held.line; before = c.loop-at.held.before }) c.in_ok-extend_from_slice.ensures.items refl refl room over in
-    taking_line c.args.held.now c.loop-at.held c.args.piece.now c.loop-at.at c.loop-at.invariant c.first_line-part.result.now _ (take_rest c.args.piece.now c.loop-at.at) c.first_line-part.ensures.front c.first_line-part.ensures.within c.first_line-part.ensures.some c.first_line-part.ensures.cut (record { buffer = c.extend_from_slice.new.self; line = c.loop-at.held.line; before = c.loop-at.held.before }) c.in_ok-extend_from_slice.ensures.items refl refl room over c.if-part-eq10.true _
+    taking_line c.args.held.now c.loop-at.held c.args.piece.now c.loop-at.at c.loop-at.invariant c.first_line-part.result.now _ (take_rest c.args.piece.now c.loop-at.at) c.first_line-part.ensures.front c.first_line-part.ensures.within c.first_line-part.ensures.some c.first_line-part.ensures.cut (record { buffer = c.extend_from_slice.new.self; line = c.loop-at.held.line; before = c.loop-at.held.before }) c.in_ok-extend_from_slice.ensures.items refl refl room over c.if-is_whole.true _
     c.in_ok-ended.ensures.line_after c.in_ok-ended.ensures.taken c.in_ok-ended.ensures.shorter (c.in_ok-ended.ensures.goes_on c.in_default.is _ _ l)
 
 pub returns-in-Some-clause-part : goal.returns-in-Some-clause-part
@@ -31,7 +31,7 @@ returns-in-Some-clause-part c ended e bytes parts k size =
     let over : c.loop-at.held.before + length c.loop-at.held.buffer.items + length c.first_line-part.result.now ≤ 2 ^ 40 = omega arith in
     let l = lines_mid c.args.held.now c.loop-at.held c.args.piece.now c.loop-at.at c.loop-at.invariant c.first_line-part.result.now _ (take_rest c.args.piece.now c.loop-at.at) c.first_line-part.ensures.front c.first_line-part.ensures.within c.first_line-part.ensures.some c.first_line-part.ensures.cut (record { buffer = c.extend_from_slice.new.self; line = c.loop-at.held.line; before = c.loop-at.held.before }) c.in_ok-extend_from_slice.ensures.items refl refl room over in
     let same : c.in-Some.ended ≡ ended = cc in
-    takes_part c.args.held.now c.loop-at.held c.args.piece.now c.loop-at.at c.loop-at.invariant c.first_line-part.result.now _ (take_rest c.args.piece.now c.loop-at.at) c.first_line-part.ensures.front c.first_line-part.ensures.within c.first_line-part.ensures.some c.first_line-part.ensures.cut (record { buffer = c.extend_from_slice.new.self; line = c.loop-at.held.line; before = c.loop-at.held.before }) c.in_ok-extend_from_slice.ensures.items refl refl room over c.if-part-eq10.true _ ended c.in_ok-ended.ensures.taken (c.in_ok-ended.ensures.same (ap is_some c.in-Some.is)).0
+    takes_part c.args.held.now c.loop-at.held c.args.piece.now c.loop-at.at c.loop-at.invariant c.first_line-part.result.now _ (take_rest c.args.piece.now c.loop-at.at) c.first_line-part.ensures.front c.first_line-part.ensures.within c.first_line-part.ensures.some c.first_line-part.ensures.cut (record { buffer = c.extend_from_slice.new.self; line = c.loop-at.held.line; before = c.loop-at.held.before }) c.in_ok-extend_from_slice.ensures.items refl refl room over c.if-is_whole.true _ ended c.in_ok-ended.ensures.taken (c.in_ok-ended.ensures.same (ap is_some c.in-Some.is)).0
     (c.in_ok-ended.ensures.ends ended (c.in-Some.is ∙ ap Some same) _ _ l) bytes parts k size
 
 pub returns-in-Some-clause-readable : goal.returns-in-Some-clause-readable
@@ -47,8 +47,8 @@ returns-in_err-ended-clause-broken c =
     let room : length c.loop-at.held.buffer.items + length c.first_line-part.result.now ≤ 2 ^ 24 = omega arith in
     let over : c.loop-at.held.before + length c.loop-at.held.buffer.items + length c.first_line-part.result.now ≤ 2 ^ 40 = omega arith in
     let l = lines_mid c.args.held.now c.loop-at.held c.args.piece.now c.loop-at.at c.loop-at.invariant c.first_line-part.result.now _ (take_rest c.args.piece.now c.loop-at.at) c.first_line-part.ensures.front c.first_line-part.ensures.within c.first_line-part.ensures.some c.first_line-part.ensures.cut (record { buffer = c.extend_from_slice.new.self; line = c.loop-at.held.line; before = c.loop-at.held.before }) c.in_ok-extend_from_slice.ensures.items refl refl room over in
-    rw (p.1, p.2) (λ known _ bytes parts k.
-    takes_broken c.args.held.now c.loop-at.held c.args.piece.now c.loop-at.at c.loop-at.invariant c.first_line-part.result.now _ (take_rest c.args.piece.now c.loop-at.at) c.first_line-part.ensures.front c.first_line-part.ensures.within c.first_line-part.ensures.some c.first_line-part.ensures.cut (record { buffer = c.extend_from_slice.new.self; line = c.loop-at.held.line; before = c.loop-at.held.before }) c.in_ok-extend_from_slice.ensures.items refl refl room over c.if-part-eq10.true (c.in_err-ended.ensures.breaks known _ _ l) bytes parts k)
+    rw (p.1, p.2) (λ known _ bytes parts k size.
+    takes_broken c.args.held.now c.loop-at.held c.args.piece.now c.loop-at.at c.loop-at.invariant c.first_line-part.result.now _ (take_rest c.args.piece.now c.loop-at.at) c.first_line-part.ensures.front c.first_line-part.ensures.within c.first_line-part.ensures.some c.first_line-part.ensures.cut (record { buffer = c.extend_from_slice.new.self; line = c.loop-at.held.line; before = c.loop-at.held.before }) c.in_ok-extend_from_slice.ensures.items refl refl room over c.if-is_whole.true _ (c.in_err-ended.ensures.breaks known _ _ l) bytes parts k size)
 
 pub returns-then-part-room-clause-too_long : goal.returns-then-part-room-clause-too_long
 returns-then-part-room-clause-too_long c _ bytes parts k size =

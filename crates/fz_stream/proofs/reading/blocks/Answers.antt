@@ -1,11 +1,11 @@
-use Rattle.std.proofs.Common.{◌≡◌, ℕ, sym, ap, ◌∙◌, subst, arith}
+use Rattle.std.proofs.Common.{refl, length, ◌≡◌, ℕ, sym, ap, ◌∙◌, subst, arith}
 use Rattle.std.proofs.lemmas.List.{map_push, length-map, take_rest}
 use Rattle.std.proofs.lemmas.Result.{err_from_is_err_and}
 use Rattle.fz_syntax.specs.View.{bare_items}
-use Rattle.fz_stream.specs.Found.{block_of, HasPlaces}
+use Rattle.fz_stream.specs.Found.{block_of, HasPlaces, EndsWithin}
 use Rattle.fz_stream.proofs.PartLemmas.{every_append}
 use Rattle.fz_stream.proofs.FoundLemmas.{read_in_order, read_before_markers}
-use Rattle.fz_stream.proofs.SoFar.{start_so_far, so_far_goes_on, so_far_block, so_far_claim, so_far_no_block, so_far_no_claim, so_far_read_at, so_far_open_at}
+use Rattle.fz_stream.proofs.SoFar.{start_so_far, so_far_goes_on, so_far_block, so_far_claim, so_far_no_block, so_far_no_claim, so_far_read_at, so_far_open_at, so_far_stops_at_marker, so_far_stops_at_claim, so_far_stops_at_end, so_far_text_within}
 use Rattle.fz_stream.specs.Parts.{IsBlockText}
 use Rattle.fz_stream.specs.declared.line.ClaimKind.{ClaimKind}
 use Rattle.fz_stream.specs.declared.reading.Claim.{Claim}
@@ -21,6 +21,7 @@ pub loop-at-init : goal.loop-at-init
 loop-at-init c = record {
   so_far = rw (c.new-blocks.ensures.items, c.new-claims.ensures.items) (start_so_far c.args.stream.now);
   places = rw c.new-blocks.ensures.items tt;
+  within = rw c.new-blocks.ensures.items tt;
 }
 
 pub returns-in_err-block-in-EndsBlock-clause-too_long :
@@ -54,6 +55,7 @@ loop-at-preserved c =
             so_far_goes_on _ _ _ _ _ c.loop-at.invariant.so_far _ (take_rest c.args.stream.now c.loop-at.at) c.first_line-line.result.now c.first_line-line.ensures.within c.first_line-line.ensures.cut _
             (ap (step_of _ _) (sym c.line_kind.ensures) ∙ sym w.in-GoesOn.ensures));
         places = rw w.blocks-is c.loop-at.invariant.places;
+        within = rw w.blocks-is c.loop-at.invariant.within;
       }
       | in-EndsBlock+in_ok-block-in-EndsBlock+in_ok-push-in-EndsBlock w ↦ record {
         so_far = rw (w.begun-is, w.blocks-is, w.claims-is, w.in_ok-push-in-EndsBlock.ensures.items, map_push) (
@@ -63,6 +65,12 @@ loop-at-preserved c =
             (subst (λ t. IsBlockText t (bare_items w.in_ok-block-in-EndsBlock.block.items.items)) (sym w.in_ok-block-in-EndsBlock.ensures.text) w.in_ok-block-in-EndsBlock.ensures.items)
             (λ others h. w.in_ok-block-in-EndsBlock.ensures.only others (subst (λ t. IsBlockText t others) w.in_ok-block-in-EndsBlock.ensures.text h)));
         places = rw (w.blocks-is, w.in_ok-push-in-EndsBlock.ensures.items) (every_append HasPlaces _ _ c.loop-at.invariant.places (w.in_ok-block-in-EndsBlock.ensures.places, tt));
+        within = rw (w.blocks-is, w.in_ok-push-in-EndsBlock.ensures.items) (
+            every_append (EndsWithin (length c.args.stream.now)) _ _ c.loop-at.invariant.within (
+              so_far_text_within _ _ _ _ _ c.loop-at.invariant.so_far _ (take_rest c.args.stream.now c.loop-at.at) c.first_line-line.result.now c.first_line-line.ensures.within c.first_line-line.ensures.cut w.in-EndsBlock.start
+                  (ap (step_of _ _) (sym c.line_kind.ensures) ∙ sym w.in-EndsBlock.ensures) _ _ w.in_ok-block-in-EndsBlock.ensures.offset w.in_ok-block-in-EndsBlock.ensures.text,
+              tt,
+            ));
       }
       | in-Claims+in_ok-push-in-Claims w ↦ record {
         so_far = rw (w.begun-is, w.blocks-is, w.claims-is, w.in_ok-push-in-Claims.ensures.items) (
@@ -70,6 +78,7 @@ loop-at-preserved c =
             (ap (step_of _ _) (sym c.line_kind.ensures) ∙ sym w.in-Claims.ensures) _
             (ap (λ (n : ℕ). claim_at n w.in-Claims.kind) (w.len-after.ensures ∙ c.loop-at.blocks.ok.0 ∙ sym (length-map c.loop-at.blocks.items block_of))));
         places = rw w.blocks-is c.loop-at.invariant.places;
+        within = rw w.blocks-is c.loop-at.invariant.within;
       }
     ]
 
@@ -89,3 +98,20 @@ pub returns-clause-claims_in_order : goal.returns-clause-claims_in_order
 returns-clause-claims_in_order c =
     read_in_order _ _ _ _ (so_far_read_at c.args.stream.now c.loop-at.at _ _ (omega (arith, c.loop-at-test.false)) c.loop-at.begun c.in-None.is c.loop-at.invariant.so_far)
     (omega (arith, c.loop-at.blocks.ok.0, length-map c.loop-at.blocks.items block_of))
+
+pub returns-in_err-block-in-EndsBlock-clause-stops :
+    goal.returns-in_err-block-in-EndsBlock-clause-stops
+returns-in_err-block-in-EndsBlock-clause-stops c =
+    let p = err_from_is_err_and c.from_residual.result c.from_residual.ensures.1 in
+    rw (p.1, p.2) (λ known _.
+    so_far_stops_at_marker _ _ _ _ _ c.loop-at.invariant.so_far _ (take_rest c.args.stream.now c.loop-at.at) c.first_line-line.result.now c.first_line-line.ensures.within c.first_line-line.ensures.cut c.in-EndsBlock.start
+    (ap (step_of _ _) (sym c.line_kind.ensures) ∙ sym c.in-EndsBlock.ensures) (c.in_err-block-in-EndsBlock.ensures.refused known) _ c.in_err-block-in-EndsBlock.ensures.tells)
+
+pub returns-in-Breaks-clause-stops : goal.returns-in-Breaks-clause-stops
+returns-in-Breaks-clause-stops c _ _ =
+    so_far_stops_at_claim _ _ _ _ _ c.loop-at.invariant.so_far _ (take_rest c.args.stream.now c.loop-at.at) c.first_line-line.result.now c.first_line-line.ensures.within c.first_line-line.ensures.cut c.in-Breaks.start
+    (ap (step_of _ _) (sym c.line_kind.ensures) ∙ sym c.in-Breaks.ensures) _ refl refl
+
+pub returns-in-Some-clause-stops : goal.returns-in-Some-clause-stops
+returns-in-Some-clause-stops c _ _ =
+    so_far_stops_at_end c.args.stream.now c.loop-at.at _ _ (omega (arith, c.loop-at-test.false)) c.loop-at.begun c.in-Some.start c.in-Some.is c.loop-at.invariant.so_far _ refl refl

@@ -1,21 +1,30 @@
+use Rattle.std.proofs.Common.{◌∙◌, Ok, Err}
 use Rattle.fz_syntax.specs.View.{bare}
-use Rattle.fz_syntax.proofs.More.{same_of_tree}
 use Rattle.fz_syntax.specs.Spots.{spots}
-use Rattle.fz_syntax.proofs.Walks.{stands_in}
-use Rattle.fz_syntax.proofs.Parsed.{all_within, found_of_text, only_of_text}
+use Rattle.fz_syntax.proofs.Parsed.{tree_found, tree_only}
+use Rattle.fz_syntax.proofs.More.{same_of_tree}
+use Rattle.fz_syntax.proofs.Whole.{grammar_refuses}
+use Rattle.fz_syntax.proofs.Walks.{stands_of}
 use Rattle.fz_syntax.proofs.parser.parse.Goals as goal
 
-pub parse_tokens-requires : goal.parse_tokens-requires
-parse_tokens-requires c = all_within 0 _ c.in_ok-tokens.tokens.items c.deref.result.now c.deref.ensures.value c.in_ok-tokens.ensures.in_order
+pub returns-in_ok-finish-in-Ok-clause-found : goal.returns-in_ok-finish-in-Ok-clause-found
+returns-in_ok-finish-in-Ok-clause-found c =
+    let same = c.in-Ok.ensures.walked.same_source ∙ c.new-parser.ensures.source in
+    let lexes = rw same at c.in_ok-finish-in-Ok.ensures.lexes in
+    let numbers = rw same at c.in_ok-finish-in-Ok.ensures.numbers in
+    tree_found c.args.source.now c.new-parser.result c.new-parser.ensures.all c.in-Ok.ast c.if-source-gt-MOST_BYTES.false lexes numbers c.in-Ok.ensures.whole
 
-pub returns-clause-found : goal.returns-clause-found
-returns-clause-found c = found_of_text bare c.args.source.now c.in_ok-tokens.tokens.items c.deref.result.now c.deref.ensures.value c.parse_tokens.result c.in_ok-tokens.ensures.found c.parse_tokens.ensures.found
+pub returns-in_ok-finish-in-Ok-clause-only : goal.returns-in_ok-finish-in-Ok-clause-only
+returns-in_ok-finish-in-Ok-clause-only c = tree_only c.args.source.now c.new-parser.result c.new-parser.ensures.all (Ok c.in-Ok.ast) c.in-Ok.ensures.whole
 
-pub returns-clause-only : goal.returns-clause-only
-returns-clause-only c = only_of_text bare c.args.source.now c.in_ok-tokens.tokens.items c.deref.result.now c.deref.ensures.value c.parse_tokens.result c.in_ok-tokens.ensures.only c.parse_tokens.ensures.only
+pub returns-in_ok-finish-in-Ok-clause-same : goal.returns-in_ok-finish-in-Ok-clause-same
+returns-in_ok-finish-in-Ok-clause-same c = same_of_tree bare c.args.source.now (Ok c.in-Ok.ast) (returns-in_ok-finish-in-Ok-clause-found c)
 
-pub returns-clause-same : goal.returns-clause-same
-returns-clause-same c = same_of_tree bare c.args.source.now c.parse_tokens.result (returns-clause-found c)
+pub returns-in_ok-finish-in-Ok-clause-stands : goal.returns-in_ok-finish-in-Ok-clause-stands
+returns-in_ok-finish-in-Ok-clause-stands c = stands_of c.new-parser.result c.read_all.new.parser (spots c.in-Ok.ast) c.in-Ok.ensures.walked c.new-parser.ensures.reached c.args.source.now c.new-parser.ensures.laid
 
-pub returns-clause-stands : goal.returns-clause-stands
-returns-clause-stands c = stands_in spots c.parse_tokens.result c.args.source.now c.in_ok-tokens.tokens.items c.deref.result.now c.deref.ensures.value c.in_ok-tokens.ensures.in_order c.in_ok-tokens.ensures.texts c.parse_tokens.ensures.stands
+pub returns-in_ok-check_tokens-in-Err-clause-only : goal.returns-in_ok-check_tokens-in-Err-clause-only
+returns-in_ok-check_tokens-in-Err-clause-only c = tree_only c.args.source.now c.new-parser.result c.new-parser.ensures.all (Err c.in-Err.error) c.in-Err.ensures.whole
+
+pub returns-in_ok-check_tokens-in-Err-clause-order : goal.returns-in_ok-check_tokens-in-Err-clause-order
+returns-in_ok-check_tokens-in-Err-clause-order c = grammar_refuses bare c.args.source.now c.in-Err.error _ _ c.in_ok-check_tokens-in-Err.ensures.found c.in-Err.ensures.whole

@@ -1,26 +1,38 @@
-use Rattle.fz_syntax.specs.declared.tree.Printed.{Printed}
+use Rattle.std.proofs.Common.{◌∙◌, Ok, Err}
 use Rattle.std.proofs.Common.{Vec, Global}
+use Rattle.fz_syntax.specs.declared.tree.Printed.{Printed}
 use Rattle.fz_syntax.specs.View.{bare_items}
-use Rattle.fz_syntax.proofs.More.{same_of_items}
 use Rattle.fz_syntax.specs.Spots.{item_spots}
-use Rattle.fz_syntax.proofs.Walks.{stands_in}
-use Rattle.fz_syntax.proofs.Parsed.{all_within, found_of_items, only_of_items, empty_of_only}
+use Rattle.fz_syntax.proofs.Parsed.{items_found, items_only, empty_of_only}
+use Rattle.fz_syntax.proofs.More.{same_of_items}
+use Rattle.fz_syntax.proofs.Whole.{grammar_refuses}
+use Rattle.fz_syntax.proofs.Walks.{stands_of}
 use Rattle.fz_syntax.proofs.parser.read_items.Goals as goal
 
-pub parse_items-requires : goal.parse_items-requires
-parse_items-requires c = all_within 0 _ c.in_ok-tokens.tokens.items c.deref.result.now c.deref.ensures.value c.in_ok-tokens.ensures.in_order
+pub returns-in_ok-finish-in-Ok-clause-found : goal.returns-in_ok-finish-in-Ok-clause-found
+returns-in_ok-finish-in-Ok-clause-found c =
+    let same = c.in-Ok.ensures.walked.same_source ∙ c.new-parser.ensures.source in
+    let lexes = rw same at c.in_ok-finish-in-Ok.ensures.lexes in
+    let numbers = rw same at c.in_ok-finish-in-Ok.ensures.numbers in
+    items_found c.args.source.now c.new-parser.result c.new-parser.ensures.all c.in-Ok.items c.if-source-gt-MOST_BYTES.false lexes numbers c.in-Ok.ensures.whole
 
-pub returns-clause-found : goal.returns-clause-found
-returns-clause-found c = found_of_items (λ (v : Vec Printed Global). bare_items v.items) c.args.source.now c.in_ok-tokens.tokens.items c.deref.result.now c.deref.ensures.value c.parse_items.result c.in_ok-tokens.ensures.found c.parse_items.ensures.found
+pub returns-in_ok-finish-in-Ok-clause-only : goal.returns-in_ok-finish-in-Ok-clause-only
+returns-in_ok-finish-in-Ok-clause-only c = items_only c.args.source.now c.new-parser.result c.new-parser.ensures.all (Ok c.in-Ok.items) c.in-Ok.ensures.whole
 
-pub returns-clause-only : goal.returns-clause-only
-returns-clause-only c = only_of_items (λ (v : Vec Printed Global). bare_items v.items) c.args.source.now c.in_ok-tokens.tokens.items c.deref.result.now c.deref.ensures.value c.parse_items.result c.in_ok-tokens.ensures.only c.parse_items.ensures.only
+pub returns-in_ok-finish-in-Ok-clause-same : goal.returns-in_ok-finish-in-Ok-clause-same
+returns-in_ok-finish-in-Ok-clause-same c = same_of_items (λ (v : Vec Printed Global). bare_items v.items) c.args.source.now (Ok c.in-Ok.items) (returns-in_ok-finish-in-Ok-clause-found c)
 
-pub returns-clause-empty : goal.returns-clause-empty
-returns-clause-empty c = empty_of_only (λ (v : Vec Printed Global). v.items) c.parse_items.result c.args.source.now (returns-clause-only c)
+pub returns-in_ok-finish-in-Ok-clause-stands : goal.returns-in_ok-finish-in-Ok-clause-stands
+returns-in_ok-finish-in-Ok-clause-stands c = stands_of c.new-parser.result c.read_all_items.new.parser (item_spots c.in-Ok.items.items) c.in-Ok.ensures.walked c.new-parser.ensures.reached c.args.source.now c.new-parser.ensures.laid
 
-pub returns-clause-same : goal.returns-clause-same
-returns-clause-same c = same_of_items (λ (v : Vec Printed Global). bare_items v.items) c.args.source.now c.parse_items.result (returns-clause-found c)
+pub returns-in_ok-check_tokens-in-Err-clause-only : goal.returns-in_ok-check_tokens-in-Err-clause-only
+returns-in_ok-check_tokens-in-Err-clause-only c = items_only c.args.source.now c.new-parser.result c.new-parser.ensures.all (Err c.in-Err.error) c.in-Err.ensures.whole
 
-pub returns-clause-stands : goal.returns-clause-stands
-returns-clause-stands c = stands_in (λ (v : Vec Printed Global). item_spots v.items) c.parse_items.result c.args.source.now c.in_ok-tokens.tokens.items c.deref.result.now c.deref.ensures.value c.in_ok-tokens.ensures.in_order c.in_ok-tokens.ensures.texts c.parse_items.ensures.stands
+pub returns-in_ok-finish-in-Ok-clause-empty : goal.returns-in_ok-finish-in-Ok-clause-empty
+returns-in_ok-finish-in-Ok-clause-empty c = empty_of_only (λ (v : Vec Printed Global). v.items) (Ok c.in-Ok.items) c.args.source.now (returns-in_ok-finish-in-Ok-clause-only c)
+
+pub returns-in_ok-check_tokens-in-Err-clause-empty : goal.returns-in_ok-check_tokens-in-Err-clause-empty
+returns-in_ok-check_tokens-in-Err-clause-empty c = empty_of_only (λ (v : Vec Printed Global). v.items) (Err c.in-Err.error) c.args.source.now (returns-in_ok-check_tokens-in-Err-clause-only c)
+
+pub returns-in_ok-check_tokens-in-Err-clause-order : goal.returns-in_ok-check_tokens-in-Err-clause-order
+returns-in_ok-check_tokens-in-Err-clause-order c = grammar_refuses (λ (v : Vec Printed Global). bare_items v.items) c.args.source.now c.in-Err.error _ _ c.in_ok-check_tokens-in-Err.ensures.found c.in-Err.ensures.whole

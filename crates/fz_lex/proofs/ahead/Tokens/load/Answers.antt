@@ -1,8 +1,8 @@
 use Rattle.fz_lex.proofs.AheadLaws.{step_leaves}
 use Rattle.fz_lex.proofs.ahead.Tokens.load.Goals as goal
 
-pub returns : goal.returns
-returns c =
+pub returns-clause-left : goal.returns-clause-left
+returns-clause-left c =
     let old = c.args.self.now.lexer in
     let new = c.next_token.new.self in
     let same = c.next_token.ensures.source in

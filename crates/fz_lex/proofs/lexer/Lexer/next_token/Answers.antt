@@ -1,4 +1,7 @@
-use Rattle.std.proofs.Common.{rules, ◌<◌, length, arith, refl}
+use Rattle.std.proofs.Common.{rules, ◌<◌, ◌+◌, ◌∙◌, length, slice_range, arith, refl}
+use Rattle.fz_lex.specs.Lexing.{SpannedToken}
+use Rattle.fz_lex.specs.View.{token_value}
+use Rattle.fz_lex.proofs.AheadLaws.{stop_stays}
 use Rattle.fz_lex.proofs.Next.{found_within, found_moves, found_cut, found_limit, outside_within, outside_fault, nothing_fault}
 use Rattle.fz_lex.proofs.lexer.Lexer.next_token.Goals as goal
 
@@ -9,7 +12,18 @@ overflow_add-end c =
 
 pub invariant_of-self : goal.invariant_of-self
 invariant_of-self c =
-    record { within = found_within c.args.self.now.source.now c.args.self.now.place c.gap_end-start.result c.gap_end-start.ensures.within.1 c.gap_end-start.ensures.gap c.in-Found.kind c.in-Found.len c.in-Found.ensures }
+    let source = c.args.self.now.source.now in
+    let place = c.args.self.now.place in
+    let start = c.gap_end-start.result in
+    let gap = c.gap_end-start.ensures.gap in
+    let within = c.gap_end-start.ensures.within.1 in
+    let f = c.in-Found.ensures in
+    let end = found_within source place start within gap c.in-Found.kind c.in-Found.len f in
+    let token : SpannedToken = record { token = token_value c.in-Found.kind (slice_range source start (start + c.in-Found.len)); start = start; end = start + c.in-Found.len } in
+    let cut = found_cut source place start within gap c.in-Found.kind c.in-Found.len token f refl refl refl in
+    let limit = found_limit source place start within gap c.in-Found.kind c.in-Found.len f in
+    let old = c.args.self.now in
+    record { within = end; stop = stop_stays source place (start + c.in-Found.len) token old.within end cut limit ∙ old.stop }
 
 pub overflow_add-result : goal.overflow_add-result
 overflow_add-result c =

@@ -38,7 +38,7 @@ returns-in-Err c =
       ok = tt;
       held = tt;
       taken = tt;
-      broken = λ memory long _ bytes parts f. c.in-Err.ensures.broken memory long bytes parts (kept_by c.args.self.now c.drop_part.new.held held bytes parts f);
+      broken = λ memory long _ bytes parts f. c.in-Err.ensures.broken memory long bytes parts (kept_by c.args.self.now c.drop_part.new.held held bytes parts f) (taken ∙ f.taken);
       too_long = λ e bytes parts f. (
           let same : c.in-Err.e ≡ TooLong = cc in
           c.take_bytes.ensures.too_long (c.in-Err.is ∙ ap Err same) bytes parts (kept_by c.args.self.now c.drop_part.new.held held bytes parts f) (taken ∙ f.taken));

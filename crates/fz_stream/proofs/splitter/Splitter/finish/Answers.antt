@@ -14,7 +14,7 @@ returns-in-Ok c =
     let held = c.drop_part.ensures.kept ∙ ap (λ (s : SplitterState). s.held) c.self.view_is in
     let taken = c.drop_part.ensures.taken ∙ ap (λ (s : SplitterState). s.taken) c.self.view_is in
     record {
-      ends = ended_with c.args.self.now c.drop_part.new.held c.end_stream.new.held _ held taken c.in-Ok.ended c.in-Ok.ensures.ends;
+      ends = ended_with c.args.self.now c.drop_part.new.held c.end_stream.new.held _ held taken c.in-Ok.last c.in-Ok.ensures.ends;
       ok = refl;
       broken = tt;
       not_too_long = λ e. absurd cc;
@@ -33,7 +33,7 @@ returns-in-Err c =
     record {
       ends = tt;
       ok = tt;
-      broken = λ memory _ bytes parts f. c.in-Err.ensures.broken memory bytes parts (kept_by c.args.self.now c.drop_part.new.held held bytes parts f);
+      broken = λ memory _ bytes parts f. c.in-Err.ensures.broken memory bytes parts (kept_by c.args.self.now c.drop_part.new.held held bytes parts f) (taken ∙ f.taken);
       not_too_long = λ e. (let same : c.in-Err.e ≡ TooLong = cc in not_too_long c.in-Err.e c.in-Err.ensures.fault same);
       failed = (
         (λ e. absurd (let same : c.in-Err.e ≡ FailedBefore = cc in not_failed c.in-Err.e (λ _. c.in-Err.ensures.fault) same)),

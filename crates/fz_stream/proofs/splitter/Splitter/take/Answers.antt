@@ -1,4 +1,5 @@
-use Rattle.std.proofs.Common.{◌≡◌, ℕ, List, Some, take, sym, ap, ◌∙◌, subst, ⊎_elim}
+use Rattle.std.proofs.lemmas.List.{length-take}
+use Rattle.std.proofs.Common.{arith, length, ◌≡◌, ℕ, List, Some, take, sym, ap, ◌∙◌, subst, ⊎_elim}
 use Rattle.fz_syntax.specs.View.{bare_items}
 use Rattle.fz_stream.specs.declared.held.Ended.TheVariants.{BlockEnded}
 use Rattle.fz_stream.specs.declared.splitter.Stage.TheVariants.{Running, Finished, Failed}
@@ -28,6 +29,7 @@ returns-in-Ok c =
       lent = lent;
       items = items;
       places = c.in-Ok.ensures.places;
+      within = omega (arith, c.in-Ok.ensures.offset, ap length same, length-take c.self.inside.held.line c.self.inside.held.buffer.items, c.self.invariant.line, c.self.invariant.taken);
       given = λ bytes parts f _. given c.args.self.now part lent items bytes parts f;
       given_at_end = λ bytes parts more e. given_at_end c.args.self.now (Some part) lent items bytes parts more e;
       failed = ((λ e. absurd cc), (λ e. absurd (⊎_elim (λ r. let no : Running ≡ Failed = sym r ∙ stage ∙ e in cc) (λ r. let no : Finished ≡ Failed = sym r ∙ stage ∙ e in cc) c.in-Running.is)));

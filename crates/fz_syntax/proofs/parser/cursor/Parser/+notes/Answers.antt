@@ -2,7 +2,7 @@ use Rattle.std.proofs.Common.{sym, subst, ◌∙◌, ap, map, refl, arith}
 use Rattle.std.proofs.lemmas.Result.{err_from_is_err_and}
 use Rattle.fz_lex.specs.declared.token.Mark.TheVariants.{Comma}
 use Rattle.fz_syntax.specs.Spots.{arg_spots, note_basic_spots}
-use Rattle.fz_syntax.proofs.Walks.{walk_first, walk_more, walk_end, note_walk, listed_walk}
+use Rattle.fz_syntax.proofs.Walks.{walk_first, walk_more, walk_skip, walk_end, note_walk, listed_walk}
 use Rattle.fz_syntax.proofs.Folds.{note_unfolds, list_unfolds}
 use Rattle.fz_syntax.specs.Walk.{Walk}
 use Rattle.fz_syntax.specs.View.{bare_arg, bare_basic}
@@ -40,7 +40,7 @@ separated_note_args-more_args-preserved t c = record {
 }
 
 pub separated_note_args-returns-clause-read : goal.separated_note_args-returns-clause-read
-separated_note_args-returns-clause-read t c = is_whole_list Comma (any_number (note_arg_at the_limits c.args.depth (note_at the_limits c.args.depth))) _ _ _ _ _ c.more_args-test.false c.eat.ensures.found c.eat.ensures.left c.more_args.invariant.continues
+separated_note_args-returns-clause-read t c = rw c.trimmed.ensures (is_whole_list Comma (any_number (note_arg_at the_limits c.args.depth (note_at the_limits c.args.depth))) _ _ _ _ _ c.more_args-test.false c.eat.ensures.found c.eat.ensures.left c.more_args.invariant.continues)
 
 pub separated_note_basics-returns-in_err-listed_note_basic-clause-read : goal.separated_note_basics-returns-in_err-listed_note_basic-clause-read
 separated_note_basics-returns-in_err-listed_note_basic-clause-read t c =
@@ -69,13 +69,13 @@ separated_note_basics-more_basics-preserved t c = record {
 }
 
 pub separated_note_basics-returns-clause-read : goal.separated_note_basics-returns-clause-read
-separated_note_basics-returns-clause-read t c = is_whole_list Comma (at_most the_limits.elements (begins_note_basic c.args.depth) (note_basic_at the_limits (note_at the_limits c.args.depth))) _ _ _ _ _ c.more_basics-test.false c.eat.ensures.found c.eat.ensures.left c.more_basics.invariant.continues
+separated_note_basics-returns-clause-read t c = rw c.trimmed.ensures (is_whole_list Comma (at_most the_limits.elements (begins_note_basic c.args.depth) (note_basic_at the_limits (note_at the_limits c.args.depth))) _ _ _ _ _ c.more_basics-test.false c.eat.ensures.found c.eat.ensures.left c.more_basics.invariant.continues)
 
 pub separated_note_args-returns-clause-walked : goal.separated_note_args-returns-clause-walked
-separated_note_args-returns-clause-walked t c = walk_end c.more_args.invariant.walked c.eat.ensures.walked
+separated_note_args-returns-clause-walked t c = rw c.trimmed.ensures (walk_end c.more_args.invariant.walked c.eat.ensures.walked)
 
 pub separated_note_basics-returns-clause-walked : goal.separated_note_basics-returns-clause-walked
-separated_note_basics-returns-clause-walked t c = walk_end c.more_basics.invariant.walked c.eat.ensures.walked
+separated_note_basics-returns-clause-walked t c = rw c.trimmed.ensures (walk_end c.more_basics.invariant.walked c.eat.ensures.walked)
 
 pub note-returns-clause-walked : goal.note-returns-clause-walked
 note-returns-clause-walked t c =
@@ -84,3 +84,9 @@ note-returns-clause-walked t c =
 pub note_arg-returns-in_ok-note_list-clause-walked : goal.note_arg-returns-in_ok-note_list-clause-walked
 note_arg-returns-in_ok-note_list-clause-walked t c =
     subst (λ s. Walk c.args.self.now c.note_list.new.self s) (sym (list_unfolds c.in_ok-note_list.field-0)) (listed_walk c.in_ok-note_list.field-0.items c.eat.ensures.walked c.in_ok-note_list.ensures.walked)
+
+pub note_args-returns-clause-walked : goal.note_args-returns-clause-walked
+note_args-returns-clause-walked t c = walk_skip c.eat.ensures.walked (walk_end c.in_ok-args.ensures.walked c.in_ok-expect.ensures.walked)
+
+pub note_list-returns-clause-walked : goal.note_list-returns-clause-walked
+note_list-returns-clause-walked t c = walk_skip c.eat.ensures.walked (walk_end c.in_ok-basics.ensures.walked c.in_ok-expect.ensures.walked)

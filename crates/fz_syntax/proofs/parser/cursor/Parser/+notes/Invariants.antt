@@ -1,9 +1,9 @@
 use Rattle.std.proofs.Common.{◌≡◌, ◌≤◌, ◌+◌, ◌*◌, length, map}
 use Rattle.fz_lex.specs.declared.token.Mark.TheVariants.{Comma}
 use Rattle.std.specs.List.{flat_map}
-use Rattle.fz_syntax.specs.Walk.{Walk}
+use Rattle.fz_syntax.specs.Walk.{Walk, lexemes}
 use Rattle.fz_syntax.specs.Spots.{arg_spots, note_basic_spots}
-use Rattle.fz_syntax.specs.View.{lexemes, bare_arg, bare_basic}
+use Rattle.fz_syntax.specs.View.{bare_arg, bare_basic}
 use Rattle.fz_syntax.specs.Reading.{separated_at, any_number, at_most, note_at, note_arg_at, note_basic_at, begins_note_basic}
 use Rattle.fz_syntax.specs.Shape.{the_limits}
 use Rattle.fz_syntax.proofs.Running.{Continues}
@@ -36,24 +36,24 @@ decreases-note l = 8 * l.depth
 
 abbrev pub invariant-separated_note_args-more_args : goal.invariant-separated_note_args-more_args
 invariant-separated_note_args-more_args l = record {
-  continues : Continues Comma (any_number (note_arg_at the_limits l.depth (note_at the_limits l.depth))) (map bare_arg l.arguments.items) (lexemes l.self.tokens.now)
-      (separated_at (any_number (note_arg_at the_limits l.fn.depth (note_at the_limits l.fn.depth))) (lexemes l.fn.self.tokens.now));
-  shorter : length l.self.tokens.now ≤ length l.fn.self.tokens.now;
+  continues : Continues Comma (any_number (note_arg_at the_limits l.depth (note_at the_limits l.depth))) (map bare_arg l.arguments.items) (lexemes l.self)
+      (separated_at (any_number (note_arg_at the_limits l.fn.depth (note_at the_limits l.fn.depth))) (lexemes l.fn.self));
+  shorter : length (lexemes l.self) ≤ length (lexemes l.fn.self);
   same_end : l.self.end ≡ l.fn.self.end;
   walked : Walk l.fn.self l.self (flat_map arg_spots l.arguments.items);
 }
 
 abbrev pub decreases-separated_note_args-more_args : goal.decreases-separated_note_args-more_args
-decreases-separated_note_args-more_args l = length l.self.tokens.now
+decreases-separated_note_args-more_args l = length (lexemes l.self)
 
 abbrev pub invariant-separated_note_basics-more_basics : goal.invariant-separated_note_basics-more_basics
 invariant-separated_note_basics-more_basics l = record {
-  continues : Continues Comma (at_most the_limits.elements (begins_note_basic l.depth) (note_basic_at the_limits (note_at the_limits l.depth))) (map bare_basic l.basics.items) (lexemes l.self.tokens.now)
-      (separated_at (at_most the_limits.elements (begins_note_basic l.fn.depth) (note_basic_at the_limits (note_at the_limits l.fn.depth))) (lexemes l.fn.self.tokens.now));
-  shorter : length l.self.tokens.now ≤ length l.fn.self.tokens.now;
+  continues : Continues Comma (at_most the_limits.elements (begins_note_basic l.depth) (note_basic_at the_limits (note_at the_limits l.depth))) (map bare_basic l.basics.items) (lexemes l.self)
+      (separated_at (at_most the_limits.elements (begins_note_basic l.fn.depth) (note_basic_at the_limits (note_at the_limits l.fn.depth))) (lexemes l.fn.self));
+  shorter : length (lexemes l.self) ≤ length (lexemes l.fn.self);
   same_end : l.self.end ≡ l.fn.self.end;
   walked : Walk l.fn.self l.self (flat_map note_basic_spots l.basics.items);
 }
 
 abbrev pub decreases-separated_note_basics-more_basics : goal.decreases-separated_note_basics-more_basics
-decreases-separated_note_basics-more_basics l = length l.self.tokens.now
+decreases-separated_note_basics-more_basics l = length (lexemes l.self)

@@ -35,7 +35,7 @@ pub loop-self-smaller : goal.loop-self-smaller
 loop-self-smaller c = constraints_shrink the_limits 0 _ _ _ c.in_ok-item.ensures.read
 
 pub returns-clause-read : goal.returns-clause-read
-returns-clause-read c = gathers_all (is_word (codes "constraint")) (constraint_at the_limits) _ _ _ _ c.loop-self-test.false c.next_word.ensures c.loop-self.invariant.gathers
+returns-clause-read c = rw c.trimmed.ensures (gathers_all (is_word (codes "constraint")) (constraint_at the_limits) _ _ _ _ c.loop-self-test.false c.next_word.ensures c.loop-self.invariant.gathers)
 
 pub returns-clause-walked : goal.returns-clause-walked
-returns-clause-walked c = c.loop-self.invariant.walked
+returns-clause-walked c = rw c.trimmed.ensures (c.loop-self.invariant.walked)

@@ -1,9 +1,9 @@
 use Rattle.std.proofs.Common.{◌≡◌, ◌≤◌, length, map}
 use Rattle.std.specs.Prelude.{codes}
-use Rattle.fz_syntax.specs.Walk.{Walk}
+use Rattle.fz_syntax.specs.Walk.{Walk, lexemes}
 use Rattle.std.specs.List.{flat_map}
 use Rattle.fz_syntax.specs.Spots.{constraint_spots}
-use Rattle.fz_syntax.specs.View.{lexemes, bare_constraint}
+use Rattle.fz_syntax.specs.View.{bare_constraint}
 use Rattle.fz_syntax.specs.Reading.{many_at, any_number, is_word, constraint_at}
 use Rattle.fz_syntax.specs.Shape.{the_limits}
 use Rattle.fz_syntax.proofs.Running.{Gathers}
@@ -11,11 +11,11 @@ use Rattle.fz_syntax.proofs.parser.cursor.Parser.constraints.Given as goal
 
 abbrev pub invariant-loop-self : goal.invariant-loop-self
 invariant-loop-self l = record {
-  gathers : Gathers (is_word (codes "constraint")) (constraint_at the_limits) (map bare_constraint l.items.items) (lexemes l.self.tokens.now) (many_at (is_word (codes "constraint")) (any_number (constraint_at the_limits)) 0 (lexemes l.fn.self.tokens.now));
-  shorter : length l.self.tokens.now ≤ length l.fn.self.tokens.now;
+  gathers : Gathers (is_word (codes "constraint")) (constraint_at the_limits) (map bare_constraint l.items.items) (lexemes l.self) (many_at (is_word (codes "constraint")) (any_number (constraint_at the_limits)) 0 (lexemes l.fn.self));
+  shorter : length (lexemes l.self) ≤ length (lexemes l.fn.self);
   same_end : l.self.end ≡ l.fn.self.end;
   walked : Walk l.fn.self l.self (flat_map constraint_spots l.items.items);
 }
 
 abbrev pub decreases-loop-self : goal.decreases-loop-self
-decreases-loop-self l = length (lexemes l.self.tokens.now)
+decreases-loop-self l = length (lexemes l.self)

@@ -1,8 +1,8 @@
 use Rattle.std.proofs.Common.{◌≡◌, ◌≤◌, length, map}
-use Rattle.fz_syntax.specs.Walk.{Walk}
+use Rattle.fz_syntax.specs.Walk.{Walk, lexemes}
 use Rattle.std.specs.List.{flat_map}
 use Rattle.fz_syntax.specs.Spots.{decl_spots}
-use Rattle.fz_syntax.specs.View.{lexemes, bare_decl}
+use Rattle.fz_syntax.specs.View.{bare_decl}
 use Rattle.fz_syntax.specs.Reading.{many_at, any_number, begins_decl, decl_at}
 use Rattle.fz_syntax.specs.Shape.{the_limits}
 use Rattle.fz_syntax.proofs.Running.{Gathers}
@@ -10,11 +10,11 @@ use Rattle.fz_syntax.proofs.parser.cursor.Parser.decls.Given as goal
 
 abbrev pub invariant-loop-self : goal.invariant-loop-self
 invariant-loop-self l = record {
-  gathers : Gathers begins_decl (decl_at the_limits) (map bare_decl l.items.items) (lexemes l.self.tokens.now) (many_at begins_decl (any_number (decl_at the_limits)) 0 (lexemes l.fn.self.tokens.now));
-  shorter : length l.self.tokens.now ≤ length l.fn.self.tokens.now;
+  gathers : Gathers begins_decl (decl_at the_limits) (map bare_decl l.items.items) (lexemes l.self) (many_at begins_decl (any_number (decl_at the_limits)) 0 (lexemes l.fn.self));
+  shorter : length (lexemes l.self) ≤ length (lexemes l.fn.self);
   same_end : l.self.end ≡ l.fn.self.end;
   walked : Walk l.fn.self l.self (flat_map decl_spots l.items.items);
 }
 
 abbrev pub decreases-loop-self : goal.decreases-loop-self
-decreases-loop-self l = length (lexemes l.self.tokens.now)
+decreases-loop-self l = length (lexemes l.self)

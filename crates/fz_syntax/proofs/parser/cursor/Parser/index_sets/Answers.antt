@@ -34,7 +34,7 @@ loop-self-preserved c =
     }
 
 pub returns-clause-read : goal.returns-clause-read
-returns-clause-read c = counts_all the_limits _ _ _ _ (omega (arith, c.loop-self-test.false, c.len.ensures ∙ c.loop-self.sets.ok.0)) c.loop-self.invariant.counts
+returns-clause-read c = rw c.trimmed.ensures (counts_all the_limits _ _ _ _ (omega (arith, c.loop-self-test.false, c.len.ensures ∙ c.loop-self.sets.ok.0)) c.loop-self.invariant.counts)
 
 pub returns-clause-walked : goal.returns-clause-walked
-returns-clause-walked c = c.loop-self.invariant.walked
+returns-clause-walked c = rw c.trimmed.ensures (c.loop-self.invariant.walked)

@@ -1,8 +1,8 @@
 use Rattle.std.proofs.Common.{◌≡◌, ◌≤◌, ◌-◌, length, map}
-use Rattle.fz_syntax.specs.Walk.{Walk}
+use Rattle.fz_syntax.specs.Walk.{Walk, lexemes}
 use Rattle.std.specs.List.{flat_map}
 use Rattle.fz_syntax.specs.Spots.{literal_spots}
-use Rattle.fz_syntax.specs.View.{lexemes, bare_literal}
+use Rattle.fz_syntax.specs.View.{bare_literal}
 use Rattle.fz_syntax.specs.ReadingItems.{index_sets_at}
 use Rattle.fz_syntax.specs.Shape.{the_limits}
 use Rattle.fz_syntax.proofs.IndexSets.{Counts}
@@ -10,8 +10,8 @@ use Rattle.fz_syntax.proofs.parser.cursor.Parser.index_sets.Given as goal
 
 abbrev pub invariant-loop-self : goal.invariant-loop-self
 invariant-loop-self l = record {
-  counts : Counts the_limits (l.fn.count - length l.sets.items) (map bare_literal l.sets.items) (lexemes l.self.tokens.now) (index_sets_at the_limits l.fn.count (lexemes l.fn.self.tokens.now));
-  shorter : length l.self.tokens.now ≤ length l.fn.self.tokens.now;
+  counts : Counts the_limits (l.fn.count - length l.sets.items) (map bare_literal l.sets.items) (lexemes l.self) (index_sets_at the_limits l.fn.count (lexemes l.fn.self));
+  shorter : length (lexemes l.self) ≤ length (lexemes l.fn.self);
   same_end : l.self.end ≡ l.fn.self.end;
   walked : Walk l.fn.self l.self (flat_map literal_spots l.sets.items);
 }

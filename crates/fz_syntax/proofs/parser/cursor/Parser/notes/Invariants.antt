@@ -1,9 +1,9 @@
 use Rattle.std.proofs.Common.{◌≡◌, ◌≤◌, length}
 use Rattle.fz_lex.specs.declared.token.Mark.TheVariants.{ColonColon}
-use Rattle.fz_syntax.specs.Walk.{Walk}
+use Rattle.fz_syntax.specs.Walk.{Walk, lexemes}
 use Rattle.std.specs.List.{flat_map}
 use Rattle.fz_syntax.specs.Spots.{note_spots}
-use Rattle.fz_syntax.specs.View.{lexemes, bare_notes}
+use Rattle.fz_syntax.specs.View.{bare_notes}
 use Rattle.fz_syntax.specs.Reading.{any_number, note_at, notes_at}
 use Rattle.fz_syntax.specs.Shape.{the_limits}
 use Rattle.fz_syntax.proofs.Running.{Continues}
@@ -11,11 +11,11 @@ use Rattle.fz_syntax.proofs.parser.cursor.Parser.notes.Given as goal
 
 abbrev pub invariant-loop-self : goal.invariant-loop-self
 invariant-loop-self l = record {
-  continues : Continues ColonColon (any_number (note_at the_limits 32)) (bare_notes l.notes.items) (lexemes l.self.tokens.now) (notes_at the_limits (lexemes l.fn.self.tokens.now));
-  shorter : length l.self.tokens.now ≤ length l.fn.self.tokens.now;
+  continues : Continues ColonColon (any_number (note_at the_limits 32)) (bare_notes l.notes.items) (lexemes l.self) (notes_at the_limits (lexemes l.fn.self));
+  shorter : length (lexemes l.self) ≤ length (lexemes l.fn.self);
   same_end : l.self.end ≡ l.fn.self.end;
   walked : Walk l.fn.self l.self (flat_map note_spots l.notes.items);
 }
 
 abbrev pub decreases-loop-self : goal.decreases-loop-self
-decreases-loop-self l = length l.self.tokens.now
+decreases-loop-self l = length (lexemes l.self)

@@ -1,7 +1,6 @@
 use Rattle.std.proofs.Common.{[], ◌≡◌, ◌≤◌, length}
 use Rattle.fz_lex.specs.declared.token.Mark.TheVariants.{Comma}
-use Rattle.fz_syntax.specs.Walk.{Walk}
-use Rattle.fz_syntax.specs.View.{lexemes}
+use Rattle.fz_syntax.specs.Walk.{Walk, lexemes}
 use Rattle.fz_syntax.specs.Reading.{at_most, separated_at, whole_at, is_whole}
 use Rattle.fz_syntax.specs.Shape.{the_limits}
 use Rattle.fz_syntax.proofs.Running.{Continues}
@@ -9,11 +8,11 @@ use Rattle.fz_syntax.proofs.parser.cursor.Parser.numbers.Given as goal
 
 abbrev pub invariant-loop-self : goal.invariant-loop-self
 invariant-loop-self l = record {
-  continues : Continues Comma (at_most the_limits.elements is_whole whole_at) l.numbers.items (lexemes l.self.tokens.now) (separated_at (at_most the_limits.elements is_whole whole_at) (lexemes l.fn.self.tokens.now));
-  shorter : length l.self.tokens.now ≤ length l.fn.self.tokens.now;
+  continues : Continues Comma (at_most the_limits.elements is_whole whole_at) l.numbers.items (lexemes l.self) (separated_at (at_most the_limits.elements is_whole whole_at) (lexemes l.fn.self));
+  shorter : length (lexemes l.self) ≤ length (lexemes l.fn.self);
   same_end : l.self.end ≡ l.fn.self.end;
   walked : Walk l.fn.self l.self [];
 }
 
 abbrev pub decreases-loop-self : goal.decreases-loop-self
-decreases-loop-self l = length l.self.tokens.now
+decreases-loop-self l = length (lexemes l.self)

@@ -38,7 +38,7 @@ loop-self-preserved c = record {
 }
 
 pub returns-clause-read : goal.returns-clause-read
-returns-clause-read c = is_whole_list Comma (at_most the_limits.elements begins_basic (basic_at the_limits)) _ _ _ _ _ c.loop-self-test.false c.eat.ensures.found c.eat.ensures.left c.loop-self.invariant.continues
+returns-clause-read c = rw c.trimmed.ensures (is_whole_list Comma (at_most the_limits.elements begins_basic (basic_at the_limits)) _ _ _ _ _ c.loop-self-test.false c.eat.ensures.found c.eat.ensures.left c.loop-self.invariant.continues)
 
 pub returns-clause-walked : goal.returns-clause-walked
-returns-clause-walked c = walk_end c.loop-self.invariant.walked c.eat.ensures.walked
+returns-clause-walked c = rw c.trimmed.ensures (walk_end c.loop-self.invariant.walked c.eat.ensures.walked)

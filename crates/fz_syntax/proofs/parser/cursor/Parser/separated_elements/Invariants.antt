@@ -1,9 +1,9 @@
 use Rattle.std.proofs.Common.{◌≡◌, ◌≤◌, length, map}
 use Rattle.fz_lex.specs.declared.token.Mark.TheVariants.{Comma}
-use Rattle.fz_syntax.specs.Walk.{Walk}
+use Rattle.fz_syntax.specs.Walk.{Walk, lexemes}
 use Rattle.std.specs.List.{flat_map}
 use Rattle.fz_syntax.specs.Spots.{literal_spots}
-use Rattle.fz_syntax.specs.View.{lexemes, bare_literal}
+use Rattle.fz_syntax.specs.View.{bare_literal}
 use Rattle.fz_syntax.specs.Reading.{separated_at, at_most, begins_literal, literal_at}
 use Rattle.fz_syntax.specs.Shape.{the_limits}
 use Rattle.fz_syntax.proofs.Running.{Continues}
@@ -11,11 +11,11 @@ use Rattle.fz_syntax.proofs.parser.cursor.Parser.separated_elements.Given as goa
 
 abbrev pub invariant-loop-self : goal.invariant-loop-self
 invariant-loop-self l = record {
-  continues : Continues Comma (at_most the_limits.elements begins_literal (literal_at the_limits)) (map bare_literal l.elements.items) (lexemes l.self.tokens.now) (separated_at (at_most the_limits.elements begins_literal (literal_at the_limits)) (lexemes l.fn.self.tokens.now));
-  shorter : length l.self.tokens.now ≤ length l.fn.self.tokens.now;
+  continues : Continues Comma (at_most the_limits.elements begins_literal (literal_at the_limits)) (map bare_literal l.elements.items) (lexemes l.self) (separated_at (at_most the_limits.elements begins_literal (literal_at the_limits)) (lexemes l.fn.self));
+  shorter : length (lexemes l.self) ≤ length (lexemes l.fn.self);
   same_end : l.self.end ≡ l.fn.self.end;
   walked : Walk l.fn.self l.self (flat_map literal_spots l.elements.items);
 }
 
 abbrev pub decreases-loop-self : goal.decreases-loop-self
-decreases-loop-self l = length l.self.tokens.now
+decreases-loop-self l = length (lexemes l.self)

@@ -1,0 +1,137 @@
+//! A checker of FlatZinc models and solution streams in plain Rust, without contracts: a yardstick.
+
+mod check;
+mod lex;
+mod model;
+mod names;
+mod parse;
+mod phases;
+mod printed;
+mod sets;
+mod stream;
+mod text;
+mod tree;
+
+use check::Checker;
+use lex::{Fault, FaultName, MAX_BYTES};
+use std::ffi::OsString;
+use std::fs::File;
+use std::io::{Read, Write};
+use std::process::exit;
+use stream::{load, pad, Answer, CheckError, Run};
+
+const USAGE: &str =
+    "usage: plain show MODEL | check MODEL [STREAM] | time PHASE ROUNDS FILE [STREAM]";
+
+fn usage() -> ! {
+    eprintln!("{USAGE}");
+    exit(5)
+}
+
+/// Tells a refusal on standard error and ends with its status.
+fn refuse(e: CheckError) -> ! {
+    let place = |what: String, f: Fault| match f.name {
+        FaultName::TooLong => format!("refused: {what}: TooLong"),
+        n => format!("refused: {what}: {n:?} at {}..{}", f.start, f.end),
+    };
+    let (text, status) = match e {
+        CheckError::Model(f) => (place("model".into(), f), 4),
+        CheckError::Stream(f) => (place("stream".into(), f), 4),
+        CheckError::Block(n, f) => (place(format!("block {n}"), f), 4),
+        CheckError::Read => ("refused: read".into(), 6),
+        CheckError::Write => ("refused: write".into(), 6),
+    };
+    eprintln!("{text}");
+    exit(status)
+}
+
+fn open(name: &OsString) -> Result<File, CheckError> {
+    File::open(name).map_err(|_| CheckError::Read)
+}
+
+fn read_model(mut f: File) -> Result<Vec<u8>, CheckError> {
+    let mut v = Vec::new();
+    let guess = f
+        .metadata()
+        .map_or(0, |m| m.len())
+        .min(MAX_BYTES as u64 + 1) as usize;
+    v.reserve_exact(guess + 1 + 1 + lex::PAD);
+    (&mut f)
+        .take(MAX_BYTES as u64 + 1)
+        .read_to_end(&mut v)
+        .map_err(|_| CheckError::Read)?;
+    Ok(v)
+}
+
+fn show(name: &OsString) -> Result<u8, CheckError> {
+    let (src, end) = pad(read_model(open(name)?)?);
+    if end > MAX_BYTES {
+        return Err(CheckError::Model(Fault {
+            name: FaultName::TooLong,
+            start: 0,
+            end: 0,
+        }));
+    }
+    let tree = phases::tree_of(&src, end).map_err(CheckError::Model)?;
+    phases::model_of(&tree, &src, end).map_err(CheckError::Model)?;
+    std::io::stdout()
+        .write_all(&phases::text_of(&tree, &src))
+        .map_err(|_| CheckError::Write)?;
+    Ok(0)
+}
+
+fn check(model: &OsString, stream: Option<&OsString>) -> Result<u8, CheckError> {
+    let model = open(model)?;
+    let mut input: Box<dyn Read> = match stream {
+        Some(s) => Box::new(open(s)?),
+        None => Box::new(std::io::stdin()),
+    };
+    let (src, end) = pad(read_model(model)?);
+    let b = load(&src, end).map_err(CheckError::Model)?;
+    let mut out = std::io::stdout().lock();
+    let answer = Run::new(Checker::new(b.m), &mut out).run(&mut input)?;
+    Ok(match answer {
+        Answer::Accepted(_) => 0,
+        Answer::Rejected(_) => 1,
+        Answer::Undecided(_) => 2,
+        Answer::NoBlocks => 3,
+    })
+}
+
+/// Runs a phase some times; its count on standard output, its least time on standard error.
+fn time(words: &[OsString]) -> Result<u8, CheckError> {
+    let [phase, rounds, files @ ..] = words else {
+        usage()
+    };
+    let (Some(phase), Some(Ok(rounds))) = (phase.to_str(), rounds.to_str().map(str::parse)) else {
+        usage()
+    };
+    let read = |f: &OsString| std::fs::read(f).map_err(|_| CheckError::Read);
+    let (file, stream) = match files {
+        [file] => (read(file)?, Vec::new()),
+        [file, stream] => (read(file)?, read(stream)?),
+        _ => usage(),
+    };
+    let Some((count, took)) = phases::measure(phase, rounds, file, stream)? else {
+        usage()
+    };
+    println!("{phase}: {count}");
+    eprintln!("{phase}: {} ns", took.as_nanos());
+    Ok(0)
+}
+
+fn main() {
+    let args: Vec<OsString> = std::env::args_os().skip(1).collect();
+    let Some(word) = args.first() else { usage() };
+    let r = match (word.as_encoded_bytes(), &args[1..]) {
+        (b"show", [model]) => show(model),
+        (b"check", [model]) => check(model, None),
+        (b"check", [model, stream]) => check(model, Some(stream)),
+        (b"time", rest) => time(rest),
+        _ => usage(),
+    };
+    match r {
+        Ok(status) => exit(status.into()),
+        Err(e) => refuse(e),
+    }
+}

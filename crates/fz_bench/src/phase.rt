@@ -1,0 +1,85 @@
+use crate::measured::{Measured, quicker};
+use crate::stream::{run_blocks, run_splitter};
+use crate::text::{run_lex, run_parse, run_to_text};
+use crate::whole::run_check;
+use crate::words::Request;
+use anyhow::{Context, Result, bail};
+use std::fs;
+
+/// The words of the phases. One more phase is a word here, a line of `run`, and the function that it names.
+const PHASES: [&str; 6] = ["lex", "parse", "to_text", "blocks", "splitter", "check"];
+
+/// The word that stands for each phase in turn.
+const EACH: &str = "each";
+
+/// What the phases read. Where one file is given, it is both.
+#[derive(Clone, Copy)]
+struct Files<'a> {
+    model: &'a [u8],
+    stream: &'a [u8],
+}
+
+/// Reads the files, measures what is asked for, and tells it.
+pub fn measure(rt: &HostRuntime, request: &Request<'_>) -> Result<()> {
+    let model = fs::read(rt, request.model).context("reading the model")?;
+    match request.stream {
+        None => {
+            let files = Files {
+                model: &model,
+                stream: &model,
+            };
+            measure_files(rt, request, files)
+        }
+        Some(stream) => {
+            let stream = fs::read(rt, stream).context("reading the stream")?;
+            let files = Files {
+                model: &model,
+                stream: &stream,
+            };
+            measure_files(rt, request, files)
+        }
+    }
+}
+
+fn measure_files(rt: &HostRuntime, request: &Request<'_>, files: Files<'_>) -> Result<()> {
+    if request.phase != EACH {
+        return tell(rt, request.phase, request.rounds, files);
+    }
+    for phase in PHASES {
+        tell(rt, phase, request.rounds, files)?;
+    }
+    Ok(())
+}
+
+/// Runs a phase, and tells its count on standard output and its time on standard error.
+fn tell(rt: &HostRuntime, phase: &str, rounds: u32, files: Files<'_>) -> Result<()> {
+    let measured = least(rt, phase, rounds, files)?;
+    let count = measured.count;
+    let nanos = measured.took.as_nanos();
+    println!(rt; "{phase}: {count}")?;
+    eprintln!(rt; "{phase}: {nanos} ns")?;
+    Ok(())
+}
+
+/// The least of some rounds of a phase.
+fn least(rt: &HostRuntime, phase: &str, rounds: u32, files: Files<'_>) -> Result<Measured> {
+    let mut best = None;
+    for _ in 0..rounds {
+        let next = run(rt, phase, files)?;
+        best = Some(quicker(best, next)?);
+    }
+    best.context("no rounds")
+}
+
+/// One round of a phase.
+fn run(rt: &HostRuntime, phase: &str, files: Files<'_>) -> Result<Measured> {
+    match phase {
+        "lex" => run_lex(rt, files.model),
+        "parse" => run_parse(rt, files.model),
+        "to_text" => run_to_text(rt, files.model),
+        "blocks" => run_blocks(rt, files.stream),
+        "splitter" => run_splitter(rt, files.stream),
+        "check" => run_check(rt, files.model, files.stream),
+        _ => bail!("no phase has this name"),
+    }
+}

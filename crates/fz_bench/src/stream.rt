@@ -1,0 +1,62 @@
+//! The phases over a stream alone.
+
+ghost use Rattle.std.specs.Prelude.{◌≢◌, OnOk};
+ghost use Rattle.fz_stream.specs.declared.splitter.Stage.TheVariants.{Finished};
+
+use crate::measured::{Measured, Watch};
+use anyhow::Result;
+use fz_stream::{Part, Splitter, StreamError, blocks};
+
+/// The bytes that a splitter is fed at a time.
+const PIECE: usize = 4096;
+
+/// Reads a stream whole, and counts its blocks.
+pub fn run_blocks(rt: &HostRuntime, stream: &[u8]) -> Result<Measured> {
+    let watch = Watch::start(rt)?;
+    let found = blocks(rt.alloc(), stream)?;
+    let took = watch.stop(rt)?;
+    Ok(Measured {
+        count: found.blocks.len(),
+        took,
+    })
+}
+
+/// Feeds a splitter a stream in pieces, takes each part, and counts the blocks.
+pub fn run_splitter(rt: &HostRuntime, stream: &[u8]) -> Result<Measured> {
+    let watch = Watch::start(rt)?;
+    let mut splitter = Splitter::new(rt.alloc());
+    let mut count = 0usize;
+    for piece in stream.chunks(PIECE) {
+        count = count.wrapping_add(feed_all(&mut splitter, piece)?);
+    }
+    splitter.finish()?;
+    count = count.wrapping_add(waiting_blocks(&splitter)?);
+    let took = watch.stop(rt)?;
+    Ok(Measured { count, took })
+}
+
+/// Feeds a splitter a whole piece, and counts the blocks that it completes.
+fn feed_all(splitter: &mut Splitter, piece: &[u8]) -> Result<usize, StreamError>
+    requires { splitter.old.stage ≢ Finished }
+    ensures { OnOk result (splitter.new.stage ≢ Finished) }
+{
+    let mut count = 0usize;
+    let mut rest = piece;
+    for _ in 0..=piece.len() {
+        let taken = splitter.feed(rest)?;
+        count = count.wrapping_add(waiting_blocks(splitter)?);
+        rest = &rest[taken..];
+        if rest.is_empty() {
+            break;
+        }
+    }
+    Ok(count)
+}
+
+/// How many blocks wait in a splitter: one or none.
+fn waiting_blocks(splitter: &Splitter) -> Result<usize, StreamError> {
+    match splitter.take()? {
+        Some(Part::Block(_)) => Ok(1),
+        Some(Part::Claim(_)) | None => Ok(0),
+    }
+}

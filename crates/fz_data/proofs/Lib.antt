@@ -1,0 +1,12 @@
+pub mod Shows
+pub mod Finds
+pub mod Points
+pub mod FindsKinds
+pub mod Fitting
+pub mod Tells
+pub mod Stands
+pub mod Added
+pub mod Knows
+pub mod Loops
+pub mod Next
+pub mod Loaded

@@ -1,0 +1,129 @@
+-- What was read is laid out as the model of the tree.
+use Rattle.std.proofs.Common.{◌≡◌, true, false, cond, List, [], ◌∷◌, ◌++◌, map, Vec, Global, Option, Some, None, option_map, refl, sym, ap, subst, ◌∙◌, flat_map, append_assoc}
+use Rattle.std.specs.List.{AllByRecursion}
+use Rattle.std.proofs.lemmas.List.{append-nil}
+use Rattle.fz_meaning.specs.declared.error.ModelError.{ModelError}
+use Rattle.fz_meaning.specs.declared.error.ModelError.TheVariants as errors
+use Rattle.fz_meaning.specs.declared.kind.Kind.TheVariants.{Int as IntKind}
+use Rattle.fz_meaning.specs.Located.{Decl, LocatedTree}
+use Rattle.fz_meaning.specs.Meaning.{declared_points, numbered_from, name_of, place_named, variable_of, first_some, find_name, row_of}
+use Rattle.fz_meaning.specs.Meaning.Declared.{Parameter, ScalarVariable, ArrayOfVariables}
+use Rattle.fz_meaning.specs.Names.{HasNoFault, IsInReadingOrder, goal_parts, parts, kind_of_base, domain_of, is_scalar, number_of, variable_declared, definition_of, term_of, place_of_declared, declared_of, posted_of, aim_of, model_of}
+use Rattle.fz_meaning.specs.View.{TellsFirstFault}
+use Rattle.fz_meaning.proofs.NamedKinds.{named_fits}
+use Rattle.fz_table.specs.declared.known.Known.{Known}
+use Rattle.fz_table.specs.Known.{known_row}
+use Rattle.fz_data.specs.Kinds.{PlaceFits}
+use Rattle.fz_scope.specs.FirstFault.{FirstFaultIsLeftmost, decls_fault, constraint_fault, constraints_fault, goal_fault, first_fault}
+use Rattle.fz_scope.proofs.Known.{next_number, number_here}
+use Rattle.fz_scope.proofs.Names.{AreNew, are_new, numbered_after, numbered_is, place_named_is}
+use Rattle.fz_data.specs.declared.model.Model.TheInside.{Inside}
+use Rattle.fz_data.specs.declared.parts.Goal as the_goal
+use Rattle.fz_data.specs.declared.parts.Posted as the_posted
+use Rattle.fz_data.specs.declared.scope.Scope.{Scope}
+use Rattle.fz_data.specs.Parts.{posted_view, goal_view, declared_point}
+use Rattle.fz_data.specs.Layout.{model_view, named_place, IsLaidOut, IsPlaced, CitesArrays}
+use Rattle.fz_data.specs.Scope.{AreKept, Tells, posted_in, aim_in, faults_in, constraint_fault_in}
+use Rattle.fz_data.specs.Stands.{StandsFor, entry_view, entry_place, is_kept, declared_pair}
+use Rattle.fz_scope.proofs.Steps.{in_constraints, in_goal, nowhere}
+use Rattle.fz_data.proofs.Finds.{first_some-same}
+use Rattle.fz_data.proofs.Tells.{tells_further}
+use Rattle.fz_data.proofs.Stands.{variables_known}
+use Rattle.fz_data.proofs.Knows.{faults_same, constraint_same, all_posted_same, aim_same}
+
+-- ---- names
+
+own_name : (all : List Decl) (d : Decl) → name_of (declared_of all d) ≡ d.name.text
+own_name all d =
+    elim d.is_var as (λ b. name_of (cond b (cond (is_scalar d) (ScalarVariable (variable_declared d) (definition_of all d.value)) (ArrayOfVariables d.name.text (kind_of_base d.base) (domain_of d.base) (map (term_of all) (parts d.value)))) (Parameter d.name.text (place_of_declared all d))) ≡ d.name.text) [
+      | false ↦ refl
+      | true ↦ elim (is_scalar d) as (λ c. name_of (cond c (ScalarVariable (variable_declared d) (definition_of all d.value)) (ArrayOfVariables d.name.text (kind_of_base d.base) (domain_of d.base) (map (term_of all) (parts d.value)))) ≡ d.name.text) [ true ↦ refl | false ↦ refl ]
+    ]
+
+named_pairs : (all before ds : List Decl) → before ++ ds ≡ all → AreNew before ds → map named_place (numbered_after all before ds) ≡ map (declared_pair all) ds
+named_pairs all before [] e new = refl
+named_pairs all before (d ∷ ds) e new =
+    let place : place_named (next_number before) (declared_of all d) ≡ place_of_declared all d =
+    place_named_is (next_number before) all d (λ is. subst (λ zs. number_of zs d.name.text ≡ next_number before) e (number_here before d ds new.0 is)) in
+    let later : map named_place (numbered_after all (before ++ d ∷ []) ds) ≡ map (declared_pair all) ds = named_pairs all (before ++ d ∷ []) ds (append_assoc before (d ∷ []) ds ∙ e) new.1 in
+    λ i. (own_name all d i, place i) ∷ later i
+
+-- ---- the scope by itself
+
+module _ (all : List Decl) (s : Scope) (st : StandsFor all all s) where
+  declared_now : map (entry_view s.variables.items s.arrays.items) s.names.entries ≡ map (declared_of all) all
+  declared_now = (λ i. map (entry_view (sym (append-nil s.variables.items) i) (sym (append-nil s.arrays.items) i)) s.names.entries) ∙ st.declared [] []
+
+  pairs_now : map (entry_place s.variables.items s.arrays.items) s.names.entries ≡ map (declared_pair all) all
+  pairs_now = (λ i. map (entry_place (sym (append-nil s.variables.items) i) (sym (append-nil s.arrays.items) i)) s.names.entries) ∙ st.places [] []
+
+  points_now : map (declared_point s.variables.items s.arrays.items) s.points.items ≡ flat_map declared_points (numbered_from 0 (map (declared_of all) all))
+  points_now = (λ i. map (declared_point (sym (append-nil s.variables.items) i) (sym (append-nil s.arrays.items) i)) s.points.items) ∙ st.points [] []
+
+  placed_now : AllByRecursion (IsPlaced s.variables.items s.arrays.items) s.points.items
+  placed_now =
+      subst (λ us. AllByRecursion (IsPlaced us s.arrays.items) s.points.items) (append-nil s.variables.items)
+      (subst (λ zs. AllByRecursion (IsPlaced (s.variables.items ++ []) zs) s.points.items) (append-nil s.arrays.items) (st.placed [] []))
+
+  pub kept_now : AreKept s
+  kept_now = subst (λ zs. AllByRecursion (is_kept zs) s.names.entries) (append-nil s.arrays.items) (st.kept [])
+
+-- ---- the whole
+
+module _ (t : LocatedTree) (s : Scope) (cs : Vec the_posted.Posted Global) (ks : Vec (Option Known) Global) (g : the_goal.Goal) (st : StandsFor t.decls t.decls s) (clean : decls_fault [] t.decls ≡ None)
+    (posted : map (posted_view s.variables.items s.arrays.items) cs.items ≡ map (posted_in s) t.constraints) (cited : AllByRecursion (CitesArrays s.arrays.items) cs.items)
+    (sound : faults_in s (Some IntKind) (goal_parts t.solve.goal) ≡ None) (aim : goal_view g ≡ aim_in s t.solve.goal) where
+  abbrev fields : Inside
+  fields = record { names = s.names; variables = s.variables; arrays = s.arrays; points = s.points; constraints = cs; known = ks; goal = g }
+
+  new : AreNew [] t.decls
+  new = are_new [] t.decls clean
+
+  aim_is : goal_view g ≡ aim_of t.decls t.solve.goal
+  aim_is = aim ∙ aim_same t.decls t.decls s st [] (sym (append-nil t.decls)) t.solve.goal (sym (faults_same t.decls t.decls s st (Some IntKind) (goal_parts t.solve.goal)) ∙ sound)
+
+  posted_is : map (posted_view s.variables.items s.arrays.items) cs.items ≡ map (posted_of t.decls) t.constraints
+  posted_is = posted ∙ all_posted_same t.decls s st new t.constraints
+
+  pub model_is : model_view fields ≡ model_of t
+  model_is = λ i. record { declared = declared_now t.decls s st i; constraints = posted_is i; aim = aim_is i }
+
+  pub laid_out : HasNoFault t → map (option_map known_row) ks.items ≡ map row_of (map (posted_view s.variables.items s.arrays.items) cs.items) → IsLaidOut fields
+  laid_out sound rows = record {
+    variables = ap (flat_map variable_of) (declared_now t.decls s st) ∙ variables_known t.decls t.decls ∙ sym st.variables;
+    places = ap (λ qs. map named_place (numbered_from 0 qs)) (declared_now t.decls s st) ∙ ap (map named_place) (numbered_is t) ∙ named_pairs t.decls [] t.decls refl new ∙ sym (pairs_now t.decls s st);
+    points = ap (λ qs. flat_map declared_points (numbered_from 0 qs)) (declared_now t.decls s st) ∙ sym (points_now t.decls s st);
+    placed = placed_now t.decls s st;
+    kept = kept_now t.decls s st;
+    cited = cited;
+    known = rows;
+    kinds = λ x p e. subst (λ m. PlaceFits m p) (sym model_is) (named_fits t sound x p (subst (λ m. find_name m x ≡ Some p) model_is e));
+  }
+
+-- ---- what an error tells
+
+pub tells_first : (t : LocatedTree) (e : ModelError) → FirstFaultIsLeftmost → IsInReadingOrder t → Tells e (first_fault t) → TellsFirstFault t e
+tells_first t (errors.DuplicateName at) law order h = law t order _ at h
+tells_first t (errors.UnknownName at) law order h = law t order _ at h
+tells_first t (errors.Kind at) law order h = law t order _ at h
+tells_first t (errors.Length at) law order h = law t order _ at h
+tells_first t errors.Memory law order h = tt
+
+-- ---- the faults behind the declarations
+
+module _ (t : LocatedTree) (s : Scope) (st : StandsFor t.decls t.decls s) (clean : decls_fault [] t.decls ≡ None) where
+  constraints_same : first_some (constraint_fault_in s) t.constraints ≡ constraints_fault t.decls t.constraints
+  constraints_same = first_some-same (constraint_fault_in s) (constraint_fault t.decls) (constraint_same t.decls t.decls s st) t.constraints
+
+  goal_same : faults_in s (Some IntKind) (goal_parts t.solve.goal) ≡ goal_fault t.decls t.solve.goal
+  goal_same = faults_same t.decls t.decls s st (Some IntKind) (goal_parts t.solve.goal)
+
+  pub told_in_constraints : (e : ModelError) → Tells e (first_some (constraint_fault_in s) t.constraints) → Tells e (first_fault t)
+  told_in_constraints e h = tells_further e _ (first_fault t) (λ y here. in_constraints t y clean (sym constraints_same ∙ here)) h
+
+  module _ (known : first_some (constraint_fault_in s) t.constraints ≡ None) where
+    pub told_in_goal : (e : ModelError) → Tells e (faults_in s (Some IntKind) (goal_parts t.solve.goal)) → Tells e (first_fault t)
+    told_in_goal e h = tells_further e _ (first_fault t) (λ y here. in_goal t y clean (sym constraints_same ∙ known) (sym goal_same ∙ here)) h
+
+    pub none_anywhere : faults_in s (Some IntKind) (goal_parts t.solve.goal) ≡ None → first_fault t ≡ None
+    none_anywhere sound = nowhere t clean (sym constraints_same ∙ known) (sym goal_same ∙ sound)

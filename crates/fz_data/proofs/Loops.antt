@@ -1,0 +1,54 @@
+-- Loops over parts of the tree: what was found so far, and the first answer.
+use Rattle.std.proofs.Common.{◌≡◌, ℕ, ◌+◌, ◌<◌, ◌≤◌, true, false, cond, List, [], ◌∷◌, ◌++◌, map, length, take, get_or, Option, Some, None, is_some, Bor, refl, sym, ap, subst, ◌∙◌, arith}
+use Rattle.std.specs.List.{AllByRecursion}
+use Rattle.std.specs.Map.{lookup}
+use Rattle.std.proofs.lemmas.List.{map-append}
+use Rattle.std.proofs.lemmas.Slice.Eq.{bytes_eq-Decides}
+use Rattle.fz_meaning.specs.Meaning.{first_some}
+use Rattle.fz_meaning.proofs.Lists.{all_append}
+use Rattle.fz_scope.proofs.Steps.{first_stops, take_one_more}
+use Rattle.fz_data.specs.Scope.{has_text}
+use Rattle.fz_syntax.specs.Tree as tree
+use Rattle.fz_syntax.specs.View.{arg_list, bare_arg}
+use Rattle.fz_syntax.specs.declared.tree.NoteArg.{NoteArg}
+use Rattle.fz_data.specs.Scope.{only_arg}
+
+-- one more is found: what it stands for, and what holds of it
+pub one_found : {A B C V : Type 0} (g : A → B) (want : B → V) (view : C → V) (xs : List A) (i : ℕ) (x : A) (cs new : List C) (c : C) → i < length xs → x ≡ get_or xs i x
+    → map view cs ≡ map want (map g (take i xs)) → view c ≡ want (g x) → new ≡ cs ++ c ∷ [] → map view new ≡ map want (map g (take (i + 1) xs))
+one_found g want view xs i x cs new c lt at so_far here grew =
+    ap (map view) grew ∙ map-append view cs (c ∷ []) ∙ (λ j. so_far j ++ here j ∷ []) ∙ sym (ap (map want) (take_one_more g xs i x lt at) ∙ map-append want (map g (take i xs)) (g x ∷ []))
+
+pub all_found : {C : Type 0} (P : C → Type 0) (cs new : List C) (c : C) → AllByRecursion P cs → P c → new ≡ cs ++ c ∷ [] → AllByRecursion P new
+all_found P cs new c h k grew = subst (AllByRecursion P) (sym grew) (all_append P cs (c ∷ []) h (k, tt))
+
+-- the first answer
+some_answer : {A : Type 0} (o : Option A) → is_some o ≡ true → (y : A) × (o ≡ Some y)
+some_answer None e = cc
+some_answer (Some y) e = (y, refl)
+
+pub no_answer : {A : Type 0} (o : Option A) → is_some o ≡ false → o ≡ None
+no_answer None e = refl
+no_answer (Some y) e = cc
+
+pub answer_found : {A B C : Type 0} (f : B → Option C) (g : A → B) (xs : List A) (i : ℕ) (x : A) (o : Option C) → i < length xs → x ≡ get_or xs i x → first_some f (map g (take i xs)) ≡ None → o ≡ f (g x) → is_some o ≡ true → o ≡ first_some f (map g xs)
+answer_found f g xs i x o lt at none is some =
+    let (y, found) = some_answer o some in
+    found ∙ sym (first_stops f g xs i x y lt at none (sym is ∙ found))
+
+-- what holds of each entry holds of the one that is found
+pub found_entry : {D : Type 0} (P : List ℕ → D → Type 0) (x : List ℕ) (es : List (Bor (List ℕ) × D)) (d : D) → AllByRecursion (λ e. P e.0.now e.1) es → Some d ≡ lookup (has_text x) es → P x d
+found_entry P x [] d h e = cc
+found_entry {D} P x (y ∷ es) d h e =
+    (elim (has_text x y.0) as (λ b. has_text x y.0 ≡ b → Some d ≡ cond b (Some y.1) (lookup (has_text x) es) → P x d) [
+      | true ↦ λ passes e.
+          let same : y.1 ≡ d = cc in
+          let text : y.0.now ≡ x = sym ((bytes_eq-Decides x y.0.now).0 passes) in
+          subst (λ z. P z d) text (subst (P y.0.now) same h.0)
+      | false ↦ λ _ later. found_entry P x es d h.1 later
+    ]) refl e
+
+pub not_only : (args : List NoteArg) → 2 ≤ length args → ◌≡◌ {A = Option tree.NoteArg} None (only_arg (arg_list (map bare_arg args)))
+not_only [] h = absurd (omega arith)
+not_only (a ∷ []) h = absurd (omega arith)
+not_only (a ∷ b ∷ args) h = refl

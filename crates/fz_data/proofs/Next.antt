@@ -1,0 +1,50 @@
+-- One more declaration.
+use Rattle.std.proofs.Common.{◌≡◌, ℕ, true, cond, List, [], ◌∷◌, ◌++◌, length, Option, Some, None, is_some, is_none, Bor, refl, sym, ap, ◌∙◌}
+use Rattle.std.specs.Map.{lookup}
+use Rattle.std.proofs.lemmas.List.{length-map}
+use Rattle.fz_meaning.specs.Located.{Decl}
+use Rattle.fz_meaning.specs.Names.{parts, kind_of_base, differs_in_length, variable_declared, scalar_variables}
+use Rattle.fz_meaning.specs.Names.FaultKind.{DuplicateName, WrongLength}
+use Rattle.fz_scope.specs.FirstFault.{Fault, decl_fault}
+use Rattle.fz_scope.proofs.Known.{parts_clean, next_number}
+use Rattle.fz_scope.proofs.Steps.{is_new, first_none}
+use Rattle.fz_data.specs.declared.scope.Item.{Item}
+use Rattle.fz_data.specs.declared.scope.Item.TheVariants as items
+use Rattle.fz_data.specs.declared.scope.Scope.{Scope}
+use Rattle.fz_data.specs.Parts.{variable_view}
+use Rattle.fz_data.specs.Scope.{has_text, IsNewName, IsAdded, IsItem, name_fault_in, decl_fault_in, faults_in, kept_with, new_variables, new_arrays, new_points}
+use Rattle.fz_data.specs.Stands.{StandsFor}
+use Rattle.fz_data.proofs.Stands.{Adds, stands_more}
+use Rattle.fz_data.proofs.Added.{adds_parameter, adds_variable, adds_array}
+use Rattle.fz_data.proofs.Knows.{decl_same, terms_same, definition_same}
+
+-- a declaration without a fault has a new name
+not_some : {A : Type 0} (o : Option A) (f : Fault) (g : Option Fault) → cond (is_some o) (Some f) g ≡ None → is_none o ≡ true
+not_some None f g e = refl
+not_some (Some x) f g e = cc
+
+pub new_name : (s : Scope) (d : Decl) → decl_fault_in s d ≡ None → IsNewName s d.name.text
+new_name s d e =
+    not_some (lookup (has_text d.name.text) s.names.entries) (DuplicateName, d.name.span) (cond (differs_in_length d) (Some (WrongLength, d.name.span)) None)
+    (first_none (name_fault_in s d) (faults_in s (Some (kind_of_base d.base)) (parts d.value)) e)
+
+module _ (all known rest : List Decl) (d : Decl) (split : all ≡ known ++ d ∷ rest) (s : Scope) (st : StandsFor all known s) (clean : decl_fault_in s d ≡ None) (k : Bor (List ℕ)) (named : k.now ≡ d.name.text) where
+  clean_here : decl_fault known d ≡ None
+  clean_here = sym (decl_same all known s st d) ∙ clean
+
+  count : length s.variables.items ≡ next_number known
+  count = sym (length-map s.variables.items variable_view) ∙ ap length st.variables ∙ length-map (scalar_variables known) variable_declared
+
+  adds : (it : Item) → IsItem s d it → Adds all known d (k, kept_with s it) s.variables.items (new_variables it) s.arrays.items (new_arrays it) (new_points s it)
+  adds (items.Parameter v) is = adds_parameter all known d k v named is.0 is.1 is.2 is.3 s.variables.items s.arrays.items
+  adds (items.Variable v) is =
+      adds_variable all known d rest split (is_new known d clean_here) k v named is.0 is.1 is.2 (is.3 ∙ definition_same all known s st (d ∷ rest) split (kind_of_base d.base) d.value (parts_clean known d clean_here))
+      s.variables.items count s.arrays.items
+  adds (items.Array x) is =
+      adds_array all known d k x named is.0 is.1.0 is.1.1 is.1.2 is.1.3 (is.1.4 ∙ terms_same all known s st (d ∷ rest) split (kind_of_base d.base) (parts d.value) (parts_clean known d clean_here))
+      s.variables.items s.arrays.items
+
+  pub stands_next : (it : Item) (new : Scope) → IsItem s d it → IsAdded s k it new → StandsFor all (known ++ d ∷ []) new
+  stands_next it new is added =
+      rw (added.names, added.variables, added.arrays, added.points)
+      (stands_more all known d s.names.entries (k, kept_with s it) s.variables.items (new_variables it) s.arrays.items (new_arrays it) s.points.items (new_points s it) st (adds it is))

@@ -1,0 +1,22 @@
+use Rattle.std.proofs.lemmas.Result.{err_from_is_err_and}
+use Rattle.fz_meaning.specs.View.{located_constraint}
+use Rattle.fz_scope.proofs.Steps.{first_more}
+use Rattle.fz_data.specs.Layout.{CitesArrays}
+use Rattle.fz_data.specs.Parts.{posted_view}
+use Rattle.fz_data.specs.Scope.{constraint_fault_in, posted_in}
+use Rattle.fz_data.proofs.Tells.{tells_stop}
+use Rattle.fz_data.proofs.Loops.{one_found, all_found}
+use Rattle.fz_data.proofs.posting.all_posted.Goals as goal
+
+pub returns-in_err-one-clause-tells : goal.returns-in_err-one-clause-tells
+returns-in_err-one-clause-tells c =
+    let p = err_from_is_err_and c.from_residual-in_err-one.result c.from_residual-in_err-one.ensures.1 in
+    rw (p.1, p.2) (tells_stop (constraint_fault_in c.args.scope.now) located_constraint c.args.constraints.now c.loop-constraint.constraint-index c.constraint-item.result _ c.loop-constraint-test.true c.constraint-item.is c.loop-constraint.invariant.clean c.in_err-one.ensures.tells)
+
+pub loop-constraint-preserved : goal.loop-constraint-preserved
+loop-constraint-preserved c = record {
+  clean = first_more (constraint_fault_in c.args.scope.now) located_constraint c.args.constraints.now c.loop-constraint.constraint-index c.constraint-item.result c.loop-constraint-test.true c.constraint-item.is c.loop-constraint.invariant.clean c.in_ok-one.ensures.known;
+  views = one_found located_constraint (posted_in c.args.scope.now) (posted_view c.args.scope.now.variables.items c.args.scope.now.arrays.items) c.args.constraints.now c.loop-constraint.constraint-index c.constraint-item.result c.loop-constraint.found.items c.push.new.self.items c.in_ok-one.one
+      c.loop-constraint-test.true c.constraint-item.is c.loop-constraint.invariant.views c.in_ok-one.ensures.posted c.in_ok-push.ensures.items;
+  cited = all_found (CitesArrays c.args.scope.now.arrays.items) c.loop-constraint.found.items c.push.new.self.items c.in_ok-one.one c.loop-constraint.invariant.cited c.in_ok-one.ensures.cited c.in_ok-push.ensures.items;
+}

@@ -1,0 +1,8 @@
+use Rattle.std.proofs.Common.{◌≡◌, None, take}
+use Rattle.fz_meaning.specs.Meaning.{first_some}
+use Rattle.fz_syntax.specs.View.{bare_notes}
+use Rattle.fz_data.specs.Scope.{defined_in}
+use Rattle.fz_data.proofs.posting.target_of.Given as goal
+
+abbrev pub invariant-loop-note : goal.invariant-loop-note
+invariant-loop-note l = first_some (defined_in l.scope) (bare_notes (take l.note-index l.notes)) ≡ None

@@ -1,0 +1,108 @@
+-- What the parts of a loaded model stand for: the model as it is defined, without memory (this project's profile). Variables and arrays are
+-- cited by their numbers; nothing rests on what stands for a number that is none's.
+use Rattle.std.specs.Prelude.{ℕ, List, [], map, Option, None, Some, cond, slice_get}
+use Rattle.std.specs.Option.{option_map_or}
+use Rattle.fz_meaning.specs.Values.{kind_of}
+use Rattle.fz_meaning.specs.declared.kind.Kind.{Kind}
+use Rattle.fz_meaning.specs.declared.kind.Kind.TheVariants.{Int as IntKind}
+use Rattle.fz_meaning.specs.declared.term.Term.{Term}
+use Rattle.fz_meaning.specs.declared.term.Term.TheVariants.{Var, Fixed}
+use Rattle.fz_meaning.specs.declared.term.Domain.TheVariants.{All}
+use Rattle.fz_meaning.specs.Meaning as meaning
+use Rattle.fz_data.specs.declared.parts.Variable.{Variable}
+use Rattle.fz_data.specs.declared.parts.Array.{Array}
+use Rattle.fz_data.specs.declared.parts.Declared.{Declared}
+use Rattle.fz_data.specs.declared.parts.Declared.TheVariants as declarations
+use Rattle.fz_data.specs.declared.parts.Place.{Place}
+use Rattle.fz_data.specs.declared.parts.Place.TheVariants as places
+use Rattle.fz_data.specs.declared.parts.Argument.{Argument}
+use Rattle.fz_data.specs.declared.parts.Argument.TheVariants as arguments
+use Rattle.fz_data.specs.declared.parts.Posted.{Posted}
+use Rattle.fz_data.specs.declared.parts.Goal.{Goal}
+use Rattle.fz_data.specs.declared.parts.Goal.TheVariants as goals
+use Rattle.fz_data.specs.declared.parts.DeclaredPoint.{DeclaredPoint}
+use Rattle.fz_data.specs.declared.parts.DeclaredPoint.TheVariants as points
+
+-- ---- variables and arrays
+
+abbrev pub variable_view : Variable → meaning.Variable
+variable_view v = record { name = v.name.now; kind = v.kind; domain = v.domain }
+
+abbrev pub no_variable : meaning.Variable
+no_variable = record { name = []; kind = IntKind; domain = All }
+
+abbrev pub variable_at : List Variable → ℕ → meaning.Variable
+variable_at vs n = option_map_or variable_view (slice_get vs n) no_variable
+
+abbrev pub definition_at : List Variable → ℕ → Option Term
+definition_at vs n = option_map_or (λ v. v.definition) (slice_get vs n) None
+
+-- the kind of a scalar: its variable's, or its value's
+abbrev pub kind_of_term : List Variable → Term → Kind
+kind_of_term vs (Var n) = (variable_at vs n).kind
+kind_of_term vs (Fixed v) = kind_of v
+
+abbrev pub scalar_view : List Variable → Term → meaning.Place
+scalar_view vs t = meaning.Place.Scalar (kind_of_term vs t) t
+
+abbrev pub array_view : Array → meaning.Place
+array_view x = meaning.Place.Array x.name.now x.kind x.elements.items
+
+abbrev pub no_array : meaning.Place
+no_array = meaning.Place.Array [] IntKind []
+
+abbrev pub array_at : List Array → ℕ → meaning.Place
+array_at xs i = option_map_or array_view (slice_get xs i) no_array
+
+-- ---- declarations
+
+abbrev pub scalar_declared : List Variable → List ℕ → Term → meaning.Declared
+scalar_declared vs x (Var n) = meaning.Declared.ScalarVariable (variable_at vs n) (definition_at vs n)
+scalar_declared vs x (Fixed v) = meaning.Declared.Parameter x (meaning.Place.Scalar (kind_of v) (Fixed v))
+
+abbrev pub array_declared : Array → meaning.Declared
+array_declared x =
+    cond x.is_variable
+    (meaning.Declared.ArrayOfVariables x.name.now x.kind x.domain x.elements.items)
+    (meaning.Declared.Parameter x.name.now (array_view x))
+
+abbrev pub declared_view : List Variable → List Array → List ℕ → Declared → meaning.Declared
+declared_view vs xs name (declarations.Scalar t) = scalar_declared vs name t
+declared_view vs xs name (declarations.Array i) = option_map_or array_declared (slice_get xs i) (meaning.Declared.Parameter name no_array)
+
+-- what the declared name stands for
+abbrev pub declared_place : List Variable → List Array → Declared → meaning.Place
+declared_place vs xs (declarations.Scalar t) = scalar_view vs t
+declared_place vs xs (declarations.Array i) = array_at xs i
+
+-- ---- constraints and the goal
+
+abbrev pub place_view : List Variable → List Array → Place → meaning.Place
+place_view vs xs (places.Scalar t) = scalar_view vs t
+place_view vs xs (places.Array x) = array_at xs x.number
+
+abbrev pub argument_view : List Variable → List Array → Argument → meaning.Argument
+argument_view vs xs (arguments.One p) = meaning.Argument.One (place_view vs xs p)
+argument_view vs xs (arguments.List ps) = meaning.Argument.ListOf (map (place_view vs xs) ps.items)
+
+abbrev pub posted_view : List Variable → List Array → Posted → meaning.Posted
+posted_view vs xs p = record { name = p.name.now; arguments = map (argument_view vs xs) p.arguments.items; target = p.target }
+
+abbrev pub goal_view : Goal → meaning.Aim
+goal_view goals.Satisfy = meaning.Aim.Satisfy
+goal_view (goals.Minimize t) = meaning.Aim.Minimize t
+goal_view (goals.Maximize t) = meaning.Aim.Maximize t
+
+-- ---- points of declarations
+
+abbrev pub definition_point : List Variable → ℕ → Option Term → meaning.Point
+definition_point vs n None = meaning.Point.DomainPoint (variable_at vs n) n
+definition_point vs n (Some e) = meaning.Point.DefinitionPoint (variable_at vs n) n e
+
+abbrev pub elements_point : Array → meaning.Point
+elements_point x = meaning.Point.ArrayPoint x.name.now x.domain x.elements.items
+
+abbrev pub declared_point : List Variable → List Array → DeclaredPoint → meaning.Point
+declared_point vs xs (points.Domain n) = meaning.Point.DomainPoint (variable_at vs n) n
+declared_point vs xs (points.Definition n) = definition_point vs n (definition_at vs n)
+declared_point vs xs (points.Elements i) = option_map_or elements_point (slice_get xs i) (meaning.Point.ArrayPoint [] All [])

@@ -1,0 +1,74 @@
+-- What a caller is shown of a model: points by their names, constraints with arrays by theirs, and what a name stands for (this project's
+-- profile).
+use Rattle.std.specs.Prelude.{ℕ, List, map, slice_get, ⊤}
+use Rattle.std.specs.Option.{option_map_or}
+use Rattle.fz_meaning.specs.Values.{kind_of}
+use Rattle.fz_meaning.specs.declared.kind.Kind.{Kind}
+use Rattle.fz_meaning.specs.declared.kind.Kind.TheVariants.{Int as IntKind}
+use Rattle.fz_meaning.specs.declared.term.Term.{Term}
+use Rattle.fz_meaning.specs.declared.term.Term.TheVariants.{Var, Fixed}
+use Rattle.fz_meaning.specs.Meaning as meaning
+use Rattle.fz_data.specs.Parts.{variable_view, posted_view}
+use Rattle.fz_data.specs.declared.parts.Place.{Place}
+use Rattle.fz_data.specs.declared.parts.Place.TheVariants as places
+use Rattle.fz_data.specs.declared.parts.Argument.{Argument}
+use Rattle.fz_data.specs.declared.parts.Argument.TheVariants as arguments
+use Rattle.fz_data.specs.declared.parts.Posted.{Posted}
+use Rattle.fz_data.specs.declared.point.Point.{Point}
+use Rattle.fz_data.specs.declared.point.Point.TheVariants as points
+use Rattle.fz_data.specs.declared.point.ConstraintParts.{ConstraintParts}
+use Rattle.fz_data.specs.declared.point.PointParts.{PointParts}
+use Rattle.fz_data.specs.declared.point.PointParts.TheVariants as parts
+use Rattle.fz_data.specs.declared.found.Found.{Found}
+use Rattle.fz_data.specs.declared.found.What.{What}
+use Rattle.fz_data.specs.declared.found.What.TheVariants as whats
+
+-- ---- points
+
+-- what a point is told by
+abbrev pub point_name : Point → meaning.PointName
+point_name (points.Domain x) = meaning.DomainOf x.now
+point_name (points.Definition x) = meaning.DefinitionOf x.now
+point_name (points.Constraint k x) = meaning.ConstraintOf k x.now
+
+-- a point by its parts
+abbrev pub point_view : PointParts → meaning.Point
+point_view (parts.Domain x n) = meaning.Point.DomainPoint (variable_view x.now) n
+point_view (parts.Definition x n e) = meaning.Point.DefinitionPoint (variable_view x.now) n e.now
+point_view (parts.Elements x d ts) = meaning.Point.ArrayPoint x.now d.now ts.now
+point_view (parts.Constraint c) = meaning.Point.ConstraintPoint c.number (posted_view c.variables.now c.arrays.now c.posted.now)
+
+-- what holds of a constraint's parts, where the point is a constraint
+abbrev pub IfConstraint : PointParts → (ConstraintParts → Type 0) → Type 0
+IfConstraint (parts.Constraint c) P = P c
+IfConstraint (parts.Domain x n) P = ⊤
+IfConstraint (parts.Definition x n e) P = ⊤
+IfConstraint (parts.Elements x d ts) P = ⊤
+
+-- ---- constraints: an array is shown by its name
+
+abbrev pub shown_place : Place → meaning.ShownPlace
+shown_place (places.Scalar t) = meaning.ShownScalar t
+shown_place (places.Array x) = meaning.ShownArray x.text.now
+
+abbrev pub shown_argument : Argument → meaning.ShownArgument
+shown_argument (arguments.One p) = meaning.ShownOne (shown_place p)
+shown_argument (arguments.List ps) = meaning.ShownList (map shown_place ps.items)
+
+abbrev pub shown_posted : Posted → meaning.ShownPosted
+shown_posted p = record { name = p.name.now; arguments = map shown_argument p.arguments.items; target = p.target }
+
+-- ---- names
+
+-- the kind of a scalar among these variables: its variable's, or its value's
+abbrev pub kind_among : List meaning.Variable → Term → Kind
+kind_among vs (Var n) = option_map_or (λ v. v.kind) (slice_get vs n) IntKind
+kind_among vs (Fixed v) = kind_of v
+
+abbrev pub what_place : List meaning.Variable → List ℕ → What → meaning.Place
+what_place vs x (whats.Scalar t) = meaning.Place.Scalar (kind_among vs t.now) t.now
+what_place vs x (whats.Array k ts) = meaning.Place.Array x k ts.now
+
+-- what is found under a name, among these variables
+abbrev pub found_place : List meaning.Variable → Found → meaning.Place
+found_place vs f = what_place vs f.name.now f.what

@@ -1,0 +1,71 @@
+//! From a tree to its model: each name is looked up once.
+
+ghost use Rattle.std.specs.Prelude.{◌≡◌, [], IfErr, IfOk, None, map};
+ghost use Rattle.fz_meaning.specs.declared.error.ModelError.TheVariants.{Memory};
+ghost use Rattle.fz_meaning.specs.Names.{HasNoFault, IsInReadingOrder, model_of};
+ghost use Rattle.fz_meaning.specs.View.{TellsFirstFault, located, located_decl};
+ghost use Rattle.fz_scope.specs.FirstFault.{decls_fault, first_fault};
+ghost use Rattle.fz_data.specs.Scope.{Tells};
+ghost use Rattle.fz_data.specs.Stands.{StandsFor};
+
+use crate::declaring::item_of;
+use crate::model::Model;
+use crate::posting::{all_posted, goal_of};
+use crate::rows::rows_of;
+use crate::scope::{Scope, add};
+use fz_meaning::ModelError;
+use fz_syntax::{Ast, Decl};
+use indexmap::IndexMap;
+use std::alloc::Global;
+
+/// Nothing declared yet, with room for this many names.
+fn empty<'a>(alloc: Global, names: usize) -> Result<Scope<'a>, ModelError>
+    ensures names { IfOk result (λ s. s.names.entries ≡ []) }
+    ensures variables { IfOk result (λ s. s.variables.items ≡ []) }
+    ensures arrays { IfOk result (λ s. s.arrays.items ≡ []) }
+    ensures points { IfOk result (λ s. s.points.items ≡ []) }
+    ensures memory { IfErr result (λ e. e ≡ Memory) }
+{
+    Ok(Scope {
+        names: IndexMap::with_capacity(alloc, names)?,
+        variables: Vec::new(alloc),
+        arrays: Vec::new(alloc),
+        points: Vec::new(alloc),
+    })
+}
+
+/// What all declarations declare. It refuses the first fault in them.
+fn declared<'a>(alloc: Global, decls: &[Decl<'a>]) -> Result<Scope<'a>, ModelError>
+    ensures clean { IfOk result (λ _. decls_fault [] (map located_decl decls.now) ≡ None) }
+    ensures stands { IfOk result (λ s. StandsFor (map located_decl decls.now) (map located_decl decls.now) s) }
+    ensures tells { IfErr result (λ e. Tells e (decls_fault [] (map located_decl decls.now))) }
+{
+    let mut scope = empty(alloc, decls.len())?;
+    for decl in decls {
+        let item = item_of(alloc, &scope, decl)?;
+        add(&mut scope, decl.name.text, item)?;
+    }
+    Ok(scope)
+}
+
+/// The model of a tree, or the fault that is met first.
+fn read<'a>(alloc: Global, ast: &Ast<'a>) -> Result<Model<'a>, ModelError>
+    ensures clean { IfOk result (λ _. first_fault (located ast.now) ≡ None) }
+    ensures model { IfOk result (λ m. m ≡ model_of (located ast.now)) }
+    ensures tells { IfErr result (λ e. Tells e (first_fault (located ast.now))) }
+{
+    let scope = declared(alloc, &ast.decls)?;
+    let constraints = all_posted(alloc, &scope, &ast.constraints)?;
+    let goal = goal_of(alloc, &scope, &ast.solve.goal)?;
+    let known = rows_of(alloc, &constraints, &scope.variables, &scope.arrays)?;
+    Ok(Model::assembled(scope, constraints, known, goal))
+}
+
+/// The model of a tree. It refuses a tree with faults, with the leftmost; else only where memory runs out.
+pub fn load<'a>(alloc: Global, ast: &Ast<'a>) -> Result<Model<'a>, ModelError>
+    ensures no_fault { IfOk result (λ _. HasNoFault (located ast.now)) }
+    ensures model { IfOk result (λ m. m ≡ model_of (located ast.now)) }
+    ensures first { IsInReadingOrder (located ast.now) → IfErr result (TellsFirstFault (located ast.now)) }
+{
+    read(alloc, ast)
+}

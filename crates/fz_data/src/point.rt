@@ -1,0 +1,33 @@
+//! What is checked of a model, one point after another.
+
+use crate::parts::{Array, Posted, Variable};
+use fz_meaning::{Domain, Term};
+use fz_table::Known;
+
+/// A point by what it is told by: a declared name, or a constraint's number, from 1, and its predicate's name. Names are slices of the
+/// source.
+#[derive(Clone, Copy, Debug)]
+pub enum Point<'a> {
+    Domain(&'a [u8]),
+    Definition(&'a [u8]),
+    Constraint(usize, &'a [u8]),
+}
+
+/// A constraint with its number, from 1, the variables and arrays that it cites by their numbers, and the row of the table that it fits.
+#[derive(Clone, Copy)]
+pub struct ConstraintParts<'m, 'a> {
+    pub number: usize,
+    pub posted: &'m Posted<'a>,
+    pub variables: &'m [Variable<'a>],
+    pub arrays: &'m [Array<'a>],
+    pub known: Option<Known>,
+}
+
+/// A point with its parts: a variable with its number, its definition, an array's name, domain and elements, or a constraint.
+#[derive(Clone, Copy)]
+pub enum PointParts<'m, 'a> {
+    Domain(&'m Variable<'a>, usize),
+    Definition(&'m Variable<'a>, usize, &'m Term),
+    Elements(&'a [u8], &'m Domain, &'m [Term]),
+    Constraint(ConstraintParts<'m, 'a>),
+}

@@ -1,0 +1,226 @@
+//! What was declared so far.
+
+ghost use Rattle.std.specs.Prelude.{◌≡◌, ◌++◌, ◌∷◌, [], IfErr, IfOk, OnOk, None, Some, cond, is_none, length, map, true};
+ghost use Rattle.std.specs.Map.{lookup};
+ghost use Rattle.fz_meaning.specs.View.{located_basic};
+ghost use Rattle.fz_meaning.specs.declared.term.Term.TheVariants.{Fixed};
+ghost use Rattle.fz_scope.specs.FirstFault.{literal_fault};
+ghost use Rattle.fz_meaning.specs.Names.{literal_value};
+ghost use Rattle.fz_meaning.specs.Values.{kind_of};
+ghost use Rattle.fz_syntax.specs.View.{bare_literal_kind};
+ghost use Rattle.fz_data.specs.Parts.{kind_of_term};
+ghost use Rattle.fz_data.specs.declared.scope.Item.TheVariants.{Parameter, Variable as item_variable, Array as item_array};
+ghost use Rattle.fz_meaning.specs.declared.error.ModelError.TheVariants.{Memory};
+ghost use Rattle.fz_data.specs.Scope.{IsAdded, Tells, fault_in, faults_in, has_elements_point, has_text, IsNewName, place_fault, place_in, term_at, term_in};
+
+use crate::parts::{Array, Declared, DeclaredPoint, Variable};
+use crate::values::{copied, is_same, kind_of, literal_kind, literal_value};
+use fz_base::Value;
+use fz_meaning::{Domain, Kind, ModelError, Term};
+use fz_syntax::{Basic, Literal, Name};
+use indexmap::IndexMap;
+use std::alloc::{AllocError, Global};
+
+/// What was declared so far: the names in source order, the variables and arrays by their numbers, and the points.
+#[derive(Drop)]
+pub(crate) struct Scope<'a> {
+    pub(crate) names: IndexMap<&'a [u8], Declared>,
+    pub(crate) variables: Vec<Variable<'a>>,
+    pub(crate) arrays: Vec<Array<'a>>,
+    pub(crate) points: Vec<DeclaredPoint>,
+}
+
+/// What a declaration declares: a parameter by its value, a variable, or an array.
+#[derive(Drop)]
+pub(crate) enum Item<'a> {
+    Parameter(Value),
+    Variable(Variable<'a>),
+    Array(Array<'a>),
+}
+
+/// The kind of a scalar among these variables.
+fn scalar_kind(variables: &[Variable<'_>], term: &Term) -> Kind
+    ensures { result ≡ kind_of_term variables.now term.now }
+{
+    match term {
+        Term::Var(number) => match variables.get(*number) {
+            Some(variable) => variable.kind,
+            None => Kind::Int,
+        },
+        Term::Fixed(value) => kind_of(value),
+    }
+}
+
+/// The term of a literal of the wanted kind.
+fn literal_term(alloc: Global, wanted: Kind, literal: &Literal) -> Result<Term, ModelError>
+    ensures of_kind { IfOk result (λ _. literal_fault (Some wanted) (kind_of (literal_value (bare_literal_kind literal.now.what))) literal.now.span ≡ None) }
+    ensures term { IfOk result (λ t. t ≡ Fixed (literal_value (bare_literal_kind literal.now.what))) }
+    ensures tells { IfErr result (λ e. Tells e (literal_fault (Some wanted) (kind_of (literal_value (bare_literal_kind literal.now.what))) literal.now.span)) }
+{
+    if !is_same(literal_kind(&literal.what), wanted) {
+        return Err(ModelError::Kind(literal.span));
+    }
+    Ok(Term::Fixed(literal_value(alloc, &literal.what)?))
+}
+
+/// The term of a name of a scalar of the wanted kind.
+fn named_term(
+    alloc: Global,
+    scope: &Scope<'_>,
+    wanted: Kind,
+    name: &Name<'_>,
+) -> Result<Term, ModelError>
+    ensures of_kind { IfOk result (λ _. place_fault (Some wanted) (place_in scope.now name.now.text.now) name.now.span ≡ None) }
+    ensures term { IfOk result (λ t. t ≡ term_at (place_in scope.now name.now.text.now)) }
+    ensures tells { IfErr result (λ e. Tells e (place_fault (Some wanted) (place_in scope.now name.now.text.now) name.now.span)) }
+{
+    match scope.names.get(name.text) {
+        None => Err(ModelError::UnknownName(name.span)),
+        Some(Declared::Array(_)) => Err(ModelError::Kind(name.span)),
+        Some(Declared::Scalar(term)) => {
+            if !is_same(scalar_kind(&scope.variables, term), wanted) {
+                return Err(ModelError::Kind(name.span));
+            }
+            Ok(copied(alloc, term)?)
+        }
+    }
+}
+
+/// The term of a literal or a name, where a scalar of a kind is wanted.
+pub(crate) fn term_of(
+    alloc: Global,
+    scope: &Scope<'_>,
+    wanted: Kind,
+    part: &Basic<'_>,
+) -> Result<Term, ModelError>
+    ensures of_kind { IfOk result (λ _. fault_in scope.now (Some wanted) (located_basic part.now) ≡ None) }
+    ensures term { IfOk result (λ t. t ≡ term_in scope.now (located_basic part.now)) }
+    ensures tells { IfErr result (λ e. Tells e (fault_in scope.now (Some wanted) (located_basic part.now))) }
+{
+    match part {
+        Basic::Lit(literal) => literal_term(alloc, wanted, literal),
+        Basic::Named(name) => named_term(alloc, scope, wanted, name),
+    }
+}
+
+/// The terms of literals and names, where scalars of a kind are wanted.
+pub(crate) fn terms_of(
+    alloc: Global,
+    scope: &Scope<'_>,
+    wanted: Kind,
+    parts: &[Basic<'_>],
+) -> Result<Vec<Term>, ModelError>
+    ensures of_kind { IfOk result (λ _. faults_in scope.now (Some wanted) (map located_basic parts.now) ≡ None) }
+    ensures terms { IfOk result (λ ts. ts.items ≡ map (term_in scope.now) (map located_basic parts.now)) }
+    ensures tells { IfErr result (λ e. Tells e (faults_in scope.now (Some wanted) (map located_basic parts.now))) }
+{
+    let mut terms = Vec::with_capacity(alloc, parts.len())?;
+    for part in parts {
+        let term = term_of(alloc, scope, wanted, part)?;
+        terms.push(term)?;
+    }
+    Ok(terms)
+}
+
+/// Keeps a new name.
+fn keep<'a>(
+    names: &mut IndexMap<&'a [u8], Declared>,
+    name: &'a [u8],
+    declared: Declared,
+) -> Result<(), ModelError>
+    requires new { is_none (lookup (has_text name.now) names.old.entries) ≡ true }
+    ensures kept { OnOk result (names.new.entries ≡ names.old.entries ++ (name.entry, declared) ∷ []) }
+    ensures memory { IfErr result (λ e. e ≡ Memory) }
+{
+    let _ = names.insert(name, declared)?;
+    Ok(())
+}
+
+/// Puts a point behind the others, where it is wanted.
+fn push_if(
+    points: &mut Vec<DeclaredPoint>,
+    wanted: bool,
+    point: DeclaredPoint,
+) -> Result<(), AllocError>
+    ensures pushed { OnOk result (points.new.items ≡ points.old.items ++ cond wanted (point ∷ []) []) }
+{
+    if wanted {
+        points.push(point)?;
+    }
+    Ok(())
+}
+
+/// Adds a parameter under a new name.
+fn add_parameter<'a>(scope: &mut Scope<'a>, name: &'a [u8], value: Value) -> Result<(), ModelError>
+    requires new { IsNewName scope.old name.now }
+    ensures added { OnOk result (IsAdded scope.old name.entry (Parameter value) scope.new) }
+    ensures memory { IfErr result (λ e. e ≡ Memory) }
+{
+    keep(&mut scope.names, name, Declared::Scalar(Term::Fixed(value)))
+}
+
+/// Adds a variable with its points.
+fn add_variable<'a>(
+    scope: &mut Scope<'a>,
+    name: &'a [u8],
+    variable: Variable<'a>,
+) -> Result<(), ModelError>
+    requires new { IsNewName scope.old name.now }
+    ensures added { OnOk result (IsAdded scope.old name.entry (item_variable variable.entry) scope.new) }
+    ensures memory { IfErr result (λ e. e ≡ Memory) }
+{
+    let number = scope.variables.len();
+    let has_definition = variable.definition.is_some();
+    push_if(&mut scope.points, true, DeclaredPoint::Domain(number))?;
+    push_if(
+        &mut scope.points,
+        has_definition,
+        DeclaredPoint::Definition(number),
+    )?;
+    scope.variables.push(variable)?;
+    keep(&mut scope.names, name, Declared::Scalar(Term::Var(number)))
+}
+
+/// Whether an array has a domain to check: that of its variables, where it has bounds.
+fn is_bounded(array: &Array<'_>) -> bool
+    ensures { result ≡ has_elements_point array.now }
+{
+    match array.domain {
+        Domain::All => false,
+        _ => array.is_variable,
+    }
+}
+
+/// Adds an array with its point.
+fn add_array<'a>(scope: &mut Scope<'a>, name: &'a [u8], array: Array<'a>) -> Result<(), ModelError>
+    requires new { IsNewName scope.old name.now }
+    ensures added { OnOk result (IsAdded scope.old name.entry (item_array array.entry) scope.new) }
+    ensures memory { IfErr result (λ e. e ≡ Memory) }
+{
+    let number = scope.arrays.len();
+    let has_point = is_bounded(&array);
+    push_if(
+        &mut scope.points,
+        has_point,
+        DeclaredPoint::Elements(number),
+    )?;
+    scope.arrays.push(array)?;
+    keep(&mut scope.names, name, Declared::Array(number))
+}
+
+/// Adds what a new name declares, behind the rest. It refuses only where memory runs out.
+pub(crate) fn add<'a>(
+    scope: &mut Scope<'a>,
+    name: &'a [u8],
+    item: Item<'a>,
+) -> Result<(), ModelError>
+    requires new { IsNewName scope.old name.now }
+    ensures added { OnOk result (IsAdded scope.old name.entry item.entry scope.new) }
+    ensures memory { IfErr result (λ e. e ≡ Memory) }
+{
+    match item {
+        Item::Parameter(value) => add_parameter(scope, name, value),
+        Item::Variable(variable) => add_variable(scope, name, variable),
+        Item::Array(array) => add_array(scope, name, array),
+    }
+}

@@ -1,0 +1,231 @@
+//! Worked cases on names: faults with their places, what is loaded, and values that are given.
+
+use crate::{Found, Model, Partial, Point, What, load};
+use fz_base::Value;
+use fz_meaning::{ModelError, Term};
+use fz_syntax::{Span, parse};
+use std::alloc::Global;
+use std::test::Fail;
+
+/// The refusal of a model's text, where it is one.
+fn refusal(alloc: Global, source: &[u8]) -> Result<Option<ModelError>, Fail> {
+    let ast = parse(alloc, source)?;
+    Ok(load(alloc, &ast).err())
+}
+
+fn at(start: usize, end: usize) -> Span {
+    Span { start, end }
+}
+
+/// Whether the source is refused so.
+fn is_refused(alloc: Global, source: &[u8], fault: ModelError) -> Result<bool, Fail> {
+    let found = refusal(alloc, source)?;
+    Ok(found == Some(fault))
+}
+
+#[test]
+fn tells_faults_of_names(rt: HostRuntime) -> Result<(), Fail> {
+    let alloc = rt.alloc();
+    assert!(rt;
+        is_refused(
+            alloc,
+            b"var int: x; var int: x; solve satisfy;",
+            ModelError::DuplicateName(at(21, 22))
+        )?
+    );
+    assert!(rt;
+        is_refused(
+            alloc,
+            b"constraint int_eq(y, 1); solve satisfy;",
+            ModelError::UnknownName(at(18, 19))
+        )?
+    );
+    assert!(rt;
+        is_refused(
+            alloc,
+            b"bool: b = 3; solve satisfy;",
+            ModelError::Kind(at(10, 11))
+        )?
+    );
+    assert!(rt;
+        is_refused(
+            alloc,
+            b"array [1..2] of int: a = [1]; solve satisfy;",
+            ModelError::Length(at(21, 22))
+        )?
+    );
+    Ok(())
+}
+
+#[test]
+fn tells_uses_before_declarations(rt: HostRuntime) -> Result<(), Fail> {
+    let alloc = rt.alloc();
+    assert!(rt;
+        is_refused(
+            alloc,
+            b"var int: x = y; var int: y; solve satisfy;",
+            ModelError::UnknownName(at(13, 14))
+        )?
+    );
+    assert!(rt;
+        is_refused(
+            alloc,
+            b"var int: x = x; solve satisfy;",
+            ModelError::UnknownName(at(13, 14))
+        )?
+    );
+    Ok(())
+}
+
+#[test]
+fn tells_the_leftmost_fault(rt: HostRuntime) -> Result<(), Fail> {
+    let alloc = rt.alloc();
+    assert!(rt;
+        is_refused(
+            alloc,
+            b"var int: x = y; bool: b = 3; solve minimize z;",
+            ModelError::UnknownName(at(13, 14))
+        )?
+    );
+    assert!(rt;
+        is_refused(
+            alloc,
+            b"var bool: b; constraint p(c); solve minimize b;",
+            ModelError::UnknownName(at(26, 27))
+        )?
+    );
+    Ok(())
+}
+
+#[test]
+fn tells_what_is_no_scalar_of_the_kind(rt: HostRuntime) -> Result<(), Fail> {
+    let alloc = rt.alloc();
+    assert!(rt;
+        is_refused(
+            alloc,
+            b"array [1..1] of int: a = [1]; var int: x = a; solve satisfy;",
+            ModelError::Kind(at(43, 44))
+        )?
+    );
+    assert!(rt;
+        is_refused(
+            alloc,
+            b"var bool: b; solve minimize b;",
+            ModelError::Kind(at(28, 29))
+        )?
+    );
+    Ok(())
+}
+
+/// The model of a text.
+fn loaded<'a>(alloc: Global, source: &'a [u8]) -> Result<Model<'a>, Fail> {
+    let ast = parse(alloc, source)?;
+    Ok(load(alloc, &ast)?)
+}
+
+/// What its constraint's first `defines_var` names.
+fn target(alloc: Global, source: &[u8]) -> Result<Option<usize>, Fail> {
+    let model = loaded(alloc, source)?;
+    let first = model.constraints().first().ok_or("no constraint")?;
+    Ok(first.target)
+}
+
+#[test]
+fn reads_defines_var(rt: HostRuntime) -> Result<(), Fail> {
+    let alloc = rt.alloc();
+    assert_eq!(rt;
+        target(
+            alloc,
+            b"var int: x; constraint p(x) :: defines_var(x); solve satisfy;"
+        )?,
+        Some(0)
+    );
+    assert_eq!(rt;
+        target(
+            alloc,
+            b"int: n = 1; var int: x; constraint p(x) :: defines_var(n) :: defines_var(x); solve satisfy;"
+        )?,
+        Some(0)
+    );
+    assert_eq!(rt;
+        target(
+            alloc,
+            b"var int: x; var int: y; constraint p(x) :: defines_var(x, y); solve satisfy;"
+        )?,
+        None
+    );
+    assert_eq!(rt;
+        target(
+            alloc,
+            b"var int: x; var int: y; constraint p(x) :: other(x) :: defines_var(y) :: defines_var(x); solve satisfy;"
+        )?,
+        Some(1)
+    );
+    assert_eq!(rt;
+        target(
+            alloc,
+            b"var int: x; constraint p(x) :: a(defines_var(x)); solve satisfy;"
+        )?,
+        None
+    );
+    Ok(())
+}
+
+const MIXED: &[u8] =
+    b"int: n = 2; var 1..3: x; array [1..2] of var 0..9: a = [x, 5]; var int: y = n; constraint int_le(x, n); solve satisfy;";
+
+/// What a point is told by, as a word.
+fn word(point: Point<'_>) -> (u8, &[u8], usize) {
+    match point {
+        Point::Domain(name) => (b'd', name, 0),
+        Point::Definition(name) => (b'e', name, 0),
+        Point::Constraint(number, name) => (b'c', name, number),
+    }
+}
+
+#[test]
+fn lists_points(rt: HostRuntime) -> Result<(), Fail> {
+    let model = loaded(rt.alloc(), MIXED)?;
+    assert_eq!(rt; model.points(), 5);
+    assert_eq!(rt; word(model.point(0)), (b'd', b"x".as_slice(), 0));
+    assert_eq!(rt; word(model.point(1)), (b'd', b"a".as_slice(), 0));
+    assert_eq!(rt; word(model.point(2)), (b'd', b"y".as_slice(), 0));
+    assert_eq!(rt; word(model.point(3)), (b'e', b"y".as_slice(), 0));
+    assert_eq!(rt; word(model.point(4)), (b'c', b"int_le".as_slice(), 1));
+    Ok(())
+}
+
+/// The number of the variable that is found, or the length of the array.
+fn number(found: Option<Found<'_, '_>>) -> Option<usize> {
+    match found?.what {
+        What::Scalar(Term::Var(number)) => Some(*number),
+        What::Scalar(Term::Fixed(_)) => None,
+        What::Array(_, elements) => Some(elements.len()),
+    }
+}
+
+#[test]
+fn finds_names(rt: HostRuntime) -> Result<(), Fail> {
+    let model = loaded(rt.alloc(), MIXED)?;
+    assert_eq!(rt; number(model.find(b"x")), Some(0));
+    assert_eq!(rt; number(model.find(b"y")), Some(1));
+    assert_eq!(rt; number(model.find(b"a")), Some(2));
+    assert!(rt; model.find(b"n").is_some());
+    assert!(rt; model.find(b"z").is_none());
+    Ok(())
+}
+
+#[test]
+fn gives_values(rt: HostRuntime) -> Result<(), Fail> {
+    let alloc = rt.alloc();
+    let model = loaded(alloc, MIXED)?;
+    let mut values = Partial::new(alloc, &model)?;
+    assert_eq!(rt; values.values().len(), 2);
+    assert!(rt; values.get(1).is_none());
+    values.set(1, Value::Int(7));
+    assert!(rt; values.get(0).is_none());
+    assert!(rt; values.get(1).is_some_and(|v| v.equals(&Value::Int(7))));
+    assert!(rt; values.value(&Term::Var(1)).is_some());
+    assert!(rt; values.value(&Term::Fixed(Value::Bool(true))).is_some());
+    Ok(())
+}

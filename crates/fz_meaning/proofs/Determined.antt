@@ -1,0 +1,235 @@
+-- In each row of the table an argument that `defines_var` may fill is determined by the others: two values of it with which the row
+-- holds are equal. Of `int_lin_eq` this is said of one element of the second array with the coefficient 1 or -1.
+use Rattle.std.proofs.Common.{◌≡◌, ℕ, suc, zero, ℤ, pos, negsuc, ◌+ℤ◌, ◌*ℤ◌, neg_ℤ, Bool, true, false, not, ◌&&◌, ◌||◌, cond, List, [], ◌∷◌, ◌++◌, map, length, filter, find, Option, Some, None, refl, sym, ap, subst, ◌∙◌, arith, int_le, int_div, int_rem, unsigned_abs, ◌⊎◌, inl, inr}
+use Rattle.std.specs.Prelude.{⊤}
+use Rattle.std.proofs.lemmas.Int.{ints}
+use Rattle.std.proofs.Math.IntN.{*ℤ_comm, *ℤ-one, *ℤ-negsuc}
+use Rattle.std.specs.List.{AllByRecursion, list_any, list_all}
+use Rattle.std.specs.Option.{option_map_or}
+use Rattle.std.specs.Int.{int_min, int_max}
+use Rattle.std.specs.FinSet as sets
+use Rattle.fz_meaning.specs.Values.{◌=ℤ◌, ◌=ᴮ◌, ◌=ˢ◌}
+use Rattle.fz_meaning.specs.Builtins.{Shape, Of, Plain, Test, Row, Result, rows, base_rows, reified, with_bool, exactly_where, products, total, as_number, is_among, element_at, where_true}
+use Rattle.fz_meaning.specs.Builtins.Shape.{ScalarOf, ArrayOf}
+use Rattle.fz_meaning.specs.Builtins.Result.{NoResult, Places, UnitTerm}
+use Rattle.fz_meaning.proofs.Lists.{all_append}
+use Rattle.fz_meaning.proofs.Values.{no, and_first, and_second, same_int, same_bool, same_set_is}
+use Rattle.fz_meaning.specs.declared.kind.Kind.TheVariants.{Int as IntKind}
+use Rattle.fz_base.specs.Sets.{NumberSet, symmetric_difference}
+
+-- where both tests pass of any arguments, P
+abbrev pub Both : (ss : List Shape) → Test ss → Test ss → Type 0 → Type 0
+Both [] t u P = t ≡ true → u ≡ true → P
+Both (s ∷ ss) t u P = (x : Of s) → Both ss (t x) (u x) P
+
+-- the argument at the place, which is a scalar, is determined by the others
+abbrev pub DeterminesHere : (s : Shape) (ss : List Shape) → (Of s → Test ss) → Type 0
+DeterminesHere (ScalarOf k) ss t = (x y : Plain k) → Both ss (t x) (t y) (x ≡ y)
+DeterminesHere (ArrayOf k) ss t = ⊥
+
+abbrev pub Determines : (ss : List Shape) → Test ss → ℕ → Type 0
+Determines [] t i = ⊥
+Determines (s ∷ ss) t zero = DeterminesHere s ss t
+Determines (s ∷ ss) t (suc i) = (x : Of s) → Determines ss (t x) i
+
+-- the same of one element of the second array, with its coefficient 1 or -1
+abbrev pub IsUnit : ℤ → Type 0
+IsUnit a = (a ≡ pos 1) ⊎ (a ≡ negsuc 0)
+
+abbrev pub DeterminesTerm : (ss : List Shape) → Test ss → Type 0
+DeterminesTerm (ArrayOf IntKind ∷ ArrayOf IntKind ∷ ss) t =
+    (as' bs : List ℤ) (a x : ℤ) (cs ds : List ℤ) (y : ℤ) → length as' ≡ length bs → IsUnit a
+    → Both ss (t (as' ++ a ∷ cs) (bs ++ x ∷ ds)) (t (as' ++ a ∷ cs) (bs ++ y ∷ ds)) (x ≡ y)
+DeterminesTerm _ t = ⊥
+
+abbrev pub DeterminesResult : (ss : List Shape) → Test ss → Result → Type 0
+DeterminesResult ss t NoResult = ⊤
+DeterminesResult ss t (Places is) = AllByRecursion (Determines ss t) is
+DeterminesResult ss t UnitTerm = DeterminesTerm ss t
+
+abbrev pub RowDetermines : Row → Type 0
+RowDetermines r = DeterminesResult r.shapes r.holds r.result
+
+-- ---- the rows
+
+int_both : (x y z : ℤ) → (x =ℤ z) ≡ true → (y =ℤ z) ≡ true → x ≡ y
+int_both x y z d e = same_int x z d ∙ sym (same_int y z e)
+
+int_both' : (x y z : ℤ) → (z =ℤ x) ≡ true → (z =ℤ y) ≡ true → x ≡ y
+int_both' x y z d e = sym (same_int z x d) ∙ same_int z y e
+
+bool_both : (x y z : Bool) → (x =ᴮ z) ≡ true → (y =ᴮ z) ≡ true → x ≡ y
+bool_both x y z d e = same_bool x z d ∙ sym (same_bool y z e)
+
+bool_both' : (x y z : Bool) → (z =ᴮ x) ≡ true → (z =ᴮ y) ≡ true → x ≡ y
+bool_both' x y z d e = sym (same_bool z x d) ∙ same_bool z y e
+
+set_both : (x y z : NumberSet) → (x =ˢ z) ≡ true → (y =ˢ z) ≡ true → x ≡ y
+set_both x y z d e = same_set_is x z d ∙ sym (same_set_is y z e)
+
+set_both' : (x y z : NumberSet) → (z =ˢ x) ≡ true → (z =ˢ y) ≡ true → x ≡ y
+set_both' x y z d e = sym (same_set_is z x d) ∙ same_set_is z y e
+
+not_both : (x y z : Bool) → not (x =ᴮ z) ≡ true → not (y =ᴮ z) ≡ true → x ≡ y
+not_both true true z d e = refl
+not_both false false z d e = refl
+not_both true false true d e = no d
+not_both true false false d e = no e
+not_both false true true d e = no e
+not_both false true false d e = no d
+
+not_both' : (x y z : Bool) → not (z =ᴮ x) ≡ true → not (z =ᴮ y) ≡ true → x ≡ y
+not_both' true true z d e = refl
+not_both' false false z d e = refl
+not_both' true false true d e = no d
+not_both' true false false d e = no e
+not_both' false true true d e = no e
+not_both' false true false d e = no d
+
+number_both : (x y : Bool) (n : ℤ) → (n =ℤ as_number x) ≡ true → (n =ℤ as_number y) ≡ true → x ≡ y
+number_both true true n d e = refl
+number_both false false n d e = refl
+number_both true false n d e = let h : pos 1 ≡ pos 0 = sym (same_int n (pos 1) d) ∙ same_int n (pos 0) e in cc
+number_both false true n d e = let h : pos 0 ≡ pos 1 = sym (same_int n (pos 0) d) ∙ same_int n (pos 1) e in cc
+
+-- the greatest, and the least
+module _ (below : ℤ → ℤ → Bool) (antisymmetric : (x y : ℤ) → below x y ≡ true → below y x ≡ true → x ≡ y) where
+  each_at : (x : ℤ) (b : List ℤ) → list_any (λ z. z =ℤ x) b ≡ true → (t : ℤ → Bool) → list_all t b ≡ true → t x ≡ true
+  each_at x [] is t all = no is
+  each_at x (z ∷ b) is t all =
+      elim (z =ℤ x) as (λ r. (z =ℤ x) ≡ r → (r || list_any (λ z. z =ℤ x) b) ≡ true → t x ≡ true) [
+        | true ↦ λ e _. subst (λ w. t w ≡ true) (same_int z x e) (and_first (t z) (list_all t b) all)
+        | false ↦ λ _ is. each_at x b is t (and_second (t z) (list_all t b) all)
+      ] refl is
+
+  extreme_both : (b : List ℤ) (x y : ℤ) → (is_among x b && list_all (λ z. below z x) b) ≡ true → (is_among y b && list_all (λ z. below z y) b) ≡ true → x ≡ y
+  extreme_both b x y d e =
+      antisymmetric x y
+      (each_at x b (and_first (is_among x b) _ d) (λ z. below z y) (and_second (is_among y b) _ e))
+      (each_at y b (and_first (is_among y b) _ e) (λ z. below z x) (and_second (is_among x b) _ d))
+
+pub int_le_antisymmetric : (x y : ℤ) → int_le x y ≡ true → int_le y x ≡ true → x ≡ y
+int_le_antisymmetric x y d e = grind (arith, ints)
+
+-- one element
+element_both : {A : Type 0} (same : A → A → Bool) → ((x y z : A) → same z x ≡ true → same z y ≡ true → x ≡ y) → (o : Option A) (x y : A) → option_map_or (λ w. same w x) o false ≡ true → option_map_or (λ w. same w y) o false ≡ true → x ≡ y
+element_both same is None x y d e = no d
+element_both same is (Some w) x y d e = is x y w d e
+
+plus_assoc : (p q r : ℤ) → p +ℤ (q +ℤ r) ≡ (p +ℤ q) +ℤ r
+plus_assoc p q r = omega (arith, ints)
+
+-- ---- the sum of products, at one element
+
+sum_at : (as' bs : List ℤ) (a x : ℤ) (cs ds : List ℤ) → length as' ≡ length bs → total (products (as' ++ a ∷ cs) (bs ++ x ∷ ds)) ≡ total (products as' bs) +ℤ ((a *ℤ x) +ℤ total (products cs ds))
+sum_at [] [] a x cs ds e = omega (arith, ints)
+sum_at [] (b ∷ bs) a x cs ds e = absurd (omega arith)
+sum_at (b ∷ as') [] a x cs ds e = absurd (omega arith)
+sum_at (b ∷ as') (d ∷ bs) a x cs ds e =
+    let same : length as' ≡ length bs = omega arith in
+    let rest : total (products (as' ++ a ∷ cs) (bs ++ x ∷ ds)) ≡ total (products as' bs) +ℤ ((a *ℤ x) +ℤ total (products cs ds)) = sum_at as' bs a x cs ds same in
+    ap (λ t. (b *ℤ d) +ℤ t) rest ∙ plus_assoc (b *ℤ d) (total (products as' bs)) ((a *ℤ x) +ℤ total (products cs ds))
+
+one_times : (x : ℤ) → pos 1 *ℤ x ≡ x
+unfolding lib.IntN.one
+one_times x = *ℤ_comm (pos 1) x ∙ *ℤ-one x
+
+less_one_times : (x : ℤ) → negsuc 0 *ℤ x ≡ neg_ℤ x
+unfolding lib.IntN.one
+less_one_times x = *ℤ_comm (negsuc 0) x ∙ *ℤ-negsuc x 0 ∙ ap neg_ℤ (*ℤ-one x)
+
+times_unit : (a x y p q : ℤ) → IsUnit a → p +ℤ ((a *ℤ x) +ℤ q) ≡ p +ℤ ((a *ℤ y) +ℤ q) → x ≡ y
+times_unit a x y p q (inl u) e =
+    let h : p +ℤ ((pos 1 *ℤ x) +ℤ q) ≡ p +ℤ ((pos 1 *ℤ y) +ℤ q) = subst (λ b. p +ℤ ((b *ℤ x) +ℤ q) ≡ p +ℤ ((b *ℤ y) +ℤ q)) u e in
+    let k : p +ℤ (x +ℤ q) ≡ p +ℤ (y +ℤ q) = rw (one_times x, one_times y) at h in
+    omega (arith, ints)
+times_unit a x y p q (inr u) e =
+    let h : p +ℤ ((negsuc 0 *ℤ x) +ℤ q) ≡ p +ℤ ((negsuc 0 *ℤ y) +ℤ q) = subst (λ b. p +ℤ ((b *ℤ x) +ℤ q) ≡ p +ℤ ((b *ℤ y) +ℤ q)) u e in
+    let k : p +ℤ (neg_ℤ x +ℤ q) ≡ p +ℤ (neg_ℤ y +ℤ q) = rw (less_one_times x, less_one_times y) at h in
+    omega (arith, ints)
+
+term_both : DeterminesTerm (ArrayOf IntKind ∷ ArrayOf IntKind ∷ ScalarOf IntKind ∷ []) (λ a b c. total (products a b) =ℤ c)
+term_both as' bs a x cs ds y same u c d e =
+    times_unit a x y (total (products as' bs)) (total (products cs ds)) u
+    (sym (sum_at as' bs a x cs ds same) ∙ same_int _ c d ∙ sym (same_int _ c e) ∙ sum_at as' bs a y cs ds same)
+
+-- ---- the table
+
+infixr 4 ◌&◌
+abbrev ◌&◌ : {A B : Type 0} → A → B → A × B
+x & y = (x, y)
+
+base_rows_determine : AllByRecursion RowDetermines base_rows
+base_rows_determine =
+    -- int_eq, int_ne, int_le, int_lt, int_lin_eq, int_lin_ne, int_lin_le
+    ((λ x y b. int_both x y b) & (λ a x y. int_both' x y a) & tt)
+    & tt & tt & tt
+    & term_both
+    & tt & tt
+    -- int_plus, int_times, int_min, int_max, int_abs, int_div, int_mod
+    & ((λ a b x y. int_both x y (a +ℤ b)) & tt)
+    & ((λ a b x y. int_both x y (a *ℤ b)) & tt)
+    & ((λ a b x y. int_both x y (int_min a b)) & tt)
+    & ((λ a b x y. int_both x y (int_max a b)) & tt)
+    & ((λ a x y. int_both x y (pos (unsigned_abs a))) & tt)
+    & ((λ a b x y d e. int_both x y (int_div a b) (and_second (not (b =ℤ pos 0)) _ d) (and_second (not (b =ℤ pos 0)) _ e)) & tt)
+    & ((λ a b x y d e. int_both x y (int_rem a b) (and_second (not (b =ℤ pos 0)) _ d) (and_second (not (b =ℤ pos 0)) _ e)) & tt)
+    -- array_int_element, array_var_int_element, array_int_maximum, array_int_minimum
+    & ((λ a b x y. element_both ◌=ℤ◌ int_both' (element_at b a) x y) & tt)
+    & ((λ a b x y. element_both ◌=ℤ◌ int_both' (element_at b a) x y) & tt)
+    & ((λ x y b. extreme_both int_le int_le_antisymmetric b x y) & tt)
+    & ((λ x y b. extreme_both (λ z w. int_le w z) (λ z w d e. int_le_antisymmetric z w e d) b x y) & tt)
+    -- fzn_all_different_int
+    & tt
+    -- bool_eq, bool_le, bool_lt, bool_not, bool_and, bool_or, bool_xor
+    & ((λ x y b. bool_both x y b) & (λ a x y. bool_both' x y a) & tt)
+    & tt & tt
+    & ((λ x y b. not_both x y b) & (λ a x y. not_both' x y a) & tt)
+    & ((λ a b x y. bool_both x y (a && b)) & tt)
+    & ((λ a b x y. bool_both x y (a || b)) & tt)
+    & ((λ a b x y. bool_both x y (not (a =ᴮ b))) & tt)
+    -- array_bool_and, array_bool_or, array_bool_xor, array_bool_element, array_var_bool_element, bool_clause
+    & ((λ a x y. bool_both x y (list_all (λ z. z) a)) & tt)
+    & ((λ a x y. bool_both x y (list_any (λ z. z) a)) & tt)
+    & tt
+    & ((λ a b x y. element_both ◌=ᴮ◌ bool_both' (element_at b a) x y) & tt)
+    & ((λ a b x y. element_both ◌=ᴮ◌ bool_both' (element_at b a) x y) & tt)
+    & tt
+    -- bool2int, bool_lin_eq, bool_lin_le
+    & ((λ x y b. number_both x y b) & (λ a x y. int_both x y (as_number a)) & tt)
+    & ((λ a b x y. int_both' x y (total (where_true a b))) & tt)
+    & tt
+    -- set_in, set_eq, set_ne, set_subset, set_superset
+    & tt
+    & ((λ x y b. set_both x y b) & (λ a x y. set_both' x y a) & tt)
+    & tt & tt & tt
+    -- set_union, set_intersect, set_diff, set_symdiff, set_card, array_set_element, array_var_set_element
+    & ((λ a b x y. set_both x y (sets.union a b)) & tt)
+    & ((λ a b x y. set_both x y (sets.intersection a b)) & tt)
+    & ((λ a b x y. set_both x y (sets.difference a b)) & tt)
+    & ((λ a b x y. set_both x y (symmetric_difference a b)) & tt)
+    & ((λ a x y. int_both x y (pos (sets.len a))) & tt)
+    & ((λ a b x y. element_both ◌=ˢ◌ set_both' (element_at b a) x y) & tt)
+    & ((λ a b x y. element_both ◌=ˢ◌ set_both' (element_at b a) x y) & tt)
+    & tt
+
+-- the truth value of a reified row is determined, whatever the row
+reified_determines : (ss : List Shape) (t : Test ss) → Determines (with_bool ss) (exactly_where ss t) (length ss)
+reified_determines [] t = λ x y. bool_both x y t
+reified_determines (s ∷ ss) t = λ x. reified_determines ss (t x)
+
+reified_rows_determine : (rs : List Row) → AllByRecursion RowDetermines (map reified rs)
+reified_rows_determine [] = tt
+reified_rows_determine (r ∷ rs) = ((reified_determines r.shapes r.holds, tt), reified_rows_determine rs)
+
+pub rows_determine : AllByRecursion RowDetermines rows
+unfolding rows
+rows_determine = all_append RowDetermines base_rows (map reified (filter (λ r. r.has_reified) base_rows)) base_rows_determine (reified_rows_determine (filter (λ r. r.has_reified) base_rows))
+
+pub at_found : {A : Type 0} (P : A → Type 0) (t : A → Bool) (xs : List A) (x : A) → AllByRecursion P xs → find t xs ≡ Some x → P x
+at_found P t [] x h e = cc
+at_found P t (y ∷ ys) x h e =
+    elim (t y) as (λ b. cond b (Some y) (find t ys) ≡ Some x → P x) [
+      | true ↦ λ e. let same : y ≡ x = cc in subst P same h.0
+      | false ↦ λ e. at_found P t ys x h.1 e
+    ] e

@@ -1,0 +1,326 @@
+-- The definitions, computed at rows that are written out by hand.
+use Rattle.std.proofs.Common.{◌≡◌, ℕ, ◌-◌, ◌^◌, ℤ, pos, negsuc, Bool, true, false, ◌||◌, List, [], ◌∷◌, ◌++◌, Some, None, codes, refl, length, inl, inr, slice_get, sym, ap, ◌∙◌, subst, int_cmp, lit<, lt-ltb}
+use Rattle.std.specs.List.{list_all, list_any}
+use Rattle.std.specs.FinSet as sets
+use Rattle.std.specs.Cmp.{int_cmp_total}
+use Rattle.std.specs.Ordering.{eq_by_cmp}
+use Rattle.fz_base.specs.Sets.{NumberSet, numbers_between, counting_from}
+use Rattle.fz_base.specs.declared.value.Value.TheVariants.{Int}
+use Rattle.fz_syntax.specs.Tree.Literal.{Number, Range}
+use Rattle.fz_syntax.specs.Tree.Base.{BoolBase, IntBase}
+use Rattle.fz_meaning.specs.declared.state.State.{State}
+use Rattle.fz_meaning.specs.declared.state.State.TheVariants.{Holds, Fails, NoValue, Unknown, TooLarge}
+use Rattle.fz_meaning.specs.Values.{◌=ˢ◌, set_of}
+use Rattle.fz_meaning.specs.Builtins.{rows, leaves_128}
+use Rattle.fz_meaning.specs.Located.{Expr, Decl, LocatedTree}
+use Rattle.fz_meaning.specs.Located.Basic.{Lit, Named}
+use Rattle.fz_meaning.specs.Located.Expr.{One, Several}
+use Rattle.fz_meaning.specs.Located.Goal.{Satisfy, Minimize}
+use Rattle.fz_meaning.specs.Names.{model_of, HasFault}
+use Rattle.fz_meaning.specs.Names.FaultKind.{DuplicateName, UnknownName, WrongKind, WrongLength}
+use Rattle.fz_meaning.specs.Meaning.{Partial, Point, points, state, judged}
+use Rattle.fz_meaning.specs.Meaning.Point.{ConstraintPoint}
+use Rattle.fz_meaning.specs.declared.term.Term.TheVariants.{Fixed}
+use Rattle.fz_meaning.specs.Steps.{Gives, GivesNothing, WithinLimits}
+use Rattle.fz_meaning.proofs.Values.{no, same_int, and_first, and_second, and_both}
+use Rattle.fz_meaning.proofs.Writing.{span_at, name_at, literal, whole, num, v, MIN, MAX, int_var, var_in, posts, defines, model_tree, i, is, t, ts, s, names, x, z}
+
+how_many : length rows ≡ 62
+unfolding rows
+how_many = refl
+
+-- ---- constraints over fixed values
+
+abbrev state_at : Partial → ℕ → LocatedTree → State
+state_at K k m = elim (slice_get (points (model_of m)) k) [ None ↦ Unknown | Some p ↦ state K p ]
+
+abbrev state_of : List ℕ → List Expr → State
+state_of name es = state_at [] 0 (model_tree [] (posts name es [] ∷ []) Satisfy)
+
+abbrev big : ℕ
+big = 9007199254740992
+
+div_down : state_of (codes "int_div") (i (negsuc 6) ∷ i (pos 2) ∷ i (negsuc 2) ∷ []) ≡ Holds
+unfolding rows
+div_down = refl
+
+mod_sign : state_of (codes "int_mod") (i (negsuc 6) ∷ i (pos 2) ∷ i (negsuc 0) ∷ []) ≡ Holds
+unfolding rows
+mod_sign = refl
+
+mod_by_negative : state_of (codes "int_mod") (i (pos 7) ∷ i (negsuc 1) ∷ i (pos 1) ∷ []) ≡ Holds
+unfolding rows
+mod_by_negative = refl
+
+div_by_zero : state_of (codes "int_div") (i (pos 1) ∷ i (pos 0) ∷ i (pos 0) ∷ []) ≡ Fails
+unfolding rows
+div_by_zero = refl
+
+mod_least : state_of (codes "int_mod") (i MIN ∷ i (negsuc 0) ∷ i (pos 0) ∷ []) ≡ Holds
+unfolding rows
+mod_least = refl
+
+div_least : state_of (codes "int_div") (i MIN ∷ i (negsuc 0) ∷ i MIN ∷ []) ≡ Fails
+unfolding rows
+div_least = refl
+
+abs_least : state_of (codes "int_abs") (i MIN ∷ i MAX ∷ []) ≡ Fails
+unfolding rows
+abs_least = refl
+
+element_0 : state_of (codes "array_int_element") (i (pos 0) ∷ is (pos 7 ∷ []) ∷ i (pos 7) ∷ []) ≡ Fails
+unfolding rows
+element_0 = refl
+
+sum_exact : state_of (codes "int_lin_eq") (is (pos big ∷ negsuc (big - 1) ∷ []) ∷ is (pos big ∷ pos big ∷ []) ∷ i (pos 0) ∷ []) ≡ Holds
+unfolding rows
+sum_exact = refl
+
+product_exact : state_of (codes "int_times") (i (pos big) ∷ i (pos big) ∷ i (pos 0) ∷ []) ≡ Fails
+unfolding rows
+product_exact = refl
+
+empty_sum : state_of (codes "int_lin_le") (is [] ∷ is [] ∷ i (pos 0) ∷ []) ≡ Holds
+unfolding rows
+empty_sum = refl
+
+empty_sum_fails : state_of (codes "int_lin_le") (is [] ∷ is [] ∷ i (negsuc 0) ∷ []) ≡ Fails
+unfolding rows
+empty_sum_fails = refl
+
+unequal_lengths : state_of (codes "int_lin_eq") (is (pos 1 ∷ []) ∷ is (pos 1 ∷ pos 2 ∷ []) ∷ i (pos 3) ∷ []) ≡ Unknown
+unfolding rows
+unequal_lengths = refl
+
+no_such_form : state_of (codes "int_div_reif") (i (pos 1) ∷ i (pos 0) ∷ i (pos 0) ∷ t true ∷ []) ≡ Unknown
+unfolding rows
+no_such_form = refl
+
+too_few : state_of (codes "bool_xor") (t true ∷ t true ∷ []) ≡ Unknown
+unfolding rows
+too_few = refl
+
+reified_false : state_of (codes "int_le_reif") (i (pos 2) ∷ i (pos 1) ∷ t false ∷ []) ≡ Holds
+unfolding rows
+reified_false = refl
+
+empty_and : state_of (codes "array_bool_and") (ts [] ∷ t true ∷ []) ≡ Holds
+unfolding rows
+empty_and = refl
+
+empty_or : state_of (codes "array_bool_or") (ts [] ∷ t false ∷ []) ≡ Holds
+unfolding rows
+empty_or = refl
+
+empty_xor : state_of (codes "array_bool_xor") (ts [] ∷ []) ≡ Fails
+unfolding rows
+empty_xor = refl
+
+empty_clause : state_of (codes "bool_clause") (ts [] ∷ ts [] ∷ []) ≡ Fails
+unfolding rows
+empty_clause = refl
+
+empty_maximum : state_of (codes "array_int_maximum") (i (pos 0) ∷ is [] ∷ []) ≡ Fails
+unfolding rows
+empty_maximum = refl
+
+greatest : state_of (codes "array_int_maximum") (i (pos 5) ∷ is (pos 3 ∷ pos 5 ∷ negsuc 2 ∷ []) ∷ []) ≡ Holds
+unfolding rows
+greatest = refl
+
+two_for_true : state_of (codes "bool2int") (t true ∷ i (pos 2) ∷ []) ≡ Fails
+unfolding rows
+two_for_true = refl
+
+element_past : state_of (codes "array_bool_element") (i (pos 3) ∷ ts (true ∷ []) ∷ t true ∷ []) ≡ Fails
+unfolding rows
+element_past = refl
+
+bool_sum : state_of (codes "bool_lin_le") (is (pos 3 ∷ negsuc 0 ∷ []) ∷ ts (true ∷ true ∷ []) ∷ i (pos 2) ∷ []) ≡ Holds
+unfolding rows
+bool_sum = refl
+
+different_none : state_of (codes "fzn_all_different_int") (is [] ∷ []) ≡ Holds
+unfolding rows
+different_none = refl
+
+different_same : state_of (codes "fzn_all_different_int") (is (pos 2 ∷ pos 2 ∷ []) ∷ []) ≡ Fails
+unfolding rows
+different_same = refl
+
+different_apart : state_of (codes "fzn_all_different_int") (is (pos 1 ∷ pos 2 ∷ pos 1 ∷ []) ∷ []) ≡ Fails
+unfolding rows
+different_apart = refl
+
+different_kind : state_of (codes "fzn_all_different_int") (ts (true ∷ []) ∷ []) ≡ Unknown
+unfolding rows
+different_kind = refl
+
+different_reified : state_of (codes "fzn_all_different_int_reif") (is (pos 1 ∷ []) ∷ t true ∷ []) ≡ Unknown
+unfolding rows
+different_reified = refl
+
+-- ---- sums that leave 128 bits
+
+-- var int: x; constraint int_lin_le([MIN,MIN],[x,x],0);
+abbrev two_terms : LocatedTree
+two_terms = model_tree (int_var x ∷ []) (posts (codes "int_lin_le") (is (MIN ∷ MIN ∷ []) ∷ names (x ∷ x ∷ []) ∷ i (pos 0) ∷ []) [] ∷ []) Satisfy
+
+two_terms_least : state_at (Some (Int MIN) ∷ []) 1 two_terms ≡ TooLarge
+unfolding rows
+two_terms_least = refl
+
+two_terms_greatest : state_at (Some (Int MAX) ∷ []) 1 two_terms ≡ Holds
+unfolding rows
+two_terms_greatest = refl
+
+two_terms_open : state_at (None ∷ []) 1 two_terms ≡ NoValue
+unfolding rows
+two_terms_open = refl
+
+-- with the coefficients MIN, MAX, MIN and three times x no partial sum leaves 128 bits
+three_terms_least : state_at (Some (Int MIN) ∷ []) 1 (model_tree (int_var x ∷ []) (posts (codes "int_lin_le") (is (MIN ∷ MAX ∷ MIN ∷ []) ∷ names (x ∷ x ∷ x ∷ []) ∷ i (pos 0) ∷ []) [] ∷ []) Satisfy) ≡ Fails
+unfolding rows
+three_terms_least = refl
+
+-- the form with a truth value is too large likewise, bool_lin_le never is
+reified_large : state_of (codes "int_lin_le_reif") (is (MIN ∷ MIN ∷ []) ∷ is (MIN ∷ MIN ∷ []) ∷ i (pos 0) ∷ t true ∷ []) ≡ TooLarge
+unfolding rows
+reified_large = refl
+
+-- the bounds themselves: 2^127 - 1 and -2^127 are no fault, one more and one less are
+at_the_bounds : leaves_128 (pos (2 ^ 127 - 1) ∷ negsuc (2 ^ 127 - 2) ∷ negsuc (2 ^ 127 - 1) ∷ []) ≡ false
+at_the_bounds = refl
+
+past_the_greatest : leaves_128 (pos (2 ^ 127 - 1) ∷ pos 1 ∷ negsuc 0 ∷ []) ≡ true
+past_the_greatest = refl
+
+past_the_least : leaves_128 (negsuc (2 ^ 127 - 1) ∷ negsuc 0 ∷ pos 1 ∷ []) ≡ true
+past_the_least = refl
+
+-- ---- faults
+
+-- bool: b = 3;
+abbrev b_is_3 : Decl
+b_is_3 = record { is_var = false; array_length = None; base = BoolBase; name = name_at (codes "b") 6 7; notes = []; value = Some (One (Lit (record { what = Number (pos 3); span = span_at 10 11 }))) }
+
+kind_fault : HasFault (model_tree (b_is_3 ∷ []) [] Satisfy) WrongKind (span_at 10 11)
+kind_fault = inl (refl, refl)
+
+-- bool: b = true; array [1..2] of int: b = [1]; solve satisfy;
+abbrev two_bs : LocatedTree
+two_bs = model_tree (
+    record { is_var = false; array_length = None; base = BoolBase; name = name_at (codes "b") 6 7; notes = []; value = Some (t true) }
+    ∷ record { is_var = false; array_length = Some 2; base = IntBase None; name = name_at (codes "b") 37 38; notes = []; value = Some (Several (num 1 ∷ [])) } ∷ []) [] Satisfy
+
+declared_twice : HasFault two_bs DuplicateName (span_at 37 38)
+declared_twice = inr (inl (refl, refl))
+
+also_length : HasFault two_bs WrongLength (span_at 37 38)
+also_length = inr (inl (refl, refl))
+
+-- solve minimize c;
+nothing_named : HasFault (model_tree [] [] (Minimize (Named (name_at (codes "c") 15 16)))) UnknownName (span_at 15 16)
+nothing_named = inl (refl, refl)
+
+-- array [1..0] of int: a = []; solve minimize a;
+array_minimized : HasFault (model_tree (record { is_var = false; array_length = Some 0; base = IntBase None; name = name_at (codes "a") 21 22; notes = []; value = Some (Several []) } ∷ []) [] (Minimize (Named (name_at (codes "a") 44 45)))) WrongKind (span_at 44 45)
+array_minimized = inl (refl, refl)
+
+-- ---- forced steps
+
+-- a point of the tree, or its first
+abbrev point_of : LocatedTree → ℕ → Point → Point
+point_of m k other = elim (slice_get (points (model_of m)) k) [ None ↦ other | Some p ↦ p ]
+
+abbrev nothing : Point
+nothing = ConstraintPoint 0 (record { name = []; arguments = []; target = None })
+
+-- var 0..9: x; var 0..17: z; constraint int_lin_eq([2,-1],[x,z],0) :: defines_var(z);
+abbrev doubled : LocatedTree
+doubled = model_tree (var_in 0 9 x None ∷ var_in 0 17 z None ∷ []) (posts (codes "int_lin_eq") (is (pos 2 ∷ negsuc 0 ∷ []) ∷ names (x ∷ z ∷ []) ∷ i (pos 0) ∷ []) (defines z) ∷ []) Satisfy
+
+doubled_gives : Gives (model_of doubled) (Some (Int (pos 4)) ∷ None ∷ []) (point_of doubled 2 nothing) 1 (Int (pos 8))
+unfolding rows
+doubled_gives = record {
+  target = (refl, (1, refl, Fixed (Int (negsuc 0)), refl, inr refl));
+  only_open = refl;
+  of_kind = refl;
+  within_limits = record { sfits = lit< tt };
+  sums_fit = refl;
+  then_holds = refl;
+}
+
+-- int_lin_eq([1,1],[x,x],4) :: defines_var(x): the target occurs twice
+abbrev twice : LocatedTree
+twice = model_tree (int_var x ∷ []) (posts (codes "int_lin_eq") (is (pos 1 ∷ pos 1 ∷ []) ∷ names (x ∷ x ∷ []) ∷ i (pos 4) ∷ []) (defines x) ∷ []) Satisfy
+
+twice_gives_nothing : GivesNothing (model_of twice) (None ∷ []) (point_of twice 1 nothing)
+twice_gives_nothing k u g = let e = g.only_open in cc
+
+-- int_abs(MIN,z) :: defines_var(z): the value 2^63 is outside the limit
+past_the_limit : WithinLimits (Int (pos (2 ^ 63))) → ⊥
+past_the_limit h = no (lt-ltb _ _ h.sfits)
+
+-- The sum without z fits 128 bits, and with z in front a partial sum is 2^127. The step is taken, and the state afterwards is too large.
+-- constraint int_lin_eq([1,MIN,MIN,1,MIN,MIN,-1,-1],[z,MIN,MIN+1,MAX,MAX,MAX,MAX,MAX],2) :: defines_var(z);
+abbrev in_front : LocatedTree
+in_front = model_tree (int_var z ∷ [])
+    (posts (codes "int_lin_eq")
+    (is (pos 1 ∷ MIN ∷ MIN ∷ pos 1 ∷ MIN ∷ MIN ∷ negsuc 0 ∷ negsuc 0 ∷ [])
+    ∷ Several (v z ∷ whole MIN ∷ whole (negsuc 9223372036854775806) ∷ whole MAX ∷ whole MAX ∷ whole MAX ∷ whole MAX ∷ whole MAX ∷ []) ∷ i (pos 2) ∷ []) (defines z) ∷ []) Satisfy
+
+in_front_gives : Gives (model_of in_front) (None ∷ []) (point_of in_front 1 nothing) 0 (Int (pos 1))
+unfolding rows
+in_front_gives = record {
+  target = (refl, (0, refl, Fixed (Int (pos 1)), refl, inl refl));
+  only_open = refl;
+  of_kind = refl;
+  within_limits = record { sfits = lit< tt };
+  sums_fit = refl;
+  then_holds = refl;
+}
+
+in_front_state : state_at (Some (Int (pos 1)) ∷ []) 1 in_front ≡ TooLarge
+unfolding rows
+in_front_state = refl
+
+-- ---- sets, whose operations do not compute: by the elements that they contain
+
+-- the elements of a set are those of a list
+abbrev AreElements : NumberSet → List ℤ → Type 0
+AreElements u xs = (q : ℤ) → sets.contains u q ≡ list_any (eq_by_cmp int_cmp q) xs
+
+any_append : (p : ℤ → Bool) (xs ys : List ℤ) → list_any p (xs ++ ys) ≡ (list_any p xs || list_any p ys)
+any_append p [] ys = refl
+any_append p (x ∷ xs) ys = elim (p x) as (λ b. (b || list_any p (xs ++ ys)) ≡ ((b || list_any p xs) || list_any p ys)) [ true ↦ refl | false ↦ any_append p xs ys ]
+
+union_elements : (u w : NumberSet) (xs ys : List ℤ) → AreElements u xs → AreElements w ys → AreElements (sets.union u w) (xs ++ ys)
+union_elements u w xs ys h k q = sets.contains-union int_cmp_total u w q ∙ (λ i. h q i || k q i) ∙ sym (any_append (eq_by_cmp int_cmp q) xs ys)
+
+listed_elements : (xs : List ℤ) → AreElements (set_of xs) xs
+listed_elements xs q = sets.contains-from_list int_cmp_total xs q
+
+-- each element of the list is one of the other
+among_all : (xs ys : List ℤ) (q : ℤ) → list_all (λ x. list_any (eq_by_cmp int_cmp x) ys) xs ≡ true → list_any (eq_by_cmp int_cmp q) xs ≡ true → list_any (eq_by_cmp int_cmp q) ys ≡ true
+among_all [] ys q all some = no some
+among_all (x ∷ xs) ys q all some =
+    elim (eq_by_cmp int_cmp q x) as (λ b. eq_by_cmp int_cmp q x ≡ b → (b || list_any (eq_by_cmp int_cmp q) xs) ≡ true → list_any (eq_by_cmp int_cmp q) ys ≡ true) [
+      | true ↦ λ e _. let same : q ≡ x = same_int q x e in subst (λ z. list_any (eq_by_cmp int_cmp z) ys ≡ true) (sym same) (and_first (list_any (eq_by_cmp int_cmp x) ys) _ all)
+      | false ↦ λ _ later. among_all xs ys q (and_second (list_any (eq_by_cmp int_cmp x) ys) _ all) later
+    ] refl some
+
+subset_of : (u w : NumberSet) (xs ys : List ℤ) → AreElements u xs → AreElements w ys → list_all (λ x. list_any (eq_by_cmp int_cmp x) ys) xs ≡ true → sets.is_subset u w ≡ true
+subset_of u w xs ys h k all = sets.contains-is_subset int_cmp_total u w (λ q e. k q ∙ among_all xs ys q all (sym (h q) ∙ e))
+
+same_elements : (u w : NumberSet) (xs ys : List ℤ) → AreElements u xs → AreElements w ys → list_all (λ x. list_any (eq_by_cmp int_cmp x) ys) xs ≡ true → list_all (λ y. list_any (eq_by_cmp int_cmp y) xs) ys ≡ true → (u =ˢ w) ≡ true
+same_elements u w xs ys h k all each = and_both (sets.is_subset u w) (sets.is_subset w u) (subset_of u w xs ys h k all) (subset_of w u ys xs k h each)
+
+-- constraint set_union({1,2},2..4,{4,3,2,1})
+union_row : state_of (codes "set_union") (s (pos 1 ∷ pos 2 ∷ []) ∷ One (Lit (literal (Range (pos 2) (pos 4)))) ∷ s (pos 4 ∷ pos 3 ∷ pos 2 ∷ pos 1 ∷ []) ∷ []) ≡ Holds
+unfolding numbers_between counting_from rows
+union_row = ap judged (same_elements (set_of (pos 4 ∷ pos 3 ∷ pos 2 ∷ pos 1 ∷ [])) (sets.union (set_of (pos 1 ∷ pos 2 ∷ [])) (numbers_between (pos 2) (pos 4)))
+    (pos 4 ∷ pos 3 ∷ pos 2 ∷ pos 1 ∷ []) (pos 1 ∷ pos 2 ∷ pos 2 ∷ pos 3 ∷ pos 4 ∷ [])
+    (listed_elements (pos 4 ∷ pos 3 ∷ pos 2 ∷ pos 1 ∷ []))
+    (union_elements (set_of (pos 1 ∷ pos 2 ∷ [])) (numbers_between (pos 2) (pos 4)) (pos 1 ∷ pos 2 ∷ []) (pos 2 ∷ pos 3 ∷ pos 4 ∷ []) (listed_elements (pos 1 ∷ pos 2 ∷ [])) (listed_elements (pos 2 ∷ pos 3 ∷ pos 4 ∷ [])))
+    refl refl)

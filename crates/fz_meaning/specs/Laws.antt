@@ -1,0 +1,32 @@
+-- What holds of points, steps and models by their definitions (this project's profile). Each law is the contract of a public function
+-- of this crate.
+use Rattle.std.specs.Prelude.{◌≡◌, ◌↔◌, ℕ, None, Some}
+use Rattle.std.specs.List.{slice_get}
+use Rattle.fz_base.specs.declared.value.Value.{Value}
+use Rattle.fz_meaning.specs.declared.state.State.TheVariants.{Unknown}
+use Rattle.fz_meaning.specs.Values.{kind_of}
+use Rattle.fz_syntax.specs.View.{bare}
+use Rattle.fz_syntax.specs.declared.tree.Ast.{Ast}
+use Rattle.fz_meaning.specs.View.{located}
+use Rattle.fz_meaning.specs.Located.{LocatedTree, Decl, bare_of}
+use Rattle.fz_meaning.specs.Names.{HasNoFault, number_of, scalar_variables}
+use Rattle.fz_meaning.specs.Meaning.{Model, Partial, Point, Posted, points, give, state, row_of, HoldsUnder}
+use Rattle.fz_meaning.specs.Meaning.Point.{ConstraintPoint}
+use Rattle.fz_meaning.specs.Steps.{Gives}
+
+-- A forced step's value is the only one of its kind with which the point holds.
+abbrev pub StepsAreForced : Type 0
+StepsAreForced =
+    (m : Model) (K : Partial) (k : ℕ) (p : Point) (n : ℕ) (v w : Value) → slice_get (points m) k ≡ Some p → Gives m K p n v → kind_of w ≡ kind_of v → HoldsUnder (give K n w) p → v ≡ w
+
+-- In a tree without faults the scalar variable at place i has the name that is numbered i.
+abbrev pub NumbersAgree : Type 0
+NumbersAgree = (t : LocatedTree) → HasNoFault t → (i : ℕ) (d : Decl) → slice_get (scalar_variables t.decls) i ≡ Some d → number_of t.decls d.name.text ≡ i
+
+-- The state is unknown exactly where the constraint is not known.
+abbrev pub UnknownIsNotKnown : Type 0
+UnknownIsNotKnown = (K : Partial) (k : ℕ) (p : Posted) → (state K (ConstraintPoint k p) ≡ Unknown) ↔ (row_of p ≡ None)
+
+-- The tree with its places, its places left out, is the plain tree of the parser's tree.
+abbrev pub LocatedIsBare : Type 0
+LocatedIsBare = (a : Ast) → bare_of (located a) ≡ bare a

@@ -1,0 +1,397 @@
+-- What a model means, once its names are numbered: assignments, the value of an expression, the domains, the points, solutions, and the
+-- state of a point (MiniZinc Handbook, FlatZinc, "variable declarations" and "constraint items"; the points, their order and the states
+-- are this project's profile).
+use Rattle.std.specs.Prelude.{◌≡◌, ℕ, suc, ℤ, ◌*ℤ◌, Bool, true, false, not, cond, ◌&&◌, ◌||◌, List, [], ◌∷◌, ◌++◌, length, map, ◌==◌, int_le, Option, Some, None, bytes_eq, option_map, option_and_then, slice_get, slice_set, IsTrue, IsSomeAnd, IfSome, ⊤, ◌⊎◌, flat_map, find}
+use Rattle.std.specs.List.{list_all, list_any, AllByRecursion}
+use Rattle.std.specs.Option.{option_map_or, option_flatten, option_or}
+use Rattle.std.specs.FinSet as sets
+use Rattle.fz_base.specs.declared.value.Value.{Value}
+use Rattle.fz_base.specs.declared.value.Value.TheVariants.{Int, Bool as Truth, Set}
+use Rattle.fz_meaning.specs.declared.kind.Kind.{Kind}
+use Rattle.fz_meaning.specs.declared.state.State.{State}
+use Rattle.fz_meaning.specs.declared.term.Term.{Term}
+use Rattle.fz_meaning.specs.declared.term.Term.TheVariants.{Var, Fixed}
+use Rattle.fz_meaning.specs.declared.term.Domain.{Domain}
+use Rattle.fz_meaning.specs.declared.term.Domain.TheVariants.{All, Within, Among}
+use Rattle.fz_meaning.specs.declared.state.State.TheVariants.{Holds, Fails, NoValue, Unknown, TooLarge}
+use Rattle.fz_meaning.specs.Values.{kind_of, same_kind, same_value}
+use Rattle.fz_meaning.specs.Builtins.{Shape, Row, rows, ArgValue, passes, leaves_128}
+use Rattle.fz_meaning.specs.Builtins.Shape.{ScalarOf, ArrayOf}
+use Rattle.fz_meaning.specs.Builtins.ArgValue.{OneValue, ManyValues}
+
+-- ---- a model with its names looked up
+
+-- what a literal or a name stands for: a scalar of a kind, or an array by its name, its kind and its elements
+pub data Place : Type 0 where
+  Scalar : Kind → Term → Place
+  Array : List ℕ → Kind → List Term → Place
+
+-- an argument of a constraint: a literal or a name, or a list in brackets
+pub data Argument : Type 0 where
+  One : Place → Argument
+  ListOf : List Place → Argument
+
+-- a scalar variable
+pub record Variable : Type 0 where
+  pub name : List ℕ
+  pub kind : Kind
+  pub domain : Domain
+
+pub data Declared : Type 0 where
+  -- a parameter's name stands for its value
+  Parameter : List ℕ → Place → Declared
+  -- a scalar variable, perhaps with a definition
+  ScalarVariable : Variable → Option Term → Declared
+  -- an array of variables
+  ArrayOfVariables : List ℕ → Kind → Domain → List Term → Declared
+
+-- a constraint, with the variable that its first `defines_var` names
+pub record Posted : Type 0 where
+  pub name : List ℕ
+  pub arguments : List Argument
+  pub target : Option ℕ
+
+-- what is asked for: any solution, or the least or the greatest value of a scalar
+pub data Aim : Type 0 where
+  Satisfy : Aim
+  Minimize : Term → Aim
+  Maximize : Term → Aim
+
+pub record Model : Type 0 where
+  pub declared : List Declared
+  pub constraints : List Posted
+  pub aim : Aim
+
+-- the scalar variables in source order, so that the one with number n stands at place n
+abbrev pub variable_of : Declared → List Variable
+variable_of (ScalarVariable x e) = x ∷ []
+variable_of (Parameter name p) = []
+variable_of (ArrayOfVariables name k d ts) = []
+
+abbrev pub variables_of : Model → List Variable
+variables_of m = flat_map variable_of m.declared
+
+-- each declaration with the number of scalar variables before it, which is a scalar variable's own number
+abbrev pub numbered_from : ℕ → List Declared → List (ℕ × Declared)
+numbered_from n [] = []
+numbered_from n (ScalarVariable x e ∷ ds) = (n, ScalarVariable x e) ∷ numbered_from (suc n) ds
+numbered_from n (Parameter name p ∷ ds) = (n, Parameter name p) ∷ numbered_from n ds
+numbered_from n (ArrayOfVariables name k d ts ∷ ds) = (n, ArrayOfVariables name k d ts) ∷ numbered_from n ds
+
+abbrev pub numbered : Model → List (ℕ × Declared)
+numbered m = numbered_from 0 m.declared
+
+-- the first answer that there is
+abbrev pub first_some : {A B : Type 0} → (A → Option B) → List A → Option B
+first_some f [] = None
+first_some f (x ∷ xs) = option_or (f x) (first_some f xs)
+
+-- what a declared name stands for
+abbrev pub name_of : Declared → List ℕ
+name_of (Parameter x p) = x
+name_of (ScalarVariable x e) = x.name
+name_of (ArrayOfVariables x k d ts) = x
+
+abbrev pub place_named : ℕ → Declared → Place
+place_named n (Parameter x p) = p
+place_named n (ScalarVariable x e) = Scalar x.kind (Var n)
+place_named n (ArrayOfVariables x k d ts) = Array x k ts
+
+abbrev pub place_if_named : List ℕ → (ℕ × Declared) → Option Place
+place_if_named x (n, d) = cond (bytes_eq (name_of d) x) (Some (place_named n d)) None
+
+abbrev pub find_name : Model → List ℕ → Option Place
+find_name m x = first_some (place_if_named x) (numbered m)
+
+-- ---- assignments
+
+-- a partial assignment gives some variables a value, by their numbers; an assignment gives each one
+abbrev pub Partial : Type 0
+Partial = List (Option Value)
+
+abbrev pub Assignment : Type 0
+Assignment = List Value
+
+-- an assignment as a partial one
+abbrev pub whole : Assignment → Partial
+whole A = map Some A
+
+-- the value of a variable, if it has one
+abbrev pub value_at : Partial → ℕ → Option Value
+value_at K n = option_flatten (slice_get K n)
+
+-- the same, with one more value
+abbrev pub give : Partial → ℕ → Value → Partial
+give K n v = slice_set K n (Some v)
+
+-- each value has its variable's kind
+abbrev pub FitVariables : List Variable → Partial → Type 0
+FitVariables [] [] = ⊤
+FitVariables (x ∷ xs) (o ∷ K) = IfSome o (λ v. kind_of v ≡ x.kind) × FitVariables xs K
+FitVariables _ _ = ⊥
+
+abbrev pub IsPartial : Model → Partial → Type 0
+IsPartial m K = FitVariables (variables_of m) K
+
+abbrev pub IsAssignment : Model → Assignment → Type 0
+IsAssignment m A = IsPartial m (whole A)
+
+-- ---- the value of an expression
+
+-- a fixed value is itself, and a variable has the value that it is given
+abbrev pub value : Partial → Term → Option Value
+value K (Var n) = value_at K n
+value K (Fixed v) = Some v
+
+abbrev pub option_cons : {A : Type 0} → Option A → Option (List A) → Option (List A)
+option_cons (Some x) (Some xs) = Some (x ∷ xs)
+option_cons _ _ = None
+
+-- all of them, where each is there
+abbrev pub all_some : {A : Type 0} → List (Option A) → Option (List A)
+all_some [] = Some []
+all_some (o ∷ os) = option_cons o (all_some os)
+
+-- the values of the terms, where each has one
+abbrev pub values : Partial → List Term → Option (List Value)
+values K ts = all_some (map (value K) ts)
+
+-- ---- domains
+
+-- the numbers of a domain
+abbrev pub admits : Domain → ℤ → Bool
+admits All n = true
+admits (Within lo hi) n = int_le lo n && int_le n hi
+admits (Among s) n = sets.contains s n
+
+abbrev pub admits_all : Domain → Bool
+admits_all All = true
+admits_all (Within lo hi) = false
+admits_all (Among s) = false
+
+-- The value lies in the domain: a number is one of its numbers, and a set is a subset of it. No truth value lies in a domain with bounds.
+abbrev pub inside : Domain → Value → Bool
+inside d (Int n) = admits d n
+inside d (Set s) = list_all (admits d) (sets.items s)
+inside d (Truth b) = admits_all d
+
+-- ---- constraints
+
+abbrev pub terms_at : Place → List Term
+terms_at (Scalar k t) = t ∷ []
+terms_at (Array x k ts) = ts
+
+-- the scalars that stand in an argument
+abbrev pub terms_in : Argument → List Term
+terms_in (One p) = terms_at p
+terms_in (ListOf ps) = flat_map terms_at ps
+
+-- the value of an argument, where each scalar in it has one
+abbrev pub argument_value : Partial → Argument → Option ArgValue
+argument_value K (One (Scalar k t)) = option_map OneValue (value K t)
+argument_value K (One (Array x k ts)) = option_map ManyValues (values K ts)
+argument_value K (ListOf ps) = option_map ManyValues (values K (terms_in (ListOf ps)))
+
+abbrev pub argument_values : Partial → List Argument → Option (List ArgValue)
+argument_values K as' = all_some (map (argument_value K) as')
+
+abbrev pub is_term_of : Kind → Place → Bool
+is_term_of k (Scalar j t) = same_kind j k
+is_term_of k (Array x j ts) = false
+
+-- the argument has the shape: an array literal where each element is a scalar of the kind, so an empty one fits each kind
+abbrev pub has_shape : Shape → Argument → Bool
+has_shape (ScalarOf k) (One (Scalar j t)) = same_kind j k
+has_shape (ArrayOf k) (One (Array x j ts)) = same_kind j k
+has_shape (ArrayOf k) (ListOf ps) = list_all (is_term_of k) ps
+has_shape _ _ = false
+
+abbrev pub have_shapes : List Shape → List Argument → Bool
+have_shapes [] [] = true
+have_shapes (s ∷ ss) (x ∷ xs) = has_shape s x && have_shapes ss xs
+have_shapes _ _ = false
+
+abbrev pub first_two_equally_long : List Argument → Bool
+first_two_equally_long (x ∷ y ∷ zs) = length (terms_in x) == length (terms_in y)
+first_two_equally_long _ = false
+
+abbrev pub fits : Row → List Argument → Bool
+fits r xs = have_shapes r.shapes xs && (not r.equal_lengths || first_two_equally_long xs)
+
+-- the row that a constraint fits; a constraint is known where there is one
+abbrev pub row_of : Posted → Option Row
+row_of p = find (λ r. bytes_eq r.name p.name && fits r p.arguments) rows
+
+-- the row's relation holds of the values
+abbrev pub row_holds : Row → List ArgValue → Bool
+row_holds r vs = passes r.shapes r.holds vs
+
+abbrev pub as_int : Value → Option ℤ
+as_int (Int n) = Some n
+as_int _ = None
+
+abbrev pub number_at : Partial → Term → Option ℤ
+number_at K t = option_and_then as_int (value K t)
+
+abbrev pub product_before : Option ℤ → Option ℤ → List ℤ → List ℤ
+product_before (Some a) (Some b) ns = (a *ℤ b) ∷ ns
+product_before _ _ ns = ns
+
+-- a[i] * b[i], from the left, at each place where both have values
+abbrev pub known_products : Partial → List Term → List Term → List ℤ
+known_products K (a ∷ as') (b ∷ bs) = product_before (number_at K a) (number_at K b) (known_products K as' bs)
+known_products K _ _ = []
+
+-- A partial sum of the products of the first two arguments, added from the left over the places that have values, leaves signed 128
+-- bits. Where the whole constraint has values these are all its places, and where one element has none they are the others.
+abbrev pub sums_leave : Partial → List Argument → Bool
+sums_leave K (x ∷ y ∷ zs) = leaves_128 (known_products K (terms_in x) (terms_in y))
+sums_leave K _ = false
+
+-- ---- points
+
+-- what is checked, one after another
+pub data Point : Type 0 where
+  -- the domain of a scalar variable with its number
+  DomainPoint : Variable → ℕ → Point
+  -- its definition
+  DefinitionPoint : Variable → ℕ → Term → Point
+  -- the domain of an array's elements, where it has bounds
+  ArrayPoint : List ℕ → Domain → List Term → Point
+  -- a constraint with its number, from 1
+  ConstraintPoint : ℕ → Posted → Point
+
+abbrev pub definition_points : Variable → ℕ → Option Term → List Point
+definition_points x n None = []
+definition_points x n (Some e) = DefinitionPoint x n e ∷ []
+
+abbrev pub array_points : List ℕ → Domain → List Term → List Point
+array_points name All ts = []
+array_points name (Within lo hi) ts = ArrayPoint name (Within lo hi) ts ∷ []
+array_points name (Among s) ts = ArrayPoint name (Among s) ts ∷ []
+
+abbrev pub declared_points : (ℕ × Declared) → List Point
+declared_points (n, Parameter name p) = []
+declared_points (n, ScalarVariable x e) = DomainPoint x n ∷ definition_points x n e
+declared_points (n, ArrayOfVariables name k d ts) = array_points name d ts
+
+abbrev pub constraint_points : ℕ → List Posted → List Point
+constraint_points n [] = []
+constraint_points n (p ∷ ps) = ConstraintPoint n p ∷ constraint_points (suc n) ps
+
+-- the points of a model: those of the declarations in source order, then the constraints
+abbrev pub points : Model → List Point
+points m = flat_map declared_points (numbered m) ++ constraint_points 1 m.constraints
+
+-- ---- solutions
+
+-- Under a partial assignment a domain holds where the values lie in it, a definition where both sides are equal, and a constraint where
+-- it is known and its relation holds of the values of its arguments. Numbers have no width here.
+abbrev pub HoldsUnder : Partial → Point → Type 0
+HoldsUnder K (DomainPoint x n) = IsSomeAnd (value_at K n) (λ v. IsTrue (inside x.domain v))
+HoldsUnder K (DefinitionPoint x n e) = IsSomeAnd (value_at K n) (λ v. IsSomeAnd (value K e) (λ w. v ≡ w))
+HoldsUnder K (ArrayPoint name d ts) = IsSomeAnd (values K ts) (λ vs. AllByRecursion (λ v. IsTrue (inside d v)) vs)
+HoldsUnder K (ConstraintPoint k p) = IsSomeAnd (row_of p) (λ r. IsSomeAnd (argument_values K p.arguments) (λ vs. IsTrue (row_holds r vs)))
+
+-- the same, where it is asked of known constraints alone
+abbrev pub HoldsIfKnown : Partial → Point → Type 0
+HoldsIfKnown K (ConstraintPoint k p) = (row_of p ≡ None) ⊎ HoldsUnder K (ConstraintPoint k p)
+HoldsIfKnown K (DomainPoint x n) = HoldsUnder K (DomainPoint x n)
+HoldsIfKnown K (DefinitionPoint x n e) = HoldsUnder K (DefinitionPoint x n e)
+HoldsIfKnown K (ArrayPoint name d ts) = HoldsUnder K (ArrayPoint name d ts)
+
+-- an assignment inside all domains, with equal sides of every definition, and at which every constraint is known and holds
+pub record IsSolution (m : Model) (A : Assignment) : Type 0 where
+  pub assignment : IsAssignment m A
+  pub each_holds : AllByRecursion (HoldsUnder (whole A)) (points m)
+
+-- the same with every known constraint in place of every constraint
+pub record IsKnownSolution (m : Model) (A : Assignment) : Type 0 where
+  pub assignment : IsAssignment m A
+  pub each_holds : AllByRecursion (HoldsIfKnown (whole A)) (points m)
+
+-- ---- the state of a point under a partial assignment
+
+abbrev pub judged : Bool → State
+judged true = Holds
+judged false = Fails
+
+-- judged by its value, where there is one
+abbrev pub judged_by : {A : Type 0} → (A → Bool) → Option A → State
+judged_by t None = NoValue
+judged_by t (Some v) = judged (t v)
+
+abbrev pub both : {A : Type 0} → Option A → Option A → Option (A × A)
+both (Some v) (Some w) = Some (v, w)
+both _ _ = None
+
+-- a scalar with a value that lies outside
+abbrev pub is_outside : Partial → Domain → Term → Bool
+is_outside K d t = option_map_or (λ v. not (inside d v)) (value K t) false
+
+-- Where an argument has no value, the constraint has none; then it is too large where a sum leaves 128 bits; else it holds or fails.
+abbrev pub state_of_values : Partial → List Argument → Row → Option (List ArgValue) → State
+state_of_values K xs r None = NoValue
+state_of_values K xs r (Some vs) = cond (r.sums_in_128 && sums_leave K xs) TooLarge (judged (row_holds r vs))
+
+abbrev pub state_of_row : Partial → List Argument → Option Row → State
+state_of_row K xs None = Unknown
+state_of_row K xs (Some r) = state_of_values K xs r (argument_values K xs)
+
+-- A domain or a definition holds or fails where there are values, and else has none; an array's domain fails as soon as one element
+-- lies outside; a constraint is unknown where it fits no row, whatever its values are.
+abbrev pub state : Partial → Point → State
+state K (DomainPoint x n) = judged_by (inside x.domain) (value_at K n)
+state K (DefinitionPoint x n e) = judged_by (λ (v, w). same_value v w) (both (value_at K n) (value K e))
+state K (ArrayPoint name d ts) = cond (list_any (is_outside K d) ts) Fails (judged_by (λ vs. true) (values K ts))
+state K (ConstraintPoint k p) = state_of_row K p.arguments (row_of p)
+
+-- ---- the objective
+
+-- the number that is minimized or maximized, where it has a value
+abbrev pub objective_of : Aim → Partial → Option ℤ
+objective_of Satisfy K = None
+objective_of (Minimize t) K = number_at K t
+objective_of (Maximize t) K = number_at K t
+
+abbrev pub objective : Model → Partial → Option ℤ
+objective m K = objective_of m.aim K
+
+-- ---- what a caller is shown of a model
+
+-- what a point is told by: the declared name, or the constraint's number and the predicate's name
+pub data PointName : Type 0 where
+  DomainOf : List ℕ → PointName
+  DefinitionOf : List ℕ → PointName
+  ConstraintOf : ℕ → List ℕ → PointName
+
+abbrev pub shown_point : Point → PointName
+shown_point (DomainPoint x n) = DomainOf x.name
+shown_point (DefinitionPoint x n e) = DefinitionOf x.name
+shown_point (ArrayPoint name d ts) = DomainOf name
+shown_point (ConstraintPoint k p) = ConstraintOf k p.name
+
+-- a scalar is shown as it is, and an array by its name, whose elements `find_name` has
+pub data ShownPlace : Type 0 where
+  ShownScalar : Term → ShownPlace
+  ShownArray : List ℕ → ShownPlace
+
+abbrev pub shown_place : Place → ShownPlace
+shown_place (Scalar k t) = ShownScalar t
+shown_place (Array x k ts) = ShownArray x
+
+pub data ShownArgument : Type 0 where
+  ShownOne : ShownPlace → ShownArgument
+  ShownList : List ShownPlace → ShownArgument
+
+abbrev pub shown_argument : Argument → ShownArgument
+shown_argument (One p) = ShownOne (shown_place p)
+shown_argument (ListOf ps) = ShownList (map shown_place ps)
+
+pub record ShownPosted : Type 0 where
+  pub name : List ℕ
+  pub arguments : List ShownArgument
+  pub target : Option ℕ
+
+abbrev pub shown_posted : Posted → ShownPosted
+shown_posted p = record { name = p.name; arguments = map shown_argument p.arguments; target = p.target }

@@ -1,0 +1,281 @@
+-- The names of a model: the faults of a tree, and the model that a tree without faults is (MiniZinc Handbook, FlatZinc, "Parameter
+-- declaration items" and "Variable declaration items"; which of several faults is told is this project's profile).
+use Rattle.std.specs.Prelude.{◌≡◌, ℕ, ◌≤◌, ◌<◌, pos, Bool, false, not, cond, ◌&&◌, List, [], ◌∷◌, ◌++◌, length, map, ◌==◌, Option, Some, None, bytes_eq, IsTrue, IsFalse, IsSomeAnd, ⊤, ◌⊎◌, flat_map, find, codes, is_some}
+use Rattle.std.specs.List.{list_any, filter, position_or_len}
+use Rattle.std.specs.Option.{option_map_or}
+use Rattle.fz_base.specs.Sets.{numbers_between}
+use Rattle.fz_base.specs.declared.span.Span.{Span}
+use Rattle.fz_base.specs.declared.value.Value.{Value}
+use Rattle.fz_base.specs.declared.value.Value.TheVariants.{Int, Bool as Truth, Set}
+use Rattle.fz_meaning.specs.declared.kind.Kind.{Kind}
+use Rattle.fz_meaning.specs.declared.kind.Kind.TheVariants.{Int as IntKind, Bool as BoolKind, Set as SetKind}
+use Rattle.fz_meaning.specs.Values.{kind_of, same_kind, set_of}
+use Rattle.fz_syntax.specs.Tree as tree
+use Rattle.fz_syntax.specs.Tree.Literal.{Number, Truth as TruthWord, Range, Braces}
+use Rattle.fz_syntax.specs.Tree.Note.{Called}
+use Rattle.fz_syntax.specs.Tree.NoteArgs.{NoMoreArgs, MoreArgs}
+use Rattle.fz_syntax.specs.Tree.NoteArg.{OneBasic}
+use Rattle.fz_syntax.specs.Tree.NoteBasic.{Inner}
+use Rattle.fz_syntax.specs.Tree.Base.{BoolBase, IntBase, SetBase}
+use Rattle.fz_syntax.specs.Shape.{IsTree, the_limits}
+use Rattle.fz_meaning.specs.Located.{Basic, Expr, Decl, Constraint, Goal, LocatedTree, bare_of}
+use Rattle.fz_meaning.specs.Located.Basic.{Lit, Named}
+use Rattle.fz_meaning.specs.Located.Expr.{One, Several}
+use Rattle.fz_meaning.specs.Located.Goal.{Satisfy, Minimize, Maximize}
+use Rattle.fz_meaning.specs.Meaning.{Place, Argument, Variable, Declared, Posted, Aim, Model, first_some}
+use Rattle.fz_meaning.specs.declared.term.Term.{Term}
+use Rattle.fz_meaning.specs.declared.term.Domain.{Domain}
+use Rattle.fz_meaning.specs.declared.term.Term.TheVariants.{Var, Fixed}
+use Rattle.fz_meaning.specs.Meaning.Place.{Scalar, Array}
+use Rattle.fz_meaning.specs.declared.term.Domain.TheVariants.{All, Within, Among}
+use Rattle.fz_meaning.specs.Meaning.Declared.{Parameter, ScalarVariable, ArrayOfVariables}
+
+-- ---- the value of a literal
+
+abbrev pub literal_value : tree.Literal → Value
+literal_value (Number n) = Int n
+literal_value (TruthWord b) = Truth b
+literal_value (Range lo hi) = Set (numbers_between lo hi)
+literal_value (Braces ns) = Set (set_of ns)
+
+abbrev pub kind_of_base : tree.Base → Kind
+kind_of_base BoolBase = BoolKind
+kind_of_base (IntBase d) = IntKind
+kind_of_base (SetBase d) = SetKind
+
+-- ---- what is declared
+
+abbrev pub named_as : List ℕ → Decl → Bool
+named_as x d = bytes_eq d.name.text x
+
+-- a declaration of one of these declares the name
+abbrev pub declares : List Decl → List ℕ → Bool
+declares ds x = list_any (named_as x) ds
+
+-- the declaration of a name, the first where there are several
+abbrev pub declaration : List Decl → List ℕ → Option Decl
+declaration ds x = find (named_as x) ds
+
+abbrev pub is_scalar : Decl → Bool
+is_scalar d = not (is_some d.array_length)
+
+abbrev pub is_scalar_variable : Decl → Bool
+is_scalar_variable d = d.is_var && is_scalar d
+
+-- the basic expressions of a declaration's value
+abbrev pub parts : Option Expr → List Basic
+parts None = []
+parts (Some (One b)) = b ∷ []
+parts (Some (Several bs)) = bs
+
+-- those of a constraint's arguments
+abbrev pub parts_of_arguments : List Expr → List Basic
+parts_of_arguments es = flat_map (λ e. parts (Some e)) es
+
+-- ---- faults
+
+pub data FaultKind : Type 0 where
+  DuplicateName : FaultKind
+  UnknownName : FaultKind
+  WrongKind : FaultKind
+  WrongLength : FaultKind
+
+-- P holds of one of the list
+abbrev pub Some_of : {A : Type 0} → (A → Type 0) → List A → Type 0
+Some_of P [] = ⊥
+Some_of P (x ∷ xs) = P x ⊎ Some_of P xs
+
+-- each declaration with those before it
+pub record InOrder : Type 0 where
+  pub before : List Decl
+  pub here : Decl
+
+abbrev pub in_order_after : List Decl → List Decl → List InOrder
+in_order_after before [] = []
+in_order_after before (d ∷ ds) = record { before = before; here = d } ∷ in_order_after (before ++ d ∷ []) ds
+
+abbrev pub in_order : LocatedTree → List InOrder
+in_order t = in_order_after [] t.decls
+
+-- a literal or a name that the tree uses, with the declarations that are known there, and the kind that is wanted of it
+pub record Use : Type 0 where
+  pub what : Basic
+  pub known : List Decl
+  pub wanted : Option Kind
+
+abbrev pub use_of : List Decl → Option Kind → Basic → Use
+use_of known wanted b = record { what = b; known = known; wanted = wanted }
+
+abbrev pub goal_parts : Goal → List Basic
+goal_parts Satisfy = []
+goal_parts (Minimize b) = b ∷ []
+goal_parts (Maximize b) = b ∷ []
+
+-- Uses are the parts of declared values, where the declared kind is wanted; of the constraints' arguments, where any kind is; and
+-- the objective, which is to be a whole number.
+abbrev pub uses : LocatedTree → List Use
+uses t =
+    flat_map (λ o. map (use_of o.before (Some (kind_of_base o.here.base))) (parts o.here.value)) (in_order t)
+    ++ flat_map (λ c. map (use_of t.decls None) (parts_of_arguments c.args)) t.constraints
+    ++ map (use_of t.decls (Some IntKind)) (goal_parts t.solve.goal)
+
+-- a declared array's value has another number of elements than its length says
+abbrev pub differs_in_length : Decl → Bool
+differs_in_length d = option_map_or (λ n. not (length (parts d.value) == n)) d.array_length false
+
+-- what is declared is a scalar of the kind
+abbrev pub is_scalar_of : Kind → Decl → Bool
+is_scalar_of k d = is_scalar d && same_kind (kind_of_base d.base) k
+
+-- the name is not declared before its use
+abbrev pub UnknownAt : List Decl → Basic → Span → Type 0
+UnknownAt known (Lit l) at = ⊥
+UnknownAt known (Named x) at = IsFalse (declares known x.text) × (at ≡ x.span)
+
+-- the literal, or what the name declares, is no scalar of the kind that is wanted
+abbrev pub WrongKindAt : List Decl → Option Kind → Basic → Span → Type 0
+WrongKindAt known None b at = ⊥
+WrongKindAt known (Some k) (Lit l) at = IsFalse (same_kind (kind_of (literal_value l.what)) k) × (at ≡ l.span)
+WrongKindAt known (Some k) (Named x) at = IsSomeAnd (declaration known x.text) (λ d. IsFalse (is_scalar_of k d)) × (at ≡ x.span)
+
+-- The faults of a tree, each with its place. They are a set over the whole tree.
+abbrev pub HasFault : LocatedTree → FaultKind → Span → Type 0
+-- a name is declared twice: told at the later declaration
+HasFault t DuplicateName at = Some_of (λ o. IsTrue (declares o.before o.here.name.text) × (at ≡ o.here.name.span)) (in_order t)
+-- a name is used that no earlier item declares
+HasFault t UnknownName at = Some_of (λ u. UnknownAt u.known u.what at) (uses t)
+-- a declared value, an element of a declared array, or the objective is no scalar of the kind
+HasFault t WrongKind at = Some_of (λ u. WrongKindAt u.known u.wanted u.what at) (uses t)
+-- an array has another number of elements than its declared length: told at the declared name
+HasFault t WrongLength at = Some_of (λ d. IsTrue (differs_in_length d) × (at ≡ d.name.span)) t.decls
+
+abbrev pub HasNoFault : LocatedTree → Type 0
+HasNoFault t = (k : FaultKind) (at : Span) → HasFault t k at → ⊥
+
+-- a model is a tree with the shapes of the grammar, within the limits, and without faults
+pub record IsModelTree (t : LocatedTree) : Type 0 where
+  pub of_grammar : IsTree the_limits (bare_of t)
+  pub no_fault : HasNoFault t
+
+-- which is told of two faults at one place: at a name that it is declared twice
+abbrev pub rank : FaultKind → ℕ
+rank DuplicateName = 0
+rank UnknownName = 1
+rank WrongKind = 2
+rank WrongLength = 3
+
+abbrev pub NotAfter : FaultKind → Span → FaultKind → Span → Type 0
+NotAfter k at j there = (at.start < there.start) ⊎ ((at.start ≡ there.start) × (rank k ≤ rank j))
+
+-- the leftmost fault
+pub record IsFirstFault (t : LocatedTree) (k : FaultKind) (at : Span) : Type 0 where
+  pub is_fault : HasFault t k at
+  pub first : (j : FaultKind) (there : Span) → HasFault t j there → NotAfter k at j there
+
+-- ---- reading order
+
+abbrev pub span_of : Basic → Span
+span_of (Lit l) = l.span
+span_of (Named x) = x.span
+
+-- the places where faults are told, in reading order: of each declaration its name and the parts of its value, of each constraint the
+-- parts of its arguments, and the objective
+abbrev pub fault_places : LocatedTree → List Span
+fault_places t =
+    flat_map (λ d. d.name.span ∷ map span_of (parts d.value)) t.decls
+    ++ flat_map (λ c. map span_of (parts_of_arguments c.args)) t.constraints
+    ++ map span_of (goal_parts t.solve.goal)
+
+-- each begins after the one before it
+abbrev pub RiseFrom : ℕ → List Span → Type 0
+RiseFrom n [] = ⊤
+RiseFrom n (s ∷ ss) = (n ≤ s.start) × (s.start < s.end) × RiseFrom s.end ss
+
+-- the places of the tree are those of a source that is read from left to right
+abbrev pub IsInReadingOrder : LocatedTree → Type 0
+IsInReadingOrder t = RiseFrom 0 (fault_places t)
+
+-- ---- What a name stands for. In a tree with the shapes of the grammar and without faults each name is declared and each declaration has
+-- the parts that are read here; nothing rests on what stands for the others.
+
+abbrev pub scalar_variables : List Decl → List Decl
+scalar_variables ds = filter is_scalar_variable ds
+
+-- scalar variables are numbered from 0 in source order
+abbrev pub number_of : List Decl → List ℕ → ℕ
+number_of ds x = position_or_len (named_as x) (scalar_variables ds)
+
+abbrev pub literal_of : Option Expr → Value
+literal_of (Some (One (Lit l))) = literal_value l.what
+literal_of _ = Int (pos 0)
+
+-- a scalar is a variable, or stands for its literal's value
+abbrev pub scalar_term : List Decl → Decl → Term
+scalar_term ds d = cond d.is_var (Var (number_of ds d.name.text)) (Fixed (literal_of d.value))
+
+abbrev pub term_of : List Decl → Basic → Term
+term_of ds (Lit l) = Fixed (literal_value l.what)
+term_of ds (Named x) = option_map_or (scalar_term ds) (declaration ds x.text) (Fixed (Int (pos 0)))
+
+-- an array stands for the list of its elements
+abbrev pub place_of_declared : List Decl → Decl → Place
+place_of_declared ds d =
+    cond (is_scalar d) (Scalar (kind_of_base d.base) (scalar_term ds d)) (Array d.name.text (kind_of_base d.base) (map (term_of ds) (parts d.value)))
+
+abbrev pub place_of : List Decl → Basic → Place
+place_of ds (Lit l) = Scalar (kind_of (literal_value l.what)) (Fixed (literal_value l.what))
+place_of ds (Named x) = option_map_or (place_of_declared ds) (declaration ds x.text) (Array x.text IntKind [])
+
+-- ---- the model of a tree
+
+abbrev pub domain_of_literal : Option tree.Literal → Domain
+domain_of_literal None = All
+domain_of_literal (Some l) = elim l [ Range lo hi ↦ Within lo hi | Braces ns ↦ Among (set_of ns) | Number n ↦ All | TruthWord b ↦ All ]
+
+abbrev pub domain_of : tree.Base → Domain
+domain_of BoolBase = All
+domain_of (IntBase d) = domain_of_literal d
+domain_of (SetBase d) = domain_of_literal d
+
+abbrev pub variable_declared : Decl → Variable
+variable_declared d = record { name = d.name.text; kind = kind_of_base d.base; domain = domain_of d.base }
+
+abbrev pub definition_of : List Decl → Option Expr → Option Term
+definition_of ds (Some (One b)) = Some (term_of ds b)
+definition_of ds _ = None
+
+abbrev pub declared_of : List Decl → Decl → Declared
+declared_of ds d =
+    cond d.is_var
+    (cond (is_scalar d)
+    (ScalarVariable (variable_declared d) (definition_of ds d.value))
+    (ArrayOfVariables d.name.text (kind_of_base d.base) (domain_of d.base) (map (term_of ds) (parts d.value))))
+    (Parameter d.name.text (place_of_declared ds d))
+
+abbrev pub argument_of : List Decl → Expr → Argument
+argument_of ds (One b) = Argument.One (place_of ds b)
+argument_of ds (Several bs) = Argument.ListOf (map (place_of ds) bs)
+
+-- the variable that an annotation of the form defines_var(x) names
+abbrev pub scalar_variable_number : List Decl → List ℕ → Option ℕ
+scalar_variable_number ds x = cond (declares (scalar_variables ds) x) (Some (number_of ds x)) None
+
+abbrev pub defined_by : List Decl → tree.Note → Option ℕ
+defined_by ds (Called n (MoreArgs (OneBasic (Inner (Called x NoMoreArgs))) NoMoreArgs)) = cond (bytes_eq n (codes "defines_var")) (scalar_variable_number ds x) None
+defined_by ds _ = None
+
+abbrev pub posted_of : List Decl → Constraint → Posted
+posted_of ds c = record { name = c.name; arguments = map (argument_of ds) c.args; target = first_some (defined_by ds) c.notes }
+
+abbrev pub aim_of : List Decl → Goal → Aim
+aim_of ds Satisfy = Aim.Satisfy
+aim_of ds (Minimize b) = Aim.Minimize (term_of ds b)
+aim_of ds (Maximize b) = Aim.Maximize (term_of ds b)
+
+-- the model of a tree
+abbrev pub model_of : LocatedTree → Model
+model_of t = record {
+  declared = map (declared_of t.decls) t.decls;
+  constraints = map (posted_of t.decls) t.constraints;
+  aim = aim_of t.decls t.solve.goal;
+}

@@ -1,0 +1,69 @@
+-- What the parser's tree and a refusal of names stand for: the tree with its places, and the leftmost fault (this project's profile).
+use Rattle.std.specs.Prelude.{map, option_map, Option, ⊤}
+use Rattle.fz_syntax.specs.View.{bare_literal, bare_base, bare_notes, bare_predicate}
+use Rattle.fz_syntax.specs.declared.tree.Ast.{Ast}
+use Rattle.fz_syntax.specs.declared.tree.Basic as the_basic
+use Rattle.fz_syntax.specs.declared.tree.Basic.TheVariants as basics
+use Rattle.fz_syntax.specs.declared.tree.Constraint as the_constraint
+use Rattle.fz_syntax.specs.declared.tree.Decl as the_decl
+use Rattle.fz_syntax.specs.declared.tree.Expr as the_expr
+use Rattle.fz_syntax.specs.declared.tree.Expr.TheVariants as exprs
+use Rattle.fz_syntax.specs.declared.tree.Goal as the_goal
+use Rattle.fz_syntax.specs.declared.tree.Goal.TheVariants as goals
+use Rattle.fz_syntax.specs.declared.tree.Literal as the_literal
+use Rattle.fz_syntax.specs.declared.tree.Name as the_name
+use Rattle.fz_syntax.specs.declared.tree.Solve as the_solve
+use Rattle.fz_meaning.specs.declared.error.ModelError.{ModelError}
+use Rattle.fz_meaning.specs.declared.error.ModelError.TheVariants as errors
+use Rattle.fz_meaning.specs.Located.{Name, Literal, Basic, Expr, Decl, Constraint, Goal, Solve, LocatedTree}
+use Rattle.fz_meaning.specs.Located.Basic.{Lit, Named}
+use Rattle.fz_meaning.specs.Located.Expr.{One, Several}
+use Rattle.fz_meaning.specs.Located.Goal.{Satisfy, Minimize, Maximize}
+use Rattle.fz_meaning.specs.Names.{IsFirstFault, DuplicateName, UnknownName, WrongKind, WrongLength}
+
+-- ---- trees
+
+abbrev pub located_name : the_name.Name → Name
+located_name n = record { text = n.text.now; span = n.span }
+
+abbrev pub located_literal : the_literal.Literal → Literal
+located_literal l = record { what = bare_literal l; span = l.span }
+
+abbrev pub located_basic : the_basic.Basic → Basic
+located_basic (basics.Lit l) = Lit (located_literal l)
+located_basic (basics.Named name) = Named (located_name name)
+
+abbrev pub located_expr : the_expr.Expr → Expr
+located_expr (exprs.One b) = One (located_basic b)
+located_expr (exprs.List bs) = Several (map located_basic bs.items)
+
+abbrev pub located_value : Option the_expr.Expr → Option Expr
+located_value o = option_map located_expr o
+
+abbrev pub located_decl : the_decl.Decl → Decl
+located_decl d = record { is_var = d.is_var; array_length = d.length; base = bare_base d.base; name = located_name d.name; notes = bare_notes d.notes.items; value = located_value d.value }
+
+abbrev pub located_constraint : the_constraint.Constraint → Constraint
+located_constraint c = record { name = c.name.text.now; args = map located_expr c.args.items; notes = bare_notes c.notes.items }
+
+abbrev pub located_goal : the_goal.Goal → Goal
+located_goal goals.Satisfy = Satisfy
+located_goal (goals.Minimize b) = Minimize (located_basic b)
+located_goal (goals.Maximize b) = Maximize (located_basic b)
+
+abbrev pub located_solve : the_solve.Solve → Solve
+located_solve s = record { notes = bare_notes s.notes.items; goal = located_goal s.goal }
+
+-- the tree with its places
+abbrev pub located : Ast → LocatedTree
+located a = record { predicates = map bare_predicate a.predicates.items; decls = map located_decl a.decls.items; constraints = map located_constraint a.constraints.items; solve = located_solve a.solve }
+
+-- ---- refusals
+
+-- what a refusal tells of the tree: its leftmost fault, or nothing where memory ran out
+abbrev pub TellsFirstFault : LocatedTree → ModelError → Type 0
+TellsFirstFault t (errors.DuplicateName at) = IsFirstFault t DuplicateName at
+TellsFirstFault t (errors.UnknownName at) = IsFirstFault t UnknownName at
+TellsFirstFault t (errors.Kind at) = IsFirstFault t WrongKind at
+TellsFirstFault t (errors.Length at) = IsFirstFault t WrongLength at
+TellsFirstFault t errors.Memory = ⊤

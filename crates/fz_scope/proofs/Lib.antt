@@ -1,0 +1,11 @@
+pub mod Scan
+pub mod Found
+pub mod Steps
+pub mod Known
+pub mod Names
+pub mod Reading
+pub mod Table
+pub mod Refusals
+pub mod Whole
+pub mod Laid
+pub mod Targets

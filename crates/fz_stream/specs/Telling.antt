@@ -1,0 +1,72 @@
+-- What a refusal tells of the open block at which a stream stops (this project's profile).
+use Rattle.std.specs.Prelude.{◌≡◌, ◌≢◌, ℕ, ◌+◌, List, [], ◌∷◌, ◌++◌, length, Any, Option, Some, None}
+use Rattle.fz_syntax.specs.declared.tree.Printed.{Printed}
+use Rattle.fz_syntax.specs.Places.{IsPlacedWithin}
+use Rattle.fz_syntax.specs.Span.{Span}
+use Rattle.fz_syntax.specs.Spots.{Stand, item_spots}
+use Rattle.fz_syntax.specs.SyntaxError.{SyntaxError}
+use Rattle.fz_syntax.specs.Text.{IsTextOfItems}
+use Rattle.fz_syntax.specs.View.{bare_items}
+use Rattle.fz_stream.specs.declared.error.StreamError.{StreamError}
+use Rattle.fz_stream.specs.declared.error.StreamError.TheVariants.{TooLong, Item, DuplicateName, Unfinished, Memory, Failed}
+use Rattle.fz_stream.specs.declared.line.ClaimKind.{ClaimKind}
+use Rattle.fz_stream.specs.declared.line.LineKind.{LineKind}
+use Rattle.fz_stream.specs.declared.line.LineKind.TheVariants.{Marker, Claim}
+use Rattle.fz_stream.specs.Lines.{Line, joined, kind_of}
+use Rattle.fz_stream.specs.Moving.{moved_span, item_fault}
+use Rattle.fz_stream.specs.Parts.{StreamPart, HasDistinctNames, GoesOnAfter}
+
+-- The item is the first that prints a name again: the names of the items before it are distinct, and its own is one of them.
+pub record PrintsAgain (items : List Printed) (again : Printed) : Type 0 where
+  pub front : List Printed
+  pub rest : List Printed
+  pub items_are : items ≡ front ++ again ∷ rest
+  pub distinct : HasDistinctNames (bare_items front)
+  pub its_own : Any (λ p. p.name.text.now ≡ again.name.text.now) front
+
+-- The span is where the text, which begins at the offset, prints a name for the second time.
+pub record IsSecondPrinting (offset : ℕ) (text : List ℕ) (span : Span) : Type 0 where
+  pub items : List Printed
+  pub again : Printed
+  pub text_of : IsTextOfItems text (bare_items items)
+  pub stand : Stand text 0 (length text) (item_spots items)
+  pub prints : PrintsAgain items again
+  pub span_is : span ≡ moved_span offset again.name.span
+
+-- what a fault tells of a block's text, which begins at the offset
+abbrev pub TellsOfText : ℕ → List ℕ → StreamError → Type 0
+TellsOfText offset text (Item fault) = (own : SyntaxError) × IsPlacedWithin (length text) own × (Item fault ≡ item_fault offset own)
+TellsOfText offset text (DuplicateName span) = IsSecondPrinting offset text span
+TellsOfText offset text (Unfinished span) = ⊥
+TellsOfText offset text TooLong = ⊥
+TellsOfText offset text Failed = ⊥
+TellsOfText offset text Memory = Unit {0}
+
+-- the kind of the first line, where there is one
+abbrev pub first_kind : List Line → Option LineKind
+first_kind [] = None
+first_kind (line ∷ lines) = Some (kind_of line)
+
+-- no line, or a claim
+abbrev pub IsNoneOrClaim : Option LineKind → Type 0
+IsNoneOrClaim None = Unit {0}
+IsNoneOrClaim (Some kind) = (claim : ClaimKind) × (kind ≡ Claim claim)
+
+-- What a fault tells of an open block's text, which begins at the offset, and of what stands behind it: an unfinished
+-- block reaches up to a claim or the end of the stream, and other faults are those of a text that a marker closes.
+abbrev pub TellsOf : ℕ → List ℕ → Option LineKind → StreamError → Type 0
+TellsOf offset text behind (Unfinished span) = IsNoneOrClaim behind × (span.start ≡ offset) × (span.end ≡ offset + length text)
+TellsOf offset text behind (Item fault) = (behind ≡ Some Marker) × TellsOfText offset text (Item fault)
+TellsOf offset text behind (DuplicateName span) = (behind ≡ Some Marker) × TellsOfText offset text (DuplicateName span)
+TellsOf offset text behind TooLong = ⊥
+TellsOf offset text behind Failed = ⊥
+TellsOf offset text behind Memory = Unit {0}
+
+-- The stream stops after the parts: a block is open, and the fault tells of it and of what stands behind it.
+pub record StopsAfter (bytes : List ℕ) (parts : List StreamPart) (fault : StreamError) : Type 0 where
+  pub gap : List Line
+  pub body : List Line
+  pub rest : List Line
+  pub stands : GoesOnAfter bytes parts gap body rest
+  pub begun : body ≢ []
+  pub tells : TellsOf (length (joined stands.covers.covered) + length (joined gap)) (joined body) (first_kind rest) fault

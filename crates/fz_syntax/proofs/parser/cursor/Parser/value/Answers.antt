@@ -1,0 +1,8 @@
+use Rattle.fz_syntax.proofs.Walks.{walk_skip}
+use Rattle.fz_syntax.proofs.parser.cursor.Parser.value.Goals as goal
+
+pub returns-in_ok-expr_list-in-true-Some-clause-walked : goal.returns-in_ok-expr_list-in-true-Some-clause-walked
+returns-in_ok-expr_list-in-true-Some-clause-walked c = walk_skip c.in_ok-expect-in-true-Some.ensures.walked c.in_ok-expr_list-in-true-Some.ensures.walked
+
+pub returns-in_ok-literal_list-in-false-Some-clause-walked : goal.returns-in_ok-literal_list-in-false-Some-clause-walked
+returns-in_ok-literal_list-in-false-Some-clause-walked c = walk_skip c.in_ok-expect-in-false-Some.ensures.walked c.in_ok-literal_list-in-false-Some.ensures.walked

@@ -1,0 +1,693 @@
+#!/usr/bin/env python3
+"""A second reader of the rules: slow.py MODEL STREAM prints the report that docs/REPORT.md asks for.
+
+It follows docs/LANGUAGE.md, BUILTINS.md, STREAM.md, FILLING.md and REPORT.md in the plainest way, shares
+nothing with the checker, and serves to work out reports. It leaves out the limits on lengths and depths,
+and sets are listed number by number, so large ones are slow."""
+import re
+import sys
+
+TOKEN = re.compile(
+    rb"(?P<blank>[ \t\r\n]+|%[^\n]*)|(?P<word>[A-Za-z_][A-Za-z0-9_]*)"
+    rb"|(?P<float>-?[0-9]+(?:\.[0-9]+(?:[eE][+-]?[0-9]+)?|[eE][+-]?[0-9]+))"
+    rb"|(?P<whole>-?(?:0x[0-9A-Fa-f]+|0o[0-7]+|[0-9]+))"
+    rb'|(?P<string>"(?:[^"\\\n]|\\[^\n])*")|(?P<mark>::|\.\.|[()\[\]{},;:=])'
+)
+RESERVED = set(
+    "predicate array of var bool int float set constraint solve satisfy minimize maximize true false".split()
+)
+CLAIMS = {"=" * 10} | {"=====" + w + "=====" for w in "UNSATISFIABLE UNKNOWN UNBOUNDED UNSATorUNBOUNDED ERROR".split()}
+LEAST, MOST = -(2**63), 2**63 - 1
+
+
+class Refused(Exception):
+    """What is refused (model, stream, block N), the fault's name and its place."""
+
+    def __init__(self, what, name, start, end):
+        super().__init__(f"refused: {what}: {name} at {start}..{end}")
+        self.what, self.name, self.start, self.end = what, name, start, end
+
+
+class Token:
+    def __init__(self, sort, text, start, end, value=None):
+        self.sort, self.text, self.start, self.end, self.value = sort, text, start, end, value
+
+
+def number_of(text):
+    sign, digits = (-1, text[1:]) if text.startswith("-") else (1, text)
+    base = {"0x": 16, "0o": 8}.get(digits[:2], 10)
+    return sign * int(digits[2:] if base != 10 else digits, base)
+
+
+def tokens_of(source, what):
+    at, tokens = 0, []
+    while at < len(source):
+        found = TOKEN.match(source, at)
+        if not found:
+            raise Refused(what, "BadByte", at, at + 1)
+        sort, text, end = found.lastgroup, found[0].decode("latin-1"), found.end()
+        value = number_of(text) if sort == "whole" else None
+        if value is not None and not LEAST <= value <= MOST:
+            raise Refused(what, "TooLarge", at, end)
+        if sort == "word":
+            sort = text if text in RESERVED else "name"
+        if sort == "mark":
+            sort = text
+        if sort != "blank":
+            tokens.append(Token(sort, text, at, end, value))
+        at = end
+    tokens.append(Token("end", "", len(source), len(source)))
+    return tokens
+
+
+class Literal:
+    def __init__(self, kind, raw, start, end):
+        self.kind, self.raw, self.start, self.end = kind, raw, start, end
+
+    @property
+    def value(self):
+        return frozenset(self.raw) if isinstance(self.raw, range) else self.raw
+
+
+class Reader:
+    """Reads the grammar; a method for each of its rules."""
+
+    def __init__(self, source, what):
+        self.what, self.tokens, self.at = what, tokens_of(source, what), 0
+
+    @property
+    def next(self):
+        return self.tokens[self.at]
+
+    def fail(self):
+        t = self.next
+        raise Refused(self.what, "Float" if t.sort == "float" else "Syntax", t.start, t.end)
+
+    def take(self, *sorts):
+        if self.next.sort not in sorts:
+            self.fail()
+        self.at += 1
+        return self.tokens[self.at - 1]
+
+    def has(self, sort):
+        if self.next.sort == sort:
+            self.at += 1
+            return True
+        return False
+
+    def some(self, one, close):
+        """One or more with commas between them, or none before the closing mark."""
+        items = []
+        if self.next.sort != close:
+            items.append(one())
+            while self.has(","):
+                items.append(one())
+        self.take(close)
+        return items
+
+    def literal(self):
+        t = self.take("whole", "true", "false", "{")
+        if t.sort == "{":
+            numbers = self.some(lambda: self.take("whole").value, "}")
+            return Literal("S", frozenset(numbers), t.start, self.tokens[self.at - 1].end)
+        if t.sort != "whole":
+            return Literal("B", t.sort == "true", t.start, t.end)
+        if not self.has(".."):
+            return Literal("I", t.value, t.start, t.end)
+        high = self.take("whole")
+        return Literal("S", range(t.value, high.value + 1), t.start, high.end)
+
+    def basic(self):
+        return self.take("name") if self.next.sort == "name" else self.literal()
+
+    def arg(self):
+        return self.some(self.basic, "]") if self.has("[") else self.basic()
+
+    def bounds(self):
+        if self.has("int"):
+            return None
+        if self.next.sort not in ("whole", "{"):
+            self.fail()
+        found = self.literal()
+        if found.kind == "I":
+            self.fail()
+        return found.raw
+
+    def base(self):
+        if self.has("bool"):
+            return "B", None
+        if self.has("set"):
+            self.take("of")
+            return "S", self.bounds()
+        return "I", self.bounds()
+
+    def plain(self):
+        sort = self.take("bool", "int", "set").sort
+        if sort == "set":
+            self.take("of")
+            self.take("int")
+        return {"bool": "B", "int": "I", "set": "S"}[sort]
+
+    def size(self):
+        if self.next.value != 1:
+            self.fail()
+        self.at += 1
+        self.take("..")
+        if self.next.sort != "whole" or self.next.value < 0:
+            self.fail()
+        return self.take("whole").value
+
+    def predicate(self):
+        self.take("name")
+        self.take("(")
+        self.some(self.parameter, ")")
+        self.take(";")
+
+    def parameter(self):
+        if self.has("array"):
+            self.take("[")
+            if not self.has("int"):
+                self.size()
+            self.take("]")
+            self.take("of")
+        self.has("var")
+        self.base()
+        self.take(":")
+        self.take("name")
+
+    def notes(self):
+        found = []
+        while self.has("::"):
+            found.append(self.note())
+        return found
+
+    def note(self):
+        """The name and the arguments."""
+        name, args = self.take("name").text, []
+        if self.has("("):
+            if self.next.sort == ")":
+                self.fail()
+            args = self.some(self.note_arg, ")")
+        return name, args
+
+    def note_arg(self):
+        return self.some(self.note_basic, "]") if self.has("[") else self.note_basic()
+
+    def note_basic(self):
+        if self.next.sort == "name":
+            return self.note()
+        return self.take("float", "string") if self.next.sort in ("float", "string") else self.literal()
+
+    def declaration(self):
+        length = None
+        if self.has("array"):
+            self.take("[")
+            length = self.size()
+            self.take("]")
+            self.take("of")
+        is_var = self.has("var")
+        kind, bounds = self.base() if is_var else (self.plain(), None)
+        self.take(":")
+        name = self.take("name")
+        self.notes()
+        value = None
+        if not is_var or length is not None or self.next.sort == "=":
+            self.take("=")
+            one = self.basic if is_var else self.literal
+            if length is None:
+                value = one()
+            else:
+                self.take("[")
+                value = self.some(one, "]")
+        self.take(";")
+        return is_var, length, kind, bounds, name, value
+
+    def model(self):
+        while self.has("predicate"):
+            self.predicate()
+        declarations, constraints = [], []
+        while self.next.sort in ("array", "var", "bool", "int", "set"):
+            declarations.append(self.declaration())
+        while self.has("constraint"):
+            name = self.take("name").text
+            self.take("(")
+            args = self.some(self.arg, ")")
+            constraints.append((name, args, self.notes()))
+            self.take(";")
+        self.take("solve")
+        self.notes()
+        goal = self.take("satisfy", "minimize", "maximize").sort
+        objective = None if goal == "satisfy" else self.basic()
+        self.take(";")
+        self.take("end")
+        return declarations, constraints, goal, objective
+
+    def items(self):
+        found = []
+        while not self.has("end"):
+            name = self.take("name")
+            self.take("=")
+            found.append((name, self.printed()))
+            self.take(";")
+        return found
+
+    def printed(self):
+        word = self.next
+        if not re.fullmatch("array[1-6]d", word.text):
+            return self.literal()
+        self.at += 1
+        self.take("(")
+        for _ in range(int(word.text[5])):
+            self.bounds() if self.next.sort != "int" else self.fail()
+            self.take(",")
+        self.take("[")
+        elements = self.some(self.literal, "]")
+        self.take(")")
+        return elements
+
+
+# The table: kinds, the result's place (none: -1) and, from the other arguments, the result or whether it holds.
+
+
+def quotient(a, b):
+    q = abs(a) // abs(b)
+    return q if (a < 0) == (b < 0) else -q
+
+
+def total(a, b):
+    """The sum from the left, or none where a partial sum leaves 128 bits."""
+    s = 0
+    for x, y in zip(a, b):
+        s += x * y
+        if not -(2**127) <= s < 2**127:
+            raise OverflowError
+    return s
+
+
+def element(a, b):
+    return b[a - 1] if 1 <= a <= len(b) else None
+
+
+TESTS = {
+    "int_eq": ("I I", lambda a, b: a == b),
+    "int_ne": ("I I", lambda a, b: a != b),
+    "int_le": ("I I", lambda a, b: a <= b),
+    "int_lt": ("I I", lambda a, b: a < b),
+    "int_lin_eq": ("[I] [I] I", lambda a, b, c: total(a, b) == c),
+    "int_lin_ne": ("[I] [I] I", lambda a, b, c: total(a, b) != c),
+    "int_lin_le": ("[I] [I] I", lambda a, b, c: total(a, b) <= c),
+    "bool_eq": ("B B", lambda a, b: a == b),
+    "bool_le": ("B B", lambda a, b: a <= b),
+    "bool_lt": ("B B", lambda a, b: a < b),
+    "set_in": ("I S", lambda a, b: a in b),
+    "set_eq": ("S S", lambda a, b: a == b),
+    "set_ne": ("S S", lambda a, b: a != b),
+    "set_subset": ("S S", lambda a, b: a <= b),
+    "set_superset": ("S S", lambda a, b: a >= b),
+}
+OTHER_TESTS = {
+    "fzn_all_different_int": ("[I]", lambda a: len(set(a)) == len(a)),
+    "array_bool_xor": ("[B]", lambda a: sum(a) % 2 == 1),
+    "bool_clause": ("[B] [B]", lambda a, b: any(a) or not all(b)),
+    "bool_lin_le": ("[I] [B] I", lambda a, b, c: sum(x for x, y in zip(a, b) if y) <= c),
+}
+RESULTS = {
+    "int_plus": ("I I I", 2, lambda a, b: a + b),
+    "int_times": ("I I I", 2, lambda a, b: a * b),
+    "int_min": ("I I I", 2, min),
+    "int_max": ("I I I", 2, max),
+    "int_abs": ("I I", 1, abs),
+    "int_div": ("I I I", 2, lambda a, b: quotient(a, b) if b else None),
+    "int_mod": ("I I I", 2, lambda a, b: a - b * quotient(a, b) if b else None),
+    "array_int_element": ("I [I] I", 2, element),
+    "array_var_int_element": ("I [I] I", 2, element),
+    "array_int_maximum": ("I [I]", 0, lambda b: max(b, default=None)),
+    "array_int_minimum": ("I [I]", 0, lambda b: min(b, default=None)),
+    "bool_and": ("B B B", 2, lambda a, b: a and b),
+    "bool_or": ("B B B", 2, lambda a, b: a or b),
+    "bool_xor": ("B B B", 2, lambda a, b: a != b),
+    "array_bool_and": ("[B] B", 1, all),
+    "array_bool_or": ("[B] B", 1, any),
+    "array_bool_element": ("I [B] B", 2, element),
+    "array_var_bool_element": ("I [B] B", 2, element),
+    "bool_lin_eq": ("[I] [B] I", 2, lambda a, b: sum(x for x, y in zip(a, b) if y)),
+    "set_union": ("S S S", 2, lambda a, b: a | b),
+    "set_intersect": ("S S S", 2, lambda a, b: a & b),
+    "set_diff": ("S S S", 2, lambda a, b: a - b),
+    "set_symdiff": ("S S S", 2, lambda a, b: a ^ b),
+    "set_card": ("S I", 1, len),
+    "array_set_element": ("I [S] S", 2, element),
+    "array_var_set_element": ("I [S] S", 2, element),
+}
+# Rows of which either side may be filled: how a side follows from the other.
+EITHER = {
+    "int_eq": ("I I", lambda b: b, lambda a: a),
+    "bool_eq": ("B B", lambda b: b, lambda a: a),
+    "set_eq": ("S S", lambda b: b, lambda a: a),
+    "bool_not": ("B B", lambda b: not b, lambda a: not a),
+    "bool2int": ("B I", lambda b: {0: False, 1: True}.get(b), int),
+}
+
+
+def same(a, b):
+    """Equal, and of one kind."""
+    return isinstance(a, bool) == isinstance(b, bool) and a == b
+
+
+class Row:
+    """A row: the kinds, the places that may be filled, whether it holds, and the value of a place."""
+
+    def __init__(self, name):
+        base = name.removesuffix("_reif")
+        self.known, self.linear = True, base.startswith(("int_lin", "bool_lin"))
+        self.element_is_result = name == "int_lin_eq"
+        self.either = EITHER.get(name)
+        if self.either:
+            self.kinds, self.results = self.either[0].split(), {0, 1}
+        elif name in RESULTS:
+            kinds, place, self.value = RESULTS[name]
+            self.kinds, self.results = kinds.split(), {place}
+        elif name in TESTS or name in OTHER_TESTS:
+            kinds, self.test = (TESTS | OTHER_TESTS)[name]
+            self.kinds, self.results, self.value = kinds.split(), set(), None
+        elif name != base and base in TESTS:
+            kinds, self.value = TESTS[base]
+            self.kinds = kinds.split() + ["B"]
+            self.results = {len(self.kinds) - 1}
+        else:
+            self.known = False
+
+    def value_at(self, place, args):
+        """The one value of a result place, or none."""
+        if self.either:
+            return self.either[1 + place](args[1 - place])
+        return self.value(*(a for i, a in enumerate(args) if i != place))
+
+    def holds(self, args):
+        if self.either:
+            wanted = self.either[2](args[0])
+            return same(wanted, args[1])
+        if not self.results:
+            return self.test(*args)
+        place = min(self.results)
+        value = self.value_at(place, args)
+        return value is not None and same(value, args[place])
+
+
+class Model:
+    """Scalars are ('var', number) or ('fixed', value); an array is a list of them with its kind."""
+
+    def __init__(self, source):
+        declarations, constraints, self.goal, objective = Reader(source, "model").model()
+        self.names, self.variables, self.points = {}, [], []
+        for declaration in declarations:
+            self.declare(*declaration)
+        self.constraints = [self.constraint(*c) for c in constraints]
+        self.objective = None
+        if objective is not None:
+            kind, self.objective = self.scalar(objective)
+            if kind != "I":
+                raise Refused("model", "Kind", objective.start, objective.end)
+
+    def scalar(self, basic, wanted=None):
+        """The kind and the term of a literal or a name of a scalar."""
+        if isinstance(basic, Literal):
+            kind, term = basic.kind, ("fixed", basic.value)
+        else:
+            if basic.text not in self.names:
+                raise Refused("model", "UnknownName", basic.start, basic.end)
+            kind, term = self.names[basic.text]
+        if wanted and kind != wanted:
+            raise Refused("model", "Kind", basic.start, basic.end)
+        return kind, term
+
+    def declare(self, is_var, length, kind, bounds, name, value):
+        if name.text in self.names:
+            raise Refused("model", "DuplicateName", name.start, name.end)
+        if length is not None:
+            if len(value) != length:
+                raise Refused("model", "Length", name.start, name.end)
+            terms = [self.scalar(v, kind)[1] for v in value]
+            self.names[name.text] = (f"[{kind}]", terms)
+            if is_var and bounds is not None:
+                self.points.append(("array", name.text, bounds, terms))
+            return
+        term = None if value is None else self.scalar(value, kind)[1]
+        if not is_var:
+            self.names[name.text] = (kind, term)
+            return
+        own = ("var", len(self.variables))
+        self.points.append(("domain", name.text, bounds, own))
+        if term is not None:
+            self.points.append(("definition", name.text, own, term))
+        self.variables.append((name.text, kind))
+        self.names[name.text] = (kind, own)
+
+    def constraint(self, name, args, notes):
+        """The name, the row or none, the arguments, the target or none."""
+        row, found = Row(name), []
+        for arg in args:
+            if isinstance(arg, list):
+                terms = [self.scalar(a) for a in arg]
+                kinds = {k for k, _ in terms}
+                kind = f"[{kinds.pop()}]" if len(kinds) == 1 else "[]" if not kinds else "[mixed]"
+                found.append((kind, [t for _, t in terms]))
+            else:
+                found.append(self.scalar(arg))
+        fits = row.known and len(row.kinds) == len(found) and all(
+            k == want or (k == "[]" and want.startswith("[")) for (k, _), want in zip(found, row.kinds)
+        )
+        if fits and row.linear:
+            fits = len(found[0][1]) == len(found[1][1])
+        target = None
+        for note, note_args in notes:
+            if note == "defines_var" and len(note_args) == 1 and isinstance(note_args[0], tuple):
+                inner, more = note_args[0]
+                kind, term = self.names.get(inner, (None, None)) if not more else (None, None)
+                if isinstance(term, tuple) and term[0] == "var":
+                    target = term
+                    break
+        return name, row if fits else None, [t for _, t in found], target
+
+
+class Values(dict):
+    """The values of variables by number."""
+
+    def of(self, term):
+        if isinstance(term, list):
+            found = [self.of(t) for t in term]
+            return None if None in found else found
+        return term[1] if term[0] == "fixed" else self.get(term[1])
+
+
+def inside(value, bounds):
+    if bounds is None:
+        return True
+    return all(x in bounds for x in value) if isinstance(value, frozenset) else value in bounds
+
+
+def state_of(point, values):
+    sort, name, a, b = point
+    if sort == "array":
+        found = [values.of(t) for t in b]
+        if any(v is not None and not inside(v, a) for v in found):
+            return "fails"
+        return "no value" if None in found else "holds"
+    if sort == "domain":
+        value = values.of(b)
+        return "no value" if value is None else "holds" if inside(value, a) else "fails"
+    left, right = values.of(a), values.of(b)
+    if left is None or right is None:
+        return "no value"
+    return "holds" if same(left, right) else "fails"
+
+
+def state_of_constraint(constraint, values):
+    name, row, args, target = constraint
+    if row is None:
+        return "unknown"
+    found = [values.of(a) for a in args]
+    if any(v is None for v in found):
+        return "no value"
+    try:
+        return "holds" if row.holds(found) else "fails"
+    except OverflowError:
+        return "too large"
+
+
+def holds_one(bounds):
+    return bounds.start + 1 == bounds.stop if isinstance(bounds, range) else len(bounds) == 1
+
+
+def step_of(point, values):
+    """The variable's number and its value, where a declaration's point forces one."""
+    sort, name, a, b = point
+    if sort == "domain" and values.of(b) is None and a is not None and holds_one(a):
+        return b[1], next(iter(a))
+    if sort == "definition":
+        for unset, other in ((a, b), (b, a)):
+            if values.of(unset) is None and values.of(other) is not None:
+                return unset[1], values.of(other)
+    return None
+
+
+def step_of_constraint(constraint, values):
+    name, row, args, target = constraint
+    if row is None or target is None or values.of(target) is not None:
+        return None
+    flat = [t for a in args for t in (a if isinstance(a, list) else [a])]
+    if flat.count(target) != 1 or any(t != target and values.of(t) is None for t in flat):
+        return None
+    try:
+        if row.element_is_result and target in args[1]:
+            at = args[1].index(target)
+            factors = values.of(args[0])
+            rest = [0 if t == target else values.of(t) for t in args[1]]
+            if factors[at] not in (1, -1):
+                return None
+            value = (values.of(args[2]) - total(factors, rest)) * factors[at]
+        else:
+            place = next((p for p in row.results if args[p] == target), None)
+            if place is None:
+                return None
+            value = row.value_at(place, [None if a == target else values.of(a) for a in args])
+    except OverflowError:
+        return None
+    whole = isinstance(value, int) and not isinstance(value, bool)
+    if value is None or (whole and not LEAST <= value <= MOST):
+        return None
+    return target[1], value
+
+
+def filled(model, values):
+    """Passes over the points until one sets nothing."""
+    kinds = [k for _, k in model.variables]
+    again = True
+    while again:
+        again = False
+        steps = [lambda p=p: step_of(p, values) for p in model.points]
+        steps += [lambda c=c: step_of_constraint(c, values) for c in model.constraints]
+        for step in steps:
+            found = step()
+            if found and not (kinds[found[0]] == "S" and not isinstance(found[1], frozenset)):
+                values[found[0]] = found[1]
+                again = True
+    return values
+
+
+def start_of(model, items, number, offset):
+    """The printed values; a block that doesn't fit the model is refused."""
+    what = f"block {number}"
+    values = Values()
+    for name, printed in items:
+        place = offset + name.start, offset + name.end
+        if name.text not in model.names:
+            raise Refused(what, "UnknownName", *place)
+        kind, term = model.names[name.text]
+        if isinstance(term, list) != isinstance(printed, list):
+            raise Refused(what, "Kind", *place)
+        if isinstance(printed, list) and len(printed) != len(term):
+            raise Refused(what, "Length", *place)
+        for literal in printed if isinstance(printed, list) else [printed]:
+            if literal.kind != kind.strip("[]"):
+                raise Refused(what, "Kind", offset + literal.start, offset + literal.end)
+    for name, printed in items:
+        term = model.names[name.text][1]
+        pairs = zip(term, printed) if isinstance(printed, list) else [(term, printed)]
+        for t, literal in pairs:
+            if t[0] == "var":
+                values.setdefault(t[1], literal.value)
+    return values
+
+
+def verdict_on(model, items, values, before):
+    """The verdict's words, and the objective's value."""
+    now = None if model.objective is None else values.of(model.objective)
+    for name, printed in items:
+        wanted = [p.value for p in printed] if isinstance(printed, list) else printed.value
+        if values.of(model.names[name.text][1]) != wanted:
+            return f"violated: printed {name.text}", now
+    undecided = None
+    for point in model.points:
+        state = state_of(point, values)
+        if state == "fails":
+            sort = "definition" if point[0] == "definition" else "domain"
+            return f"violated: {sort} of {point[1]}", now
+        if state == "no value" and undecided is None:
+            undecided = f"undecided: no value for {point[1]}"
+    for number, constraint in enumerate(model.constraints, 1):
+        state = state_of_constraint(constraint, values)
+        if state == "fails":
+            return f"violated: constraint {number} {constraint[0]}", now
+        if state == "unknown" and undecided is None:
+            undecided = f"undecided: constraint {number} {constraint[0]} not known"
+        if state == "too large" and undecided is None:
+            undecided = f"undecided: constraint {number} too large"
+    if now is not None and before is not None:
+        if not (now < before if model.goal == "minimize" else now > before):
+            return f"violated: objective {now} not better than {before}", now
+    return undecided or "satisfied", now
+
+
+def parts_of(stream):
+    """Claims as text, and blocks as their offset and items."""
+    at, opened = 0, None
+    for line in stream.splitlines(True) if stream else []:
+        bare = line.strip(b" \t\r\n")
+        if bare == b"-" * 10:
+            offset = at if opened is None else opened
+            try:
+                items = Reader(stream[offset:at], "stream").items()
+            except Refused as e:
+                raise Refused("stream", e.name, offset + e.start, offset + e.end) from None
+            seen = set()
+            for name, _ in items:
+                if name.text in seen:
+                    raise Refused("stream", "DuplicateName", offset + name.start, offset + name.end)
+                seen.add(name.text)
+            yield offset, items
+            opened = None
+        elif bare.decode("latin-1") in CLAIMS:
+            if opened is not None:
+                raise Refused("stream", "Unfinished", opened, at)
+            yield bare.decode(), None
+        elif bare and not bare.startswith(b"%") and opened is None:
+            opened = at
+        at += len(line)
+    if opened is not None:
+        raise Refused("stream", "Unfinished", opened, at)
+
+
+def report(model, stream):
+    """The lines of the report as they are known."""
+    model = Model(model)
+    verdicts, before = [], None
+    for where, items in parts_of(stream):
+        if items is None:
+            yield f"claim: {where} not judged"
+            continue
+        number = len(verdicts) + 1
+        values = filled(model, start_of(model, items, number, where))
+        words, before = verdict_on(model, items, values, before)
+        verdicts.append(words)
+        yield f"block {number}: {words}"
+    for sort, answer in (("violated", "rejected"), ("undecided", "undecided")):
+        for number, words in enumerate(verdicts, 1):
+            if words.startswith(sort):
+                yield f"{answer}: block {number}"
+                return
+    yield f"accepted: blocks {len(verdicts)}" if verdicts else "no blocks"
+
+
+def main():
+    with open(sys.argv[1], "rb") as f, open(sys.argv[2], "rb") as g:
+        model, stream = f.read(), g.read()
+    try:
+        for line in report(model, stream):
+            print(line)
+    except Refused as e:
+        print(e)
+
+
+if __name__ == "__main__":
+    main()
