@@ -6,6 +6,7 @@
 #![tactic(auto)]
 
 mod measured;
+mod model;
 mod phase;
 mod stream;
 mod text;

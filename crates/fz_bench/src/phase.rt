@@ -1,4 +1,5 @@
 use crate::measured::{Measured, quicker};
+use crate::model::run_load;
 use crate::stream::{run_blocks, run_splitter};
 use crate::text::{run_lex, run_parse, run_to_text};
 use crate::whole::run_check;
@@ -7,7 +8,9 @@ use anyhow::{Context, Result, bail};
 use std::fs;
 
 /// The words of the phases. One more phase is a word here, a line of `run`, and the function that it names.
-const PHASES: [&str; 6] = ["lex", "parse", "to_text", "blocks", "splitter", "check"];
+const PHASES: [&str; 7] = [
+    "lex", "parse", "to_text", "load", "blocks", "splitter", "check",
+];
 
 /// The word that stands for each phase in turn.
 const EACH: &str = "each";
@@ -77,6 +80,7 @@ fn run(rt: &HostRuntime, phase: &str, files: Files<'_>) -> Result<Measured> {
         "lex" => run_lex(rt, files.model),
         "parse" => run_parse(rt, files.model),
         "to_text" => run_to_text(rt, files.model),
+        "load" => run_load(rt, files.model),
         "blocks" => run_blocks(rt, files.stream),
         "splitter" => run_splitter(rt, files.stream),
         "check" => run_check(rt, files.model, files.stream),
