@@ -1,5 +1,5 @@
 -- Loops over a list: one more element, and the first answer.
-use Rattle.std.proofs.Common.{◌≡◌, ℕ, zero, suc, ◌+◌, ◌<◌, ◌≤◌, min, true, false, List, [], ◌∷◌, ◌++◌, map, option_map, length, get_or, take, drop, Option, Some, None, is_some, refl, sym, ap, ◌∙◌, add-one, drop-cons, arith}
+use Rattle.std.proofs.Common.{◌≡◌, ℕ, zero, suc, ◌+◌, ◌<◌, ◌≤◌, min, Bool, true, false, List, [], ◌∷◌, ◌++◌, map, option_map, length, get_or, take, drop, Option, Some, None, is_some, Result, Ok, Err, IfOk, refl, sym, ap, ◌∙◌, add-one, drop-cons, arith}
 use Rattle.std.specs.Option.{option_or}
 use Rattle.std.proofs.lemmas.List.{take-append-drop, map-append, take_all, at_drop_more}
 use Rattle.std.proofs.Math.Seq.{take-suc}
@@ -49,11 +49,15 @@ pub not_some : {A : Type 0} (o : Option A) → is_some o ≡ false → o ≡ Non
 not_some None e = refl
 not_some (Some x) e = cc
 
+pub map_none : {A B : Type 0} (f : A → B) (o : Option A) → option_map f o ≡ None → o ≡ None
+map_none f None e = refl
+map_none f (Some x) e = cc
+
 pub map_is_some : {A B : Type 0} (f : A → B) (o : Option A) → is_some (option_map f o) ≡ is_some o
 map_is_some f None = refl
 map_is_some f (Some x) = refl
 
-or_some : {A : Type 0} (o p : Option A) → is_some o ≡ true → option_or o p ≡ o
+pub or_some : {A : Type 0} (o p : Option A) → is_some o ≡ true → option_or o p ≡ o
 or_some None p e = cc
 or_some (Some x) p e = refl
 
@@ -71,3 +75,27 @@ first_found f g xs i x h e none here =
 -- none up to the end
 pub first_ends : {A B C : Type 0} (f : B → Option C) (g : A → B) (xs : List A) (i : ℕ) → length xs ≤ i → first_some f (map g (take i xs)) ≡ None → first_some f (map g xs) ≡ None
 first_ends f g xs i h none = ap (λ ys. first_some f (map g ys)) (sym (take_all i xs h)) ∙ none
+
+-- what is told through a function is told where there is an answer
+pub told_is_some : {A B : Type 0} (r : A → B) (o : Option B) (p : Option A) (b : Bool) → o ≡ option_map r p → is_some o ≡ b → is_some p ≡ b
+told_is_some r o p b e h = sym (map_is_some r p) ∙ ap is_some (sym e) ∙ h
+
+pub seen_is_some : {A B : Type 0} (v : B → A) (o : Option B) (p : Option A) (b : Bool) → option_map v o ≡ p → is_some o ≡ b → is_some p ≡ b
+seen_is_some v o p b e h = ap is_some (sym e) ∙ map_is_some v o ∙ h
+
+-- where nothing is answered of a list, nothing is answered of an element
+pub none_at : {A B C : Type 0} (f : B → Option C) (g : A → B) (xs : List A) (i : ℕ) (x : A) → i < length xs → x ≡ get_or xs i x → first_some f (map g xs) ≡ None → f (g x) ≡ None
+none_at f g xs i x h e none =
+    let parts : option_or (first_some f (map g (take i xs))) (option_or (f (g x)) (first_some f (map g (drop (i + 1) xs)))) ≡ None =
+    sym (ap (first_some f) (whole_at g xs i x h e) ∙ first_append f (map g (take i xs)) (g x ∷ map g (drop (i + 1) xs))) ∙ none in
+    (or_none (f (g x)) (first_some f (map g (drop (i + 1) xs))) (or_none (first_some f (map g (take i xs))) (option_or (f (g x)) (first_some f (map g (drop (i + 1) xs)))) parts).1).0
+  where
+    or_none : {D : Type 0} (o p : Option D) → option_or o p ≡ None → (o ≡ None) × (p ≡ None)
+    or_none None p e = (refl, e)
+    or_none (Some y) p e = cc
+
+-- ---- what follows from what is said of a result
+
+pub ok_then : {T E : Type 0} (r : Result T E) {P Q : T → Type 0} → IfOk r P → ((x : T) → P x → Q x) → IfOk r Q
+ok_then (Ok x) h f = f x h
+ok_then (Err e) h f = tt

@@ -6,6 +6,9 @@ use Rattle.fz_model.specs.Values.{same_value, same_values}
 use Rattle.fz_model.specs.Meaning.{Partial, option_cons, value, values}
 use Rattle.fz_model.specs.declared.Term.{Term}
 use Rattle.fz_model.proofs.Values.{no, same_value_is, value_itself}
+use Rattle.fz_model.specs.View.{located_literal}
+use Rattle.fz_syntax.specs.declared.tree.Literal as the_literal
+use Rattle.fz_verdict.specs.Blocks.{printed_values}
 use Rattle.fz_judge.specs.Working.{has_value, have_values}
 
 -- a test that holds exactly for equal values is `same_value`
@@ -43,3 +46,7 @@ are_same K (t ∷ ts) (v ∷ vs) = ap (λ b. has_value K (t, v) && b) (are_same 
     one_more None os = refl
     one_more (Some u) None = and_false (same_value u v)
     one_more (Some u) (Some us) = refl
+
+pub located_length : (ls : List the_literal.Literal) → length (printed_values (map located_literal ls)) ≡ length ls
+located_length [] = refl
+located_length (l ∷ ls) = ap suc (located_length ls)

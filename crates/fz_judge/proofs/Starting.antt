@@ -1,5 +1,6 @@
 -- The start of a filling: printed values taken one after another.
 use Rattle.std.proofs.Common.{◌≡◌, ℕ, zero, suc, ◌+◌, ◌<◌, true, false, not, cond, ◌==◌, List, [], ◌∷◌, ◌++◌, map, length, Option, Some, None, option_map, slice_get, is_none, IfSome, refl, sym, ap, subst, ◌∙◌, arith, add-zero, zero-add, append_assoc, eqb-true}
+use Rattle.std.proofs.lemmas.Bool.{eqb-false}
 use Rattle.std.specs.Prelude.{⊤, Bool, slice_set}
 use Rattle.std.specs.List.{AllByRecursion}
 use Rattle.std.specs.Option.{option_map_or, option_or}
@@ -50,11 +51,7 @@ other_number : (k n : ℕ) (v : Value) → (k ≡ n → ⊥) → if_var n (Var k
 other_number k n v h = (elim (k == n) as (λ b. (k == n) ≡ b → cond b (Some v) None ≡ None) [ true ↦ λ e. absurd (h (eqb-true k n e)) | false ↦ λ _. refl ]) refl
 
 own_number : (n : ℕ) (v : Value) → if_var n (Var n, v) ≡ Some v
-own_number n v = ap (λ b. cond b (Some v) None) (itself n)
-  where
-    itself : (n : ℕ) → (n == n) ≡ true
-    itself zero = refl
-    itself (suc n) = itself n
+own_number n v = (elim (n == n) as (λ b. (n == n) ≡ b → cond b (Some v) None ≡ Some v) [ true ↦ λ _. refl | false ↦ λ e. absurd (eqb-false n n e refl) ]) refl
 
 -- no variable with an earlier number is meant
 earlier : (qs : List (Term × Value)) (k : ℕ) (v : Value) (n : ℕ) (xs : List Variable) → k < n → start_from (qs ++ (Var k, v) ∷ []) n xs ≡ start_from qs n xs

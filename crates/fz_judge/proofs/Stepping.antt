@@ -103,3 +103,6 @@ nothing_left m K fits none = each (points m)
     each : (ps : List Point) → AllByRecursion (GivesNothing m K) ps
     each [] = tt
     each (p ∷ ps) = (gives_nothing p, each ps)
+
+pub at_some : {A : Type 0} (P : A → Type 0) (o : Option A) (x : A) → o ≡ Some x → IfSome o P → P x
+at_some P o x e h = subst (λ p. IfSome p P) e h

@@ -7,7 +7,7 @@ use Rattle.fz_model.specs.Meaning.{Model, Partial, Point, PointName, points, sta
 use Rattle.fz_verdict.specs.Verdict.{Fault, Reason, Verdict, fault_at, fault_named, first_unset, point_fails, point_undecided, reason_at, verdict_by}
 use Rattle.fz_verdict.specs.Verdict.Verdict.{Satisfied, Violated, Undecided}
 use Rattle.fz_judge.specs.Working.{is_failed, reason_named, with_objective}
-use Rattle.fz_judge.proofs.Lists.{first_append}
+use Rattle.fz_judge.proofs.Lists.{first_append, or_some}
 
 -- ---- the objective after the points
 
@@ -69,3 +69,33 @@ module _ {A B : Type 0} (f : A → Option B) (ps : List A) (i : ℕ) (p : A) (at
       or_nothing : {C : Type 0} (o : Option C) → option_or o None ≡ o
       or_nothing None = refl
       or_nothing (Some x) = refl
+
+-- ---- a point by its number
+
+told_point : (ps : List Point) (i : ℕ) (p : Point) (q : PointName) → option_map shown_point (slice_get ps i) ≡ Some q → slice_get ps i ≡ Some p → shown_point p ≡ q
+told_point ps i p q told at = let same : Some (shown_point p) ≡ Some q = sym (ap (option_map shown_point) at) ∙ told in cc
+
+module _ (m : Model) (K : Partial) (i : ℕ) (s : State) (q : PointName) (within : i < length (points m)) (is : (p : Point) → slice_get (points m) i ≡ Some p → s ≡ state K p) (told : option_map shown_point (slice_get (points m) i) ≡ Some q) where
+  pub point_violates : (f : Fault) → first_some (point_fails K) (take i (points m)) ≡ None → is_failed s ≡ true → f ≡ fault_named q → Violated f ≡ verdict_by (first_some (point_fails K) (points m)) (first_some (point_undecided m K) (points m))
+  point_violates f none failed named =
+      let (p, at) = there_is (points m) i within in
+      let here : point_fails K p ≡ Some f = ap (fault_at p) (sym (is p at)) ∙ fails_named p s q failed (told_point (points m) i p q told at) ∙ ap Some (sym named) in
+      ap (λ o. verdict_by o (first_some (point_undecided m K) (points m))) (sym (first_at (point_fails K) (points m) i p at f none here))
+
+  pub point_passes : first_some (point_fails K) (take i (points m)) ≡ None → is_failed s ≡ false → first_some (point_fails K) (take (i + 1) (points m)) ≡ None
+  point_passes none passed =
+      let (p, at) = there_is (points m) i within in
+      first_so_far (point_fails K) (points m) i p at ∙ (λ j. option_or (none j) (point_fails K p)) ∙ ap (fault_at p) (sym (is p at)) ∙ not_failed p s passed
+
+  -- the first reason is this point's
+  pub reason_here : (r : Option Reason) → first_some (point_undecided m K) (take i (points m)) ≡ None → r ≡ reason_named (first_unset (variables_of m) K) q s → r ≡ first_some (point_undecided m K) (take (i + 1) (points m))
+  reason_here r none named =
+      let (p, at) = there_is (points m) i within in
+      named ∙ undecided_named m K p s q (told_point (points m) i p q told at) ∙ ap (reason_at m K p) (is p at)
+      ∙ sym (first_so_far (point_undecided m K) (points m) i p at ∙ (λ j. option_or (none j) (point_undecided m K p)))
+
+  -- or an earlier one's
+  pub reason_before : is_some (first_some (point_undecided m K) (take i (points m))) ≡ true → first_some (point_undecided m K) (take i (points m)) ≡ first_some (point_undecided m K) (take (i + 1) (points m))
+  reason_before some =
+      let (p, at) = there_is (points m) i within in
+      sym (first_so_far (point_undecided m K) (points m) i p at ∙ or_some (first_some (point_undecided m K) (take i (points m))) (point_undecided m K p) some)
