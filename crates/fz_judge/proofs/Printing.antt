@@ -1,5 +1,5 @@
 -- Printed values beside scalars: whether each scalar has its value.
-use Rattle.std.proofs.Common.{◌≡◌, ◌≢◌, ℕ, suc, Bool, true, false, ◌&&◌, ◌↔◌, IsTrue, List, [], ◌∷◌, map, option_map, length, Option, Some, None, refl, sym, ap, ◌∙◌, subst}
+use Rattle.std.proofs.Common.{◌≡◌, ◌≢◌, suc, Bool, true, false, ◌&&◌, ◌↔◌, IsTrue, List, [], ◌∷◌, map, length, Option, Some, None, refl, sym, ap, ◌∙◌, subst}
 use Rattle.std.specs.Option.{option_map_or}
 use Rattle.fz_base.specs.declared.value.Value.{Value}
 use Rattle.fz_model.specs.Values.{same_value, same_values}

@@ -1,7 +1,7 @@
 -- The start of a filling: printed values taken one after another.
-use Rattle.std.proofs.Common.{◌≡◌, ℕ, zero, suc, ◌+◌, ◌<◌, true, false, not, cond, ◌==◌, List, [], ◌∷◌, ◌++◌, map, length, Option, Some, None, option_map, slice_get, is_none, IfSome, refl, sym, ap, subst, ◌∙◌, arith, add-zero, zero-add, append_assoc, eqb-true}
+use Rattle.std.proofs.Common.{◌≡◌, ℕ, zero, suc, ◌+◌, ◌<◌, true, false, not, cond, ◌==◌, List, [], ◌∷◌, ◌++◌, map, length, Option, Some, None, option_map, slice_get, is_none, refl, sym, ap, subst, ◌∙◌, arith, add-zero, zero-add, append_assoc, eqb-true}
 use Rattle.std.proofs.lemmas.Bool.{eqb-false}
-use Rattle.std.specs.Prelude.{⊤, Bool, slice_set}
+use Rattle.std.specs.Prelude.{Bool, slice_set}
 use Rattle.std.specs.List.{AllByRecursion}
 use Rattle.std.specs.Option.{option_map_or, option_or}
 use Rattle.fz_base.specs.declared.value.Value.{Value}
@@ -14,12 +14,12 @@ use Rattle.fz_model.specs.Kinds.{TermFits, PlaceFits}
 use Rattle.fz_model.specs.Located.{Name, Literal}
 use Rattle.fz_model.specs.Names.{literal_value}
 use Rattle.fz_model.specs.Partial.{nothing_for}
-use Rattle.fz_model.specs.Shown.{what_place, found_place}
+use Rattle.fz_model.specs.Shown.{what_place}
 use Rattle.fz_model.specs.Meaning.{Place, Variable, Model, Partial, give, value_at, variables_of, find_name, first_some, FitVariables, IsPartial}
 use Rattle.fz_model.specs.Meaning.Place.{Scalar, Array}
 use Rattle.fz_model.specs.Steps.{kind_at}
 use Rattle.fz_model.specs.Values.{kind_of, same_kind}
-use Rattle.fz_model.proofs.Lists.{all_append, all_map}
+use Rattle.fz_model.proofs.Lists.{all_map}
 use Rattle.fz_model.proofs.Scope.{same_kind_is}
 use Rattle.fz_verdict.specs.Blocks.{Printed, PrintedValue, printed_values, literal_fault, fault_if, value_fault, printed_fault}
 use Rattle.fz_verdict.specs.Blocks.PrintedValue.{OneValue, ArrayOf}
@@ -31,7 +31,6 @@ use Rattle.fz_judge.specs.Working.{IsWithin, terms_of_what, with_first, with_all
 -- ---- one more value
 
 printed_more : (qs : List (Term × Value)) (q : Term × Value) (n : ℕ) → first_printed (qs ++ q ∷ []) n ≡ option_or (first_printed qs n) (if_var n q)
-
 printed_more [] q n = nothing (if_var n q)
   where
     nothing : {A : Type 0} (o : Option A) → option_or o None ≡ o

@@ -1,10 +1,9 @@
 -- The chain of the filling: the first step, and the end where each variable has a value.
-use Rattle.std.proofs.Common.{◌≡◌, ℕ, zero, suc, ◌+◌, ◌<◌, ◌≤◌, ◌⊎◌, inl, inr, List, [], ◌∷◌, length, Option, Some, None, option_map, slice_get, is_none, IfSome, IsNone, refl, sym, ap, subst, ◌∙◌, arith}
+use Rattle.std.proofs.Common.{◌≡◌, ℕ, zero, suc, ◌+◌, ◌<◌, ◌≤◌, ◌⊎◌, inl, inr, List, [], ◌∷◌, length, Option, Some, None, slice_get, IfSome, refl, sym, ap, subst, ◌∙◌, arith}
 use Rattle.std.specs.List.{AllByRecursion}
 use Rattle.fz_base.specs.declared.value.Value.{Value}
-use Rattle.fz_model.specs.declared.Kind.{Kind}
-use Rattle.fz_model.specs.Meaning.{Variable, Model, Point, Partial, give, value_at, variables_of, points, IsPartial}
-use Rattle.fz_model.specs.Steps.{Gives, GivesNothing, kind_at, terms_of}
+use Rattle.fz_model.specs.Meaning.{Model, Point, Partial, give, value_at, variables_of, points, IsPartial}
+use Rattle.fz_model.specs.Steps.{GivesNothing, terms_of}
 use Rattle.fz_model.specs.Values.{kind_of}
 use Rattle.fz_model.proofs.Steps.{only_open_none}
 use Rattle.fz_verdict.specs.Filling.{IsFirstStep}

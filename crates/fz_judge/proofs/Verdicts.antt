@@ -4,8 +4,8 @@ use Rattle.std.specs.Option.{option_or}
 use Rattle.fz_model.specs.declared.State.{State}
 use Rattle.fz_model.specs.declared.State.TheVariants.{Holds, Fails, NoValue, Unknown, TooLarge}
 use Rattle.fz_model.specs.Meaning.{Model, Partial, Point, PointName, points, state, first_some, shown_point, variables_of}
-use Rattle.fz_verdict.specs.Verdict.{Fault, Reason, Verdict, fault_at, fault_named, first_unset, point_fails, point_undecided, reason_at, verdict_by}
-use Rattle.fz_verdict.specs.Verdict.Verdict.{Satisfied, Violated, Undecided}
+use Rattle.fz_verdict.specs.Verdict.{Fault, Reason, fault_at, fault_named, first_unset, point_fails, point_undecided, reason_at, verdict_by}
+use Rattle.fz_verdict.specs.Verdict.Verdict.{Violated}
 use Rattle.fz_judge.specs.Working.{is_failed, reason_named, with_objective}
 use Rattle.fz_judge.proofs.Lists.{first_append, or_some}
 

@@ -47,11 +47,7 @@ fn moved_error(error: BlockError, offset: usize) -> BlockError
 /// # Errors
 ///
 /// The fault of the first printed item that has one, at its place in the stream, and want of memory.
-pub fn fill(
-    alloc: Global,
-    model: &Model<'_>,
-    block: &Block<'_>,
-) -> Result<Partial, BlockError>
+pub fn fill(alloc: Global, model: &Model<'_>, block: &Block<'_>) -> Result<Partial, BlockError>
     ensures filled { IfOk result (λ F. IsFilled model.now (located_block block.now) F) }
     ensures kinds { IfOk result (λ F. IsPartial model.now F) }
     // Of a block as `fz_stream` reads it: its places lie in its text, and its text ends within the numbers.

@@ -51,10 +51,7 @@ fn verdict_under<'a>(
     }
     let points = points_verdict(alloc, model, partial)?;
     let now = objective(model, partial);
-    Ok(with_objective(
-        points,
-        objective_fails(model.goal(), before, now),
-    ))
+    Ok(with_objective(points, objective_fails(model.goal(), before, now)))
 }
 
 /// A model with the objective of the block that was judged last.

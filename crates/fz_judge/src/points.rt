@@ -68,10 +68,7 @@ fn undecided<'a>(
     ensures { option_map reason_view result ≡ reason_named (first_unset (variables_of model.now) partial.now) (point_name point.entry) state }
 {
     match state {
-        State::NoValue => Some(Reason::NoValue(first_unset(
-            model.variables(),
-            partial.values(),
-        ))),
+        State::NoValue => Some(Reason::NoValue(first_unset(model.variables(), partial.values()))),
         State::Unknown => not_known(point),
         State::TooLarge => too_large(point),
         State::Holds => None,

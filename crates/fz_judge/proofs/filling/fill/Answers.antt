@@ -1,4 +1,4 @@
-use Rattle.std.proofs.Common.{◌-◌, ◌≤◌, length, sym, subst, arith}
+use Rattle.std.proofs.Common.{sym, subst, arith}
 use Rattle.fz_verdict.specs.Blocks.{block_fault, items_fault}
 use Rattle.fz_verdict.specs.View.{located_block, located_items}
 use Rattle.fz_judge.specs.Judged.{TellsFault}

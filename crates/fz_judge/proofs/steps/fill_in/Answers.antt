@@ -1,5 +1,5 @@
-use Rattle.std.proofs.Common.{◌≡◌, ◌<◌, ◌-◌, suc, length, None, is_some, sym, ap, subst, ◌∙◌, arith}
-use Rattle.fz_model.specs.Meaning.{IsPartial, give, value_at}
+use Rattle.std.proofs.Common.{◌≡◌, suc, is_some, sym, ap, subst, arith}
+use Rattle.fz_model.specs.Meaning.{IsPartial, give}
 use Rattle.fz_verdict.proofs.Loops.{Reaches, reaches_after, reaches_end}
 use Rattle.fz_judge.specs.Working.{unset_count}
 use Rattle.fz_judge.proofs.Stepping.{at_some, nothing_left, one_less, step_fits, step_unset, step_within}

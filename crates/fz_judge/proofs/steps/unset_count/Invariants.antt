@@ -1,4 +1,4 @@
-use Rattle.std.proofs.Common.{◌≡◌, ◌+◌, ◌≤◌, drop, length, take}
+use Rattle.std.proofs.Common.{◌≡◌, ◌+◌, ◌≤◌, drop}
 use Rattle.fz_judge.specs.Working.{unset_count}
 use Rattle.fz_judge.proofs.steps.unset_count.Given as goal
 
