@@ -1,0 +1,2 @@
+pub mod SetRelations
+pub mod Different
