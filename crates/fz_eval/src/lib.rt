@@ -1,0 +1,13 @@
+//! The state of a check point under a partial assignment: whether a domain, a definition or a constraint holds, fails or cannot be told.
+#![tactic(auto)]
+
+mod builtins;
+mod constraints;
+mod domains;
+mod numbers;
+mod outcome;
+mod sets;
+mod state;
+mod truths;
+
+pub use state::state;
