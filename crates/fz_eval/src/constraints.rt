@@ -11,6 +11,7 @@ ghost use Rattle.fz_eval.specs.Readings.{ints};
 
 use crate::builtins::of_builtin;
 use crate::outcome::Outcome;
+use crate::sums::sums_leave;
 use fz_data::{ConstraintParts, Partial};
 use fz_meaning::State;
 use fz_scene::{Readiness, Scene, no_numbers};
@@ -51,7 +52,7 @@ fn of_scene(alloc: Global, known: Known, scene: &Scene<'_, '_>) -> Result<State,
 fn is_too_large(known: Known, scene: &Scene<'_, '_>) -> bool
     ensures { result ≡ ((known_row known).sums_in_128 && leaves_128 (products (ints scene.now 0) (ints scene.now 1))) }
 {
-    known.sums_in_128() && scene.sums_leave()
+    known.sums_in_128() && sums_leave(scene)
 }
 
 // The row's outcome: of a form with a truth value, whether its last argument says what the base row comes to.

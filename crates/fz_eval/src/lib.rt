@@ -1,6 +1,7 @@
 //! The state of a check point under a partial assignment: whether a domain, a definition or a constraint holds, fails or cannot be told.
 #![tactic(auto)]
 
+mod arrays;
 mod builtins;
 mod constraints;
 mod domains;
@@ -8,6 +9,7 @@ mod numbers;
 mod outcome;
 mod sets;
 mod state;
+mod sums;
 mod truths;
 
 pub use state::state;

@@ -4,6 +4,7 @@
 //! Numbers go in as 64 bits and are reckoned with exactly: no sum, product or quotient wraps or is refused.
 #![tactic(auto)]
 
+pub mod arrays;
 pub mod distinct;
 pub mod numbers;
 pub mod sets;
