@@ -1,5 +1,5 @@
 -- The outcome of each row at the values that are given, in the words of the table.
-use Rattle.std.proofs.Common.{◌≡◌, ℤ, pos, ◌+ℤ◌, ◌*ℤ◌, Bool, true, false, not, ◌&&◌, ◌||◌, List, [], ◌∷◌, map, length, filter, ap, int_le, int_lt, int_div, int_rem, unsigned_abs}
+use Rattle.std.proofs.Common.{◌≡◌, pos, ◌+ℤ◌, ◌*ℤ◌, not, ◌&&◌, ◌||◌, List, map, length, filter, ap, int_le, int_lt, int_div, int_rem, unsigned_abs}
 use Rattle.std.specs.Int.{int_min, int_max}
 use Rattle.std.specs.List.{list_all, list_any}
 use Rattle.std.specs.FinSet as sets

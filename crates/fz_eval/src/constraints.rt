@@ -24,7 +24,7 @@ pub(crate) fn of_constraint(
     parts: ConstraintParts<'_, '_>,
     partial: &Partial,
 ) -> Result<State, AllocError>
-    requires known { option_map known_row parts.entry.known ≡ row_of (posted_view parts.entry.variables.now parts.entry.arrays.now parts.entry.posted.now) }
+    requires known { option_map known_row parts.known ≡ row_of (posted_view parts.variables.now parts.arrays.now parts.posted.now) }
     ensures { IfOk result (λ s. s ≡ state_of_row partial.now (posted_view parts.entry.variables.now parts.entry.arrays.now parts.entry.posted.now).arguments (row_of (posted_view parts.entry.variables.now parts.entry.arrays.now parts.entry.posted.now))) }
 {
     let Some(known) = parts.known else {

@@ -7,9 +7,9 @@ mod constraints;
 mod domains;
 mod numbers;
 mod outcome;
+mod points;
 mod sets;
-mod state;
 mod sums;
 mod truths;
 
-pub use state::state;
+pub use points::state;
