@@ -15,7 +15,7 @@ use std::alloc::{AllocError, Global};
 
 /// Whether the element at the index is the third argument.
 pub(crate) fn int_element(scene: &Scene<'_, '_>) -> bool
-    ensures { result ≡ (is_element ◌=ℤ◌ (int scene.now 0) (ints scene.now 1) (int scene.now 2)) }
+    ensures { result ≡ is_element ◌=ℤ◌ (int scene.now 0) (ints scene.now 1) (int scene.now 2) }
 {
     is_int_element(scene.int(0), &scene.elements(1), scene.int(2))
 }
@@ -36,35 +36,35 @@ pub(crate) fn int_minimum(scene: &Scene<'_, '_>) -> bool
 
 /// Whether no two elements are equal.
 pub(crate) fn int_all_different(alloc: Global, scene: &Scene<'_, '_>) -> Result<bool, AllocError>
-    ensures { IfOk result (λ r. r ≡ (all_different (ints scene.now 0))) }
+    ensures { IfOk result (λ r. r ≡ all_different (ints scene.now 0)) }
 {
     all_elements_different(alloc, &scene.elements(0))
 }
 
 /// Whether the second argument says whether all elements are true.
 pub(crate) fn bool_all(scene: &Scene<'_, '_>) -> bool
-    ensures { result ≡ ((truth scene.now 1) =ᴮ list_all (λ x. x) (truths scene.now 0)) }
+    ensures { result ≡ (truth scene.now 1 =ᴮ list_all (λ x. x) (truths scene.now 0)) }
 {
     scene.truth(1) == all_true(&scene.elements(0))
 }
 
 /// Whether the second argument says whether an element is true.
 pub(crate) fn bool_any(scene: &Scene<'_, '_>) -> bool
-    ensures { result ≡ ((truth scene.now 1) =ᴮ list_any (λ x. x) (truths scene.now 0)) }
+    ensures { result ≡ (truth scene.now 1 =ᴮ list_any (λ x. x) (truths scene.now 0)) }
 {
     scene.truth(1) == any_true(&scene.elements(0))
 }
 
 /// Whether an odd number of elements is true.
 pub(crate) fn bool_odd(scene: &Scene<'_, '_>) -> bool
-    ensures { result ≡ (is_odd (length (filter (λ x. x) (truths scene.now 0)))) }
+    ensures { result ≡ is_odd (length (filter (λ x. x) (truths scene.now 0))) }
 {
     odd_number_true(&scene.elements(0))
 }
 
 /// Whether the element at the index is the third argument.
 pub(crate) fn bool_element(scene: &Scene<'_, '_>) -> bool
-    ensures { result ≡ (is_element ◌=ᴮ◌ (int scene.now 0) (truths scene.now 1) (truth scene.now 2)) }
+    ensures { result ≡ is_element ◌=ᴮ◌ (int scene.now 0) (truths scene.now 1) (truth scene.now 2) }
 {
     is_bool_element(scene.int(0), &scene.elements(1), scene.truth(2))
 }
@@ -78,21 +78,21 @@ pub(crate) fn bool_clause(scene: &Scene<'_, '_>) -> bool
 
 /// Whether the sum of the numbers at true places is the third argument.
 pub(crate) fn bool_lin_eq(scene: &Scene<'_, '_>) -> bool
-    ensures { result ≡ (total (where_true (ints scene.now 0) (truths scene.now 1)) =ℤ (int scene.now 2)) }
+    ensures { result ≡ (total (where_true (ints scene.now 0) (truths scene.now 1)) =ℤ int scene.now 2) }
 {
     sum_where_true(&scene.elements(0), &scene.elements(1)) == i128::from(scene.int(2))
 }
 
 /// Whether the sum of the numbers at true places is at most the third argument.
 pub(crate) fn bool_lin_le(scene: &Scene<'_, '_>) -> bool
-    ensures { result ≡ (int_le (total (where_true (ints scene.now 0) (truths scene.now 1))) (int scene.now 2)) }
+    ensures { result ≡ int_le (total (where_true (ints scene.now 0) (truths scene.now 1))) (int scene.now 2) }
 {
     sum_where_true(&scene.elements(0), &scene.elements(1)) <= i128::from(scene.int(2))
 }
 
 /// Whether the element at the index is the third argument.
 pub(crate) fn set_element(scene: &Scene<'_, '_>) -> bool
-    ensures { result ≡ (is_element ◌=ˢ◌ (int scene.now 0) (sets_of scene.now 1) (numbers scene.now 2)) }
+    ensures { result ≡ is_element ◌=ˢ◌ (int scene.now 0) (sets_of scene.now 1) (numbers scene.now 2) }
 {
     is_set_element(scene.int(0), &scene.elements(1), scene.set(2))
 }
