@@ -1,0 +1,41 @@
+-- What is judged of a block, and why a block is refused (this project's profile).
+use Rattle.std.specs.Prelude.{◌≡◌, ℤ, Option, Some, ⊤}
+use Rattle.fz_base.specs.declared.span.Span.{Span}
+use Rattle.fz_model.specs.Meaning.{Model, Partial, objective}
+use Rattle.fz_verdict.specs.Blocks.{Block, BlockFault, BlockFaultKind, block_fault}
+use Rattle.fz_verdict.specs.Blocks.BlockFaultKind.{UnknownName, WrongKind, WrongLength}
+use Rattle.fz_verdict.specs.Verdict.{Verdict, IsFilled, verdict}
+use Rattle.fz_judge.specs.declared.error.BlockError.{BlockError}
+use Rattle.fz_judge.specs.declared.error.BlockError.TheVariants as errors
+
+-- a judge: the model, and the objective of the block before
+pub record JudgeState : Type 0 where
+  pub model : Model
+  pub before : Option ℤ
+
+-- The verdict on a block is the one under its filling, compared with the objective before, and the objective under that filling is kept.
+pub record IsJudged (m : Model) (block : Block) (before : Option ℤ) (v : Verdict) (kept : Option ℤ) : Type 0 where
+  pub filling : Partial
+  pub is_filled : IsFilled m block filling
+  pub verdict_is : v ≡ verdict m filling block before
+  pub kept_is : kept ≡ objective m filling
+
+-- the error tells the fault, where it is not for want of memory
+abbrev pub TellsFault : BlockError → Option BlockFault → Type 0
+TellsFault (errors.UnknownName at) f = f ≡ Some (record { kind = UnknownName; at = at })
+TellsFault (errors.Kind at) f = f ≡ Some (record { kind = WrongKind; at = at })
+TellsFault (errors.Length at) f = f ≡ Some (record { kind = WrongLength; at = at })
+TellsFault errors.Memory f = ⊤
+
+-- a block is refused for its fault, at its place in the stream, or for want of memory
+abbrev pub IsBlockRefusal : Model → Block → BlockError → Type 0
+IsBlockRefusal m block e = TellsFault e (block_fault m block)
+
+-- the refusal that tells a fault
+abbrev pub refusal_at : BlockFaultKind → Span → BlockError
+refusal_at UnknownName at = errors.UnknownName at
+refusal_at WrongKind at = errors.Kind at
+refusal_at WrongLength at = errors.Length at
+
+abbrev pub refusal : BlockFault → BlockError
+refusal f = refusal_at f.kind f.at
