@@ -12,3 +12,6 @@ pub use error::CheckError;
 pub use fz_judge::{BlockError, Fault, Judge, Reason, Verdict, fill};
 pub use refusal::{refusal_text, status};
 pub use report::{Answer, Report, report_text};
+
+#[cfg(test)]
+mod tests;
