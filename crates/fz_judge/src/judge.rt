@@ -1,17 +1,60 @@
-ghost use Rattle.std.specs.Prelude.{◌≡◌, IfErr, IfOk, None};
+//! A judge: blocks, one after another, against a model.
+
+ghost use Rattle.std.specs.Prelude.{◌≡◌, IfErr, IfOk, None, option_map};
 ghost use Rattle.fz_stream.specs.Found.{EndsWithin, HasPlaces};
-ghost use Rattle.fz_verdict.specs.Verdict.{IsFilled};
-ghost use Rattle.fz_verdict.specs.View.{located_block};
+ghost use Rattle.fz_verdict.specs.Blocks.{items_fault};
+ghost use Rattle.fz_verdict.specs.Verdict.{verdict, verdict_by};
+ghost use Rattle.fz_verdict.specs.View.{located_block, located_items};
 ghost use Rattle.fz_judge.specs.Judged.{IsBlockRefusal, IsJudged};
-ghost use Rattle.fz_judge.specs.View.{verdict_view};
+ghost use Rattle.fz_judge.specs.View.{fault_view, verdict_view};
+ghost use Rattle.fz_judge.specs.Working.{with_objective};
 
 use crate::error::BlockError;
-use crate::verdict::Verdict;
+use crate::filling::fill;
+use crate::points::{objective, objective_fails, points_verdict};
+use crate::printed::printed_fails;
+use crate::verdict::{Fault, Verdict};
 use fz_model::{Model, Partial};
 use fz_stream::Block;
-use std::alloc::Global;
+use std::alloc::{AllocError, Global};
 
-/// Judges one block after another, and keeps the objective of the block before.
+/// The verdict where the printed names and the points have this one, and the objective may fail.
+fn with_objective<'a>(points: Verdict<'a>, objective: Option<Fault<'a>>) -> Verdict<'a>
+    ensures { verdict_view result ≡ with_objective (verdict_view points.entry) (option_map fault_view objective.entry) }
+{
+    match points {
+        Verdict::Violated(fault) => Verdict::Violated(fault),
+        Verdict::Undecided(reason) => match objective {
+            Some(fault) => Verdict::Violated(fault),
+            None => Verdict::Undecided(reason),
+        },
+        Verdict::Satisfied => match objective {
+            Some(fault) => Verdict::Violated(fault),
+            None => Verdict::Satisfied,
+        },
+    }
+}
+
+/// The verdict on a block under the values: each printed name, each point and the objective is looked at again, whatever gave the values.
+fn verdict_under<'a>(
+    alloc: Global,
+    model: &Model<'a>,
+    partial: &Partial,
+    block: &Block<'_>,
+    before: Option<i64>,
+) -> Result<Verdict<'a>, AllocError>
+    requires clean { items_fault model.now (located_items block.now.items.items) ≡ None }
+    ensures { IfOk result (λ v. verdict_view v ≡ verdict model.now partial.now (located_block block.now) before) }
+{
+    if let Some(fault) = printed_fails(alloc, model, partial, &block.items)? {
+        return Ok(Verdict::Violated(fault));
+    }
+    let points = points_verdict(alloc, model, partial)?;
+    let now = objective(model, partial);
+    Ok(with_objective(points, objective_fails(model.goal(), before, now)))
+}
+
+/// A model with the objective of the block that was judged last.
 #[derive(Drop)]
 pub struct Judge<'m, 'a> {
     model: &'m Model<'a>,
@@ -31,7 +74,7 @@ impl<'m, 'a> std::marker::Model for Judge<'m, 'a> {
 }
 
 impl<'m, 'a> Judge<'m, 'a> {
-    /// A judge that has judged no block.
+    /// A judge of a model's blocks, before the first one.
     pub fn new(model: &'m Model<'a>) -> Judge<'m, 'a>
         ensures { result ≡ record { model = model.now; before = None } }
     {
@@ -41,21 +84,23 @@ impl<'m, 'a> Judge<'m, 'a> {
         }
     }
 
-    /// The verdict on the next block.
-    pub fn judge(&mut self, _alloc: Global, block: &Block<'_>) -> Result<Verdict<'a>, BlockError>
+    /// The verdict on the next block, under its filling: the first that fails of the printed names in block order, then the points, then
+    /// the objective, which is to be better than that of the block before; else the first point that is undecided. After an error the
+    /// judge is unchanged.
+    ///
+    /// # Errors
+    ///
+    /// The fault of the first printed item that has one, at its place in the stream, and want of memory.
+    pub fn judge(&mut self, alloc: Global, block: &Block<'_>) -> Result<Verdict<'a>, BlockError>
         ensures judged { IfOk result (λ v. IsJudged self.old.model (located_block block.now) self.old.before (verdict_view v) self.new.before) }
         ensures same_model { self.new.model ≡ self.old.model }
-        ensures unchanged { IfErr result (λ e. self.new ≡ self.old) }
+        ensures unchanged { IfErr result (λ _. self.new ≡ self.old) }
+        // Of a block as `fz_stream` reads it: its places lie in its text, and its text ends within the numbers.
         ensures refused { IfErr result (λ e. HasPlaces block.now → EndsWithin usize.MAX block.now → IsBlockRefusal self.old.model (located_block block.now) e) }
     {
-        Err(BlockError::Memory)
+        let filling = fill(alloc, self.model, block)?;
+        let verdict = verdict_under(alloc, self.model, &filling, block, self.before)?;
+        self.before = objective(self.model, &filling);
+        Ok(verdict)
     }
-}
-
-/// The filling of a block.
-pub fn fill(_alloc: Global, model: &Model<'_>, block: &Block<'_>) -> Result<Partial, BlockError>
-    ensures filled { IfOk result (λ p. IsFilled model.now (located_block block.now) p) }
-    ensures refused { IfErr result (λ e. HasPlaces block.now → EndsWithin usize.MAX block.now → IsBlockRefusal model.now (located_block block.now) e) }
-{
-    Err(BlockError::Memory)
 }

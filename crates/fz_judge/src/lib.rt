@@ -1,10 +1,19 @@
-//! Judging one solution block after another against a model.
+//! Judging solution blocks against a model, one after another: the fault of a block, its filling, and the verdict on it. The inner crate
+//! below `fz_check`, which offers all of it.
 #![tactic(auto)]
 
 mod error;
+mod faults;
+mod filling;
 mod judge;
+mod points;
+mod printed;
+mod start;
+mod steps;
+mod values;
 mod verdict;
 
 pub use error::BlockError;
-pub use judge::{Judge, fill};
+pub use filling::fill;
+pub use judge::Judge;
 pub use verdict::{Fault, Reason, Verdict};

@@ -2,6 +2,8 @@
 //! have the definitions, the table of builtins, the theory of faults, and the loaded model.
 #![tactic(auto)]
 
+mod stubs;
+
 pub use fz_data::{
     Argument, Array, ArrayName, ConstraintParts, Found, Goal, Model, Partial, Place, Point,
     PointParts, Posted, Variable, What, load,
@@ -12,3 +14,4 @@ pub use fz_meaning::{
 };
 pub use fz_scope::sources_are_in_reading_order;
 pub use fz_table::{Builtin, Filled, Known, Shape};
+pub use stubs::{forced, state};

@@ -1,0 +1,101 @@
+-- Loops over a list: one more element, and the first answer.
+use Rattle.std.proofs.Common.{◌≡◌, ℕ, zero, suc, ◌+◌, ◌<◌, ◌≤◌, min, Bool, true, false, List, [], ◌∷◌, ◌++◌, map, option_map, length, get_or, take, drop, Option, Some, None, is_some, Result, Ok, Err, IfOk, refl, sym, ap, ◌∙◌, add-one, drop-cons, arith}
+use Rattle.std.specs.Option.{option_or}
+use Rattle.std.proofs.lemmas.List.{take-append-drop, map-append, take_all, at_drop_more}
+use Rattle.std.proofs.Math.Seq.{take-suc}
+use Rattle.fz_model.specs.Meaning.{first_some}
+
+-- the whole list: what was read, the one at the place, and what follows
+pub whole_at : {A B : Type 0} (f : A → B) (xs : List A) (i : ℕ) (x : A) → i < length xs → x ≡ get_or xs i x → map f xs ≡ map f (take i xs) ++ f x ∷ map f (drop (i + 1) xs)
+whole_at f xs i x h e =
+    let rest : drop i xs ≡ x ∷ drop (i + 1) xs = drop-cons xs i x h ∙ (λ j. sym e j ∷ drop (sym (add-one i) j) xs) in
+    ap (map f) (sym (take-append-drop i xs)) ∙ map-append f (take i xs) (drop i xs) ∙ ap (λ ys. map f (take i xs) ++ map f ys) rest
+
+-- one more
+pub take_one_more : {A B : Type 0} (f : A → B) (xs : List A) (i : ℕ) (x : A) → i < length xs → x ≡ get_or xs i x → map f (take (i + 1) xs) ≡ map f (take i xs) ++ f x ∷ []
+take_one_more f xs i x h e =
+    ap (λ n. map f (take n xs)) (add-one i) ∙ ap (map f) (take-suc xs i x h) ∙ map-append f (take i xs) (get_or xs i x ∷ []) ∙ ap (λ y. map f (take i xs) ++ f y ∷ []) (sym e)
+
+-- two lists side by side, from a place on
+pub both_more : {A B R : Type 0} (h : List A → List B → R) (xs : List A) (ys : List B) (k : ℕ) (x : A) (y : B) → k < length xs → k < length ys → x ≡ get_or xs k x → y ≡ get_or ys k y
+    → h (drop k xs) (drop k ys) ≡ h (x ∷ drop (k + 1) xs) (y ∷ drop (k + 1) ys)
+both_more h xs ys k x y lt lt' at at' =
+    at_drop_more (λ zs. h zs (drop k ys)) xs k x lt ∙ at_drop_more (λ zs. h (get_or xs k x ∷ drop (k + 1) xs) zs) ys k y lt'
+    ∙ ap (λ z. h (z ∷ drop (k + 1) xs) (get_or ys k y ∷ drop (k + 1) ys)) (sym at) ∙ ap (λ z. h (x ∷ drop (k + 1) xs) (z ∷ drop (k + 1) ys)) (sym at')
+
+-- at the end of the shorter one, a function that is the same for each empty list is at its end
+pub both_end : {A B R : Type 0} (h : List A → List B → R) (r : R) → ((ys : List B) → h [] ys ≡ r) → ((xs : List A) → h xs [] ≡ r) → (xs : List A) (ys : List B) (k : ℕ) → k ≡ min (length xs) (length ys) → h (drop k xs) (drop k ys) ≡ r
+both_end h r left right [] ys zero e = left ys
+both_end h r left right [] ys (suc k) e = left (drop (suc k) ys)
+both_end h r left right (x ∷ xs) [] zero e = right (x ∷ xs)
+both_end h r left right (x ∷ xs) [] (suc k) e = absurd (omega arith)
+both_end h r left right (x ∷ xs) (y ∷ ys) zero e = absurd (omega arith)
+both_end h r left right (x ∷ xs) (y ∷ ys) (suc k) e = both_end h r left right xs ys k (omega arith)
+
+-- ---- the first answer
+
+pub or_assoc : {A : Type 0} (o p q : Option A) → option_or (option_or o p) q ≡ option_or o (option_or p q)
+or_assoc None p q = refl
+or_assoc (Some x) p q = refl
+
+pub both_none : {A : Type 0} (o p : Option A) → o ≡ None → p ≡ None → option_or o p ≡ None
+both_none o p a b = ap (λ z. option_or z p) a ∙ b
+
+pub first_append : {A B : Type 0} (f : A → Option B) (xs ys : List A) → first_some f (xs ++ ys) ≡ option_or (first_some f xs) (first_some f ys)
+first_append f [] ys = refl
+first_append f (x ∷ xs) ys = ap (option_or (f x)) (first_append f xs ys) ∙ sym (or_assoc (f x) (first_some f xs) (first_some f ys))
+
+pub not_some : {A : Type 0} (o : Option A) → is_some o ≡ false → o ≡ None
+not_some None e = refl
+not_some (Some x) e = cc
+
+pub map_none : {A B : Type 0} (f : A → B) (o : Option A) → option_map f o ≡ None → o ≡ None
+map_none f None e = refl
+map_none f (Some x) e = cc
+
+pub map_is_some : {A B : Type 0} (f : A → B) (o : Option A) → is_some (option_map f o) ≡ is_some o
+map_is_some f None = refl
+map_is_some f (Some x) = refl
+
+pub or_some : {A : Type 0} (o p : Option A) → is_some o ≡ true → option_or o p ≡ o
+or_some None p e = cc
+or_some (Some x) p e = refl
+
+-- over elements that stand for `g x`: none so far, and none at the next
+pub first_more : {A B C : Type 0} (f : B → Option C) (g : A → B) (xs : List A) (i : ℕ) (x : A) → i < length xs → x ≡ get_or xs i x → first_some f (map g (take i xs)) ≡ None → f (g x) ≡ None → first_some f (map g (take (i + 1) xs)) ≡ None
+first_more f g xs i x h e none here =
+    ap (first_some f) (take_one_more g xs i x h e) ∙ first_append f (map g (take i xs)) (g x ∷ []) ∙ both_none (first_some f (map g (take i xs))) (option_or (f (g x)) None) none (both_none (f (g x)) None here refl)
+
+-- none so far, and one at the next
+pub first_found : {A B C : Type 0} (f : B → Option C) (g : A → B) (xs : List A) (i : ℕ) (x : A) → i < length xs → x ≡ get_or xs i x → first_some f (map g (take i xs)) ≡ None → is_some (f (g x)) ≡ true → first_some f (map g xs) ≡ f (g x)
+first_found f g xs i x h e none here =
+    ap (first_some f) (whole_at g xs i x h e) ∙ first_append f (map g (take i xs)) (g x ∷ map g (drop (i + 1) xs)) ∙ ap (λ o. option_or o (option_or (f (g x)) (first_some f (map g (drop (i + 1) xs))))) none
+    ∙ or_some (f (g x)) (first_some f (map g (drop (i + 1) xs))) here
+
+-- none up to the end
+pub first_ends : {A B C : Type 0} (f : B → Option C) (g : A → B) (xs : List A) (i : ℕ) → length xs ≤ i → first_some f (map g (take i xs)) ≡ None → first_some f (map g xs) ≡ None
+first_ends f g xs i h none = ap (λ ys. first_some f (map g ys)) (sym (take_all i xs h)) ∙ none
+
+-- what is told through a function is told where there is an answer
+pub told_is_some : {A B : Type 0} (r : A → B) (o : Option B) (p : Option A) (b : Bool) → o ≡ option_map r p → is_some o ≡ b → is_some p ≡ b
+told_is_some r o p b e h = sym (map_is_some r p) ∙ ap is_some (sym e) ∙ h
+
+pub seen_is_some : {A B : Type 0} (v : B → A) (o : Option B) (p : Option A) (b : Bool) → option_map v o ≡ p → is_some o ≡ b → is_some p ≡ b
+seen_is_some v o p b e h = ap is_some (sym e) ∙ map_is_some v o ∙ h
+
+-- where nothing is answered of a list, nothing is answered of an element
+pub none_at : {A B C : Type 0} (f : B → Option C) (g : A → B) (xs : List A) (i : ℕ) (x : A) → i < length xs → x ≡ get_or xs i x → first_some f (map g xs) ≡ None → f (g x) ≡ None
+none_at f g xs i x h e none =
+    let parts : option_or (first_some f (map g (take i xs))) (option_or (f (g x)) (first_some f (map g (drop (i + 1) xs)))) ≡ None =
+    sym (ap (first_some f) (whole_at g xs i x h e) ∙ first_append f (map g (take i xs)) (g x ∷ map g (drop (i + 1) xs))) ∙ none in
+    (or_none (f (g x)) (first_some f (map g (drop (i + 1) xs))) (or_none (first_some f (map g (take i xs))) (option_or (f (g x)) (first_some f (map g (drop (i + 1) xs)))) parts).1).0
+  where
+    or_none : {D : Type 0} (o p : Option D) → option_or o p ≡ None → (o ≡ None) × (p ≡ None)
+    or_none None p e = (refl, e)
+    or_none (Some y) p e = cc
+
+-- ---- what follows from what is said of a result
+
+pub ok_then : {T E : Type 0} (r : Result T E) {P Q : T → Type 0} → IfOk r P → ((x : T) → P x → Q x) → IfOk r Q
+ok_then (Ok x) h f = f x h
+ok_then (Err e) h f = tt

@@ -1,0 +1,107 @@
+-- The chain of the filling: the first step, and the end where each variable has a value.
+use Rattle.std.proofs.Common.{◌≡◌, ℕ, zero, suc, ◌+◌, ◌<◌, ◌≤◌, ◌⊎◌, inl, inr, List, [], ◌∷◌, length, Option, Some, None, slice_get, IfSome, refl, sym, ap, subst, ◌∙◌, arith}
+use Rattle.std.specs.List.{AllByRecursion}
+use Rattle.fz_base.specs.declared.value.Value.{Value}
+use Rattle.fz_model.specs.Meaning.{Model, Point, Partial, give, value_at, variables_of, points, IsPartial}
+use Rattle.fz_model.specs.Steps.{GivesNothing, terms_of}
+use Rattle.fz_model.specs.Values.{kind_of}
+use Rattle.fz_model.proofs.Steps.{only_open_none}
+use Rattle.fz_verdict.specs.Filling.{IsFirstStep}
+use Rattle.fz_verdict.proofs.Loops.{first_ahead, first_wrapped, none_gives}
+use Rattle.fz_judge.specs.Working.{NoneGives, IsStepAhead, unset_count}
+use Rattle.fz_judge.proofs.Starting.{give_fits, number_within}
+
+-- ---- the points from a number up to another
+
+-- one more gives nothing
+pub none_more : (m : Model) (K : Partial) (from k : ℕ) → NoneGives m K from k → ((p : Point) → slice_get (points m) k ≡ Some p → GivesNothing m K p) → NoneGives m K from (k + 1)
+none_more m K from k none here j p above below at = by_number (least_or_same j k (omega arith))
+  where
+    least_or_same : (j k : ℕ) → j ≤ k → (j < k) ⊎ (j ≡ k)
+    least_or_same zero zero h = inr refl
+    least_or_same zero (suc k) h = inl (omega arith)
+    least_or_same (suc j) zero h = absurd (omega arith)
+    least_or_same (suc j) (suc k) h = elim (least_or_same j k (omega arith)) [ inl l ↦ inl (omega arith) | inr e ↦ inr (ap suc e) ]
+
+    by_number : (j < k) ⊎ (j ≡ k) → GivesNothing m K p
+    by_number (inl l) = none j p above l at
+    by_number (inr e) = here p (ap (slice_get (points m)) (sym e) ∙ at)
+
+there_is : {A : Type 0} (xs : List A) (k : ℕ) → k < length xs → (x : A) × (slice_get xs k ≡ Some x)
+there_is [] k h = absurd (omega arith)
+there_is (x ∷ xs) zero h = (x, refl)
+there_is (x ∷ xs) (suc k) h = there_is xs k (omega arith)
+
+in_range : {A : Type 0} (xs : List A) (j : ℕ) (x : A) → slice_get xs j ≡ Some x → j < length xs
+in_range [] j x e = cc
+in_range (y ∷ xs) zero x e = omega arith
+in_range (y ∷ xs) (suc j) x e = let below : j < length xs = in_range xs j x e in omega arith
+
+-- a step from the number on up to the last point is the first one
+pub ahead_is_first : (m : Model) (K : Partial) (from to k n : ℕ) (v : Value) → to ≡ length (points m) → IsStepAhead m K from to k n v → IsFirstStep m K from k n v
+ahead_is_first m K from to k n v all s =
+    let within : k < length (points m) = subst (λ z. k < z) all s.below in
+    let (p, at) = there_is (points m) k within in
+    first_ahead m K from k n v p s.ahead at s.none_before (s.gives p at)
+
+-- and where there is none, one before the number is
+pub wrapped_is_first : (m : Model) (K : Partial) (from to k n : ℕ) (v : Value) → to ≡ length (points m) → from ≤ length (points m) → NoneGives m K from to → IsStepAhead m K 0 from k n v → IsFirstStep m K from k n v
+wrapped_is_first m K from to k n v all inside none s =
+    let below : k < from = s.below in
+    let within : k < length (points m) = omega arith in
+    let (p, at) = there_is (points m) k within in
+    first_wrapped m K from k n v p s.below at (λ j q above at'. let short : j < length (points m) = in_range (points m) j q at' in none j q above (subst (λ z. j < z) (sym all) short) at') s.none_before (s.gives p at)
+
+-- where there is none from the number on and none before it, no point gives a step
+pub no_first : (m : Model) (K : Partial) (from to : ℕ) → to ≡ length (points m) → NoneGives m K from to → NoneGives m K 0 from → AllByRecursion (GivesNothing m K) (points m)
+no_first m K from to all after before = none_gives m K (λ j p above below at. by_number j p (split j from) below at)
+  where
+    split : (j k : ℕ) → (j < k) ⊎ (k ≤ j)
+    split zero zero = inr (omega arith)
+    split zero (suc k) = inl (omega arith)
+    split (suc j) zero = inr (omega arith)
+    split (suc j) (suc k) = elim (split j k) [ inl l ↦ inl (omega arith) | inr l ↦ inr (omega arith) ]
+
+    by_number : (j : ℕ) (p : Point) → (j < from) ⊎ (from ≤ j) → j < length (points m) → slice_get (points m) j ≡ Some p → GivesNothing m K p
+    by_number j p (inl l) below at = before j p (omega arith) l at
+    by_number j p (inr l) below at = after j p l (subst (λ z. j < z) (sym all) below) at
+
+-- ---- a step
+
+pub step_unset : (m : Model) (K : Partial) (from k n : ℕ) (v : Value) → IsFirstStep m K from k n v → value_at K n ≡ None
+step_unset m K from k n v s = only_open_none K n (terms_of s.point) s.gives.only_open
+
+pub step_within : (m : Model) (K : Partial) (from k n : ℕ) (v : Value) → IsPartial m K → IsFirstStep m K from k n v → n < length K
+step_within m K from k n v fits s = number_within m K n (kind_of v) fits s.gives.of_kind
+
+pub step_fits : (m : Model) (K : Partial) (from k n : ℕ) (v : Value) → IsPartial m K → IsFirstStep m K from k n v → IsPartial m (give K n v)
+step_fits m K from k n v fits s = give_fits (variables_of m) K n v fits s.gives.of_kind
+
+-- ---- variables without a value
+
+pub one_less : (K : Partial) (n : ℕ) (v : Value) → n < length K → value_at K n ≡ None → unset_count K ≡ suc (unset_count (give K n v))
+one_less [] n v h e = absurd (omega arith)
+one_less (None ∷ K) zero v h e = refl
+one_less (Some u ∷ K) zero v h e = cc
+one_less (None ∷ K) (suc n) v h e = ap suc (one_less K n v (omega arith) e)
+one_less (Some u ∷ K) (suc n) v h e = one_less K n v (omega arith) e
+
+all_set : (K : Partial) (n : ℕ) → n < length K → value_at K n ≡ None → unset_count K ≡ 0 → ⊥
+all_set [] n h e none = omega arith
+all_set (None ∷ K) n h e none = cc
+all_set (Some u ∷ K) zero h e none = cc
+all_set (Some u ∷ K) (suc n) h e none = all_set K n (omega arith) e none
+
+-- where each variable has a value, no point gives a step
+pub nothing_left : (m : Model) (K : Partial) → IsPartial m K → unset_count K ≡ 0 → AllByRecursion (GivesNothing m K) (points m)
+nothing_left m K fits none = each (points m)
+  where
+    gives_nothing : (p : Point) → GivesNothing m K p
+    gives_nothing p n v g = all_set K n (number_within m K n (kind_of v) fits g.of_kind) (only_open_none K n (terms_of p) g.only_open) none
+
+    each : (ps : List Point) → AllByRecursion (GivesNothing m K) ps
+    each [] = tt
+    each (p ∷ ps) = (gives_nothing p, each ps)
+
+pub at_some : {A : Type 0} (P : A → Type 0) (o : Option A) (x : A) → o ≡ Some x → IfSome o P → P x
+at_some P o x e h = subst (λ p. IfSome p P) e h

@@ -1,0 +1,8 @@
+use Rattle.std.proofs.Common.{◌≡◌, None, map, take}
+use Rattle.fz_model.specs.Meaning.{first_some}
+use Rattle.fz_model.specs.View.{located_literal}
+use Rattle.fz_verdict.specs.Blocks.{literal_fault}
+use Rattle.fz_judge.proofs.faults.elements_fault.Given as goal
+
+abbrev pub invariant-loop-literal : goal.invariant-loop-literal
+invariant-loop-literal l = first_some (literal_fault l.kind) (map located_literal (take l.literal-index l.literals)) ≡ None

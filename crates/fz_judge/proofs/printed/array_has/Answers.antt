@@ -1,0 +1,16 @@
+use Rattle.std.proofs.Common.{map, sym, ap, ◌∙◌}
+use Rattle.fz_model.specs.Meaning.Place.{Array}
+use Rattle.fz_model.specs.View.{located_literal}
+use Rattle.fz_verdict.specs.Blocks.{printed_values}
+use Rattle.fz_verdict.specs.Verdict.{has_printed}
+use Rattle.fz_verdict.specs.View.{located_printed_value}
+use Rattle.fz_judge.specs.Working.{have_values}
+use Rattle.fz_judge.proofs.Lists.{ok_then}
+use Rattle.fz_judge.proofs.Printing.{are_same}
+use Rattle.fz_judge.proofs.printed.array_has.Goals as goal
+
+pub returns-in-Array : goal.returns-in-Array
+returns-in-Array c =
+    ok_then c.have_values.result c.have_values.ensures (λ b h x k.
+    h ∙ ap (λ ls. have_values c.args.partial.now c.args.terms.now (printed_values (map located_literal ls))) c.deref.ensures.value ∙ are_same c.args.partial.now c.args.terms.now (printed_values (map located_literal c.in-Array.elements.items))
+    ∙ ap (λ v. has_printed c.args.partial.now (Array x k c.args.terms.now) (located_printed_value v)) (sym c.in-Array.is))

@@ -1,0 +1,18 @@
+use Rattle.std.proofs.Common.{sym, ◌∙◌}
+use Rattle.fz_verdict.specs.Blocks.{printed_fault}
+use Rattle.fz_verdict.specs.Verdict.{printed_fails}
+use Rattle.fz_verdict.specs.View.{located_printed}
+use Rattle.fz_judge.specs.View.{fault_view}
+use Rattle.fz_judge.proofs.Lists.{first_found, first_more, none_at, not_some, seen_is_some}
+use Rattle.fz_judge.proofs.printed.printed_fails.Goals as goal
+
+pub returns-then-is_some : goal.returns-then-is_some
+returns-then-is_some c =
+    let clean = none_at (printed_fault c.args.model.now) located_printed c.args.items.now c.loop-item.item-index c.item-item.result c.loop-item-test.true c.item-item.is c.requires.clean in
+    let seen = c.in_ok-fault.ensures clean in
+    seen ∙ sym (first_found (printed_fails c.args.model.now c.args.partial.now) located_printed c.args.items.now c.loop-item.item-index c.item-item.result c.loop-item-test.true c.item-item.is c.loop-item.invariant (seen_is_some fault_view _ _ _ seen (sym c.is_some.ensures ∙ c.if-is_some.true)))
+
+pub loop-item-preserved : goal.loop-item-preserved
+loop-item-preserved c =
+    let clean = none_at (printed_fault c.args.model.now) located_printed c.args.items.now c.loop-item.item-index c.item-item.result c.loop-item-test.true c.item-item.is c.requires.clean in
+    first_more (printed_fails c.args.model.now c.args.partial.now) located_printed c.args.items.now c.loop-item.item-index c.item-item.result c.loop-item-test.true c.item-item.is c.loop-item.invariant (not_some _ (seen_is_some fault_view _ _ _ (c.in_ok-fault.ensures clean) (sym c.is_some.ensures ∙ c.if-is_some.false)))

@@ -1,0 +1,124 @@
+-- Only private functions use these: values taken into a partial assignment one after another, and what is asked of one scalar.
+use Rattle.std.specs.Prelude.{◌≡◌, ℕ, suc, ◌<◌, ◌≤◌, Bool, false, true, cond, ◌&&◌, is_none, List, [], ◌∷◌, Option, None, Some, slice_get, ⊤}
+use Rattle.std.specs.Option.{option_map_or}
+use Rattle.fz_base.specs.declared.value.Value.{Value}
+use Rattle.fz_model.specs.declared.State.{State}
+use Rattle.fz_model.specs.declared.State.TheVariants.{Holds, Fails, NoValue, Unknown, TooLarge}
+use Rattle.fz_model.specs.declared.Term.{Term}
+use Rattle.fz_model.specs.declared.Term.TheVariants.{Var, Fixed}
+use Rattle.fz_model.specs.declared.What.{What}
+use Rattle.fz_model.specs.declared.What.TheVariants as whats
+use Rattle.fz_model.specs.Names.{literal_value}
+use Rattle.fz_model.specs.Values.{same_value}
+use Rattle.fz_model.specs.Meaning.{Model, Partial, Point, PointName, give, value, value_at, find_name, points}
+use Rattle.fz_model.specs.Steps.{Gives, GivesNothing}
+use Rattle.fz_syntax.specs.Places.{IsSpanWithin}
+use Rattle.fz_verdict.specs.Blocks.{Printed, PrintedValue, printed_values, moved}
+use Rattle.fz_verdict.specs.Blocks.PrintedValue.{OneValue, ArrayOf}
+use Rattle.fz_verdict.specs.Filling.{pairs, pairs_at}
+use Rattle.fz_verdict.specs.Verdict.{Fault, Reason, Verdict, not_known_at, too_large_at, verdict_by}
+use Rattle.fz_verdict.specs.Verdict.Verdict.{Satisfied, Violated, Undecided}
+use Rattle.fz_verdict.specs.Verdict.Reason.{NoValueFor}
+use Rattle.fz_judge.specs.declared.error.BlockError.{BlockError}
+use Rattle.fz_judge.specs.declared.error.BlockError.TheVariants as errors
+
+-- ---- the start
+
+-- a variable's number is one of so many
+abbrev pub IsWithin : ℕ → Term → Type 0
+IsWithin count (Var n) = n < count
+IsWithin count (Fixed v) = ⊤
+
+abbrev pub terms_of_what : What → List Term
+terms_of_what (whats.Scalar t) = t.now ∷ []
+terms_of_what (whats.Array k ts) = ts.now
+
+-- a variable without a value takes the value
+abbrev pub with_first : Partial → (Term × Value) → Partial
+with_first K (Var n, v) = cond (is_none (value_at K n)) (give K n v) K
+with_first K (Fixed w, v) = K
+
+-- one after another
+abbrev pub with_all : Partial → List (Term × Value) → Partial
+with_all K [] = K
+with_all K (q ∷ qs) = with_all (with_first K q) qs
+
+abbrev pub one_pair : Term → PrintedValue → List (Term × Value)
+one_pair t (OneValue l) = (t, literal_value l.what) ∷ []
+one_pair t (ArrayOf is ls) = []
+
+abbrev pub element_pairs : List Term → PrintedValue → List (Term × Value)
+element_pairs ts (OneValue l) = []
+element_pairs ts (ArrayOf is ls) = pairs ts (printed_values ls)
+
+-- the scalars that an item prints
+abbrev pub item_scalars : Model → Printed → List (Term × Value)
+item_scalars m i = option_map_or (λ p. pairs_at p i.value) (find_name m i.name.text) []
+
+-- ---- steps
+
+-- the points with these numbers give nothing
+abbrev pub NoneGives : Model → Partial → ℕ → ℕ → Type 0
+NoneGives m K from to = (j : ℕ) (p : Point) → from ≤ j → j < to → slice_get (points m) j ≡ Some p → GivesNothing m K p
+
+-- The point of the number gives the variable the value, and those from a number up to it give nothing.
+pub record IsStepAhead (m : Model) (K : Partial) (from to k n : ℕ) (v : Value) : Type 0 where
+  pub ahead : from ≤ k
+  pub below : k < to
+  pub none_before : NoneGives m K from k
+  pub gives : (p : Point) → slice_get (points m) k ≡ Some p → Gives m K p n v
+
+-- how many variables have no value
+abbrev pub unset_count : Partial → ℕ
+unset_count [] = 0
+unset_count (None ∷ K) = suc (unset_count K)
+unset_count (Some v ∷ K) = unset_count K
+
+-- ---- the verdict
+
+-- the scalar has the value of the literal
+abbrev pub has_value : Partial → (Term × Value) → Bool
+has_value K q = option_map_or (λ v. same_value v q.1) (value K q.0) false
+
+-- the scalars have the values beside them, where there are as many
+abbrev pub have_values : Partial → List Term → List Value → Bool
+have_values K [] [] = true
+have_values K (t ∷ ts) (v ∷ vs) = has_value K (t, v) && have_values K ts vs
+have_values K _ _ = false
+
+abbrev pub is_failed : State → Bool
+is_failed Fails = true
+is_failed Holds = false
+is_failed NoValue = false
+is_failed Unknown = false
+is_failed TooLarge = false
+
+-- what is undecided at a point by what it is told by
+abbrev pub reason_named : List ℕ → PointName → State → Option Reason
+reason_named unset q NoValue = Some (NoValueFor unset)
+reason_named unset q Unknown = not_known_at q
+reason_named unset q TooLarge = too_large_at q
+reason_named unset q Holds = None
+reason_named unset q Fails = None
+
+-- the verdict where the points have this one, and the objective may fail
+abbrev pub with_objective : Verdict → Option Fault → Verdict
+with_objective (Violated f) o = Violated f
+with_objective (Undecided r) o = verdict_by o (Some r)
+with_objective Satisfied o = verdict_by o None
+
+-- ---- refusals
+
+-- the place that an error names, if it names one, lies within so many bytes
+abbrev pub IsPlacedWithin : ℕ → BlockError → Type 0
+IsPlacedWithin n (errors.UnknownName at) = IsSpanWithin n at
+IsPlacedWithin n (errors.Kind at) = IsSpanWithin n at
+IsPlacedWithin n (errors.Length at) = IsSpanWithin n at
+IsPlacedWithin n errors.Memory = ⊤
+
+-- the same fault at its place in the stream
+abbrev pub moved_error : ℕ → BlockError → BlockError
+moved_error offset (errors.UnknownName at) = errors.UnknownName (moved offset at)
+moved_error offset (errors.Kind at) = errors.Kind (moved offset at)
+moved_error offset (errors.Length at) = errors.Length (moved offset at)
+moved_error offset errors.Memory = errors.Memory

@@ -1,0 +1,85 @@
+//! What of a printed item does not fit the model. Places count from the block's text.
+
+ghost use Rattle.std.specs.Prelude.{◌≡◌, ℕ, List, map, option_map};
+ghost use Rattle.fz_model.specs.declared.Term.{Term as Scalar};
+ghost use Rattle.fz_model.specs.Meaning.{Place, Variable as DeclaredVariable, first_some};
+ghost use Rattle.fz_model.specs.Parts.{variable_view};
+ghost use Rattle.fz_model.specs.Shown.{what_place};
+ghost use Rattle.fz_model.specs.View.{located_literal, located_name};
+ghost use Rattle.fz_verdict.specs.Blocks.{literal_fault, value_fault};
+ghost use Rattle.fz_verdict.specs.View.{located_printed_value};
+ghost use Rattle.fz_judge.specs.Judged.{refusal};
+
+use crate::error::BlockError;
+use crate::values::{is_same, literal_kind, scalar_kind};
+use fz_model::{Kind, Term, Variable, What};
+use fz_syntax::{Literal, Name, PrintedValue};
+
+/// A literal of another kind.
+fn literal_fault(kind: Kind, literal: &Literal) -> Option<BlockError>
+    ensures { result ≡ option_map refusal (literal_fault kind (located_literal literal.now)) }
+{
+    if is_same(literal_kind(&literal.what), kind) {
+        None
+    } else {
+        Some(BlockError::Kind(literal.span))
+    }
+}
+
+/// The first literal of another kind.
+fn elements_fault(kind: Kind, literals: &[Literal]) -> Option<BlockError>
+    ensures { result ≡ option_map refusal (first_some (literal_fault kind) (map located_literal literals.now)) }
+{
+    for literal in literals {
+        let fault = literal_fault(kind, literal);
+        if fault.is_some() {
+            return fault;
+        }
+    }
+    None
+}
+
+/// What of the value that is printed for a scalar of a kind does not fit.
+fn scalar_fault(name: &Name<'_>, kind: Kind, value: &PrintedValue) -> Option<BlockError>
+    ensures { (t : Scalar) → result ≡ option_map refusal (value_fault (located_name name.now) (Place.Scalar kind t) (located_printed_value value.now)) }
+{
+    match value {
+        PrintedValue::One(literal) => literal_fault(kind, literal),
+        PrintedValue::Array { .. } => Some(BlockError::Kind(name.span)),
+    }
+}
+
+/// What of the value that is printed for an array does not fit.
+fn array_fault(
+    name: &Name<'_>,
+    kind: Kind,
+    terms: &[Term],
+    value: &PrintedValue,
+) -> Option<BlockError>
+    ensures { (x : List ℕ) → result ≡ option_map refusal (value_fault (located_name name.now) (Place.Array x kind terms.now) (located_printed_value value.now)) }
+{
+    match value {
+        PrintedValue::One(_) => Some(BlockError::Kind(name.span)),
+        PrintedValue::Array { elements, .. } => {
+            if elements.len() != terms.len() {
+                return Some(BlockError::Length(name.span));
+            }
+            elements_fault(kind, elements)
+        }
+    }
+}
+
+/// What of a printed value does not fit what its name stands for.
+pub(crate) fn value_fault(
+    variables: &[Variable<'_>],
+    name: &Name<'_>,
+    what: What<'_>,
+    value: &PrintedValue,
+) -> Option<BlockError>
+    ensures { (x : List ℕ) → result ≡ option_map refusal (value_fault (located_name name.now) (what_place (map variable_view variables.now) x what.entry) (located_printed_value value.now)) }
+{
+    match what {
+        What::Scalar(term) => scalar_fault(name, scalar_kind(variables, term), value),
+        What::Array(kind, terms) => array_fault(name, kind, terms, value),
+    }
+}

@@ -1,0 +1,62 @@
+//! The filling of a block.
+
+ghost use Rattle.std.specs.Prelude.{◌≡◌, ◌-◌, IfErr, IfOk};
+ghost use Rattle.fz_model.specs.Meaning.{IsPartial};
+ghost use Rattle.fz_stream.specs.Found.{EndsWithin, HasPlaces};
+ghost use Rattle.fz_syntax.specs.Places.{IsSpanWithin};
+ghost use Rattle.fz_verdict.specs.Blocks.{moved};
+ghost use Rattle.fz_verdict.specs.Verdict.{IsFilled};
+ghost use Rattle.fz_verdict.specs.View.{located_block};
+ghost use Rattle.fz_judge.specs.Judged.{IsBlockRefusal};
+ghost use Rattle.fz_judge.specs.Working.{IsPlacedWithin, moved_error};
+
+use crate::error::BlockError;
+use crate::start::start;
+use crate::steps::fill_in;
+use fz_base::Span;
+use fz_model::{Model, Partial};
+use fz_stream::Block;
+use std::alloc::Global;
+
+/// A place in a block's text as one of the stream.
+fn moved_span(span: Span, offset: usize) -> Span
+    ensures { IsSpanWithin (usize.MAX - offset) span → result ≡ moved offset span }
+{
+    // Both ends of a block's places lie within the stream, so nothing saturates.
+    Span {
+        start: offset.saturating_add(span.start),
+        end: offset.saturating_add(span.end),
+    }
+}
+
+/// A fault of a block, at its place in the stream.
+fn moved_error(error: BlockError, offset: usize) -> BlockError
+    ensures { IsPlacedWithin (usize.MAX - offset) error → result ≡ moved_error offset error }
+{
+    match error {
+        BlockError::UnknownName(span) => BlockError::UnknownName(moved_span(span, offset)),
+        BlockError::Kind(span) => BlockError::Kind(moved_span(span, offset)),
+        BlockError::Length(span) => BlockError::Length(moved_span(span, offset)),
+        BlockError::Memory => BlockError::Memory,
+    }
+}
+
+/// The values that follow from the printed ones by forced steps. It goes over the printed items once, and then over the points, one
+/// round after another, until no point gives a step or each variable has a value.
+///
+/// # Errors
+///
+/// The fault of the first printed item that has one, at its place in the stream, and want of memory.
+pub fn fill(alloc: Global, model: &Model<'_>, block: &Block<'_>) -> Result<Partial, BlockError>
+    ensures filled { IfOk result (λ F. IsFilled model.now (located_block block.now) F) }
+    ensures kinds { IfOk result (λ F. IsPartial model.now F) }
+    // Of a block as `fz_stream` reads it: its places lie in its text, and its text ends within the numbers.
+    ensures refused { IfErr result (λ e. HasPlaces block.now → EndsWithin usize.MAX block.now → IsBlockRefusal model.now (located_block block.now) e) }
+{
+    let mut partial = match start(alloc, model, &block.items) {
+        Ok(partial) => partial,
+        Err(error) => return Err(moved_error(error, block.offset)),
+    };
+    fill_in(alloc, model, &mut partial)?;
+    Ok(partial)
+}

@@ -1,0 +1,144 @@
+//! Whether the printed names have their printed values.
+
+ghost use Rattle.std.specs.Prelude.{◌≡◌, ℕ, IfOk, List, None, map, option_map};
+ghost use Rattle.fz_model.specs.Meaning.{Place, Variable as DeclaredVariable, first_some};
+ghost use Rattle.fz_model.specs.declared.Kind.{Kind as KindOf};
+ghost use Rattle.fz_model.specs.Names.{literal_value};
+ghost use Rattle.fz_model.specs.Shown.{what_place};
+ghost use Rattle.fz_model.specs.View.{located_literal};
+ghost use Rattle.fz_syntax.specs.View.{bare_literal};
+ghost use Rattle.fz_verdict.specs.Blocks.{items_fault, printed_fault, printed_values};
+ghost use Rattle.fz_verdict.specs.Verdict.{has_printed, printed_fails};
+ghost use Rattle.fz_verdict.specs.View.{located_items, located_printed, located_printed_value};
+ghost use Rattle.fz_judge.specs.View.{fault_view};
+ghost use Rattle.fz_judge.specs.Working.{has_value, have_values};
+
+use crate::values::literal_value;
+use crate::verdict::Fault;
+use fz_model::{Model, Partial, Term, What};
+use fz_syntax::{Literal, Printed, PrintedValue};
+use std::alloc::{AllocError, Global};
+
+/// Whether the scalar has the value of the literal.
+fn has_value(
+    alloc: Global,
+    partial: &Partial,
+    term: &Term,
+    literal: &Literal,
+) -> Result<bool, AllocError>
+    ensures { IfOk result (λ b. b ≡ has_value partial.now (term.now, literal_value (bare_literal literal.now))) }
+{
+    match partial.value(term) {
+        Some(value) => {
+            let printed = literal_value(alloc, &literal.what)?;
+            Ok(value.equals(&printed))
+        }
+        None => Ok(false),
+    }
+}
+
+/// Whether there are as many literals as scalars, and each scalar has the value of the literal beside it.
+fn have_values(
+    alloc: Global,
+    partial: &Partial,
+    terms: &[Term],
+    literals: &[Literal],
+) -> Result<bool, AllocError>
+    ensures { IfOk result (λ b. b ≡ have_values partial.now terms.now (printed_values (map located_literal literals.now))) }
+{
+    if terms.len() != literals.len() {
+        return Ok(false);
+    }
+    for (term, literal) in terms.iter().zip(literals) {
+        if !has_value(alloc, partial, term, literal)? {
+            return Ok(false);
+        }
+    }
+    Ok(true)
+}
+
+/// Whether a scalar has the printed value.
+fn scalar_has(
+    alloc: Global,
+    partial: &Partial,
+    term: &Term,
+    value: &PrintedValue,
+) -> Result<bool, AllocError>
+    ensures { IfOk result (λ b. (k : KindOf) → b ≡ has_printed partial.now (Place.Scalar k term.now) (located_printed_value value.now)) }
+{
+    match value {
+        PrintedValue::One(literal) => has_value(alloc, partial, term, literal),
+        PrintedValue::Array { .. } => Ok(false),
+    }
+}
+
+/// Whether the elements of an array have the printed values.
+fn array_has(
+    alloc: Global,
+    partial: &Partial,
+    terms: &[Term],
+    value: &PrintedValue,
+) -> Result<bool, AllocError>
+    ensures { IfOk result (λ b. (x : List ℕ) (k : KindOf) → b ≡ has_printed partial.now (Place.Array x k terms.now) (located_printed_value value.now)) }
+{
+    match value {
+        PrintedValue::One(_) => Ok(false),
+        PrintedValue::Array { elements, .. } => have_values(alloc, partial, terms, elements),
+    }
+}
+
+/// Whether what a name stands for has the printed value.
+fn has_printed(
+    alloc: Global,
+    partial: &Partial,
+    what: What<'_>,
+    value: &PrintedValue,
+) -> Result<bool, AllocError>
+    ensures { IfOk result (λ b. (vs : List DeclaredVariable) (x : List ℕ) → b ≡ has_printed partial.now (what_place vs x what.entry) (located_printed_value value.now)) }
+{
+    match what {
+        What::Scalar(term) => scalar_has(alloc, partial, term, value),
+        What::Array(_, terms) => array_has(alloc, partial, terms, value),
+    }
+}
+
+/// The fault of a printed item, where its name has another value than the printed one.
+fn item_fails<'a>(
+    alloc: Global,
+    model: &Model<'a>,
+    partial: &Partial,
+    item: &Printed<'_>,
+) -> Result<Option<Fault<'a>>, AllocError>
+    ensures { IfOk result (λ o. printed_fault model.now (located_printed item.now) ≡ None → option_map fault_view o ≡ printed_fails model.now partial.now (located_printed item.now)) }
+{
+    match model.find(item.name.text) {
+        Some(found) => {
+            if has_printed(alloc, partial, found.what, &item.value)? {
+                Ok(None)
+            } else {
+                Ok(Some(Fault::Printed(found.name)))
+            }
+        }
+        // No block with an unknown name is judged.
+        None => Ok(None),
+    }
+}
+
+/// The fault of the first printed item whose name has another value than the printed one.
+pub(crate) fn printed_fails<'a>(
+    alloc: Global,
+    model: &Model<'a>,
+    partial: &Partial,
+    items: &[Printed<'_>],
+) -> Result<Option<Fault<'a>>, AllocError>
+    requires clean { items_fault model.now (located_items items.now) ≡ None }
+    ensures { IfOk result (λ o. option_map fault_view o ≡ first_some (printed_fails model.now partial.now) (located_items items.now)) }
+{
+    for item in items {
+        let fault = item_fails(alloc, model, partial, item)?;
+        if fault.is_some() {
+            return Ok(fault);
+        }
+    }
+    Ok(None)
+}

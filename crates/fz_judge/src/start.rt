@@ -1,0 +1,160 @@
+//! The start of a filling: the printed values, each variable's first one.
+
+ghost use Rattle.std.specs.Prelude.{◌≡◌, ◌<◌, ℕ, List, None, IfErr, IfOk, OnOk, cond, is_none, length, map};
+ghost use Rattle.std.specs.List.{AllByRecursion};
+ghost use Rattle.fz_model.specs.Meaning.{IsPartial, Variable as DeclaredVariable, give, value_at, variables_of};
+ghost use Rattle.fz_model.specs.Names.{literal_value};
+ghost use Rattle.fz_model.specs.Shown.{what_place};
+ghost use Rattle.fz_model.specs.View.{located_literal};
+ghost use Rattle.fz_syntax.specs.View.{bare_literal, bare_literal_kind};
+ghost use Rattle.fz_verdict.specs.Blocks.{items_fault, printed_fault, printed_values};
+ghost use Rattle.fz_verdict.specs.Filling.{pairs, pairs_at, printed_scalars, start_from};
+ghost use Rattle.fz_verdict.specs.View.{located_items, located_printed, located_printed_value};
+ghost use Rattle.fz_judge.specs.Judged.{TellsFault};
+ghost use Rattle.fz_judge.specs.Working.{IsWithin, element_pairs, item_scalars, one_pair, terms_of_what, with_all, with_first};
+
+use crate::error::BlockError;
+use crate::faults::value_fault;
+use crate::values::literal_value;
+use fz_model::{Model, Partial, Term, What};
+use fz_syntax::{Literal, LiteralKind, Printed, PrintedValue};
+use std::alloc::{AllocError, Global};
+
+/// Gives a variable the value of a literal, where it has none.
+fn set_variable(
+    alloc: Global,
+    partial: &mut Partial,
+    number: usize,
+    literal: &LiteralKind,
+) -> Result<(), AllocError>
+    requires in_range { number < length partial.old }
+    ensures given { OnOk result (partial.new ≡ cond (is_none (value_at partial.old number)) (give partial.old number (literal_value (bare_literal_kind literal.now))) partial.old) }
+{
+    if partial.get(number).is_some() {
+        return Ok(());
+    }
+    let value = literal_value(alloc, literal)?;
+    partial.set(number, value);
+    Ok(())
+}
+
+/// Gives a scalar the value of a literal, where it is a variable without one.
+fn set_scalar(
+    alloc: Global,
+    partial: &mut Partial,
+    term: &Term,
+    literal: &Literal,
+) -> Result<(), AllocError>
+    requires within { IsWithin (length partial.old) term.now }
+    ensures given { OnOk result (partial.new ≡ with_first partial.old (term.now, literal_value (bare_literal literal.now))) }
+{
+    match term {
+        Term::Var(number) => set_variable(alloc, partial, *number, &literal.what),
+        Term::Fixed(_) => Ok(()),
+    }
+}
+
+/// Gives each scalar the value of the literal beside it, where it is a variable without one.
+fn set_elements(
+    alloc: Global,
+    partial: &mut Partial,
+    terms: &[Term],
+    literals: &[Literal],
+) -> Result<(), AllocError>
+    requires within { AllByRecursion (IsWithin (length partial.old)) terms.now }
+    ensures given { OnOk result (partial.new ≡ with_all partial.old (pairs terms.now (printed_values (map located_literal literals.now)))) }
+{
+    for (term, literal) in terms.iter().zip(literals) {
+        set_scalar(alloc, partial, term, literal)?;
+    }
+    Ok(())
+}
+
+/// Gives what a name stands for its printed value, where variables have none.
+fn set_value(
+    alloc: Global,
+    partial: &mut Partial,
+    what: What<'_>,
+    value: &PrintedValue,
+) -> Result<(), AllocError>
+    requires within { AllByRecursion (IsWithin (length partial.old)) (terms_of_what what) }
+    ensures given { OnOk result ((vs : List DeclaredVariable) (x : List ℕ) → partial.new ≡ with_all partial.old (pairs_at (what_place vs x what.entry) (located_printed_value value.now))) }
+{
+    match what {
+        What::Scalar(term) => set_one(alloc, partial, term, value),
+        What::Array(_, terms) => set_array(alloc, partial, terms, value),
+    }
+}
+
+/// Gives a scalar its printed value.
+fn set_one(
+    alloc: Global,
+    partial: &mut Partial,
+    term: &Term,
+    value: &PrintedValue,
+) -> Result<(), AllocError>
+    requires within { IsWithin (length partial.old) term.now }
+    ensures given { OnOk result (partial.new ≡ with_all partial.old (one_pair term.now (located_printed_value value.now))) }
+{
+    match value {
+        PrintedValue::One(literal) => set_scalar(alloc, partial, term, literal),
+        PrintedValue::Array { .. } => Ok(()),
+    }
+}
+
+/// Gives the elements of an array their printed values.
+fn set_array(
+    alloc: Global,
+    partial: &mut Partial,
+    terms: &[Term],
+    value: &PrintedValue,
+) -> Result<(), AllocError>
+    requires within { AllByRecursion (IsWithin (length partial.old)) terms.now }
+    ensures given { OnOk result (partial.new ≡ with_all partial.old (element_pairs terms.now (located_printed_value value.now))) }
+{
+    match value {
+        PrintedValue::One(_) => Ok(()),
+        PrintedValue::Array { elements, .. } => set_elements(alloc, partial, terms, elements),
+    }
+}
+
+/// Takes the values of an item into the start, where the item has no fault. A fault's place counts from the block's text.
+fn set_item(
+    alloc: Global,
+    model: &Model<'_>,
+    partial: &mut Partial,
+    item: &Printed<'_>,
+) -> Result<(), BlockError>
+    requires fits { IsPartial model.now partial.old }
+    ensures given { OnOk result (partial.new ≡ with_all partial.old (item_scalars model.now (located_printed item.now))) }
+    ensures kinds { OnOk result (IsPartial model.now partial.new) }
+    ensures clean { OnOk result (printed_fault model.now (located_printed item.now) ≡ None) }
+    ensures told { IfErr result (λ e. TellsFault e (printed_fault model.now (located_printed item.now))) }
+{
+    let Some(found) = model.find(item.name.text) else {
+        return Err(BlockError::UnknownName(item.name.span));
+    };
+    if let Some(fault) = value_fault(model.variables(), &item.name, found.what, &item.value) {
+        return Err(fault);
+    }
+    set_value(alloc, partial, found.what, &item.value)?;
+    Ok(())
+}
+
+/// The values that a block's items print, where no item has a fault. A fault's place counts from the block's text.
+pub(crate) fn start(
+    alloc: Global,
+    model: &Model<'_>,
+    items: &[Printed<'_>],
+) -> Result<Partial, BlockError>
+    ensures started { IfOk result (λ K. K ≡ start_from (printed_scalars model.now (located_items items.now)) 0 (variables_of model.now)) }
+    ensures kinds { IfOk result (IsPartial model.now) }
+    ensures clean { IfOk result (λ _. items_fault model.now (located_items items.now) ≡ None) }
+    ensures told { IfErr result (λ e. TellsFault e (items_fault model.now (located_items items.now))) }
+{
+    let mut partial = Partial::new(alloc, model)?;
+    for item in items {
+        set_item(alloc, model, &mut partial, item)?;
+    }
+    Ok(partial)
+}
