@@ -21,9 +21,9 @@ use Rattle.fz_stream.specs.Telling.{StopsAfter}
 use Rattle.fz_model.specs.Meaning.{Model}
 use Rattle.fz_model.specs.Names.{HasNoFault, IsInReadingOrder, model_of}
 use Rattle.fz_model.specs.View.{TellsFirstFault, located}
-use Rattle.fz_model.proofs.Places.{located_is_bare}
 use Rattle.fz_model.proofs.Reading.{in_reading_order}
 use Rattle.fz_judge.specs.declared.error.BlockError.{BlockError}
+use Rattle.fz_check.proofs.Reporting.{checked}
 use Rattle.fz_check.specs.Refused.{HasBlockFault, HasNameFault, HasStreamFault, IsFirstFault}
 use Rattle.fz_check.specs.declared.error.CheckError.TheVariants as errors
 use Rattle.fz_check.specs.Loading.{text_refusal, name_refusal, stream_refusal}
@@ -97,16 +97,9 @@ ends_within n most less (b ∷ bs) h = (omega (arith, h.0, less), ends_within n 
 
 -- ---- blocks
 
-pub block_fault_on : (model bytes : List ℕ) (a : the_ast.Ast) (m : Model) → IsTextOfTree model (bare a) → HasNoFault (located a) → m ≡ model_of (located a)
-    → (bs : List the_block.Block) (cs : List Claim) → IsReadAs bytes (map block_of bs) cs → AllByRecursion HasPlaces bs → (n : ℕ) (e : BlockError) → IsFirstFault m bs n e → HasBlockFault model bytes n e
+pub block_fault_on : (model bytes : List ℕ) (a : the_ast.Ast) (m : Model) (text : IsTextOfTree model (bare a)) (sound : HasNoFault (located a)) → m ≡ model_of (located a)
+    → (bs : List the_block.Block) (cs : List Claim) (read : IsReadAs bytes (map block_of bs) cs) (places : AllByRecursion HasPlaces bs) (n : ℕ) (e : BlockError) → IsFirstFault m bs n e → HasBlockFault model bytes n e
 block_fault_on model bytes a m text sound is bs cs read places n e first = record {
-  tree = located a;
-  text_of_model = subst (IsTextOfTree model) (sym (located_is_bare a)) text;
-  no_fault = sound;
-  parts = read.parts;
-  text_of_stream = read.text;
-  blocks = bs;
-  blocks_are = read.blocks_are;
-  places = places;
+  checked = checked model bytes a text sound bs cs read places;
   first = subst (λ k. IsFirstFault k bs n e) is first;
 }

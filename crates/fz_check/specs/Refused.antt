@@ -1,20 +1,18 @@
 -- What a refusal says (this project's profile).
-use Rattle.std.specs.Prelude.{◌≡◌, ◌≢◌, ℕ, ◌+◌, ◌<◌, List, ◌∷◌, ◌++◌, length, map, None}
+use Rattle.std.specs.Prelude.{◌≡◌, ◌≢◌, ℕ, ◌+◌, ◌<◌, List, ◌∷◌, ◌++◌, length, None}
 use Rattle.std.specs.List.{AllByRecursion}
 use Rattle.fz_syntax.specs.Limits.{most_bytes}
 use Rattle.fz_syntax.specs.Spots.{Stand, spots}
 use Rattle.fz_syntax.specs.Text.{IsTextOfTree}
 use Rattle.fz_syntax.specs.View.{bare}
 use Rattle.fz_syntax.specs.declared.tree.Ast.{Ast}
-use Rattle.fz_stream.specs.Found.{HasPlaces, block_of, blocks_in}
 use Rattle.fz_stream.specs.Parts.{StreamPart, IsStreamText}
 use Rattle.fz_stream.specs.Telling.{StopsAfter}
 use Rattle.fz_stream.specs.declared.block.Block as the_block
 use Rattle.fz_stream.specs.declared.error.StreamError.{StreamError}
 use Rattle.fz_stream.specs.declared.error.StreamError.TheVariants as stream
-use Rattle.fz_model.specs.Located.{LocatedTree, bare_of}
 use Rattle.fz_model.specs.Meaning.{Model}
-use Rattle.fz_model.specs.Names.{HasNoFault, model_of}
+use Rattle.fz_model.specs.Names.{model_of}
 use Rattle.fz_model.specs.View.{TellsFirstFault, located}
 use Rattle.fz_model.specs.declared.ModelError.{ModelError}
 use Rattle.fz_model.specs.declared.ModelError.TheVariants.{Memory as NameMemory}
@@ -23,6 +21,7 @@ use Rattle.fz_verdict.specs.View.{located_block}
 use Rattle.fz_judge.specs.Judged.{IsBlockRefusal}
 use Rattle.fz_judge.specs.declared.error.BlockError.{BlockError}
 use Rattle.fz_judge.specs.declared.error.BlockError.TheVariants.{Memory as BlockMemory}
+use Rattle.fz_check.specs.Reported.{Checked}
 
 -- The model's bytes are a text of a tree whose names and literals stand there, and this is its leftmost fault.
 pub record HasNameFault (model : List ℕ) (e : ModelError) : Type 0 where
@@ -55,15 +54,7 @@ pub record IsFirstFault (m : Model) (blocks : List the_block.Block) (number : �
   pub tells : IsBlockRefusal m (located_block block) e
   pub not_memory : e ≢ BlockMemory
 
--- The model's bytes are a text of a tree without faults, and the stream's bytes are a text of parts; of their blocks, whose names and
--- literals stand in them, the one with this number is the first that has a fault against the tree's model, which is told.
+-- Of the blocks that are checked, the one with this number is the first that has a fault against the tree's model, and it is told.
 pub record HasBlockFault (model stream : List ℕ) (number : ℕ) (e : BlockError) : Type 0 where
-  pub tree : LocatedTree
-  pub text_of_model : IsTextOfTree model (bare_of tree)
-  pub no_fault : HasNoFault tree
-  pub parts : List StreamPart
-  pub text_of_stream : IsStreamText stream parts
-  pub blocks : List the_block.Block
-  pub blocks_are : map block_of blocks ≡ blocks_in parts
-  pub places : AllByRecursion HasPlaces blocks
-  pub first : IsFirstFault (model_of tree) blocks number e
+  pub checked : Checked model stream
+  pub first : IsFirstFault (model_of checked.tree) checked.blocks number e

@@ -19,13 +19,13 @@ returns-clause-accepted c =
 pub returns-clause-violated : goal.returns-clause-violated
 returns-clause-violated c =
     none_where_violated c.args.model.now c.args.stream.now c.in_ok-ast.ast c.in_ok-loaded.loaded c.in_ok-ast.ensures.found c.in_ok-loaded.ensures.loaded.0 c.in_ok-loaded.ensures.loaded.1
-    c.in_ok-found.found.blocks.items c.in_ok-found.found.claims.items c.in_ok-found.ensures.read c.in_ok-verdicts.verdicts.items
+    c.in_ok-found.found.blocks.items c.in_ok-found.found.claims.items c.in_ok-found.ensures.read c.in_ok-found.ensures.places c.in_ok-verdicts.verdicts.items
     (subst (λ l. AreVerdicts c.in_ok-loaded.loaded (map located_block l) (map verdict_view c.in_ok-verdicts.verdicts.items)) c.deref.ensures.value c.in_ok-verdicts.ensures.judged)
 
 pub returns-clause-report : goal.returns-clause-report
 returns-clause-report c =
     reported c.args.model.now c.args.stream.now c.in_ok-ast.ast c.in_ok-loaded.loaded c.in_ok-ast.ensures.found c.in_ok-loaded.ensures.loaded.0 c.in_ok-loaded.ensures.loaded.1
-    c.in_ok-found.found.blocks.items c.in_ok-found.found.claims.items c.in_ok-found.ensures.read c.in_ok-verdicts.verdicts.items
+    c.in_ok-found.found.blocks.items c.in_ok-found.found.claims.items c.in_ok-found.ensures.read c.in_ok-found.ensures.places c.in_ok-verdicts.verdicts.items
     (subst (λ l. AreVerdicts c.in_ok-loaded.loaded (map located_block l) (map verdict_view c.in_ok-verdicts.verdicts.items)) c.deref.ensures.value c.in_ok-verdicts.ensures.judged)
     c.answer_to-answer.result (c.answer_to-answer.ensures ∙ ap (λ l. answer_of (map verdict_view l)) c.deref-2.ensures.value)
 
