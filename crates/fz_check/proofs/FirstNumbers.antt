@@ -1,9 +1,9 @@
 -- The number of the first verdict of a kind, as a loop finds it.
-use Rattle.std.proofs.Common.{◌≡◌, ℕ, suc, ◌+◌, ◌<◌, Bool, true, false, cond, List, [], ◌∷◌, ◌++◌, length, map, take, drop, get_or, Option, Some, None, refl, sym, ap, ◌∙◌, subst, arith}
+use Rattle.std.proofs.Common.{◌≡◌, ℕ, suc, ◌+◌, ◌<◌, Bool, true, false, cond, List, [], ◌∷◌, ◌++◌, length, map, take, drop, get_or, Some, None, sym, ap, ◌∙◌, arith}
 use Rattle.std.proofs.lemmas.List.{take_more, drop_more, take-append-drop, map-append, length-map, length-take}
 use Rattle.fz_verdict.specs.Verdict.{Verdict, first_number}
-use Rattle.fz_check.specs.declared.verdict.Verdict as the_verdict
-use Rattle.fz_check.specs.View.{verdict_view}
+use Rattle.fz_judge.specs.declared.verdict.Verdict as the_verdict
+use Rattle.fz_judge.specs.View.{verdict_view}
 
 -- where the front has none, the search goes on behind it
 skip : (n : ℕ) (is : Verdict → Bool) (xs ys : List Verdict) → first_number n is xs ≡ None → first_number n is (xs ++ ys) ≡ first_number (length xs + n) is ys

@@ -1,22 +1,32 @@
 -- Of which step a refusal tells.
-use Rattle.std.proofs.Common.{◌≡◌, ◌≢◌, ◌∙◌, ℕ, List, length, refl, sym, subst, Result, Ok, Err}
+use Rattle.std.proofs.Common.{◌≡◌, ◌≢◌, ◌∙◌, ℕ, ◌≤◌, ◌<◌, List, [], ◌∷◌, length, map, refl, sym, subst, arith, Result, Ok, Err}
+use Rattle.std.specs.List.{AllByRecursion}
 use Rattle.std.specs.Result.{IsErrAnd}
 use Rattle.fz_syntax.specs.SyntaxError.{SyntaxError}
 use Rattle.fz_syntax.specs.SyntaxError.TheVariants as syntax
 use Rattle.fz_model.specs.declared.ModelError.{ModelError}
 use Rattle.fz_model.specs.declared.ModelError.TheVariants as names
+use Rattle.fz_syntax.specs.Limits.{most_bytes}
 use Rattle.fz_syntax.specs.Spots.{Stand, spots}
 use Rattle.fz_syntax.specs.Text.{IsTextOfTree}
 use Rattle.fz_syntax.specs.View.{bare}
 use Rattle.fz_syntax.specs.declared.tree.Ast as the_ast
-use Rattle.fz_model.specs.Names.{IsInReadingOrder}
+use Rattle.fz_stream.specs.declared.block.Block as the_block
+use Rattle.fz_stream.specs.declared.error.StreamError.{StreamError}
+use Rattle.fz_stream.specs.declared.error.StreamError.TheVariants as stream
+use Rattle.fz_stream.specs.declared.reading.Claim.{Claim}
+use Rattle.fz_stream.specs.Found.{EndsWithin, HasPlaces, IsReadAs, block_of}
+use Rattle.fz_stream.specs.Parts.{StreamPart, IsStreamText}
+use Rattle.fz_stream.specs.Telling.{StopsAfter}
+use Rattle.fz_model.specs.Meaning.{Model}
+use Rattle.fz_model.specs.Names.{HasNoFault, IsInReadingOrder, model_of}
 use Rattle.fz_model.specs.View.{TellsFirstFault, located}
-use Rattle.fz_model.proofs.Places.{located_is_bare}
 use Rattle.fz_model.proofs.Reading.{in_reading_order}
-use Rattle.fz_check.specs.Headline.{HasNameFault}
-use Rattle.fz_check.specs.declared.error.CheckError.{CheckError}
+use Rattle.fz_judge.specs.declared.error.BlockError.{BlockError}
+use Rattle.fz_check.proofs.Reporting.{checked}
+use Rattle.fz_check.specs.Refused.{HasBlockFault, HasNameFault, HasStreamFault, IsFirstFault}
 use Rattle.fz_check.specs.declared.error.CheckError.TheVariants as errors
-use Rattle.fz_check.specs.Loading.{text_refusal, name_refusal}
+use Rattle.fz_check.specs.Loading.{text_refusal, name_refusal, stream_refusal}
 
 pub told_text : (e f : SyntaxError) → text_refusal e ≡ errors.Model f → (e ≡ f) × (f ≡ syntax.Memory → ⊥)
 told_text syntax.TooLong f h = let same : syntax.TooLong ≡ f = cc in (same, λ m. cc)
@@ -40,13 +50,56 @@ pub residual_is : {A E : Type 0} (r : Result A E) (e f : E) → IsErrAnd r (λ g
 residual_is (Err g) e f h same = let is : g ≡ f = cc in sym h ∙ is
 residual_is (Ok x) e f h same = cc
 
+told_stream : (e f : StreamError) → stream_refusal e ≡ errors.Stream f → (e ≡ f) × (f ≡ stream.Memory → ⊥)
+told_stream stream.TooLong f h = let same : stream.TooLong ≡ f = cc in (same, λ m. cc)
+told_stream (stream.Item s) f h = let same : stream.Item s ≡ f = cc in (same, λ m. cc)
+told_stream (stream.DuplicateName s) f h = let same : stream.DuplicateName s ≡ f = cc in (same, λ m. cc)
+told_stream (stream.Unfinished s) f h = let same : stream.Unfinished s ≡ f = cc in (same, λ m. cc)
+told_stream stream.Failed f h = let same : stream.Failed ≡ f = cc in (same, λ m. cc)
+told_stream stream.Memory f h = cc
+
 -- ---- names
 
 pub name_fault_on : (model : List ℕ) (a : the_ast.Ast) (e : ModelError) → IsTextOfTree model (bare a) → Stand model 0 (length model) (spots a)
     → (e ≢ names.Memory) × (IsInReadingOrder (located a) → TellsFirstFault (located a) e) → HasNameFault model e
 name_fault_on model a e text stands told = record {
-  tree = located a;
-  text_of_model = subst (IsTextOfTree model) (sym (located_is_bare a)) text;
+  tree = a;
+  text_of_model = text;
+  places = stands;
   tells = told.1 (in_reading_order model (length model) a stands);
   not_memory = told.0;
+}
+
+-- ---- streams
+
+-- what a fault of a stream is, by the clauses that tell of it
+stream_fault_is : (bytes : List ℕ) (e : StreamError) → (e ≡ stream.TooLong → most_bytes < length bytes)
+    → (e ≢ stream.Memory → e ≢ stream.TooLong → (parts : List StreamPart) → IsStreamText bytes parts → ⊥)
+    → (e ≢ stream.Memory → e ≢ stream.TooLong → (parts : List StreamPart) × StopsAfter bytes parts e) → (e ≡ stream.Memory → ⊥) → HasStreamFault bytes e
+stream_fault_is bytes stream.TooLong long none stops other = long refl
+stream_fault_is bytes stream.Memory long none stops other = other refl
+stream_fault_is bytes (stream.Item s) long none stops other = let (before, stopped) = stops (λ m. cc) (λ m. cc) in record { no_parts = none (λ m. cc) (λ m. cc); before = before; stops = stopped }
+stream_fault_is bytes (stream.DuplicateName s) long none stops other = let (before, stopped) = stops (λ m. cc) (λ m. cc) in record { no_parts = none (λ m. cc) (λ m. cc); before = before; stops = stopped }
+stream_fault_is bytes (stream.Unfinished s) long none stops other = let (before, stopped) = stops (λ m. cc) (λ m. cc) in record { no_parts = none (λ m. cc) (λ m. cc); before = before; stops = stopped }
+stream_fault_is bytes stream.Failed long none stops other = let (before, stopped) = stops (λ m. cc) (λ m. cc) in record { no_parts = none (λ m. cc) (λ m. cc); before = before; stops = stopped }
+
+pub stream_fault_on : (bytes : List ℕ) (e f : StreamError) → (e ≡ stream.TooLong → most_bytes < length bytes)
+    → (e ≢ stream.Memory → e ≢ stream.TooLong → (parts : List StreamPart) → IsStreamText bytes parts → ⊥)
+    → (e ≢ stream.Memory → e ≢ stream.TooLong → (parts : List StreamPart) × StopsAfter bytes parts e) → stream_refusal e ≡ errors.Stream f → HasStreamFault bytes f
+stream_fault_on bytes e f long none stops same =
+    let told = told_stream e f same in
+    subst (HasStreamFault bytes) told.0 (stream_fault_is bytes e long none stops (λ m. told.1 (sym told.0 ∙ m)))
+
+-- what ends within so many bytes ends within more
+pub ends_within : (n most : ℕ) → n ≤ most → (bs : List the_block.Block) → AllByRecursion (EndsWithin n) bs → AllByRecursion (EndsWithin most) bs
+ends_within n most less [] h = tt
+ends_within n most less (b ∷ bs) h = (omega (arith, h.0, less), ends_within n most less bs h.1)
+
+-- ---- blocks
+
+pub block_fault_on : (model bytes : List ℕ) (a : the_ast.Ast) (m : Model) (text : IsTextOfTree model (bare a)) (sound : HasNoFault (located a)) → m ≡ model_of (located a)
+    → (bs : List the_block.Block) (cs : List Claim) (read : IsReadAs bytes (map block_of bs) cs) (places : AllByRecursion HasPlaces bs) (n : ℕ) (e : BlockError) → IsFirstFault m bs n e → HasBlockFault model bytes n e
+block_fault_on model bytes a m text sound is bs cs read places n e first = record {
+  checked = checked model bytes a text sound bs cs read places;
+  first = subst (λ k. IsFirstFault k bs n e) is first;
 }

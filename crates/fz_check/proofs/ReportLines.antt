@@ -1,5 +1,5 @@
 -- A report is written line by line: each block, and the claims that come right after it.
-use Rattle.std.proofs.Common.{◌≡◌, ◌≢◌, ℕ, suc, zero, ◌≤◌, ◌<◌, ◌+◌, Bool, true, false, cond, List, [], ◌∷◌, ◌++◌, length, map, take, get_or, refl, sym, ap, ◌∙◌, subst, arith, append_assoc, append-nil, ◌==◌, flat_map}
+use Rattle.std.proofs.Common.{◌≡◌, ℕ, suc, ◌≤◌, ◌<◌, ◌+◌, true, false, cond, List, [], ◌∷◌, ◌++◌, length, map, take, get_or, refl, sym, ap, ◌∙◌, subst, arith, append_assoc, append-nil, ◌==◌}
 use Rattle.std.specs.List.{AllByRecursion, filter}
 use Rattle.std.proofs.lemmas.List.{take_more, length-map, length-take, map-append}
 use Rattle.std.proofs.lemmas.Grind.{flat_map-append}
@@ -7,8 +7,8 @@ use Rattle.fz_stream.specs.declared.reading.Claim.{Claim}
 use Rattle.fz_stream.specs.Found.{AreInOrder}
 use Rattle.fz_verdict.specs.Report.{block_line, claim_line, claim_lines, lines_from, text_of_lines}
 use Rattle.fz_verdict.specs.Verdict.{Verdict}
-use Rattle.fz_check.specs.declared.verdict.Verdict as the_verdict
-use Rattle.fz_check.specs.View.{verdict_view}
+use Rattle.fz_judge.specs.declared.verdict.Verdict as the_verdict
+use Rattle.fz_judge.specs.View.{verdict_view}
 use Rattle.fz_check.specs.Lines.{BeginsElsewhere, IsPushing, IsPushed, IsWritten}
 
 -- ---- the claims at the front

@@ -1,13 +1,10 @@
 -- What an accepted stream has (this project's profile).
-use Rattle.std.specs.Prelude.{◌≡◌, ◌≢◌, ℕ, ◌≤◌, List, length, map}
+use Rattle.std.specs.Prelude.{◌≡◌, ℕ, ◌≤◌, List, length, map}
 use Rattle.fz_syntax.specs.Text.{IsTextOfTree}
 use Rattle.fz_stream.specs.Parts.{StreamPart, IsStreamText}
 use Rattle.fz_stream.specs.Found.{blocks_in, claims_in}
 use Rattle.fz_model.specs.Located.{LocatedTree, bare_of}
 use Rattle.fz_model.specs.Names.{HasNoFault}
-use Rattle.fz_model.specs.View.{TellsFirstFault}
-use Rattle.fz_model.specs.declared.ModelError.{ModelError}
-use Rattle.fz_model.specs.declared.ModelError.TheVariants.{Memory as NameMemory}
 use Rattle.fz_verdict.specs.Blocks.{Block, bare_of_block}
 use Rattle.fz_stream.specs.declared.reading.Claim.{Claim}
 use Rattle.fz_verdict.specs.Verdict.{Verdict, Answer, answer_of}
@@ -36,10 +33,3 @@ pub record IsOfStream (stream : List ℕ) (verdicts : List Verdict) (claims : Li
   pub one_each : length verdicts ≡ length (blocks_in parts)
   pub claims_are : claims ≡ claims_in 0 parts
   pub answer_is : answer ≡ answer_of verdicts
-
--- the model's bytes are a text of a tree of which this is the leftmost fault
-pub record HasNameFault (model : List ℕ) (e : ModelError) : Type 0 where
-  pub tree : LocatedTree
-  pub text_of_model : IsTextOfTree model (bare_of tree)
-  pub tells : TellsFirstFault tree e
-  pub not_memory : e ≢ NameMemory

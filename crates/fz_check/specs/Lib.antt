@@ -1,7 +1,9 @@
 pub mod View
-pub mod Simple
 pub mod Refusal
 pub mod Telling
 pub mod Loading
 pub mod Headline
+pub mod Refused
+pub mod Reported
+pub mod Sought
 pub mod Lines

@@ -1,9 +1,13 @@
--- What the steps before judging answer (this project's profile).
-use Rattle.std.specs.Prelude.{⊤}
+-- What the steps of a check answer (this project's profile).
+use Rattle.std.specs.Prelude.{⊤, ℕ}
 use Rattle.fz_syntax.specs.SyntaxError.{SyntaxError}
 use Rattle.fz_syntax.specs.SyntaxError.TheVariants as syntax
 use Rattle.fz_model.specs.declared.ModelError.{ModelError}
 use Rattle.fz_model.specs.declared.ModelError.TheVariants as names
+use Rattle.fz_stream.specs.declared.error.StreamError.{StreamError}
+use Rattle.fz_stream.specs.declared.error.StreamError.TheVariants as stream
+use Rattle.fz_judge.specs.declared.error.BlockError.{BlockError}
+use Rattle.fz_judge.specs.declared.error.BlockError.TheVariants as block
 use Rattle.fz_check.specs.declared.error.CheckError.{CheckError}
 use Rattle.fz_check.specs.declared.error.CheckError.TheVariants as errors
 
@@ -14,7 +18,13 @@ IsModelRefusal (errors.Names e) = ⊤
 IsModelRefusal errors.Memory = ⊤
 IsModelRefusal _ = ⊥
 
--- those of its bytes alone, and those of its names alone
+-- those of a whole check, where nothing is read and written
+abbrev pub IsCheckRefusal : CheckError → Type 0
+IsCheckRefusal errors.Read = ⊥
+IsCheckRefusal errors.Write = ⊥
+IsCheckRefusal _ = ⊤
+
+-- those of one step alone
 abbrev pub IsTextRefusal : CheckError → Type 0
 IsTextRefusal (errors.Model e) = ⊤
 IsTextRefusal errors.Memory = ⊤
@@ -25,6 +35,16 @@ IsNameRefusal (errors.Names e) = ⊤
 IsNameRefusal errors.Memory = ⊤
 IsNameRefusal _ = ⊥
 
+abbrev pub IsStreamRefusal : CheckError → Type 0
+IsStreamRefusal (errors.Stream e) = ⊤
+IsStreamRefusal errors.Memory = ⊤
+IsStreamRefusal _ = ⊥
+
+abbrev pub IsJudgingRefusal : CheckError → Type 0
+IsJudgingRefusal (errors.Block n e) = ⊤
+IsJudgingRefusal errors.Memory = ⊤
+IsJudgingRefusal _ = ⊥
+
 -- ---- what is answered where a step refuses: want of memory in any part is the want of memory of the whole
 
 abbrev pub text_refusal : SyntaxError → CheckError
@@ -34,3 +54,11 @@ text_refusal e = errors.Model e
 abbrev pub name_refusal : ModelError → CheckError
 name_refusal names.Memory = errors.Memory
 name_refusal e = errors.Names e
+
+abbrev pub stream_refusal : StreamError → CheckError
+stream_refusal stream.Memory = errors.Memory
+stream_refusal e = errors.Stream e
+
+abbrev pub block_refusal : ℕ → BlockError → CheckError
+block_refusal number block.Memory = errors.Memory
+block_refusal number e = errors.Block number e

@@ -1,5 +1,5 @@
 -- The line that tells of a refusal, and the program's exit status (this project's profile).
-use Rattle.std.specs.Prelude.{◌≡◌, ℕ, List, ◌++◌, Option, Some, None, Result, Ok, Err, codes, decimal}
+use Rattle.std.specs.Prelude.{ℕ, List, ◌++◌, Option, Some, None, Result, Ok, Err, codes, decimal}
 use Rattle.fz_base.specs.declared.span.Span.{Span}
 use Rattle.fz_syntax.specs.SyntaxError.{SyntaxError}
 use Rattle.fz_syntax.specs.SyntaxError.TheVariants as syntax
@@ -7,8 +7,8 @@ use Rattle.fz_model.specs.declared.ModelError.{ModelError}
 use Rattle.fz_model.specs.declared.ModelError.TheVariants as model
 use Rattle.fz_stream.specs.declared.error.StreamError.{StreamError}
 use Rattle.fz_stream.specs.declared.error.StreamError.TheVariants as stream
-use Rattle.fz_check.specs.declared.error.BlockError.{BlockError}
-use Rattle.fz_check.specs.declared.error.BlockError.TheVariants as block
+use Rattle.fz_judge.specs.declared.error.BlockError.{BlockError}
+use Rattle.fz_judge.specs.declared.error.BlockError.TheVariants as block
 use Rattle.fz_check.specs.declared.error.CheckError.{CheckError}
 use Rattle.fz_check.specs.declared.error.CheckError.TheVariants as errors
 use Rattle.fz_check.specs.declared.report.Answer.{Answer}
@@ -71,7 +71,6 @@ refusal (errors.Block number e) = codes "block " ++ decimal number ++ codes ": "
 refusal errors.Memory = codes "memory"
 refusal errors.Read = codes "read"
 refusal errors.Write = codes "write"
-refusal errors.NotYet = codes "not yet"
 
 -- the line, with its LF
 abbrev pub refusal_line : CheckError → List ℕ

@@ -1,6 +1,7 @@
 //! The check of a stream against a model.
 
-ghost use Rattle.std.specs.Prelude.{◌≡◌, ◌≢◌, ℕ, List, length, map, vec_len, IfOk, IfErr, Err};
+ghost use Rattle.std.specs.Prelude.{◌≡◌, ◌≢◌, ℕ, length, map, vec_len, IfOk, IfErr, Err};
+ghost use Rattle.std.specs.List.{AllByRecursion};
 ghost use Rattle.fz_syntax.specs.SyntaxError.{SyntaxError as SyntaxFault};
 ghost use Rattle.fz_syntax.specs.Tree.{Tree};
 ghost use Rattle.fz_syntax.specs.Text.{IsTextOfTree};
@@ -12,17 +13,32 @@ ghost use Rattle.fz_model.specs.declared.ModelError.{ModelError as NameFault};
 ghost use Rattle.fz_model.specs.declared.ModelError.TheVariants.{Memory as NameMemory};
 ghost use Rattle.fz_model.specs.Names.{HasNoFault, IsInReadingOrder, model_of};
 ghost use Rattle.fz_model.specs.View.{TellsFirstFault, located};
-ghost use Rattle.fz_stream.specs.Found.{AreInOrder};
-ghost use Rattle.fz_check.specs.Simple.{Beside, IsJudged};
-ghost use Rattle.fz_check.specs.Headline.{HasNameFault, HasSolutions, IsOfStream};
-ghost use Rattle.fz_check.specs.Loading.{IsModelRefusal, IsNameRefusal, IsTextRefusal, name_refusal, text_refusal};
-ghost use Rattle.fz_check.specs.View.{answer_view, verdict_view};
+ghost use Rattle.fz_stream.specs.declared.error.StreamError.{StreamError as StreamFault};
+ghost use Rattle.fz_stream.specs.Found.{AreInOrder, EndsWithin, HasPlaces, IsReadAs, block_of};
+ghost use Rattle.fz_verdict.specs.Verdict.{AreVerdicts};
+ghost use Rattle.fz_verdict.specs.View.{located_block};
+ghost use Rattle.fz_judge.specs.declared.error.BlockError.{BlockError as BlockFault};
+ghost use Rattle.fz_judge.specs.View.{verdict_view};
+ghost use Rattle.fz_check.specs.Headline.{HasSolutions, IsOfStream};
+ghost use Rattle.fz_check.specs.Refused.{HasBlockFault, HasNameFault, HasStreamFault, IsFirstFault};
+ghost use Rattle.fz_check.specs.Reported.{HasNoneWhereViolated, HasReport};
+ghost use Rattle.fz_check.specs.Loading.{
+  IsCheckRefusal,
+  IsJudgingRefusal,
+  IsModelRefusal,
+  IsNameRefusal,
+  IsStreamRefusal,
+  IsTextRefusal,
+  block_refusal,
+  name_refusal,
+  stream_refusal,
+  text_refusal,
+};
+ghost use Rattle.fz_check.specs.View.{answer_view, report_view};
 
-use crate::error::{BlockError, CheckError};
-use crate::judge::judge;
+use crate::error::CheckError;
 use crate::report::{Answer, Report, answer_to};
-use crate::scalars::{Scalars, Unfit};
-use crate::verdict::Verdict;
+use fz_judge::{BlockError, Judge, Verdict};
 use fz_model::{Model, ModelError, load};
 use fz_stream::{Block, Stream, StreamError, blocks};
 use fz_syntax::{Ast, SyntaxError, parse, to_text};
@@ -45,6 +61,26 @@ pub(crate) fn name_refusal(error: ModelError) -> CheckError
     match error {
         ModelError::Memory => CheckError::Memory,
         error => CheckError::Names(error),
+    }
+}
+
+/// What is answered where a stream is refused.
+pub(crate) fn stream_refusal(error: StreamError) -> CheckError
+    ensures { result ≡ stream_refusal error }
+{
+    match error {
+        StreamError::Memory => CheckError::Memory,
+        error => CheckError::Stream(error),
+    }
+}
+
+/// What is answered where the block of this number is refused.
+pub(crate) fn block_refusal(number: usize, error: BlockError) -> CheckError
+    ensures { result ≡ block_refusal number error }
+{
+    match error {
+        BlockError::Memory => CheckError::Memory,
+        error => CheckError::Block(number, error),
     }
 }
 
@@ -74,26 +110,39 @@ fn load_tree<'a>(alloc: Global, ast: &Ast<'a>) -> Result<Model<'a>, CheckError>
     }
 }
 
-/// A block that can't be judged, by its number from 1, and why.
-type Unjudged = (usize, BlockError);
+/// The blocks and claims of a stream.
+fn read_stream<'s>(alloc: Global, stream: &'s [u8]) -> Result<Stream<'s>, CheckError>
+    ensures read { IfOk result (λ s. IsReadAs stream.now (map block_of s.blocks.items) s.claims.items) }
+    ensures places { IfOk result (λ s. AllByRecursion HasPlaces s.blocks.items) }
+    ensures within { IfOk result (λ s. AllByRecursion (EndsWithin usize.MAX) s.blocks.items) }
+    ensures in_order { IfOk result (λ s. AreInOrder 0 (vec_len s.blocks) s.claims.items) }
+    ensures stream { (e : StreamFault) → result ≡ Err (CheckError.Stream e) → HasStreamFault stream.now e }
+    ensures kinds { IfErr result IsStreamRefusal }
+{
+    match blocks(alloc, stream) {
+        Ok(stream) => Ok(stream),
+        Err(error) => Err(stream_refusal(error)),
+    }
+}
 
-/// The verdicts on the blocks, in order.
+/// The verdicts on the blocks, in order, by one judge, which keeps the objective of the block before.
 fn judge_blocks<'a>(
     alloc: Global,
-    model: &Scalars<'a>,
+    model: &Model<'a>,
     blocks: &[Block<'_>],
-) -> Result<Vec<Verdict<'a>>, Unjudged>
-    ensures { IfOk result (λ v. Beside (IsJudged (map (λ k. k.now) model.now.names.keys) model.now.variables.items model.now.posted.items) blocks.now v.items) }
+) -> Result<Vec<Verdict<'a>>, CheckError>
+    requires places { AllByRecursion HasPlaces blocks.now }
+    requires within { AllByRecursion (EndsWithin usize.MAX) blocks.now }
+    ensures judged { IfOk result (λ v. AreVerdicts model.now (map located_block blocks.now) (map verdict_view v.items)) }
+    ensures block { (n : ℕ) (e : BlockFault) → result ≡ Err (CheckError.Block n e) → IsFirstFault model.now blocks.now n e }
+    ensures kinds { IfErr result IsJudgingRefusal }
 {
+    let mut judge = Judge::new(model);
     let mut verdicts = Vec::new(alloc);
     for (place, block) in blocks.iter().enumerate() {
-        let number = place + 1;
-        let verdict = match judge(alloc, model, block) {
-            Ok(verdict) => verdict,
-            Err(error) => return Err((number, error)),
-        };
-        if verdicts.push(verdict).is_err() {
-            return Err((number, BlockError::Memory));
+        match judge.judge(alloc, block) {
+            Ok(verdict) => verdicts.push(verdict)?,
+            Err(error) => return Err(block_refusal(place + 1, error)),
         }
     }
     Ok(verdicts)
@@ -104,40 +153,34 @@ fn judge_blocks<'a>(
 ///
 /// # Errors
 ///
-/// `Model` where the model's bytes are a text of no tree, `Names` with the leftmost fault of its names, `NotYet` where
-/// the tree has a part that is not judged yet, `Stream` where the stream's bytes are a text of no blocks
-/// and claims, `Block` where a block does not fit the model, and want of memory.
+/// `Model` where the model's bytes are a text of no tree, `Names` with the leftmost fault of its names, `Stream` where the
+/// stream's bytes are a text of no blocks and claims, `Block` with the first fault of the first block that has one, and
+/// want of memory.
 pub fn check<'a>(alloc: Global, model: &'a [u8], stream: &[u8]) -> Result<Report<'a>, CheckError>
     // A yes is a yes: what is accepted has solutions.
     ensures accepted { IfOk result (λ r. (count : ℕ) → r.answer ≡ Answer.Accepted count → HasSolutions model.now stream.now count) }
-    // The report is that of the stream's own blocks and claims, with one verdict per block.
+    // A no is a no: what is violated has none.
+    ensures violated { IfOk result (λ r. HasNoneWhereViolated model.now stream.now (map verdict_view r.verdicts.items)) }
+    // The report is the one as defined, with one verdict for each block, the stream's claims and the answer that follows.
+    ensures report { IfOk result (λ r. HasReport model.now stream.now (report_view r)) }
     ensures whole { IfOk result (λ r. IsOfStream stream.now (map verdict_view r.verdicts.items) r.claims.items (answer_view r.answer)) }
     ensures in_order { IfOk result (λ r. AreInOrder 0 (vec_len r.verdicts) r.claims.items) }
     // The model is refused only where its bytes are a text of no tree, or with the leftmost fault of its names.
     ensures no_tree { (e : SyntaxFault) → result ≡ Err (CheckError.Model e) → (t : Tree) → IsTextOfTree model.now t → ⊥ }
     ensures names { (e : NameFault) → result ≡ Err (CheckError.Names e) → HasNameFault model.now e }
+    // The stream is refused only where its bytes are too many or a text of no parts, a block with the first fault.
+    ensures stream { (e : StreamFault) → result ≡ Err (CheckError.Stream e) → HasStreamFault stream.now e }
+    ensures block { (n : ℕ) (e : BlockFault) → result ≡ Err (CheckError.Block n e) → HasBlockFault model.now stream.now n e }
+    ensures kinds { IfErr result IsCheckRefusal }
 {
     let ast = read_text(alloc, model)?;
-    load_tree(alloc, &ast)?;
-    let scalars = match Scalars::of(alloc, &ast) {
-        Ok(scalars) => scalars,
-        Err(Unfit::NotYet) => return Err(CheckError::NotYet),
-        Err(Unfit::Memory) => return Err(CheckError::Memory),
-    };
-    let Stream { blocks, claims } = match blocks(alloc, stream) {
-        Ok(stream) => stream,
-        Err(StreamError::Memory) => return Err(CheckError::Memory),
-        Err(error) => return Err(CheckError::Stream(error)),
-    };
-    let verdicts = match judge_blocks(alloc, &scalars, &blocks) {
-        Ok(verdicts) => verdicts,
-        Err((_, BlockError::Memory)) => return Err(CheckError::Memory),
-        Err((number, error)) => return Err(CheckError::Block(number, error)),
-    };
+    let loaded = load_tree(alloc, &ast)?;
+    let found = read_stream(alloc, stream)?;
+    let verdicts = judge_blocks(alloc, &loaded, &found.blocks)?;
     let answer = answer_to(&verdicts);
     Ok(Report {
         verdicts,
-        claims,
+        claims: found.claims,
         answer,
     })
 }

@@ -1,26 +1,9 @@
-use fz_base::Span;
+use fz_judge::BlockError;
 use fz_model::ModelError;
 use fz_stream::StreamError;
 use fz_syntax::SyntaxError;
 use std::alloc::{AllocError, AllocFailed};
 use thiserror::Error;
-
-/// Why a block cannot be judged: its first fault against the model, or want of memory. Spans count
-/// from the stream's first byte.
-#[derive(Clone, Copy, Debug, PartialEq, Eq, Error)]
-pub enum BlockError {
-    /// A printed name is not declared.
-    #[error("UnknownName")]
-    UnknownName(Span),
-    /// A printed value is of another kind than its name.
-    #[error("Kind")]
-    Kind(Span),
-    /// A printed array has another number of elements than its name.
-    #[error("Length")]
-    Length(Span),
-    #[error("Memory")]
-    Memory,
-}
 
 /// Why a check has no report.
 #[derive(Clone, Copy, Debug, PartialEq, Eq, Error)]
@@ -45,9 +28,6 @@ pub enum CheckError {
     /// A write failed.
     #[error("write")]
     Write,
-    /// The model has a part that cannot be judged yet.
-    #[error("not yet")]
-    NotYet,
 }
 
 impl From<AllocError> for CheckError {
@@ -69,27 +49,5 @@ impl<T: Drop> From<AllocFailed<T>> for CheckError {
 
     fn from(_e: AllocFailed<T>) -> CheckError {
         CheckError::Memory
-    }
-}
-
-impl From<AllocError> for BlockError {
-    ghost use Rattle.std.specs.Prelude.{◌≡◌};
-    ghost use Rattle.fz_check.specs.declared.error.BlockError.TheVariants.{Memory};
-
-    ghost from_gives = { λ _ e. e ≡ Memory };
-
-    fn from(_e: AllocError) -> BlockError {
-        BlockError::Memory
-    }
-}
-
-impl<T: Drop> From<AllocFailed<T>> for BlockError {
-    ghost use Rattle.std.specs.Prelude.{◌≡◌};
-    ghost use Rattle.fz_check.specs.declared.error.BlockError.TheVariants.{Memory};
-
-    ghost from_gives = { λ _ e. e ≡ Memory };
-
-    fn from(_e: AllocFailed<T>) -> BlockError {
-        BlockError::Memory
     }
 }

@@ -1,20 +1,17 @@
-//! Judging a stream of solution blocks against a model.
+//! Judging a stream of solution blocks against a model. The inner crate `fz_judge` judges one block after another.
 #![tactic(auto)]
 
 mod checking;
 mod error;
-mod judge;
 mod refusal;
 mod report;
-mod scalars;
 mod text;
-mod verdict;
 
 pub use checking::{check, show};
-pub use error::{BlockError, CheckError};
+pub use error::CheckError;
+pub use fz_judge::{BlockError, Fault, Judge, Reason, Verdict, fill};
 pub use refusal::{refusal_text, status};
 pub use report::{Answer, Report, report_text};
-pub use verdict::{Fault, Reason, Verdict};
 
 #[cfg(test)]
 mod tests;

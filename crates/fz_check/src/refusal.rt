@@ -4,10 +4,11 @@ ghost use Rattle.std.specs.Prelude.{◌≡◌, ◌++◌, IfOk, OnOk};
 ghost use Rattle.fz_check.specs.Refusal.{block_fault, model_fault, named_text, refusal_line, status_of, stream_fault, syntax_fault};
 ghost use Rattle.fz_check.specs.Telling.{named};
 
-use crate::error::{BlockError, CheckError};
+use crate::error::CheckError;
 use crate::report::Answer;
 use crate::text::{push_bytes, push_count};
 use fz_base::Span;
+use fz_judge::BlockError;
 use fz_model::ModelError;
 use fz_stream::StreamError;
 use fz_syntax::SyntaxError;
@@ -135,7 +136,6 @@ pub fn refusal_text(alloc: Global, error: &CheckError) -> Result<Vec<u8>, AllocE
         CheckError::Memory => push_bytes(&mut text, b"memory")?,
         CheckError::Read => push_bytes(&mut text, b"read")?,
         CheckError::Write => push_bytes(&mut text, b"write")?,
-        CheckError::NotYet => push_bytes(&mut text, b"not yet")?,
     }
     push_bytes(&mut text, b"\n")?;
     Ok(text)

@@ -2,13 +2,15 @@
 
 ghost use Rattle.std.specs.Prelude.{◌≡◌, ◌++◌, ◌∷◌, [], IfOk, OnOk, map, decimal, vec_len};
 ghost use Rattle.fz_verdict.specs.Report.{answer_line, block_line, claim_line, claim_text, report_bytes, text_of_lines, verdict_text};
-ghost use Rattle.fz_verdict.specs.Verdict.{answer_of, first_number, is_undecided, is_violated};
-ghost use Rattle.fz_check.specs.View.{answer_view, report_view, verdict_view};
+ghost use Rattle.fz_verdict.specs.Verdict.{answer_of, first_number};
+ghost use Rattle.fz_judge.specs.View.{verdict_view};
+ghost use Rattle.fz_check.specs.Sought.{is_sought};
+ghost use Rattle.fz_check.specs.View.{answer_view, report_view};
 ghost use Rattle.fz_stream.specs.Found.{AreInOrder};
 ghost use Rattle.fz_check.specs.Lines.{IsPushed};
 
 use crate::text::{push_bytes, push_count, push_fault, push_reason};
-use crate::verdict::Verdict;
+use fz_judge::Verdict;
 use fz_stream::{Claim, ClaimKind};
 use std::alloc::{AllocError, Global};
 
@@ -33,42 +35,30 @@ pub struct Report<'a> {
     pub answer: Answer,
 }
 
-fn is_violated(verdict: &Verdict<'_>) -> bool
-    ensures { result ≡ is_violated (verdict_view verdict.now) }
-{
-    match verdict {
-        Verdict::Violated(_) => true,
-        Verdict::Satisfied | Verdict::Undecided(_) => false,
-    }
+/// Which verdicts a search looks for.
+#[derive(Clone, Copy)]
+enum Sought {
+    Violated,
+    Undecided,
 }
 
-fn is_undecided(verdict: &Verdict<'_>) -> bool
-    ensures { result ≡ is_undecided (verdict_view verdict.now) }
-{
-    match verdict {
-        Verdict::Undecided(_) => true,
-        Verdict::Satisfied | Verdict::Violated(_) => false,
-    }
-}
-
-/// The number of the first violated block, from 1.
-fn first_violated(verdicts: &[Verdict<'_>]) -> Option<usize>
-    ensures { result ≡ first_number 1 is_violated (map verdict_view verdicts.now) }
-{
-    for (place, verdict) in verdicts.iter().enumerate() {
-        if is_violated(verdict) {
-            return Some(place + 1);
+impl Sought {
+    fn fits(self, verdict: &Verdict<'_>) -> bool
+        ensures { result ≡ is_sought self (verdict_view verdict.now) }
+    {
+        match self {
+            Sought::Violated => matches!(verdict, Verdict::Violated(_)),
+            Sought::Undecided => matches!(verdict, Verdict::Undecided(_)),
         }
     }
-    None
 }
 
-/// The number of the first undecided block, from 1.
-fn first_undecided(verdicts: &[Verdict<'_>]) -> Option<usize>
-    ensures { result ≡ first_number 1 is_undecided (map verdict_view verdicts.now) }
+/// The number of the first block, from 1, whose verdict is one that is sought.
+fn first_number(sought: Sought, verdicts: &[Verdict<'_>]) -> Option<usize>
+    ensures { result ≡ first_number 1 (is_sought sought) (map verdict_view verdicts.now) }
 {
     for (place, verdict) in verdicts.iter().enumerate() {
-        if is_undecided(verdict) {
+        if sought.fits(verdict) {
             return Some(place + 1);
         }
     }
@@ -79,10 +69,10 @@ fn first_undecided(verdicts: &[Verdict<'_>]) -> Option<usize>
 pub(crate) fn answer_to(verdicts: &[Verdict<'_>]) -> Answer
     ensures { answer_view result ≡ answer_of (map verdict_view verdicts.now) }
 {
-    if let Some(number) = first_violated(verdicts) {
+    if let Some(number) = first_number(Sought::Violated, verdicts) {
         return Answer::Rejected(number);
     }
-    if let Some(number) = first_undecided(verdicts) {
+    if let Some(number) = first_number(Sought::Undecided, verdicts) {
         return Answer::Undecided(number);
     }
     match verdicts.len() {

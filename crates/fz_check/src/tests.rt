@@ -1,111 +1,57 @@
-//! Worked cases over the public calls.
+//! What no clause says: that calls succeed, and printed text. The worked cases of `check` stand in `fz_rows`.
 
-use crate::{Answer, CheckError, check, refusal_text, report_text, show, status};
-use std::alloc::{AllocError, Global};
+use crate::{
+    Answer, BlockError, CheckError, Fault, Judge, Verdict, fill, refusal_text, show, status,
+};
+use fz_base::{Span, Value};
+use fz_model::load;
+use fz_stream::{StreamError, blocks};
+use fz_syntax::{SyntaxError, parse};
+use std::alloc::AllocError;
 use std::test::Fail;
 
-const FIRST: &str = "var 1..5: x :: output_var;\nconstraint int_le(2,x);\nsolve satisfy;\n";
-
-/// The report's text, or the line of the refusal.
-fn told(alloc: Global, model: &str, stream: &str) -> Result<Vec<u8>, AllocError> {
-    match check(alloc, model.as_bytes(), stream.as_bytes()) {
-        Ok(report) => report_text(alloc, &report),
-        Err(error) => refusal_text(alloc, &error),
-    }
-}
-
+/// A judge keeps the objective of the block before, and is unchanged where it refuses a block.
 #[test]
-fn judges_streams_of_the_first_model(rt: HostRuntime) -> Result<(), Fail> {
-    for (stream, wanted) in [
-        (
-            "x = 3;\n----------\n",
-            "block 1: satisfied\naccepted: blocks 1\n",
-        ),
-        (
-            "x = 3;\n----------",
-            "block 1: satisfied\naccepted: blocks 1\n",
-        ),
-        (
-            "x = 1;\n----------\n",
-            "block 1: violated: constraint 1 int_le\nrejected: block 1\n",
-        ),
-        (
-            "x = 6;\n----------\n",
-            "block 1: violated: domain of x\nrejected: block 1\n",
-        ),
-        (
-            "----------\n",
-            "block 1: undecided: no value for x\nundecided: block 1\n",
-        ),
-        ("", "no blocks\n"),
-        (
-            "=====UNSATISFIABLE=====\n",
-            "claim: =====UNSATISFIABLE===== not judged\nno blocks\n",
-        ),
-        (
-            "x = 3;\n----------\nx = 1;\n----------\n==========\n----------\n",
-            "block 1: satisfied\nblock 2: violated: constraint 1 int_le\nclaim: ========== not judged\nblock 3: undecided: no value for x\nrejected: block 2\n",
-        ),
-        (
-            "y = 1;\n----------\n",
-            "refused: block 1: UnknownName at 0..1\n",
-        ),
-        (
-            "x = 3;\n----------\ny = 1;\n----------\n",
-            "refused: block 2: UnknownName at 18..19\n",
-        ),
-        (
-            "x = true;\n----------\n",
-            "refused: block 1: Kind at 4..8\n",
-        ),
-        ("x = 3;\n", "refused: stream: Unfinished at 0..7\n"),
-    ] {
-        let given = told(rt.alloc(), FIRST, stream)?;
-        assert_eq!(rt; given.as_slice(), wanted.as_bytes(), "at {stream}");
-    }
-    Ok(())
-}
-
-#[test]
-fn judges_and_refuses_models(rt: HostRuntime) -> Result<(), Fail> {
-    for (model, wanted) in [
-        (
-            "solve satisfy;\n",
-            "block 1: satisfied\naccepted: blocks 1\n",
-        ),
-        (
-            "constraint foo(1);\nsolve satisfy;\n",
-            "block 1: undecided: constraint 1 foo not known\nundecided: block 1\n",
-        ),
-        ("solve satisfy", "refused: model: Syntax at 13..13\n"),
-        (
-            "solve minimize --5;\n",
-            "refused: model: BadByte at 15..16\n",
-        ),
-        (
-            "var 1..5: x;\nconstraint p(1.5);\nsolve satisfy;\n",
-            "refused: model: Float at 26..29\n",
-        ),
-        (
-            "var 1..5: x;\nvar 1..5: x;\nsolve satisfy;\n",
-            "refused: model: DuplicateName at 23..24\n",
-        ),
-        (
-            "constraint int_le(2,x);\nsolve satisfy;\n",
-            "refused: model: UnknownName at 20..21\n",
-        ),
-        ("var bool: b;\nsolve satisfy;\n", "refused: not yet\n"),
-    ] {
-        let given = told(rt.alloc(), model, "----------\n")?;
-        assert_eq!(rt; given.as_slice(), wanted.as_bytes(), "at {model}");
-    }
+fn fills_and_judges(rt: HostRuntime) -> Result<(), Fail> {
+    let ast = parse(
+        rt.alloc(),
+        b"var 0..9: x;\nvar 0..17: z;\nconstraint int_lin_eq([2,-1],[x,z],0) :: defines_var(z);\nsolve minimize z;\n",
+    )?;
+    let model = load(rt.alloc(), &ast)?;
+    let stream = blocks(
+        rt.alloc(),
+        b"x = 4;\n----------\ny = 1;\n----------\nx = 4;\n----------\n",
+    )?;
+    let [first, unknown, again] = stream.blocks.as_slice() else {
+        return Err(Fail::from(AllocError));
+    };
+    let filling = fill(rt.alloc(), &model, first)?;
+    let is_filled = matches!(filling.get(1), Some(Value::Int(8)));
+    assert!(rt; is_filled);
+    let mut judge = Judge::new(&model);
+    let satisfied = matches!(judge.judge(rt.alloc(), first), Ok(Verdict::Satisfied));
+    assert!(rt; satisfied);
+    let refused = match judge.judge(rt.alloc(), unknown) {
+        Ok(_) => BlockError::Memory,
+        Err(error) => error,
+    };
+    let name = Span { start: 18, end: 19 };
+    assert_eq!(rt; refused, BlockError::UnknownName(name));
+    let not_better = match judge.judge(rt.alloc(), again) {
+        Ok(Verdict::Violated(Fault::NotBetter(now, before))) => Some((now, before)),
+        _ => None,
+    };
+    assert_eq!(rt; not_better, Some((8, 8)));
     Ok(())
 }
 
 #[test]
 fn shows_models(rt: HostRuntime) -> Result<(), Fail> {
     for (model, wanted) in [
-        (FIRST, FIRST),
+        (
+            "var 0o17..0x10:x;% c\r\nsolve satisfy;\r\n",
+            "var 15..16: x;\nsolve satisfy;\n",
+        ),
         (
             "solve::restart_geometric(1.5,100) satisfy;\n",
             "solve :: restart_geometric(1.5,100) satisfy;\n",
@@ -120,13 +66,35 @@ fn shows_models(rt: HostRuntime) -> Result<(), Fail> {
 }
 
 #[test]
+fn tells_refusals_without_a_place(rt: HostRuntime) -> Result<(), Fail> {
+    for (error, wanted) in [
+        (
+            CheckError::Model(SyntaxError::TooLong),
+            "refused: model: TooLong\n",
+        ),
+        (
+            CheckError::Stream(StreamError::TooLong),
+            "refused: stream: TooLong\n",
+        ),
+        (CheckError::Memory, "refused: memory\n"),
+        (CheckError::Read, "refused: read\n"),
+        (CheckError::Write, "refused: write\n"),
+    ] {
+        let given = refusal_text(rt.alloc(), &error)?;
+        assert_eq!(rt; given.as_slice(), wanted.as_bytes());
+    }
+    Ok(())
+}
+
+#[test]
 fn gives_statuses(rt: HostRuntime) {
     for (outcome, wanted) in [
         (Ok(Answer::Accepted(1)), 0),
         (Ok(Answer::Rejected(2)), 1),
         (Ok(Answer::Undecided(1)), 2),
         (Ok(Answer::NoBlocks), 3),
-        (Err(CheckError::NotYet), 4),
+        (Err(CheckError::Model(SyntaxError::TooLong)), 4),
+        (Err(CheckError::Stream(StreamError::TooLong)), 4),
         (Err(CheckError::Read), 6),
         (Err(CheckError::Write), 6),
         (Err(CheckError::Memory), 7),

@@ -8,10 +8,11 @@ pub use fz_data::{
     Argument, Array, ArrayName, ConstraintParts, Found, Goal, Model, Partial, Place, Point,
     PointParts, Posted, Variable, What, load,
 };
+pub use fz_eval::state;
 pub use fz_meaning::{
     Domain, Kind, ModelError, State, Term, located_is_bare, numbers_agree, steps_are_forced,
     unknown_is_not_known,
 };
 pub use fz_scope::sources_are_in_reading_order;
 pub use fz_table::{Builtin, Filled, Known, Shape};
-pub use stubs::{forced, state};
+pub use stubs::forced;

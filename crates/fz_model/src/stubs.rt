@@ -1,26 +1,12 @@
 //! Stand-ins for the two calls that judging needs: they refuse, so whatever is proved over them rests on their contracts alone.
 
 ghost use Rattle.std.specs.Prelude.{◌≡◌, ◌<◌, IfOk, IfSome, IsNone, Some, length, slice_get};
-ghost use Rattle.fz_meaning.specs.Meaning.{IsPartial, Point as Checked, points, state};
+ghost use Rattle.fz_meaning.specs.Meaning.{IsPartial, Point as Checked, points};
 ghost use Rattle.fz_meaning.specs.Steps.{Gives, GivesNothing};
 
 use fz_base::Value;
 use fz_data::{Model, Partial};
-use fz_meaning::State;
 use std::alloc::{AllocError, Global};
-
-/// The state of the point of a number under the values. It refuses only where memory runs out.
-pub fn state(
-    _alloc: Global,
-    model: &Model<'_>,
-    number: usize,
-    partial: &Partial,
-) -> Result<State, AllocError>
-    requires in_range { number < length (points model.now) }
-    ensures exact { IfOk result (λ s. (p : Checked) → slice_get (points model.now) number ≡ Some p → s ≡ state partial.now p) }
-{
-    Err(AllocError)
-}
 
 /// The forced step of the point of a number: a variable's number and the value that the point leaves to it. It refuses only where memory
 /// runs out.

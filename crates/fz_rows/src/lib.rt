@@ -2,6 +2,10 @@
 #![tactic(auto)]
 
 #[cfg(test)]
+mod builtins;
+#[cfg(test)]
+mod checking;
+#[cfg(test)]
 mod printing;
 #[cfg(test)]
 mod reading;

@@ -1,38 +1,54 @@
-use Rattle.std.proofs.Common.{map, subst, ap, ◌∙◌, refl, length, vec_len, Err}
-use Rattle.fz_stream.specs.declared.block.Block.{Block}
-use Rattle.fz_verdict.specs.Verdict.{answer_of}
-use Rattle.fz_check.specs.declared.verdict.Verdict.{Verdict}
-use Rattle.fz_check.specs.Simple.{Beside, IsJudged}
-use Rattle.fz_check.specs.View.{verdict_view}
-use Rattle.fz_check.proofs.Accepting.{accepted_solved, of_stream, in_order}
-use Rattle.fz_check.proofs.SimpleLemmas.{now_of}
+use Rattle.std.proofs.Common.{map, subst, ap, ◌∙◌, vec_len, Err}
+use Rattle.fz_verdict.specs.Verdict.{answer_of, AreVerdicts}
+use Rattle.fz_verdict.specs.View.{located_block}
+use Rattle.fz_judge.specs.View.{verdict_view}
 use Rattle.fz_check.specs.declared.error.CheckError.TheVariants as errors
-use Rattle.fz_check.proofs.Refusals.{name_fault_on, residual_is}
+use Rattle.fz_check.proofs.Accepting.{accepted_solved, of_stream, in_order}
+use Rattle.fz_check.proofs.Reporting.{reported, none_where_violated}
+use Rattle.fz_check.proofs.Refusals.{name_fault_on, block_fault_on, residual_is}
+use Rattle.fz_check.specs.Refused.{IsFirstFault}
 use Rattle.fz_check.proofs.checking.check.Goals as goal
 
 pub returns-clause-accepted : goal.returns-clause-accepted
-returns-clause-accepted c = λ count e.
-    let Judged : Block → Verdict → Type 0 = IsJudged (map now_of c.in-Ok.scalars.names.keys) c.in-Ok.scalars.variables.items c.in-Ok.scalars.posted.items in
-    accepted_solved c.in_ok-ast.ast (map now_of c.in-Ok.scalars.names.keys) c.in-Ok.scalars.variables.items c.in-Ok.scalars.posted.items c.in-Ok.ensures
-    c.args.model.now c.args.stream.now c.in_ok-ast.ensures.found c.in-Ok-blocks.stream.blocks.items c.in-Ok-blocks.stream.claims.items c.in-Ok-blocks.ensures.read
-    c.in-Ok-judge_blocks.verdicts.items (subst (λ l. Beside Judged l c.in-Ok-judge_blocks.verdicts.items) c.deref.ensures.value c.in-Ok-judge_blocks.ensures)
-    c.answer_to-answer.result (c.answer_to-answer.ensures ∙ ap (λ l. answer_of (map verdict_view l)) c.deref-2.ensures.value) count e
+returns-clause-accepted c =
+    accepted_solved c.args.model.now c.args.stream.now c.in_ok-ast.ast c.in_ok-loaded.loaded c.in_ok-ast.ensures.found c.in_ok-loaded.ensures.loaded.0 c.in_ok-loaded.ensures.loaded.1
+    c.in_ok-found.found.blocks.items c.in_ok-found.found.claims.items c.in_ok-found.ensures.read c.in_ok-verdicts.verdicts.items
+    (subst (λ l. AreVerdicts c.in_ok-loaded.loaded (map located_block l) (map verdict_view c.in_ok-verdicts.verdicts.items)) c.deref.ensures.value c.in_ok-verdicts.ensures.judged)
+    c.answer_to-answer.result (c.answer_to-answer.ensures ∙ ap (λ l. answer_of (map verdict_view l)) c.deref-2.ensures.value)
+
+pub returns-clause-violated : goal.returns-clause-violated
+returns-clause-violated c =
+    none_where_violated c.args.model.now c.args.stream.now c.in_ok-ast.ast c.in_ok-loaded.loaded c.in_ok-ast.ensures.found c.in_ok-loaded.ensures.loaded.0 c.in_ok-loaded.ensures.loaded.1
+    c.in_ok-found.found.blocks.items c.in_ok-found.found.claims.items c.in_ok-found.ensures.read c.in_ok-found.ensures.places c.in_ok-verdicts.verdicts.items
+    (subst (λ l. AreVerdicts c.in_ok-loaded.loaded (map located_block l) (map verdict_view c.in_ok-verdicts.verdicts.items)) c.deref.ensures.value c.in_ok-verdicts.ensures.judged)
+
+pub returns-clause-report : goal.returns-clause-report
+returns-clause-report c =
+    reported c.args.model.now c.args.stream.now c.in_ok-ast.ast c.in_ok-loaded.loaded c.in_ok-ast.ensures.found c.in_ok-loaded.ensures.loaded.0 c.in_ok-loaded.ensures.loaded.1
+    c.in_ok-found.found.blocks.items c.in_ok-found.found.claims.items c.in_ok-found.ensures.read c.in_ok-found.ensures.places c.in_ok-verdicts.verdicts.items
+    (subst (λ l. AreVerdicts c.in_ok-loaded.loaded (map located_block l) (map verdict_view c.in_ok-verdicts.verdicts.items)) c.deref.ensures.value c.in_ok-verdicts.ensures.judged)
+    c.answer_to-answer.result (c.answer_to-answer.ensures ∙ ap (λ l. answer_of (map verdict_view l)) c.deref-2.ensures.value)
 
 pub returns-clause-whole : goal.returns-clause-whole
 returns-clause-whole c =
-    let Judged : Block → Verdict → Type 0 = IsJudged (map now_of c.in-Ok.scalars.names.keys) c.in-Ok.scalars.variables.items c.in-Ok.scalars.posted.items in
-    of_stream Judged c.args.stream.now c.in-Ok-blocks.stream.blocks.items c.in-Ok-blocks.stream.claims.items c.in-Ok-blocks.ensures.read
-    c.in-Ok-judge_blocks.verdicts.items (subst (λ l. Beside Judged l c.in-Ok-judge_blocks.verdicts.items) c.deref.ensures.value c.in-Ok-judge_blocks.ensures)
+    of_stream c.in_ok-loaded.loaded c.args.stream.now c.in_ok-found.found.blocks.items c.in_ok-found.found.claims.items c.in_ok-found.ensures.read c.in_ok-verdicts.verdicts.items
+    (subst (λ l. AreVerdicts c.in_ok-loaded.loaded (map located_block l) (map verdict_view c.in_ok-verdicts.verdicts.items)) c.deref.ensures.value c.in_ok-verdicts.ensures.judged)
     c.answer_to-answer.result (c.answer_to-answer.ensures ∙ ap (λ l. answer_of (map verdict_view l)) c.deref-2.ensures.value)
 
 pub returns-clause-in_order : goal.returns-clause-in_order
 returns-clause-in_order c =
-    let Judged : Block → Verdict → Type 0 = IsJudged (map now_of c.in-Ok.scalars.names.keys) c.in-Ok.scalars.variables.items c.in-Ok.scalars.posted.items in
-    in_order Judged c.in-Ok-blocks.stream.blocks.items c.in-Ok-judge_blocks.verdicts.items c.in-Ok-blocks.stream.claims.items (vec_len c.in-Ok-blocks.stream.blocks) (vec_len c.in-Ok-judge_blocks.verdicts)
-    (subst (λ l. Beside Judged l c.in-Ok-judge_blocks.verdicts.items) c.deref.ensures.value c.in-Ok-judge_blocks.ensures)
-    c.in-Ok-blocks.stream.blocks.ok.0 c.in-Ok-judge_blocks.verdicts.ok.0 c.in-Ok-blocks.ensures.claims_in_order
+    in_order c.in_ok-loaded.loaded c.in_ok-found.found.blocks.items c.in_ok-verdicts.verdicts.items c.in_ok-found.found.claims.items (vec_len c.in_ok-found.found.blocks) (vec_len c.in_ok-verdicts.verdicts)
+    (subst (λ l. AreVerdicts c.in_ok-loaded.loaded (map located_block l) (map verdict_view c.in_ok-verdicts.verdicts.items)) c.deref.ensures.value c.in_ok-verdicts.ensures.judged)
+    c.in_ok-found.found.blocks.ok.0 c.in_ok-verdicts.verdicts.ok.0 c.in_ok-found.ensures.in_order
 
-pub returns-in_err-load_tree-clause-names : goal.returns-in_err-load_tree-clause-names
-returns-in_err-load_tree-clause-names c = λ e same.
+pub returns-in_err-loaded-clause-names : goal.returns-in_err-loaded-clause-names
+returns-in_err-loaded-clause-names c = λ e same.
     name_fault_on c.args.model.now c.in_ok-ast.ast e c.in_ok-ast.ensures.found c.in_ok-ast.ensures.stands
-    (c.load_tree.ensures.names e (c.in_err-load_tree.was ∙ ap Err (residual_is c.from_residual-in_err-load_tree.result c.in_err-load_tree.field-0.0 (errors.Names e) c.from_residual-in_err-load_tree.ensures.1 same)))
+    (c.load_tree.ensures.names e (c.in_err-loaded.was ∙ ap Err (residual_is c.from_residual-in_err-loaded.result c.in_err-loaded.field-0.0 (errors.Names e) c.from_residual-in_err-loaded.ensures.1 same)))
+
+pub returns-in_err-verdicts-clause-block : goal.returns-in_err-verdicts-clause-block
+returns-in_err-verdicts-clause-block c = λ n e same.
+    block_fault_on c.args.model.now c.args.stream.now c.in_ok-ast.ast c.in_ok-loaded.loaded c.in_ok-ast.ensures.found c.in_ok-loaded.ensures.loaded.0 c.in_ok-loaded.ensures.loaded.1
+    c.in_ok-found.found.blocks.items c.in_ok-found.found.claims.items c.in_ok-found.ensures.read c.in_ok-found.ensures.places n e
+    (subst (λ l. IsFirstFault c.in_ok-loaded.loaded l n e) c.deref.ensures.value
+    (c.judge_blocks.ensures.block n e (c.in_err-verdicts.was ∙ ap Err (residual_is c.from_residual-in_err-verdicts.result c.in_err-verdicts.field-0.0 (errors.Block n e) c.from_residual-in_err-verdicts.ensures.1 same))))

@@ -1,7 +1,5 @@
-use Rattle.std.proofs.Common.{map, take}
-use Rattle.fz_check.specs.Simple.{Beside, IsJudged}
-use Rattle.fz_check.proofs.SimpleLemmas.{now_of}
+use Rattle.fz_check.proofs.Judging.{JudgedSoFar}
 use Rattle.fz_check.proofs.checking.judge_blocks.Given as goal
 
 abbrev pub invariant-loop-place : goal.invariant-loop-place
-invariant-loop-place l = Beside (IsJudged (map now_of l.model.names.keys) l.model.variables.items l.model.posted.items) (take l.place l.blocks) l.verdicts.items
+invariant-loop-place l = JudgedSoFar l.model l.blocks l.place l.judge l.verdicts.items

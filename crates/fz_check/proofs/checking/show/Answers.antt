@@ -1,4 +1,4 @@
-use Rattle.std.proofs.Common.{◌≡◌, ◌∙◌, ap, sym, subst, Err}
+use Rattle.std.proofs.Common.{◌∙◌, ap, sym, subst, Err}
 use Rattle.fz_syntax.specs.Limits.{LexesWithNumbersInLimit}
 use Rattle.fz_syntax.specs.Tokens.{toks}
 use Rattle.fz_syntax.specs.View.{bare}

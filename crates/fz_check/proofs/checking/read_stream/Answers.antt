@@ -1,0 +1,11 @@
+use Rattle.std.proofs.Common.{◌≡◌, ◌∙◌, Err, sym}
+use Rattle.fz_stream.specs.declared.error.StreamError.TheVariants as stream
+use Rattle.fz_check.specs.declared.error.CheckError.TheVariants as errors
+use Rattle.fz_check.proofs.Refusals.{stream_fault_on}
+use Rattle.fz_check.proofs.checking.read_stream.Goals as goal
+
+pub returns-in-Err-clause-stream : goal.returns-in-Err-clause-stream
+returns-in-Err-clause-stream c = λ e same.
+    let met : c.stream_refusal.result ≡ errors.Stream e = cc in
+    stream_fault_on c.args.stream.now c.in-Err.error e (λ long. c.in-Err.ensures.too_long.0 (let gave : Err c.in-Err.error ≡ Err stream.TooLong = λ i. Err (long i) in gave)) c.in-Err.ensures.refused c.in-Err.ensures.stops
+    (sym c.stream_refusal.ensures ∙ met)

@@ -1,0 +1,60 @@
+-- What a refusal says (this project's profile).
+use Rattle.std.specs.Prelude.{◌≡◌, ◌≢◌, ℕ, ◌+◌, ◌<◌, List, ◌∷◌, ◌++◌, length, None}
+use Rattle.std.specs.List.{AllByRecursion}
+use Rattle.fz_syntax.specs.Limits.{most_bytes}
+use Rattle.fz_syntax.specs.Spots.{Stand, spots}
+use Rattle.fz_syntax.specs.Text.{IsTextOfTree}
+use Rattle.fz_syntax.specs.View.{bare}
+use Rattle.fz_syntax.specs.declared.tree.Ast.{Ast}
+use Rattle.fz_stream.specs.Parts.{StreamPart, IsStreamText}
+use Rattle.fz_stream.specs.Telling.{StopsAfter}
+use Rattle.fz_stream.specs.declared.block.Block as the_block
+use Rattle.fz_stream.specs.declared.error.StreamError.{StreamError}
+use Rattle.fz_stream.specs.declared.error.StreamError.TheVariants as stream
+use Rattle.fz_model.specs.Meaning.{Model}
+use Rattle.fz_model.specs.Names.{model_of}
+use Rattle.fz_model.specs.View.{TellsFirstFault, located}
+use Rattle.fz_model.specs.declared.ModelError.{ModelError}
+use Rattle.fz_model.specs.declared.ModelError.TheVariants.{Memory as NameMemory}
+use Rattle.fz_verdict.specs.Blocks.{block_fault}
+use Rattle.fz_verdict.specs.View.{located_block}
+use Rattle.fz_judge.specs.Judged.{IsBlockRefusal}
+use Rattle.fz_judge.specs.declared.error.BlockError.{BlockError}
+use Rattle.fz_judge.specs.declared.error.BlockError.TheVariants.{Memory as BlockMemory}
+use Rattle.fz_check.specs.Reported.{Checked}
+
+-- The model's bytes are a text of a tree whose names and literals stand there, and this is its leftmost fault.
+pub record HasNameFault (model : List ℕ) (e : ModelError) : Type 0 where
+  pub tree : Ast
+  pub text_of_model : IsTextOfTree model (bare tree)
+  pub places : Stand model 0 (length model) (spots tree)
+  pub tells : TellsFirstFault (located tree) e
+  pub not_memory : e ≢ NameMemory
+
+-- The stream's bytes are a text of no parts, and the fault is that of the first block that is broken.
+pub record IsBroken (bytes : List ℕ) (e : StreamError) : Type 0 where
+  pub no_parts : (parts : List StreamPart) → IsStreamText bytes parts → ⊥
+  pub before : List StreamPart
+  pub stops : StopsAfter bytes before e
+
+-- the stream's bytes are too many, or a text of no parts
+abbrev pub HasStreamFault : List ℕ → StreamError → Type 0
+HasStreamFault bytes stream.TooLong = most_bytes < length bytes
+HasStreamFault bytes stream.Memory = ⊥
+HasStreamFault bytes e = IsBroken bytes e
+
+-- The block with this number, from 1, is the first that has a fault, and its first fault is told.
+pub record IsFirstFault (m : Model) (blocks : List the_block.Block) (number : ℕ) (e : BlockError) : Type 0 where
+  pub before : List the_block.Block
+  pub block : the_block.Block
+  pub after : List the_block.Block
+  pub blocks_are : blocks ≡ before ++ block ∷ after
+  pub numbered : number ≡ length before + 1
+  pub none_before : AllByRecursion (λ b. block_fault m (located_block b) ≡ None) before
+  pub tells : IsBlockRefusal m (located_block block) e
+  pub not_memory : e ≢ BlockMemory
+
+-- Of the blocks that are checked, the one with this number is the first that has a fault against the tree's model, and it is told.
+pub record HasBlockFault (model stream : List ℕ) (number : ℕ) (e : BlockError) : Type 0 where
+  pub checked : Checked model stream
+  pub first : IsFirstFault (model_of checked.tree) checked.blocks number e

@@ -1,0 +1,55 @@
+-- What a report says (this project's profile).
+use Rattle.std.specs.Prelude.{◌≡◌, ℕ, suc, ℤ, List, map, Some}
+use Rattle.std.specs.List.{AllByRecursion, slice_get}
+use Rattle.fz_syntax.specs.Text.{IsTextOfTree}
+use Rattle.fz_stream.specs.Parts.{StreamPart, IsStreamText}
+use Rattle.fz_stream.specs.Found.{HasPlaces, block_of, blocks_in}
+use Rattle.fz_stream.specs.declared.block.Block as the_block
+use Rattle.fz_model.specs.Located.{LocatedTree, bare_of}
+use Rattle.fz_model.specs.Meaning.{Model, Assignment, IsKnownSolution}
+use Rattle.fz_model.specs.Names.{HasNoFault, model_of}
+use Rattle.fz_verdict.specs.Blocks.{Block, Extends}
+use Rattle.fz_verdict.specs.Headline.{Improves}
+use Rattle.fz_verdict.specs.Report.{Report, IsReport}
+use Rattle.fz_verdict.specs.Verdict.{Verdict, Fault}
+use Rattle.fz_verdict.specs.View.{located_block}
+use Rattle.fz_verdict.specs.Verdict.Verdict.{Violated}
+use Rattle.fz_verdict.specs.Verdict.Fault.{NotBetter}
+
+-- What is checked against what: the model's bytes are a text of a tree without faults, and the stream's bytes are a text of parts, of
+-- which these are the blocks, with the places where their names and literals stand in them.
+pub record Checked (model stream : List ℕ) : Type 0 where
+  pub tree : LocatedTree
+  pub text_of_model : IsTextOfTree model (bare_of tree)
+  pub no_fault : HasNoFault tree
+  pub parts : List StreamPart
+  pub text_of_stream : IsStreamText stream parts
+  pub blocks : List the_block.Block
+  pub blocks_are : map block_of blocks ≡ blocks_in parts
+  pub places : AllByRecursion HasPlaces blocks
+
+-- the report is that of the tree's model on the parts
+pub record HasReport (model stream : List ℕ) (r : Report) : Type 0 where
+  pub checked : Checked model stream
+  pub is_report : IsReport (model_of checked.tree) (map located_block checked.blocks) checked.parts r
+
+-- ---- a no is a no
+
+-- no assignment that is a known-solution extends the block
+abbrev pub HasNone : Model → Block → Type 0
+HasNone m block = (A : Assignment) → IsKnownSolution m A → Extends m A block → ⊥
+
+-- no two known-solutions that extend the two blocks improve
+abbrev pub NoneImproves : Model → Block → Block → Type 0
+NoneImproves m earlier block = (A B : Assignment) → IsKnownSolution m A → Extends m A earlier → IsKnownSolution m B → Extends m B block → Improves m (Some A) B → ⊥
+
+abbrev pub IsObjective : Fault → Type 0
+IsObjective f = (now before : ℤ) × (f ≡ NotBetter now before)
+
+-- Block number i, counted from 0, that is violated by anything but its objective has no known-solution that extends it; and where it
+-- is violated by its objective, there is a block before it, and none that extends this one improves on one that extends that one.
+pub record HasNoneWhereViolated (model stream : List ℕ) (verdicts : List Verdict) : Type 0 where
+  pub checked : Checked model stream
+  pub violated : (i : ℕ) (block : Block) (f : Fault) → slice_get (map located_block checked.blocks) i ≡ Some block → slice_get verdicts i ≡ Some (Violated f) → (IsObjective f → ⊥) → HasNone (model_of checked.tree) block
+  pub not_better : (i : ℕ) (block : Block) (f : Fault) → slice_get (map located_block checked.blocks) i ≡ Some block → slice_get verdicts i ≡ Some (Violated f) → IsObjective f
+      → (j : ℕ) × (earlier : Block) × (i ≡ suc j) × (slice_get (map located_block checked.blocks) j ≡ Some earlier) × NoneImproves (model_of checked.tree) earlier block
