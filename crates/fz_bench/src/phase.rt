@@ -1,5 +1,5 @@
 use crate::measured::{Measured, quicker};
-use crate::model::run_load;
+use crate::model::{run_judge, run_load, run_states};
 use crate::stream::{run_blocks, run_splitter};
 use crate::text::{run_lex, run_parse, run_to_text};
 use crate::whole::run_check;
@@ -8,8 +8,8 @@ use anyhow::{Context, Result, bail};
 use std::fs;
 
 /// The words of the phases. One more phase is a word here, a line of `run`, and the function that it names.
-const PHASES: [&str; 7] = [
-    "lex", "parse", "to_text", "load", "blocks", "splitter", "check",
+const PHASES: [&str; 9] = [
+    "lex", "parse", "to_text", "load", "states", "blocks", "splitter", "judge", "check",
 ];
 
 /// The word that stands for each phase in turn.
@@ -81,8 +81,10 @@ fn run(rt: &HostRuntime, phase: &str, files: Files<'_>) -> Result<Measured> {
         "parse" => run_parse(rt, files.model),
         "to_text" => run_to_text(rt, files.model),
         "load" => run_load(rt, files.model),
+        "states" => run_states(rt, files.model, files.stream),
         "blocks" => run_blocks(rt, files.stream),
         "splitter" => run_splitter(rt, files.stream),
+        "judge" => run_judge(rt, files.model, files.stream),
         "check" => run_check(rt, files.model, files.stream),
         _ => bail!("no phase has this name"),
     }
