@@ -6,7 +6,7 @@ ghost use Rattle.std.specs.Int.{int_max, int_min};
 ghost use Rattle.std.specs.FinSet as sets;
 ghost use Rattle.fz_meaning.specs.Builtins.{as_number};
 ghost use Rattle.fz_meaning.specs.Values.{◌=ℤ◌};
-ghost use Rattle.fz_solve.specs.Left.{IsLeftNumber, IsLeftTruth};
+ghost use Rattle.fz_solve.specs.Left.{IsLeftNumber, IsLeftPlain};
 
 use fz_base::IntSet;
 
@@ -84,7 +84,7 @@ pub(crate) fn number_of(truth: bool) -> i64
 
 /// What `bool2int` leaves to the truth value: none where the number is neither 0 nor 1.
 pub(crate) fn truth_of(number: i64) -> Option<bool>
-    ensures { IsLeftTruth (λ a. number =ℤ as_number a) result }
+    ensures { IsLeftPlain (λ a. number =ℤ as_number a) result }
 {
     match number {
         0 => Some(false),
