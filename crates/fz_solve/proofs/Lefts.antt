@@ -45,23 +45,6 @@ pub same_test : (k : Kind) (test other : Value → Bool) (o : Option Value) → 
 same_test k test other (Some v) same h = (h.0, h.1, same v ∙ h.2)
 same_test k test other None same h = λ v is fits passes. h v is fits (sym (same v) ∙ passes)
 
--- ---- the values of a row's arguments, written out
-
-pub first_of_two : (r : Row) (given : List (Option ArgValue)) (y : ArgValue) → length given ≡ 2 → slice_get given 1 ≡ Some (Some y) → (v : Value) → holds_with r given 0 v ≡ row_holds r (OneValue v ∷ y ∷ [])
-first_of_two r [] y many e v = absurd (omega arith)
-first_of_two r (o ∷ []) y many e v = absurd (omega arith)
-first_of_two r (o ∷ p ∷ []) y many e v = let is : p ≡ Some y = cc in rw is refl
-first_of_two r (o ∷ p ∷ q ∷ os) y many e v = absurd (omega arith)
-
-pub second_of_two : (r : Row) (given : List (Option ArgValue)) (x : ArgValue) → length given ≡ 2 → slice_get given 0 ≡ Some (Some x) → (v : Value) → holds_with r given 1 v ≡ row_holds r (x ∷ OneValue v ∷ [])
-second_of_two r [] x many e v = absurd (omega arith)
-second_of_two r (o ∷ []) x many e v = absurd (omega arith)
-second_of_two r (o ∷ p ∷ []) x many e v = let is : o ≡ Some x = cc in rw is refl
-second_of_two r (o ∷ p ∷ q ∷ os) x many e v = absurd (omega arith)
-
-pub third_of_three : (r : Row) (given : List (Option ArgValue)) (x y : ArgValue) → length given ≡ 3 → slice_get given 0 ≡ Some (Some x) → slice_get given 1 ≡ Some (Some y) → (v : Value) → holds_with r given 2 v ≡ row_holds r (x ∷ y ∷ OneValue v ∷ [])
-third_of_three r [] x y many d e v = absurd (omega arith)
-third_of_three r (o ∷ []) x y many d e v = absurd (omega arith)
-third_of_three r (o ∷ p ∷ []) x y many d e v = absurd (omega arith)
-third_of_three r (o ∷ p ∷ q ∷ []) x y many d e v = let is : o ≡ Some x = cc in let also : p ≡ Some y = cc in rw (is, also) refl
-third_of_three r (o ∷ p ∷ q ∷ s ∷ os) x y many d e v = absurd (omega arith)
+pub same_numbers : (test other : ℤ → Bool) (o : Option ℤ) → ((n : ℤ) → other n ≡ test n) → IsLeftNumber test o → IsLeftNumber other o
+same_numbers test other (Some n) same h = (h.0, same n ∙ h.1)
+same_numbers test other None same h = λ n fits passes. h n fits (sym (same n) ∙ passes)

@@ -6,7 +6,7 @@ ghost use Rattle.std.specs.Int.{int_max, int_min};
 ghost use Rattle.std.specs.FinSet as sets;
 ghost use Rattle.fz_meaning.specs.Builtins.{as_number};
 ghost use Rattle.fz_meaning.specs.Values.{◌=ℤ◌};
-ghost use Rattle.fz_solve.specs.Left.{IsLeftNumber, IsLeftPlain};
+ghost use Rattle.fz_solve.specs.Left.{IsLeftNumber, IsLeftPlain, IsUnit};
 
 use fz_base::IntSet;
 
@@ -90,5 +90,26 @@ pub(crate) fn truth_of(number: i64) -> Option<bool>
         0 => Some(false),
         1 => Some(true),
         _ => None,
+    }
+}
+
+/// The number itself, if it has 64 bits.
+pub(crate) fn narrow(exact: i128) -> Option<i64>
+    ensures { IsLeftNumber (λ n. n =ℤ exact) result }
+{
+    i64::try_from(exact).ok()
+}
+
+/// The number that makes up the sum: times the coefficient, which is 1 or -1, and added to the others it gives the wanted sum. The
+/// difference may have more than 128 bits; then no number of 64 bits makes up the sum.
+pub(crate) fn made_up(others: i128, coefficient: i64, wanted: i64) -> Option<i64>
+    requires { IsUnit coefficient }
+    ensures { IsLeftNumber (λ n. (others +ℤ (coefficient *ℤ n)) =ℤ wanted) result }
+{
+    let wanted = i128::from(wanted);
+    if coefficient == 1 {
+        narrow(wanted.checked_sub(others)?)
+    } else {
+        narrow(others.checked_sub(wanted)?)
     }
 }
