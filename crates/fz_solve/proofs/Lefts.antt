@@ -8,7 +8,7 @@ use Rattle.fz_meaning.specs.declared.kind.Kind.TheVariants.{Int as IntKind, Bool
 use Rattle.fz_meaning.specs.Builtins.{ArgValue, Row}
 use Rattle.fz_meaning.specs.Builtins.ArgValue.{OneValue}
 use Rattle.fz_meaning.specs.Meaning.{row_holds}
-use Rattle.fz_solve.specs.Left.{IsLeft, IsLeftNumber, IsLeftPlain, holds_with}
+use Rattle.fz_solve.specs.Left.{IsLeft, IsLeftNumber, IsLeftPlain}
 
 -- ---- plain values as values
 

@@ -1,2 +1,4 @@
 pub mod Lefts
-pub mod Arrays
+pub mod Plain
+pub mod Rows
+pub mod Reified

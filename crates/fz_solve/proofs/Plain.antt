@@ -4,9 +4,10 @@ use Rattle.std.proofs.lemmas.Int.{ints, clamps}
 use Rattle.std.proofs.Math.IntN.{*ℤ-zero, *ℤ_comm, *ℤ-one, *ℤ-negsuc}
 use Rattle.std.specs.Int.{int_max, int_min}
 use Rattle.std.specs.List.{list_all, list_any}
+use Rattle.std.specs.Option.{option_map_or}
 use Rattle.fz_meaning.specs.Values.{◌=ℤ◌}
-use Rattle.fz_meaning.specs.Builtins.{element_at, is_among, total, products}
-use Rattle.fz_meaning.proofs.Values.{same_int, int_itself, and_both, same_truth}
+use Rattle.fz_meaning.specs.Builtins.{element_at, is_element, is_among, total, products}
+use Rattle.fz_meaning.proofs.Values.{no, same_int, int_itself, and_both, same_truth}
 
 -- ---- the element at a place, counted from 1
 
@@ -140,3 +141,28 @@ made_up_by_one s u n w e = ap (λ z. (s +ℤ z) =ℤ w) (ap (λ z. z *ℤ n) e �
 
 pub made_up_by_less_one : (s u n w : ℤ) → u ≡ negsuc 0 → ((s +ℤ (u *ℤ n)) =ℤ w) ≡ (n =ℤ (s -ℤ w))
 made_up_by_less_one s u n w e = ap (λ z. (s +ℤ z) =ℤ w) (ap (λ z. z *ℤ n) e ∙ less_one_times n) ∙ minus_goes s n w
+
+-- ---- an element that is named by its place
+
+pub element_some : {A : Type 0} (b : List A) (n : ℤ) (i : ℕ) (x : A) → n ≡ pos (suc i) → slice_get b i ≡ Some x → element_at b n ≡ Some x
+element_some b n i x named e = ap (element_at b) named ∙ element_there b i ∙ e
+
+past : {A : Type 0} (b : List A) (i : ℕ) → (i < length b → ⊥) → slice_get b i ≡ None
+past [] i h = refl
+past (x ∷ b) zero h = absurd (h (omega arith))
+past (x ∷ b) (suc i) h = past b i (λ k. h (omega arith))
+
+pub element_none : {A : Type 0} (b : List A) (n : ℤ) → ((i : ℕ) → i < length b → n ≡ pos (suc i) → ⊥) → element_at b n ≡ None
+element_none b (pos zero) h = element_before b (pos 0) (omega (arith, ints))
+element_none b (negsuc n) h = element_before b (negsuc n) (omega (arith, ints))
+element_none b (pos (suc i)) h = element_there b i ∙ past b i (λ k. h i k refl)
+
+-- what `is_element` says where there is such an element, and where there is none
+pub element_is : {A : Type 0} (same : A → A → Bool) (b : List A) (n : ℤ) (i : ℕ) (x c : A) → n ≡ pos (suc i) → slice_get b i ≡ Some x → is_element same n b c ≡ same x c
+element_is same b n i x c named e = ap (λ o. option_map_or (λ z. same z c) o false) (element_some b n i x named e)
+
+pub no_element : {A : Type 0} (same : A → A → Bool) (b : List A) (n : ℤ) (c : A) → ((i : ℕ) → i < length b → n ≡ pos (suc i) → ⊥) → is_element same n b c ≡ false
+no_element same b n c h = ap (λ o. option_map_or (λ z. same z c) o false) (element_none b n h)
+
+pub nothing_named : {A : Type 0} (same : A → A → Bool) (b : List A) (n : ℤ) (many : ℕ) → many ≡ length b → ((i : ℕ) → i < many → n ≡ pos (suc i) → ⊥) → (c : A) → is_element same n b c ≡ true → ⊥
+nothing_named same b n many e h c passes = no (sym (no_element same b n c (λ i below. h i (subst (λ l. i < l) (sym e) below))) ∙ passes)
