@@ -4,3 +4,4 @@
 
 mod arrays;
 mod numbers;
+mod row;

@@ -1,5 +1,6 @@
 -- What is left of plain values is what is left of each row: one lemma for each builtin with a result place.
-use Rattle.std.proofs.Common.{◌≡◌, ℕ, suc, zero, ◌<◌, ℤ, pos, negsuc, ◌+ℤ◌, ◌*ℤ◌, Bool, true, false, not, ◌&&◌, ◌||◌, List, [], ◌∷◌, map, length, Option, Some, None, refl, sym, ap, subst, subst₂, ◌∙◌, option_map, slice_get, slice_set, int_le, int_div, int_rem, unsigned_abs, Contains, get_or, arith, FitsSigned, w64, ◌-◌, ◌⊎◌, inl, inr}
+use Rattle.std.proofs.Common.{◌≡◌, ℕ, suc, zero, ◌<◌, ℤ, pos, negsuc, ◌+ℤ◌, ◌*ℤ◌, Bool, true, false, not, ◌&&◌, ◌||◌, List, [], ◌∷◌, map, length, Option, Some, None, refl, sym, ap, subst, subst₂, ◌∙◌, option_map, slice_get, slice_set, int_le, int_div, int_rem, unsigned_abs, Contains, get_or, arith, FitsSigned, w64, to_z, of_z, ◌≤◌, ◌-◌, ◌⊎◌, inl, inr}
+use Rattle.std.proofs.lemmas.Int.{to_z-of_z}
 use Rattle.std.specs.Int.{int_min, int_max}
 use Rattle.std.specs.List.{list_all, list_any}
 use Rattle.std.specs.FinSet as sets
@@ -20,11 +21,11 @@ use Rattle.fz_meaning.proofs.Values.{same_int, int_itself, bool_itself, set_itse
 use Rattle.fz_solve.specs.Left.{IsLeft, IsLeftNumber, IsLeftPlain, IsPlaceOf, IsOfKind, holds_with}
 use Rattle.fz_solve.proofs.Lefts.{number_left, truth_left, set_left, same_numbers}
 
-only_place : (n i : ℕ) → Contains (n ∷ []) i → i ≡ n
+pub only_place : (n i : ℕ) → Contains (n ∷ []) i → i ≡ n
 only_place n i (zero, below, e) = sym e
 only_place n i (suc k, below, e) = absurd (omega arith)
 
-either_place : (m n i : ℕ) → Contains (m ∷ n ∷ []) i → (i ≡ m) ⊎ (i ≡ n)
+pub either_place : (m n i : ℕ) → Contains (m ∷ n ∷ []) i → (i ≡ m) ⊎ (i ≡ n)
 either_place m n i (zero, below, e) = inl (sym e)
 either_place m n i (suc zero, below, e) = inr (sym e)
 either_place m n i (suc (suc k), below, e) = absurd (omega arith)
@@ -139,15 +140,19 @@ module _ (K : Partial) (xs : List Argument) (i : ℕ) where
       let left : IsLeftNumber (λ c. c =ℤ total (where_true (ints_at K xs 0) (bools_at K xs 1))) o = subst (λ n. IsLeftNumber (λ c. c =ℤ n) o) d h in
       rw here (number_left _ o (rw (plain_ints (ints_at K xs 0), plain_bools (bools_at K xs 1)) (same_numbers _ _ o (λ c. other_way (total (where_true (ints_at K xs 0) (bools_at K xs 1))) c) left)))
 
-  pub bool2int_number_row : (b : Bool) (o : Option ℤ) → i ≡ 1 → b ≡ bool_at K xs 0 → IsLeftNumber (λ n. n =ℤ as_number b) o → IsLeft IntKind (holds_with (row_at Bool2Int) K xs i) (option_map Int o)
+  pub bool2int_number_row : (b : Bool) (o : Option ℤ) → IsPlaceOf (row_at Bool2Int).result i → IsOfKind (row_at Bool2Int).shapes i IntKind → b ≡ bool_at K xs 0 → IsLeftNumber (λ n. n =ℤ as_number b) o → IsLeft IntKind (holds_with (row_at Bool2Int) K xs i) (option_map Int o)
   unfolding row_at name_of
-  bool2int_number_row b o here d h = rw here (number_left _ o (subst (λ b. IsLeftNumber (λ n. n =ℤ as_number b) o) d h))
+  bool2int_number_row b o place kind d h =
+      let here : i ≡ 1 = elim (either_place 0 1 i place) [ inl first ↦ let is = rw first at kind in cc | inr second ↦ second ] in
+      rw here (number_left _ o (subst (λ b. IsLeftNumber (λ n. n =ℤ as_number b) o) d h))
 
   -- ---- truth values
 
-  pub bool2int_truth_row : (n : ℤ) (o : Option Bool) → i ≡ 0 → n ≡ int_at K xs 1 → IsLeftPlain (λ b. n =ℤ as_number b) o → IsLeft BoolKind (holds_with (row_at Bool2Int) K xs i) (option_map Truth o)
+  pub bool2int_truth_row : (n : ℤ) (o : Option Bool) → IsPlaceOf (row_at Bool2Int).result i → IsOfKind (row_at Bool2Int).shapes i BoolKind → n ≡ int_at K xs 1 → IsLeftPlain (λ b. n =ℤ as_number b) o → IsLeft BoolKind (holds_with (row_at Bool2Int) K xs i) (option_map Truth o)
   unfolding row_at name_of
-  bool2int_truth_row n o here d h = rw here (truth_left _ o (subst (λ n. IsLeftPlain (λ b. n =ℤ as_number b) o) d h))
+  bool2int_truth_row n o place kind d h =
+      let here : i ≡ 0 = elim (either_place 0 1 i place) [ inl first ↦ first | inr second ↦ let is = rw second at kind in cc ] in
+      rw here (truth_left _ o (subst (λ n. IsLeftPlain (λ b. n =ℤ as_number b) o) d h))
 
   pub bool_eq_row : (b : Bool) → IsPlaceOf (row_at BoolEq).result i → b ≡ bool_at K xs (1 - i) → IsLeft BoolKind (holds_with (row_at BoolEq) K xs i) (Some (Truth b))
   unfolding row_at name_of
@@ -256,3 +261,33 @@ module _ (K : Partial) (xs : List Argument) (i : ℕ) where
       let here : i ≡ 2 = only_place 2 i place in
       let left : IsLeftPlain (λ c. is_element ◌=ˢ◌ (int_at K xs 0) (sets_at K xs 1) c) o = subst₂ (λ a b. IsLeftPlain (λ c. is_element ◌=ˢ◌ a b c) o) d e h in
       rw here (set_left _ o (rw (plain_sets (sets_at K xs 1)) left))
+
+-- from the row of a builtin to that of an equal one
+pub from_row : (K : Partial) (xs : List Argument) (i : ℕ) (k : Kind) (o : Option Value) (b c : Builtin) → b ≡ c → IsPlaceOf (row_at b).result i
+    → (IsPlaceOf (row_at c).result i → IsLeft k (holds_with (row_at c) K xs i) o) → IsLeft k (holds_with (row_at b) K xs i) o
+from_row K xs i k o b c is place h = subst (λ d. IsLeft k (holds_with (row_at d) K xs i) o) (sym is) (h (subst (λ d. IsPlaceOf (row_at d).result i) is place))
+
+-- the place of the other of two arguments
+within_two : (i : ℕ) → (i ≡ 0) ⊎ (i ≡ 1) → i ≤ 1
+within_two i (inl e) = omega arith
+within_two i (inr e) = omega arith
+
+pub int_eq_place : (b : Builtin) (i : ℕ) → b ≡ IntEq → IsPlaceOf (row_at b).result i → i ≤ 1
+unfolding row_at name_of
+int_eq_place b i is place = within_two i (either_place 0 1 i (subst (λ d. IsPlaceOf (row_at d).result i) is place))
+
+pub bool_eq_place : (b : Builtin) (i : ℕ) → b ≡ BoolEq → IsPlaceOf (row_at b).result i → i ≤ 1
+unfolding row_at name_of
+bool_eq_place b i is place = within_two i (either_place 0 1 i (subst (λ d. IsPlaceOf (row_at d).result i) is place))
+
+pub bool_not_place : (b : Builtin) (i : ℕ) → b ≡ BoolNot → IsPlaceOf (row_at b).result i → i ≤ 1
+unfolding row_at name_of
+bool_not_place b i is place = within_two i (either_place 0 1 i (subst (λ d. IsPlaceOf (row_at d).result i) is place))
+
+pub set_eq_place : (b : Builtin) (i : ℕ) → b ≡ SetEq → IsPlaceOf (row_at b).result i → i ≤ 1
+unfolding row_at name_of
+set_eq_place b i is place = within_two i (either_place 0 1 i (subst (λ d. IsPlaceOf (row_at d).result i) is place))
+
+-- a number as the code passes it
+pub passed : (z n : ℤ) → FitsSigned w64 z → z ≡ n → to_z w64 (of_z w64 z) ≡ n
+passed z n fits e = to_z-of_z w64 z fits ∙ e
