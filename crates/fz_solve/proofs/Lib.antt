@@ -3,3 +3,4 @@ pub mod Plain
 pub mod RowLemmas
 pub mod Reified
 pub mod RowKinds
+pub mod Readings

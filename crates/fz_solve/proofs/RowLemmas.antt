@@ -1,4 +1,5 @@
 -- What is left of plain values is what is left of each row: one lemma for each builtin with a result place.
+use mathlib.Core.Bool.{beq}
 use Rattle.std.proofs.Common.{◌≡◌, ℕ, suc, zero, ◌<◌, ℤ, pos, negsuc, ◌+ℤ◌, ◌*ℤ◌, Bool, true, false, not, ◌&&◌, ◌||◌, List, [], ◌∷◌, map, length, Option, Some, None, refl, sym, ap, subst, subst₂, ◌∙◌, option_map, slice_get, slice_set, int_le, int_div, int_rem, unsigned_abs, Contains, get_or, arith, FitsSigned, w64, to_z, of_z, ◌≤◌, ◌-◌, ◌⊎◌, inl, inr}
 use Rattle.std.proofs.lemmas.Int.{to_z-of_z}
 use Rattle.std.specs.Int.{int_min, int_max}
@@ -291,3 +292,9 @@ set_eq_place b i is place = within_two i (either_place 0 1 i (subst (λ d. IsPla
 -- a number as the code passes it
 pub passed : (z n : ℤ) → FitsSigned w64 z → z ≡ n → to_z w64 (of_z w64 z) ≡ n
 passed z n fits e = to_z-of_z w64 z fits ∙ e
+
+pub xor_is : (a b : Bool) → not (beq a b) ≡ not (a =ᴮ b)
+xor_is true true = refl
+xor_is true false = refl
+xor_is false true = refl
+xor_is false false = refl
