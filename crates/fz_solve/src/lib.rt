@@ -4,3 +4,6 @@
 
 mod numbers;
 mod row;
+mod unit;
+
+pub use unit::unit_value;
