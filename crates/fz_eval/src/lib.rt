@@ -1,0 +1,15 @@
+//! The state of a check point under a partial assignment: whether a domain, a definition or a constraint holds, fails or cannot be told.
+#![tactic(auto)]
+
+mod arrays;
+mod builtins;
+mod constraints;
+mod domains;
+mod numbers;
+mod outcome;
+mod points;
+mod sets;
+mod sums;
+mod truths;
+
+pub use points::state;
