@@ -5,5 +5,7 @@
 mod numbers;
 mod row;
 mod unit;
+mod value;
 
 pub use unit::unit_value;
+pub use value::left_value;
