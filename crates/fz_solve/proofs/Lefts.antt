@@ -1,13 +1,10 @@
 -- From the exact result of a row to what is left to an argument.
-use Rattle.std.proofs.Common.{◌≡◌, ℕ, ℤ, pos, Bool, true, false, not, ◌&&◌, List, [], ◌∷◌, length, Option, Some, None, refl, sym, ap, subst, ◌∙◌, FitsSigned, w64, option_map, slice_get, arith}
+use Rattle.std.proofs.Common.{◌≡◌, ℤ, Bool, Option, Some, None, refl, sym, ◌∙◌, option_map}
 use Rattle.fz_base.specs.Sets.{NumberSet}
 use Rattle.fz_base.specs.declared.value.Value.{Value}
 use Rattle.fz_base.specs.declared.value.Value.TheVariants.{Int, Bool as Truth, Set}
 use Rattle.fz_meaning.specs.declared.kind.Kind.{Kind}
 use Rattle.fz_meaning.specs.declared.kind.Kind.TheVariants.{Int as IntKind, Bool as BoolKind, Set as SetKind}
-use Rattle.fz_meaning.specs.Builtins.{ArgValue, Row}
-use Rattle.fz_meaning.specs.Builtins.ArgValue.{OneValue}
-use Rattle.fz_meaning.specs.Meaning.{row_holds}
 use Rattle.fz_solve.specs.Left.{IsLeft, IsLeftNumber, IsLeftPlain}
 
 -- ---- plain values as values

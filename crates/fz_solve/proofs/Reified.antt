@@ -1,14 +1,14 @@
 -- The truth value that a form with a truth value leaves: whether the row before it holds.
-use Rattle.std.proofs.Common.{◌≡◌, ℕ, suc, ℤ, Bool, true, false, cond, ◌&&◌, List, [], ◌∷◌, ◌++◌, length, Option, Some, Result, IfOk, refl, sym, ap, subst, subst₂, ◌∙◌, slice_get, slice_set}
+use Rattle.std.proofs.Common.{◌≡◌, ℕ, suc, Bool, true, false, cond, ◌&&◌, List, [], ◌∷◌, ◌++◌, length, Option, Some, Result, IfOk, refl, sym, ap, subst, subst₂, ◌∙◌, slice_get, slice_set}
 use Rattle.std.specs.Prelude.{IsSome}
 use Rattle.fz_base.specs.declared.value.Value.{Value}
-use Rattle.fz_base.specs.declared.value.Value.TheVariants.{Int, Bool as Truth, Set}
+use Rattle.fz_base.specs.declared.value.Value.TheVariants.{Bool as Truth}
 use Rattle.fz_meaning.specs.declared.kind.Kind.{Kind}
 use Rattle.fz_meaning.specs.declared.kind.Kind.TheVariants.{Int as IntKind, Bool as BoolKind, Set as SetKind}
 use Rattle.fz_meaning.specs.Values.{◌=ᴮ◌}
-use Rattle.fz_meaning.specs.Builtins.{Shape, Row, ArgValue, read, reified, with_bool}
+use Rattle.fz_meaning.specs.Builtins.{Shape, Row, read, reified, with_bool}
 use Rattle.fz_meaning.specs.Builtins.Shape.{ScalarOf, ArrayOf}
-use Rattle.fz_meaning.specs.Builtins.ArgValue.{OneValue, ManyValues}
+use Rattle.fz_meaning.specs.Builtins.ArgValue.{OneValue}
 use Rattle.fz_meaning.specs.Meaning.{Argument, Partial, row_holds}
 use Rattle.fz_meaning.proofs.Values.{no, bool_itself}
 use Rattle.fz_table.specs.Known.{known_row, row_at}

@@ -1,9 +1,7 @@
 -- Which rows leave a number, a truth value or a set: those of which a scalar of that kind stands at a result place.
-use Rattle.std.proofs.Common.{◌≡◌, ℕ, false, List, [], ◌∷◌, Some, refl, sym, ap, ◌∙◌, slice_get, ◌⊎◌, inl, inr}
+use Rattle.std.proofs.Common.{◌≡◌, ℕ, false, List, [], ◌∷◌, refl, ◌⊎◌, inl, inr}
 use Rattle.std.specs.Prelude.{⊤}
 use Rattle.fz_meaning.specs.declared.kind.Kind.TheVariants.{Int as IntKind, Bool as BoolKind, Set as SetKind}
-use Rattle.fz_meaning.specs.Builtins.{Shape}
-use Rattle.fz_meaning.specs.Builtins.Shape.{ScalarOf, ArrayOf}
 use Rattle.fz_table.specs.Known.{name_of, row_at}
 use Rattle.fz_table.specs.declared.builtin.Builtin.{Builtin}
 use Rattle.fz_table.specs.declared.builtin.Builtin.TheVariants.{IntEq, IntNe, IntLe, IntLt, IntLinEq, IntLinNe, IntLinLe, IntPlus, IntTimes, IntMin, IntMax, IntAbs, IntDiv, IntMod, ArrayIntElement, ArrayVarIntElement, ArrayIntMaximum, ArrayIntMinimum, FznAllDifferentInt, BoolEq, BoolLe, BoolLt, BoolNot, BoolAnd, BoolOr, BoolXor, ArrayBoolAnd, ArrayBoolOr, ArrayBoolXor, ArrayBoolElement, ArrayVarBoolElement, BoolClause, Bool2Int, BoolLinEq, BoolLinLe, SetIn, SetEq, SetNe, SetSubset, SetSuperset, SetUnion, SetIntersect, SetDiff, SetSymdiff, SetCard, ArraySetElement, ArrayVarSetElement}

@@ -1,6 +1,6 @@
 -- What is left of plain values is what is left of each row: one lemma for each builtin with a result place.
 use mathlib.Core.Bool.{beq}
-use Rattle.std.proofs.Common.{◌≡◌, ℕ, suc, zero, ◌<◌, ℤ, pos, negsuc, ◌+ℤ◌, ◌*ℤ◌, Bool, true, false, not, ◌&&◌, ◌||◌, List, [], ◌∷◌, map, length, Option, Some, None, Result, Ok, Err, IfOk, refl, sym, ap, subst, subst₂, ◌∙◌, option_map, slice_get, slice_set, int_le, int_div, int_rem, unsigned_abs, Contains, get_or, arith, FitsSigned, w64, to_z, of_z, ◌≤◌, ◌-◌, ◌⊎◌, inl, inr}
+use Rattle.std.proofs.Common.{◌≡◌, ℕ, suc, zero, ℤ, pos, ◌+ℤ◌, ◌*ℤ◌, Bool, true, false, not, ◌&&◌, ◌||◌, List, [], ◌∷◌, map, Option, Some, Result, Ok, Err, IfOk, refl, sym, ap, subst, subst₂, ◌∙◌, option_map, slice_get, slice_set, int_le, int_div, int_rem, unsigned_abs, Contains, arith, FitsSigned, w64, to_z, of_z, ◌≤◌, ◌-◌, ◌⊎◌, inl, inr}
 use Rattle.std.proofs.lemmas.Int.{to_z-of_z}
 use Rattle.std.specs.Int.{int_min, int_max}
 use Rattle.std.specs.List.{list_all, list_any}
@@ -11,7 +11,7 @@ use Rattle.fz_base.specs.declared.value.Value.TheVariants.{Int, Bool as Truth, S
 use Rattle.fz_meaning.specs.declared.kind.Kind.{Kind}
 use Rattle.fz_meaning.specs.declared.kind.Kind.TheVariants.{Int as IntKind, Bool as BoolKind, Set as SetKind}
 use Rattle.fz_meaning.specs.Values.{◌=ℤ◌, ◌=ᴮ◌, ◌=ˢ◌}
-use Rattle.fz_meaning.specs.Builtins.{Row, plain_list, total, products, where_true, is_element, is_among, as_number}
+use Rattle.fz_meaning.specs.Builtins.{plain_list, total, products, where_true, is_element, is_among, as_number}
 use Rattle.fz_meaning.specs.Meaning.{Argument, Partial}
 use Rattle.fz_table.specs.Known.{name_of, row_at}
 use Rattle.fz_table.specs.declared.builtin.Builtin.{Builtin}

@@ -1,4 +1,4 @@
-use Rattle.std.proofs.Common.{rules, ◌≡◌, ◌-◌, Option, Some, option_map, IfSome, refl, sym, ap, ◌∙◌, subst, FitsSigned, w64, to_z, of_z, int_le}
+use Rattle.std.proofs.Common.{rules, ◌≡◌, Some, option_map, IfSome, ap, ◌∙◌, subst, FitsSigned, w64, to_z, of_z, int_le}
 use Rattle.std.specs.Int.{w128}
 use Rattle.std.proofs.lemmas.Int.{to_z-of_z}
 use Rattle.fz_base.specs.declared.value.Value.TheVariants.{Int}
@@ -7,7 +7,7 @@ use Rattle.fz_meaning.specs.Values.{◌=ℤ◌}
 use Rattle.fz_meaning.specs.Builtins.{total, where_true, as_number}
 use Rattle.fz_meaning.proofs.Values.{int_itself}
 use Rattle.fz_scene.specs.Given.{int_at, ints_at, bools_at}
-use Rattle.fz_scene.specs.Views.{arguments_of, assigned, ints, bools}
+use Rattle.fz_scene.specs.Views.{arguments_of, assigned, ints}
 use Rattle.fz_table.specs.Known.{row_at}
 use Rattle.fz_table.specs.declared.builtin.Builtin.TheVariants.{IntEq, IntPlus, IntTimes, IntMin, IntMax, IntAbs, IntDiv, IntMod, ArrayIntElement, ArrayVarIntElement, ArrayIntMaximum, ArrayIntMinimum, Bool2Int, BoolLinEq, SetCard}
 use Rattle.fz_solve.specs.Left.{IsOfKind, IsLeftNumber}

@@ -1,6 +1,6 @@
-use Rattle.std.proofs.Common.{rules, ◌≡◌, ◌-◌, Option, Some, option_map, IfOk, sym, ap, ◌∙◌, subst, FitsSigned, w64, to_z, of_z}
+use Rattle.std.proofs.Common.{rules, ◌≡◌, Some, option_map, ◌∙◌, FitsSigned, w64, to_z, of_z}
 use Rattle.std.specs.FinSet as finite
-use Rattle.fz_base.specs.Sets.{NumberSet, symmetric_difference}
+use Rattle.fz_base.specs.Sets.{symmetric_difference}
 use Rattle.fz_base.specs.declared.value.Value.TheVariants.{Set}
 use Rattle.fz_meaning.specs.declared.kind.Kind.TheVariants.{Set as SetKind}
 use Rattle.fz_meaning.specs.Values.{◌=ˢ◌}

@@ -1,6 +1,5 @@
 use mathlib.Core.Bool.{beq}
-use Rattle.std.proofs.Common.{rules, ◌≡◌, ◌-◌, ◌&&◌, ◌||◌, not, Option, Some, option_map, refl, sym, ap, ◌∙◌, subst, FitsSigned, w64, to_z, of_z}
-use Rattle.std.proofs.lemmas.Int.{to_z-of_z}
+use Rattle.std.proofs.Common.{rules, ◌&&◌, ◌||◌, not, Some, option_map, ap, ◌∙◌, subst, FitsSigned, w64, to_z, of_z}
 use Rattle.std.specs.List.{list_all, list_any}
 use Rattle.fz_base.specs.declared.value.Value.TheVariants.{Bool as Truth}
 use Rattle.fz_meaning.specs.declared.kind.Kind.TheVariants.{Bool as BoolKind}

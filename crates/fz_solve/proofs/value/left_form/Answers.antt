@@ -1,4 +1,4 @@
-use Rattle.std.proofs.Common.{◌≡◌, sym, ◌∙◌}
+use Rattle.std.proofs.Common.{sym, ◌∙◌}
 use Rattle.fz_meaning.proofs.Values.{no, no'}
 use Rattle.fz_scene.specs.Views.{arguments_of, assigned}
 use Rattle.fz_table.specs.Known.{row_at}
