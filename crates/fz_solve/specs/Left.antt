@@ -26,6 +26,10 @@ IsLeft k test None = (v : Value) → kind_of v ≡ k → WithinLimits v → IsTr
 abbrev pub holds_with : Row → Partial → List Argument → ℕ → Value → Bool
 holds_with r K xs i v = row_holds r (slice_set (given_values K r.shapes xs) i (OneValue v))
 
+-- the same with v for element i of the second argument, an array of numbers
+abbrev pub holds_with_element : Row → Partial → List Argument → ℕ → Value → Bool
+holds_with_element r K xs i v = row_holds r (slice_set (given_values K r.shapes xs) 1 (ManyValues (slice_set (map Int (ints_at K xs 1)) i v)))
+
 -- `defines_var` may fill the place
 abbrev pub IsPlaceOf : Result → ℕ → Type 0
 IsPlaceOf NoResult i = ⊥
@@ -35,10 +39,6 @@ IsPlaceOf UnitTerm i = ⊥
 -- a scalar of the kind stands at the place
 abbrev pub IsOfKind : List Shape → ℕ → Kind → Type 0
 IsOfKind shapes i k = slice_get shapes i ≡ Some (ScalarOf k)
-
--- the same with v for element i of the second argument, an array of numbers
-abbrev pub holds_with_element : Row → Partial → List Argument → ℕ → Value → Bool
-holds_with_element r K xs i v = row_holds r (slice_set (given_values K r.shapes xs) 1 (ManyValues (slice_set (map Int (ints_at K xs 1)) i v)))
 
 -- A sum of the products of the first two arguments leaves 128 bits on the way. An element without a value is read as 0, so it adds nothing.
 abbrev pub products_leave : Partial → List Argument → Bool

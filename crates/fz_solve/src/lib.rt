@@ -4,6 +4,8 @@
 
 mod numbers;
 mod row;
+#[cfg(test)]
+mod tests;
 mod unit;
 mod value;
 
