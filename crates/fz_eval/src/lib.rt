@@ -12,4 +12,6 @@ mod sets;
 mod sums;
 mod truths;
 
+pub use builtins::of_builtin;
+pub use outcome::Outcome;
 pub use points::state;

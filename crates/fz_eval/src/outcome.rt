@@ -8,7 +8,7 @@ use fz_meaning::State;
 
 /// Whether a row holds, or that a sum of it leaves 128 bits.
 #[derive(Clone, Copy)]
-pub(crate) enum Outcome {
+pub enum Outcome {
     Truth(bool),
     TooLarge,
 }
