@@ -1,0 +1,4 @@
+pub mod Opens
+pub mod Spots
+pub mod Gaps
+pub mod Sides
