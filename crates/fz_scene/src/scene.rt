@@ -1,0 +1,184 @@
+//! A constraint under a partial assignment.
+
+ghost use Rattle.std.specs.Prelude.{◌≡◌, IfOk};
+ghost use Rattle.std.specs.FinSet as sets;
+
+use crate::elements::{Elements, Kept};
+use crate::given::{are_given, elements};
+use crate::reading::{Readiness, bool_in, int_in, is_of, set_in, value_at};
+use fz_base::{IntSet, Value};
+use fz_data::{Argument, ConstraintParts, Partial, Place};
+use fz_table::Shape;
+use std::alloc::{AllocError, Global};
+
+/// The empty set, which a scene reads where there is no other. It takes no memory.
+pub fn no_numbers(alloc: Global) -> Result<IntSet, AllocError>
+    ensures { IfOk result (λ s. s ≡ sets.empty) }
+{
+    IntSet::list(alloc, &[]).map_err(|_| AllocError)
+}
+
+/// A constraint's arguments under a partial assignment.
+#[derive(Clone, Copy)]
+pub struct Scene<'s, 'a> {
+    parts: ConstraintParts<'s, 'a>,
+    partial: &'s Partial,
+    empty: &'s IntSet,
+    ghost has_no_numbers: { empty.now ≡ sets.empty },
+}
+
+impl<'s, 'a> Scene<'s, 'a> {
+    ghost use Rattle.std.specs.Prelude.{◌≡◌, map, option_map};
+    ghost use Rattle.std.specs.FinSet as sets;
+    ghost use Rattle.fz_meaning.specs.Meaning as meaning;
+    ghost use Rattle.fz_table.specs.Known.{shape_of};
+    ghost use Rattle.fz_data.specs.Parts.{argument_view, place_view, posted_view};
+    ghost use Rattle.fz_scene.specs.Given.{are_given, are_read, argument_is_read, bool_at, int_at, set_at, slot_at, slot_in, slots_at, slots_in, value_of};
+    ghost use Rattle.fz_scene.specs.Views.{IsReadiness, arguments_of, assigned, slots_kept, slots_of, under};
+
+    /// The arguments of a constraint, under a partial assignment. It takes no memory.
+    pub fn new(
+        parts: ConstraintParts<'s, 'a>,
+        partial: &'s Partial,
+        empty: &'s IntSet,
+    ) -> Scene<'s, 'a>
+        requires no_numbers { empty.now ≡ sets.empty }
+        ensures arguments { arguments_of result ≡ (posted_view parts.entry.variables.now parts.entry.arrays.now parts.entry.posted.now).arguments }
+        ensures assigned { assigned result ≡ partial.now }
+    {
+        Scene {
+            parts,
+            partial,
+            empty,
+        }
+    }
+
+    /// The argument at a place, counted from 0, as a whole number. It takes no memory.
+    pub fn int(&self, index: usize) -> i64
+        ensures read { result ≡ int_at (assigned self.now) (arguments_of self.now) index }
+    {
+        int_in(self.value(index))
+    }
+
+    /// The argument at a place as a truth value. It takes no memory.
+    pub fn truth(&self, index: usize) -> bool
+        ensures read { result ≡ bool_at (assigned self.now) (arguments_of self.now) index }
+    {
+        bool_in(self.value(index))
+    }
+
+    /// The argument at a place as a set. It takes no memory.
+    pub fn set(&self, index: usize) -> &'s IntSet
+        ensures read { result.now ≡ set_at (assigned self.now) (arguments_of self.now) index }
+    {
+        set_in(self.value(index), self.empty)
+    }
+
+    /// The elements of the argument at a place, where it is an array. It takes no memory.
+    pub fn elements(&self, index: usize) -> Elements<'s, 'a>
+        ensures slots { slots_of result ≡ slots_at (arguments_of self.now) index }
+        ensures under { under result ≡ assigned self.now }
+    {
+        let kept = match self.parts.posted.arguments.get(index) {
+            Some(argument) => self.kept_in(argument),
+            None => Kept::Terms(&[]),
+        };
+        self.elements_of(kept)
+    }
+
+    // The value of the scalar at a place.
+    fn value(&self, index: usize) -> Option<&'s Value>
+        ensures { option_map (λ v. v.now) result ≡ value_of (assigned self.now) (slot_at (arguments_of self.now) index) }
+    {
+        match self.parts.posted.arguments.get(index) {
+            Some(argument) => self.value_in(argument),
+            None => None,
+        }
+    }
+
+    fn value_in(&self, argument: &'s Argument<'a>) -> Option<&'s Value>
+        ensures { option_map (λ v. v.now) result ≡ value_of (assigned self.now) (slot_in (argument_view self.now.parts.variables.now self.now.parts.arrays.now argument.now)) }
+    {
+        match argument {
+            Argument::One(place) => value_at(self.partial, place),
+            Argument::List(_) => None,
+        }
+    }
+
+    fn elements_of(&self, kept: Kept<'s, 'a>) -> Elements<'s, 'a>
+        ensures kept { result.kept ≡ kept.entry }
+        ensures under { under result ≡ assigned self.now }
+    {
+        Elements {
+            kept,
+            partial: self.partial,
+            empty: self.empty,
+        }
+    }
+
+    fn kept_in(&self, argument: &'s Argument<'a>) -> Kept<'s, 'a>
+        ensures { slots_kept result ≡ slots_in (argument_view self.now.parts.variables.now self.now.parts.arrays.now argument.now) }
+    {
+        match argument {
+            Argument::One(place) => self.kept_at(place),
+            Argument::List(places) => Kept::Places(places),
+        }
+    }
+
+    fn kept_at(&self, place: &'s Place<'a>) -> Kept<'s, 'a>
+        ensures { slots_kept result ≡ slots_in (meaning.Argument.One (place_view self.now.parts.variables.now self.now.parts.arrays.now place.now)) }
+    {
+        match place {
+            Place::Scalar(_) => Kept::Terms(&[]),
+            Place::Array(name) => Kept::Terms(elements(self.parts.arrays, name.number)),
+        }
+    }
+
+    /// Whether the arguments, which have the shapes, can be read as these ask. It goes over each scalar once, and where one cannot be
+    /// read a second time. It takes no memory.
+    pub fn readiness(&self, shapes: &[Shape]) -> Readiness
+        ensures exact { IsReadiness (assigned self.now) (map shape_of shapes.now) (arguments_of self.now) result }
+    {
+        if self.are_read(shapes, &self.parts.posted.arguments) {
+            Readiness::Ready
+        } else if self.all_given() {
+            Readiness::WrongKind
+        } else {
+            Readiness::Missing
+        }
+    }
+
+    fn are_read(&self, shapes: &[Shape], arguments: &'s [Argument<'a>]) -> bool
+        ensures { result ≡ are_read (assigned self.now) (map shape_of shapes.now) (map (argument_view self.now.parts.variables.now self.now.parts.arrays.now) arguments.now) }
+    {
+        if shapes.len() != arguments.len() {
+            return false;
+        }
+        for (shape, argument) in shapes.iter().zip(arguments) {
+            if !self.is_read(*shape, argument) {
+                return false;
+            }
+        }
+        true
+    }
+
+    fn is_read(&self, shape: Shape, argument: &'s Argument<'a>) -> bool
+        ensures { result ≡ argument_is_read (assigned self.now) (shape_of shape) (argument_view self.now.parts.variables.now self.now.parts.arrays.now argument.now) }
+    {
+        match shape {
+            Shape::Scalar(kind) => is_of(self.value_in(argument), kind),
+            Shape::Array(kind) => self.elements_of(self.kept_in(argument)).are_read(kind),
+        }
+    }
+
+    /// Whether each scalar of each argument has a value. It takes no memory.
+    pub fn all_given(&self) -> bool
+        ensures exact { result ≡ are_given (assigned self.now) (arguments_of self.now) }
+    {
+        are_given(
+            self.partial,
+            self.parts.arrays,
+            &self.parts.posted.arguments,
+        )
+    }
+}

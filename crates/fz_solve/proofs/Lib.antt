@@ -1,0 +1,4 @@
+pub mod Lefts
+pub mod Plain
+pub mod Rows
+pub mod Reified

@@ -1,0 +1,6 @@
+//! The value that a row of the table leaves to an argument in its result place, where all other arguments have values: the one value
+//! of the argument's kind, a whole number of 64 bits among them, with which the row holds, if there is one.
+#![tactic(auto)]
+
+mod arrays;
+mod numbers;
