@@ -1,3 +1,4 @@
 pub mod Slots
 pub mod Shapes
 pub mod Ready
+pub mod Sums

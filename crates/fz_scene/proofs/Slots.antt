@@ -1,12 +1,10 @@
 -- Scalars by their places, as the code keeps them and as they are defined.
-use Rattle.std.proofs.Common.{◌≡◌, ◌<◌, ◌+◌, ℕ, zero, suc, Bool, true, false, ◌&&◌, List, [], ◌∷◌, ◌++◌, map, flat_map, length, Option, Some, None, slice_get, option_map, refl, sym, ap, ◌∙◌, subst}
+use Rattle.std.proofs.Common.{◌≡◌, ℕ, zero, suc, Bool, true, false, ◌&&◌, List, [], ◌∷◌, map, flat_map, Option, Some, None, slice_get, option_map, refl, sym, ap, ◌∙◌}
 use Rattle.std.specs.List.{list_all}
 use Rattle.std.specs.Option.{option_map_or}
 use Rattle.std.proofs.lemmas.Option.{slice_get-map}
-use Rattle.std.proofs.lemmas.List.{length-map}
 use Rattle.std.proofs.lemmas.List.Folds.{list_all-map, list_all-append}
 use Rattle.fz_base.specs.declared.value.Value.{Value}
-use Rattle.fz_meaning.specs.declared.kind.Kind.{Kind}
 use Rattle.fz_meaning.specs.declared.term.Term.{Term}
 use Rattle.fz_meaning.specs.Meaning as meaning
 use Rattle.fz_meaning.specs.Meaning.{Partial, terms_at, terms_in}
@@ -17,8 +15,8 @@ use Rattle.fz_data.specs.declared.parts.Place.TheVariants as places
 use Rattle.fz_data.specs.declared.parts.Argument.{Argument}
 use Rattle.fz_data.specs.declared.parts.Argument.TheVariants as arguments
 use Rattle.fz_data.specs.Parts.{argument_view, place_view, array_view, no_array}
-use Rattle.fz_scene.specs.Given.{slot_of, slot_in, slots_in, value_of, is_read, has_value, is_given, are_given}
-use Rattle.fz_scene.specs.Views.{slot_kept, elements_kept, place_is_given, kept_is_given}
+use Rattle.fz_scene.specs.Given.{slot_of, value_of, has_value, is_given, are_given}
+use Rattle.fz_scene.specs.Views.{slot_kept, place_is_given, kept_is_given}
 
 -- ---- an element by its place
 

@@ -1,4 +1,4 @@
-use Rattle.std.proofs.Common.{rules, FitsSigned, map, option_map, w64}
+use Rattle.std.proofs.Common.{rules, FitsSigned, option_map, w64}
 use Rattle.std.proofs.lemmas.Int.{to_z-of_z}
 use Rattle.fz_scene.specs.Given.{int_in}
 use Rattle.fz_scene.specs.Views.{slots_of, under}

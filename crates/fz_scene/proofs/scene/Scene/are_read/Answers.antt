@@ -1,7 +1,7 @@
-use Rattle.std.proofs.Common.{length, sym, ap, ◌∙◌}
+use Rattle.std.proofs.Common.{length}
 use Rattle.std.proofs.lemmas.List.{length_push}
 use Rattle.std.proofs.lemmas.Slice.Zip.{zip_turn, zip_end}
-use Rattle.fz_scene.proofs.Shapes.{fit, fit_not_long, fit_not, fit_more, fit_all}
+use Rattle.fz_scene.proofs.Shapes.{fit_not_long, fit_not, fit_more, fit_all}
 use Rattle.fz_scene.proofs.scene.Scene.are_read.Goals as goal
 
 pub returns-then-shapes-arguments : goal.returns-then-shapes-arguments
