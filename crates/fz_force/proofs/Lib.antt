@@ -2,3 +2,4 @@ pub mod Opens
 pub mod Spots
 pub mod Gaps
 pub mod Sides
+pub mod Fits

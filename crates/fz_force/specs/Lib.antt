@@ -1,2 +1,3 @@
-pub mod Only
 pub mod Forced
+pub mod Kinds
+pub mod Only

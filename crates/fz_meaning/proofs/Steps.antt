@@ -311,7 +311,7 @@ module _ (K : Partial) (n : ℕ) (none : value_at K n ≡ None) (v w : Value) wh
       let same : h.are ≡ g.are = same_some h.have g.have (terms_keep K n none v ts closed ∙ sym (terms_keep K n none w ts closed)) in
       same_some h.reads g.reads (ap (plain_list IntKind) same)
 
-  variable_open : (ts : List Term) (i : ℕ) → slice_get ts i ≡ Some (Var n) → filter (is_open K) ts ≡ [] → ⊥
+  pub variable_open : (ts : List Term) (i : ℕ) → slice_get ts i ≡ Some (Var n) → filter (is_open K) ts ≡ [] → ⊥
   variable_open [] i at e = cc
   variable_open (t ∷ ts) zero at e =
       let same : t ≡ Var n = cc in
