@@ -1,4 +1,6 @@
 pub mod Lefts
 pub mod Plain
-pub mod Rows
+pub mod RowLemmas
 pub mod Reified
+pub mod RowKinds
+pub mod Readings

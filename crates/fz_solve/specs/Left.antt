@@ -1,5 +1,5 @@
 -- What is left to a result: the value, of its kind and within the limits, with which the row holds (this project's profile).
-use Rattle.std.specs.Prelude.{◌≡◌, ◌<◌, ℕ, suc, ℤ, pos, negsuc, Bool, List, Option, Some, None, IsTrue, FitsSigned, slice_get, slice_set, Contains, ◌⊎◌}
+use Rattle.std.specs.Prelude.{◌≡◌, ℕ, ℤ, pos, negsuc, Bool, List, Option, Some, None, IsTrue, FitsSigned, slice_get, slice_set, Contains, ◌⊎◌}
 use Rattle.std.specs.Int.{w64}
 use Rattle.fz_base.specs.declared.value.Value.{Value}
 use Rattle.fz_meaning.specs.declared.kind.Kind.{Kind}
@@ -45,8 +45,3 @@ IsLeftPlain {A = A} test None = (x : A) → IsTrue (test x) → ⊥
 -- a coefficient with which one element of a sum is determined
 abbrev pub IsUnit : ℤ → Type 0
 IsUnit a = (a ≡ pos 1) ⊎ (a ≡ negsuc 0)
-
--- the place, counted from 0, that a number counted from 1 names among this many; none where it names none
-abbrev pub IsIndex : ℤ → ℕ → Option ℕ → Type 0
-IsIndex n many (Some i) = (n ≡ pos (suc i)) × (i < many)
-IsIndex n many None = (i : ℕ) → i < many → n ≡ pos (suc i) → ⊥

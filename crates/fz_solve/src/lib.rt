@@ -2,5 +2,5 @@
 //! of the argument's kind, a whole number of 64 bits among them, with which the row holds, if there is one.
 #![tactic(auto)]
 
-mod arrays;
 mod numbers;
+mod row;

@@ -75,13 +75,6 @@ pub(crate) fn count(set: &IntSet) -> Option<i64>
     }
 }
 
-/// What `bool2int` leaves to the number.
-pub(crate) fn number_of(truth: bool) -> i64
-    ensures { IsLeftNumber (λ b. b =ℤ as_number truth) (Some result) }
-{
-    i64::from(truth)
-}
-
 /// What `bool2int` leaves to the truth value: none where the number is neither 0 nor 1.
 pub(crate) fn truth_of(number: i64) -> Option<bool>
     ensures { IsLeftPlain (λ a. number =ℤ as_number a) result }

@@ -1,0 +1,7 @@
+pub mod SetRelations
+pub mod Different
+pub mod Left
+pub mod Added
+pub mod Best
+pub mod Passed
+pub mod Read

@@ -1,0 +1,7 @@
+use Rattle.std.proofs.Common.{◌≡◌, true, take}
+use Rattle.fz_scene.specs.Views.{ints}
+use Rattle.fz_kernel.proofs.Best.{is_best, not_below}
+use Rattle.fz_kernel.proofs.arrays.extremes.minimum.Given as goal
+
+abbrev pub invariant-loop-place : goal.invariant-loop-place
+invariant-loop-place l = is_best not_below l.least (take l.place (ints l.elements)) ≡ true

@@ -1,0 +1,13 @@
+//! The relations of the builtins over the elements of arrays.
+mod element;
+mod extremes;
+mod sums;
+mod truths;
+
+pub use element::{
+    all_elements_different, bool_element, int_element, is_bool_element, is_int_element,
+    is_set_element, set_element,
+};
+pub use extremes::{is_maximum, is_minimum, maximum, minimum};
+pub use sums::{sum_of_products, sum_where_true};
+pub use truths::{all_true, any_false, any_true, clause_holds, odd_number_true};

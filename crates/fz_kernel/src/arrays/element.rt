@@ -1,0 +1,95 @@
+// The element at a place, and elements beside each other.
+ghost use Rattle.std.specs.Prelude.{◌≡◌, ◌+◌, ◌≤◌, ◌<◌, ℕ, pos, IfSome, IfNone, IfOk, option_map};
+ghost use Rattle.fz_meaning.specs.Values.{◌=ℤ◌, ◌=ᴮ◌, ◌=ˢ◌};
+ghost use Rattle.fz_meaning.specs.Builtins.{element_at, is_element, all_different};
+ghost use Rattle.fz_scene.specs.Views.{ints, bools, sets};
+
+use crate::distinct::all_different;
+use crate::sets::same_set;
+use fz_base::IntSet;
+use fz_scene::Elements;
+use std::alloc::{AllocError, Global};
+
+// The place, counted from 0, of an index that is counted from 1; none where it is no index of `count` elements.
+fn place_of(index: i64, count: usize) -> Option<usize>
+    ensures place { IfSome result (λ place. index ≡ pos (place + 1)) }
+    ensures in_range { IfSome result (λ place. place < count) }
+    ensures none { IfNone result ((place : ℕ) → index ≡ pos (place + 1) → count ≤ place) }
+{
+    if index < 1 {
+        return None;
+    }
+    let place = (index - 1) as usize;
+    if place < count { Some(place) } else { None }
+}
+
+/// The element at an index counted from 1; none where that is no index.
+pub fn int_element(index: i64, elements: &Elements) -> Option<i64>
+    ensures exact { result ≡ element_at (ints elements.now) index }
+{
+    match place_of(index, elements.len()) {
+        Some(place) => Some(elements.int(place)),
+        None => None,
+    }
+}
+
+/// The element at an index counted from 1; none where that is no index.
+pub fn bool_element(index: i64, elements: &Elements) -> Option<bool>
+    ensures exact { result ≡ element_at (bools elements.now) index }
+{
+    match place_of(index, elements.len()) {
+        Some(place) => Some(elements.truth(place)),
+        None => None,
+    }
+}
+
+/// The element at an index counted from 1; none where that is no index.
+pub fn set_element<'s>(index: i64, elements: &Elements<'s, '_>) -> Option<&'s IntSet>
+    ensures exact { option_map (λ s. s.now) result ≡ element_at (sets elements.now) index }
+{
+    match place_of(index, elements.len()) {
+        Some(place) => Some(elements.set(place)),
+        None => None,
+    }
+}
+
+/// Whether the element at an index counted from 1 is `c`.
+pub fn is_int_element(index: i64, elements: &Elements, c: i64) -> bool
+    ensures exact { result ≡ is_element ◌=ℤ◌ index (ints elements.now) c }
+{
+    match int_element(index, elements) {
+        Some(element) => element == c,
+        None => false,
+    }
+}
+
+/// Whether the element at an index counted from 1 is `c`.
+pub fn is_bool_element(index: i64, elements: &Elements, c: bool) -> bool
+    ensures exact { result ≡ is_element ◌=ᴮ◌ index (bools elements.now) c }
+{
+    match bool_element(index, elements) {
+        Some(element) => element == c,
+        None => false,
+    }
+}
+
+/// Whether the element at an index counted from 1 is `c`.
+pub fn is_set_element(index: i64, elements: &Elements, c: &IntSet) -> bool
+    ensures exact { result ≡ is_element ◌=ˢ◌ index (sets elements.now) c.now }
+{
+    match set_element(index, elements) {
+        Some(element) => same_set(element, c),
+        None => false,
+    }
+}
+
+/// Whether no two elements at different places are equal. It copies the elements, to put them in order.
+pub fn all_elements_different(alloc: Global, elements: &Elements) -> Result<bool, AllocError>
+    ensures exact { IfOk result (λ r. r ≡ all_different (ints elements.now)) }
+{
+    let mut numbers = Vec::with_capacity(alloc, elements.len())?;
+    for place in 0..elements.len() {
+        numbers.push(elements.int(place))?;
+    }
+    Ok(all_different(&mut numbers))
+}

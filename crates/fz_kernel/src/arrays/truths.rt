@@ -1,0 +1,63 @@
+// Truth values in arrays.
+ghost use Rattle.std.specs.Prelude.{◌≡◌, not, ◌||◌, length};
+ghost use Rattle.std.specs.List.{list_all, list_any, filter};
+ghost use Rattle.fz_meaning.specs.Builtins.{is_odd};
+ghost use Rattle.fz_scene.specs.Views.{bools};
+
+use fz_scene::Elements;
+
+/// Whether all are true.
+pub fn all_true(elements: &Elements) -> bool
+    ensures exact { result ≡ list_all (λ x. x) (bools elements.now) }
+{
+    for place in 0..elements.len() {
+        if !elements.truth(place) {
+            return false;
+        }
+    }
+    true
+}
+
+/// Whether one is true.
+pub fn any_true(elements: &Elements) -> bool
+    ensures exact { result ≡ list_any (λ x. x) (bools elements.now) }
+{
+    for place in 0..elements.len() {
+        if elements.truth(place) {
+            return true;
+        }
+    }
+    false
+}
+
+/// Whether one is false.
+pub fn any_false(elements: &Elements) -> bool
+    ensures exact { result ≡ list_any (λ x. not x) (bools elements.now) }
+{
+    for place in 0..elements.len() {
+        if !elements.truth(place) {
+            return true;
+        }
+    }
+    false
+}
+
+/// Whether an odd number of them are true.
+pub fn odd_number_true(elements: &Elements) -> bool
+    ensures exact { result ≡ is_odd (length (filter (λ x. x) (bools elements.now))) }
+{
+    let mut odd = false;
+    for place in 0..elements.len() {
+        if elements.truth(place) {
+            odd = !odd;
+        }
+    }
+    odd
+}
+
+/// Whether one of the first is true, or one of the others false.
+pub fn clause_holds(positive: &Elements, negative: &Elements) -> bool
+    ensures exact { result ≡ (list_any (λ x. x) (bools positive.now) || list_any (λ x. not x) (bools negative.now)) }
+{
+    any_true(positive) || any_false(negative)
+}

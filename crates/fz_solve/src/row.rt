@@ -1,0 +1,67 @@
+//! What base rows leave, by the kind of what they leave.
+
+ghost use Rattle.std.specs.Prelude.{IfOk, option_map};
+ghost use Rattle.fz_base.specs.declared.value.Value.TheVariants.{Int, Bool as Truth, Set};
+ghost use Rattle.fz_meaning.specs.declared.kind.Kind.TheVariants.{Int as IntKind, Bool as BoolKind, Set as SetKind};
+ghost use Rattle.fz_scene.specs.Views.{arguments_of, assigned};
+ghost use Rattle.fz_table.specs.Known.{row_at};
+ghost use Rattle.fz_solve.specs.Left.{IsLeft, IsOfKind, IsPlaceOf, holds_with};
+
+use crate::numbers::{
+    absolute, count, greatest, least, narrow, plus, quotient, remainder, times, truth_of,
+};
+use fz_base::{IntSet, SetError};
+use fz_kernel::arrays::{
+    all_true, any_true, bool_element, int_element, maximum, minimum, set_element, sum_where_true,
+};
+use fz_kernel::numbers::number_of_truth;
+use fz_scene::Scene;
+use fz_table::Builtin;
+use std::alloc::Global;
+
+/// The number that a row leaves where a number stands.
+pub(crate) fn left_number(builtin: Builtin, place: usize, scene: &Scene<'_, '_>) -> Option<i64>
+    requires result { IsPlaceOf (row_at builtin).result place }
+    requires number { IsOfKind (row_at builtin).shapes place IntKind }
+    ensures { IsLeft IntKind (holds_with (row_at builtin) (assigned scene.now) (arguments_of scene.now) place) (option_map Int result) }
+{
+    match builtin {
+        Builtin::IntEq => Some(scene.int(1 - place)),
+        Builtin::IntPlus => plus(scene.int(0), scene.int(1)),
+        Builtin::IntTimes => times(scene.int(0), scene.int(1)),
+        Builtin::IntMin => least(scene.int(0), scene.int(1)),
+        Builtin::IntMax => greatest(scene.int(0), scene.int(1)),
+        Builtin::IntAbs => absolute(scene.int(0)),
+        Builtin::IntDiv => quotient(scene.int(0), scene.int(1)),
+        Builtin::IntMod => remainder(scene.int(0), scene.int(1)),
+        Builtin::ArrayIntElement => int_element(scene.int(0), &scene.elements(1)),
+        Builtin::ArrayVarIntElement => int_element(scene.int(0), &scene.elements(1)),
+        Builtin::ArrayIntMaximum => maximum(&scene.elements(1)),
+        Builtin::ArrayIntMinimum => minimum(&scene.elements(1)),
+        Builtin::Bool2Int => Some(number_of_truth(scene.truth(0))),
+        Builtin::BoolLinEq => narrow(sum_where_true(&scene.elements(0), &scene.elements(1))),
+        Builtin::SetCard => count(scene.set(0)),
+        _ => None,
+    }
+}
+
+/// The truth value that a row leaves where a truth value stands.
+pub(crate) fn left_truth(builtin: Builtin, place: usize, scene: &Scene<'_, '_>) -> Option<bool>
+    requires result { IsPlaceOf (row_at builtin).result place }
+    requires truth { IsOfKind (row_at builtin).shapes place BoolKind }
+    ensures { IsLeft BoolKind (holds_with (row_at builtin) (assigned scene.now) (arguments_of scene.now) place) (option_map Truth result) }
+{
+    match builtin {
+        Builtin::BoolEq => Some(scene.truth(1 - place)),
+        Builtin::BoolNot => Some(!scene.truth(1 - place)),
+        Builtin::BoolAnd => Some(scene.truth(0) && scene.truth(1)),
+        Builtin::BoolOr => Some(scene.truth(0) || scene.truth(1)),
+        Builtin::BoolXor => Some(scene.truth(0) != scene.truth(1)),
+        Builtin::ArrayBoolAnd => Some(all_true(&scene.elements(0))),
+        Builtin::ArrayBoolOr => Some(any_true(&scene.elements(0))),
+        Builtin::ArrayBoolElement => bool_element(scene.int(0), &scene.elements(1)),
+        Builtin::ArrayVarBoolElement => bool_element(scene.int(0), &scene.elements(1)),
+        Builtin::Bool2Int => truth_of(scene.int(1)),
+        _ => None,
+    }
+}
