@@ -3,3 +3,5 @@ pub mod Spots
 pub mod Gaps
 pub mod Sides
 pub mod Fits
+pub mod KindsKept
+pub mod Held

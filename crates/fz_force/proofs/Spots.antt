@@ -45,12 +45,14 @@ module _ (K : Partial) (xs : List Array) (n : ℕ) where
   closed_behind : (bs : List Argument) (a : Argument) (o : Option Spot) → SoFar K xs bs n o → AreOpen K n (terms_given xs a) Nothing → SoFar K xs (bs ++ a ∷ []) n o
   closed_behind bs a None h g = ap (open_terms K) (one_more bs a) ∙ open_append K (flat_map (terms_given xs) bs) (terms_given xs a) ∙ (λ i. h i ++ g i)
   closed_behind bs a (Some s) h g = record {
+    variable = h.variable;
     open_once = ap (open_terms K) (one_more bs a) ∙ open_append K (flat_map (terms_given xs) bs) (terms_given xs a) ∙ (λ i. h.open_once i ++ g i);
     stands = stands_in_front bs (a ∷ []) s.argument s.place (Var n) h.stands;
   }
 
-  found_behind : (bs : List Argument) (a : Argument) (i k : ℕ) → length bs ≡ i → SoFar K xs bs n None → AreOpen K n (terms_given xs a) (Target k) → SoFar K xs (bs ++ a ∷ []) n (Some (record { argument = i; place = k }))
+  found_behind : (bs : List Argument) (a : Argument) (i k : ℕ) → length bs ≡ i → SoFar K xs bs n None → AreOpen K n (terms_given xs a) (Target k) → SoFar K xs (bs ++ a ∷ []) n (Some (record { variable = n; argument = i; place = k }))
   found_behind bs a i k count h g = record {
+    variable = refl;
     open_once = ap (open_terms K) (one_more bs a) ∙ open_append K (flat_map (terms_given xs) bs) (terms_given xs a) ∙ (λ j. h j ++ g.0 j);
     stands = ap (λ o. slice_get (option_map_or (terms_given xs) o []) k) (at_end K n bs a i count) ∙ g.1;
   }
@@ -69,8 +71,8 @@ module _ (K : Partial) (xs : List Array) (n : ℕ) where
     pub goes_on : (o : Option Spot) → SoFar K xs (take i as') n o → AreOpen K n (terms_given xs a) Nothing → SoFar K xs (take (i + 1) as') n o
     goes_on o h g = subst (λ bs. SoFar K xs bs n o) (sym (take_one as' i a (sym at))) (closed_behind (take i as') a o h g)
 
-    pub finds : (k : ℕ) → SoFar K xs (take i as') n None → AreOpen K n (terms_given xs a) (Target k) → SoFar K xs (take (i + 1) as') n (Some (record { argument = i; place = k }))
-    finds k h g = subst (λ bs. SoFar K xs bs n (Some (record { argument = i; place = k }))) (sym (take_one as' i a (sym at))) (found_behind (take i as') a i k (take_length as' i (omega arith)) h g)
+    pub finds : (k : ℕ) → SoFar K xs (take i as') n None → AreOpen K n (terms_given xs a) (Target k) → SoFar K xs (take (i + 1) as') n (Some (record { variable = n; argument = i; place = k }))
+    finds k h g = subst (λ bs. SoFar K xs bs n (Some (record { variable = n; argument = i; place = k }))) (sym (take_one as' i a (sym at))) (found_behind (take i as') a i k (take_length as' i (omega arith)) h g)
 
     pub has_others : AreOpen K n (terms_given xs a) More → IsOnlyOpen K xs as' n None
     has_others h = subst (λ bs. IsOnlyOpen K xs bs n None) in_parts (others (take i as') (drop (i + 1) as') a (others_then K n (flat_map (terms_given xs) (take i as')) (terms_given xs a) h))

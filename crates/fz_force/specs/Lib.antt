@@ -1,3 +1,4 @@
 pub mod Forced
 pub mod Kinds
+pub mod Left
 pub mod Only

@@ -48,6 +48,7 @@ AreOpen K n ts More = (open_terms K ts ≡ [] → ⊥) × (open_terms K ts ≡ V
 
 -- of all arguments' scalars the variable alone is open, once, at a place of an argument
 pub record IsOnlyAt (K : Partial) (xs : List Array) (as' : List Argument) (n : ℕ) (s : Spot) : Type 0 where
+  pub variable : s.variable ≡ n
   pub open_once : open_terms K (flat_map (terms_given xs) as') ≡ Var n ∷ []
   pub stands : slice_get (option_map_or (terms_given xs) (slice_get as' s.argument) []) s.place ≡ Some (Var n)
 

@@ -2,6 +2,8 @@
 //! definition gives either side's value to the other; a constraint gives its target the value that its row leaves.
 #![tactic(auto)]
 
+mod kinds;
+mod left;
 mod only;
 mod row;
 mod step;

@@ -24,9 +24,10 @@ impl Open {
     }
 }
 
-/// Where a scalar stands: its place among the scalars of an argument, both counted from 0.
+/// Where a variable stands: its place among the scalars of an argument, both counted from 0.
 #[derive(Clone, Copy)]
 pub(crate) struct Spot {
+    pub(crate) variable: usize,
     pub(crate) argument: usize,
     pub(crate) place: usize,
 }
@@ -138,6 +139,7 @@ pub(crate) fn only_open<'m, 'a>(
                     return None;
                 }
                 found = Some(Spot {
+                    variable: target,
                     argument: number,
                     place,
                 });

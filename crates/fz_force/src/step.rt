@@ -4,11 +4,11 @@ ghost use Rattle.std.specs.Prelude.{◌≡◌, ◌<◌, ◌↔◌, IfOk, IfSome,
 ghost use Rattle.fz_meaning.specs.Meaning.{IsPartial, Model as Meaning, Point, Variable as Declared, points};
 ghost use Rattle.fz_meaning.specs.Meaning.Point.{DefinitionPoint, DomainPoint};
 ghost use Rattle.fz_meaning.specs.Steps.{Gives, GivesNothing, kind_at};
-ghost use Rattle.fz_meaning.specs.Values.{kind_of};
 ghost use Rattle.fz_meaning.specs.declared.kind.Kind.TheVariants.{Int as IntKind};
 ghost use Rattle.fz_data.specs.Parts.{variable_view};
 ghost use Rattle.fz_force.specs.Forced.{IsFitting, IsForced, IsOnlyNumber};
 
+use crate::kinds::is_of;
 use crate::row::by_row;
 use fz_base::Value;
 use fz_data::{Model, Partial, PointParts, Variable};
@@ -113,14 +113,4 @@ fn is_int(kind: Kind) -> bool
     ensures { IsTrue result ↔ (kind ≡ IntKind) }
 {
     matches!(kind, Kind::Int)
-}
-
-fn is_of(value: &Value, kind: Kind) -> bool
-    ensures { IsTrue result ↔ (kind_of value.now ≡ kind) }
-{
-    match value {
-        Value::Int(_) => matches!(kind, Kind::Int),
-        Value::Bool(_) => matches!(kind, Kind::Bool),
-        Value::Set(_) => matches!(kind, Kind::Set),
-    }
 }
