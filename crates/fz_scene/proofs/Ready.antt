@@ -199,7 +199,7 @@ map_is_some : {A B : Type 0} (f : A → B) (o : Option A) → is_some (option_ma
 map_is_some f None = refl
 map_is_some f (Some x) = refl
 
-values_some : (K : Partial) (ts : List Term) → is_some (values K ts) ≡ list_all (has_value K) ts
+pub values_some : (K : Partial) (ts : List Term) → is_some (values K ts) ≡ list_all (has_value K) ts
 values_some K [] = refl
 values_some K (t ∷ ts) = cons_some (value K t) (values K ts) ∙ ap (λ b. is_some (value K t) && b) (values_some K ts)
 

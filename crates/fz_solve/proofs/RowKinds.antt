@@ -1,5 +1,5 @@
 -- Which rows leave a number, a truth value or a set: those of which a scalar of that kind stands at a result place.
-use Rattle.std.proofs.Common.{◌≡◌, ℕ, List, [], ◌∷◌, Some, refl, sym, ap, ◌∙◌, slice_get, ◌⊎◌, inl, inr}
+use Rattle.std.proofs.Common.{◌≡◌, ℕ, false, List, [], ◌∷◌, Some, refl, sym, ap, ◌∙◌, slice_get, ◌⊎◌, inl, inr}
 use Rattle.std.specs.Prelude.{⊤}
 use Rattle.fz_meaning.specs.declared.kind.Kind.TheVariants.{Int as IntKind, Bool as BoolKind, Set as SetKind}
 use Rattle.fz_meaning.specs.Builtins.{Shape}
@@ -181,3 +181,54 @@ leaves_set SetSymdiff i place kind = inr (inr (inr (inr (inl refl))))
 leaves_set SetCard i place kind = let here : i ≡ 1 = only_place 1 i place in let is = rw here at kind in cc
 leaves_set ArraySetElement i place kind = inr (inr (inr (inr (inr (inl refl)))))
 leaves_set ArrayVarSetElement i place kind = inr (inr (inr (inr (inr (inr (inl refl))))))
+
+-- no row that adds up in 128 bits has a result place
+pub adds_nothing : (b : Builtin) (i : ℕ) → IsPlaceOf (row_at b).result i → (row_at b).sums_in_128 ≡ false
+unfolding row_at name_of
+adds_nothing IntEq i place = refl
+adds_nothing IntNe i place = absurd place
+adds_nothing IntLe i place = absurd place
+adds_nothing IntLt i place = absurd place
+adds_nothing IntLinEq i place = absurd place
+adds_nothing IntLinNe i place = absurd place
+adds_nothing IntLinLe i place = absurd place
+adds_nothing IntPlus i place = refl
+adds_nothing IntTimes i place = refl
+adds_nothing IntMin i place = refl
+adds_nothing IntMax i place = refl
+adds_nothing IntAbs i place = refl
+adds_nothing IntDiv i place = refl
+adds_nothing IntMod i place = refl
+adds_nothing ArrayIntElement i place = refl
+adds_nothing ArrayVarIntElement i place = refl
+adds_nothing ArrayIntMaximum i place = refl
+adds_nothing ArrayIntMinimum i place = refl
+adds_nothing FznAllDifferentInt i place = absurd place
+adds_nothing BoolEq i place = refl
+adds_nothing BoolLe i place = absurd place
+adds_nothing BoolLt i place = absurd place
+adds_nothing BoolNot i place = refl
+adds_nothing BoolAnd i place = refl
+adds_nothing BoolOr i place = refl
+adds_nothing BoolXor i place = refl
+adds_nothing ArrayBoolAnd i place = refl
+adds_nothing ArrayBoolOr i place = refl
+adds_nothing ArrayBoolXor i place = absurd place
+adds_nothing ArrayBoolElement i place = refl
+adds_nothing ArrayVarBoolElement i place = refl
+adds_nothing BoolClause i place = absurd place
+adds_nothing Bool2Int i place = refl
+adds_nothing BoolLinEq i place = refl
+adds_nothing BoolLinLe i place = absurd place
+adds_nothing SetIn i place = absurd place
+adds_nothing SetEq i place = refl
+adds_nothing SetNe i place = absurd place
+adds_nothing SetSubset i place = absurd place
+adds_nothing SetSuperset i place = absurd place
+adds_nothing SetUnion i place = refl
+adds_nothing SetIntersect i place = refl
+adds_nothing SetDiff i place = refl
+adds_nothing SetSymdiff i place = refl
+adds_nothing SetCard i place = refl
+adds_nothing ArraySetElement i place = refl
+adds_nothing ArrayVarSetElement i place = refl

@@ -1,6 +1,6 @@
 -- What is left of plain values is what is left of each row: one lemma for each builtin with a result place.
 use mathlib.Core.Bool.{beq}
-use Rattle.std.proofs.Common.{◌≡◌, ℕ, suc, zero, ◌<◌, ℤ, pos, negsuc, ◌+ℤ◌, ◌*ℤ◌, Bool, true, false, not, ◌&&◌, ◌||◌, List, [], ◌∷◌, map, length, Option, Some, None, refl, sym, ap, subst, subst₂, ◌∙◌, option_map, slice_get, slice_set, int_le, int_div, int_rem, unsigned_abs, Contains, get_or, arith, FitsSigned, w64, to_z, of_z, ◌≤◌, ◌-◌, ◌⊎◌, inl, inr}
+use Rattle.std.proofs.Common.{◌≡◌, ℕ, suc, zero, ◌<◌, ℤ, pos, negsuc, ◌+ℤ◌, ◌*ℤ◌, Bool, true, false, not, ◌&&◌, ◌||◌, List, [], ◌∷◌, map, length, Option, Some, None, Result, Ok, Err, IfOk, refl, sym, ap, subst, subst₂, ◌∙◌, option_map, slice_get, slice_set, int_le, int_div, int_rem, unsigned_abs, Contains, get_or, arith, FitsSigned, w64, to_z, of_z, ◌≤◌, ◌-◌, ◌⊎◌, inl, inr}
 use Rattle.std.proofs.lemmas.Int.{to_z-of_z}
 use Rattle.std.specs.Int.{int_min, int_max}
 use Rattle.std.specs.List.{list_all, list_any}
@@ -11,15 +11,16 @@ use Rattle.fz_base.specs.declared.value.Value.TheVariants.{Int, Bool as Truth, S
 use Rattle.fz_meaning.specs.declared.kind.Kind.{Kind}
 use Rattle.fz_meaning.specs.declared.kind.Kind.TheVariants.{Int as IntKind, Bool as BoolKind, Set as SetKind}
 use Rattle.fz_meaning.specs.Values.{◌=ℤ◌, ◌=ᴮ◌, ◌=ˢ◌}
-use Rattle.fz_meaning.specs.Builtins.{Row, total, products, where_true, is_element, is_among, as_number}
+use Rattle.fz_meaning.specs.Builtins.{Row, plain_list, total, products, where_true, is_element, is_among, as_number}
 use Rattle.fz_meaning.specs.Meaning.{Argument, Partial}
 use Rattle.fz_table.specs.Known.{name_of, row_at}
 use Rattle.fz_table.specs.declared.builtin.Builtin.{Builtin}
-use Rattle.fz_table.specs.declared.builtin.Builtin.TheVariants.{IntEq, IntPlus, IntTimes, IntMin, IntMax, IntAbs, IntDiv, IntMod, ArrayIntElement, ArrayVarIntElement, ArrayIntMaximum, ArrayIntMinimum, BoolEq, BoolNot, BoolAnd, BoolOr, BoolXor, ArrayBoolAnd, ArrayBoolOr, ArrayBoolElement, ArrayVarBoolElement, Bool2Int, BoolLinEq, SetEq, SetUnion, SetIntersect, SetDiff, SetSymdiff, SetCard, ArraySetElement, ArrayVarSetElement}
-use Rattle.fz_table.proofs.Rows.{plain_ints, plain_bools, plain_sets}
+use Rattle.fz_table.specs.declared.builtin.Builtin.TheVariants.{IntEq, IntLinEq, IntPlus, IntTimes, IntMin, IntMax, IntAbs, IntDiv, IntMod, ArrayIntElement, ArrayVarIntElement, ArrayIntMaximum, ArrayIntMinimum, BoolEq, BoolNot, BoolAnd, BoolOr, BoolXor, ArrayBoolAnd, ArrayBoolOr, ArrayBoolElement, ArrayVarBoolElement, Bool2Int, BoolLinEq, SetEq, SetUnion, SetIntersect, SetDiff, SetSymdiff, SetCard, ArraySetElement, ArrayVarSetElement}
+use Rattle.fz_table.proofs.Rows.{plain_ints, plain_bools, plain_sets, int_lin_eq_holds}
 use Rattle.fz_scene.specs.Given.{int_at, bool_at, set_at, ints_at, bools_at, sets_at}
 use Rattle.fz_meaning.proofs.Values.{same_int, int_itself, bool_itself, set_itself, same_truth}
-use Rattle.fz_solve.specs.Left.{IsLeft, IsLeftNumber, IsLeftPlain, IsPlaceOf, IsOfKind, holds_with}
+use Rattle.fz_solve.specs.Left.{IsLeft, IsLeftNumber, IsLeftPlain, IsPlaceOf, IsOfKind, holds_with, holds_with_element}
+use Rattle.fz_solve.proofs.Plain.{total_with}
 use Rattle.fz_solve.proofs.Lefts.{number_left, truth_left, set_left, same_numbers}
 
 pub only_place : (n i : ℕ) → Contains (n ∷ []) i → i ≡ n
@@ -298,3 +299,29 @@ xor_is true true = refl
 xor_is true false = refl
 xor_is false true = refl
 xor_is false false = refl
+
+pub ok_then : {A E : Type 0} (r : Result A E) (P Q : A → Type 0) → ((x : A) → P x → Q x) → IfOk r P → IfOk r Q
+ok_then (Ok x) P Q h p = h x p
+ok_then (Err e) P Q h p = tt
+
+-- ---- one element of a sum
+
+set_map : (b : List ℤ) (i : ℕ) (n : ℤ) → slice_set (map Int b) i (Int n) ≡ map Int (slice_set b i n)
+set_map [] i n = refl
+set_map (x ∷ b) zero n = refl
+set_map (x ∷ b) (suc i) n = ap (λ vs. Int x ∷ vs) (set_map b i n)
+
+module _ (K : Partial) (xs : List Argument) (i : ℕ) (s u w : ℤ) where
+  unit_test : (n : ℤ) → slice_get (ints_at K xs 0) i ≡ Some u → slice_get (ints_at K xs 1) i ≡ Some (pos 0) → s ≡ total (products (ints_at K xs 0) (ints_at K xs 1)) → w ≡ int_at K xs 2
+      → holds_with_element (row_at IntLinEq) K xs i (Int n) ≡ ((s +ℤ (u *ℤ n)) =ℤ w)
+  unfolding row_at name_of
+  unit_test n d e sum wanted =
+      let a = ints_at K xs 0 in
+      let b = ints_at K xs 1 in
+      int_lin_eq_holds (map Int a) a (slice_set (map Int b) i (Int n)) (slice_set b i n) (int_at K xs 2) (plain_ints a) (ap (plain_list IntKind) (set_map b i n) ∙ plain_ints (slice_set b i n))
+      ∙ ap (λ t. t =ℤ int_at K xs 2) (total_with a b i u n d e)
+      ∙ (λ j. (sym sum j +ℤ (u *ℤ n)) =ℤ sym wanted j)
+
+  pub unit_row : (o : Option ℤ) → slice_get (ints_at K xs 0) i ≡ Some u → slice_get (ints_at K xs 1) i ≡ Some (pos 0) → s ≡ total (products (ints_at K xs 0) (ints_at K xs 1)) → w ≡ int_at K xs 2
+      → IsLeftNumber (λ n. (s +ℤ (u *ℤ n)) =ℤ w) o → IsLeft IntKind (holds_with_element (row_at IntLinEq) K xs i) (option_map Int o)
+  unit_row o d e sum wanted h = number_left _ o (same_numbers _ _ o (λ n. unit_test n d e sum wanted) h)

@@ -4,3 +4,8 @@
 
 mod numbers;
 mod row;
+mod unit;
+mod value;
+
+pub use unit::unit_value;
+pub use value::left_value;

@@ -1,9 +1,10 @@
 //! What base rows leave, by the kind of what they leave.
 
-ghost use Rattle.std.specs.Prelude.{IfOk, option_map};
+ghost use Rattle.std.specs.Prelude.{◌≡◌, IfOk, option_map};
 ghost use Rattle.fz_base.specs.declared.value.Value.TheVariants.{Int, Bool as Truth, Set};
 ghost use Rattle.fz_meaning.specs.declared.kind.Kind.TheVariants.{Int as IntKind, Bool as BoolKind, Set as SetKind};
-ghost use Rattle.fz_scene.specs.Views.{arguments_of, assigned};
+ghost use Rattle.fz_meaning.specs.Builtins.{element_at};
+ghost use Rattle.fz_scene.specs.Views.{arguments_of, assigned, sets};
 ghost use Rattle.fz_table.specs.Known.{row_at};
 ghost use Rattle.fz_solve.specs.Left.{IsLeft, IsOfKind, IsPlaceOf, holds_with};
 
@@ -15,7 +16,7 @@ use fz_kernel::arrays::{
     all_true, any_true, bool_element, int_element, maximum, minimum, set_element, sum_where_true,
 };
 use fz_kernel::numbers::number_of_truth;
-use fz_scene::Scene;
+use fz_scene::{Elements, Scene};
 use fz_table::Builtin;
 use std::alloc::Global;
 
@@ -63,5 +64,42 @@ pub(crate) fn left_truth(builtin: Builtin, place: usize, scene: &Scene<'_, '_>) 
         Builtin::ArrayVarBoolElement => bool_element(scene.int(0), &scene.elements(1)),
         Builtin::Bool2Int => truth_of(scene.int(1)),
         _ => None,
+    }
+}
+
+/// The set that a row leaves where a set stands. It refuses only where memory runs out.
+pub(crate) fn left_set(
+    alloc: Global,
+    builtin: Builtin,
+    place: usize,
+    scene: &Scene<'_, '_>,
+) -> Result<Option<IntSet>, SetError>
+    requires result { IsPlaceOf (row_at builtin).result place }
+    requires set { IsOfKind (row_at builtin).shapes place SetKind }
+    ensures { IfOk result (λ left. IsLeft SetKind (holds_with (row_at builtin) (assigned scene.now) (arguments_of scene.now) place) (option_map Set left)) }
+{
+    match builtin {
+        Builtin::SetEq => Ok(Some(scene.set(1 - place).copy(alloc)?)),
+        Builtin::SetUnion => Ok(Some(scene.set(0).union(alloc, scene.set(1))?)),
+        Builtin::SetIntersect => Ok(Some(scene.set(0).intersect(alloc, scene.set(1))?)),
+        Builtin::SetDiff => Ok(Some(scene.set(0).minus(alloc, scene.set(1))?)),
+        Builtin::SetSymdiff => Ok(Some(scene.set(0).symdiff(alloc, scene.set(1))?)),
+        Builtin::ArraySetElement => element_copy(alloc, scene.int(0), &scene.elements(1)),
+        Builtin::ArrayVarSetElement => element_copy(alloc, scene.int(0), &scene.elements(1)),
+        _ => Ok(None),
+    }
+}
+
+// A copy of the element at an index counted from 1; none where that is no index.
+fn element_copy(
+    alloc: Global,
+    index: i64,
+    elements: &Elements<'_, '_>,
+) -> Result<Option<IntSet>, SetError>
+    ensures { IfOk result (λ left. left ≡ element_at (sets elements.now) index) }
+{
+    match set_element(index, elements) {
+        Some(set) => Ok(Some(set.copy(alloc)?)),
+        None => Ok(None),
     }
 }

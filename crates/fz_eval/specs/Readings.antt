@@ -1,0 +1,24 @@
+-- The arguments of a scene by their places, counted from 0.
+use Rattle.std.specs.Prelude.{ℕ, ℤ, Bool, List}
+use Rattle.fz_base.specs.Sets.{NumberSet}
+use Rattle.fz_scene.specs.declared.scene.Scene.{Scene}
+use Rattle.fz_scene.specs.Views.{arguments_of, assigned}
+use Rattle.fz_scene.specs.Given.{int_at, bool_at, set_at, ints_at, bools_at, sets_at}
+
+abbrev pub int : Scene → ℕ → ℤ
+int s i = int_at (assigned s) (arguments_of s) i
+
+abbrev pub truth : Scene → ℕ → Bool
+truth s i = bool_at (assigned s) (arguments_of s) i
+
+abbrev pub numbers : Scene → ℕ → NumberSet
+numbers s i = set_at (assigned s) (arguments_of s) i
+
+abbrev pub ints : Scene → ℕ → List ℤ
+ints s i = ints_at (assigned s) (arguments_of s) i
+
+abbrev pub truths : Scene → ℕ → List Bool
+truths s i = bools_at (assigned s) (arguments_of s) i
+
+abbrev pub sets_of : Scene → ℕ → List NumberSet
+sets_of s i = sets_at (assigned s) (arguments_of s) i

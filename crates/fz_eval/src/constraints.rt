@@ -1,0 +1,69 @@
+//! Constraints.
+
+ghost use Rattle.std.specs.Prelude.{◌≡◌, IfOk, Some, ◌&&◌, true, map, option_map};
+ghost use Rattle.fz_meaning.specs.Builtins.{leaves_128, products};
+ghost use Rattle.fz_meaning.specs.Meaning.{have_shapes, row_of, state_of_row};
+ghost use Rattle.fz_table.specs.Known.{known_row};
+ghost use Rattle.fz_data.specs.Parts.{posted_view};
+ghost use Rattle.fz_scene.specs.Views.{arguments_of, assigned};
+ghost use Rattle.fz_eval.specs.Outcomes.{row_outcome};
+ghost use Rattle.fz_eval.specs.Readings.{ints};
+
+use crate::builtins::of_builtin;
+use crate::outcome::Outcome;
+use crate::sums::sums_leave;
+use fz_data::{ConstraintParts, Partial};
+use fz_meaning::State;
+use fz_scene::{Readiness, Scene, no_numbers};
+use fz_table::Known;
+use std::alloc::{AllocError, Global};
+
+/// The state of a constraint: unknown without a row, whatever its values are; then without a value; then too large; then by its row.
+pub(crate) fn of_constraint(
+    alloc: Global,
+    parts: ConstraintParts<'_, '_>,
+    partial: &Partial,
+) -> Result<State, AllocError>
+    requires known { option_map known_row parts.known ≡ row_of (posted_view parts.variables.now parts.arrays.now parts.posted.now) }
+    ensures { IfOk result (λ s. s ≡ state_of_row partial.now (posted_view parts.entry.variables.now parts.entry.arrays.now parts.entry.posted.now).arguments (row_of (posted_view parts.entry.variables.now parts.entry.arrays.now parts.entry.posted.now))) }
+{
+    let Some(known) = parts.known else {
+        return Ok(State::Unknown);
+    };
+    let empty = no_numbers(alloc)?;
+    of_scene(alloc, known, &Scene::new(parts, partial, &empty))
+}
+
+fn of_scene(alloc: Global, known: Known, scene: &Scene<'_, '_>) -> Result<State, AllocError>
+    requires fits { have_shapes (known_row known).shapes (arguments_of scene.now) ≡ true }
+    ensures { IfOk result (λ s. s ≡ state_of_row (assigned scene.now) (arguments_of scene.now) (Some (known_row known))) }
+{
+    match scene.readiness(known.shapes()) {
+        Readiness::Missing => Ok(State::NoValue),
+        Readiness::WrongKind => Ok(if is_too_large(known, scene) {
+            State::TooLarge
+        } else {
+            State::Fails
+        }),
+        Readiness::Ready => Ok(of_known(alloc, known, scene)?.told()),
+    }
+}
+
+fn is_too_large(known: Known, scene: &Scene<'_, '_>) -> bool
+    ensures { result ≡ ((known_row known).sums_in_128 && leaves_128 (products (ints scene.now 0) (ints scene.now 1))) }
+{
+    known.sums_in_128() && sums_leave(scene)
+}
+
+// The row's outcome: of a form with a truth value, whether its last argument says what the base row comes to.
+fn of_known(alloc: Global, known: Known, scene: &Scene<'_, '_>) -> Result<Outcome, AllocError>
+    ensures { IfOk result (λ o. o ≡ row_outcome (known_row known) (assigned scene.now) (arguments_of scene.now)) }
+{
+    let outcome = of_builtin(alloc, known.builtin, scene)?;
+    if known.reified {
+        let last = known.shapes().len() - 1;
+        Ok(outcome.compared(scene.truth(last)))
+    } else {
+        Ok(outcome)
+    }
+}

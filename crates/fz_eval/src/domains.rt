@@ -1,0 +1,121 @@
+//! Domains and definitions.
+
+ghost use Rattle.std.specs.Prelude.{◌≡◌, cond, option_map, true};
+ghost use Rattle.std.specs.List.{list_all, list_any};
+ghost use Rattle.std.specs.FinSet as sets;
+ghost use Rattle.fz_meaning.specs.declared.state.State.TheVariants.{Fails};
+ghost use Rattle.fz_meaning.specs.Values.{same_value};
+ghost use Rattle.fz_meaning.specs.Meaning.{admits, both, inside, is_outside, judged, judged_by, values};
+ghost use Rattle.fz_scene.specs.Given.{has_value};
+
+use fz_base::{IntSet, Value};
+use fz_data::Partial;
+use fz_meaning::{Domain, State, Term};
+
+fn judged(holds: bool) -> State
+    ensures { result ≡ judged holds }
+{
+    if holds { State::Holds } else { State::Fails }
+}
+
+/// The state of a variable's domain, where it has this value.
+pub(crate) fn of_domain(domain: &Domain, value: Option<&Value>) -> State
+    ensures { result ≡ judged_by (inside domain.now) (option_map (λ v. v.now) value.entry) }
+{
+    match value {
+        Some(value) => judged(is_inside(domain, value)),
+        None => State::NoValue,
+    }
+}
+
+/// The state of a definition, where its sides have these values.
+pub(crate) fn of_definition(left: Option<&Value>, right: Option<&Value>) -> State
+    ensures { result ≡ judged_by (λ (v, w). same_value v w) (both (option_map (λ v. v.now) left.entry) (option_map (λ v. v.now) right.entry)) }
+{
+    let Some(left) = left else {
+        return State::NoValue;
+    };
+    match right {
+        Some(right) => judged(is_same(left, right)),
+        None => State::NoValue,
+    }
+}
+
+/// The state of the domain of an array's elements: it fails as soon as one element lies outside.
+pub(crate) fn of_elements(partial: &Partial, domain: &Domain, elements: &[Term]) -> State
+    ensures { result ≡ cond (list_any (is_outside partial.now domain.now) elements.now) Fails (judged_by (λ vs. true) (values partial.now elements.now)) }
+{
+    if one_outside(partial, domain, elements) {
+        State::Fails
+    } else if have_values(partial, elements) {
+        State::Holds
+    } else {
+        State::NoValue
+    }
+}
+
+fn one_outside(partial: &Partial, domain: &Domain, elements: &[Term]) -> bool
+    ensures { result ≡ list_any (is_outside partial.now domain.now) elements.now }
+{
+    elements
+        .iter()
+        .any(|term| is_outside(partial, domain, term))
+}
+
+fn is_outside(partial: &Partial, domain: &Domain, term: &Term) -> bool
+    ensures { result ≡ is_outside partial.now domain.now term.now }
+{
+    match partial.value(term) {
+        Some(value) => !is_inside(domain, value),
+        None => false,
+    }
+}
+
+fn have_values(partial: &Partial, elements: &[Term]) -> bool
+    ensures { result ≡ list_all (has_value partial.now) elements.now }
+{
+    elements.iter().all(|term| has_value(partial, term))
+}
+
+fn has_value(partial: &Partial, term: &Term) -> bool
+    ensures { result ≡ has_value partial.now term.now }
+{
+    partial.value(term).is_some()
+}
+
+fn is_same(left: &Value, right: &Value) -> bool
+    ensures { result ≡ same_value left.now right.now }
+{
+    left.equals(right)
+}
+
+// Whether the value lies in the domain. No truth value lies in a domain with bounds.
+fn is_inside(domain: &Domain, value: &Value) -> bool
+    ensures { result ≡ inside domain.now value.now }
+{
+    match value {
+        Value::Int(number) => admits(domain, *number),
+        Value::Set(set) => admits_each(domain, set),
+        Value::Bool(_) => matches!(domain, Domain::All),
+    }
+}
+
+fn admits(domain: &Domain, number: i64) -> bool
+    ensures { result ≡ admits domain.now number }
+{
+    match domain {
+        Domain::All => true,
+        Domain::Within(low, high) => *low <= number && number <= *high,
+        Domain::Among(set) => set.contains(number),
+    }
+}
+
+fn admits_each(domain: &Domain, set: &IntSet) -> bool
+    ensures { result ≡ list_all (admits domain.now) (sets.items set.now) }
+{
+    match domain {
+        Domain::All => true,
+        Domain::Within(low, high) => set.within(*low, *high),
+        Domain::Among(others) => set.is_subset(others),
+    }
+}

@@ -1,0 +1,17 @@
+//! The state of a check point under a partial assignment: whether a domain, a definition or a constraint holds, fails or cannot be told.
+#![tactic(auto)]
+
+mod arrays;
+mod builtins;
+mod constraints;
+mod domains;
+mod numbers;
+mod outcome;
+mod points;
+mod sets;
+mod sums;
+mod truths;
+
+pub use builtins::of_builtin;
+pub use outcome::Outcome;
+pub use points::state;

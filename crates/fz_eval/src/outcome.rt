@@ -1,0 +1,37 @@
+//! What a row comes to.
+
+ghost use Rattle.std.specs.Prelude.{◌≡◌};
+ghost use Rattle.fz_meaning.specs.Values.{◌=ᴮ◌};
+ghost use Rattle.fz_eval.specs.Outcomes.{compared, told};
+
+use fz_meaning::State;
+
+/// Whether a row holds, or that a sum of it leaves 128 bits.
+#[derive(Clone, Copy)]
+pub enum Outcome {
+    Truth(bool),
+    TooLarge,
+}
+
+impl Outcome {
+    /// Whether the truth value says what this is.
+    pub(crate) fn compared(self, truth: bool) -> Outcome
+        ensures { result ≡ compared truth self }
+    {
+        match self {
+            Outcome::Truth(holds) => Outcome::Truth(truth == holds),
+            Outcome::TooLarge => Outcome::TooLarge,
+        }
+    }
+
+    /// The state of a constraint with this outcome.
+    pub(crate) fn told(self) -> State
+        ensures { result ≡ told self }
+    {
+        match self {
+            Outcome::Truth(true) => State::Holds,
+            Outcome::Truth(false) => State::Fails,
+            Outcome::TooLarge => State::TooLarge,
+        }
+    }
+}
