@@ -11,7 +11,7 @@ use Rattle.fz_meaning.specs.Builtins.{Shape, Row, Result, ArgValue, rows, passes
 use Rattle.fz_meaning.specs.Builtins.Shape.{ScalarOf, ArrayOf}
 use Rattle.fz_meaning.specs.Builtins.ArgValue.{OneValue}
 use Rattle.fz_meaning.specs.Builtins.Result.{NoResult, Places, UnitTerm}
-use Rattle.fz_meaning.specs.Meaning.{Argument, Partial, Posted, value_at, give, argument_values, fits, has_shape, have_shapes, row_holds, row_of, terms_in}
+use Rattle.fz_meaning.specs.Meaning.{Argument, Partial, Posted, value_at, give, argument_values, fits, has_shape, have_shapes, row_holds, row_of, sums_leave, terms_in}
 use Rattle.fz_meaning.specs.Meaning.Place.{Scalar, Array}
 use Rattle.fz_meaning.specs.Meaning.Argument.{One, ListOf}
 use Rattle.fz_meaning.specs.Steps.{IsResult, open_terms, terms_at_argument}
@@ -23,7 +23,7 @@ use Rattle.fz_scene.proofs.Ready.{ready_values, wrong_kind}
 use Rattle.fz_force.specs.declared.only.Spot.{Spot}
 use Rattle.fz_force.specs.Forced.{Fills, IsOnlyValue, IsReady}
 use Rattle.fz_force.specs.Kinds.{kind_in, each_fits}
-use Rattle.fz_force.specs.Left.{IsLeft, IsOfKind, IsPlaceOf, holds_with}
+use Rattle.fz_solve.specs.Left.{IsLeft, IsOfKind, IsPlaceOf, holds_with}
 use Rattle.fz_force.proofs.Fits.{reads, fits_back, kind_back, changes, given_new, open_first, open_behind, argument_open}
 
 -- ---- the row of a constraint
@@ -163,20 +163,26 @@ module _ (K : Partial) (xs : List Argument) (r : Row) (s : Spot) (h : IsReady K 
         (s.argument, place, q, at)
     result_of_place UnitTerm place = absurd place
 
-    pub scalar_left : (o : Option Value) → IsPlaceOf r.result s.argument → IsLeft k (holds_with r K xs s.argument) o → IsOnlyValue K xs r s.variable o
-    scalar_left (Some v) place left = λ within. (
+    pub scalar_left : (o : Option Value) → IsPlaceOf r.result s.argument → (r.sums_in_128 && sums_leave K xs) ≡ false → IsLeft k (holds_with r K xs s.argument) o → IsOnlyValue K xs r s.variable o
+    scalar_left (Some v) place sums left = λ within. (
         record {
           only_open = h.only_open;
-          sums_fit = h.sums_fit;
+          sums_fit = sums;
           result = result_of_place r.result place;
           within_limits = left.1;
           holds = given_holds (ScalarOf k) shape within v left.0 (test_is within v left.0 ∙ left.2);
         },
         (λ w f. holds_kind (ScalarOf k) shape within w f.holds ∙ sym left.0)
       )
-    scalar_left None place left = λ within w f.
+    scalar_left None place sums left = λ within w f.
         let is : kind_of w ≡ k = holds_kind (ScalarOf k) shape within w f.holds in
         left w is f.within_limits (sym (test_is within w is) ∙ holds_given w f.holds)
+
+  -- ---- where sums leave 128 bits
+
+  pub too_large : (o : Option Value) → (r.sums_in_128 && sums_leave K xs) ≡ true → o ≡ None → IsOnlyValue K xs r s.variable o
+  too_large (Some v) large is = cc
+  too_large None large is = λ within w f. no (sym f.sums_fit ∙ large)
 
   -- ---- where it stands in none
 

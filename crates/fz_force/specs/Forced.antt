@@ -1,10 +1,10 @@
 -- What a point forces (private functions only; the public contract speaks of `Gives` alone).
-use Rattle.std.specs.Prelude.{◌≡◌, ℕ, ℤ, ◌<◌, ◌↔◌, true, false, slice_get, ◌&&◌, List, [], ◌∷◌, length, flat_map, Option, Some, None, IsTrue, IsSomeAnd}
+use Rattle.std.specs.Prelude.{◌≡◌, ℕ, ℤ, ◌<◌, ◌↔◌, true, false, slice_get, ◌&&◌, List, [], ◌∷◌, length, flat_map, Contains, Option, Some, None, IsTrue, IsSomeAnd}
 use Rattle.fz_base.specs.declared.value.Value.{Value}
 use Rattle.fz_meaning.specs.declared.kind.Kind.TheVariants.{Int as IntKind}
 use Rattle.fz_meaning.specs.Values.{kind_of}
 use Rattle.fz_meaning.specs.declared.term.Domain.{Domain}
-use Rattle.fz_meaning.specs.Builtins.{Row}
+use Rattle.fz_meaning.specs.Builtins.{Row, rows}
 use Rattle.fz_meaning.specs.declared.term.Term.TheVariants.{Var}
 use Rattle.fz_meaning.specs.Meaning.{Argument, Model, Point, Partial, admits, argument_values, give, have_shapes, row_holds, sums_leave, terms_in}
 use Rattle.fz_meaning.specs.Steps.{Gives, GivesNothing, HasOneNumber, IsResult, WithinLimits, kind_at, open_terms, terms_at_argument}
@@ -28,6 +28,10 @@ IsFitting m n v None = kind_at m n ≡ Some (kind_of v) → ⊥
 
 -- ---- a constraint with a row
 
+-- it is a row of the table
+abbrev pub IsRow : Row → Type 0
+IsRow r = Contains rows r
+
 -- With the value for the variable the row holds: the variable stands in a result place and is the only open scalar, no sum that is needed
 -- leaves 128 bits, and the value is within the limits.
 pub record Fills (K : Partial) (xs : List Argument) (r : Row) (n : ℕ) (v : Value) : Type 0 where
@@ -37,14 +41,12 @@ pub record Fills (K : Partial) (xs : List Argument) (r : Row) (n : ℕ) (v : Val
   pub within_limits : WithinLimits v
   pub holds : IsSomeAnd (argument_values (give K n v) xs) (λ vs. IsTrue (row_holds r vs))
 
--- The variable of the spot is the only open scalar and stands there, the values of the others are of the kinds that the row asks for, and
--- no sum that is needed leaves 128 bits.
+-- the variable of the spot is the only open scalar and stands there, and the values of the others are of the kinds that the row asks for
 pub record IsReady (K : Partial) (xs : List Argument) (r : Row) (s : Spot) : Type 0 where
   pub shaped : have_shapes r.shapes xs ≡ true
   pub only_open : open_terms K (flat_map terms_in xs) ≡ Var s.variable ∷ []
   pub stands : slice_get (terms_at_argument xs s.argument) s.place ≡ Some (Var s.variable)
   pub kinds : each_fits K r.shapes xs ≡ true
-  pub sums_fit : (r.sums_in_128 && sums_leave K xs) ≡ false
 
 -- an answer fills the place, and has the kind of each value that does; no answer says that no value does
 abbrev pub IsOnlyValue : Partial → List Argument → Row → ℕ → Option Value → Type 0

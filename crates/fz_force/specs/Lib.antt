@@ -1,4 +1,3 @@
 pub mod Forced
 pub mod Kinds
-pub mod Left
 pub mod Only

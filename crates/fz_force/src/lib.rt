@@ -3,7 +3,6 @@
 #![tactic(auto)]
 
 mod kinds;
-mod left;
 mod only;
 mod row;
 mod step;

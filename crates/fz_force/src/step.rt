@@ -32,7 +32,7 @@ pub fn forced(
         PointParts::Domain(variable, own) => Ok(by_domain(variable, own, partial)),
         PointParts::Definition(_, own, side) => by_definition(alloc, model, own, side, partial),
         PointParts::Elements(..) => Ok(None),
-        PointParts::Constraint(parts) => by_row(alloc, model, &parts, partial),
+        PointParts::Constraint(parts) => by_row(alloc, model, parts, partial),
     }
 }
 
