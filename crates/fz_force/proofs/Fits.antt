@@ -64,7 +64,7 @@ read_one BoolKind o = OneValue (Truth (bool_in o))
 read_one SetKind o = OneValue (Set (set_in o))
 
 module _ (K : Partial) (n : ℕ) (none : value_at K n ≡ None) (within : n < length K) (v : Value) where
-  new_value : value (give K n v) (Var n) ≡ Some v
+  pub new_value : value (give K n v) (Var n) ≡ Some v
   new_value = value_at_new K n v within
 
   -- ---- a value of the kind can be read
@@ -176,7 +176,7 @@ module _ (K : Partial) (n : ℕ) (none : value_at K n ≡ None) (within : n < le
 
   -- ---- what is given changes at one argument alone
 
-  values_stay : {A : Type 0} (f : Option Value → A) (ts : List Term) → open_terms K ts ≡ [] → map (λ s. f (value_of (give K n v) s)) (map Some ts) ≡ map (λ s. f (value_of K s)) (map Some ts)
+  pub values_stay : {A : Type 0} (f : Option Value → A) (ts : List Term) → open_terms K ts ≡ [] → map (λ s. f (value_of (give K n v) s)) (map Some ts) ≡ map (λ s. f (value_of K s)) (map Some ts)
   values_stay f [] e = refl
   values_stay f (t ∷ ts) e =
       let parts : (is_open K t ≡ false) × (open_terms K ts ≡ []) = filter-none (is_open K) t ts e in

@@ -87,7 +87,7 @@ by_itself (s ∷ ss) (x ∷ xs) zero j k t h is at =
 -- ---- the only open scalar stands at one place
 
 module _ (K : Partial) (n : ℕ) (none : value_at K n ≡ None) (within : n < length K) (v : Value) where
-  open_here : (t : Term) (ts : List Term) → t ≡ Var n → open_terms K (t ∷ ts) ≡ Var n ∷ [] → open_terms K ts ≡ []
+  pub open_here : (t : Term) (ts : List Term) → t ≡ Var n → open_terms K (t ∷ ts) ≡ Var n ∷ [] → open_terms K ts ≡ []
   open_here t ts is e =
       elim (is_open K t) as (λ b. is_open K t ≡ b → cond b (t ∷ open_terms K ts) (open_terms K ts) ≡ Var n ∷ [] → open_terms K ts ≡ []) [
         | true ↦ λ _ e. cc
@@ -109,7 +109,7 @@ module _ (K : Partial) (n : ℕ) (none : value_at K n ≡ None) (within : n < le
   same_place (t ∷ ts) (suc i) zero at at' e = let is : t ≡ Var n = cc in absurd (variable_open K n none v v ts i at (open_here t ts is e))
   same_place (t ∷ ts) (suc i) (suc j) at at' e = ap suc (same_place ts i j at at' (open_later t ts i at e))
 
-  same_spot : (xs : List Argument) (i j k l : ℕ) → slice_get (terms_at_argument xs i) j ≡ Some (Var n) → slice_get (terms_at_argument xs k) l ≡ Some (Var n) → open_terms K (flat_map terms_in xs) ≡ Var n ∷ [] → (i ≡ k) × (j ≡ l)
+  pub same_spot : (xs : List Argument) (i j k l : ℕ) → slice_get (terms_at_argument xs i) j ≡ Some (Var n) → slice_get (terms_at_argument xs k) l ≡ Some (Var n) → open_terms K (flat_map terms_in xs) ≡ Var n ∷ [] → (i ≡ k) × (j ≡ l)
   same_spot [] i j k l at at' e = cc
   same_spot (x ∷ xs) zero j zero l at at' e = (refl, same_place (terms_in x) j l at at' (open_first K n none within v x xs j at e).0)
   same_spot (x ∷ xs) zero j (suc k) l at at' e = absurd (argument_open K n none within v xs k l at' (open_first K n none within v x xs j at e).1)
@@ -118,40 +118,66 @@ module _ (K : Partial) (n : ℕ) (none : value_at K n ≡ None) (within : n < le
 
 -- ---- an answer
 
-module _ (K : Partial) (xs : List Argument) (r : Row) (s : Spot) (h : IsReady K xs r s) where
-  none : value_at K s.variable ≡ None
-  none = only_open_none K s.variable (flat_map terms_in xs) h.only_open
+-- what holds is read
+pub holds_read : (L : Partial) (xs : List Argument) (r : Row) → have_shapes r.shapes xs ≡ true → IsSomeAnd (argument_values L xs) (λ vs. IsTrue (row_holds r vs)) → are_read L r.shapes xs ≡ true
+holds_read L xs r shaped g =
+    let (vs, are, passed) = some_of (λ vs. IsTrue (row_holds r vs)) (argument_values L xs) g in
+    elim (are_read L r.shapes xs) as (λ b. are_read L r.shapes xs ≡ b → b ≡ true) [
+      | true ↦ λ _. refl
+      | false ↦ λ e. no (sym (wrong_kind L r.shapes r.holds xs vs shaped e are) ∙ passed)
+    ] refl
 
-  -- what holds is read, and is of the kind
-  holds_read : (w : Value) → IsSomeAnd (argument_values (give K s.variable w) xs) (λ vs. IsTrue (row_holds r vs)) → are_read (give K s.variable w) r.shapes xs ≡ true
-  holds_read w g =
-      let (vs, are, passed) = some_of (λ vs. IsTrue (row_holds r vs)) (argument_values (give K s.variable w) xs) g in
-      elim (are_read (give K s.variable w) r.shapes xs) as (λ b. are_read (give K s.variable w) r.shapes xs ≡ b → b ≡ true) [
-        | true ↦ λ _. refl
-        | false ↦ λ e. no (sym (wrong_kind (give K s.variable w) r.shapes r.holds xs vs h.shaped e are) ∙ passed)
-      ] refl
+module _ (K : Partial) (xs : List Argument) (r : Row) (s : Spot) (h : IsReady K xs r s) where
+  pub none : value_at K s.variable ≡ None
+  none = only_open_none K s.variable (flat_map terms_in xs) h.only_open
 
   holds_given : (w : Value) → IsSomeAnd (argument_values (give K s.variable w) xs) (λ vs. IsTrue (row_holds r vs)) → row_holds r (given_values (give K s.variable w) r.shapes xs) ≡ true
   holds_given w g =
       let (vs, are, passed) = some_of (λ vs. IsTrue (row_holds r vs)) (argument_values (give K s.variable w) xs) g in
-      let read : Some vs ≡ Some (given_values (give K s.variable w) r.shapes xs) = sym are ∙ ready_values (give K s.variable w) r.shapes xs h.shaped (holds_read w g) in
+      let read : Some vs ≡ Some (given_values (give K s.variable w) r.shapes xs) = sym are ∙ ready_values (give K s.variable w) r.shapes xs h.shaped (holds_read (give K s.variable w) xs r h.shaped g) in
       let same : vs ≡ given_values (give K s.variable w) r.shapes xs = cc in
       subst (λ us. row_holds r us ≡ true) same passed
 
-  module _ (z : Shape) (shape : slice_get r.shapes s.argument ≡ Some z) (within : s.variable < length K) (w : Value) where
-    holds_kind : IsSomeAnd (argument_values (give K s.variable w) xs) (λ vs. IsTrue (row_holds r vs)) → kind_of w ≡ kind_in z
-    holds_kind g = kind_back K s.variable none within w r.shapes xs s.argument s.place z h.shaped (holds_read w g) h.stands shape
+  -- ---- where sums leave 128 bits
 
-    given_holds : kind_of w ≡ kind_in z → row_holds r (given_values (give K s.variable w) r.shapes xs) ≡ true → IsSomeAnd (argument_values (give K s.variable w) xs) (λ vs. IsTrue (row_holds r vs))
-    given_holds is passed =
+  pub too_large : (o : Option Value) → (r.sums_in_128 && sums_leave K xs) ≡ true → o ≡ None → IsOnlyValue K xs r s.variable o
+  too_large (Some v) large is = cc
+  too_large None large is = λ within w f. no (sym f.sums_fit ∙ large)
+
+  -- ---- where they don't, and a value of the shape's kind passes the test exactly where the row holds with it
+
+  module _ (z : Shape) (shape : slice_get r.shapes s.argument ≡ Some z) (test : Value → Bool)
+      (test_is : s.variable < length K → (w : Value) → kind_of w ≡ kind_in z → row_holds r (given_values (give K s.variable w) r.shapes xs) ≡ test w)
+      (result : IsResult K xs s.variable r.result) (sums : (r.sums_in_128 && sums_leave K xs) ≡ false) where
+    holds_kind : s.variable < length K → (w : Value) → IsSomeAnd (argument_values (give K s.variable w) xs) (λ vs. IsTrue (row_holds r vs)) → kind_of w ≡ kind_in z
+    holds_kind within w g = kind_back K s.variable none within w r.shapes xs s.argument s.place z h.shaped (holds_read (give K s.variable w) xs r h.shaped g) h.stands shape
+
+    given_holds : s.variable < length K → (w : Value) → kind_of w ≡ kind_in z → row_holds r (given_values (give K s.variable w) r.shapes xs) ≡ true
+        → IsSomeAnd (argument_values (give K s.variable w) xs) (λ vs. IsTrue (row_holds r vs))
+    given_holds within w is passed =
         intro (λ vs. IsTrue (row_holds r vs)) (argument_values (give K s.variable w) xs) (given_values (give K s.variable w) r.shapes xs)
         (ready_values (give K s.variable w) r.shapes xs h.shaped (reads K s.variable none within w r.shapes xs s.argument s.place z h.shaped h.only_open h.stands shape is h.kinds)) passed
+
+    pub is_left : (o : Option Value) → IsLeft (kind_in z) test o → IsOnlyValue K xs r s.variable o
+    is_left (Some v) left = λ within. (
+        record {
+          only_open = h.only_open;
+          sums_fit = sums;
+          result = result;
+          within_limits = left.1;
+          holds = given_holds within v left.0 (test_is within v left.0 ∙ left.2);
+        },
+        (λ w f. holds_kind within w f.holds ∙ sym left.0)
+      )
+    is_left None left = λ within w f.
+        let is : kind_of w ≡ kind_in z = holds_kind within w f.holds in
+        left w is f.within_limits (sym (test_is within w is) ∙ holds_given w f.holds)
 
   -- ---- where the variable stands by itself in a result place
 
   module _ (k : Kind) (shape : IsOfKind r.shapes s.argument k) where
-    test_is : s.variable < length K → (w : Value) → kind_of w ≡ k → row_holds r (given_values (give K s.variable w) r.shapes xs) ≡ holds_with r K xs s.argument w
-    test_is within w is =
+    scalar_test : s.variable < length K → (w : Value) → kind_of w ≡ k → row_holds r (given_values (give K s.variable w) r.shapes xs) ≡ holds_with r K xs s.argument w
+    scalar_test within w is =
         let (q, at) = by_itself r.shapes xs s.argument s.place k (Var s.variable) h.shaped shape h.stands in
         ap (row_holds r) (changes K s.variable none within w r.shapes xs s.argument s.place (ScalarOf k) h.shaped h.only_open h.stands shape
         ∙ ap (slice_set (given_values K r.shapes xs) s.argument) (given_new K s.variable none within w k xs s.argument q at is))
@@ -163,26 +189,8 @@ module _ (K : Partial) (xs : List Argument) (r : Row) (s : Spot) (h : IsReady K 
         (s.argument, place, q, at)
     result_of_place UnitTerm place = absurd place
 
-    pub scalar_left : (o : Option Value) → IsPlaceOf r.result s.argument → (r.sums_in_128 && sums_leave K xs) ≡ false → IsLeft k (holds_with r K xs s.argument) o → IsOnlyValue K xs r s.variable o
-    scalar_left (Some v) place sums left = λ within. (
-        record {
-          only_open = h.only_open;
-          sums_fit = sums;
-          result = result_of_place r.result place;
-          within_limits = left.1;
-          holds = given_holds (ScalarOf k) shape within v left.0 (test_is within v left.0 ∙ left.2);
-        },
-        (λ w f. holds_kind (ScalarOf k) shape within w f.holds ∙ sym left.0)
-      )
-    scalar_left None place sums left = λ within w f.
-        let is : kind_of w ≡ k = holds_kind (ScalarOf k) shape within w f.holds in
-        left w is f.within_limits (sym (test_is within w is) ∙ holds_given w f.holds)
-
-  -- ---- where sums leave 128 bits
-
-  pub too_large : (o : Option Value) → (r.sums_in_128 && sums_leave K xs) ≡ true → o ≡ None → IsOnlyValue K xs r s.variable o
-  too_large (Some v) large is = cc
-  too_large None large is = λ within w f. no (sym f.sums_fit ∙ large)
+    pub scalar_left : IsPlaceOf r.result s.argument → (r.sums_in_128 && sums_leave K xs) ≡ false → (o : Option Value) → IsLeft k (holds_with r K xs s.argument) o → IsOnlyValue K xs r s.variable o
+    scalar_left place sums = is_left (ScalarOf k) shape (holds_with r K xs s.argument) scalar_test (result_of_place r.result place) sums
 
   -- ---- where it stands in none
 

@@ -5,3 +5,7 @@ pub mod Sides
 pub mod Fits
 pub mod KindsKept
 pub mod Held
+pub mod Tables
+pub mod Units
+pub mod Placed
+pub mod Chosen

@@ -1,12 +1,12 @@
 -- What a point forces (private functions only; the public contract speaks of `Gives` alone).
-use Rattle.std.specs.Prelude.{◌≡◌, ℕ, ℤ, ◌<◌, ◌↔◌, true, false, slice_get, ◌&&◌, List, [], ◌∷◌, length, flat_map, Contains, Option, Some, None, IsTrue, IsSomeAnd}
+use Rattle.std.specs.Prelude.{◌≡◌, ℕ, ℤ, ◌<◌, ◌↔◌, true, false, slice_get, ◌&&◌, List, [], ◌∷◌, length, flat_map, Option, Some, None, IsTrue, IsSomeAnd}
 use Rattle.fz_base.specs.declared.value.Value.{Value}
 use Rattle.fz_meaning.specs.declared.kind.Kind.TheVariants.{Int as IntKind}
 use Rattle.fz_meaning.specs.Values.{kind_of}
 use Rattle.fz_meaning.specs.declared.term.Domain.{Domain}
-use Rattle.fz_meaning.specs.Builtins.{Row, rows}
+use Rattle.fz_meaning.specs.Builtins.{Row}
 use Rattle.fz_meaning.specs.declared.term.Term.TheVariants.{Var}
-use Rattle.fz_meaning.specs.Meaning.{Argument, Model, Point, Partial, admits, argument_values, give, have_shapes, row_holds, sums_leave, terms_in}
+use Rattle.fz_meaning.specs.Meaning.{Argument, Model, Point, Partial, Posted, admits, argument_values, give, have_shapes, row_holds, row_of, sums_leave, terms_in}
 use Rattle.fz_meaning.specs.Steps.{Gives, GivesNothing, HasOneNumber, IsResult, WithinLimits, kind_at, open_terms, terms_at_argument}
 use Rattle.fz_force.specs.declared.only.Spot.{Spot}
 use Rattle.fz_force.specs.Kinds.{each_fits}
@@ -28,9 +28,9 @@ IsFitting m n v None = kind_at m n ≡ Some (kind_of v) → ⊥
 
 -- ---- a constraint with a row
 
--- it is a row of the table
+-- a row of the table that some constraint fits
 abbrev pub IsRow : Row → Type 0
-IsRow r = Contains rows r
+IsRow r = (p : Posted) × (row_of p ≡ Some r)
 
 -- With the value for the variable the row holds: the variable stands in a result place and is the only open scalar, no sum that is needed
 -- leaves 128 bits, and the value is within the limits.

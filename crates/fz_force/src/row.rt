@@ -29,7 +29,7 @@ pub(crate) fn by_row(
     parts: ConstraintParts<'_, '_>,
     partial: &Partial,
 ) -> Result<Option<(usize, Value)>, AllocError>
-    requires known { option_map known_row parts.entry.known ≡ row_of (posted_view parts.entry.variables.now parts.entry.arrays.now parts.entry.posted.now) }
+    requires known { option_map known_row parts.known ≡ row_of (posted_view parts.variables.now parts.arrays.now parts.posted.now) }
     requires fits { IsPartial model.now partial.now }
     ensures forced { IfOk result (λ o. IsForced model.now partial.now (ConstraintPoint parts.entry.number (posted_view parts.entry.variables.now parts.entry.arrays.now parts.entry.posted.now)) o) }
 {
@@ -53,7 +53,7 @@ fn only_value(
     parts: ConstraintParts<'_, '_>,
     partial: &Partial,
 ) -> Result<Option<Value>, AllocError>
-    requires row { row_of (posted_view parts.entry.variables.now parts.entry.arrays.now parts.entry.posted.now) ≡ Some (known_row known) }
+    requires row { row_of (posted_view parts.variables.now parts.arrays.now parts.posted.now) ≡ Some (known_row known) }
     ensures { IfOk result (λ o. IsOnlyValue partial.now (posted_view parts.entry.variables.now parts.entry.arrays.now parts.entry.posted.now).arguments (known_row known) target o) }
 {
     let arguments = parts.posted.arguments.as_slice();
@@ -89,6 +89,7 @@ fn value_at(
 
 // The value of an element of a sum, where its coefficient is 1 or -1.
 fn element_left(known: Known, spot: Spot, scene: &Scene<'_, '_>) -> Option<i64>
+    requires row { IsRow (known_row known) }
     requires unit_term { (known_row known).result ≡ UnitTerm }
     requires ready { IsReady (assigned scene.now) (arguments_of scene.now) (known_row known) spot }
     ensures { IsOnlyValue (assigned scene.now) (arguments_of scene.now) (known_row known) spot.variable (option_map Int result) }
