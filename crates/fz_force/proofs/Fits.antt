@@ -1,6 +1,6 @@
 -- A constraint's arguments with one more value: where the only open scalar gets a value of its kind, the arguments can be read as the row
 -- asks, and what is given of them changes at that scalar's argument alone.
-use Rattle.std.proofs.Common.{◌≡◌, ℕ, zero, suc, ◌<◌, Bool, true, false, cond, ◌&&◌, List, [], ◌∷◌, ◌++◌, length, map, flat_map, Option, Some, None, slice_get, slice_set, option_and_then, is_none, refl, sym, ap, subst, ◌∙◌}
+use Rattle.std.proofs.Common.{◌≡◌, ℕ, zero, suc, ◌<◌, Bool, true, false, cond, ◌&&◌, List, [], ◌∷◌, length, map, flat_map, Option, Some, None, slice_get, slice_set, option_and_then, is_none, refl, sym, ap, subst, ◌∙◌}
 use Rattle.std.specs.List.{list_all}
 use Rattle.std.specs.Option.{option_map_or}
 use Rattle.fz_base.specs.declared.value.Value.{Value}
@@ -20,7 +20,7 @@ use Rattle.fz_meaning.specs.Steps.{open_terms, terms_at_argument}
 use Rattle.fz_meaning.proofs.Values.{no, no', and_first, and_second, and_both}
 use Rattle.fz_meaning.proofs.Scope.{same_kind_is}
 use Rattle.fz_meaning.proofs.Steps.{is_open, term_keeps, filter-none, filter-append, append-nil, append_one, append_one_left, variable_open}
-use Rattle.fz_scene.specs.Given.{slot_in, slots_in, slot_at, value_of, int_in, bool_in, set_in, int_of, bool_of, set_of_slot, given, given_values, is_read, argument_is_read, are_read}
+use Rattle.fz_scene.specs.Given.{slot_in, slots_in, slot_at, value_of, int_in, bool_in, set_in, given, given_values, is_read, argument_is_read, are_read}
 use Rattle.fz_scene.proofs.Ready.{slots_are_terms, given_first, given_next, given_later}
 use Rattle.fz_force.specs.Kinds.{kind_in, kind_fits, each_fits}
 use Rattle.fz_force.proofs.Gaps.{value_at_new}
@@ -235,6 +235,7 @@ module _ (K : Partial) (n : ℕ) (none : value_at K n ≡ None) (within : n < le
       as_read IntKind = refl
       as_read BoolKind = refl
       as_read SetKind = refl
+
       by_kind : (k : Kind) (w : Value) → kind_of w ≡ k → (o : Option Value) → o ≡ Some w → read_one k o ≡ OneValue w
       by_kind IntKind (Int a) is o e = ap (λ p. OneValue (Int (int_in p))) e
       by_kind IntKind (Truth b) is o e = cc

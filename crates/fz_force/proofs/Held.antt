@@ -3,13 +3,11 @@ use Rattle.std.proofs.Common.{◌≡◌, ℕ, zero, suc, ◌<◌, Bool, true, fa
 use Rattle.std.specs.Option.{option_map_or}
 use Rattle.fz_base.specs.declared.value.Value.{Value}
 use Rattle.fz_meaning.specs.declared.kind.Kind.{Kind}
-use Rattle.fz_meaning.specs.declared.kind.Kind.TheVariants.{Int as IntKind}
 use Rattle.fz_meaning.specs.declared.term.Term.{Term}
 use Rattle.fz_meaning.specs.declared.term.Term.TheVariants.{Var}
 use Rattle.fz_meaning.specs.Values.{kind_of}
-use Rattle.fz_meaning.specs.Builtins.{Shape, Row, Result, ArgValue, rows, passes}
+use Rattle.fz_meaning.specs.Builtins.{Shape, Row, Result, rows}
 use Rattle.fz_meaning.specs.Builtins.Shape.{ScalarOf, ArrayOf}
-use Rattle.fz_meaning.specs.Builtins.ArgValue.{OneValue}
 use Rattle.fz_meaning.specs.Builtins.Result.{NoResult, Places, UnitTerm}
 use Rattle.fz_meaning.specs.Meaning.{Argument, Partial, Posted, value_at, give, argument_values, fits, has_shape, have_shapes, row_holds, row_of, sums_leave, terms_in}
 use Rattle.fz_meaning.specs.Meaning.Place.{Scalar, Array}
@@ -17,14 +15,14 @@ use Rattle.fz_meaning.specs.Meaning.Argument.{One, ListOf}
 use Rattle.fz_meaning.specs.Steps.{IsResult, open_terms, terms_at_argument}
 use Rattle.fz_meaning.proofs.Values.{no, no', and_first, and_second}
 use Rattle.fz_meaning.proofs.States.{intro}
-use Rattle.fz_meaning.proofs.Steps.{is_open, filter-none, some_of, only_open_none, variable_open}
+use Rattle.fz_meaning.proofs.Steps.{is_open, some_of, only_open_none, variable_open}
 use Rattle.fz_scene.specs.Given.{given_values, are_read}
 use Rattle.fz_scene.proofs.Ready.{ready_values, wrong_kind}
 use Rattle.fz_force.specs.declared.only.Spot.{Spot}
-use Rattle.fz_force.specs.Forced.{Fills, IsOnlyValue, IsReady}
-use Rattle.fz_force.specs.Kinds.{kind_in, each_fits}
+use Rattle.fz_force.specs.Forced.{IsOnlyValue, IsReady}
+use Rattle.fz_force.specs.Kinds.{kind_in}
 use Rattle.fz_solve.specs.Left.{IsLeft, IsOfKind, IsPlaceOf, holds_with}
-use Rattle.fz_force.proofs.Fits.{reads, fits_back, kind_back, changes, given_new, open_first, open_behind, argument_open}
+use Rattle.fz_force.proofs.Fits.{reads, kind_back, changes, given_new, open_first, open_behind, argument_open}
 
 -- ---- the row of a constraint
 
@@ -160,15 +158,15 @@ module _ (K : Partial) (xs : List Argument) (r : Row) (s : Spot) (h : IsReady K 
 
     pub is_left : (o : Option Value) → IsLeft (kind_in z) test o → IsOnlyValue K xs r s.variable o
     is_left (Some v) left = λ within. (
-        record {
-          only_open = h.only_open;
-          sums_fit = sums;
-          result = result;
-          within_limits = left.1;
-          holds = given_holds within v left.0 (test_is within v left.0 ∙ left.2);
-        },
-        (λ w f. holds_kind within w f.holds ∙ sym left.0)
-      )
+      record {
+        only_open = h.only_open;
+        sums_fit = sums;
+        result = result;
+        within_limits = left.1;
+        holds = given_holds within v left.0 (test_is within v left.0 ∙ left.2);
+      },
+      (λ w f. holds_kind within w f.holds ∙ sym left.0),
+    )
     is_left None left = λ within w f.
         let is : kind_of w ≡ kind_in z = holds_kind within w f.holds in
         left w is f.within_limits (sym (test_is within w is) ∙ holds_given w f.holds)

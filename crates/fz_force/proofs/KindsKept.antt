@@ -5,8 +5,6 @@ use Rattle.std.specs.Option.{option_map_or}
 use Rattle.std.proofs.lemmas.List.{at_drop_more, at_drop_all}
 use Rattle.std.proofs.lemmas.List.Folds.{list_all-append}
 use Rattle.fz_meaning.specs.declared.kind.Kind.{Kind}
-use Rattle.fz_meaning.specs.declared.term.Term.{Term}
-use Rattle.fz_meaning.specs.Meaning as meaning
 use Rattle.fz_meaning.specs.Meaning.{Partial, terms_at, terms_in}
 use Rattle.fz_table.specs.declared.row.Shape.{Shape}
 use Rattle.fz_table.specs.Known.{shape_of}

@@ -1,8 +1,7 @@
 -- The scalars of an argument by their places, and which of them are open as more of them come.
-use Rattle.std.proofs.Common.{◌≡◌, ℕ, zero, suc, ◌+◌, ◌<◌, ◌≤◌, Bool, true, false, cond, List, [], ◌∷◌, ◌++◌, length, take, drop, get_or, flat_map, Option, Some, None, option_map, IfSome, MatchOption, slice_get, is_none, Bor, refl, sym, ap, subst, ◌∙◌, ◌⊎◌, inl, inr, arith}
+use Rattle.std.proofs.Common.{◌≡◌, ℕ, zero, suc, ◌+◌, ◌<◌, ◌≤◌, true, false, cond, List, [], ◌∷◌, ◌++◌, length, take, drop, get_or, flat_map, Option, Some, None, option_map, IfSome, MatchOption, slice_get, is_none, Bor, refl, sym, ap, subst, ◌∙◌, ◌⊎◌, inl, inr, arith}
 use Rattle.std.proofs.lemmas.Option.{slice_get_past, slice_get_read}
 use Rattle.std.specs.List.{AllByRecursion}
-use Rattle.std.specs.Option.{option_map_or}
 use Rattle.fz_meaning.specs.declared.term.Term.{Term}
 use Rattle.fz_meaning.specs.declared.term.Term.TheVariants.{Var}
 use Rattle.fz_meaning.specs.Meaning.{Partial, value}
@@ -10,10 +9,9 @@ use Rattle.fz_meaning.specs.Steps.{open_terms}
 use Rattle.fz_data.specs.declared.parts.Array.{Array}
 use Rattle.fz_data.specs.declared.parts.Place.{Place}
 use Rattle.fz_data.specs.declared.parts.Place.TheVariants as places
-use Rattle.fz_data.specs.declared.parts.Argument.{Argument}
 use Rattle.fz_force.specs.declared.only.Open.{Open}
 use Rattle.fz_force.specs.declared.only.Open.TheVariants.{Nothing, Target, More}
-use Rattle.fz_force.specs.Only.{IsScalar, AreOpen, scalar_kept, terms_kept, terms_given}
+use Rattle.fz_force.specs.Only.{IsScalar, AreOpen, scalar_kept, terms_kept}
 
 -- ---- a list of scalars, by places
 
@@ -85,14 +83,16 @@ module _ (K : Partial) where
 
     -- others stay others
     pub others_first : (ts us : List Term) → AreOpen K n ts More → AreOpen K n (ts ++ us) More
-    others_first ts us h =
-        ((λ e. h.0 (neither (open_terms K ts) (open_terms K us) (sym (open_append ts us) ∙ e)).0),
-         (λ e. elim (one_of (open_terms K ts) (open_terms K us) (Var n) (sym (open_append ts us) ∙ e)) [ inl a ↦ h.0 a.0 | inr a ↦ h.1 a.0 ]))
+    others_first ts us h = (
+      (λ e. h.0 (neither (open_terms K ts) (open_terms K us) (sym (open_append ts us) ∙ e)).0),
+      (λ e. elim (one_of (open_terms K ts) (open_terms K us) (Var n) (sym (open_append ts us) ∙ e)) [ inl a ↦ h.0 a.0 | inr a ↦ h.1 a.0 ]),
+    )
 
     pub others_then : (ts us : List Term) → AreOpen K n us More → AreOpen K n (ts ++ us) More
-    others_then ts us h =
-        ((λ e. h.0 (neither (open_terms K ts) (open_terms K us) (sym (open_append ts us) ∙ e)).1),
-         (λ e. elim (one_of (open_terms K ts) (open_terms K us) (Var n) (sym (open_append ts us) ∙ e)) [ inl a ↦ h.1 a.1 | inr a ↦ h.0 a.1 ]))
+    others_then ts us h = (
+      (λ e. h.0 (neither (open_terms K ts) (open_terms K us) (sym (open_append ts us) ∙ e)).1),
+      (λ e. elim (one_of (open_terms K ts) (open_terms K us) (Var n) (sym (open_append ts us) ∙ e)) [ inl a ↦ h.1 a.1 | inr a ↦ h.0 a.1 ]),
+    )
 
     -- the variable a second time
     pub twice : (ts us : List Term) (i : ℕ) (o : Open) → (o ≡ Nothing → ⊥) → AreOpen K n ts o → AreOpen K n us (Target i) → AreOpen K n (ts ++ us) More
@@ -113,9 +113,6 @@ module _ (K : Partial) where
 
     pub then_target : (ts : List Term) (t : Term) (k i : ℕ) → length ts ≡ k → AreOpen K n ts Nothing → AreOpen K n (t ∷ []) (Target i) → AreOpen K n (ts ++ t ∷ []) (Target k)
     then_target ts t k i e h g = (open_append ts (t ∷ []) ∙ (λ j. h j ++ g.0 j), at_end ts t k e ∙ ap Some (alone t i g.1))
-
-    pub none_open : AreOpen K n [] Nothing
-    none_open = refl
 
 -- ---- places within a list
 

@@ -1,15 +1,15 @@
 -- From a constraint as it is kept to what its row leaves, and from there to what its point forces.
-use Rattle.std.proofs.Common.{◌≡◌, ℕ, ◌<◌, Bool, true, false, ◌&&◌, List, [], ◌∷◌, length, map, flat_map, Option, Some, None, IsSomeAnd, IfSome, IsFalse, IsTrue, slice_get, refl, sym, ap, subst, ◌∙◌}
+use Rattle.std.proofs.Common.{◌≡◌, ℕ, true, false, ◌&&◌, List, [], ◌∷◌, map, flat_map, Option, Some, None, IsSomeAnd, IfSome, IsFalse, IsTrue, slice_get, is_some, refl, sym, ap, subst, ◌∙◌}
 use Rattle.std.specs.List.{AllByRecursion, list_all}
 use Rattle.std.specs.Option.{option_map_or}
 use Rattle.fz_base.specs.declared.value.Value.{Value}
-use Rattle.fz_meaning.specs.Values.{kind_of, same_kind}
+use Rattle.fz_meaning.specs.Values.{kind_of}
 use Rattle.fz_meaning.specs.declared.kind.Kind.{Kind}
 use Rattle.fz_meaning.specs.declared.term.Term.TheVariants.{Var}
 use Rattle.fz_meaning.specs.Builtins.{Shape, Row}
 use Rattle.fz_meaning.specs.Builtins.Shape.{ScalarOf, ArrayOf}
 use Rattle.fz_meaning.specs.Meaning as meaning
-use Rattle.fz_meaning.specs.Meaning.{Model, Partial, Posted, IsPartial, argument_values, give, has_shape, have_shapes, is_term_of, row_holds, row_of, sums_leave, terms_in}
+use Rattle.fz_meaning.specs.Meaning.{Model, Partial, Posted, IsPartial, argument_values, give, value_at, has_shape, have_shapes, is_term_of, row_holds, row_of, sums_leave, terms_in}
 use Rattle.fz_meaning.specs.Meaning.Point.{ConstraintPoint}
 use Rattle.fz_meaning.specs.Steps.{Gives, IsResult, kind_at, open_terms}
 use Rattle.fz_meaning.proofs.Values.{no, no', and_first, and_second}
@@ -74,6 +74,9 @@ module _ (vs : List Variable) (xs : List Array) where
 pub wrong_kinds : (K : Partial) (xs : List meaning.Argument) (r : Row) (n : ℕ) → have_shapes r.shapes xs ≡ true → each_fits K r.shapes xs ≡ false → IsOnlyValue K xs r n None
 wrong_kinds K xs r n shaped e = λ within w f.
     no' (sym (fits_back K n (only_open_none K n (flat_map terms_in xs) f.only_open) within w r.shapes xs shaped (holds_read (give K n w) xs r shaped f.holds)) ∙ e)
+
+pub has_value : (K : Partial) (xs : List meaning.Argument) (r : Row) (n : ℕ) → is_some (value_at K n) ≡ true → IsOnlyValue K xs r n None
+has_value K xs r n some = λ within w f. no (ap is_some (sym (only_open_none K n (flat_map terms_in xs) f.only_open)) ∙ some)
 
 -- ---- the point
 

@@ -1,5 +1,5 @@
 -- What a domain and a definition force.
-use Rattle.std.proofs.Common.{◌≡◌, ℕ, ℤ, pos, ◌≤ℤ◌, ◌<ℤ◌, ◌↔◌, Bool, true, false, cond, ◌&&◌, List, [], ◌∷◌, length, Option, Some, None, IfSome, IfNone, IsTrue, IsSomeAnd, is_none, FitsSigned, w64, refl, sym, ap, subst, ◌∙◌, inl, inr, ◌⊎◌, arith}
+use Rattle.std.proofs.Common.{◌≡◌, ℕ, ℤ, pos, ◌≤ℤ◌, true, cond, ◌&&◌, [], ◌∷◌, Option, Some, None, IfSome, IfNone, IsTrue, IsSomeAnd, is_none, FitsSigned, w64, refl, sym, ap, subst, ◌∙◌, inl, inr, arith}
 use Rattle.std.specs.Prelude.{int_le}
 use Rattle.std.proofs.lemmas.Int.{ints}
 use Rattle.fz_base.specs.Sets.{NumberSet, IsOnly}
@@ -9,13 +9,12 @@ use Rattle.fz_meaning.specs.Values.{kind_of}
 use Rattle.fz_meaning.specs.declared.kind.Kind.TheVariants.{Int as IntKind}
 use Rattle.fz_meaning.specs.declared.term.Term.{Term}
 use Rattle.fz_meaning.specs.declared.term.Term.TheVariants.{Var}
-use Rattle.fz_meaning.specs.declared.term.Domain.{Domain}
 use Rattle.fz_meaning.specs.declared.term.Domain.TheVariants.{All, Within, Among}
-use Rattle.fz_meaning.specs.Meaning.{Variable, Model, Partial, IsPartial, HoldsUnder, admits, inside, value, value_at, give}
+use Rattle.fz_meaning.specs.Meaning.{Variable, Model, Partial, IsPartial, HoldsUnder, inside, value, value_at, give}
 use Rattle.fz_meaning.specs.Meaning.Point.{DomainPoint, DefinitionPoint}
 use Rattle.fz_meaning.specs.Steps.{Gives, HasOneNumber, kind_at, open_terms}
 use Rattle.fz_meaning.proofs.States.{intro}
-use Rattle.fz_meaning.proofs.Steps.{is_open, term_keeps, value_at_given, definition_sides}
+use Rattle.fz_meaning.proofs.Steps.{term_keeps, value_at_given, definition_sides}
 use Rattle.fz_force.specs.Forced.{IsForced, IsFitting, IsOnlyNumber}
 use Rattle.fz_force.proofs.Gaps.{has_place, value_at_new}
 

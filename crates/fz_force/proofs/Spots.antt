@@ -1,5 +1,5 @@
 -- The only open scalar among the arguments, as more arguments come.
-use Rattle.std.proofs.Common.{◌≡◌, ℕ, zero, suc, ◌+◌, ◌<◌, ◌≤◌, true, is_some, List, [], ◌∷◌, ◌++◌, length, take, drop, flat_map, Option, Some, None, slice_get, refl, sym, ap, subst, ◌∙◌, arith, append_assoc}
+use Rattle.std.proofs.Common.{◌≡◌, ℕ, zero, suc, ◌+◌, ◌<◌, true, is_some, List, [], ◌∷◌, ◌++◌, length, take, drop, flat_map, Option, Some, None, slice_get, refl, sym, ap, subst, ◌∙◌, arith, append_assoc}
 use Rattle.std.specs.Option.{option_map_or}
 use Rattle.fz_meaning.specs.declared.term.Term.{Term}
 use Rattle.fz_meaning.specs.declared.term.Term.TheVariants.{Var}
@@ -11,7 +11,7 @@ use Rattle.fz_force.specs.declared.only.Open.TheVariants.{Nothing, Target, More}
 use Rattle.fz_force.specs.declared.only.Spot.{Spot}
 use Rattle.fz_meaning.proofs.Values.{no'}
 use Rattle.fz_force.specs.Only.{AreOpen, IsOnlyAt, IsOnlyOpen, terms_given}
-use Rattle.fz_force.proofs.Opens.{open_append, and_closed, at_end, others_first, others_then, twice, take_one, take_length, take_and_drop}
+use Rattle.fz_force.proofs.Opens.{open_append, at_end, others_first, others_then, take_one, take_length, take_and_drop}
 
 -- what is found among the arguments so far
 abbrev pub SoFar : Partial → List Array → List Argument → ℕ → Option Spot → Type 0

@@ -1,14 +1,14 @@
 -- What the rows of the table have in common: where scalars are filled, which rows add sums up, and which one fills an element.
-use Rattle.std.proofs.Common.{◌≡◌, ℕ, zero, suc, ◌<◌, Bool, true, false, not, cond, ◌&&◌, ◌||◌, List, [], ◌∷◌, find, Option, Some, None, slice_get, bytes_eq, Contains, refl, sym, ap, subst, ◌∙◌, arith}
+use Rattle.std.proofs.Common.{◌≡◌, ℕ, zero, suc, Bool, true, false, not, cond, ◌&&◌, ◌||◌, List, [], ◌∷◌, find, Some, slice_get, bytes_eq, Contains, refl, sym, subst, arith}
 use Rattle.std.specs.List.{list_all}
 use Rattle.std.specs.Option.{option_map_or}
 use Rattle.fz_meaning.specs.declared.kind.Kind.{Kind}
-use Rattle.fz_meaning.specs.declared.kind.Kind.TheVariants.{Int as IntKind, Bool as BoolKind, Set as SetKind}
+use Rattle.fz_meaning.specs.declared.kind.Kind.TheVariants.{Int as IntKind}
 use Rattle.fz_meaning.specs.Builtins.{Shape, Row, Result, rows, reified}
 use Rattle.fz_meaning.specs.Builtins.Shape.{ScalarOf, ArrayOf}
 use Rattle.fz_meaning.specs.Builtins.Result.{NoResult, Places, UnitTerm}
-use Rattle.fz_meaning.specs.Meaning.{Argument, Partial, Posted, fits, have_shapes, row_of, sums_leave}
-use Rattle.fz_meaning.proofs.Values.{no, no', and_first, and_second}
+use Rattle.fz_meaning.specs.Meaning.{Argument, Partial, fits, have_shapes, sums_leave}
+use Rattle.fz_meaning.proofs.Values.{no, and_first, and_second}
 use Rattle.fz_table.specs.declared.builtin.Builtin.{Builtin}
 use Rattle.fz_table.specs.declared.builtin.Builtin.TheVariants.{IntLinEq}
 use Rattle.fz_table.specs.declared.known.Known.{Known}

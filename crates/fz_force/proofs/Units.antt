@@ -1,5 +1,5 @@
 -- An element of a sum: where its coefficient is 1 or -1, and how what is given changes with its value.
-use Rattle.std.proofs.Common.{◌≡◌, ℕ, zero, suc, ◌<◌, ℤ, pos, negsuc, Bool, true, false, cond, ◌&&◌, List, [], ◌∷◌, length, map, flat_map, Option, Some, None, option_map, IsSomeAnd, slice_get, slice_set, is_none, refl, sym, ap, subst, ◌∙◌, ◌⊎◌, inl, inr}
+use Rattle.std.proofs.Common.{◌≡◌, ℕ, zero, suc, ◌<◌, ℤ, pos, negsuc, true, false, cond, ◌&&◌, List, [], ◌∷◌, length, map, flat_map, Option, Some, None, option_map, slice_get, slice_set, refl, sym, ap, subst, ◌∙◌, ◌⊎◌, inl, inr}
 use Rattle.fz_base.specs.declared.value.Value.{Value}
 use Rattle.fz_base.specs.declared.value.Value.TheVariants.{Int, Bool as Truth, Set}
 use Rattle.fz_meaning.specs.declared.kind.Kind.{Kind}
@@ -18,7 +18,7 @@ use Rattle.fz_meaning.proofs.States.{intro}
 use Rattle.fz_meaning.proofs.Steps.{is_open, term_keeps, variable_open, some_of, as_number_of}
 use Rattle.fz_table.specs.declared.builtin.Builtin.TheVariants.{IntLinEq}
 use Rattle.fz_table.specs.Known.{row_at}
-use Rattle.fz_scene.specs.Given.{slots_at, int_in, int_of, ints_of, ints_at, given, given_values}
+use Rattle.fz_scene.specs.Given.{slots_at, int_in, ints_of, ints_at, given, given_values}
 use Rattle.fz_scene.proofs.Ready.{slots_are_terms}
 use Rattle.fz_solve.specs.Left.{HasUnit, IsLeft, IsReadAsNone, IsUnit, holds_with_element, is_too_large, products_leave}
 use Rattle.fz_force.specs.declared.only.Spot.{Spot}
@@ -107,9 +107,6 @@ module _ (K : Partial) (xs : List Argument) (r : Row) (s : Spot) (h : IsReady K 
       let found : slice_get (ints_at K xs 0) i ≡ Some a =
       ap (λ ss. slice_get (ints_of K ss) i) first_slots ∙ int_found K (terms_at_argument xs 0) i u at0 ∙ ap (λ o. Some (int_in o)) is in
       (sym same.0, subst (HasUnit K xs) same.1 (intro IsUnit (slice_get (ints_at K xs 0) i) a found one))
-
-  pub not_an_element : (o : IsResult K xs s.variable UnitTerm → ⊥) → r.result ≡ UnitTerm → IsOnlyValue K xs r s.variable None
-  not_an_element none_is unit = λ within w f. none_is (subst (IsResult K xs s.variable) unit f.result)
 
   module _ (second : s.argument ≡ 1) where
     stands_second : slice_get (terms_at_argument xs 1) s.place ≡ Some (Var s.variable)

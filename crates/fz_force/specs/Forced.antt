@@ -1,7 +1,6 @@
 -- What a point forces (private functions only; the public contract speaks of `Gives` alone).
 use Rattle.std.specs.Prelude.{◌≡◌, ℕ, ℤ, ◌<◌, ◌↔◌, true, false, slice_get, ◌&&◌, List, [], ◌∷◌, length, flat_map, Option, Some, None, IsTrue, IsSomeAnd}
 use Rattle.fz_base.specs.declared.value.Value.{Value}
-use Rattle.fz_meaning.specs.declared.kind.Kind.TheVariants.{Int as IntKind}
 use Rattle.fz_meaning.specs.Values.{kind_of}
 use Rattle.fz_meaning.specs.declared.term.Domain.{Domain}
 use Rattle.fz_meaning.specs.Builtins.{Row}

@@ -50,12 +50,7 @@ fn place_fits<'a>(kind: Kind, place: &Place<'a>, arrays: &[Array<'a>], partial: 
     }
 }
 
-fn places_fit<'a>(
-    kind: Kind,
-    places: &[Place<'a>],
-    arrays: &[Array<'a>],
-    partial: &Partial,
-) -> bool
+fn places_fit<'a>(kind: Kind, places: &[Place<'a>], arrays: &[Array<'a>], partial: &Partial) -> bool
     ensures { result ≡ list_all (λ p. list_all (kind_fits partial.now kind) (terms_kept arrays.now p)) places.now }
 {
     places

@@ -56,6 +56,10 @@ fn only_value(
     requires row { row_of (posted_view parts.variables.now parts.arrays.now parts.posted.now) ≡ Some (known_row known) }
     ensures { IfOk result (λ o. IsOnlyValue partial.now (posted_view parts.entry.variables.now parts.entry.arrays.now parts.entry.posted.now).arguments (known_row known) target o) }
 {
+    let given = partial.get(target);
+    if given.is_some() {
+        return Ok(None);
+    }
     let arguments = parts.posted.arguments.as_slice();
     let Some(spot) = only_open(arguments, parts.arrays, target, partial) else {
         return Ok(None);

@@ -37,11 +37,7 @@ pub fn forced(
 }
 
 // What the domain of a variable forces: its one number.
-fn by_domain(
-    variable: &Variable<'_>,
-    number: usize,
-    partial: &Partial,
-) -> Option<(usize, Value)>
+fn by_domain(variable: &Variable<'_>, number: usize, partial: &Partial) -> Option<(usize, Value)>
     ensures { (m : Meaning) → IsPartial m partial.now → kind_at m number ≡ Some variable.now.kind → IsForced m partial.now (DomainPoint (variable_view variable.now) number) result }
 {
     if !is_int(variable.kind) || partial.get(number).is_some() {
@@ -86,13 +82,7 @@ fn only_number(domain: &Domain) -> Option<i64>
 {
     match domain {
         Domain::All => None,
-        Domain::Within(lo, hi) => {
-            if *lo == *hi {
-                Some(*lo)
-            } else {
-                None
-            }
-        }
+        Domain::Within(lo, hi) => { if *lo == *hi { Some(*lo) } else { None } }
         Domain::Among(numbers) => numbers.only(),
     }
 }

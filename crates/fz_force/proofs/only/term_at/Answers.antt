@@ -1,4 +1,4 @@
-use Rattle.std.proofs.Common.{refl, ap, sym, length, slice_get, ◌∙◌}
+use Rattle.std.proofs.Common.{refl, ap, sym, slice_get, ◌∙◌}
 use Rattle.std.proofs.lemmas.Option.{slice_get_past, slice_get_read}
 use Rattle.fz_force.specs.Only.{terms_given}
 use Rattle.fz_force.proofs.Opens.{scalar_at, no_scalar_at}

@@ -1,6 +1,6 @@
-use Rattle.std.proofs.Common.{◌≡◌, true, false, ◌&&◌, Option, Some, None, Result, Ok, Err, IfOk, refl, sym, ap, ◌∙◌, subst}
+use Rattle.std.proofs.Common.{refl, sym, ◌∙◌, subst}
 use Rattle.fz_meaning.proofs.Values.{no}
-use Rattle.fz_table.specs.Known.{known_row, result_of}
+use Rattle.fz_table.specs.Known.{known_row}
 use Rattle.fz_scene.specs.Views.{arguments_of, assigned}
 use Rattle.fz_solve.specs.Left.{IsPlaceOf}
 use Rattle.fz_force.proofs.Held.{nothing_placed}

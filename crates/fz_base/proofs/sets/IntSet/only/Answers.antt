@@ -1,4 +1,3 @@
-use Rattle.std.proofs.Common.{◌≡◌, ◌∙◌, ℤ, Option, Some, None, sym, IfSome, IfNone}
 use Rattle.fz_base.proofs.SetRelations.{seen, only_found, only_none}
 use Rattle.fz_base.proofs.sets.IntSet.only.Goals as goal
 
