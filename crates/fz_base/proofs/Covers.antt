@@ -1,10 +1,10 @@
 -- Facts on ranges in order, and on the numbers that they cover.
-use Rattle.std.proofs.Common.{◌≡◌, ℤ, pos, ◌+ℤ◌, ◌-ℤ◌, ◌≤ℤ◌, ◌<ℤ◌, Bool, true, false, ◌&&◌, ◌||◌, ◌⊎◌, List, [], ◌∷◌, ◌++◌, length, get_or, drop, ℕ, zero, suc, ◌+◌, ◌<◌, refl, sym, ap, ◌∙◌, inl, inr, arith, FitsSigned, w64}
+use Rattle.std.proofs.Common.{◌≡◌, ◌≤◌, ℤ, pos, ◌+ℤ◌, ◌-ℤ◌, ◌≤ℤ◌, ◌<ℤ◌, Bool, true, false, ◌&&◌, ◌||◌, ◌⊎◌, List, [], ◌∷◌, ◌++◌, length, get_or, drop, ℕ, zero, suc, ◌+◌, ◌<◌, refl, sym, ap, ◌∙◌, inl, inr, arith, FitsSigned, w64}
 use Rattle.std.specs.Prelude.{int_le}
 use Rattle.std.proofs.lemmas.Bool.{true≢false}
 use Rattle.std.proofs.lemmas.Int.{ints}
 use Rattle.fz_base.specs.declared.ranges.Range.{Range}
-use Rattle.fz_base.specs.Ranges.{lowest, highest, AreInOrder, EndUpTo, ReachesTo, is_between, covers}
+use Rattle.fz_base.specs.Ranges.{lowest, highest, AreInOrder, CoversOnly, EndUpTo, ReachesTo, is_between, covers}
 
 pub or_assoc : (a b c : Bool) → (a || (b || c)) ≡ ((a || b) || c)
 or_assoc true b c = refl
@@ -210,3 +210,33 @@ covered_fits x rs o c =
     let from : lowest ≤ℤ x = elim (apart x lowest) [ inl h ↦ absurd (true≢false (sym c ∙ covers_below lowest x rs o h)) | inr h ↦ h ] in
     let up_to : x ≤ℤ highest = elim (apart highest x) [ inl h ↦ absurd (true≢false (sym c ∙ covers_beyond highest x rs (ends_up_to_highest lowest rs o) h)) | inr h ↦ h ] in
     omega (arith, ints)
+
+-- ---- ranges that cover one number alone
+
+in_first : (r : Range) (rs : List Range) (x : ℤ) → r.lo ≤ℤ x → x ≤ℤ r.hi → covers (r ∷ rs) x ≡ true
+in_first r rs x low high = ap (λ b. b || covers rs x) (between_yes r.lo r.hi x low high)
+
+in_later : (r : Range) (rs : List Range) (x : ℤ) → covers rs x ≡ true → covers (r ∷ rs) x ≡ true
+in_later r rs x h = ap (λ b. is_between r.lo r.hi x || b) h ∙ or-true (is_between r.lo r.hi x)
+
+-- no range covers none
+pub only_not_none : (rs : List Range) → length rs < 1 → (n : ℤ) → CoversOnly n rs → ⊥
+only_not_none [] few n h = absurd (true≢false (sym ((h n).1 refl)))
+only_not_none (r ∷ rs) few n h = absurd (omega arith)
+
+-- a range with two ends covers both
+pub only_not_apart : (f : ℤ) (rs : List Range) (d : Range) → AreInOrder f rs → 1 ≤ length rs → ((get_or rs 0 d).lo ≡ (get_or rs 0 d).hi → ⊥) → (n : ℤ) → CoversOnly n rs → ⊥
+only_not_apart f [] d o few apart n h = absurd (omega arith)
+only_not_apart f (r ∷ rs) d o few apart n h =
+    let low : r.lo ≡ n = (h r.lo).0 (in_first r rs r.lo (omega (arith, ints)) o.1) in
+    let high : r.hi ≡ n = (h r.hi).0 (in_first r rs r.hi o.1 (omega (arith, ints))) in
+    apart (low ∙ sym high)
+
+-- two ranges cover two
+pub only_not_two : (f : ℤ) (rs : List Range) → AreInOrder f rs → 2 ≤ length rs → (n : ℤ) → CoversOnly n rs → ⊥
+only_not_two f [] o many n h = absurd (omega arith)
+only_not_two f (r ∷ []) o many n h = absurd (omega arith)
+only_not_two f (r ∷ q ∷ rs) o many n h =
+    let low : r.lo ≡ n = (h r.lo).0 (in_first r (q ∷ rs) r.lo (omega (arith, ints)) o.1) in
+    let high : q.lo ≡ n = (h q.lo).0 (in_later r (q ∷ rs) q.lo (in_first q rs q.lo (omega (arith, ints)) o.3.1)) in
+    absurd (omega (arith, ints))

@@ -1,5 +1,5 @@
 -- From what ranges cover to the sets of their numbers.
-use Rattle.std.proofs.Common.{◌≡◌, ℤ, ◌≤ℤ◌, Bool, true, false, not, ◌&&◌, ◌||◌, ◌↔◌, List, refl, sym, ap, ◌∙◌}
+use Rattle.std.proofs.Common.{◌≡◌, ℤ, ◌≤ℤ◌, Bool, true, false, not, ◌&&◌, ◌||◌, ◌↔◌, List, Option, Some, None, IfSome, IfNone, refl, sym, ap, ◌∙◌}
 use Rattle.std.specs.List.{list_any}
 use Rattle.std.specs.List.Sorted.{IsPermutation}
 use Rattle.std.specs.Ordering.{int_eq}
@@ -9,8 +9,8 @@ use Rattle.std.specs.FinSet.{contains, from_list, contains-from_list, union, int
 use Rattle.std.proofs.lemmas.Bool.{false≢true}
 use Rattle.fz_base.specs.declared.ranges.Range.{Range}
 use Rattle.fz_base.specs.declared.ranges.Rule.TheVariants.{Union, Intersect, Minus, Symdiff}
-use Rattle.fz_base.specs.Sets.{NumberSet, numbers_between, symmetric_difference, LiesWithin}
-use Rattle.fz_base.specs.Ranges.{numbers_of, covers, is_between, keeps}
+use Rattle.fz_base.specs.Sets.{NumberSet, numbers_between, symmetric_difference, LiesWithin, IsOnly}
+use Rattle.fz_base.specs.Ranges.{numbers_of, CoversOnly, covers, is_between, keeps}
 use Rattle.fz_base.proofs.Numbers.{contains-numbers_of, contains-numbers_between, contains-symmetric_difference, same_numbers}
 
 -- a list of ranges that are those of the set
@@ -74,3 +74,14 @@ module _ (s t : NumberSet) (a b : List Range) (is_a : (x : ℤ) → covers a x �
 
 pub lies_within_is : (s : NumberSet) (a : List Range) → ((x : ℤ) → covers a x ≡ contains s x) → (lo hi : ℤ) (r : Bool) → (r ≡ true ↔ ((x : ℤ) → covers a x ≡ true → (lo ≤ℤ x) × (x ≤ℤ hi))) → (r ≡ true ↔ LiesWithin lo hi s)
 lies_within_is s a is_a lo hi r h = (λ e x in_s. h.0 e x (is_a x ∙ in_s), λ all. h.1 (λ x in_a. all x (sym (is_a x) ∙ in_a)))
+
+-- ---- one number alone
+
+module _ (s : NumberSet) (rs : List Range) (is : (x : ℤ) → covers rs x ≡ contains s x) where
+  pub only_found : (o : Option ℤ) → IfSome o (λ n. CoversOnly n rs) → IfSome o (λ n. IsOnly n s)
+  only_found None h = h
+  only_found (Some n) h = λ x. ((λ e. (h x).0 (is x ∙ e)), (λ e. sym (is x) ∙ (h x).1 e))
+
+  pub only_none : (o : Option ℤ) → IfNone o ((n : ℤ) → CoversOnly n rs → ⊥) → IfNone o ((n : ℤ) → IsOnly n s → ⊥)
+  only_none None h = λ n g. h n (λ x. ((λ e. (g x).0 (sym (is x) ∙ e)), (λ e. is x ∙ (g x).1 e)))
+  only_none (Some n) h = h

@@ -1,5 +1,5 @@
 -- How the crate keeps a set: as ranges in order, with a gap between each two. A reader need not believe this file: no public clause speaks of it.
-use Rattle.std.specs.Prelude.{ℤ, pos, negsuc, ◌+ℤ◌, ◌≤ℤ◌, Bool, false, not, ◌&&◌, ◌||◌, List, [], ◌∷◌, int_le}
+use Rattle.std.specs.Prelude.{◌≡◌, ◌↔◌, ℤ, pos, negsuc, ◌+ℤ◌, ◌≤ℤ◌, Bool, true, false, not, ◌&&◌, ◌||◌, List, [], ◌∷◌, int_le}
 use Rattle.std.specs.List.{flat_map}
 use Rattle.std.specs.FinSet.{from_list}
 use Rattle.fz_base.specs.Sets.{NumberSet, counting_from, count_between}
@@ -48,3 +48,7 @@ keeps Union a b = a || b
 keeps Intersect a b = a && b
 keeps Minus a b = a && not b
 keeps Symdiff a b = (a && not b) || (b && not a)
+
+-- the ranges cover one number alone
+abbrev pub CoversOnly : ℤ → List Range → Type 0
+CoversOnly n rs = (x : ℤ) → (covers rs x ≡ true) ↔ (x ≡ n)

@@ -6,7 +6,8 @@
 --     symmetric_difference s t      what is in exactly one of the two: `set_symdiff`
 --     LiesWithin lo hi s      each element of s is from lo to hi
 --     Has64Bits s      each element of s is a number of 64 bits
-use Rattle.std.specs.Prelude.{ℕ, zero, suc, ℤ, pos, negsuc, ◌+ℤ◌, ◌-ℤ◌, ◌≤ℤ◌, ◌≡◌, true, List, [], ◌∷◌, FitsSigned}
+--     IsOnly n s      n is an element of s, and the only one
+use Rattle.std.specs.Prelude.{ℕ, zero, suc, ℤ, pos, negsuc, ◌+ℤ◌, ◌-ℤ◌, ◌≤ℤ◌, ◌≡◌, ◌↔◌, true, List, [], ◌∷◌, FitsSigned}
 use Rattle.std.specs.Int.{w64}
 use Rattle.std.specs.Ordering.{int_cmp}
 use Rattle.std.specs.FinSet.{FinSet, contains, from_list, union, difference}
@@ -44,3 +45,7 @@ LiesWithin lo hi s = (x : ℤ) → contains s x ≡ true → (lo ≤ℤ x) × (x
 -- each element is from -2^63 to 2^63 - 1 (this project's profile: a whole number has 64 bits)
 abbrev pub Has64Bits : NumberSet → Type 0
 Has64Bits s = (x : ℤ) → contains s x ≡ true → FitsSigned w64 x
+
+-- it is an element, and there is no other
+abbrev pub IsOnly : ℤ → NumberSet → Type 0
+IsOnly n s = (x : ℤ) → (contains s x ≡ true) ↔ (x ≡ n)

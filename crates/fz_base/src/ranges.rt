@@ -1,11 +1,11 @@
 // Ranges of whole numbers in order, as the sets of this crate are kept. Each function goes over its
 // ranges once; a set relation or operation walks two lists side by side, stretch by stretch.
-ghost use Rattle.std.specs.Prelude.{◌≡◌, ◌≤◌, ◌^◌, ℤ, ◌≤ℤ◌, ◌<ℤ◌, ◌+◌, ◌↔◌, ◌||◌, false, IsTrue, IfOk, OnOk, pos, ◌+ℤ◌, ◌-ℤ◌, ◌&&◌};
+ghost use Rattle.std.specs.Prelude.{◌≡◌, ◌≤◌, ◌^◌, ℤ, ◌≤ℤ◌, ◌<ℤ◌, ◌+◌, ◌↔◌, ◌||◌, false, IsTrue, IfNone, IfOk, IfSome, OnOk, pos, ◌+ℤ◌, ◌-ℤ◌, ◌&&◌};
 ghost use Rattle.std.specs.List.{sum_by, list_any};
 ghost use Rattle.std.specs.Ordering.{int_cmp, int_eq};
 ghost use Rattle.std.specs.List.Sorted.{IsSorted};
 ghost use Rattle.fz_base.specs.Sets.{count_between};
-ghost use Rattle.fz_base.specs.Ranges.{lowest, AreInOrder, EndUpTo, ReachesTo, covers, is_between, keeps};
+ghost use Rattle.fz_base.specs.Ranges.{lowest, AreInOrder, CoversOnly, EndUpTo, ReachesTo, covers, is_between, keeps};
 
 use std::alloc::{AllocError, Global};
 
@@ -119,6 +119,18 @@ fn push_range(ranges: &mut Vec<Range>, lo: i64, hi: i64) -> Result<(), AllocErro
         }
     }
     Ok(())
+}
+
+/// The number that ranges in order have, where it is one alone.
+pub fn only(ranges: &[Range]) -> Option<i64>
+    requires in_order { AreInOrder lowest ranges.now }
+    ensures found { IfSome result (λ n. CoversOnly n ranges.now) }
+    ensures none { IfNone result ((n : ℤ) → CoversOnly n ranges.now → ⊥) }
+{
+    match ranges {
+        [range] if range.lo == range.hi => Some(range.lo),
+        _ => None,
+    }
 }
 
 /// The ranges of the numbers from `lo` to `hi`: one, or none where `lo` is above `hi`.

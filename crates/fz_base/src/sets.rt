@@ -1,7 +1,7 @@
 // Finite sets of whole numbers.
-ghost use Rattle.std.specs.Prelude.{◌≡◌, ◌≤◌, ◌^◌, ◌↔◌, IsTrue, IfOk};
+ghost use Rattle.std.specs.Prelude.{◌≡◌, ◌≤◌, ◌^◌, ◌↔◌, ℤ, IsTrue, IfNone, IfOk, IfSome};
 ghost use Rattle.std.specs.FinSet as set;
-ghost use Rattle.fz_base.specs.Sets.{numbers_between, symmetric_difference, LiesWithin, Has64Bits};
+ghost use Rattle.fz_base.specs.Sets.{numbers_between, symmetric_difference, LiesWithin, Has64Bits, IsOnly};
 
 use crate::ranges::{self, Range, Rule};
 use std::alloc::{AllocError, Global};
@@ -82,6 +82,14 @@ impl IntSet {
         ensures bound { result ≤ 2 ^ 64 }
     {
         ranges::count(&self.ranges)
+    }
+
+    /// The number of the set, where it has exactly one, at once.
+    pub fn only(&self) -> Option<i64>
+        ensures found { IfSome result (λ n. IsOnly n self.now) }
+        ensures none { IfNone result ((n : ℤ) → IsOnly n self.now → ⊥) }
+    {
+        ranges::only(&self.ranges)
     }
 
     /// Whether each number of this set is in the other, in one pass over both.

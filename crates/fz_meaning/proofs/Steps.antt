@@ -38,14 +38,14 @@ value_at_other (o ∷ K) (suc n) (suc k) v h = value_at_other K n k v (λ e. h (
 
 -- ---- lists
 
-abbrev is_open : Partial → Term → Bool
+abbrev pub is_open : Partial → Term → Bool
 is_open K t = is_none (value K t)
 
-filter-none : {A : Type 0} (p : A → Bool) (x : A) (xs : List A) → filter p (x ∷ xs) ≡ [] → (p x ≡ false) × (filter p xs ≡ [])
+pub filter-none : {A : Type 0} (p : A → Bool) (x : A) (xs : List A) → filter p (x ∷ xs) ≡ [] → (p x ≡ false) × (filter p xs ≡ [])
 filter-none p x xs e =
     elim (p x) as (λ b. cond b (x ∷ filter p xs) (filter p xs) ≡ [] → (b ≡ false) × (filter p xs ≡ [])) [ true ↦ λ e. cc | false ↦ λ e. (refl, e) ] e
 
-filter-append : {A : Type 0} (p : A → Bool) (xs ys : List A) → filter p (xs ++ ys) ≡ filter p xs ++ filter p ys
+pub filter-append : {A : Type 0} (p : A → Bool) (xs ys : List A) → filter p (xs ++ ys) ≡ filter p xs ++ filter p ys
 filter-append p [] ys = refl
 filter-append p (x ∷ xs) ys =
     elim (p x) as (λ b. cond b (x ∷ filter p (xs ++ ys)) (filter p (xs ++ ys)) ≡ cond b (x ∷ filter p xs) (filter p xs) ++ filter p ys) [
@@ -61,15 +61,15 @@ filter-head p (x ∷ xs) ys y e =
       | false ↦ λ h e. filter-head p xs ys y e
     ] refl e
 
-append-nil : {A : Type 0} (xs ys : List A) → xs ++ ys ≡ [] → (xs ≡ []) × (ys ≡ [])
+pub append-nil : {A : Type 0} (xs ys : List A) → xs ++ ys ≡ [] → (xs ≡ []) × (ys ≡ [])
 append-nil [] ys e = (refl, e)
 append-nil (x ∷ xs) ys e = cc
 
-append_one : {A : Type 0} (xs ys : List A) (y : A) → xs ++ ys ≡ y ∷ [] → (ys ≡ [] → ⊥) → (xs ≡ []) × (ys ≡ y ∷ [])
+pub append_one : {A : Type 0} (xs ys : List A) (y : A) → xs ++ ys ≡ y ∷ [] → (ys ≡ [] → ⊥) → (xs ≡ []) × (ys ≡ y ∷ [])
 append_one [] ys y e h = (refl, e)
 append_one (x ∷ xs) ys y e h = let rest : xs ++ ys ≡ [] = cc in absurd (h (append-nil xs ys rest).1)
 
-append_one_left : {A : Type 0} (xs ys : List A) (y : A) → xs ++ ys ≡ y ∷ [] → (xs ≡ [] → ⊥) → (xs ≡ y ∷ []) × (ys ≡ [])
+pub append_one_left : {A : Type 0} (xs ys : List A) (y : A) → xs ++ ys ≡ y ∷ [] → (xs ≡ [] → ⊥) → (xs ≡ y ∷ []) × (ys ≡ [])
 append_one_left [] ys y e h = absurd (h refl)
 append_one_left (x ∷ xs) ys y e h =
     let rest : xs ++ ys ≡ [] = cc in
@@ -80,22 +80,22 @@ append_one_left (x ∷ xs) ys y e h =
 -- ---- what has a value keeps it
 
 module _ (K : Partial) (n : ℕ) (none : value_at K n ≡ None) (v : Value) where
-  term_keeps : (t : Term) → is_open K t ≡ false → value (give K n v) t ≡ value K t
+  pub term_keeps : (t : Term) → is_open K t ≡ false → value (give K n v) t ≡ value K t
   term_keeps (Var k) closed = value_at_other K n k v (λ e. no' (sym (ap is_none none) ∙ ap (λ j. is_none (value_at K j)) (sym e) ∙ closed))
   term_keeps (Fixed w) closed = refl
 
-  terms_keep : (ts : List Term) → filter (is_open K) ts ≡ [] → values (give K n v) ts ≡ values K ts
+  pub terms_keep : (ts : List Term) → filter (is_open K) ts ≡ [] → values (give K n v) ts ≡ values K ts
   terms_keep [] e = refl
   terms_keep (t ∷ ts) e =
       let parts : (is_open K t ≡ false) × (filter (is_open K) ts ≡ []) = filter-none (is_open K) t ts e in
       λ i. option_cons (term_keeps t parts.0 i) (terms_keep ts parts.1 i)
 
-  argument_keeps : (x : Argument) → filter (is_open K) (terms_in x) ≡ [] → argument_value (give K n v) x ≡ argument_value K x
+  pub argument_keeps : (x : Argument) → filter (is_open K) (terms_in x) ≡ [] → argument_value (give K n v) x ≡ argument_value K x
   argument_keeps (One (Scalar k t)) e = ap (option_map OneValue) (term_keeps t (filter-none (is_open K) t [] e).0)
   argument_keeps (One (Array name k ts)) e = ap (option_map ManyValues) (terms_keep ts e)
   argument_keeps (ListOf ps) e = ap (option_map ManyValues) (terms_keep (terms_in (ListOf ps)) e)
 
-  arguments_keep : (xs : List Argument) → filter (is_open K) (flat_map terms_in xs) ≡ [] → argument_values (give K n v) xs ≡ argument_values K xs
+  pub arguments_keep : (xs : List Argument) → filter (is_open K) (flat_map terms_in xs) ≡ [] → argument_values (give K n v) xs ≡ argument_values K xs
   arguments_keep [] e = refl
   arguments_keep (x ∷ xs) e =
       let parts : (filter (is_open K) (terms_in x) ≡ []) × (filter (is_open K) (flat_map terms_in xs) ≡ []) = append-nil _ _ (sym (filter-append (is_open K) (terms_in x) (flat_map terms_in xs)) ∙ e) in
@@ -311,7 +311,7 @@ module _ (K : Partial) (n : ℕ) (none : value_at K n ≡ None) (v w : Value) wh
       let same : h.are ≡ g.are = same_some h.have g.have (terms_keep K n none v ts closed ∙ sym (terms_keep K n none w ts closed)) in
       same_some h.reads g.reads (ap (plain_list IntKind) same)
 
-  variable_open : (ts : List Term) (i : ℕ) → slice_get ts i ≡ Some (Var n) → filter (is_open K) ts ≡ [] → ⊥
+  pub variable_open : (ts : List Term) (i : ℕ) → slice_get ts i ≡ Some (Var n) → filter (is_open K) ts ≡ [] → ⊥
   variable_open [] i at e = cc
   variable_open (t ∷ ts) zero at e =
       let same : t ≡ Var n = cc in
@@ -474,7 +474,7 @@ number_determined K n x v w (number, is) v_int w_int p q =
 row_passes : (K : Partial) (xs : List Argument) (r : Row) → IsSomeAnd (argument_values K xs) (λ vs. IsTrue (row_holds r vs)) → Passes K r.shapes r.holds xs
 row_passes K xs r h = let (vs, are, passed) = some_of (λ vs. IsTrue (row_holds r vs)) (argument_values K xs) h in record { arguments = vs; are = are; passed = passed }
 
-is_none_true : {A : Type 0} (o : Option A) → is_none o ≡ true → o ≡ None
+pub is_none_true : {A : Type 0} (o : Option A) → is_none o ≡ true → o ≡ None
 is_none_true None e = refl
 is_none_true (Some x) e = no' (sym e)
 

@@ -98,7 +98,7 @@ ready_argument K (ArrayOf k) x h r =
 
 -- ---- several arguments
 
-given_first : (K : Partial) (x : Argument) (xs : List Argument) (s : Shape) → given K (x ∷ xs) 0 s ≡ given_here K x s
+pub given_first : (K : Partial) (x : Argument) (xs : List Argument) (s : Shape) → given K (x ∷ xs) 0 s ≡ given_here K x s
 given_first K x xs (ScalarOf IntKind) = refl
 given_first K x xs (ScalarOf BoolKind) = refl
 given_first K x xs (ScalarOf SetKind) = refl
@@ -106,7 +106,7 @@ given_first K x xs (ArrayOf IntKind) = refl
 given_first K x xs (ArrayOf BoolKind) = refl
 given_first K x xs (ArrayOf SetKind) = refl
 
-given_next : (K : Partial) (x : Argument) (xs : List Argument) (i : ℕ) (s : Shape) → given K (x ∷ xs) (suc i) s ≡ given K xs i s
+pub given_next : (K : Partial) (x : Argument) (xs : List Argument) (i : ℕ) (s : Shape) → given K (x ∷ xs) (suc i) s ≡ given K xs i s
 given_next K x xs i (ScalarOf IntKind) = refl
 given_next K x xs i (ScalarOf BoolKind) = refl
 given_next K x xs i (ScalarOf SetKind) = refl
@@ -114,7 +114,7 @@ given_next K x xs i (ArrayOf IntKind) = refl
 given_next K x xs i (ArrayOf BoolKind) = refl
 given_next K x xs i (ArrayOf SetKind) = refl
 
-given_later : (K : Partial) (x : Argument) (xs : List Argument) (i : ℕ) (ss : List Shape) → given_from K (x ∷ xs) (suc i) ss ≡ given_from K xs i ss
+pub given_later : (K : Partial) (x : Argument) (xs : List Argument) (i : ℕ) (ss : List Shape) → given_from K (x ∷ xs) (suc i) ss ≡ given_from K xs i ss
 given_later K x xs i [] = refl
 given_later K x xs i (s ∷ ss) = let one = given_next K x xs i s in let more = given_later K x xs (suc i) ss in λ j. one j ∷ more j
 

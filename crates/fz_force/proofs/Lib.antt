@@ -1,0 +1,11 @@
+pub mod Opens
+pub mod Spots
+pub mod Gaps
+pub mod Sides
+pub mod Fits
+pub mod KindsKept
+pub mod Held
+pub mod Tables
+pub mod Units
+pub mod Placed
+pub mod Chosen

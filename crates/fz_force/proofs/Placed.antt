@@ -1,0 +1,127 @@
+-- From a constraint as it is kept to what its row leaves, and from there to what its point forces.
+use Rattle.std.proofs.Common.{◌≡◌, ℕ, true, false, ◌&&◌, List, [], ◌∷◌, map, flat_map, Option, Some, None, IsSomeAnd, IfSome, IsFalse, IsTrue, slice_get, is_some, refl, sym, ap, subst, ◌∙◌}
+use Rattle.std.specs.List.{AllByRecursion, list_all}
+use Rattle.std.specs.Option.{option_map_or}
+use Rattle.fz_base.specs.declared.value.Value.{Value}
+use Rattle.fz_meaning.specs.Values.{kind_of}
+use Rattle.fz_meaning.specs.declared.kind.Kind.{Kind}
+use Rattle.fz_meaning.specs.declared.term.Term.TheVariants.{Var}
+use Rattle.fz_meaning.specs.Builtins.{Shape, Row}
+use Rattle.fz_meaning.specs.Builtins.Shape.{ScalarOf, ArrayOf}
+use Rattle.fz_meaning.specs.Meaning as meaning
+use Rattle.fz_meaning.specs.Meaning.{Model, Partial, Posted, IsPartial, argument_values, give, value_at, has_shape, have_shapes, is_term_of, row_holds, row_of, sums_leave, terms_in}
+use Rattle.fz_meaning.specs.Meaning.Point.{ConstraintPoint}
+use Rattle.fz_meaning.specs.Steps.{Gives, IsResult, kind_at, open_terms}
+use Rattle.fz_meaning.proofs.Values.{no, no', and_first, and_second}
+use Rattle.fz_meaning.proofs.States.{intro}
+use Rattle.fz_meaning.proofs.Steps.{only_open_none, some_of}
+use Rattle.fz_data.specs.declared.parts.Variable.{Variable}
+use Rattle.fz_data.specs.declared.parts.Array.{Array}
+use Rattle.fz_data.specs.declared.parts.Place.{Place}
+use Rattle.fz_data.specs.declared.parts.Place.TheVariants as places
+use Rattle.fz_data.specs.declared.parts.Argument.{Argument}
+use Rattle.fz_data.specs.declared.parts.Argument.TheVariants as arguments
+use Rattle.fz_data.specs.Parts.{argument_view, place_view, array_view, no_array}
+use Rattle.fz_force.specs.declared.only.Spot.{Spot}
+use Rattle.fz_force.specs.Forced.{Fills, IsFitting, IsForced, IsOnlyValue, IsReady}
+use Rattle.fz_force.specs.Kinds.{each_fits}
+use Rattle.fz_force.specs.Only.{IsFlat, IsOnlyAt, IsOnlyOpen, IsScalar}
+use Rattle.fz_force.proofs.Fits.{fits_back}
+use Rattle.fz_force.proofs.Gaps.{has_place}
+use Rattle.fz_force.proofs.Held.{holds_read}
+use Rattle.fz_force.proofs.KindsKept.{at_argument, of_arguments}
+
+module _ (vs : List Variable) (xs : List Array) where
+  -- ---- no array stands in a list of a constraint that has the shapes
+
+  no_term : (k : Kind) (o : Option Array) → is_term_of k (option_map_or array_view o no_array) ≡ false
+  no_term k None = refl
+  no_term k (Some a) = refl
+
+  flat_place : (k : Kind) (p : Place) → is_term_of k (place_view vs xs p) ≡ true → IsScalar p
+  flat_place k (places.Scalar t) h = tt
+  flat_place k (places.Array x) h = no (sym (no_term k (slice_get xs x.number)) ∙ h)
+
+  flat_places : (k : Kind) (ps : List Place) → list_all (is_term_of k) (map (place_view vs xs) ps) ≡ true → AllByRecursion IsScalar ps
+  flat_places k [] h = tt
+  flat_places k (p ∷ ps) h = (flat_place k p (and_first (is_term_of k (place_view vs xs p)) _ h), flat_places k ps (and_second (is_term_of k (place_view vs xs p)) _ h))
+
+  flat_argument : (s : Shape) (a : Argument) → has_shape s (argument_view vs xs a) ≡ true → IsFlat a
+  flat_argument s (arguments.One p) h = tt
+  flat_argument (ScalarOf k) (arguments.List ps) h = no h
+  flat_argument (ArrayOf k) (arguments.List ps) h = flat_places k ps.items h
+
+  pub flat_arguments : (ss : List Shape) (as' : List Argument) → have_shapes ss (map (argument_view vs xs) as') ≡ true → AllByRecursion IsFlat as'
+  flat_arguments ss [] h = tt
+  flat_arguments [] (a ∷ as') h = no h
+  flat_arguments (s ∷ ss) (a ∷ as') h =
+      (flat_argument s a (and_first (has_shape s (argument_view vs xs a)) _ h), flat_arguments ss as' (and_second (has_shape s (argument_view vs xs a)) _ h))
+
+  -- ---- what is found of it
+
+  pub ready : (K : Partial) (as' : List Argument) (r : Row) (n : ℕ) (s : Spot) → have_shapes r.shapes (map (argument_view vs xs) as') ≡ true → IsOnlyAt K xs as' n s
+      → each_fits K r.shapes (map (argument_view vs xs) as') ≡ true → IsReady K (map (argument_view vs xs) as') r s
+  ready K as' r n s shaped only kinds = record {
+    shaped = shaped;
+    only_open = ap (open_terms K) (sym (of_arguments vs xs as')) ∙ only.open_once ∙ ap (λ j. Var j ∷ []) (sym only.variable);
+    stands = ap (λ ts. slice_get ts s.place) (sym (at_argument vs xs as' s.argument)) ∙ only.stands ∙ ap (λ j. Some (Var j)) (sym only.variable);
+    kinds = kinds;
+  }
+
+  pub not_only : (K : Partial) (as' : List Argument) (r : Row) (n : ℕ) → IsOnlyOpen K xs as' n None → IsOnlyValue K (map (argument_view vs xs) as') r n None
+  not_only K as' r n none = λ within w f. none (ap (open_terms K) (of_arguments vs xs as') ∙ f.only_open)
+
+pub wrong_kinds : (K : Partial) (xs : List meaning.Argument) (r : Row) (n : ℕ) → have_shapes r.shapes xs ≡ true → each_fits K r.shapes xs ≡ false → IsOnlyValue K xs r n None
+wrong_kinds K xs r n shaped e = λ within w f.
+    no' (sym (fits_back K n (only_open_none K n (flat_map terms_in xs) f.only_open) within w r.shapes xs shaped (holds_read (give K n w) xs r shaped f.holds)) ∙ e)
+
+pub has_value : (K : Partial) (xs : List meaning.Argument) (r : Row) (n : ℕ) → is_some (value_at K n) ≡ true → IsOnlyValue K xs r n None
+has_value K xs r n some = λ within w f. no (ap is_some (sym (only_open_none K n (flat_map terms_in xs) f.only_open)) ∙ some)
+
+-- ---- the point
+
+no_some : {A : Type 0} (o : Option A) (x : A) → o ≡ None → o ≡ Some x → ⊥
+no_some o x e f = cc
+
+pub without_row : (m : Model) (K : Partial) (k : ℕ) (p : Posted) → row_of p ≡ None → IsForced m K (ConstraintPoint k p) None
+without_row m K k p e = λ n v g. let (r, is, _) = some_of (λ r. IsResult K p.arguments n r.result) (row_of p) g.target.1 in no_some (row_of p) r e is
+
+pub without_target : (m : Model) (K : Partial) (k : ℕ) (p : Posted) → p.target ≡ None → IsForced m K (ConstraintPoint k p) None
+without_target m K k p e = λ n v g. no_some p.target n e g.target.0
+
+module _ (m : Model) (K : Partial) (fits : IsPartial m K) (k : ℕ) (p : Posted) (r : Row) (row : row_of p ≡ Some r) (n : ℕ) (target : p.target ≡ Some n) where
+  fills : (w : Value) → Gives m K (ConstraintPoint k p) n w → Fills K p.arguments r n w
+  fills w g = record {
+    only_open = g.only_open;
+    sums_fit = subst (λ o. IfSome o (λ q. IsFalse (q.sums_in_128 && sums_leave K p.arguments))) row g.sums_fit;
+    result = subst (λ o. IsSomeAnd o (λ q. IsResult K p.arguments n q.result)) row g.target.1;
+    within_limits = g.within_limits;
+    holds = subst (λ o. IsSomeAnd o (λ q. IsSomeAnd (argument_values (give K n w) p.arguments) (λ vs. IsTrue (row_holds q vs)))) row g.then_holds;
+  }
+
+  gives : (w : Value) → Fills K p.arguments r n w → kind_at m n ≡ Some (kind_of w) → Gives m K (ConstraintPoint k p) n w
+  gives w f kind = record {
+    target = (target, intro (λ q. IsResult K p.arguments n q.result) (row_of p) r row f.result);
+    only_open = f.only_open;
+    of_kind = kind;
+    within_limits = f.within_limits;
+    sums_fit = subst (λ o. IfSome o (λ q. IsFalse (q.sums_in_128 && sums_leave K p.arguments))) (sym row) f.sums_fit;
+    then_holds = intro (λ q. IsSomeAnd (argument_values (give K n w) p.arguments) (λ vs. IsTrue (row_holds q vs))) (row_of p) r row f.holds;
+  }
+
+  -- the variable that is given a value is the target
+  at_target : (j : ℕ) (w : Value) → Gives m K (ConstraintPoint k p) j w → Gives m K (ConstraintPoint k p) n w
+  at_target j w g = let some : Some j ≡ Some n = sym g.target.0 ∙ target in let same : j ≡ n = cc in subst (λ i. Gives m K (ConstraintPoint k p) i w) same g
+
+  pub forces_nothing : IsOnlyValue K p.arguments r n None → IsForced m K (ConstraintPoint k p) None
+  forces_nothing none = λ j w g.
+      let here : Gives m K (ConstraintPoint k p) n w = at_target j w g in
+      none (has_place m K n (kind_of w) fits here.of_kind) w (fills w here)
+
+  pub forces_value : (v : Value) → IsOnlyValue K p.arguments r n (Some v) → (o : Option (ℕ × Value)) → IsFitting m n v o → IsForced m K (ConstraintPoint k p) o
+  forces_value v only (Some q) fit =
+      subst (λ z. Gives m K (ConstraintPoint k p) z.0 z.1) (sym fit.0) (gives v (only (has_place m K n (kind_of v) fits fit.2)).0 fit.2)
+  forces_value v only None fit = λ j w g.
+      let here : Gives m K (ConstraintPoint k p) n w = at_target j w g in
+      let same : kind_of w ≡ kind_of v = (only (has_place m K n (kind_of w) fits here.of_kind)).1 w (fills w here) in
+      fit (here.of_kind ∙ ap Some same)

@@ -1,0 +1,114 @@
+-- What the rows of the table have in common: where scalars are filled, which rows add sums up, and which one fills an element.
+use Rattle.std.proofs.Common.{◌≡◌, ℕ, zero, suc, Bool, true, false, not, cond, ◌&&◌, ◌||◌, List, [], ◌∷◌, find, Some, slice_get, bytes_eq, Contains, refl, sym, subst, arith}
+use Rattle.std.specs.List.{list_all}
+use Rattle.std.specs.Option.{option_map_or}
+use Rattle.fz_meaning.specs.declared.kind.Kind.{Kind}
+use Rattle.fz_meaning.specs.declared.kind.Kind.TheVariants.{Int as IntKind}
+use Rattle.fz_meaning.specs.Builtins.{Shape, Row, Result, rows, reified}
+use Rattle.fz_meaning.specs.Builtins.Shape.{ScalarOf, ArrayOf}
+use Rattle.fz_meaning.specs.Builtins.Result.{NoResult, Places, UnitTerm}
+use Rattle.fz_meaning.specs.Meaning.{Argument, Partial, fits, have_shapes, sums_leave}
+use Rattle.fz_meaning.proofs.Values.{no, and_first, and_second}
+use Rattle.fz_table.specs.declared.builtin.Builtin.{Builtin}
+use Rattle.fz_table.specs.declared.builtin.Builtin.TheVariants.{IntLinEq}
+use Rattle.fz_table.specs.declared.known.Known.{Known}
+use Rattle.fz_table.specs.Known.{name_of, row_at, known_row}
+use Rattle.fz_scene.proofs.Sums.{sums_leave_is}
+use Rattle.fz_solve.specs.Left.{IsOfKind, IsPlaceOf, is_too_large, products_leave}
+use Rattle.fz_force.specs.Forced.{IsRow}
+
+-- what is asked of each row holds of the one that is found
+found_all : {A : Type 0} (q t : A → Bool) (xs : List A) (x : A) → list_all q xs ≡ true → find t xs ≡ Some x → q x ≡ true
+found_all q t [] x h e = cc
+found_all q t (y ∷ ys) x h e =
+    elim (t y) as (λ b. cond b (Some y) (find t ys) ≡ Some x → q x ≡ true) [
+      | true ↦ λ e. let same : y ≡ x = cc in subst (λ z. q z ≡ true) same (and_first (q y) _ h)
+      | false ↦ λ e. found_all q t ys x (and_second (q y) _ h) e
+    ] e
+
+of_row : (q : Row → Bool) → list_all q rows ≡ true → (r : Row) → IsRow r → q r ≡ true
+of_row q h r (p, e) = found_all q (λ r. bytes_eq r.name p.name && fits r p.arguments) rows r h e
+
+-- ---- a scalar stands at each place that is filled
+
+is_scalar : Shape → Bool
+is_scalar (ScalarOf k) = true
+is_scalar (ArrayOf k) = false
+
+is_scalar_at : List Shape → ℕ → Bool
+is_scalar_at ss i = option_map_or is_scalar (slice_get ss i) false
+
+are_scalars : List Shape → Result → Bool
+are_scalars ss NoResult = true
+are_scalars ss (Places is) = list_all (is_scalar_at ss) is
+are_scalars ss UnitTerm = true
+
+all_fill_scalars : list_all (λ r. are_scalars r.shapes r.result) rows ≡ true
+unfolding rows is_scalar is_scalar_at are_scalars
+all_fill_scalars = refl
+
+passes_at : (q : ℕ → Bool) (is : List ℕ) (i : ℕ) → list_all q is ≡ true → Contains is i → q i ≡ true
+passes_at q [] i h (k, below, is) = absurd (omega arith)
+passes_at q (j ∷ js) i h (zero, below, is) = subst (λ z. q z ≡ true) is (and_first (q j) _ h)
+passes_at q (j ∷ js) i h (suc k, below, is) = passes_at q js i (and_second (q j) _ h) (k, omega arith, is)
+
+scalar_there : (ss : List Shape) (i : ℕ) → is_scalar_at ss i ≡ true → (k : Kind) × IsOfKind ss i k
+unfolding is_scalar is_scalar_at
+scalar_there [] i h = no h
+scalar_there (ScalarOf k ∷ ss) zero h = (k, refl)
+scalar_there (ArrayOf k ∷ ss) zero h = no h
+scalar_there (s ∷ ss) (suc i) h = scalar_there ss i h
+
+scalar_filled : (ss : List Shape) (o : Result) (i : ℕ) → are_scalars ss o ≡ true → IsPlaceOf o i → (k : Kind) × IsOfKind ss i k
+unfolding are_scalars
+scalar_filled ss NoResult i h place = absurd place
+scalar_filled ss (Places is) i h place = scalar_there ss i (passes_at (is_scalar_at ss) is i h place)
+scalar_filled ss UnitTerm i h place = absurd place
+
+pub place_is_scalar : (r : Row) → IsRow r → (i : ℕ) → IsPlaceOf r.result i → (k : Kind) × IsOfKind r.shapes i k
+place_is_scalar r row i place = scalar_filled r.shapes r.result i (of_row (λ r. are_scalars r.shapes r.result) all_fill_scalars r row) place
+
+-- ---- a row that adds a sum up begins with two arrays of numbers
+
+begins_with_arrays : List Shape → Bool
+begins_with_arrays (ArrayOf IntKind ∷ ArrayOf IntKind ∷ ss) = true
+begins_with_arrays _ = false
+
+all_sums_begin : list_all (λ r. not r.sums_in_128 || begins_with_arrays r.shapes) rows ≡ true
+unfolding rows begins_with_arrays
+all_sums_begin = refl
+
+same_leave : (K : Partial) (xs : List Argument) (ss : List Shape) → begins_with_arrays ss ≡ true → have_shapes ss xs ≡ true → sums_leave K xs ≡ products_leave K xs
+unfolding begins_with_arrays
+same_leave K xs (ArrayOf IntKind ∷ ArrayOf IntKind ∷ ss) b h = sums_leave_is K ss xs h
+same_leave K xs _ b h = no b
+
+-- what leaves 128 bits, as it is read and as it is defined
+pub same_sums : (K : Partial) (xs : List Argument) (r : Row) → IsRow r → have_shapes r.shapes xs ≡ true → is_too_large r K xs ≡ (r.sums_in_128 && sums_leave K xs)
+same_sums K xs r row h = by_row r.sums_in_128 (of_row (λ r. not r.sums_in_128 || begins_with_arrays r.shapes) all_sums_begin r row)
+  where
+    by_row : (b : Bool) → (not b || begins_with_arrays r.shapes) ≡ true → (b && products_leave K xs) ≡ (b && sums_leave K xs)
+    by_row true e = sym (same_leave K xs r.shapes e h)
+    by_row false e = refl
+
+-- ---- the row that fills an element
+
+unit_base : (b : Builtin) → (row_at b).result ≡ UnitTerm → row_at b ≡ row_at IntLinEq
+unfolding row_at name_of
+unit_base IntLinEq e = refl
+unit_base _ e = cc
+
+unit_form : (b : Builtin) (t : Bool) → (cond t (reified (row_at b)) (row_at b)).result ≡ UnitTerm → cond t (reified (row_at b)) (row_at b) ≡ row_at IntLinEq
+unit_form b true e = cc
+unit_form b false e = unit_base b e
+
+pub unit_row : (k : Known) → (known_row k).result ≡ UnitTerm → known_row k ≡ row_at IntLinEq
+unit_row k e = unit_form k.builtin k.reified e
+
+pub unit_shapes : (row_at IntLinEq).shapes ≡ ArrayOf IntKind ∷ ArrayOf IntKind ∷ ScalarOf IntKind ∷ []
+unfolding row_at name_of
+unit_shapes = refl
+
+pub unit_sums : (row_at IntLinEq).sums_in_128 ≡ true
+unfolding row_at name_of
+unit_sums = refl

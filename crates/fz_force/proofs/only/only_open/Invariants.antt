@@ -1,0 +1,6 @@
+use Rattle.std.proofs.Common.{take}
+use Rattle.fz_force.proofs.Spots.{SoFar}
+use Rattle.fz_force.proofs.only.only_open.Given as goal
+
+abbrev pub invariant-loop-number : goal.invariant-loop-number
+invariant-loop-number l = SoFar l.partial l.arrays (take l.number l.arguments) l.target l.found

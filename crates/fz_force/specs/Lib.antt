@@ -1,0 +1,3 @@
+pub mod Forced
+pub mod Kinds
+pub mod Only

@@ -1,0 +1,10 @@
+//! The forced step of a point: the one value that a point leaves to a variable, where it leaves one. A domain of one number gives it; a
+//! definition gives either side's value to the other; a constraint gives its target the value that its row leaves.
+#![tactic(auto)]
+
+mod kinds;
+mod only;
+mod row;
+mod step;
+
+pub use step::forced;

@@ -1,0 +1,134 @@
+//! What a constraint forces by its row of the table.
+
+ghost use Rattle.std.specs.Prelude.{◌≡◌, ◌↔◌, IfOk, IsTrue, Some, option_map};
+ghost use Rattle.fz_base.specs.declared.value.Value.TheVariants.{Int};
+ghost use Rattle.fz_meaning.specs.Builtins.Result.{UnitTerm};
+ghost use Rattle.fz_meaning.specs.Meaning.{IsPartial, row_of};
+ghost use Rattle.fz_meaning.specs.Meaning.Point.{ConstraintPoint};
+ghost use Rattle.fz_table.specs.Known.{known_row, result_of};
+ghost use Rattle.fz_data.specs.Parts.{posted_view};
+ghost use Rattle.fz_scene.specs.Views.{arguments_of, assigned};
+ghost use Rattle.fz_solve.specs.Left.{HasUnit, IsPlaceOf};
+ghost use Rattle.fz_force.specs.Forced.{IsForced, IsOnlyValue, IsReady, IsRow};
+
+use crate::kinds::kinds_fit;
+use crate::only::{Spot, only_open};
+use crate::step::fitting;
+use fz_base::Value;
+use fz_data::{ConstraintParts, Model, Partial};
+use fz_scene::{Scene, no_numbers};
+use fz_solve::{left_value, unit_value};
+use fz_table::{Filled, Known};
+use std::alloc::{AllocError, Global};
+
+/// What a constraint forces: the value that its row leaves to its target, where that stands in a result place and is the only scalar
+/// without a value.
+pub(crate) fn by_row(
+    alloc: Global,
+    model: &Model<'_>,
+    parts: ConstraintParts<'_, '_>,
+    partial: &Partial,
+) -> Result<Option<(usize, Value)>, AllocError>
+    requires known { option_map known_row parts.known ≡ row_of (posted_view parts.variables.now parts.arrays.now parts.posted.now) }
+    requires fits { IsPartial model.now partial.now }
+    ensures forced { IfOk result (λ o. IsForced model.now partial.now (ConstraintPoint parts.entry.number (posted_view parts.entry.variables.now parts.entry.arrays.now parts.entry.posted.now)) o) }
+{
+    let Some(known) = parts.known else {
+        return Ok(None);
+    };
+    let Some(target) = parts.posted.target else {
+        return Ok(None);
+    };
+    match only_value(alloc, known, target, parts, partial)? {
+        Some(value) => Ok(fitting(model, target, value)),
+        None => Ok(None),
+    }
+}
+
+// The value of the target with which the constraint holds, where it is the only scalar without one and stands in a result place.
+fn only_value(
+    alloc: Global,
+    known: Known,
+    target: usize,
+    parts: ConstraintParts<'_, '_>,
+    partial: &Partial,
+) -> Result<Option<Value>, AllocError>
+    requires row { row_of (posted_view parts.variables.now parts.arrays.now parts.posted.now) ≡ Some (known_row known) }
+    ensures { IfOk result (λ o. IsOnlyValue partial.now (posted_view parts.entry.variables.now parts.entry.arrays.now parts.entry.posted.now).arguments (known_row known) target o) }
+{
+    let given = partial.get(target);
+    if given.is_some() {
+        return Ok(None);
+    }
+    let arguments = parts.posted.arguments.as_slice();
+    let Some(spot) = only_open(arguments, parts.arrays, target, partial) else {
+        return Ok(None);
+    };
+    if !kinds_fit(known.shapes(), arguments, parts.arrays, partial) {
+        return Ok(None);
+    }
+    let empty = no_numbers(alloc)?;
+    value_at(alloc, known, spot, &Scene::new(parts, partial, &empty))
+}
+
+// The value of the variable at the spot with which the row holds.
+fn value_at(
+    alloc: Global,
+    known: Known,
+    spot: Spot,
+    scene: &Scene<'_, '_>,
+) -> Result<Option<Value>, AllocError>
+    requires row { IsRow (known_row known) }
+    requires ready { IsReady (assigned scene.now) (arguments_of scene.now) (known_row known) spot }
+    ensures { IfOk result (λ o. IsOnlyValue (assigned scene.now) (arguments_of scene.now) (known_row known) spot.variable o) }
+{
+    if is_unit_term(known.filled()) {
+        return Ok(element_left(known, spot, scene).map(Value::Int));
+    }
+    if is_place(known.filled(), spot.argument) {
+        return left_value(alloc, known, spot.argument, scene);
+    }
+    Ok(None)
+}
+
+// The value of an element of a sum, where its coefficient is 1 or -1.
+fn element_left(known: Known, spot: Spot, scene: &Scene<'_, '_>) -> Option<i64>
+    requires row { IsRow (known_row known) }
+    requires unit_term { (known_row known).result ≡ UnitTerm }
+    requires ready { IsReady (assigned scene.now) (arguments_of scene.now) (known_row known) spot }
+    ensures { IsOnlyValue (assigned scene.now) (arguments_of scene.now) (known_row known) spot.variable (option_map Int result) }
+{
+    if spot.argument != 1 || !has_unit(scene, spot.place) {
+        return None;
+    }
+    unit_value(scene, spot.place)
+}
+
+// Whether an element has the coefficient 1 or -1.
+fn has_unit(scene: &Scene<'_, '_>, place: usize) -> bool
+    ensures { IsTrue result ↔ HasUnit (assigned scene.now) (arguments_of scene.now) place }
+{
+    let coefficients = scene.elements(0);
+    if place >= coefficients.len() {
+        return false;
+    }
+    let coefficient = coefficients.int(place);
+    coefficient == 1 || coefficient == -1
+}
+
+fn is_unit_term(filled: Filled) -> bool
+    ensures { IsTrue result ↔ (result_of filled ≡ UnitTerm) }
+{
+    matches!(filled, Filled::UnitTerm)
+}
+
+// Whether the argument at a place may be filled.
+fn is_place(filled: Filled, place: usize) -> bool
+    ensures { IsTrue result ↔ IsPlaceOf (result_of filled) place }
+{
+    match filled {
+        Filled::Nothing | Filled::UnitTerm => false,
+        Filled::At(own) => place == own,
+        Filled::Either(first, second) => place == first || place == second,
+    }
+}
