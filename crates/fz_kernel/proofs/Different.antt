@@ -1,5 +1,5 @@
 -- Numbers are all different exactly where each is counted once at most. So their order doesn't matter; and where they rise, neighbours tell.
-use Rattle.std.proofs.Common.{◌≡◌, ℕ, suc, zero, ◌+◌, ◌<◌, ◌≤◌, ℤ, ◌<ℤ◌, ◌≤ℤ◌, Bool, true, false, not, cond, ◌&&◌, ◌||◌, List, [], ◌∷◌, length, get_or, refl, sym, ap, subst, ◌∙◌, arith, add-one}
+use Rattle.std.proofs.Common.{◌≡◌, ℕ, suc, zero, ◌+◌, ◌<◌, ◌≤◌, ℤ, ◌<ℤ◌, ◌≤ℤ◌, Bool, true, false, not, cond, ◌&&◌, ◌||◌, List, [], ◌∷◌, length, get_or, drop, Some, slice_get, refl, sym, ap, subst, ◌∙◌, arith, add-one}
 use Rattle.std.specs.List.{count_by}
 use Rattle.std.specs.List.Sorted.{IsPermutation, IsSorted}
 use Rattle.std.specs.Ordering.{int_cmp}
@@ -12,6 +12,7 @@ use Rattle.fz_base.proofs.Numbers.{not_below}
 use Rattle.fz_meaning.specs.Values.{◌=ℤ◌}
 use Rattle.fz_meaning.specs.Builtins.{all_different, is_among}
 use Rattle.fz_meaning.proofs.Values.{no, no', and_first, and_second, and_both, same_int, int_itself}
+use Rattle.fz_kernel.proofs.Left.{next}
 
 -- how often the number is listed
 abbrev count : ℤ → List ℤ → ℕ
@@ -115,3 +116,19 @@ two_equal (x ∷ xs) (suc k) d h e = ap (λ s. not (is_among x xs) && s) (two_eq
 -- two neighbours that are equal
 pub neighbours_equal : (xs : List ℤ) (k j : ℕ) (d : ℤ) → j ≡ k + 1 → j < length xs → get_or xs k d ≡ get_or xs j d → all_different xs ≡ false
 neighbours_equal xs k j d is h e = two_equal xs k d (omega arith) (e ∙ ap (λ n. get_or xs n d) (is ∙ add-one k))
+
+-- ---- pair by pair
+
+-- the element at a place stands again behind it
+pub found_again : (xs : List ℤ) (i : ℕ) (x : ℤ) → all_different xs ≡ all_different (drop i xs) → slice_get xs i ≡ Some x → is_among x (drop (i + 1) xs) ≡ true → false ≡ all_different xs
+found_again xs i x so_far at again = sym (so_far ∙ ap all_different (next xs i x at) ∙ ap (λ s. not s && all_different (drop (i + 1) xs)) again)
+
+-- or it doesn't
+pub not_again : (xs : List ℤ) (i : ℕ) (x : ℤ) → all_different xs ≡ all_different (drop i xs) → slice_get xs i ≡ Some x → is_among x (drop (i + 1) xs) ≡ false → all_different xs ≡ all_different (drop (i + 1) xs)
+not_again xs i x so_far at once = so_far ∙ ap all_different (next xs i x at) ∙ ap (λ s. not s && all_different (drop (i + 1) xs)) once
+
+pub stands_here : (xs : List ℤ) (i : ℕ) (x n : ℤ) (r : Bool) → r ≡ is_among n (drop i xs) → slice_get xs i ≡ Some x → x ≡ n → true ≡ r
+stands_here xs i x n r so_far at same = sym (so_far ∙ ap (is_among n) (next xs i x at) ∙ ap (λ s. s || is_among n (drop (i + 1) xs)) ((Decides-int_eq x n).1 same))
+
+pub stands_elsewhere : (xs : List ℤ) (i : ℕ) (x n : ℤ) (r : Bool) → r ≡ is_among n (drop i xs) → slice_get xs i ≡ Some x → ¬ (x ≡ n) → r ≡ is_among n (drop (i + 1) xs)
+stands_elsewhere xs i x n r so_far at other = so_far ∙ ap (is_among n) (next xs i x at) ∙ ap (λ s. s || is_among n (drop (i + 1) xs)) (elim (x =ℤ n) as (λ s. (x =ℤ n) ≡ s → s ≡ false) [ true ↦ λ e. absurd (other ((Decides-int_eq x n).0 e)) | false ↦ λ _. refl ] refl)

@@ -1,12 +1,13 @@
 //! The relations of the builtins over the elements of arrays.
+mod different;
 mod element;
 mod extremes;
 mod sums;
 mod truths;
 
+pub use different::all_elements_different;
 pub use element::{
-    all_elements_different, bool_element, int_element, is_bool_element, is_int_element,
-    is_set_element, set_element,
+    bool_element, int_element, is_bool_element, is_int_element, is_set_element, set_element,
 };
 pub use extremes::{is_maximum, is_minimum, maximum, minimum};
 pub use sums::{sum_of_products, sum_where_true};

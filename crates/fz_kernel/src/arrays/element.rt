@@ -1,14 +1,12 @@
-// The element at a place, and elements beside each other.
-ghost use Rattle.std.specs.Prelude.{◌≡◌, ◌+◌, ◌≤◌, ◌<◌, ℕ, pos, IfSome, IfNone, IfOk, option_map};
+// The element at a place.
+ghost use Rattle.std.specs.Prelude.{◌≡◌, ◌+◌, ◌≤◌, ◌<◌, ℕ, pos, IfSome, IfNone, option_map};
 ghost use Rattle.fz_meaning.specs.Values.{◌=ℤ◌, ◌=ᴮ◌, ◌=ˢ◌};
-ghost use Rattle.fz_meaning.specs.Builtins.{element_at, is_element, all_different};
+ghost use Rattle.fz_meaning.specs.Builtins.{element_at, is_element};
 ghost use Rattle.fz_scene.specs.Views.{ints, bools, sets};
 
-use crate::distinct::all_different;
 use crate::sets::same_set;
 use fz_base::IntSet;
 use fz_scene::Elements;
-use std::alloc::{AllocError, Global};
 
 // The place, counted from 0, of an index that is counted from 1; none where it is no index of `count` elements.
 fn place_of(index: i64, count: usize) -> Option<usize>
@@ -81,15 +79,4 @@ pub fn is_set_element(index: i64, elements: &Elements, c: &IntSet) -> bool
         Some(element) => same_set(element, c),
         None => false,
     }
-}
-
-/// Whether no two elements at different places are equal. It copies the elements, to put them in order.
-pub fn all_elements_different(alloc: Global, elements: &Elements) -> Result<bool, AllocError>
-    ensures exact { IfOk result (λ r. r ≡ all_different (ints elements.now)) }
-{
-    let mut numbers = Vec::with_capacity(alloc, elements.len())?;
-    for place in 0..elements.len() {
-        numbers.push(elements.int(place))?;
-    }
-    Ok(all_different(&mut numbers))
 }

@@ -2,7 +2,7 @@ use Rattle.std.proofs.Common.{◌≡◌, ◌++◌, ◌∷◌, [], FitsSigned, w6
 use Rattle.std.proofs.lemmas.Int.{to_z-of_z}
 use Rattle.fz_scene.specs.Views.{ints}
 use Rattle.fz_kernel.proofs.Left.{one_more}
-use Rattle.fz_kernel.proofs.arrays.element.all_elements_different.Goals as goal
+use Rattle.fz_kernel.proofs.arrays.different.numbers_of.Goals as goal
 
 pub loop-place-preserved : goal.loop-place-preserved
 loop-place-preserved c =

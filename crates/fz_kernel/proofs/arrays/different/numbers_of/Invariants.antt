@@ -1,6 +1,6 @@
 use Rattle.std.proofs.Common.{◌≡◌, take}
 use Rattle.fz_scene.specs.Views.{ints}
-use Rattle.fz_kernel.proofs.arrays.element.all_elements_different.Given as goal
+use Rattle.fz_kernel.proofs.arrays.different.numbers_of.Given as goal
 
 abbrev pub invariant-loop-place : goal.invariant-loop-place
 invariant-loop-place l = l.numbers.items ≡ take l.place (ints l.elements)

@@ -1,0 +1,7 @@
+use Rattle.std.proofs.Common.{◌≡◌, drop}
+use Rattle.fz_meaning.specs.Builtins.{all_different}
+use Rattle.fz_scene.specs.Views.{ints}
+use Rattle.fz_kernel.proofs.arrays.different.pairs_differ.Given as goal
+
+abbrev pub invariant-loop-place : goal.invariant-loop-place
+invariant-loop-place l = all_different (ints l.elements) ≡ all_different (drop l.place (ints l.elements))

@@ -1,0 +1,55 @@
+// Whether elements are all different.
+ghost use Rattle.std.specs.Prelude.{◌≡◌, ◌≤◌, drop, length, IfOk};
+ghost use Rattle.fz_meaning.specs.Builtins.{is_among, all_different};
+ghost use Rattle.fz_scene.specs.Views.{ints};
+
+use crate::distinct::all_different;
+use fz_scene::Elements;
+use std::alloc::{AllocError, Global};
+
+// Up to so many elements each pair is compared, which takes no memory.
+const FEW: usize = 16;
+
+/// Whether no two elements at different places are equal. Only where there are many does it copy them, to put them in order.
+pub fn all_elements_different(alloc: Global, elements: &Elements) -> Result<bool, AllocError>
+    ensures exact { IfOk result (λ r. r ≡ all_different (ints elements.now)) }
+{
+    if elements.len() <= FEW {
+        return Ok(pairs_differ(elements));
+    }
+    let mut numbers = numbers_of(alloc, elements)?;
+    Ok(all_different(&mut numbers))
+}
+
+fn numbers_of(alloc: Global, elements: &Elements) -> Result<Vec<i64>, AllocError>
+    ensures { IfOk result (λ v. v.items ≡ ints elements.now) }
+{
+    let mut numbers = Vec::with_capacity(alloc, elements.len())?;
+    for place in 0..elements.len() {
+        numbers.push(elements.int(place))?;
+    }
+    Ok(numbers)
+}
+
+fn pairs_differ(elements: &Elements) -> bool
+    ensures { result ≡ all_different (ints elements.now) }
+{
+    for place in 0..elements.len() {
+        if stands_from(elements.int(place), elements, place + 1) {
+            return false;
+        }
+    }
+    true
+}
+
+// Whether the number stands at a place, or at one behind it.
+fn stands_from(number: i64, elements: &Elements, start: usize) -> bool
+    ensures { result ≡ is_among number (drop start (ints elements.now)) }
+{
+    for place in start..elements.len() {
+        if elements.int(place) == number {
+            return true;
+        }
+    }
+    false
+}
