@@ -3,7 +3,6 @@ use Rattle.std.proofs.Common.{◌≡◌, ℤ, Bool, Option, Some, None, refl, sy
 use Rattle.fz_base.specs.Sets.{NumberSet}
 use Rattle.fz_base.specs.declared.value.Value.{Value}
 use Rattle.fz_base.specs.declared.value.Value.TheVariants.{Int, Bool as Truth, Set}
-use Rattle.fz_meaning.specs.declared.kind.Kind.{Kind}
 use Rattle.fz_meaning.specs.declared.kind.Kind.TheVariants.{Int as IntKind, Bool as BoolKind, Set as SetKind}
 use Rattle.fz_solve.specs.Left.{IsLeft, IsLeftNumber, IsLeftPlain}
 
@@ -37,10 +36,6 @@ set_left test None h = none
     none (Set s) is fits passes = h s passes
 
 -- ---- what passes one test passes the other
-
-pub same_test : (k : Kind) (test other : Value → Bool) (o : Option Value) → ((v : Value) → other v ≡ test v) → IsLeft k test o → IsLeft k other o
-same_test k test other (Some v) same h = (h.0, h.1, same v ∙ h.2)
-same_test k test other None same h = λ v is fits passes. h v is fits (sym (same v) ∙ passes)
 
 pub same_numbers : (test other : ℤ → Bool) (o : Option ℤ) → ((n : ℤ) → other n ≡ test n) → IsLeftNumber test o → IsLeftNumber other o
 same_numbers test other (Some n) same h = (h.0, same n ∙ h.1)
