@@ -1,9 +1,10 @@
 -- One more value in a partial assignment, and what is forced of a point.
-use Rattle.std.proofs.Common.{◌≡◌, ℕ, zero, suc, ◌<◌, true, false, Bor, is_some, List, [], ◌∷◌, length, Option, Some, None, option_map, Result, Ok, Err, IfOk, IfSome, IsNone, slice_get, refl, sym, ap, subst, arith}
+use Rattle.std.proofs.Common.{◌≡◌, ℕ, zero, suc, ◌<◌, true, false, Bor, is_some, List, [], ◌∷◌, length, map, Option, Some, None, option_map, Result, Ok, Err, IfOk, IfSome, IsNone, slice_get, refl, sym, ap, subst, arith}
 use Rattle.fz_base.specs.declared.value.Value.{Value}
 use Rattle.fz_meaning.specs.declared.kind.Kind.{Kind}
 use Rattle.fz_meaning.specs.Meaning.{Variable, Model, Point, Partial, FitVariables, IsPartial, variables_of, value_at, give}
 use Rattle.fz_meaning.specs.Steps.{Gives, GivesNothing, kind_at}
+use Rattle.fz_data.specs.Partial.{nothing_for}
 use Rattle.fz_meaning.proofs.Values.{no, no'}
 use Rattle.fz_force.specs.Forced.{IsForced}
 
@@ -56,3 +57,12 @@ nothing_there (Some x) e = no e
 pub found_some : {A : Type 0} (o : Option (Bor A)) (p : Option A) → is_some o ≡ true → option_map (λ x. x.now) o ≡ p → is_some p ≡ true
 found_some None p some e = no some
 found_some (Some x) p some e = ap is_some (sym e)
+
+-- ---- where nothing has a value
+
+nothing_fits : (xs : List Variable) → FitVariables xs (map (λ x. None) xs)
+nothing_fits [] = tt
+nothing_fits (x ∷ xs) = (tt, nothing_fits xs)
+
+pub nothing_is_partial : (m : Model) → IsPartial m (nothing_for m)
+nothing_is_partial m = nothing_fits (variables_of m)

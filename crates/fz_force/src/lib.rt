@@ -6,5 +6,7 @@ mod kinds;
 mod only;
 mod row;
 mod step;
+#[cfg(test)]
+mod tests;
 
 pub use step::forced;
