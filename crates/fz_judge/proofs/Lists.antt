@@ -1,7 +1,7 @@
 -- Loops over a list: one more element, and the first answer.
-use Rattle.std.proofs.Common.{◌≡◌, ℕ, zero, suc, ◌+◌, ◌<◌, ◌≤◌, min, Bool, true, false, List, [], ◌∷◌, ◌++◌, map, option_map, length, get_or, take, drop, Option, Some, None, is_some, Result, Ok, Err, IfOk, refl, sym, ap, ◌∙◌, add-one, drop-cons, arith}
+use Rattle.std.proofs.Common.{◌≡◌, ℕ, zero, suc, ◌+◌, ◌<◌, min, Bool, true, false, List, [], ◌∷◌, ◌++◌, map, option_map, length, get_or, slice_get, take, drop, Option, Some, None, is_some, Result, Ok, Err, IfOk, refl, sym, ap, ◌∙◌, add-one, drop-cons, arith}
 use Rattle.std.specs.Option.{option_or}
-use Rattle.std.proofs.lemmas.List.{take-append-drop, map-append, take_all, at_drop_more}
+use Rattle.std.proofs.lemmas.List.{take-append-drop, map-append}
 use Rattle.std.proofs.Math.Seq.{take-suc}
 use Rattle.fz_model.specs.Meaning.{first_some}
 
@@ -16,13 +16,6 @@ pub take_one_more : {A B : Type 0} (f : A → B) (xs : List A) (i : ℕ) (x : A)
 take_one_more f xs i x h e =
     ap (λ n. map f (take n xs)) (add-one i) ∙ ap (map f) (take-suc xs i x h) ∙ map-append f (take i xs) (get_or xs i x ∷ []) ∙ ap (λ y. map f (take i xs) ++ f y ∷ []) (sym e)
 
--- two lists side by side, from a place on
-pub both_more : {A B R : Type 0} (h : List A → List B → R) (xs : List A) (ys : List B) (k : ℕ) (x : A) (y : B) → k < length xs → k < length ys → x ≡ get_or xs k x → y ≡ get_or ys k y
-    → h (drop k xs) (drop k ys) ≡ h (x ∷ drop (k + 1) xs) (y ∷ drop (k + 1) ys)
-both_more h xs ys k x y lt lt' at at' =
-    at_drop_more (λ zs. h zs (drop k ys)) xs k x lt ∙ at_drop_more (λ zs. h (get_or xs k x ∷ drop (k + 1) xs) zs) ys k y lt'
-    ∙ ap (λ z. h (z ∷ drop (k + 1) xs) (get_or ys k y ∷ drop (k + 1) ys)) (sym at) ∙ ap (λ z. h (x ∷ drop (k + 1) xs) (z ∷ drop (k + 1) ys)) (sym at')
-
 -- at the end of the shorter one, a function that is the same for each empty list is at its end
 pub both_end : {A B R : Type 0} (h : List A → List B → R) (r : R) → ((ys : List B) → h [] ys ≡ r) → ((xs : List A) → h xs [] ≡ r) → (xs : List A) (ys : List B) (k : ℕ) → k ≡ min (length xs) (length ys) → h (drop k xs) (drop k ys) ≡ r
 both_end h r left right [] ys zero e = left ys
@@ -31,6 +24,12 @@ both_end h r left right (x ∷ xs) [] zero e = right (x ∷ xs)
 both_end h r left right (x ∷ xs) [] (suc k) e = absurd (omega arith)
 both_end h r left right (x ∷ xs) (y ∷ ys) zero e = absurd (omega arith)
 both_end h r left right (x ∷ xs) (y ∷ ys) (suc k) e = both_end h r left right xs ys k (omega arith)
+
+-- there is an element at each number in range
+pub there_is : {A : Type 0} (xs : List A) (k : ℕ) → k < length xs → (x : A) × (slice_get xs k ≡ Some x)
+there_is [] k h = absurd (omega arith)
+there_is (x ∷ xs) zero h = (x, refl)
+there_is (x ∷ xs) (suc k) h = there_is xs k (omega arith)
 
 -- ---- the first answer
 
@@ -71,10 +70,6 @@ pub first_found : {A B C : Type 0} (f : B → Option C) (g : A → B) (xs : List
 first_found f g xs i x h e none here =
     ap (first_some f) (whole_at g xs i x h e) ∙ first_append f (map g (take i xs)) (g x ∷ map g (drop (i + 1) xs)) ∙ ap (λ o. option_or o (option_or (f (g x)) (first_some f (map g (drop (i + 1) xs))))) none
     ∙ or_some (f (g x)) (first_some f (map g (drop (i + 1) xs))) here
-
--- none up to the end
-pub first_ends : {A B C : Type 0} (f : B → Option C) (g : A → B) (xs : List A) (i : ℕ) → length xs ≤ i → first_some f (map g (take i xs)) ≡ None → first_some f (map g xs) ≡ None
-first_ends f g xs i h none = ap (λ ys. first_some f (map g ys)) (sym (take_all i xs h)) ∙ none
 
 -- what is told through a function is told where there is an answer
 pub told_is_some : {A B : Type 0} (r : A → B) (o : Option B) (p : Option A) (b : Bool) → o ≡ option_map r p → is_some o ≡ b → is_some p ≡ b

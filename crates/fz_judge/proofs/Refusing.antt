@@ -1,5 +1,5 @@
 -- A block's refusal: it tells the fault of the first item that has one, and the fault's place lies in the block's text.
-use Rattle.std.proofs.Common.{◌≡◌, ℕ, ◌+◌, ◌≤◌, ◌<◌, true, false, not, ◌==◌, List, [], ◌∷◌, ◌++◌, map, flat_map, length, get_or, take, drop, Option, Some, None, option_map, refl, sym, ap, subst, ◌∙◌, arith, append_assoc}
+use Rattle.std.proofs.Common.{◌≡◌, ℕ, ◌+◌, ◌≤◌, ◌<◌, true, false, not, ◌==◌, List, [], ◌∷◌, ◌++◌, map, flat_map, length, get_or, take, drop, Option, Some, None, option_map, refl, ap, subst, ◌∙◌, arith, append_assoc}
 use Rattle.std.specs.Option.{option_or}
 use Rattle.fz_base.specs.declared.span.Span.{Span}
 use Rattle.fz_model.specs.declared.Kind.{Kind}
@@ -20,23 +20,11 @@ use Rattle.fz_verdict.specs.Blocks.BlockFaultKind.{UnknownName, WrongKind, Wrong
 use Rattle.fz_verdict.specs.View.{located_printed_value, located_printed, located_items}
 use Rattle.fz_judge.specs.declared.error.BlockError.{BlockError}
 use Rattle.fz_judge.specs.declared.error.BlockError.TheVariants as errors
-use Rattle.fz_judge.specs.Judged.{TellsFault, refusal, refusal_at}
+use Rattle.fz_judge.specs.Judged.{TellsFault}
 use Rattle.fz_judge.specs.Working.{IsPlacedWithin, moved_error}
 use Rattle.fz_judge.proofs.Lists.{whole_at, first_append}
 
 -- ---- what an error tells
-
-tells_at : (k : BlockFaultKind) (at : Span) → TellsFault (refusal_at k at) (Some (record { kind = k; at = at }))
-tells_at UnknownName at = refl
-tells_at WrongKind at = refl
-tells_at WrongLength at = refl
-
-pub refusal_tells : (e : BlockError) (o : Option BlockFault) → Some e ≡ option_map refusal o → TellsFault e o
-refusal_tells e None h = cc
-refusal_tells e (Some f) h = let same : e ≡ refusal f = cc in subst (λ (x : BlockError). TellsFault x (Some f)) (sym same) (tells_at f.kind f.at)
-
-pub tells_memory : (e : BlockError) (f : Option BlockFault) → e ≡ errors.Memory → TellsFault e f
-tells_memory e f is = subst (λ (x : BlockError). TellsFault x f) (sym is) tt
 
 -- where the second has the fault that the first has
 tells_further : (e : BlockError) (f g : Option BlockFault) → ((x : BlockFault) → f ≡ Some x → g ≡ Some x) → TellsFault e f → TellsFault e g

@@ -1,9 +1,9 @@
 -- The start of a filling: printed values taken one after another.
 use Rattle.std.proofs.Common.{◌≡◌, ℕ, zero, suc, ◌+◌, ◌<◌, true, false, not, cond, ◌==◌, List, [], ◌∷◌, ◌++◌, map, length, Option, Some, None, option_map, slice_get, is_none, refl, sym, ap, subst, ◌∙◌, arith, add-zero, zero-add, append_assoc, eqb-true}
 use Rattle.std.proofs.lemmas.Bool.{eqb-false}
-use Rattle.std.specs.Prelude.{Bool, slice_set}
+use Rattle.std.specs.Prelude.{Bool}
 use Rattle.std.specs.List.{AllByRecursion}
-use Rattle.std.specs.Option.{option_map_or, option_or}
+use Rattle.std.specs.Option.{option_or}
 use Rattle.fz_base.specs.declared.value.Value.{Value}
 use Rattle.fz_model.specs.declared.Kind.{Kind}
 use Rattle.fz_model.specs.declared.Term.{Term}
@@ -15,15 +15,15 @@ use Rattle.fz_model.specs.Located.{Name, Literal}
 use Rattle.fz_model.specs.Names.{literal_value}
 use Rattle.fz_model.specs.Partial.{nothing_for}
 use Rattle.fz_model.specs.Shown.{what_place}
-use Rattle.fz_model.specs.Meaning.{Place, Variable, Model, Partial, give, value_at, variables_of, find_name, first_some, FitVariables, IsPartial}
+use Rattle.fz_model.specs.Meaning.{Place, Variable, Model, Partial, give, value_at, variables_of, first_some, FitVariables, IsPartial}
 use Rattle.fz_model.specs.Meaning.Place.{Scalar, Array}
 use Rattle.fz_model.specs.Steps.{kind_at}
 use Rattle.fz_model.specs.Values.{kind_of, same_kind}
 use Rattle.fz_model.proofs.Lists.{all_map}
 use Rattle.fz_model.proofs.Scope.{same_kind_is}
-use Rattle.fz_verdict.specs.Blocks.{Printed, PrintedValue, printed_values, literal_fault, fault_if, value_fault, printed_fault}
+use Rattle.fz_verdict.specs.Blocks.{Printed, PrintedValue, printed_values, literal_fault, fault_if, value_fault}
 use Rattle.fz_verdict.specs.Blocks.PrintedValue.{OneValue, ArrayOf}
-use Rattle.fz_verdict.specs.Blocks.BlockFaultKind.{WrongKind, WrongLength, UnknownName}
+use Rattle.fz_verdict.specs.Blocks.BlockFaultKind.{WrongKind, WrongLength}
 use Rattle.fz_verdict.specs.Filling.{pairs, pairs_at, printed_scalars, if_var, first_printed, start_from}
 use Rattle.fz_verdict.proofs.Accepted.{or_none, first_none}
 use Rattle.fz_judge.specs.Working.{IsWithin, terms_of_what, with_first, with_all, item_scalars}
@@ -182,27 +182,6 @@ term_within m K k (Fixed v) h fits = tt
 pub what_within : (m : Model) (K : Partial) (vs : List Variable) (x : List ℕ) (w : What) → IsPartial m K → PlaceFits m (what_place vs x w) → AllByRecursion (IsWithin (length K)) (terms_of_what w)
 what_within m K vs x (whats.Scalar t) h fits = (term_within m K _ t.now h fits, tt)
 what_within m K vs x (whats.Array k ts) h fits = all_map (TermFits m k) (IsWithin (length K)) (λ t fit. term_within m K k t h fit) ts.now fits
-
-set_long : {A : Type 0} (xs : List A) (n : ℕ) (x : A) → length (slice_set xs n x) ≡ length xs
-set_long [] n x = refl
-set_long (y ∷ xs) zero x = refl
-set_long (y ∷ xs) (suc n) x = ap suc (set_long xs n x)
-
-pub first_long : (K : Partial) (q : Term × Value) → length (with_first K q) ≡ length K
-first_long K (Fixed w, v) = refl
-first_long K (Var n, v) = elim (is_none (value_at K n)) as (λ b. length (cond b (give K n v) K) ≡ length K) [ true ↦ set_long K n (Some v) | false ↦ refl ]
-
--- ---- an item
-
--- what is found under an item's name gives its scalars
-pub found_scalars : (m : Model) (i : Printed) (p : Place) → Some p ≡ find_name m i.name.text → pairs_at p i.value ≡ item_scalars m i
-found_scalars m i p e = ap (λ o. option_map_or (λ q. pairs_at q i.value) o []) e
-
-pub found_fault : (m : Model) (i : Printed) (p : Place) → Some p ≡ find_name m i.name.text → value_fault i.name p i.value ≡ printed_fault m i
-found_fault m i p e = ap (λ o. elim o [ None ↦ Some (record { kind = UnknownName; at = i.name.span }) | Some q ↦ value_fault i.name q i.value ]) e
-
-pub unknown_fault : (m : Model) (i : Printed) → None ≡ find_name m i.name.text → Some (record { kind = UnknownName; at = i.name.span }) ≡ printed_fault m i
-unknown_fault m i e = ap (λ o. elim o [ None ↦ Some (record { kind = UnknownName; at = i.name.span }) | Some q ↦ value_fault i.name q i.value ]) e
 
 -- ---- the items of a block
 

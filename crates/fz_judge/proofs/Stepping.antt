@@ -1,5 +1,5 @@
 -- The chain of the filling: the first step, and the end where each variable has a value.
-use Rattle.std.proofs.Common.{◌≡◌, ℕ, zero, suc, ◌+◌, ◌<◌, ◌≤◌, ◌⊎◌, inl, inr, List, [], ◌∷◌, length, Option, Some, None, slice_get, IfSome, refl, sym, ap, subst, ◌∙◌, arith}
+use Rattle.std.proofs.Common.{◌≡◌, ℕ, zero, suc, ◌<◌, ◌≤◌, ◌⊎◌, inl, inr, List, [], ◌∷◌, length, Option, Some, None, slice_get, IfSome, refl, sym, ap, subst, arith}
 use Rattle.std.specs.List.{AllByRecursion}
 use Rattle.fz_base.specs.declared.value.Value.{Value}
 use Rattle.fz_model.specs.Meaning.{Model, Point, Partial, give, value_at, variables_of, points, IsPartial}
@@ -9,28 +9,10 @@ use Rattle.fz_model.proofs.Steps.{only_open_none}
 use Rattle.fz_verdict.specs.Filling.{IsFirstStep}
 use Rattle.fz_verdict.proofs.Loops.{first_ahead, first_wrapped, none_gives}
 use Rattle.fz_judge.specs.Working.{NoneGives, IsStepAhead, unset_count}
+use Rattle.fz_judge.proofs.Lists.{there_is}
 use Rattle.fz_judge.proofs.Starting.{give_fits, number_within}
 
 -- ---- the points from a number up to another
-
--- one more gives nothing
-pub none_more : (m : Model) (K : Partial) (from k : ℕ) → NoneGives m K from k → ((p : Point) → slice_get (points m) k ≡ Some p → GivesNothing m K p) → NoneGives m K from (k + 1)
-none_more m K from k none here j p above below at = by_number (least_or_same j k (omega arith))
-  where
-    least_or_same : (j k : ℕ) → j ≤ k → (j < k) ⊎ (j ≡ k)
-    least_or_same zero zero h = inr refl
-    least_or_same zero (suc k) h = inl (omega arith)
-    least_or_same (suc j) zero h = absurd (omega arith)
-    least_or_same (suc j) (suc k) h = elim (least_or_same j k (omega arith)) [ inl l ↦ inl (omega arith) | inr e ↦ inr (ap suc e) ]
-
-    by_number : (j < k) ⊎ (j ≡ k) → GivesNothing m K p
-    by_number (inl l) = none j p above l at
-    by_number (inr e) = here p (ap (slice_get (points m)) (sym e) ∙ at)
-
-there_is : {A : Type 0} (xs : List A) (k : ℕ) → k < length xs → (x : A) × (slice_get xs k ≡ Some x)
-there_is [] k h = absurd (omega arith)
-there_is (x ∷ xs) zero h = (x, refl)
-there_is (x ∷ xs) (suc k) h = there_is xs k (omega arith)
 
 in_range : {A : Type 0} (xs : List A) (j : ℕ) (x : A) → slice_get xs j ≡ Some x → j < length xs
 in_range [] j x e = cc

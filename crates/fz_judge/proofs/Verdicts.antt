@@ -7,7 +7,7 @@ use Rattle.fz_model.specs.Meaning.{Model, Partial, Point, PointName, points, sta
 use Rattle.fz_verdict.specs.Verdict.{Fault, Reason, fault_at, fault_named, first_unset, point_fails, point_undecided, reason_at, verdict_by}
 use Rattle.fz_verdict.specs.Verdict.Verdict.{Violated}
 use Rattle.fz_judge.specs.Working.{is_failed, reason_named, with_objective}
-use Rattle.fz_judge.proofs.Lists.{first_append, or_some}
+use Rattle.fz_judge.proofs.Lists.{first_append, or_some, there_is}
 
 -- ---- the objective after the points
 
@@ -51,11 +51,6 @@ whole_point : {A : Type 0} (ps : List A) (i : ℕ) (p : A) → slice_get ps i �
 whole_point [] i p e = cc
 whole_point (q ∷ ps) zero p e = let same : q ≡ p = cc in ap (λ x. x ∷ ps) same
 whole_point (q ∷ ps) (suc i) p e = ap (λ xs. q ∷ xs) (whole_point ps i p e)
-
-pub there_is : {A : Type 0} (xs : List A) (k : ℕ) → k < length xs → (x : A) × (slice_get xs k ≡ Some x)
-there_is [] k h = absurd (omega arith)
-there_is (x ∷ xs) zero h = (x, refl)
-there_is (x ∷ xs) (suc k) h = there_is xs k (omega arith)
 
 module _ {A B : Type 0} (f : A → Option B) (ps : List A) (i : ℕ) (p : A) (at : slice_get ps i ≡ Some p) where
   -- none before the point, and one at it
