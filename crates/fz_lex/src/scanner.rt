@@ -1,7 +1,7 @@
 //! What stands at the front of some bytes: a token, or none.
 
 ghost use Rattle.std.specs.Prelude.{◌≡◌, ◌-◌, ◌^◌, ◌<◌, ◌≤◌, length, min, slice_index, IfSome, IfNone, option_map};
-ghost use Rattle.std.specs.List.{prefix_len, position_or_len};
+ghost use Rattle.std.specs.List.{position_or_len};
 ghost use Rattle.std.specs.Char.{digit_value, is_digit};
 ghost use Rattle.fz_lex.specs.Byte as bytes_spec;
 ghost use Rattle.fz_lex.specs.Limits.{IsWithinLimit};
@@ -9,6 +9,7 @@ ghost use Rattle.fz_lex.specs.Scan as scan;
 ghost use Rattle.fz_lex.specs.Found.{IsFrontOf, IsNumberFound};
 
 use crate::token::{Mark, TokenKind};
+use crate::word::word_len;
 
 /// The least and the greatest whole number that is read.
 const LEAST_WHOLE: i64 = i64::MIN;
@@ -28,13 +29,6 @@ pub(crate) fn is_blank(byte: u8) -> bool
     ensures { result ≡ bytes_spec.is_blank byte }
 {
     matches!(byte, b' ' | b'\t' | b'\r' | b'\n')
-}
-
-#[inline]
-fn is_word_byte(byte: u8) -> bool
-    ensures { result ≡ bytes_spec.is_word_byte byte }
-{
-    byte.is_ascii_alphanumeric() || byte == b'_'
 }
 
 /// The value of a letter or a digit as a digit, and 36 for every other byte.
@@ -78,18 +72,6 @@ fn digits(bytes: &[u8], base: u8) -> DigitRun
         len += 1;
     }
     DigitRun { len, value }
-}
-
-/// The length of a word at the front.
-fn word_len(bytes: &[u8]) -> usize
-    ensures value { result ≡ prefix_len bytes_spec.is_word_byte bytes.now }
-    ensures within { result ≤ length bytes.now }
-{
-    let mut len = 0;
-    while len < bytes.len() && is_word_byte(bytes[len]) {
-        len += 1;
-    }
-    len
 }
 
 /// The length of a comment at the front: up to the end of its line.
@@ -295,6 +277,7 @@ fn number_found(negative: bool, len: usize, magnitude: Option<u64>) -> Front
 }
 
 #[tactic(auto, unfolding(crate::specs::Scan::front_of))]
+#[inline(always)]
 pub(crate) fn read_front(bytes: &[u8]) -> Front
     requires { 0 < length bytes.now }
     ensures { IsFrontOf bytes.now result }
