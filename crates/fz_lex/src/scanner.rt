@@ -1,9 +1,11 @@
 //! What stands at the front of some bytes: a token, or none.
 
-ghost use Rattle.std.specs.Prelude.{◌≡◌, ◌-◌, ◌^◌, ◌<◌, ◌≤◌, length, min, slice_index, IfSome, IfNone, option_map};
+ghost use Rattle.std.specs.Prelude.{◌≡◌, ◌≢◌, ◌-◌, ◌^◌, ◌<◌, ◌≤◌, ◌∷◌, [], false, length, min, slice_index, IfSome, IfNone, option_map};
 ghost use Rattle.std.specs.List.{position_or_len};
 ghost use Rattle.std.specs.Char.{digit_value, is_digit};
 ghost use Rattle.fz_lex.specs.Byte as bytes_spec;
+ghost use Rattle.fz_lex.specs.Byte.{is_word_start};
+ghost use Rattle.fz_lex.specs.Token.{mark_text};
 ghost use Rattle.fz_lex.specs.Limits.{IsWithinLimit};
 ghost use Rattle.fz_lex.specs.Scan as scan;
 ghost use Rattle.fz_lex.specs.Found.{IsFrontOf, IsNumberFound};
@@ -29,6 +31,13 @@ pub(crate) fn is_blank(byte: u8) -> bool
     ensures { result ≡ bytes_spec.is_blank byte }
 {
     matches!(byte, b' ' | b'\t' | b'\r' | b'\n')
+}
+
+#[inline(always)]
+fn is_word_start(byte: u8) -> bool
+    ensures { result ≡ bytes_spec.is_word_start byte }
+{
+    byte.is_ascii_alphabetic() || byte == b'_'
 }
 
 /// The value of a letter or a digit as a digit, and 36 for every other byte.
@@ -276,14 +285,32 @@ fn number_found(negative: bool, len: usize, magnitude: Option<u64>) -> Front
     }
 }
 
-#[tactic(auto, unfolding(crate::specs::Scan::front_of))]
+/// The mark that a byte is, whatever stands behind it.
 #[inline(always)]
-pub(crate) fn read_front(bytes: &[u8]) -> Front
-    requires { 0 < length bytes.now }
+fn lone_mark(byte: u8) -> Option<Mark>
+    ensures { IfSome result (λ m. (mark_text m ≡ byte ∷ []) × (byte ≢ 58)) }
+{
+    match byte {
+        b'(' => Some(Mark::OpenParen),
+        b')' => Some(Mark::CloseParen),
+        b'[' => Some(Mark::OpenBracket),
+        b']' => Some(Mark::CloseBracket),
+        b'{' => Some(Mark::OpenBrace),
+        b'}' => Some(Mark::CloseBrace),
+        b',' => Some(Mark::Comma),
+        b';' => Some(Mark::Semicolon),
+        b'=' => Some(Mark::Equals),
+        _ => None,
+    }
+}
+
+/// What stands at the front, where that is no word.
+#[tactic(auto, unfolding(crate::specs::Scan::front_of))]
+fn read_other_front(bytes: &[u8]) -> Front
+    requires { is_word_start (slice_index bytes.now 0) ≡ false }
     ensures { IsFrontOf bytes.now result }
 {
     match byte_at(bytes, 0) {
-        b'A'..=b'Z' | b'a'..=b'z' | b'_' => Front::Found(TokenKind::Word, word_len(bytes)),
         b'0'..=b'9' => {
             let number = number_front(bytes);
             number_found(false, number.len, number.magnitude)
@@ -300,5 +327,22 @@ pub(crate) fn read_front(bytes: &[u8]) -> Front
             Some((mark, len)) => Front::Found(TokenKind::Mark(mark), len),
             None => Front::Nothing,
         },
+    }
+}
+
+/// Most tokens are words and marks of one byte, so these come first.
+#[tactic(auto, unfolding(crate::specs::Scan::front_of))]
+#[inline(always)]
+pub(crate) fn read_front(bytes: &[u8]) -> Front
+    requires { 0 < length bytes.now }
+    ensures { IsFrontOf bytes.now result }
+{
+    let first = byte_at(bytes, 0);
+    if is_word_start(first) {
+        return Front::Found(TokenKind::Word, word_len(bytes));
+    }
+    match lone_mark(first) {
+        Some(mark) => Front::Found(TokenKind::Mark(mark), 1),
+        None => read_other_front(bytes),
     }
 }
