@@ -3,6 +3,7 @@ pub mod Covers
 pub mod Cuts
 pub mod Fronts
 pub mod Joined
+pub mod Lanes
 pub mod Laws
 pub mod Lexed
 pub mod Next

@@ -18,6 +18,7 @@ use std::alloc::Global;
 pub const MOST_BYTES: usize = 16_777_216;
 
 /// The place up to which blanks and whole comments stand from a place on.
+#[inline(always)]
 fn gap_end(source: &[u8], from: usize) -> usize
     requires { from ≤ length source.now }
     ensures within { (from ≤ result) × (result ≤ length source.now) }
@@ -27,9 +28,14 @@ fn gap_end(source: &[u8], from: usize) -> usize
 {
     let mut place = from;
     while place < source.len() {
-        if is_blank(source[place]) {
+        let byte = source[place];
+        // All blanks lie below `%`, and nearly all tokens begin above it.
+        if byte > b'%' {
+            return place;
+        }
+        if is_blank(byte) {
             place += 1;
-        } else if source[place] == b'%' {
+        } else if byte == b'%' {
             place += comment_len(&source[place..]);
         } else {
             return place;

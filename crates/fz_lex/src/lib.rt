@@ -6,6 +6,7 @@ mod error;
 mod lexer;
 mod scanner;
 mod token;
+mod word;
 
 pub use ahead::{Tokens, check_tokens};
 pub use error::SyntaxError;

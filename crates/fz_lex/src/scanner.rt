@@ -1,14 +1,17 @@
 //! What stands at the front of some bytes: a token, or none.
 
-ghost use Rattle.std.specs.Prelude.{◌≡◌, ◌-◌, ◌^◌, ◌<◌, ◌≤◌, length, min, slice_index, IfSome, IfNone, option_map};
-ghost use Rattle.std.specs.List.{prefix_len, position_or_len};
+ghost use Rattle.std.specs.Prelude.{◌≡◌, ◌≢◌, ◌-◌, ◌^◌, ◌<◌, ◌≤◌, ◌∷◌, [], false, length, min, slice_index, IfSome, IfNone, option_map};
+ghost use Rattle.std.specs.List.{position_or_len};
 ghost use Rattle.std.specs.Char.{digit_value, is_digit};
 ghost use Rattle.fz_lex.specs.Byte as bytes_spec;
+ghost use Rattle.fz_lex.specs.Byte.{is_word_start};
+ghost use Rattle.fz_lex.specs.Token.{mark_text};
 ghost use Rattle.fz_lex.specs.Limits.{IsWithinLimit};
 ghost use Rattle.fz_lex.specs.Scan as scan;
 ghost use Rattle.fz_lex.specs.Found.{IsFrontOf, IsNumberFound};
 
 use crate::token::{Mark, TokenKind};
+use crate::word::word_len;
 
 /// The least and the greatest whole number that is read.
 const LEAST_WHOLE: i64 = i64::MIN;
@@ -30,11 +33,11 @@ pub(crate) fn is_blank(byte: u8) -> bool
     matches!(byte, b' ' | b'\t' | b'\r' | b'\n')
 }
 
-#[inline]
-fn is_word_byte(byte: u8) -> bool
-    ensures { result ≡ bytes_spec.is_word_byte byte }
+#[inline(always)]
+fn is_word_start(byte: u8) -> bool
+    ensures { result ≡ bytes_spec.is_word_start byte }
 {
-    byte.is_ascii_alphanumeric() || byte == b'_'
+    byte.is_ascii_alphabetic() || byte == b'_'
 }
 
 /// The value of a letter or a digit as a digit, and 36 for every other byte.
@@ -78,18 +81,6 @@ fn digits(bytes: &[u8], base: u8) -> DigitRun
         len += 1;
     }
     DigitRun { len, value }
-}
-
-/// The length of a word at the front.
-fn word_len(bytes: &[u8]) -> usize
-    ensures value { result ≡ prefix_len bytes_spec.is_word_byte bytes.now }
-    ensures within { result ≤ length bytes.now }
-{
-    let mut len = 0;
-    while len < bytes.len() && is_word_byte(bytes[len]) {
-        len += 1;
-    }
-    len
 }
 
 /// The length of a comment at the front: up to the end of its line.
@@ -294,13 +285,32 @@ fn number_found(negative: bool, len: usize, magnitude: Option<u64>) -> Front
     }
 }
 
+/// The mark that a byte is, whatever stands behind it.
+#[inline(always)]
+fn lone_mark(byte: u8) -> Option<Mark>
+    ensures { IfSome result (λ m. (mark_text m ≡ byte ∷ []) × (byte ≢ 58)) }
+{
+    match byte {
+        b'(' => Some(Mark::OpenParen),
+        b')' => Some(Mark::CloseParen),
+        b'[' => Some(Mark::OpenBracket),
+        b']' => Some(Mark::CloseBracket),
+        b'{' => Some(Mark::OpenBrace),
+        b'}' => Some(Mark::CloseBrace),
+        b',' => Some(Mark::Comma),
+        b';' => Some(Mark::Semicolon),
+        b'=' => Some(Mark::Equals),
+        _ => None,
+    }
+}
+
+/// What stands at the front, where that is no word.
 #[tactic(auto, unfolding(crate::specs::Scan::front_of))]
-pub(crate) fn read_front(bytes: &[u8]) -> Front
-    requires { 0 < length bytes.now }
+fn read_other_front(bytes: &[u8]) -> Front
+    requires { is_word_start (slice_index bytes.now 0) ≡ false }
     ensures { IsFrontOf bytes.now result }
 {
     match byte_at(bytes, 0) {
-        b'A'..=b'Z' | b'a'..=b'z' | b'_' => Front::Found(TokenKind::Word, word_len(bytes)),
         b'0'..=b'9' => {
             let number = number_front(bytes);
             number_found(false, number.len, number.magnitude)
@@ -317,5 +327,22 @@ pub(crate) fn read_front(bytes: &[u8]) -> Front
             Some((mark, len)) => Front::Found(TokenKind::Mark(mark), len),
             None => Front::Nothing,
         },
+    }
+}
+
+/// Most tokens are words and marks of one byte, so these come first.
+#[tactic(auto, unfolding(crate::specs::Scan::front_of))]
+#[inline(always)]
+pub(crate) fn read_front(bytes: &[u8]) -> Front
+    requires { 0 < length bytes.now }
+    ensures { IsFrontOf bytes.now result }
+{
+    let first = byte_at(bytes, 0);
+    if is_word_start(first) {
+        return Front::Found(TokenKind::Word, word_len(bytes));
+    }
+    match lone_mark(first) {
+        Some(mark) => Front::Found(TokenKind::Mark(mark), 1),
+        None => read_other_front(bytes),
     }
 }

@@ -58,6 +58,7 @@ impl<'a> Parser<'a> {
     }
 
     /// Where the next token stands.
+    #[inline(always)]
     pub(crate) fn place(&self) -> Span
         ensures within { IsSpanWithin self.now.end result }
         ensures start { result.start ≡ start_of (ahead self.now) self.now.end }
@@ -72,6 +73,7 @@ impl<'a> Parser<'a> {
     }
 
     /// From a place up to the end of the token that was taken last.
+    #[inline(always)]
     pub(crate) fn span_from(&self, start: usize) -> Span
         ensures { (result.start ≡ start) × (result.end ≡ self.now.reached) }
     {
@@ -96,6 +98,7 @@ impl<'a> Parser<'a> {
     }
 
     /// Takes the next token.
+    #[inline(always)]
     pub(crate) fn skip(&mut self)
         ensures left { lexemes self.new ≡ drop 1 (lexemes self.old) }
         ensures shorter { length (lexemes self.new) ≡ length (lexemes self.old) - 1 }
@@ -110,6 +113,7 @@ impl<'a> Parser<'a> {
         }
     }
 
+    #[inline(always)]
     pub(crate) fn next_is(&self, mark: Mark) -> bool
         ensures { result ≡ next_is mark (lexemes self.now) }
     {
@@ -119,6 +123,7 @@ impl<'a> Parser<'a> {
         }
     }
 
+    #[inline(always)]
     pub(crate) fn next_word(&self, word: &[u8]) -> bool
         ensures { result ≡ next_word word.now (lexemes self.now) }
     {
@@ -137,6 +142,7 @@ impl<'a> Parser<'a> {
         }
     }
 
+    #[inline(always)]
     pub(crate) fn eat(&mut self, mark: Mark) -> bool
         ensures found { result ≡ next_is mark (lexemes self.old) }
         ensures left { lexemes self.new ≡ (if next_is mark (lexemes self.old) then drop 1 (lexemes self.old) else lexemes self.old) }
@@ -154,6 +160,7 @@ impl<'a> Parser<'a> {
         found
     }
 
+    #[inline(always)]
     #[tactic(auto, unfolding(crate::specs::Reading::mark_at), using(crate::proofs::Walks::walk_skip, crate::proofs::Walks::walk_then, crate::proofs::Walks::walk_end, crate::proofs::Walks::walk_none, crate::proofs::Errors::fails_unexpected))]
     pub(crate) fn expect(&mut self, mark: Mark) -> Result<(), Refusal>
         ensures read { Gives (λ _. tt) result (mark_at mark (lexemes self.old)) (lexemes self.new) }
@@ -199,6 +206,7 @@ impl<'a> Parser<'a> {
         found
     }
 
+    #[inline(always)]
     #[tactic(auto, unfolding(crate::specs::Reading::name_at), using(crate::proofs::Walks::walk_skip, crate::proofs::Walks::walk_then, crate::proofs::Walks::walk_end, crate::proofs::Walks::walk_none, crate::proofs::Errors::fails_unexpected))]
     pub(crate) fn name(&mut self) -> Result<Name<'a>, Refusal>
         ensures read { Gives bare_name result (name_at (lexemes self.old)) (lexemes self.new) }
@@ -218,6 +226,7 @@ impl<'a> Parser<'a> {
         }
     }
 
+    #[inline(always)]
     #[tactic(auto, unfolding(crate::specs::Reading::whole_at), using(crate::proofs::Walks::walk_skip, crate::proofs::Walks::walk_then, crate::proofs::Walks::walk_end, crate::proofs::Walks::walk_none, crate::proofs::Errors::fails_unexpected))]
     pub(crate) fn whole(&mut self) -> Result<i64, Refusal>
         ensures read { Gives (λ n. n) result (whole_at (lexemes self.old)) (lexemes self.new) }
@@ -238,6 +247,7 @@ impl<'a> Parser<'a> {
         }
     }
 
+    #[inline(always)]
     pub(crate) fn begins_whole(&self) -> bool
         ensures { result ≡ next_passes is_whole (lexemes self.now) }
     {
@@ -247,6 +257,7 @@ impl<'a> Parser<'a> {
         }
     }
 
+    #[inline(always)]
     pub(crate) fn begins_name(&self) -> bool
         ensures { result ≡ next_passes is_name (lexemes self.now) }
     {
@@ -265,6 +276,7 @@ impl<'a> Parser<'a> {
         }
     }
 
+    #[inline(always)]
     pub(crate) fn begins_basic(&self) -> bool
         ensures { result ≡ next_passes begins_basic (lexemes self.now) }
     {
@@ -285,6 +297,7 @@ impl<'a> Parser<'a> {
         }
     }
 
+    #[inline(always)]
     pub(crate) fn begins_decl(&self) -> bool
         ensures { result ≡ next_passes begins_decl (lexemes self.now) }
     {

@@ -18,6 +18,7 @@ use fz_lex::Mark;
 
 impl<'a> Parser<'a> {
     /// A number of a list that has `count` so far.
+    #[inline(always)]
     pub(crate) fn listed_whole(&mut self, count: usize) -> Result<i64, Refusal>
         ensures read { Gives (λ n. n) result (at_most the_limits.elements is_whole whole_at count (lexemes self.old)) (lexemes self.new) }
         ensures shorter { length (lexemes self.new) ≤ length (lexemes self.old) }
@@ -68,6 +69,7 @@ impl<'a> Parser<'a> {
         })
     }
 
+    #[inline(always)]
     #[tactic(auto, unfolding(crate::specs::Reading::from_whole), using(crate::proofs::Walks::walk_skip, crate::proofs::Walks::walk_then, crate::proofs::Walks::walk_end, crate::proofs::Walks::walk_none, crate::proofs::Errors::fails_unexpected, crate::proofs::Separated::fails_bind))]
     pub(crate) fn from_whole(&mut self, low: i64, start: usize) -> Result<Literal, Refusal>
         ensures read { Gives (bare_literal) result (from_whole low (lexemes self.old)) (lexemes self.new) }
@@ -89,6 +91,7 @@ impl<'a> Parser<'a> {
         })
     }
 
+    #[inline(always)]
     #[tactic(auto, unfolding(crate::specs::Reading::literal_at), using(crate::proofs::Walks::walk_skip, crate::proofs::Walks::walk_then, crate::proofs::Walks::walk_end, crate::proofs::Walks::walk_none, crate::proofs::Errors::fails_unexpected, crate::proofs::Separated::fails_bind))]
     pub(crate) fn literal(&mut self) -> Result<Literal, Refusal>
         ensures read { Gives (bare_literal) result (literal_at the_limits (lexemes self.old)) (lexemes self.new) }
@@ -117,6 +120,7 @@ impl<'a> Parser<'a> {
         }
     }
 
+    #[inline(always)]
     #[tactic(auto, unfolding(crate::specs::Reading::basic_at), using(crate::proofs::Walks::walk_skip, crate::proofs::Walks::walk_then, crate::proofs::Walks::walk_end, crate::proofs::Walks::walk_none, crate::proofs::Errors::fails_unexpected, crate::proofs::Separated::fails_bind))]
     pub(crate) fn basic(&mut self) -> Result<Basic<'a>, Refusal>
         ensures read { Gives (bare_expression) result (basic_at the_limits (lexemes self.old)) (lexemes self.new) }
@@ -132,6 +136,7 @@ impl<'a> Parser<'a> {
     }
 
     /// An element of a list that has `count` so far.
+    #[inline(always)]
     pub(crate) fn listed_basic(&mut self, count: usize) -> Result<Basic<'a>, Refusal>
         ensures read { Gives (bare_expression) result (at_most the_limits.elements begins_basic (basic_at the_limits) count (lexemes self.old)) (lexemes self.new) }
         ensures shorter { length (lexemes self.new) ≤ length (lexemes self.old) }
@@ -144,6 +149,7 @@ impl<'a> Parser<'a> {
         self.basic()
     }
 
+    #[inline(always)]
     pub(crate) fn separated_basics(&mut self) -> Result<Vec<Basic<'a>>, Refusal>
         ensures read { Gives (λ v. bare_expressions v.items) result (separated_at (at_most the_limits.elements begins_basic (basic_at the_limits)) (lexemes self.old)) (lexemes self.new) }
         ensures shorter { length (lexemes self.new) ≤ length (lexemes self.old) }
@@ -175,6 +181,7 @@ impl<'a> Parser<'a> {
         Ok(basics)
     }
 
+    #[inline(always)]
     #[tactic(auto, unfolding(crate::specs::Reading::expr_at), using(crate::proofs::Walks::walk_skip, crate::proofs::Walks::walk_then, crate::proofs::Walks::walk_end, crate::proofs::Walks::walk_none, crate::proofs::Errors::fails_unexpected, crate::proofs::Separated::fails_bind))]
     pub(crate) fn expr(&mut self) -> Result<Expr<'a>, Refusal>
         ensures read { Gives (bare_expr) result (expr_at the_limits (lexemes self.old)) (lexemes self.new) }

@@ -12,7 +12,7 @@ ghost use Rattle.fz_syntax.specs.Walk.{Walk, lexemes};
 
 use crate::parser::cursor::Parser;
 use crate::parser::kinds::may_lack_value;
-use crate::parser::lists::trimmed;
+use crate::parser::lists::{moved_out, trimmed};
 use crate::parser::refusal::Refusal;
 use crate::tree::{Constraint, Decl, Expr, Goal, Param, Predicate, Solve};
 use fz_lex::Mark;
@@ -83,23 +83,30 @@ impl<'a> Parser<'a> {
         Ok(Predicate { name, params })
     }
 
-    pub(crate) fn separated_args(&mut self) -> Result<Vec<Expr<'a>>, Refusal>
+    /// The arguments are gathered in a block that is kept from one constraint to the next.
+    pub(crate) fn separated_args(
+        &mut self,
+        spare: &mut Vec<Expr<'a>>,
+    ) -> Result<Vec<Expr<'a>>, Refusal>
         ensures read { Gives (λ v. map bare_expr v.items) result (separated_at (any_number (expr_at the_limits)) (lexemes self.old)) (lexemes self.new) }
         ensures shorter { length (lexemes self.new) ≤ length (lexemes self.old) }
         ensures end { self.new.end ≡ self.old.end }
         ensures walked { IfOk result (λ v. Walk self.old self.new (flat_map expr_spots v.items)) }
     {
-        let mut exprs = Vec::new(self.alloc);
-        exprs.push(self.expr()?)?;
+        spare.clear();
+        spare.push(self.expr()?)?;
         while self.eat(Mark::Comma) {
             let expr = self.expr()?;
-            exprs.push(expr)?;
+            spare.push(expr)?;
         }
-        Ok(trimmed(self.alloc, exprs))
+        Ok(moved_out(self.alloc, spare)?)
     }
 
     #[tactic(auto, unfolding(crate::specs::Reading::list_at, crate::specs::Reading::mark_at), using(crate::proofs::Walks::walk_skip, crate::proofs::Walks::walk_then, crate::proofs::Walks::walk_end, crate::proofs::Walks::walk_none, crate::proofs::Errors::fails_unexpected, crate::proofs::Separated::fails_bind))]
-    pub(crate) fn constraint_args(&mut self) -> Result<Vec<Expr<'a>>, Refusal>
+    pub(crate) fn constraint_args(
+        &mut self,
+        spare: &mut Vec<Expr<'a>>,
+    ) -> Result<Vec<Expr<'a>>, Refusal>
         ensures read { Gives (λ v. map bare_expr v.items) result (list_at CloseParen (any_number (expr_at the_limits)) (lexemes self.old)) (lexemes self.new) }
         ensures shorter { length (lexemes self.new) ≤ length (lexemes self.old) }
         ensures end { self.new.end ≡ self.old.end }
@@ -108,13 +115,16 @@ impl<'a> Parser<'a> {
         if self.eat(Mark::CloseParen) {
             return Ok(Vec::new(self.alloc));
         }
-        let args = self.separated_args()?;
+        let args = self.separated_args(spare)?;
         self.expect(Mark::CloseParen)?;
         Ok(args)
     }
 
     #[tactic(auto, unfolding(crate::specs::Reading::constraint_at), using(crate::proofs::Walks::walk_skip, crate::proofs::Walks::walk_then, crate::proofs::Walks::walk_end, crate::proofs::Walks::walk_none, crate::proofs::Errors::fails_unexpected, crate::proofs::Separated::fails_bind))]
-    pub(crate) fn constraint(&mut self) -> Result<Constraint<'a>, Refusal>
+    pub(crate) fn constraint(
+        &mut self,
+        spare: &mut Vec<Expr<'a>>,
+    ) -> Result<Constraint<'a>, Refusal>
         ensures read { Gives (bare_constraint) result (constraint_at the_limits (lexemes self.old)) (lexemes self.new) }
         ensures shorter { length (lexemes self.new) ≤ length (lexemes self.old) }
         ensures end { self.new.end ≡ self.old.end }
@@ -123,7 +133,7 @@ impl<'a> Parser<'a> {
         self.expect_word(b"constraint")?;
         let name = self.name()?;
         self.expect(Mark::OpenParen)?;
-        let args = self.constraint_args()?;
+        let args = self.constraint_args(spare)?;
         let notes = self.notes()?;
         self.expect(Mark::Semicolon)?;
         Ok(Constraint { name, args, notes })

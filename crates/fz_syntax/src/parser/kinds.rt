@@ -16,6 +16,7 @@ pub(crate) fn is_float(token: &Token<'_>) -> bool
         || token.kind == TokenKind::Word && token.text == b"float".as_slice()
 }
 
+#[inline(never)]
 fn is_type_word(word: &[u8]) -> bool
     ensures { result ≡ is_one_of type_words word.now }
 {
@@ -25,6 +26,7 @@ fn is_type_word(word: &[u8]) -> bool
     )
 }
 
+#[inline(never)]
 fn is_item_word(word: &[u8]) -> bool
     ensures { result ≡ is_one_of item_words word.now }
 {
@@ -36,6 +38,7 @@ fn is_item_word(word: &[u8]) -> bool
         || word == b"maximize".as_slice()
 }
 
+#[inline(never)]
 fn is_truth_word(word: &[u8]) -> bool
     ensures { result ≡ is_one_of truth_words word.now }
 {
@@ -44,6 +47,7 @@ fn is_truth_word(word: &[u8]) -> bool
 
 /// Whether a reserved word has the length of this word and its first byte. Of nearly all names this tells that they
 /// are no reserved words.
+#[inline(always)]
 fn may_be_reserved(word: &[u8]) -> bool
     ensures { result ≡ may_be_reserved word.now }
 {
@@ -64,6 +68,7 @@ fn may_be_reserved(word: &[u8]) -> bool
     }
 }
 
+#[inline(always)]
 #[tactic(auto, using(crate::proofs::Words::not_reserved))]
 fn is_reserved(word: &[u8]) -> bool
     ensures { result ≡ is_reserved word.now }
@@ -71,12 +76,14 @@ fn is_reserved(word: &[u8]) -> bool
     may_be_reserved(word) && (is_type_word(word) || is_item_word(word) || is_truth_word(word))
 }
 
+#[inline(always)]
 pub(crate) fn is_name(token: &Token<'_>) -> bool
     ensures { result ≡ is_name (lexeme token.now) }
 {
     token.kind == TokenKind::Word && !is_reserved(token.text)
 }
 
+#[inline(always)]
 pub(crate) fn is_quoted(token: &Token<'_>) -> bool
     ensures { result ≡ is_quoted (lexeme token.now) }
 {
@@ -94,6 +101,7 @@ pub(crate) fn begins_literal(token: &Token<'_>) -> bool
     }
 }
 
+#[inline(always)]
 pub(crate) fn begins_decl(token: &Token<'_>) -> bool
     ensures { result ≡ begins_decl (lexeme token.now) }
 {

@@ -1,8 +1,9 @@
 //! Lists that take no more memory than their elements need.
 
-ghost use Rattle.std.specs.Prelude.{◌≡◌};
+ghost use Rattle.std.specs.Prelude.{◌≡◌, IfOk};
 
-use std::alloc::Global;
+use std::alloc::{AllocError, Global};
+use std::mem;
 
 /// The most elements that are moved to a block of their own size. A longer list is cut off where it lies, since its
 /// elements would take their memory twice while they are moved.
@@ -25,4 +26,20 @@ pub(crate) fn trimmed<T: Drop>(alloc: Global, mut list: Vec<T>) -> Vec<T>
     } else {
         list
     }
+}
+
+/// The elements in a block of their own size. The block that they were gathered in stays, for the next list.
+pub(crate) fn moved_out<T: Drop>(alloc: Global, gathered: &mut Vec<T>) -> Result<Vec<T>, AllocError>
+    ensures { IfOk result (λ list. list.items ≡ gathered.old.items) }
+{
+    if gathered.len() > MOST_MOVED {
+        let mut list = mem::replace(gathered, Vec::new(alloc));
+        list.shrink_to_fit();
+        return Ok(list);
+    }
+    let mut list = Vec::with_capacity(alloc, gathered.len())?;
+    if list.append(gathered).is_err() {
+        return Err(AllocError);
+    }
+    Ok(list)
 }

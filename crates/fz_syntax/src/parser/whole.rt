@@ -50,8 +50,9 @@ impl<'a> Parser<'a> {
         ensures walked { IfOk result (λ v. Walk self.old self.new (flat_map constraint_spots v.items)) }
     {
         let mut items = Vec::new(self.alloc);
+        let mut spare = Vec::new(self.alloc);
         while self.next_word(b"constraint") {
-            let item = self.constraint()?;
+            let item = self.constraint(&mut spare)?;
             items.push(item)?;
         }
         Ok(trimmed(self.alloc, items))

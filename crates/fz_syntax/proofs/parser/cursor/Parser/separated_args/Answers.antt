@@ -18,10 +18,10 @@ returns-in_err-expr-clause-read c =
 
 pub loop-self-init : goal.loop-self-init
 loop-self-init c = record {
-  continues = separated_init (any_number (expr_at the_limits)) _ _ _ _ _ (ap (map bare_expr) c.new-exprs.ensures.items) (grown bare_expr _ _ _ c.in_ok-push.ensures.items) c.in_ok-expr.ensures.read;
+  continues = separated_init (any_number (expr_at the_limits)) _ _ _ _ _ (ap (map bare_expr) c.clear.ensures.items) (grown bare_expr _ _ _ c.in_ok-push.ensures.items) c.in_ok-expr.ensures.read;
   shorter = omega arith;
   same_end = omega arith;
-  walked = walk_first expr_spots _ _ _ c.new-exprs.ensures.items c.in_ok-push.ensures.items c.in_ok-expr.ensures.walked;
+  walked = walk_first expr_spots _ _ _ c.clear.ensures.items c.in_ok-push.ensures.items c.in_ok-expr.ensures.walked;
 }
 
 pub returns-in_err-expr-2-clause-read : goal.returns-in_err-expr-2-clause-read
@@ -38,7 +38,7 @@ loop-self-preserved c = record {
 }
 
 pub returns-clause-read : goal.returns-clause-read
-returns-clause-read c = rw c.trimmed.ensures (is_whole_list Comma (any_number (expr_at the_limits)) _ _ _ _ _ c.loop-self-test.false c.eat.ensures.found c.eat.ensures.left c.loop-self.invariant.continues)
+returns-clause-read c = rw c.in_ok-moved_out.ensures (is_whole_list Comma (any_number (expr_at the_limits)) _ _ _ _ _ c.loop-self-test.false c.eat.ensures.found c.eat.ensures.left c.loop-self.invariant.continues)
 
 pub returns-clause-walked : goal.returns-clause-walked
-returns-clause-walked c = rw c.trimmed.ensures (walk_end c.loop-self.invariant.walked c.eat.ensures.walked)
+returns-clause-walked c = rw c.in_ok-moved_out.ensures (walk_end c.loop-self.invariant.walked c.eat.ensures.walked)

@@ -11,10 +11,10 @@ use Rattle.fz_syntax.proofs.parser.cursor.Parser.separated_args.Given as goal
 
 abbrev pub invariant-loop-self : goal.invariant-loop-self
 invariant-loop-self l = record {
-  continues : Continues Comma (any_number (expr_at the_limits)) (map bare_expr l.exprs.items) (lexemes l.self) (separated_at (any_number (expr_at the_limits)) (lexemes l.fn.self));
+  continues : Continues Comma (any_number (expr_at the_limits)) (map bare_expr l.spare.items) (lexemes l.self) (separated_at (any_number (expr_at the_limits)) (lexemes l.fn.self));
   shorter : length (lexemes l.self) ≤ length (lexemes l.fn.self);
   same_end : l.self.end ≡ l.fn.self.end;
-  walked : Walk l.fn.self l.self (flat_map expr_spots l.exprs.items);
+  walked : Walk l.fn.self l.self (flat_map expr_spots l.spare.items);
 }
 
 abbrev pub decreases-loop-self : goal.decreases-loop-self

@@ -1,7 +1,7 @@
 use Rattle.std.proofs.Common.{◌≡◌, ◌+◌, ◌-◌, ◌≤◌, length, drop}
 use Rattle.std.specs.List.{prefix_len}
 use Rattle.fz_lex.specs.Byte.{is_word_byte}
-use Rattle.fz_lex.proofs.scanner.word_len.Given as goal
+use Rattle.fz_lex.proofs.word.word_len.Given as goal
 
 abbrev pub invariant-loop-len : goal.invariant-loop-len
 invariant-loop-len l = (l.len + prefix_len is_word_byte (drop l.len l.bytes) ≡ prefix_len is_word_byte l.bytes) × (l.len ≤ length l.bytes)
