@@ -4,6 +4,7 @@
 
 mod declaring;
 mod found;
+mod hashing;
 mod loading;
 mod model;
 mod partial;

@@ -17,6 +17,7 @@ use fz_meaning::ModelError;
 use fz_syntax::{Ast, Decl};
 use indexmap::IndexMap;
 use std::alloc::Global;
+use std::hash::BuildHasherDefault;
 
 /// Nothing declared yet, with room for this many names.
 fn empty<'a>(alloc: Global, names: usize) -> Result<Scope<'a>, ModelError>
@@ -27,7 +28,7 @@ fn empty<'a>(alloc: Global, names: usize) -> Result<Scope<'a>, ModelError>
     ensures memory { IfErr result (λ e. e ≡ Memory) }
 {
     Ok(Scope {
-        names: IndexMap::with_capacity(alloc, names)?,
+        names: IndexMap::with_capacity_and_hasher(alloc, names, BuildHasherDefault::new())?,
         variables: Vec::new(alloc),
         arrays: Vec::new(alloc),
         points: Vec::new(alloc),

@@ -13,18 +13,18 @@ ghost use Rattle.fz_data.specs.declared.scope.Item.TheVariants.{Parameter, Varia
 ghost use Rattle.fz_meaning.specs.declared.error.ModelError.TheVariants.{Memory};
 ghost use Rattle.fz_data.specs.Scope.{IsAdded, Tells, fault_in, faults_in, has_elements_point, has_text, IsNewName, place_fault, place_in, term_at, term_in};
 
+use crate::hashing::Names;
 use crate::parts::{Array, Declared, DeclaredPoint, Variable};
 use crate::values::{copied, is_same, kind_of, literal_kind, literal_value};
 use fz_base::Value;
 use fz_meaning::{Domain, Kind, ModelError, Term};
 use fz_syntax::{Basic, Literal, Name};
-use indexmap::IndexMap;
 use std::alloc::{AllocError, Global};
 
 /// What was declared so far: the names in source order, the variables and arrays by their numbers, and the points.
 #[derive(Drop)]
 pub(crate) struct Scope<'a> {
-    pub(crate) names: IndexMap<&'a [u8], Declared>,
+    pub(crate) names: Names<'a>,
     pub(crate) variables: Vec<Variable<'a>>,
     pub(crate) arrays: Vec<Array<'a>>,
     pub(crate) points: Vec<DeclaredPoint>,
@@ -124,7 +124,7 @@ pub(crate) fn terms_of(
 
 /// Keeps a new name.
 fn keep<'a>(
-    names: &mut IndexMap<&'a [u8], Declared>,
+    names: &mut Names<'a>,
     name: &'a [u8],
     declared: Declared,
 ) -> Result<(), ModelError>
