@@ -1,6 +1,6 @@
 use Rattle.std.proofs.Common.{◌≡◌, [], None, map, subst, ap, ◌∙◌}
 use Rattle.std.proofs.lemmas.Result.{err_from_is_err_and}
-use Rattle.fz_meaning.specs.Meaning.{first_some, row_of}
+use Rattle.fz_meaning.specs.Meaning.{first_some}
 use Rattle.fz_meaning.specs.View.{located, located_decl, located_constraint}
 use Rattle.fz_scope.specs.FirstFault.{decls_fault}
 use Rattle.fz_data.specs.Parts.{posted_view}

@@ -1,7 +1,7 @@
 use Rattle.std.proofs.lemmas.Result.{err_from_is_err_and}
 use Rattle.fz_meaning.specs.View.{located_constraint}
 use Rattle.fz_scope.proofs.Steps.{first_more}
-use Rattle.std.proofs.Common.{option_map, ap, sym, ◌∙◌}
+use Rattle.std.proofs.Common.{option_map, ◌∙◌}
 use Rattle.fz_meaning.specs.Meaning.{row_of}
 use Rattle.fz_table.specs.Known.{known_row}
 use Rattle.fz_data.specs.Layout.{CitesArrays}
