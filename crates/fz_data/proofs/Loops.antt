@@ -22,6 +22,13 @@ one_found g want view xs i x cs new c lt at so_far here grew =
 pub all_found : {C : Type 0} (P : C → Type 0) (cs new : List C) (c : C) → AllByRecursion P cs → P c → new ≡ cs ++ c ∷ [] → AllByRecursion P new
 all_found P cs new c h k grew = subst (AllByRecursion P) (sym grew) (all_append P cs (c ∷ []) h (k, tt))
 
+-- one more is kept with its row
+pub row_found : {C V K R : Type 0} (view : C → V) (fit : V → R) (kept : K → R) (cs new : List C) (c : C) (ks more : List K) (k : K)
+    → map kept ks ≡ map fit (map view cs) → kept k ≡ fit (view c) → new ≡ cs ++ c ∷ [] → more ≡ ks ++ k ∷ [] → map kept more ≡ map fit (map view new)
+row_found view fit kept cs new c ks more k so_far here grew longer =
+    ap (map kept) longer ∙ map-append kept ks (k ∷ []) ∙ (λ i. so_far i ++ here i ∷ [])
+    ∙ sym (ap (λ zs. map fit (map view zs)) grew ∙ ap (map fit) (map-append view cs (c ∷ [])) ∙ map-append fit (map view cs) (view c ∷ []))
+
 -- the first answer
 some_answer : {A : Type 0} (o : Option A) → is_some o ≡ true → (y : A) × (o ≡ Some y)
 some_answer None e = cc

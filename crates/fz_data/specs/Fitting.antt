@@ -1,5 +1,5 @@
 -- The kinds and the lengths of arguments as the code keeps them (private functions only).
-use Rattle.std.specs.Prelude.{ℕ, Bool, false, List, ◌∷◌, length, ◌==◌, slice_get}
+use Rattle.std.specs.Prelude.{ℕ, Bool, false, List, ◌∷◌, length, map, ◌==◌, slice_get}
 use Rattle.std.specs.List.{list_all}
 use Rattle.std.specs.Option.{option_map_or}
 use Rattle.fz_meaning.specs.Values.{same_kind}
@@ -17,6 +17,10 @@ use Rattle.fz_data.specs.Parts.{kind_of_term}
 
 abbrev pub array_kind : List Array → ℕ → Kind
 array_kind xs i = option_map_or (λ x. x.kind) (slice_get xs i) IntKind
+
+-- the kinds of variables, in their order
+abbrev pub kinds_among : List Variable → List Kind
+kinds_among vs = map (λ v. v.kind) vs
 
 -- a scalar of the kind
 abbrev pub is_term_among : List Variable → Kind → Place → Bool

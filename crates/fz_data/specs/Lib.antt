@@ -1,4 +1,5 @@
 pub mod Parts
+pub mod Hashing
 pub mod Kinds
 pub mod Layout
 pub mod Shown

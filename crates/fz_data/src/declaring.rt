@@ -11,7 +11,7 @@ ghost use Rattle.fz_data.specs.declared.scope.Scope.{Scope};
 
 use crate::parts::{Array, Variable};
 use crate::scope::{Item, Scope, term_of, terms_of};
-use crate::values::{base_kind, domain_of, is_same, literal_kind, literal_value};
+use crate::values::{base_kind, domain_of, literal_kind, literal_value, same_kind};
 use fz_base::Value;
 use fz_meaning::{Kind, ModelError, Term};
 use fz_syntax::{Basic, Decl, Expr};
@@ -111,7 +111,7 @@ fn part_value(alloc: Global, kind: Kind, part: &Basic<'_>) -> Result<Value, Mode
 {
     match part {
         Basic::Lit(literal) => {
-            if !is_same(literal_kind(&literal.what), kind) {
+            if !same_kind(literal_kind(&literal.what), kind) {
                 return Err(ModelError::Kind(literal.span));
             }
             Ok(literal_value(alloc, &literal.what)?)

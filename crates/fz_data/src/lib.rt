@@ -4,6 +4,7 @@
 
 mod declaring;
 mod found;
+mod hashing;
 mod loading;
 mod model;
 mod partial;
@@ -22,4 +23,4 @@ pub use model::Model;
 pub use partial::Partial;
 pub use parts::{Argument, Array, ArrayName, Goal, Place, Posted, Variable};
 pub use point::{ConstraintParts, Point, PointParts};
-pub use rows::row_of;
+pub use values::{kind_of, literal_kind, literal_value, same_kind};

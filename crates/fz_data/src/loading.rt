@@ -11,12 +11,13 @@ ghost use Rattle.fz_data.specs.Stands.{StandsFor};
 use crate::declaring::item_of;
 use crate::model::Model;
 use crate::posting::{all_posted, goal_of};
-use crate::rows::rows_of;
+use crate::rows::kinds_of;
 use crate::scope::{Scope, add};
 use fz_meaning::ModelError;
 use fz_syntax::{Ast, Decl};
 use indexmap::IndexMap;
 use std::alloc::Global;
+use std::hash::BuildHasherDefault;
 
 /// Nothing declared yet, with room for this many names.
 fn empty<'a>(alloc: Global, names: usize) -> Result<Scope<'a>, ModelError>
@@ -27,8 +28,8 @@ fn empty<'a>(alloc: Global, names: usize) -> Result<Scope<'a>, ModelError>
     ensures memory { IfErr result (λ e. e ≡ Memory) }
 {
     Ok(Scope {
-        names: IndexMap::with_capacity(alloc, names)?,
-        variables: Vec::new(alloc),
+        names: IndexMap::with_capacity_and_hasher(alloc, names, BuildHasherDefault::new())?,
+        variables: Vec::with_capacity(alloc, names)?,
         arrays: Vec::new(alloc),
         points: Vec::new(alloc),
     })
@@ -55,10 +56,10 @@ fn read<'a>(alloc: Global, ast: &Ast<'a>) -> Result<Model<'a>, ModelError>
     ensures tells { IfErr result (λ e. Tells e (first_fault (located ast.now))) }
 {
     let scope = declared(alloc, &ast.decls)?;
-    let constraints = all_posted(alloc, &scope, &ast.constraints)?;
+    let kinds = kinds_of(alloc, &scope.variables)?;
+    let constraints = all_posted(alloc, &scope, &kinds, &ast.constraints)?;
     let goal = goal_of(alloc, &scope, &ast.solve.goal)?;
-    let known = rows_of(alloc, &constraints, &scope.variables, &scope.arrays)?;
-    Ok(Model::assembled(scope, constraints, known, goal))
+    Ok(Model::assembled(scope, constraints.posted, constraints.known, goal))
 }
 
 /// The model of a tree. It refuses a tree with faults, with the leftmost; else only where memory runs out.

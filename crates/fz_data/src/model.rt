@@ -8,17 +8,17 @@ ghost use Rattle.fz_data.specs.Parts.{goal_view, posted_view, variable_view};
 ghost use Rattle.fz_data.specs.Shown.{IfConstraint, found_place, point_name, point_view, shown_posted};
 
 use crate::found::{Found, What};
+use crate::hashing::Names;
 use crate::parts::{Array, Declared, DeclaredPoint, Goal, Posted, Variable};
 use crate::point::{ConstraintParts, Point, PointParts};
 use crate::scope::Scope;
 use fz_table::Known;
-use indexmap::IndexMap;
 
 /// A model with its names looked up. A contract sees it as the model of the tree that it was loaded from.
 #[derive(Drop)]
 pub struct Model<'a> {
     /// the declared names, in source order
-    names: IndexMap<&'a [u8], Declared>,
+    names: Names<'a>,
     variables: Vec<Variable<'a>>,
     arrays: Vec<Array<'a>>,
     /// the points of the declarations, in their order

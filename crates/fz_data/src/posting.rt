@@ -3,11 +3,13 @@
 ghost use Rattle.std.specs.Prelude.{◌≡◌, IfErr, IfOk, None, Some, map, option_map};
 ghost use Rattle.std.specs.List.{AllByRecursion};
 ghost use Rattle.fz_meaning.specs.declared.kind.Kind.TheVariants.{Int as IntKind};
-ghost use Rattle.fz_meaning.specs.Meaning.{first_some};
+ghost use Rattle.fz_meaning.specs.Meaning.{first_some, row_of};
 ghost use Rattle.fz_meaning.specs.Names.{goal_parts};
 ghost use Rattle.fz_meaning.specs.View.{located_basic, located_constraint, located_expr, located_goal, located_name};
 ghost use Rattle.fz_syntax.specs.View.{bare_basic, bare_note, bare_notes};
 ghost use Rattle.fz_syntax.specs.Tree.NoteArg.{OneBasic};
+ghost use Rattle.fz_table.specs.Known.{known_row};
+ghost use Rattle.fz_data.specs.Fitting.{kinds_among};
 ghost use Rattle.fz_data.specs.Layout.{AreCited, CitesArrays, IsCited};
 ghost use Rattle.fz_data.specs.Parts.{argument_view, goal_view, place_view, posted_view};
 ghost use Rattle.fz_data.specs.Scope.{AreKept, Tells, aim_in, argument_fault, argument_in, constraint_fault_in, defined_in, bare_name_of, fault_in, faults_in, inner_of, only_arg, place_in, place_of_part, posted_in, variable_by_place};
@@ -15,10 +17,12 @@ ghost use Rattle.fz_meaning.specs.Located.Basic.{Named};
 ghost use Rattle.fz_syntax.specs.View.{arg_list, bare_arg};
 
 use crate::parts::{Argument, ArrayName, Declared, Goal, Place, Posted};
+use crate::rows::{Cited, row_of};
 use crate::scope::{Scope, term_of};
 use crate::values::{copied, literal_value};
 use fz_meaning::{Kind, ModelError, Term};
 use fz_syntax::{Basic, Constraint, Expr, Goal as TreeGoal, Name, Note, NoteArg, NoteBasic};
+use fz_table::Known;
 use std::alloc::Global;
 
 /// What a name stands for.
@@ -217,24 +221,45 @@ fn posted<'a>(
     })
 }
 
-/// The constraints, in source order.
+/// Constraints with the row of the table that each fits, in source order.
+#[derive(Drop)]
+pub(crate) struct Constraints<'a> {
+    pub(crate) posted: Vec<Posted<'a>>,
+    pub(crate) known: Vec<Option<Known>>,
+}
+
+/// The constraints, in source order. The row of each is found while its arguments are at hand.
 pub(crate) fn all_posted<'a>(
     alloc: Global,
     scope: &Scope<'a>,
+    kinds: &[Kind],
     constraints: &[Constraint<'a>],
-) -> Result<Vec<Posted<'a>>, ModelError>
+) -> Result<Constraints<'a>, ModelError>
     requires kept { AreKept scope.now }
+    requires kinds { kinds.now ≡ kinds_among scope.now.variables.items }
     ensures known { IfOk result (λ _. first_some (constraint_fault_in scope.now) (map located_constraint constraints.now) ≡ None) }
-    ensures posted { IfOk result (λ ps. map (posted_view scope.now.variables.items scope.now.arrays.items) ps.items ≡ map (posted_in scope.now) (map located_constraint constraints.now)) }
-    ensures cited { IfOk result (λ ps. AllByRecursion (CitesArrays scope.now.arrays.items) ps.items) }
+    ensures posted { IfOk result (λ cs. map (posted_view scope.now.variables.items scope.now.arrays.items) cs.posted.items ≡ map (posted_in scope.now) (map located_constraint constraints.now)) }
+    ensures rows { IfOk result (λ cs. map (option_map known_row) cs.known.items ≡ map row_of (map (posted_view scope.now.variables.items scope.now.arrays.items) cs.posted.items)) }
+    ensures cited { IfOk result (λ cs. AllByRecursion (CitesArrays scope.now.arrays.items) cs.posted.items) }
     ensures tells { IfErr result (λ e. Tells e (first_some (constraint_fault_in scope.now) (map located_constraint constraints.now))) }
 {
+    let cited = Cited {
+        variables: &scope.variables,
+        kinds,
+        arrays: &scope.arrays,
+    };
     let mut found = Vec::with_capacity(alloc, constraints.len())?;
+    let mut known = Vec::with_capacity(alloc, constraints.len())?;
     for constraint in constraints {
         let one = posted(alloc, scope, constraint)?;
+        let row = row_of(&one, &cited);
+        known.push(row)?;
         found.push(one)?;
     }
-    Ok(found)
+    Ok(Constraints {
+        posted: found,
+        known,
+    })
 }
 
 /// What is asked for: the objective is to be a whole number.

@@ -5,129 +5,108 @@ ghost use Rattle.std.specs.List.{list_all};
 ghost use Rattle.fz_meaning.specs.Meaning.{fits, has_shape, have_shapes, row_of};
 ghost use Rattle.fz_table.specs.Known.{known_row, shape_of};
 ghost use Rattle.fz_data.specs.Parts.{argument_view, kind_of_term, posted_view};
-ghost use Rattle.fz_data.specs.Fitting.{are_equally_long, array_kind, is_array_of, is_scalar_of, is_term_among, length_of};
+ghost use Rattle.fz_data.specs.Fitting.{are_equally_long, array_kind, is_array_of, is_scalar_of, is_term_among, kinds_among, length_of};
 
 use crate::parts::{Argument, Array, Place, Posted, Variable};
-use crate::values::{is_same, kind_of};
+use crate::values::{kind_of, same_kind};
 use fz_meaning::{Kind, Term};
 use fz_table::{Known, Shape};
 use std::alloc::{AllocError, Global};
 
+/// What constraints cite: the variables, their kinds, and the arrays. The kinds stand side by side, a byte each, so that the look-ups of
+/// all constraints find them near.
+#[derive(Clone, Copy)]
+pub(crate) struct Cited<'m, 'a> {
+    pub(crate) variables: &'m [Variable<'a>],
+    pub(crate) kinds: &'m [Kind],
+    pub(crate) arrays: &'m [Array<'a>],
+    ghost kinds_are: { kinds.now ≡ kinds_among variables.now },
+}
+
+/// The kinds of the variables, in their order. It refuses only where memory runs out.
+pub(crate) fn kinds_of(alloc: Global, variables: &[Variable<'_>]) -> Result<Vec<Kind>, AllocError>
+    ensures { IfOk result (λ ks. ks.items ≡ kinds_among variables.now) }
+{
+    let mut kinds = Vec::with_capacity(alloc, variables.len())?;
+    for variable in variables {
+        kinds.push(variable.kind)?;
+    }
+    Ok(kinds)
+}
+
 /// The row of the table that a constraint fits, by its name, the kinds of its arguments and, where the row adds up products, the lengths
 /// of the first two. It goes over each argument once and takes no memory.
-pub fn row_of(
-    posted: &Posted<'_>,
-    variables: &[Variable<'_>],
-    arrays: &[Array<'_>],
-) -> Option<Known>
-    ensures { option_map known_row result ≡ row_of (posted_view variables.now arrays.now posted.now) }
+pub(crate) fn row_of(posted: &Posted<'_>, cited: &Cited<'_, '_>) -> Option<Known>
+    ensures { option_map known_row result ≡ row_of (posted_view cited.now.variables.now cited.now.arrays.now posted.now) }
 {
     let known = Known::find(posted.name)?;
-    if fits(known, &posted.arguments, variables, arrays) {
+    if fits(known, &posted.arguments, cited) {
         Some(known)
     } else {
         None
     }
 }
 
-/// The rows of all constraints, in their order. It refuses only where memory runs out.
-pub(crate) fn rows_of(
-    alloc: Global,
-    constraints: &[Posted<'_>],
-    variables: &[Variable<'_>],
-    arrays: &[Array<'_>],
-) -> Result<Vec<Option<Known>>, AllocError>
-    ensures { IfOk result (λ ks. map (option_map known_row) ks.items ≡ map row_of (map (posted_view variables.now arrays.now) constraints.now)) }
+fn fits(known: Known, arguments: &[Argument<'_>], cited: &Cited<'_, '_>) -> bool
+    ensures { result ≡ fits (known_row known) (map (argument_view cited.now.variables.now cited.now.arrays.now) arguments.now) }
 {
-    let mut rows = Vec::with_capacity(alloc, constraints.len())?;
-    for posted in constraints {
-        rows.push(row_of(posted, variables, arrays))?;
-    }
-    Ok(rows)
+    have_shapes(known.shapes(), arguments, cited)
+        && (!known.equal_lengths() || equally_long(arguments, cited.arrays))
 }
 
-fn fits(
-    known: Known,
-    arguments: &[Argument<'_>],
-    variables: &[Variable<'_>],
-    arrays: &[Array<'_>],
-) -> bool
-    ensures { result ≡ fits (known_row known) (map (argument_view variables.now arrays.now) arguments.now) }
-{
-    have_shapes(known.shapes(), arguments, variables, arrays)
-        && (!known.equal_lengths() || equally_long(arguments, arrays))
-}
-
-fn have_shapes(
-    shapes: &[Shape],
-    arguments: &[Argument<'_>],
-    variables: &[Variable<'_>],
-    arrays: &[Array<'_>],
-) -> bool
-    ensures { result ≡ have_shapes (map shape_of shapes.now) (map (argument_view variables.now arrays.now) arguments.now) }
+fn have_shapes(shapes: &[Shape], arguments: &[Argument<'_>], cited: &Cited<'_, '_>) -> bool
+    ensures { result ≡ have_shapes (map shape_of shapes.now) (map (argument_view cited.now.variables.now cited.now.arrays.now) arguments.now) }
 {
     if shapes.len() != arguments.len() {
         return false;
     }
     for (shape, argument) in shapes.iter().zip(arguments) {
-        if !has_shape(*shape, argument, variables, arrays) {
+        if !has_shape(*shape, argument, cited) {
             return false;
         }
     }
     true
 }
 
-fn has_shape(
-    shape: Shape,
-    argument: &Argument<'_>,
-    variables: &[Variable<'_>],
-    arrays: &[Array<'_>],
-) -> bool
-    ensures { result ≡ has_shape (shape_of shape) (argument_view variables.now arrays.now argument.now) }
+fn has_shape(shape: Shape, argument: &Argument<'_>, cited: &Cited<'_, '_>) -> bool
+    ensures { result ≡ has_shape (shape_of shape) (argument_view cited.now.variables.now cited.now.arrays.now argument.now) }
 {
     match shape {
-        Shape::Scalar(kind) => is_scalar_of(kind, argument, variables),
-        Shape::Array(kind) => is_array_of(kind, argument, variables, arrays),
+        Shape::Scalar(kind) => is_scalar_of(kind, argument, cited),
+        Shape::Array(kind) => is_array_of(kind, argument, cited),
     }
 }
 
-fn is_scalar_of(kind: Kind, argument: &Argument<'_>, variables: &[Variable<'_>]) -> bool
-    ensures { result ≡ is_scalar_of variables.now kind argument.now }
+fn is_scalar_of(kind: Kind, argument: &Argument<'_>, cited: &Cited<'_, '_>) -> bool
+    ensures { result ≡ is_scalar_of cited.now.variables.now kind argument.now }
 {
     match argument {
-        Argument::One(place) => is_term_of(kind, place, variables),
+        Argument::One(place) => is_term_of(kind, place, cited),
         Argument::List(_) => false,
     }
 }
 
-fn is_array_of(
-    kind: Kind,
-    argument: &Argument<'_>,
-    variables: &[Variable<'_>],
-    arrays: &[Array<'_>],
-) -> bool
-    ensures { result ≡ is_array_of variables.now arrays.now kind argument.now }
+fn is_array_of(kind: Kind, argument: &Argument<'_>, cited: &Cited<'_, '_>) -> bool
+    ensures { result ≡ is_array_of cited.now.variables.now cited.now.arrays.now kind argument.now }
 {
     match argument {
-        Argument::One(Place::Array(name)) => is_same(array_kind(name.number, arrays), kind),
+        Argument::One(Place::Array(name)) => same_kind(array_kind(name.number, cited.arrays), kind),
         Argument::One(Place::Scalar(_)) => false,
-        Argument::List(places) => are_terms_of(kind, places, variables),
+        Argument::List(places) => are_terms_of(kind, places, cited),
     }
 }
 
-fn are_terms_of(kind: Kind, places: &[Place<'_>], variables: &[Variable<'_>]) -> bool
-    ensures { result ≡ list_all (is_term_among variables.now kind) places.now }
+fn are_terms_of(kind: Kind, places: &[Place<'_>], cited: &Cited<'_, '_>) -> bool
+    ensures { result ≡ list_all (is_term_among cited.now.variables.now kind) places.now }
 {
-    places
-        .iter()
-        .all(|place| is_term_of(kind, place, variables))
+    places.iter().all(|place| is_term_of(kind, place, cited))
 }
 
-fn is_term_of(kind: Kind, place: &Place<'_>, variables: &[Variable<'_>]) -> bool
-    ensures { result ≡ is_term_among variables.now kind place.now }
+fn is_term_of(kind: Kind, place: &Place<'_>, cited: &Cited<'_, '_>) -> bool
+    ensures { result ≡ is_term_among cited.now.variables.now kind place.now }
 {
     match place {
-        Place::Scalar(term) => is_same(term_kind(term, variables), kind),
+        Place::Scalar(term) => same_kind(term_kind(term, cited), kind),
         Place::Array(_) => false,
     }
 }
@@ -165,12 +144,12 @@ fn array_kind(number: usize, arrays: &[Array<'_>]) -> Kind
     }
 }
 
-fn term_kind(term: &Term, variables: &[Variable<'_>]) -> Kind
-    ensures { result ≡ kind_of_term variables.now term.now }
+fn term_kind(term: &Term, cited: &Cited<'_, '_>) -> Kind
+    ensures { result ≡ kind_of_term cited.now.variables.now term.now }
 {
     match term {
-        Term::Var(number) => match variables.get(*number) {
-            Some(variable) => variable.kind,
+        Term::Var(number) => match cited.kinds.get(*number) {
+            Some(kind) => *kind,
             None => Kind::Int,
         },
         Term::Fixed(value) => kind_of(value),

@@ -13,18 +13,18 @@ ghost use Rattle.fz_data.specs.declared.scope.Item.TheVariants.{Parameter, Varia
 ghost use Rattle.fz_meaning.specs.declared.error.ModelError.TheVariants.{Memory};
 ghost use Rattle.fz_data.specs.Scope.{IsAdded, Tells, fault_in, faults_in, has_elements_point, has_text, IsNewName, place_fault, place_in, term_at, term_in};
 
+use crate::hashing::Names;
 use crate::parts::{Array, Declared, DeclaredPoint, Variable};
-use crate::values::{copied, is_same, kind_of, literal_kind, literal_value};
+use crate::values::{copied, kind_of, literal_kind, literal_value, same_kind};
 use fz_base::Value;
 use fz_meaning::{Domain, Kind, ModelError, Term};
 use fz_syntax::{Basic, Literal, Name};
-use indexmap::IndexMap;
 use std::alloc::{AllocError, Global};
 
 /// What was declared so far: the names in source order, the variables and arrays by their numbers, and the points.
 #[derive(Drop)]
 pub(crate) struct Scope<'a> {
-    pub(crate) names: IndexMap<&'a [u8], Declared>,
+    pub(crate) names: Names<'a>,
     pub(crate) variables: Vec<Variable<'a>>,
     pub(crate) arrays: Vec<Array<'a>>,
     pub(crate) points: Vec<DeclaredPoint>,
@@ -57,7 +57,7 @@ fn literal_term(alloc: Global, wanted: Kind, literal: &Literal) -> Result<Term, 
     ensures term { IfOk result (λ t. t ≡ Fixed (literal_value (bare_literal_kind literal.now.what))) }
     ensures tells { IfErr result (λ e. Tells e (literal_fault (Some wanted) (kind_of (literal_value (bare_literal_kind literal.now.what))) literal.now.span)) }
 {
-    if !is_same(literal_kind(&literal.what), wanted) {
+    if !same_kind(literal_kind(&literal.what), wanted) {
         return Err(ModelError::Kind(literal.span));
     }
     Ok(Term::Fixed(literal_value(alloc, &literal.what)?))
@@ -78,7 +78,7 @@ fn named_term(
         None => Err(ModelError::UnknownName(name.span)),
         Some(Declared::Array(_)) => Err(ModelError::Kind(name.span)),
         Some(Declared::Scalar(term)) => {
-            if !is_same(scalar_kind(&scope.variables, term), wanted) {
+            if !same_kind(scalar_kind(&scope.variables, term), wanted) {
                 return Err(ModelError::Kind(name.span));
             }
             Ok(copied(alloc, term)?)
@@ -123,11 +123,7 @@ pub(crate) fn terms_of(
 }
 
 /// Keeps a new name.
-fn keep<'a>(
-    names: &mut IndexMap<&'a [u8], Declared>,
-    name: &'a [u8],
-    declared: Declared,
-) -> Result<(), ModelError>
+fn keep<'a>(names: &mut Names<'a>, name: &'a [u8], declared: Declared) -> Result<(), ModelError>
     requires new { is_none (lookup (has_text name.now) names.old.entries) ≡ true }
     ensures kept { OnOk result (names.new.entries ≡ names.old.entries ++ (name.entry, declared) ∷ []) }
     ensures memory { IfErr result (λ e. e ≡ Memory) }

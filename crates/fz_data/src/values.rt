@@ -10,8 +10,8 @@ use fz_meaning::{Domain, Kind, Term};
 use fz_syntax::{Base, Literal, LiteralKind};
 use std::alloc::{AllocError, Global};
 
-/// The kind of a value.
-pub(crate) fn kind_of(value: &Value) -> Kind
+/// The kind of a value. It takes no memory.
+pub fn kind_of(value: &Value) -> Kind
     ensures { result ≡ kind_of value.now }
 {
     match value {
@@ -21,8 +21,8 @@ pub(crate) fn kind_of(value: &Value) -> Kind
     }
 }
 
-/// Whether the two kinds are the same.
-pub(crate) fn is_same(left: Kind, right: Kind) -> bool
+/// Whether the two kinds are the same. It takes no memory.
+pub fn same_kind(left: Kind, right: Kind) -> bool
     ensures { result ≡ same_kind left right }
 {
     match left {
@@ -32,8 +32,8 @@ pub(crate) fn is_same(left: Kind, right: Kind) -> bool
     }
 }
 
-/// The kind of a literal's value.
-pub(crate) fn literal_kind(literal: &LiteralKind) -> Kind
+/// The kind of the value that a literal stands for, without making that value. It takes no memory.
+pub fn literal_kind(literal: &LiteralKind) -> Kind
     ensures { result ≡ kind_of (literal_value (bare_literal_kind literal.now)) }
 {
     match literal {
@@ -44,8 +44,8 @@ pub(crate) fn literal_kind(literal: &LiteralKind) -> Kind
     }
 }
 
-/// The value of a literal. It refuses only where memory runs out.
-pub(crate) fn literal_value(alloc: Global, literal: &LiteralKind) -> Result<Value, AllocError>
+/// The value that a literal stands for: a number, a truth value, or the set of a range or of braces. It refuses only where memory runs out.
+pub fn literal_value(alloc: Global, literal: &LiteralKind) -> Result<Value, AllocError>
     ensures { IfOk result (λ v. v ≡ literal_value (bare_literal_kind literal.now)) }
 {
     match literal {

@@ -5,7 +5,7 @@
 
 pub use fz_data::{
     Argument, Array, ArrayName, ConstraintParts, Found, Goal, Model, Partial, Place, Point,
-    PointParts, Posted, Variable, What, load,
+    PointParts, Posted, Variable, What, kind_of, literal_kind, literal_value, load, same_kind,
 };
 pub use fz_eval::state;
 pub use fz_force::forced;

@@ -1,7 +1,8 @@
-use Rattle.std.proofs.Common.{◌≡◌, None, map, take}
+use Rattle.std.proofs.Common.{◌≡◌, None, map, take, option_map}
 use Rattle.std.specs.List.{AllByRecursion}
-use Rattle.fz_meaning.specs.Meaning.{first_some}
+use Rattle.fz_meaning.specs.Meaning.{first_some, row_of}
 use Rattle.fz_meaning.specs.View.{located_constraint}
+use Rattle.fz_table.specs.Known.{known_row}
 use Rattle.fz_data.specs.Layout.{CitesArrays}
 use Rattle.fz_data.specs.Parts.{posted_view}
 use Rattle.fz_data.specs.Scope.{constraint_fault_in, posted_in}
@@ -11,5 +12,6 @@ abbrev pub invariant-loop-constraint : goal.invariant-loop-constraint
 invariant-loop-constraint l = record {
   clean : first_some (constraint_fault_in l.scope) (map located_constraint (take l.constraint-index l.constraints)) ≡ None;
   views : map (posted_view l.scope.variables.items l.scope.arrays.items) l.found.items ≡ map (posted_in l.scope) (map located_constraint (take l.constraint-index l.constraints));
+  rows : map (option_map known_row) l.known.items ≡ map row_of (map (posted_view l.scope.variables.items l.scope.arrays.items) l.found.items);
   cited : AllByRecursion (CitesArrays l.scope.arrays.items) l.found.items;
 }

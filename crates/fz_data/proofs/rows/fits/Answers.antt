@@ -7,6 +7,6 @@ use Rattle.fz_data.proofs.rows.fits.Goals as goal
 
 pub returns-else-not-equal_lengths : goal.returns-else-not-equal_lengths
 returns-else-not-equal_lengths c =
-    fits_if_long c.args.variables.now c.args.arrays.now (known_row c.args.known) c.args.arguments.now c.equally_long.result
-    (ap (λ ss. meaning.have_shapes ss (map (argument_view c.args.variables.now c.args.arrays.now) c.args.arguments.now)) (sym c.shapes.ensures) ∙ sym c.have_shapes.ensures ∙ c.if-have_shapes.true)
+    fits_if_long c.args.cited.now.variables.now c.args.cited.now.arrays.now (known_row c.args.known) c.args.arguments.now c.equally_long.result
+    (ap (λ ss. meaning.have_shapes ss (map (argument_view c.args.cited.now.variables.now c.args.cited.now.arrays.now) c.args.arguments.now)) (sym c.shapes.ensures) ∙ sym c.have_shapes.ensures ∙ c.if-have_shapes.true)
     (sym c.equal_lengths.ensures ∙ c.if-not-equal_lengths.false) c.equally_long.ensures
