@@ -60,12 +60,18 @@ fn definitions_give_their_other_side(rt: HostRuntime) -> Result<(), Fail> {
 #[test]
 fn rows_give_their_results(rt: HostRuntime) -> Result<(), Fail> {
     let alloc = rt.alloc();
-    assert_eq!(rt; left(alloc, b"int_plus(2, 3, x) :: defines_var(x)")?, Some(5));
+    assert_eq!(rt;
+        left(alloc, b"int_plus(2, 3, x) :: defines_var(x)")?,
+        Some(5)
+    );
     assert_eq!(rt; left(alloc, b"int_plus(2, 3, x)")?, None);
     assert_eq!(rt; left(alloc, b"int_plus(x, 3, 5) :: defines_var(x)")?, None);
     assert_eq!(rt; left(alloc, b"int_eq(x, x) :: defines_var(x)")?, None);
     assert_eq!(rt;
-        left(alloc, b"int_times(9223372036854775807, 2, x) :: defines_var(x)")?,
+        left(
+            alloc,
+            b"int_times(9223372036854775807, 2, x) :: defines_var(x)"
+        )?,
         None
     );
     Ok(())
