@@ -1,5 +1,5 @@
 -- Only private functions use these: values taken into a partial assignment one after another, and what is asked of one scalar.
-use Rattle.std.specs.Prelude.{◌≡◌, ℕ, suc, ◌<◌, ◌≤◌, Bool, false, true, cond, ◌&&◌, is_none, List, [], ◌∷◌, Option, None, Some, slice_get, ⊤}
+use Rattle.std.specs.Prelude.{ℕ, ◌<◌, Bool, false, true, cond, ◌&&◌, is_none, List, [], ◌∷◌, Option, None, Some, ⊤}
 use Rattle.std.specs.Option.{option_map_or}
 use Rattle.fz_base.specs.declared.value.Value.{Value}
 use Rattle.fz_model.specs.declared.State.{State}
@@ -10,8 +10,7 @@ use Rattle.fz_model.specs.declared.What.{What}
 use Rattle.fz_model.specs.declared.What.TheVariants as whats
 use Rattle.fz_model.specs.Names.{literal_value}
 use Rattle.fz_model.specs.Values.{same_value}
-use Rattle.fz_model.specs.Meaning.{Model, Partial, Point, PointName, give, value, value_at, find_name, points}
-use Rattle.fz_model.specs.Steps.{Gives, GivesNothing}
+use Rattle.fz_model.specs.Meaning.{Model, Partial, PointName, give, value, value_at, find_name}
 use Rattle.fz_syntax.specs.Places.{IsSpanWithin}
 use Rattle.fz_verdict.specs.Blocks.{Printed, PrintedValue, printed_values, moved}
 use Rattle.fz_verdict.specs.Blocks.PrintedValue.{OneValue, ArrayOf}
