@@ -1,5 +1,5 @@
 -- Only private functions use these: values taken into a partial assignment one after another, and what is asked of one scalar.
-use Rattle.std.specs.Prelude.{◌≡◌, ℕ, suc, ◌<◌, ◌≤◌, Bool, false, true, cond, ◌&&◌, is_none, List, [], ◌∷◌, Option, None, Some, slice_get, ⊤}
+use Rattle.std.specs.Prelude.{ℕ, ◌<◌, Bool, false, true, cond, ◌&&◌, is_none, List, [], ◌∷◌, Option, None, Some, ⊤}
 use Rattle.std.specs.Option.{option_map_or}
 use Rattle.fz_base.specs.declared.value.Value.{Value}
 use Rattle.fz_model.specs.declared.State.{State}
@@ -10,8 +10,7 @@ use Rattle.fz_model.specs.declared.What.{What}
 use Rattle.fz_model.specs.declared.What.TheVariants as whats
 use Rattle.fz_model.specs.Names.{literal_value}
 use Rattle.fz_model.specs.Values.{same_value}
-use Rattle.fz_model.specs.Meaning.{Model, Partial, Point, PointName, give, value, value_at, find_name, points}
-use Rattle.fz_model.specs.Steps.{Gives, GivesNothing}
+use Rattle.fz_model.specs.Meaning.{Model, Partial, PointName, give, value, value_at, find_name}
 use Rattle.fz_syntax.specs.Places.{IsSpanWithin}
 use Rattle.fz_verdict.specs.Blocks.{Printed, PrintedValue, printed_values, moved}
 use Rattle.fz_verdict.specs.Blocks.PrintedValue.{OneValue, ArrayOf}
@@ -54,25 +53,6 @@ element_pairs ts (ArrayOf is ls) = pairs ts (printed_values ls)
 -- the scalars that an item prints
 abbrev pub item_scalars : Model → Printed → List (Term × Value)
 item_scalars m i = option_map_or (λ p. pairs_at p i.value) (find_name m i.name.text) []
-
--- ---- steps
-
--- the points with these numbers give nothing
-abbrev pub NoneGives : Model → Partial → ℕ → ℕ → Type 0
-NoneGives m K from to = (j : ℕ) (p : Point) → from ≤ j → j < to → slice_get (points m) j ≡ Some p → GivesNothing m K p
-
--- The point of the number gives the variable the value, and those from a number up to it give nothing.
-pub record IsStepAhead (m : Model) (K : Partial) (from to k n : ℕ) (v : Value) : Type 0 where
-  pub ahead : from ≤ k
-  pub below : k < to
-  pub none_before : NoneGives m K from k
-  pub gives : (p : Point) → slice_get (points m) k ≡ Some p → Gives m K p n v
-
--- how many variables have no value
-abbrev pub unset_count : Partial → ℕ
-unset_count [] = 0
-unset_count (None ∷ K) = suc (unset_count K)
-unset_count (Some v ∷ K) = unset_count K
 
 -- ---- the verdict
 

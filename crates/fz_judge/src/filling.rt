@@ -12,8 +12,8 @@ ghost use Rattle.fz_judge.specs.Working.{IsPlacedWithin, moved_error};
 
 use crate::error::BlockError;
 use crate::start::start;
-use crate::steps::fill_in;
 use fz_base::Span;
+use fz_filling::fill_in;
 use fz_model::{Model, Partial};
 use fz_stream::Block;
 use std::alloc::Global;
@@ -41,8 +41,8 @@ fn moved_error(error: BlockError, offset: usize) -> BlockError
     }
 }
 
-/// The values that follow from the printed ones by forced steps. It goes over the printed items once, and then over the points, one
-/// round after another, until no point gives a step or each variable has a value.
+/// The values that follow from the printed ones by forced steps. It goes over the printed items once, and then over the points, where one
+/// is looked at again only as a variable that it waits for has got a value.
 ///
 /// # Errors
 ///

@@ -9,7 +9,6 @@ mod judge;
 mod points;
 mod printed;
 mod start;
-mod steps;
 mod values;
 mod verdict;
 

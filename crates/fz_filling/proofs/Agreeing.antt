@@ -1,0 +1,131 @@
+-- What a point gives rests on the values of its own scalars alone.
+use Rattle.std.proofs.Common.{◌≡◌, ℕ, suc, zero, pos, negsuc, cond, List, [], ◌∷◌, ◌++◌, length, Option, Some, None, refl, sym, ap, subst, subst₂, ◌∙◌, option_map, option_and_then, slice_get, is_none, flat_map, IsSomeAnd, IfSome, IsFalse, IsTrue, arith, ◌&&◌, ◌⊎◌, inl, inr}
+use Rattle.std.specs.List.{AllByRecursion}
+use Rattle.fz_base.specs.declared.value.Value.{Value}
+use Rattle.fz_base.specs.declared.value.Value.TheVariants.{Int}
+use Rattle.fz_model.specs.Builtins.{ArgValue, Row, Result, leaves_128}
+use Rattle.fz_model.specs.Builtins.ArgValue.{OneValue, ManyValues}
+use Rattle.fz_model.specs.Builtins.Result.{NoResult, Places, UnitTerm}
+use Rattle.fz_model.specs.declared.Term.{Term}
+use Rattle.fz_model.specs.declared.Term.TheVariants.{Var, Fixed}
+use Rattle.fz_model.specs.Meaning.{Argument, Model, Posted, Point, Partial, value, values, value_at, give, option_cons, terms_in, argument_value, argument_values, row_of, row_holds, HoldsUnder, inside, as_int, number_at, product_before, known_products, sums_leave}
+use Rattle.fz_model.specs.Meaning.Place.{Scalar, Array}
+use Rattle.fz_model.specs.Meaning.Argument.{One, ListOf}
+use Rattle.fz_model.specs.Meaning.Point.{DomainPoint, DefinitionPoint, ArrayPoint, ConstraintPoint}
+use Rattle.fz_model.specs.Steps.{Gives, GivesNothing, IsResult, IsTarget, SumsFit, HasUnitCoefficient, terms_at_argument, terms_of, open_terms}
+use Rattle.fz_filling.specs.Outlooks.{Agree}
+
+pub all_left : {A : Type 0} (P : A → Type 0) (xs ys : List A) → AllByRecursion P (xs ++ ys) → AllByRecursion P xs
+all_left P [] ys h = tt
+all_left P (x ∷ xs) ys h = (h.0, all_left P xs ys h.1)
+
+pub all_right : {A : Type 0} (P : A → Type 0) (xs ys : List A) → AllByRecursion P (xs ++ ys) → AllByRecursion P ys
+all_right P [] ys h = h
+all_right P (x ∷ xs) ys h = all_right P xs ys h.1
+
+-- ---- values
+
+module _ (K L : Partial) where
+  pub values_agree : (ts : List Term) → Agree K L ts → values K ts ≡ values L ts
+  values_agree [] h = refl
+  values_agree (t ∷ ts) h = λ i. option_cons (h.0 i) (values_agree ts h.1 i)
+
+  pub open_agree : (ts : List Term) → Agree K L ts → open_terms K ts ≡ open_terms L ts
+  open_agree [] h = refl
+  open_agree (t ∷ ts) h = λ i. cond (is_none (h.0 i)) (t ∷ open_agree ts h.1 i) (open_agree ts h.1 i)
+
+  agrees_at : (ts : List Term) (i : ℕ) (t : Term) → Agree K L ts → slice_get ts i ≡ Some t → value K t ≡ value L t
+  agrees_at [] i t h e = cc
+  agrees_at (u ∷ ts) zero t h e = let same : u ≡ t = cc in subst (λ z. value K z ≡ value L z) same h.0
+  agrees_at (u ∷ ts) (suc i) t h e = agrees_at ts i t h.1 e
+
+  left_part : (xs ys : List Term) → Agree K L (xs ++ ys) → Agree K L xs
+  left_part xs ys h = all_left (λ t. value K t ≡ value L t) xs ys h
+
+  right_part : (xs ys : List Term) → Agree K L (xs ++ ys) → Agree K L ys
+  right_part xs ys h = all_right (λ t. value K t ≡ value L t) xs ys h
+
+  argument_agrees : (x : Argument) → Agree K L (terms_in x) → argument_value K x ≡ argument_value L x
+  argument_agrees (One (Scalar k t)) h = ap (option_map OneValue) h.0
+  argument_agrees (One (Array name k ts)) h = ap (option_map ManyValues) (values_agree ts h)
+  argument_agrees (ListOf ps) h = ap (option_map ManyValues) (values_agree (terms_in (ListOf ps)) h)
+
+  arguments_agree : (xs : List Argument) → Agree K L (flat_map terms_in xs) → argument_values K xs ≡ argument_values L xs
+  arguments_agree [] h = refl
+  arguments_agree (x ∷ xs) h = λ i. option_cons (argument_agrees x (left_part (terms_in x) (flat_map terms_in xs) h) i) (arguments_agree xs (right_part (terms_in x) (flat_map terms_in xs) h) i)
+
+  products_agree : (as' bs : List Term) → Agree K L as' → Agree K L bs → known_products K as' bs ≡ known_products L as' bs
+  products_agree [] bs g h = refl
+  products_agree (a ∷ as') [] g h = refl
+  products_agree (a ∷ as') (b ∷ bs) g h = λ i. product_before (option_and_then as_int (g.0 i)) (option_and_then as_int (h.0 i)) (products_agree as' bs g.1 h.1 i)
+
+  sums_agree : (xs : List Argument) → Agree K L (flat_map terms_in xs) → sums_leave K xs ≡ sums_leave L xs
+  sums_agree [] h = refl
+  sums_agree (x ∷ []) h = refl
+  sums_agree (x ∷ y ∷ zs) h =
+      let rest : Agree K L (terms_in y ++ flat_map terms_in zs) = right_part (terms_in x) (flat_map terms_in (y ∷ zs)) h in
+      ap leaves_128 (products_agree (terms_in x) (terms_in y) (left_part (terms_in x) (flat_map terms_in (y ∷ zs)) h) (left_part (terms_in y) (flat_map terms_in zs) rest))
+
+  -- ---- the parts of a step
+
+  first_argument : (xs : List Argument) → Agree K L (flat_map terms_in xs) → Agree K L (terms_at_argument xs 0)
+  first_argument [] h = tt
+  first_argument (x ∷ xs) h = left_part (terms_in x) (flat_map terms_in xs) h
+
+  unit_agrees : (xs : List Argument) (n : ℕ) → Agree K L (flat_map terms_in xs) → HasUnitCoefficient K xs n → HasUnitCoefficient L xs n
+  unit_agrees xs n h (i, stands, u, beside, is_unit) =
+      (i, stands, u, beside, subst (λ o. (o ≡ Some (Int (pos 1))) ⊎ (o ≡ Some (Int (negsuc 0)))) (agrees_at (terms_at_argument xs 0) i u (first_argument xs h) beside) is_unit)
+
+  result_agrees : (xs : List Argument) (n : ℕ) (r : Result) → Agree K L (flat_map terms_in xs) → IsResult K xs n r → IsResult L xs n r
+  result_agrees xs n NoResult h is = is
+  result_agrees xs n (Places ks) h is = is
+  result_agrees xs n UnitTerm h is = unit_agrees xs n h is
+
+  target_agrees : (p : Point) (n : ℕ) → Agree K L (terms_of p) → IsTarget K p n → IsTarget L p n
+  target_agrees (DomainPoint x k) n h t = t
+  target_agrees (DefinitionPoint x k e) n h t = t
+  target_agrees (ArrayPoint name d ts) n h t = t
+  target_agrees (ConstraintPoint k p) n h (named, is) = (named, by_row (row_of p) is)
+    where
+      by_row : (o : Option Row) → IsSomeAnd o (λ r. IsResult K p.arguments n r.result) → IsSomeAnd o (λ r. IsResult L p.arguments n r.result)
+      by_row None is = is
+      by_row (Some r) is = result_agrees p.arguments n r.result h is
+
+  sums_fit_agree : (p : Point) → Agree K L (terms_of p) → SumsFit K p → SumsFit L p
+  sums_fit_agree (DomainPoint x k) h s = tt
+  sums_fit_agree (DefinitionPoint x k e) h s = tt
+  sums_fit_agree (ArrayPoint name d ts) h s = tt
+  sums_fit_agree (ConstraintPoint k p) h s = subst (λ b. IfSome (row_of p) (λ r. IsFalse (r.sums_in_128 && b))) (sums_agree p.arguments h) s
+
+  holds_agrees : (p : Point) → Agree K L (terms_of p) → HoldsUnder K p → HoldsUnder L p
+  holds_agrees (DomainPoint x k) h q = subst (λ o. IsSomeAnd o (λ v. IsTrue (inside x.domain v))) h.0 q
+  holds_agrees (DefinitionPoint x k e) h q = subst₂ (λ o r. IsSomeAnd o (λ v. IsSomeAnd r (λ w. v ≡ w))) h.0 h.1.0 q
+  holds_agrees (ArrayPoint name d ts) h q = subst (λ o. IsSomeAnd o (λ vs. AllByRecursion (λ v. IsTrue (inside d v)) vs)) (values_agree ts h) q
+  holds_agrees (ConstraintPoint k p) h q = subst (λ o. IsSomeAnd (row_of p) (λ r. IsSomeAnd o (λ vs. IsTrue (row_holds r vs)))) (arguments_agree p.arguments h) q
+
+-- ---- one more value
+
+given_at : (K L : Partial) (n k : ℕ) (v : Value) → length K ≡ length L → value_at K k ≡ value_at L k → value_at (give K n v) k ≡ value_at (give L n v) k
+given_at [] [] n k v as_many e = refl
+given_at [] (p ∷ L) n k v as_many e = absurd (omega arith)
+given_at (o ∷ K) [] n k v as_many e = absurd (omega arith)
+given_at (o ∷ K) (p ∷ L) zero zero v as_many e = refl
+given_at (o ∷ K) (p ∷ L) zero (suc k) v as_many e = e
+given_at (o ∷ K) (p ∷ L) (suc n) zero v as_many e = e
+given_at (o ∷ K) (p ∷ L) (suc n) (suc k) v as_many e = given_at K L n k v (omega arith) e
+
+given_agree : (K L : Partial) (n : ℕ) (v : Value) → length K ≡ length L → (ts : List Term) → Agree K L ts → Agree (give K n v) (give L n v) ts
+given_agree K L n v as_many [] h = tt
+given_agree K L n v as_many (Var k ∷ ts) h = (given_at K L n k v as_many h.0, given_agree K L n v as_many ts h.1)
+given_agree K L n v as_many (Fixed w ∷ ts) h = (refl, given_agree K L n v as_many ts h.1)
+
+-- What a point gives it gives wherever its scalars have the same values.
+pub gives_agree : (m : Model) (K L : Partial) (p : Point) (n : ℕ) (v : Value) → length K ≡ length L → Agree K L (terms_of p) → Gives m K p n v → Gives m L p n v
+gives_agree m K L p n v as_many h g = record {
+  target = target_agrees K L p n h g.target;
+  only_open = sym (open_agree K L (terms_of p) h) ∙ g.only_open;
+  of_kind = g.of_kind;
+  within_limits = g.within_limits;
+  sums_fit = sums_fit_agree K L p h g.sums_fit;
+  then_holds = holds_agrees (give K n v) (give L n v) p (given_agree K L n v as_many (terms_of p) h) g.then_holds;
+}

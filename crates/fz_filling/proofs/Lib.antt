@@ -1,0 +1,5 @@
+pub mod Agreeing
+pub mod Waiting
+pub mod Keeping
+pub mod Searching
+pub mod Stepping

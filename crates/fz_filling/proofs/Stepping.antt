@@ -1,0 +1,122 @@
+-- The chain of the filling: the first step, and the end where each variable has a value.
+use Rattle.std.proofs.Common.{◌≡◌, ℕ, zero, suc, ◌<◌, ◌≤◌, ◌⊎◌, inl, inr, List, [], ◌∷◌, length, Option, Some, None, slice_get, IfSome, IfOk, Result, Ok, Err, option_map, refl, sym, ap, subst, arith}
+use Rattle.std.specs.List.{AllByRecursion}
+use Rattle.fz_base.specs.declared.value.Value.{Value}
+use Rattle.fz_model.specs.declared.Kind.{Kind}
+use Rattle.fz_model.specs.Meaning.{Model, Point, Partial, Variable, FitVariables, give, value_at, variables_of, points, IsPartial}
+use Rattle.fz_model.specs.Steps.{GivesNothing, kind_at, terms_of}
+use Rattle.fz_model.specs.Values.{kind_of}
+use Rattle.fz_model.proofs.Steps.{only_open_none}
+use Rattle.fz_verdict.specs.Filling.{IsFirstStep}
+use Rattle.fz_verdict.proofs.Loops.{first_ahead, first_wrapped, none_gives}
+use Rattle.fz_filling.specs.Stepping.{NoneGives, IsStepAhead, unset_count}
+
+-- ---- the values of a partial assignment
+
+-- there is an element at each number in range
+pub there_is : {A : Type 0} (xs : List A) (k : ℕ) → k < length xs → (x : A) × (slice_get xs k ≡ Some x)
+there_is [] k h = absurd (omega arith)
+there_is (x ∷ xs) zero h = (x, refl)
+there_is (x ∷ xs) (suc k) h = there_is xs k (omega arith)
+
+fits_length : (xs : List Variable) (K : Partial) → FitVariables xs K → length K ≡ length xs
+fits_length [] [] h = refl
+fits_length [] (o ∷ K) h = absurd h
+fits_length (x ∷ xs) [] h = absurd h
+fits_length (x ∷ xs) (o ∷ K) h = ap suc (fits_length xs K h.1)
+
+give_fits : (xs : List Variable) (K : Partial) (n : ℕ) (v : Value) → FitVariables xs K → option_map (λ x. x.kind) (slice_get xs n) ≡ Some (kind_of v) → FitVariables xs (give K n v)
+give_fits [] [] n v h e = cc
+give_fits [] (o ∷ K) n v h e = absurd h
+give_fits (x ∷ xs) [] n v h e = absurd h
+give_fits (x ∷ xs) (o ∷ K) zero v h e = let same : kind_of v ≡ x.kind = cc in (same, h.1)
+give_fits (x ∷ xs) (o ∷ K) (suc n) v h e = (h.0, give_fits xs K n v h.1 e)
+
+in_list : (xs : List Variable) (n : ℕ) (k : Kind) → option_map (λ x. x.kind) (slice_get xs n) ≡ Some k → n < length xs
+in_list [] n k e = cc
+in_list (x ∷ xs) zero k e = omega arith
+in_list (x ∷ xs) (suc n) k e = let below : n < length xs = in_list xs n k e in omega arith
+
+number_within : (m : Model) (K : Partial) (n : ℕ) (k : Kind) → IsPartial m K → kind_at m n ≡ Some k → n < length K
+number_within m K n k h e = let long : length K ≡ length (variables_of m) = fits_length (variables_of m) K h in let below : n < length (variables_of m) = in_list (variables_of m) n k e in omega arith
+
+-- ---- the points from a number up to another
+
+in_range : {A : Type 0} (xs : List A) (j : ℕ) (x : A) → slice_get xs j ≡ Some x → j < length xs
+in_range [] j x e = cc
+in_range (y ∷ xs) zero x e = omega arith
+in_range (y ∷ xs) (suc j) x e = let below : j < length xs = in_range xs j x e in omega arith
+
+-- a step from the number on up to the last point is the first one
+pub ahead_is_first : (m : Model) (K : Partial) (from to k n : ℕ) (v : Value) → to ≡ length (points m) → IsStepAhead m K from to k n v → IsFirstStep m K from k n v
+ahead_is_first m K from to k n v all s =
+    let within : k < length (points m) = subst (λ z. k < z) all s.below in
+    let (p, at) = there_is (points m) k within in
+    first_ahead m K from k n v p s.ahead at s.none_before (s.gives p at)
+
+-- and where there is none, one before the number is
+pub wrapped_is_first : (m : Model) (K : Partial) (from to k n : ℕ) (v : Value) → to ≡ length (points m) → from ≤ length (points m) → NoneGives m K from to → IsStepAhead m K 0 from k n v → IsFirstStep m K from k n v
+wrapped_is_first m K from to k n v all inside none s =
+    let below : k < from = s.below in
+    let within : k < length (points m) = omega arith in
+    let (p, at) = there_is (points m) k within in
+    first_wrapped m K from k n v p s.below at (λ j q above at'. let short : j < length (points m) = in_range (points m) j q at' in none j q above (subst (λ z. j < z) (sym all) short) at') s.none_before (s.gives p at)
+
+-- where there is none from the number on and none before it, no point gives a step
+pub no_first : (m : Model) (K : Partial) (from to : ℕ) → to ≡ length (points m) → NoneGives m K from to → NoneGives m K 0 from → AllByRecursion (GivesNothing m K) (points m)
+no_first m K from to all after before = none_gives m K (λ j p above below at. by_number j p (split j from) below at)
+  where
+    split : (j k : ℕ) → (j < k) ⊎ (k ≤ j)
+    split zero zero = inr (omega arith)
+    split zero (suc k) = inl (omega arith)
+    split (suc j) zero = inr (omega arith)
+    split (suc j) (suc k) = elim (split j k) [ inl l ↦ inl (omega arith) | inr l ↦ inr (omega arith) ]
+
+    by_number : (j : ℕ) (p : Point) → (j < from) ⊎ (from ≤ j) → j < length (points m) → slice_get (points m) j ≡ Some p → GivesNothing m K p
+    by_number j p (inl l) below at = before j p (omega arith) l at
+    by_number j p (inr l) below at = after j p l (subst (λ z. j < z) (sym all) below) at
+
+-- ---- a step
+
+pub step_unset : (m : Model) (K : Partial) (from k n : ℕ) (v : Value) → IsFirstStep m K from k n v → value_at K n ≡ None
+step_unset m K from k n v s = only_open_none K n (terms_of s.point) s.gives.only_open
+
+pub step_within : (m : Model) (K : Partial) (from k n : ℕ) (v : Value) → IsPartial m K → IsFirstStep m K from k n v → n < length K
+step_within m K from k n v fits s = number_within m K n (kind_of v) fits s.gives.of_kind
+
+pub step_fits : (m : Model) (K : Partial) (from k n : ℕ) (v : Value) → IsPartial m K → IsFirstStep m K from k n v → IsPartial m (give K n v)
+step_fits m K from k n v fits s = give_fits (variables_of m) K n v fits s.gives.of_kind
+
+-- ---- variables without a value
+
+pub one_less : (K : Partial) (n : ℕ) (v : Value) → n < length K → value_at K n ≡ None → unset_count K ≡ suc (unset_count (give K n v))
+one_less [] n v h e = absurd (omega arith)
+one_less (None ∷ K) zero v h e = refl
+one_less (Some u ∷ K) zero v h e = cc
+one_less (None ∷ K) (suc n) v h e = ap suc (one_less K n v (omega arith) e)
+one_less (Some u ∷ K) (suc n) v h e = one_less K n v (omega arith) e
+
+all_set : (K : Partial) (n : ℕ) → n < length K → value_at K n ≡ None → unset_count K ≡ 0 → ⊥
+all_set [] n h e none = omega arith
+all_set (None ∷ K) n h e none = cc
+all_set (Some u ∷ K) zero h e none = cc
+all_set (Some u ∷ K) (suc n) h e none = all_set K n (omega arith) e none
+
+-- where each variable has a value, no point gives a step
+pub nothing_left : (m : Model) (K : Partial) → IsPartial m K → unset_count K ≡ 0 → AllByRecursion (GivesNothing m K) (points m)
+nothing_left m K fits none = each (points m)
+  where
+    gives_nothing : (p : Point) → GivesNothing m K p
+    gives_nothing p n v g = all_set K n (number_within m K n (kind_of v) fits g.of_kind) (only_open_none K n (terms_of p) g.only_open) none
+
+    each : (ps : List Point) → AllByRecursion (GivesNothing m K) ps
+    each [] = tt
+    each (p ∷ ps) = (gives_nothing p, each ps)
+
+pub at_some : {A : Type 0} (P : A → Type 0) (o : Option A) (x : A) → o ≡ Some x → IfSome o P → P x
+at_some P o x e h = subst (λ p. IfSome p P) e h
+
+-- what follows from what is said of a result
+pub ok_then : {T E : Type 0} (r : Result T E) {P Q : T → Type 0} → IfOk r P → ((x : T) → P x → Q x) → IfOk r Q
+ok_then (Ok x) h f = f x h
+ok_then (Err e) h f = tt

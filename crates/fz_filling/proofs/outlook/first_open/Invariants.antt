@@ -1,0 +1,7 @@
+use Rattle.std.proofs.Common.{◌≡◌, drop}
+use Rattle.fz_model.specs.Meaning.{first_some}
+use Rattle.fz_filling.specs.Outlooks.{first_other, open_other, terms_given, terms_kept}
+use Rattle.fz_filling.proofs.outlook.first_open.Given as goal
+
+abbrev pub invariant-loop-argument : goal.invariant-loop-argument
+invariant-loop-argument l = first_some (λ a. first_other l.partial l.target (terms_given l.arrays a)) l.arguments ≡ first_some (λ a. first_other l.partial l.target (terms_given l.arrays a)) (drop l.argument-index l.arguments)

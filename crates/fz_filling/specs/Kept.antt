@@ -1,0 +1,77 @@
+-- Which points are to be looked at, and which wait for a variable. Only private functions use these.
+use Rattle.std.specs.Prelude.{◌≡◌, ℕ, ◌<◌, ◌≤◌, List, [], ◌∷◌, length, Option, Some, slice_get, slice_set, slice_index, Vec, ◌⊎◌}
+use Rattle.std.specs.Option.{option_map_or}
+use Rattle.std.specs.declared.alloc.Global.{Global}
+use Rattle.fz_model.specs.Meaning.{Model, Partial, Point, points}
+use Rattle.fz_model.specs.Steps.{GivesNothing}
+use Rattle.fz_filling.specs.Outlooks.{IsLater, IsOpen}
+use Rattle.fz_filling.specs.declared.outlook.Waiting.{Waiting}
+use Rattle.fz_filling.specs.declared.outlook.Waiting.TheVariants.{Forever, For, ForEither}
+use Rattle.fz_filling.specs.declared.watch.Watch.{Watch}
+
+-- the point of the number is to be looked at
+abbrev pub IsPending : List ℕ → ℕ → Type 0
+IsPending pending k = slice_index pending k ≡ 1
+
+-- the points that wait for a variable
+abbrev pub watched : List (Vec ℕ Global) → ℕ → List ℕ
+watched watchers n = option_map_or (λ v. v.items) (slice_get watchers n) []
+
+-- the point waits for the variable
+abbrev pub WaitsFor : List (Vec ℕ Global) → ℕ → ℕ → Type 0
+WaitsFor watchers n k = (i : ℕ) × (slice_get (watched watchers n) i ≡ Some k)
+
+-- ---- changes
+
+-- these points are to be looked at too
+abbrev pub marked : List ℕ → List ℕ → List ℕ
+marked pending [] = pending
+marked pending (k ∷ ks) = marked (slice_set pending k 1) ks
+
+-- the point waits for the variable too, and nothing else changes
+pub record WaitsToo (before after : List (Vec ℕ Global)) (n k : ℕ) : Type 0 where
+  pub as_many : length after ≡ length before
+  pub keeps : (j i : ℕ) → WaitsFor before j i → WaitsFor after j i
+  pub no_more : (j i : ℕ) → WaitsFor after j i → WaitsFor before j i ⊎ ((j ≡ n) × (i ≡ k))
+  pub waits : n < length before → WaitsFor after n k
+
+-- no point waits for the variable any more, and nothing else changes
+pub record IsLeft (before after : List (Vec ℕ Global)) (n : ℕ) : Type 0 where
+  pub as_many : length after ≡ length before
+  pub none_waits : watched after n ≡ []
+  pub others : (j : ℕ) → (j ≡ n → ⊥) → watched after j ≡ watched before j
+
+-- what is waited for
+abbrev pub IsAwaited : Waiting → ℕ → Type 0
+IsAwaited Forever n = ⊥
+IsAwaited (For a) n = n ≡ a
+IsAwaited (ForEither a b) n = (n ≡ a) ⊎ (n ≡ b)
+
+-- the point waits, and is not to be looked at
+pub record IsSettled (before after : Watch) (k : ℕ) (w : Waiting) : Type 0 where
+  pub pending : after.pending.items ≡ slice_set before.pending.items k 0
+  pub as_many : length after.watchers.items ≡ length before.watchers.items
+  pub keeps : (j i : ℕ) → WaitsFor before.watchers.items j i → WaitsFor after.watchers.items j i
+  pub no_more : (j i : ℕ) → WaitsFor after.watchers.items j i → WaitsFor before.watchers.items j i ⊎ ((i ≡ k) × IsAwaited w j)
+  pub waits : (j : ℕ) → IsAwaited w j → j < length before.watchers.items → WaitsFor after.watchers.items j k
+
+-- ---- what is kept through a filling
+
+-- Points wait for variables without a value alone; and a point that is not to be looked at gives nothing under any later values, as long
+-- as no variable that it waits for has one.
+pub record IsKept (m : Model) (K : Partial) (w : Watch) : Type 0 where
+  pub each_point : length w.pending.items ≡ length (points m)
+  pub each_variable : length w.watchers.items ≡ length K
+  pub are_open : (n k : ℕ) → WaitsFor w.watchers.items n k → IsOpen K n
+  pub asleep : (k : ℕ) (p : Point) → slice_get (points m) k ≡ Some p → (IsPending w.pending.items k → ⊥)
+      → (L : Partial) → IsLater K L → ((n : ℕ) → WaitsFor w.watchers.items n k → IsOpen L n) → GivesNothing m L p
+
+-- the first that is to be looked at of the points from a number up to another
+pub record IsNext (pending : List ℕ) (from to k : ℕ) : Type 0 where
+  pub ahead : from ≤ k
+  pub below : k < to
+  pub is_pending : IsPending pending k
+  pub none_before : (j : ℕ) → from ≤ j → j < k → IsPending pending j → ⊥
+
+abbrev pub NoneIsPending : List ℕ → ℕ → ℕ → Type 0
+NoneIsPending pending from to = (j : ℕ) → from ≤ j → j < to → IsPending pending j → ⊥

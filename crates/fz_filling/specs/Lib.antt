@@ -1,0 +1,3 @@
+pub mod Outlooks
+pub mod Kept
+pub mod Stepping

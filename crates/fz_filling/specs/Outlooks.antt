@@ -1,0 +1,70 @@
+-- What a point gives later, and the scalars without a value that it waits for. Only private functions use these.
+use Rattle.std.specs.Prelude.{◌≡◌, ℕ, cond, ◌==◌, is_none, List, [], ◌∷◌, length, Option, None, Some, slice_get, flat_map}
+use Rattle.std.specs.List.{AllByRecursion}
+use Rattle.std.specs.Option.{option_map_or}
+use Rattle.fz_model.specs.declared.Term.{Term}
+use Rattle.fz_model.specs.declared.Term.TheVariants.{Var, Fixed}
+use Rattle.fz_model.specs.declared.Array.{Array}
+use Rattle.fz_model.specs.declared.Place.{Place}
+use Rattle.fz_model.specs.declared.Place.TheVariants as places
+use Rattle.fz_model.specs.declared.Argument.{Argument}
+use Rattle.fz_model.specs.declared.Argument.TheVariants as arguments
+use Rattle.fz_model.specs.Meaning.{Model, Partial, Point, value, value_at, first_some}
+use Rattle.fz_model.specs.Steps.{GivesNothing}
+use Rattle.fz_verdict.specs.Filling.{HasAllOf}
+use Rattle.fz_filling.specs.declared.outlook.Outlook.{Outlook}
+use Rattle.fz_filling.specs.declared.outlook.Outlook.TheVariants.{Waits, Asks}
+use Rattle.fz_filling.specs.declared.outlook.Waiting.{Waiting}
+use Rattle.fz_filling.specs.declared.outlook.Waiting.TheVariants.{Forever, For, ForEither}
+
+-- ---- scalars without a value
+
+abbrev pub IsOpen : Partial → ℕ → Type 0
+IsOpen K n = value_at K n ≡ None
+
+-- the variable of a scalar that has no value
+abbrev pub open_variable : Partial → Term → Option ℕ
+open_variable K (Var k) = cond (is_none (value_at K k)) (Some k) None
+open_variable K (Fixed v) = None
+
+-- the same, where it is another one than this
+abbrev pub open_other : Partial → ℕ → Term → Option ℕ
+open_other K n (Var k) = cond (k == n) None (open_variable K (Var k))
+open_other K n (Fixed v) = None
+
+-- the first of them
+abbrev pub first_other : Partial → ℕ → List Term → Option ℕ
+first_other K n ts = first_some (open_other K n) ts
+
+-- the scalars of an argument as it is kept
+abbrev pub terms_kept : List Array → Place → List Term
+terms_kept xs (places.Scalar t) = t ∷ []
+terms_kept xs (places.Array x) = option_map_or (λ a. a.elements.items) (slice_get xs x.number) []
+
+abbrev pub terms_given : List Array → Argument → List Term
+terms_given xs (arguments.One p) = terms_kept xs p
+terms_given xs (arguments.List ps) = flat_map (terms_kept xs) ps.items
+
+-- ---- later values
+
+-- the second is of as many variables, and has all values of the first
+pub record IsLater (K L : Partial) : Type 0 where
+  pub as_many : length K ≡ length L
+  pub has_all : HasAllOf K L
+
+-- the scalars have the same values under both, or none
+abbrev pub Agree : Partial → Partial → List Term → Type 0
+Agree K L ts = AllByRecursion (λ t. value K t ≡ value L t) ts
+
+-- ---- what a point gives later
+
+-- It gives nothing under any later values; or as long as a variable, or both of two, have no value.
+abbrev pub IsWaiting : Model → Partial → Point → Waiting → Type 0
+IsWaiting m K p Forever = (L : Partial) → IsLater K L → GivesNothing m L p
+IsWaiting m K p (For a) = IsOpen K a × ((L : Partial) → IsLater K L → IsOpen L a → GivesNothing m L p)
+IsWaiting m K p (ForEither a b) = IsOpen K a × IsOpen K b × ((L : Partial) → IsLater K L → IsOpen L a → IsOpen L b → GivesNothing m L p)
+
+-- It waits; or, where it gives nothing now, it waits for this variable.
+abbrev pub IsOutlook : Model → Partial → Point → Outlook → Type 0
+IsOutlook m K p (Waits w) = IsWaiting m K p w
+IsOutlook m K p (Asks a) = GivesNothing m K p → IsWaiting m K p (For a)

@@ -1,5 +1,0 @@
-use Rattle.fz_judge.specs.Working.{NoneGives}
-use Rattle.fz_judge.proofs.steps.step_between.Given as goal
-
-abbrev pub invariant-loop-point : goal.invariant-loop-point
-invariant-loop-point l = NoneGives l.model l.partial l.from l.point
