@@ -19,10 +19,10 @@ use Rattle.fz_verdict.proofs.Places.{blocks_are_bare}
 use Rattle.fz_verdict.proofs.Start.{filling_proposed}
 use Rattle.fz_judge.specs.declared.verdict.Verdict as the_verdict
 use Rattle.fz_judge.specs.View.{verdict_view}
-use Rattle.fz_check.specs.declared.report.Answer as the_answer
-use Rattle.fz_check.specs.declared.report.Answer.TheVariants as answers
+use Rattle.fz_live.specs.declared.line.Answer as the_answer
+use Rattle.fz_live.specs.declared.line.Answer.TheVariants as answers
 use Rattle.fz_check.specs.Headline.{HasSolutions, IsOfStream}
-use Rattle.fz_check.specs.View.{answer_view}
+use Rattle.fz_live.specs.View.{answer_view}
 
 -- an accepted stream has solutions
 pub accepted_solved : (model stream : List ℕ) (a : the_ast.Ast) (m : Model) → IsTextOfTree model (bare a) → HasNoFault (located a) → m ≡ model_of (located a)

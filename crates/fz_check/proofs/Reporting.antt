@@ -18,9 +18,9 @@ use Rattle.fz_verdict.proofs.Each.{each_violated, each_not_better}
 use Rattle.fz_verdict.proofs.Places.{blocks_are_bare}
 use Rattle.fz_judge.specs.declared.verdict.Verdict as the_verdict
 use Rattle.fz_judge.specs.View.{verdict_view}
-use Rattle.fz_check.specs.declared.report.Answer as the_answer
+use Rattle.fz_live.specs.declared.line.Answer as the_answer
 use Rattle.fz_check.specs.Reported.{Checked, HasReport, HasNoneWhereViolated}
-use Rattle.fz_check.specs.View.{answer_view}
+use Rattle.fz_live.specs.View.{answer_view}
 
 abbrev pub checked : (model stream : List ℕ) (a : the_ast.Ast) → IsTextOfTree model (bare a) → HasNoFault (located a)
     → (bs : List the_block.Block) (cs : List Claim) → IsReadAs stream (map block_of bs) cs → AllByRecursion HasPlaces bs → Checked model stream

@@ -7,3 +7,4 @@ pub mod Refused
 pub mod Reported
 pub mod Sought
 pub mod Lines
+pub mod Over

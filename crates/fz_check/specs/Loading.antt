@@ -8,6 +8,8 @@ use Rattle.fz_stream.specs.declared.error.StreamError.{StreamError}
 use Rattle.fz_stream.specs.declared.error.StreamError.TheVariants as stream
 use Rattle.fz_judge.specs.declared.error.BlockError.{BlockError}
 use Rattle.fz_judge.specs.declared.error.BlockError.TheVariants as block
+use Rattle.fz_live.specs.declared.error.LiveError.{LiveError}
+use Rattle.fz_live.specs.declared.error.LiveError.TheVariants as live
 use Rattle.fz_check.specs.declared.error.CheckError.{CheckError}
 use Rattle.fz_check.specs.declared.error.CheckError.TheVariants as errors
 
@@ -62,3 +64,10 @@ stream_refusal e = errors.Stream e
 abbrev pub block_refusal : ℕ → BlockError → CheckError
 block_refusal number block.Memory = errors.Memory
 block_refusal number e = errors.Block number e
+
+abbrev pub live_refusal : LiveError → CheckError
+live_refusal live.Read = errors.Read
+live_refusal live.Write = errors.Write
+live_refusal (live.Stream e) = errors.Stream e
+live_refusal (live.Block n e) = errors.Block n e
+live_refusal live.Memory = errors.Memory

@@ -11,8 +11,8 @@ use Rattle.fz_judge.specs.declared.error.BlockError.{BlockError}
 use Rattle.fz_judge.specs.declared.error.BlockError.TheVariants as block
 use Rattle.fz_check.specs.declared.error.CheckError.{CheckError}
 use Rattle.fz_check.specs.declared.error.CheckError.TheVariants as errors
-use Rattle.fz_check.specs.declared.report.Answer.{Answer}
-use Rattle.fz_check.specs.declared.report.Answer.TheVariants as answers
+use Rattle.fz_live.specs.declared.line.Answer.{Answer}
+use Rattle.fz_live.specs.declared.line.Answer.TheVariants as answers
 
 -- the name of a fault, and its place where it has one
 pub record Named : Type 0 where

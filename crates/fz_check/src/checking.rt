@@ -34,11 +34,13 @@ ghost use Rattle.fz_check.specs.Loading.{
   stream_refusal,
   text_refusal,
 };
-ghost use Rattle.fz_check.specs.View.{answer_view, report_view};
+ghost use Rattle.fz_live.specs.View.{answer_view};
+ghost use Rattle.fz_check.specs.View.{report_view};
 
 use crate::error::CheckError;
-use crate::report::{Answer, Report, answer_to};
+use crate::report::{Report, answer_to};
 use fz_judge::{BlockError, Judge, Verdict};
+use fz_live::Answer;
 use fz_model::{Model, ModelError, load};
 use fz_stream::{Block, Stream, StreamError, blocks};
 use fz_syntax::{Ast, SyntaxError, parse, to_text};
@@ -85,7 +87,7 @@ pub(crate) fn block_refusal(number: usize, error: BlockError) -> CheckError
 }
 
 /// The tree of a model's text.
-fn read_text<'a>(alloc: Global, source: &'a [u8]) -> Result<Ast<'a>, CheckError>
+pub(crate) fn read_text<'a>(alloc: Global, source: &'a [u8]) -> Result<Ast<'a>, CheckError>
     ensures found { IfOk result (λ a. IsTextOfTree source.now (bare a)) }
     ensures only { IfOk result (λ a. (t : Tree) → IsTextOfTree source.now t → t ≡ bare a) }
     ensures stands { IfOk result (λ a. Stand source.now 0 (length source.now) (spots a)) }
@@ -99,7 +101,7 @@ fn read_text<'a>(alloc: Global, source: &'a [u8]) -> Result<Ast<'a>, CheckError>
 }
 
 /// The model of a tree.
-fn load_tree<'a>(alloc: Global, ast: &Ast<'a>) -> Result<Model<'a>, CheckError>
+pub(crate) fn load_tree<'a>(alloc: Global, ast: &Ast<'a>) -> Result<Model<'a>, CheckError>
     ensures loaded { IfOk result (λ m. HasNoFault (located ast.now) × (m ≡ model_of (located ast.now))) }
     ensures names { (e : NameFault) → result ≡ Err (CheckError.Names e) → (e ≢ NameMemory) × (IsInReadingOrder (located ast.now) → TellsFirstFault (located ast.now) e) }
     ensures kinds { IfErr result IsNameRefusal }

@@ -3,15 +3,17 @@
 
 mod checking;
 mod error;
+mod live;
 mod refusal;
 mod report;
-mod text;
 
 pub use checking::{check, show};
 pub use error::CheckError;
 pub use fz_judge::{BlockError, Fault, Judge, Reason, Verdict, fill};
+pub use fz_live::Answer;
+pub use live::{check_stream, check_stream_up_to};
 pub use refusal::{refusal_text, status};
-pub use report::{Answer, Report, report_text};
+pub use report::{Report, report_text};
 
 #[cfg(test)]
 mod tests;

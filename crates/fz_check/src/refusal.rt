@@ -5,10 +5,9 @@ ghost use Rattle.fz_check.specs.Refusal.{block_fault, model_fault, named_text, r
 ghost use Rattle.fz_check.specs.Telling.{named};
 
 use crate::error::CheckError;
-use crate::report::Answer;
-use crate::text::{push_bytes, push_count};
 use fz_base::Span;
 use fz_judge::BlockError;
+use fz_live::{Answer, push_bytes, push_count};
 use fz_model::ModelError;
 use fz_stream::StreamError;
 use fz_syntax::SyntaxError;

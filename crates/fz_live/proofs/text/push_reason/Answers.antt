@@ -1,5 +1,5 @@
-use Rattle.fz_check.proofs.Pieces.{three_pieces, five_pieces}
-use Rattle.fz_check.proofs.text.push_reason.Goals as goal
+use Rattle.fz_live.proofs.Appending.{three_pieces, five_pieces}
+use Rattle.fz_live.proofs.text.push_reason.Goals as goal
 
 pub returns-in_ok-push_bytes-in-Unknown-4 : goal.returns-in_ok-push_bytes-in-Unknown-4
 returns-in_ok-push_bytes-in-Unknown-4 c =

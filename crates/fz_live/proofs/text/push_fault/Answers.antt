@@ -1,6 +1,6 @@
 use Rattle.std.proofs.Common.{rules, FitsSigned, w64, to_z-of_z}
-use Rattle.fz_check.proofs.Pieces.{two_pieces, four_pieces}
-use Rattle.fz_check.proofs.text.push_fault.Goals as goal
+use Rattle.fz_live.proofs.Appending.{two_pieces, four_pieces}
+use Rattle.fz_live.proofs.text.push_fault.Goals as goal
 
 pub returns-in_ok-push_bytes-in-Definition-2 : goal.returns-in_ok-push_bytes-in-Definition-2
 returns-in_ok-push_bytes-in-Definition-2 c = rw c.in-Definition.is (two_pieces _ _ _ _ _ c.in_ok-push_bytes-in-Definition.ensures c.in_ok-push_bytes-in-Definition-2.ensures)

@@ -1,4 +1,4 @@
-//! Texts: the pieces of a report's lines, and the line of a refusal.
+//! Texts: the pieces of a report's lines.
 
 ghost use Rattle.std.specs.Prelude.{◌≡◌, ◌++◌, codes, decimal, OnOk};
 ghost use Rattle.std.specs.Fmt.{signed_decimal};
@@ -10,14 +10,14 @@ use itoa::Buffer;
 use std::alloc::AllocError;
 
 /// Adds bytes to the end of a text.
-pub(crate) fn push_bytes(text: &mut Vec<u8>, bytes: &[u8]) -> Result<(), AllocError>
+pub fn push_bytes(text: &mut Vec<u8>, bytes: &[u8]) -> Result<(), AllocError>
     ensures { OnOk result (text.new.items ≡ text.old.items ++ bytes.now) }
 {
     text.extend_from_slice(bytes)
 }
 
 /// Adds a number in decimal to the end of a text.
-pub(crate) fn push_count(text: &mut Vec<u8>, number: usize) -> Result<(), AllocError>
+pub fn push_count(text: &mut Vec<u8>, number: usize) -> Result<(), AllocError>
     ensures { OnOk result (text.new.items ≡ text.old.items ++ decimal number) }
 {
     let mut buffer = Buffer::new();

@@ -1,0 +1,134 @@
+-- What follows of a check over a reader and a writer: an accepted stream has solutions, the report is the one as defined, and what is
+-- refused is refused against the model of the text.
+use Rattle.std.proofs.Common.{◌≡◌, ℕ, List, map, Option, Some, refl, sym, ap, ◌∙◌, subst}
+use Rattle.fz_syntax.specs.Text.{IsTextOfTree}
+use Rattle.fz_syntax.specs.View.{bare}
+use Rattle.fz_syntax.specs.declared.tree.Ast as the_ast
+use Rattle.fz_stream.specs.declared.error.StreamError.{StreamError}
+use Rattle.fz_model.specs.Meaning.{Model, IsPartial}
+use Rattle.fz_model.specs.Names.{HasNoFault, model_of}
+use Rattle.fz_model.specs.View.{located}
+use Rattle.fz_model.specs.declared.ModelError.{ModelError}
+use Rattle.fz_model.proofs.Places.{located_is_bare}
+use Rattle.fz_model.proofs.Scope.{sound_aims}
+use Rattle.fz_verdict.specs.Verdict.{IsFilled, AreVerdicts}
+use Rattle.fz_verdict.specs.Verdict.Verdict.{Violated}
+use Rattle.fz_verdict.specs.Report.{IsReport}
+use Rattle.fz_verdict.specs.View.{located_block}
+use Rattle.fz_verdict.proofs.Accepted.{accepted_solves, judged_weaker}
+use Rattle.fz_verdict.proofs.Each.{each_violated, each_not_better}
+use Rattle.fz_verdict.proofs.Start.{filling_proposed}
+use Rattle.fz_judge.specs.declared.error.BlockError.{BlockError}
+use Rattle.fz_live.specs.declared.error.LiveError.{LiveError}
+use Rattle.fz_live.specs.declared.error.LiveError.TheVariants as live
+use Rattle.fz_live.specs.declared.line.Answer as the_answer
+use Rattle.fz_live.specs.declared.line.Answer.TheVariants as answers
+use Rattle.fz_live.specs.Live.{IsAnswered}
+use Rattle.fz_live.specs.View.{answer_view}
+use Rattle.fz_check.specs.declared.error.CheckError.TheVariants as errors
+use Rattle.fz_check.specs.Headline.{HasSolutions}
+use Rattle.fz_check.specs.Loading.{live_refusal}
+use Rattle.fz_check.specs.Over.{HoldsOfModel, HoldsOfStream, IsOfModel, IsReportedTo}
+use Rattle.fz_check.specs.Reported.{Checked}
+
+module _ (model : List ℕ) (a : the_ast.Ast) (m : Model) (text : IsTextOfTree model (bare a)) (sound : HasNoFault (located a)) (is : m ≡ model_of (located a)) where
+  -- what holds of the model holds of the model of the text
+  pub holds_of_model : (P : Model → Type 0) → P m → HoldsOfModel model P
+  holds_of_model P p = record { tree = located a; text_of_model = subst (IsTextOfTree model) (sym (located_is_bare a)) text; no_fault = sound; holds = subst P is p }
+
+  module _ (left left' written written' : Option (List ℕ)) (answer : the_answer.Answer) (w : IsAnswered m left left' written written' (answer_view answer)) where
+    here : AreVerdicts (model_of (located a)) (map located_block w.blocks) w.report.verdicts
+    here = subst (λ n. AreVerdicts n (map located_block w.blocks) w.report.verdicts) is w.is_report.are_verdicts
+
+    -- an accepted stream has solutions
+    pub accepted_over : (count : ℕ) → answer ≡ answers.Accepted count → HoldsOfStream left left' (λ given. HasSolutions model given count)
+    accepted_over count accepted =
+        let (solutions, counted, some) = accepted_solves (model_of (located a)) (map located_block w.blocks) w.report.verdicts count (sound_aims (located a) sound)
+        (judged_weaker (model_of (located a)) (IsFilled (model_of (located a))) (λ b K. IsPartial (model_of (located a)) K) (λ b K filled. (filling_proposed (located a) b K sound filled).partial) here)
+        (sym w.is_report.answers ∙ sym w.answer_is ∙ ap answer_view accepted) in
+        record {
+          given = w.given;
+          reads = w.reads;
+          end = w.end;
+          holds = record {
+            tree = located a;
+            text_of_model = subst (IsTextOfTree model) (sym (located_is_bare a)) text;
+            no_fault = sound;
+            parts = w.parts;
+            text_of_stream = w.text;
+            blocks = map located_block w.blocks;
+            blocks_are = w.is_report.of_parts;
+            counted = counted;
+            at_least_one = some;
+            solutions = solutions;
+          };
+        }
+
+    abbrev checked_over : Checked model w.given
+    checked_over = record {
+      tree = located a;
+      text_of_model = subst (IsTextOfTree model) (sym (located_is_bare a)) text;
+      no_fault = sound;
+      parts = w.parts;
+      text_of_stream = w.text;
+      blocks = w.blocks;
+      blocks_are = w.blocks_are;
+      places = w.places;
+    }
+
+    -- the report is the one as defined
+    pub reported_over : HoldsOfStream left left' (λ given. IsReportedTo model given written written' (answer_view answer))
+    reported_over = record {
+      given = w.given;
+      reads = w.reads;
+      end = w.end;
+      holds = record {
+        report = w.report;
+        has_report = record { checked = checked_over; is_report = subst (λ n. IsReport n (map located_block w.blocks) w.parts w.report) is w.is_report };
+        violated = record {
+          checked = checked_over;
+          violated = λ i block f at found other. each_violated (model_of (located a)) (map located_block w.blocks) w.report.verdicts i block f here at found (λ now earlier e. other (now, earlier, e));
+          not_better = λ i block f at found (now, before, e).
+              each_not_better (model_of (located a)) (map located_block w.blocks) w.report.verdicts i block now before here at (found ∙ ap (λ g. Some (Violated g)) e);
+        };
+        writes = w.writes;
+        answer_is = w.answer_is;
+      };
+    }
+
+-- ---- which error was met
+
+pub told_names : (e : LiveError) (told : ModelError) → live_refusal e ≡ errors.Names told → ⊥
+told_names live.Read told h = cc
+told_names live.Write told h = cc
+told_names (live.Stream f) told h = cc
+told_names (live.Block n f) told h = cc
+told_names live.Memory told h = cc
+
+pub told_stream : (e : LiveError) (told : StreamError) → live_refusal e ≡ errors.Stream told → e ≡ live.Stream told
+told_stream live.Read told h = cc
+told_stream live.Write told h = cc
+told_stream (live.Stream f) told h = cc
+told_stream (live.Block n f) told h = cc
+told_stream live.Memory told h = cc
+
+pub told_block : (e : LiveError) (number : ℕ) (told : BlockError) → live_refusal e ≡ errors.Block number told → e ≡ live.Block number told
+told_block live.Read number told h = cc
+told_block live.Write number told h = cc
+told_block (live.Stream f) number told h = cc
+told_block (live.Block n f) number told h = cc
+told_block live.Memory number told h = cc
+
+pub told_read : (e : LiveError) → live_refusal e ≡ errors.Read → e ≡ live.Read
+told_read live.Read h = refl
+told_read live.Write h = cc
+told_read (live.Stream f) h = cc
+told_read (live.Block n f) h = cc
+told_read live.Memory h = cc
+
+pub never_of_model : (e : LiveError) → IsOfModel (live_refusal e) → ⊥
+never_of_model live.Read h = h
+never_of_model live.Write h = h
+never_of_model (live.Stream f) h = h
+never_of_model (live.Block n f) h = h
+never_of_model live.Memory h = h

@@ -1,0 +1,53 @@
+use Rattle.std.proofs.Common.{◌≡◌, ◌∙◌, sym, ap, subst, inr, Err}
+use Rattle.fz_check.specs.declared.error.CheckError.TheVariants as errors
+use Rattle.fz_check.proofs.OverLemmas.{holds_of_model, accepted_over, reported_over, told_names, told_stream, told_block, told_read, never_of_model}
+use Rattle.fz_check.specs.Over.{IsOfModel}
+use Rattle.fz_check.proofs.Refusals.{name_fault_on}
+use Rattle.fz_check.proofs.live.check_stream_up_to.Goals as goal
+
+pub returns-in-Err-load_tree-clause-names : goal.returns-in-Err-load_tree-clause-names
+returns-in-Err-load_tree-clause-names g c = λ e same.
+    (let told : c.in-Err-load_tree.error ≡ errors.Names e = cc in
+    name_fault_on c.args.model.now c.in-Ok.ast e c.in-Ok.ensures.found c.in-Ok.ensures.stands (c.load_tree.ensures.names e (c.in-Err-load_tree.is ∙ ap Err told)))
+
+pub returns-in-Ok-check_parts-clause-accepted : goal.returns-in-Ok-check_parts-clause-accepted
+returns-in-Ok-check_parts-clause-accepted g c =
+    accepted_over c.args.model.now c.in-Ok.ast c.in-Ok-load_tree.loaded c.in-Ok.ensures.found c.in-Ok-load_tree.ensures.loaded.0 c.in-Ok-load_tree.ensures.loaded.1 _ _ _ _ c.in-Ok-check_parts.answer c.in-Ok-check_parts.ensures.answered
+
+pub returns-in-Ok-check_parts-clause-report : goal.returns-in-Ok-check_parts-clause-report
+returns-in-Ok-check_parts-clause-report g c =
+    reported_over c.args.model.now c.in-Ok.ast c.in-Ok-load_tree.loaded c.in-Ok.ensures.found c.in-Ok-load_tree.ensures.loaded.0 c.in-Ok-load_tree.ensures.loaded.1 _ _ _ _ c.in-Ok-check_parts.answer c.in-Ok-check_parts.ensures.answered
+
+pub returns-clause-names : goal.returns-clause-names
+returns-clause-names g c = λ e same. absurd (told_names c.in-Err-check_parts.error e (sym c.live_refusal.ensures ∙ cc))
+
+pub returns-clause-stream : goal.returns-clause-stream
+returns-clause-stream g c = λ e same.
+    (let told = told_stream c.in-Err-check_parts.error e (sym c.live_refusal.ensures ∙ cc) in
+    holds_of_model c.args.model.now c.in-Ok.ast c.in-Ok-load_tree.loaded c.in-Ok.ensures.found c.in-Ok-load_tree.ensures.loaded.0 c.in-Ok-load_tree.ensures.loaded.1 _ (c.check_parts.ensures.stream e (c.in-Err-check_parts.is ∙ ap Err told)))
+
+pub returns-clause-block : goal.returns-clause-block
+returns-clause-block g c = λ n e same.
+    (let told = told_block c.in-Err-check_parts.error n e (sym c.live_refusal.ensures ∙ cc) in
+    holds_of_model c.args.model.now c.in-Ok.ast c.in-Ok-load_tree.loaded c.in-Ok.ensures.found c.in-Ok-load_tree.ensures.loaded.0 c.in-Ok-load_tree.ensures.loaded.1 _ (c.check_parts.ensures.block n e (c.in-Err-check_parts.is ∙ ap Err told)))
+
+pub returns-clause-read : goal.returns-clause-read
+returns-clause-read g c = λ same.
+    (let told = told_read c.in-Err-check_parts.error (sym c.live_refusal.ensures ∙ cc) in
+    holds_of_model c.args.model.now c.in-Ok.ast c.in-Ok-load_tree.loaded c.in-Ok.ensures.found c.in-Ok-load_tree.ensures.loaded.0 c.in-Ok-load_tree.ensures.loaded.1 _ (c.check_parts.ensures.read (c.in-Err-check_parts.is ∙ ap Err told)))
+
+pub returns-clause-write : goal.returns-clause-write
+returns-clause-write g c = λ same.
+    holds_of_model c.args.model.now c.in-Ok.ast c.in-Ok-load_tree.loaded c.in-Ok.ensures.found c.in-Ok-load_tree.ensures.loaded.0 c.in-Ok-load_tree.ensures.loaded.1 _ c.in-Err-check_parts.ensures.front
+
+pub returns-clause-fault : goal.returns-clause-fault
+returns-clause-fault g c = λ e same.
+    (let told = told_stream c.in-Err-check_parts.error e (sym c.live_refusal.ensures ∙ cc) in
+    c.check_parts.ensures.fault e (c.in-Err-check_parts.is ∙ ap Err told))
+
+pub returns-clause-model_first : goal.returns-clause-model_first
+returns-clause-model_first g c = λ of_model. absurd (never_of_model c.in-Err-check_parts.error (subst IsOfModel c.live_refusal.ensures of_model))
+
+pub returns-clause-memory : goal.returns-clause-memory
+returns-clause-memory g c = λ same.
+    inr (holds_of_model c.args.model.now c.in-Ok.ast c.in-Ok-load_tree.loaded c.in-Ok.ensures.found c.in-Ok-load_tree.ensures.loaded.0 c.in-Ok-load_tree.ensures.loaded.1 _ c.in-Err-check_parts.ensures.front)

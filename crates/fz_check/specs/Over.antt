@@ -1,0 +1,46 @@
+-- What a check over a reader and a writer answers (this project's profile). The bytes read are those that the reader gave, the bytes
+-- written those that the writer got, where they tell them.
+use Rattle.std.specs.Prelude.{◌≡◌, ℕ, List, ⊤, Option}
+use Rattle.std.specs.Io.KnownBytes.{Appends, Consumes, IsAtEnd}
+use Rattle.fz_syntax.specs.Text.{IsTextOfTree}
+use Rattle.fz_model.specs.Located.{LocatedTree, bare_of}
+use Rattle.fz_model.specs.Meaning.{Model}
+use Rattle.fz_model.specs.Names.{HasNoFault, model_of}
+use Rattle.fz_verdict.specs.Report.{Report, report_bytes}
+use Rattle.fz_verdict.specs.Verdict.{Answer}
+use Rattle.fz_check.specs.declared.error.CheckError.{CheckError}
+use Rattle.fz_check.specs.declared.error.CheckError.TheVariants as errors
+use Rattle.fz_check.specs.Reported.{HasReport, HasNoneWhereViolated}
+
+-- The reader gave these bytes up to its end, and this holds of them.
+pub record HoldsOfStream (left left' : Option (List ℕ)) (Holds : List ℕ → Type 0) : Type 0 where
+  pub given : List ℕ
+  pub reads : Consumes left left' given
+  pub end : IsAtEnd left'
+  pub holds : Holds given
+
+-- The writer got the text of the report on these bytes, and nothing else; where it says violated there is no solution; and the answer is
+-- the report's.
+pub record IsReportedTo (model given : List ℕ) (written written' : Option (List ℕ)) (answer : Answer) : Type 0 where
+  pub report : Report
+  pub has_report : HasReport model given report
+  pub violated : HasNoneWhereViolated model given report.verdicts
+  pub writes : Appends written written' (report_bytes report)
+  pub answer_is : answer ≡ report.answer
+
+-- The model's bytes are a text of a tree without faults, and this holds of its model.
+pub record HoldsOfModel (model : List ℕ) (Holds : Model → Type 0) : Type 0 where
+  pub tree : LocatedTree
+  pub text_of_model : IsTextOfTree model (bare_of tree)
+  pub no_fault : HasNoFault tree
+  pub holds : Holds (model_of tree)
+
+-- the model is refused
+abbrev pub IsOfModel : CheckError → Type 0
+IsOfModel (errors.Model e) = ⊤
+IsOfModel (errors.Names e) = ⊤
+IsOfModel _ = ⊥
+
+-- nothing was read, and nothing was written
+abbrev pub IsUntouched : Option (List ℕ) → Option (List ℕ) → Option (List ℕ) → Option (List ℕ) → Type 0
+IsUntouched left left' written written' = (left' ≡ left) × (written' ≡ written)

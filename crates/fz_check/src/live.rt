@@ -1,0 +1,116 @@
+//! The check of a stream over a reader and a writer.
+
+ghost use Rattle.std.specs.Prelude.{◌≡◌, ◌≢◌, ℕ, List, ◌⊎◌, Err, IfOk, IfErr};
+ghost use Rattle.fz_syntax.specs.SyntaxError.{SyntaxError as SyntaxFault};
+ghost use Rattle.fz_syntax.specs.Tree.{Tree};
+ghost use Rattle.fz_syntax.specs.Text.{IsTextOfTree};
+ghost use Rattle.fz_model.specs.declared.ModelError.{ModelError as NameFault};
+ghost use Rattle.fz_stream.specs.declared.error.StreamError.{StreamError as StreamFault};
+ghost use Rattle.fz_stream.specs.declared.error.StreamError.TheVariants.{Memory as OfMemory};
+ghost use Rattle.fz_stream.specs.Faults.{IsStreamFault};
+ghost use Rattle.fz_stream.specs.Parts.{StreamPart};
+ghost use Rattle.fz_judge.specs.declared.error.BlockError.{BlockError as BlockFault};
+ghost use Rattle.fz_live.specs.Live.{BlockIsRefused, StopsAfterLines, WritesFrontOfLines};
+ghost use Rattle.fz_live.specs.Reading.{HasNoMore, IsRefusedAfter};
+ghost use Rattle.fz_live.specs.View.{answer_view};
+ghost use Rattle.fz_check.specs.Headline.{HasSolutions};
+ghost use Rattle.fz_check.specs.Loading.{live_refusal};
+ghost use Rattle.fz_check.specs.Over.{HoldsOfModel, HoldsOfStream, IsOfModel, IsReportedTo, IsUntouched};
+ghost use Rattle.fz_check.specs.Refused.{HasNameFault};
+
+use crate::checking::{load_tree, read_text};
+use crate::error::CheckError;
+use fz_live::{Answer, LiveError, check_parts};
+use std::alloc::Global;
+use std::io::{Read, Write};
+
+/// What is answered where the check of a loaded model is refused.
+fn live_refusal(error: LiveError) -> CheckError
+    ensures { result ≡ live_refusal error }
+{
+    match error {
+        LiveError::Read => CheckError::Read,
+        LiveError::Write => CheckError::Write,
+        LiveError::Stream(error) => CheckError::Stream(error),
+        LiveError::Block(number, error) => CheckError::Block(number, error),
+        LiveError::Memory => CheckError::Memory,
+    }
+}
+
+/// As `check_stream`, with at most so many reads.
+///
+/// # Errors
+///
+/// As `check_stream`.
+pub fn check_stream_up_to<R: Read, W: Write>(
+    alloc: Global,
+    model: &[u8],
+    reader: &mut R,
+    writer: &mut W,
+    reads: u64,
+) -> Result<Answer, CheckError>
+    // A yes is a yes: what is accepted has solutions.
+    ensures accepted { IfOk result (λ a. (count : ℕ) → a ≡ Answer.Accepted count → HoldsOfStream (R.remaining reader.old) (R.remaining reader.new) (λ given. HasSolutions model.now given count)) }
+    // The writer got the report on all that the reader gave up to its end, and nothing else.
+    ensures report { IfOk result (λ a. HoldsOfStream (R.remaining reader.old) (R.remaining reader.new) (λ given. IsReportedTo model.now given (W.contents writer.old) (W.contents writer.new) (answer_view a))) }
+    // The model is refused only where its bytes are a text of no tree, or with the leftmost fault of its names.
+    ensures no_tree { (e : SyntaxFault) → result ≡ Err (CheckError.Model e) → (t : Tree) → IsTextOfTree model.now t → ⊥ }
+    ensures names { (e : NameFault) → result ≡ Err (CheckError.Names e) → HasNameFault model.now e }
+    // Then nothing is read, and nothing is written.
+    ensures model_first { IfErr result (λ e. IsOfModel e → IsUntouched (R.remaining reader.old) (R.remaining reader.new) (W.contents writer.old) (W.contents writer.new)) }
+    // After the other refusals the lines of all parts that ended before the fault were written, and nothing else.
+    ensures fault { (e : StreamFault) → result ≡ Err (CheckError.Stream e) → IsStreamFault e × (e ≢ OfMemory) }
+    ensures stream { (e : StreamFault) → result ≡ Err (CheckError.Stream e) → HoldsOfModel model.now (λ m. StopsAfterLines m (R.remaining reader.old) (R.remaining reader.new) (W.contents writer.old) (W.contents writer.new) (λ given parts. IsRefusedAfter (R.remaining reader.new) given parts e)) }
+    ensures block { (n : ℕ) (e : BlockFault) → result ≡ Err (CheckError.Block n e) → HoldsOfModel model.now (λ m. StopsAfterLines m (R.remaining reader.old) (R.remaining reader.new) (W.contents writer.old) (W.contents writer.new) (λ given parts. BlockIsRefused m (R.remaining reader.new) given parts n e)) }
+    ensures read { result ≡ Err CheckError.Read → HoldsOfModel model.now (λ m. StopsAfterLines m (R.remaining reader.old) (R.remaining reader.new) (W.contents writer.old) (W.contents writer.new) HasNoMore) }
+    // After a failed write a front of the lines for the bytes that were read was written, and nothing else.
+    ensures write { result ≡ Err CheckError.Write → HoldsOfModel model.now (λ m. WritesFrontOfLines m (R.remaining reader.old) (R.remaining reader.new) (W.contents writer.old) (W.contents writer.new)) }
+    ensures memory { result ≡ Err CheckError.Memory → IsUntouched (R.remaining reader.old) (R.remaining reader.new) (W.contents writer.old) (W.contents writer.new)
+        ⊎ HoldsOfModel model.now (λ m. WritesFrontOfLines m (R.remaining reader.old) (R.remaining reader.new) (W.contents writer.old) (W.contents writer.new)) }
+{
+    let ast = match read_text(alloc, model) {
+        Ok(ast) => ast,
+        Err(error) => return Err(error),
+    };
+    let loaded = match load_tree(alloc, &ast) {
+        Ok(loaded) => loaded,
+        Err(error) => return Err(error),
+    };
+    match check_parts(alloc, &loaded, reader, writer, reads) {
+        Ok(answer) => Ok(answer),
+        Err(error) => Err(live_refusal(error)),
+    }
+}
+
+/// The most reads of a stream.
+const MOST_READS: u64 = 4_294_967_296;
+
+/// Judges each block of the stream that a reader gives, and writes each line of the report when it is known. At most 4,096 bytes are read
+/// at a time, in at most 4,294,967,296 reads, and one block is held.
+///
+/// # Errors
+///
+/// `Model` and `Names` as `check` has them, before anything is read or written. Then the first fault in the stream's order: `Stream` where
+/// the stream's bytes cannot go on, or are too many to be held, `Block` with the first fault of a block. `Read` where a read fails or there
+/// were as many as may be, `Write` where a write fails or takes nothing, and want of memory.
+pub fn check_stream<R: Read, W: Write>(
+    alloc: Global,
+    model: &[u8],
+    reader: &mut R,
+    writer: &mut W,
+) -> Result<Answer, CheckError>
+    ensures accepted { IfOk result (λ a. (count : ℕ) → a ≡ Answer.Accepted count → HoldsOfStream (R.remaining reader.old) (R.remaining reader.new) (λ given. HasSolutions model.now given count)) }
+    ensures report { IfOk result (λ a. HoldsOfStream (R.remaining reader.old) (R.remaining reader.new) (λ given. IsReportedTo model.now given (W.contents writer.old) (W.contents writer.new) (answer_view a))) }
+    ensures no_tree { (e : SyntaxFault) → result ≡ Err (CheckError.Model e) → (t : Tree) → IsTextOfTree model.now t → ⊥ }
+    ensures names { (e : NameFault) → result ≡ Err (CheckError.Names e) → HasNameFault model.now e }
+    ensures model_first { IfErr result (λ e. IsOfModel e → IsUntouched (R.remaining reader.old) (R.remaining reader.new) (W.contents writer.old) (W.contents writer.new)) }
+    ensures fault { (e : StreamFault) → result ≡ Err (CheckError.Stream e) → IsStreamFault e × (e ≢ OfMemory) }
+    ensures stream { (e : StreamFault) → result ≡ Err (CheckError.Stream e) → HoldsOfModel model.now (λ m. StopsAfterLines m (R.remaining reader.old) (R.remaining reader.new) (W.contents writer.old) (W.contents writer.new) (λ given parts. IsRefusedAfter (R.remaining reader.new) given parts e)) }
+    ensures block { (n : ℕ) (e : BlockFault) → result ≡ Err (CheckError.Block n e) → HoldsOfModel model.now (λ m. StopsAfterLines m (R.remaining reader.old) (R.remaining reader.new) (W.contents writer.old) (W.contents writer.new) (λ given parts. BlockIsRefused m (R.remaining reader.new) given parts n e)) }
+    ensures read { result ≡ Err CheckError.Read → HoldsOfModel model.now (λ m. StopsAfterLines m (R.remaining reader.old) (R.remaining reader.new) (W.contents writer.old) (W.contents writer.new) HasNoMore) }
+    ensures write { result ≡ Err CheckError.Write → HoldsOfModel model.now (λ m. WritesFrontOfLines m (R.remaining reader.old) (R.remaining reader.new) (W.contents writer.old) (W.contents writer.new)) }
+    ensures memory { result ≡ Err CheckError.Memory → IsUntouched (R.remaining reader.old) (R.remaining reader.new) (W.contents writer.old) (W.contents writer.new)
+        ⊎ HoldsOfModel model.now (λ m. WritesFrontOfLines m (R.remaining reader.old) (R.remaining reader.new) (W.contents writer.old) (W.contents writer.new)) }
+{
+    check_stream_up_to(alloc, model, reader, writer, MOST_READS)
+}

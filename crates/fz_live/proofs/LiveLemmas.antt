@@ -1,0 +1,264 @@
+-- What a check over a reader and a writer knows between two parts.
+use Rattle.std.proofs.Common.{◌≡◌, ◌≢◌, ℕ, ◌<◌, List, [], ◌∷◌, ◌++◌, map, Option, None, inl, inr, ⊎_elim, refl, sym, ap, ◌∙◌, subst, append_assoc, append-nil, length-append, arith}
+use Rattle.std.specs.Prelude.{⊤}
+use Rattle.std.proofs.KnownBytes.{Appends-nil, Appends-trans, Consumes-nil, Consumes-trans}
+use Rattle.std.specs.Io.KnownBytes.{Appends, Consumes, IsAtEnd}
+use Rattle.fz_model.specs.Meaning.{Model}
+use Rattle.fz_stream.specs.declared.splitter.Stage.TheVariants.{Finished}
+use Rattle.fz_stream.specs.Found.{claims_in}
+use Rattle.fz_stream.specs.Parts.{StreamPart, IsStreamText}
+use Rattle.fz_stream.specs.Splitting.{most_taken}
+use Rattle.fz_verdict.specs.Report.{answer_line, part_lines, text_of_lines}
+use Rattle.fz_verdict.specs.Verdict.{Verdict, Answer, AreJudged, IsFilled, answer_by, answer_of, first_number, is_undecided, is_violated}
+use Rattle.fz_verdict.proofs.Loops.{goes_on_judged}
+use Rattle.fz_verdict.proofs.Reports.{lines_of_report}
+use Rattle.fz_verdict.proofs.Places.{blocks_are_bare}
+use Rattle.fz_verdict.specs.View.{located_block}
+use Rattle.fz_judge.specs.declared.error.BlockError.{BlockError}
+use Rattle.fz_judge.specs.Judged.{JudgeState}
+use Rattle.fz_stream.specs.declared.error.StreamError.{StreamError}
+use Rattle.fz_live.specs.declared.error.PartError.{PartError}
+use Rattle.fz_live.specs.declared.error.PartError.TheVariants as errors
+use Rattle.fz_live.specs.declared.error.LiveError.TheVariants as live
+use Rattle.fz_live.specs.Refusing.{live_refusal}
+use Rattle.fz_live.specs.declared.tally.Tally.{Tally}
+use Rattle.fz_live.specs.Writing.{WritesFront}
+use Rattle.fz_live.specs.Reading.{ReaderState, HasRead, HasEnded, StandsAt, ReadsOn, HasOneMore, HasNoMore}
+use Rattle.fz_live.specs.Live.{lines_text, HaveVerdicts, IsAnswered, StopsAfterLines, EndInside, BlockIsRefused, WritesFrontOfLines}
+use Rattle.fz_live.specs.Telling.{Tallies, HasTold, IsTold, IsRefused}
+use Rattle.fz_live.proofs.AdvanceLemmas.{stands_reading}
+use Rattle.fz_live.proofs.CountLemmas.{few_parts, few_blocks}
+use Rattle.fz_live.proofs.TellingLemmas.{text_of_more}
+
+-- The parts that have ended in what was read are told, and their lines are written.
+pub record Living (m : Model) (s : ReaderState) (j : JudgeState) (t : Tally) (left left' w w' : Option (List ℕ)) : Type 0 where
+  pub given : List ℕ
+  pub reads : Consumes left left' given
+  pub parts : List StreamPart
+  pub stands : StandsAt s left' given parts
+  pub verdicts : List Verdict
+  pub told : HasTold m j t parts verdicts
+  pub writes : Appends w w' (lines_text verdicts parts)
+
+pub live_starts : (m : Model) (s : ReaderState) (j : JudgeState) (t : Tally) (left w : Option (List ℕ)) → HasRead s [] [] → j ≡ record { model = m; before = None } → t ≡ record { blocks = 0; violated = None; undecided = None } → Living m s j t left left w w
+live_starts m s j t left w read judge tally = record {
+  given = [];
+  reads = Consumes-nil left;
+  parts = [];
+  stands = inl read;
+  verdicts = [];
+  told = record {
+    same_model = ap (λ (k : JudgeState). k.model) judge;
+    blocks = [];
+    blocks_are = refl;
+    places = tt;
+    goes_on = λ more ws judged. subst (λ b. AreJudged m (IsFilled m) b more ws) (ap (λ (k : JudgeState). k.before) judge) judged;
+    tallies = record {
+      blocks = ap (λ (u : Tally). u.blocks) tally;
+      violated = ap (λ (u : Tally). u.violated) tally;
+      undecided = ap (λ (u : Tally). u.undecided) tally;
+    };
+    one_each = refl;
+  };
+  writes = Appends-nil w;
+}
+
+have_verdicts : (m : Model) (j : JudgeState) (t : Tally) (parts : List StreamPart) (verdicts : List Verdict) → HasTold m j t parts verdicts → HaveVerdicts m parts verdicts
+have_verdicts m j t parts verdicts h = record { blocks = h.blocks; blocks_are = h.blocks_are; places = h.places; are_verdicts = goes_on_judged m (IsFilled m) None (map located_block h.blocks) verdicts j.before h.goes_on }
+
+read_inside : (s : ReaderState) (left : Option (List ℕ)) (given more : List ℕ) (parts : List StreamPart) → HasRead s given parts → EndInside left (given ++ more) parts
+read_inside s left given more parts h = inl (h.taken, s.pending ++ more, ap (λ l. l ++ more) h.whole ∙ append_assoc h.taken s.pending more, (s.splitter.held, h.fits.holds))
+
+stands_inside : (s : ReaderState) (left : Option (List ℕ)) (given : List ℕ) (parts : List StreamPart) → StandsAt s left given parts → EndInside left given parts
+stands_inside s left given parts st =
+    ⊎_elim (λ (h : HasRead s given parts). subst (λ l. EndInside left l parts) (append-nil given) (read_inside s left given [] parts h))
+    (λ (h : IsAtEnd left × HasEnded s given parts). inr (h.0, subst (IsStreamText given) (sym h.1.parts_are) h.1.ends.text)) st
+
+-- One more part waits.
+pub record Advanced (m : Model) (s : ReaderState) (j : JudgeState) (t : Tally) (left left' w w' : Option (List ℕ)) : Type 0 where
+  pub given : List ℕ
+  pub reads : Consumes left left' given
+  pub parts : List StreamPart
+  pub part : StreamPart
+  pub inside : EndInside left' given parts
+  pub stands : StandsAt s left' given (parts ++ part ∷ [])
+  pub verdicts : List Verdict
+  pub told : HasTold m j t parts verdicts
+  pub writes : Appends w w' (lines_text verdicts parts)
+
+module _ (m : Model) (s : ReaderState) (j : JudgeState) (t : Tally) (left left' w w' : Option (List ℕ)) (l : Living m s j t left left' w w') (left'' : Option (List ℕ)) where
+  pub live_advanced : (next : ReaderState) → s.splitter.stage ≢ Finished → ReadsOn s left' left'' (HasOneMore next left'') → Advanced m next j t left left'' w w'
+  live_advanced next going r =
+      let more = r.then l.given l.parts l.stands in
+      record {
+        given = l.given ++ r.more;
+        reads = Consumes-trans left left' left'' l.given r.more l.reads r.consumes;
+        parts = l.parts;
+        part = more.0;
+        inside = read_inside s left'' l.given r.more l.parts (stands_reading s left' l.given l.parts going l.stands);
+        stands = more.1;
+        verdicts = l.verdicts;
+        told = l.told;
+        writes = l.writes;
+      }
+
+  -- the next part is not known
+  pub live_stops : (Why : List ℕ → List StreamPart → Type 0) → ReadsOn s left' left'' Why → StopsAfterLines m left left'' w w' Why
+  live_stops Why r = record {
+    given = l.given ++ r.more;
+    reads = Consumes-trans left left' left'' l.given r.more l.reads r.consumes;
+    parts = l.parts;
+    verdicts = l.verdicts;
+    have_verdicts = have_verdicts m j t l.parts l.verdicts l.told;
+    writes = l.writes;
+    why = r.then l.given l.parts l.stands;
+  }
+
+  pub live_read : (next : ReaderState) → ReadsOn s left' left'' (λ given parts. HasRead next given parts × HasNoMore given parts) → StopsAfterLines m left left'' w w' HasNoMore
+  live_read next r = live_stops HasNoMore (record { more = r.more; consumes = r.consumes; then = λ given parts st. (r.then given parts st).1 })
+
+  pub live_front : s.splitter.stage ≢ Finished → ReadsOn s left' left'' (λ given parts. ⊤) → WritesFrontOfLines m left left'' w w'
+  live_front going r = record {
+    given = l.given ++ r.more;
+    reads = Consumes-trans left left' left'' l.given r.more l.reads r.consumes;
+    parts = l.parts;
+    end_inside = read_inside s left'' l.given r.more l.parts (stands_reading s left' l.given l.parts going l.stands);
+    verdicts = l.verdicts;
+    have_verdicts = have_verdicts m j t l.parts l.verdicts l.told;
+    last = [];
+    are_last = inl refl;
+    front = lines_text l.verdicts l.parts;
+    rest = [];
+    whole = text_of_more (part_lines 0 l.verdicts l.parts) [];
+    writes = l.writes;
+  }
+
+module _ (m : Model) (s : ReaderState) (j : JudgeState) (t : Tally) (left left' w w' : Option (List ℕ)) (a : Advanced m s j t left left' w w') where
+  pub live_room : t.blocks < most_taken
+  live_room = omega (arith, few_parts s left' a.given (a.parts ++ a.part ∷ []) a.stands, few_blocks a.parts, a.told.tallies.blocks, a.told.one_each, length-append a.parts (a.part ∷ []))
+
+  pub live_told : (j' : JudgeState) (t' : Tally) (line : List ℕ) (w'' : Option (List ℕ)) → IsTold s j j' t t' line → Appends w' w'' line → Living m s j' t' left left' w w''
+  live_told j' t' line w'' tells appends =
+      let one = tells m left' a.given a.parts a.part a.verdicts a.stands a.told in
+      record {
+        given = a.given;
+        reads = a.reads;
+        parts = a.parts ++ a.part ∷ [];
+        stands = a.stands;
+        verdicts = one.more;
+        told = one.told;
+        writes = subst (Appends w w'') (sym one.lines) (Appends-trans w w' w'' (lines_text a.verdicts a.parts) line a.writes appends);
+      }
+
+  pub live_refused : (n : ℕ) (e : BlockError) → IsRefused s j t n e → StopsAfterLines m left left' w w' (λ given parts. BlockIsRefused m left' given parts n e)
+  live_refused n e refuses =
+      let r = refuses m left' a.given a.parts a.part a.verdicts a.stands a.told in
+      record {
+        given = a.given;
+        reads = a.reads;
+        parts = a.parts;
+        verdicts = a.verdicts;
+        have_verdicts = have_verdicts m j t a.parts a.verdicts a.told;
+        writes = a.writes;
+        why = record {
+          block = r.block;
+          places = r.places;
+          next = subst (λ p. EndInside left' a.given (a.parts ++ p ∷ [])) r.part_is (stands_inside s left' a.given (a.parts ++ a.part ∷ []) a.stands);
+          number_is = r.number_is;
+          not_memory = r.not_memory;
+          refused = r.refused;
+        };
+      }
+
+  pub live_untold : WritesFrontOfLines m left left' w w'
+  live_untold = record {
+    given = a.given;
+    reads = a.reads;
+    parts = a.parts;
+    end_inside = a.inside;
+    verdicts = a.verdicts;
+    have_verdicts = have_verdicts m j t a.parts a.verdicts a.told;
+    last = [];
+    are_last = inl refl;
+    front = lines_text a.verdicts a.parts;
+    rest = [];
+    whole = text_of_more (part_lines 0 a.verdicts a.parts) [];
+    writes = a.writes;
+  }
+
+  pub live_unwritten : (j' : JudgeState) (t' : Tally) (line : List ℕ) (w'' : Option (List ℕ)) → IsTold s j j' t t' line → WritesFront w' w'' line → WritesFrontOfLines m left left' w w''
+  live_unwritten j' t' line w'' tells f =
+      let one = tells m left' a.given a.parts a.part a.verdicts a.stands a.told in
+      record {
+        given = a.given;
+        reads = a.reads;
+        parts = a.parts ++ a.part ∷ [];
+        end_inside = stands_inside s left' a.given (a.parts ++ a.part ∷ []) a.stands;
+        verdicts = one.more;
+        have_verdicts = have_verdicts m j' t' (a.parts ++ a.part ∷ []) one.more one.told;
+        last = [];
+        are_last = inl refl;
+        front = lines_text a.verdicts a.parts ++ f.front;
+        rest = f.rest;
+        whole = text_of_more (part_lines 0 one.more (a.parts ++ a.part ∷ [])) [] ∙ append-nil _ ∙ one.lines ∙ ap (λ x. lines_text a.verdicts a.parts ++ x) f.whole ∙ sym (append_assoc (lines_text a.verdicts a.parts) f.front f.rest);
+        writes = Appends-trans w w' w'' (lines_text a.verdicts a.parts) f.front a.writes f.appends;
+      }
+
+-- the numbers give the answer
+answer_by_tally : (t : Tally) (vs : List Verdict) (answer : Answer) → Tallies t vs → answer ≡ answer_by t.violated t.undecided t.blocks → answer ≡ answer_of vs
+answer_by_tally t vs answer h e =
+    e ∙ ap (λ v. answer_by v t.undecided t.blocks) h.violated ∙ ap (λ u. answer_by (first_number 1 is_violated vs) u t.blocks) h.undecided ∙ ap (answer_by (first_number 1 is_violated vs) (first_number 1 is_undecided vs)) h.blocks
+
+module _ (m : Model) (s : ReaderState) (j : JudgeState) (t : Tally) (left left' w w' : Option (List ℕ)) (l : Living m s j t left left' w w') (left'' : Option (List ℕ)) (r : ReadsOn s left' left'' (λ given parts. IsAtEnd left'' × IsStreamText given parts))
+    (answer : Answer) (is : answer ≡ answer_by t.violated t.undecided t.blocks) (w'' : Option (List ℕ)) where
+  at_end : IsAtEnd left'' × IsStreamText (l.given ++ r.more) l.parts
+  at_end = r.then l.given l.parts l.stands
+
+  answered : answer ≡ answer_of l.verdicts
+  answered = answer_by_tally t l.verdicts answer l.told.tallies is
+
+  pub live_answered : Appends w' w'' (text_of_lines (answer_line answer ∷ [])) → IsAnswered m left left'' w w'' answer
+  live_answered appends =
+      let h = have_verdicts m j t l.parts l.verdicts l.told in
+      record {
+        given = l.given ++ r.more;
+        reads = Consumes-trans left left' left'' l.given r.more l.reads r.consumes;
+        end = at_end.0;
+        parts = l.parts;
+        text = at_end.1;
+        blocks = h.blocks;
+        blocks_are = h.blocks_are;
+        places = h.places;
+        report = record { verdicts = l.verdicts; claims = claims_in 0 l.parts; answer = answer };
+        is_report = record { of_parts = blocks_are_bare h.blocks ∙ h.blocks_are; are_verdicts = h.are_verdicts; claims = refl; answers = answered };
+        writes = subst (Appends w w'') (sym (ap text_of_lines (lines_of_report l.parts (record { verdicts = l.verdicts; claims = claims_in 0 l.parts; answer = answer }) l.told.one_each refl) ∙ text_of_more (part_lines 0 l.verdicts l.parts) (answer_line answer ∷ [])))
+            (Appends-trans w w' w'' (lines_text l.verdicts l.parts) (text_of_lines (answer_line answer ∷ [])) l.writes appends);
+        answer_is = refl;
+      }
+
+  pub live_unanswered : WritesFront w' w'' (text_of_lines (answer_line answer ∷ [])) → WritesFrontOfLines m left left'' w w''
+  live_unanswered f = record {
+    given = l.given ++ r.more;
+    reads = Consumes-trans left left' left'' l.given r.more l.reads r.consumes;
+    parts = l.parts;
+    end_inside = inr at_end;
+    verdicts = l.verdicts;
+    have_verdicts = have_verdicts m j t l.parts l.verdicts l.told;
+    last = answer_line answer ∷ [];
+    are_last = inr (at_end.0, at_end.1, ap (λ a. answer_line a ∷ []) answered);
+    front = lines_text l.verdicts l.parts ++ f.front;
+    rest = f.rest;
+    whole = text_of_more (part_lines 0 l.verdicts l.parts) (answer_line answer ∷ []) ∙ ap (λ x. lines_text l.verdicts l.parts ++ x) f.whole ∙ sym (append_assoc (lines_text l.verdicts l.parts) f.front f.rest);
+    writes = Appends-trans w w' w'' (lines_text l.verdicts l.parts) f.front l.writes f.appends;
+  }
+
+-- which error of the reader of parts was met
+pub told_read : (e : PartError) → live_refusal e ≡ live.Read → e ≡ errors.Read
+told_read errors.Read h = refl
+told_read (errors.Stream f) h = absurd cc
+told_read errors.Memory h = absurd cc
+
+pub told_stream : (e : PartError) (told : StreamError) → live_refusal e ≡ live.Stream told → e ≡ errors.Stream told
+told_stream errors.Read told h = absurd cc
+told_stream (errors.Stream f) told h = cc
+told_stream errors.Memory told h = absurd cc

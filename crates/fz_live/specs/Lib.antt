@@ -1,0 +1,7 @@
+pub mod Writing
+pub mod Refusing
+pub mod Reading
+pub mod Inside
+pub mod View
+pub mod Live
+pub mod Telling
