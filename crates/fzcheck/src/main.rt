@@ -5,7 +5,7 @@ mod files;
 mod words;
 
 use files::read_up_to;
-use fz_check::{CheckError, check, refusal_text, report_text, show, status};
+use fz_check::{CheckError, check_stream, refusal_text, show, status};
 use std::io::{Read, Write};
 use std::process::ExitCode;
 use std::{env, fs, io};
@@ -17,7 +17,7 @@ const SHOWN: u8 = 0;
 /// The status where the words of the command line are wrong.
 const WRONG_WORDS: u8 = 5;
 
-/// The most bytes of a model, and of a stream that is read whole.
+/// The most bytes of a model.
 const MOST_BYTES: u32 = 16_777_216;
 
 fn main(rt: HostRuntime) -> ExitCode {
@@ -103,35 +103,15 @@ fn check_files(rt: &HostRuntime, model: &str, stream: Option<&str>) -> u8 {
     }
 }
 
-/// Checks what one reader gives as a stream against what the other gives as a model.
+/// Checks what one reader gives as a stream against what the other gives as a model, and writes each line when it is known.
 fn check_readers<M: Read, S: Read>(rt: &HostRuntime, model: &mut M, stream: &mut S) -> u8 {
     let model = match read_up_to(rt.alloc(), model, MOST_BYTES) {
         Ok(model) => model,
         Err(error) => return refuse(rt, &error),
     };
-    let stream = match read_up_to(rt.alloc(), stream, MOST_BYTES) {
-        Ok(stream) => stream,
-        Err(CheckError::Read) => return refuse(rt, &after_model(rt, &model)),
-        Err(error) => return refuse(rt, &error),
-    };
-    let report = match check(rt.alloc(), &model, &stream) {
-        Ok(report) => report,
-        Err(error) => return refuse(rt, &error),
-    };
-    match report_text(rt.alloc(), &report) {
-        Ok(text) => match write_out(rt, &text) {
-            Ok(()) => status(&Ok(report.answer)),
-            Err(_) => refuse(rt, &CheckError::Write),
-        },
-        Err(_) => refuse(rt, &CheckError::Memory),
-    }
-}
-
-/// What is told where the stream can't be read: a fault of the model comes before it.
-fn after_model(rt: &HostRuntime, model: &[u8]) -> CheckError {
-    match check(rt.alloc(), model, b"") {
-        Err(error) => error,
-        Ok(_) => CheckError::Read,
+    match check_stream(rt.alloc(), &model, stream, &mut rt.stdout()) {
+        Ok(answer) => status(&Ok(answer)),
+        Err(error) => refuse(rt, &error),
     }
 }
 
