@@ -1,7 +1,6 @@
 -- The first answer in a list, as a loop looks for it, and the scalars of arguments as they are kept.
 use Rattle.std.proofs.Common.{◌≡◌, ℕ, suc, zero, ◌+◌, ◌<◌, ◌≤◌, List, [], ◌∷◌, ◌++◌, map, flat_map, length, drop, get_or, Option, Some, None, is_some, refl, sym, ap, ◌∙◌, slice_get, arith, add-one, drop-cons, true, false}
 use Rattle.std.specs.Option.{option_or, option_map_or}
-use Rattle.fz_model.specs.declared.Term.{Term}
 use Rattle.fz_model.specs.declared.Variable.{Variable}
 use Rattle.fz_model.specs.declared.Array.{Array}
 use Rattle.fz_model.specs.declared.Place.{Place}

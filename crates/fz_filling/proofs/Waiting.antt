@@ -1,7 +1,6 @@
 -- As long as what a point waits for has no value the point gives nothing.
-use Rattle.std.proofs.Common.{◌≡◌, ℕ, suc, zero, Bool, true, false, cond, ◌==◌, List, [], ◌∷◌, length, Option, Some, None, refl, sym, ap, subst, ◌∙◌, slice_get, option_map, is_none, is_some, arith, eqb-true, ◌⊎◌, inl, inr, subst₂}
+use Rattle.std.proofs.Common.{◌≡◌, ℕ, suc, zero, Bool, true, false, cond, ◌==◌, List, [], ◌∷◌, Option, Some, None, refl, sym, ap, subst, ◌∙◌, slice_get, option_map, is_none, is_some, eqb-true, ◌⊎◌, inl, inr, subst₂}
 use Rattle.std.proofs.lemmas.Bool.{eqb-false}
-use Rattle.std.specs.List.{AllByRecursion, filter}
 use Rattle.std.specs.Option.{option_or}
 use Rattle.fz_base.specs.declared.value.Value.{Value}
 use Rattle.fz_model.specs.declared.Term.{Term}
@@ -9,7 +8,7 @@ use Rattle.fz_model.specs.declared.Term.TheVariants.{Var, Fixed}
 use Rattle.fz_model.specs.declared.Domain.{Domain}
 use Rattle.fz_model.specs.Meaning.{Model, Posted, Variable, Point, Partial, value, value_at}
 use Rattle.fz_model.specs.Meaning.Point.{DomainPoint, DefinitionPoint, ArrayPoint, ConstraintPoint}
-use Rattle.fz_model.specs.Steps.{Gives, GivesNothing, open_terms, terms_of}
+use Rattle.fz_model.specs.Steps.{Gives, open_terms, terms_of}
 use Rattle.fz_model.proofs.Steps.{only_open_none}
 use Rattle.fz_verdict.specs.Filling.{HasAllOf}
 use Rattle.fz_filling.specs.Outlooks.{Agree, IsLater, IsOpen, IsOutlook, IsWaiting, open_variable, open_other, first_other}
