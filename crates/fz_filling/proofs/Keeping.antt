@@ -358,35 +358,14 @@ module _ (before : List (Vec ℕ Global)) (n k : ℕ) (v : Vec ℕ Global) where
           ]
       no_more j i (inr other) (at, stands) = inl (at, sym (ap (λ xs. slice_get xs at) (watched_there before n j other)) ∙ stands)
 
-  pub is_left : n < length before → v.items ≡ [] → IsLeft before (slice_set before n v) n
-  is_left within items = record {
-    as_many = length_watchers before n;
-    none_waits = watched_here before n within ∙ items;
-    others = λ j other. watched_there before n j other;
-  }
-
 pub watched_is : (before : List (Vec ℕ Global)) (n : ℕ) (v d : Vec ℕ Global) → n < length before → v ≡ get_or before n d → watched before n ≡ v.items
 watched_is [] n v d h e = absurd (omega arith)
 watched_is (w ∷ before) zero v d h e = ap (λ z. z.items) (sym e)
 watched_is (w ∷ before) (suc n) v d h e = watched_is before n v d (omega arith) e
 
--- nothing changes
-pub waits_past : (before : List (Vec ℕ Global)) (n k : ℕ) → length before ≤ n → WaitsToo before before n k
-waits_past before n k past = record { as_many = refl; keeps = λ j i waits. waits; no_more = λ j i waits. inl waits; waits = λ h. absurd (omega arith) }
-
 -- ---- what is settled
 
 module _ (before after : Watch) (k : ℕ) (pending : after.pending.items ≡ slice_set before.pending.items k 0) (blocks : after.blocks.items ≡ before.blocks.items) where
-  pub settled_forever : after.watchers.items ≡ before.watchers.items → IsSettled before after k Forever
-  settled_forever same = record {
-    pending = pending;
-    blocks = blocks;
-    as_many = ap length same;
-    keeps = λ j i waits. subst (λ ws. WaitsFor ws j i) (sym same) waits;
-    no_more = λ j i waits. inl (subst (λ ws. WaitsFor ws j i) same waits);
-    waits = λ j is within. absurd is;
-  }
-
   pub settled_for : (n : ℕ) → WaitsToo before.watchers.items after.watchers.items n k → IsSettled before after k (For n)
   settled_for n w = record {
     pending = pending;
@@ -471,6 +450,3 @@ one_more_empty [] v none e zero = e
 one_more_empty [] v none e (suc n) = refl
 one_more_empty (w ∷ ws) v none e zero = none zero
 one_more_empty (w ∷ ws) v none e (suc n) = one_more_empty ws v (λ j. none (suc j)) e n
-
-pub none_waits_there : (ws : List (Vec ℕ Global)) → ((n : ℕ) → watched ws n ≡ []) → (n k : ℕ) → WaitsFor ws n k → ⊥
-none_waits_there ws none n k (i, stands) = let nothing : slice_get (watched ws n) i ≡ None = ap (λ xs. slice_get xs i) (none n) in cc

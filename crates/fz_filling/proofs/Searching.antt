@@ -26,13 +26,6 @@ pub first_flat : {A B C : Type 0} (f : B → Option C) (g : A → List B) (xs : 
 first_flat f g [] = refl
 first_flat f g (x ∷ xs) = first_append f (g x) (flat_map g xs) ∙ ap (option_or (first_some f (g x))) (first_flat f g xs)
 
-pub only_first : {A B : Type 0} (f : A → Option B) (x : A) → first_some f (x ∷ []) ≡ f x
-only_first f x = or_nothing (f x)
-  where
-    or_nothing : {C : Type 0} (o : Option C) → option_or o None ≡ o
-    or_nothing None = refl
-    or_nothing (Some y) = refl
-
 module _ {A B : Type 0} (f : A → Option B) (xs : List A) (i : ℕ) (x : A) (within : i < length xs) (is : x ≡ get_or xs i x) where
   rest_is : drop i xs ≡ x ∷ drop (i + 1) xs
   rest_is = drop-cons xs i x within ∙ (λ j. sym is j ∷ drop (sym (add-one i) j) xs)
