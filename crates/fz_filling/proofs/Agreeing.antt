@@ -1,18 +1,18 @@
 -- What a point gives rests on the values of its own scalars alone.
-use Rattle.std.proofs.Common.{◌≡◌, ℕ, suc, zero, pos, negsuc, cond, List, [], ◌∷◌, ◌++◌, length, Option, Some, None, refl, sym, ap, subst, subst₂, ◌∙◌, option_map, option_and_then, slice_get, is_none, flat_map, IsSomeAnd, IfSome, IsFalse, IsTrue, arith, ◌&&◌, ◌⊎◌, inl, inr}
+use Rattle.std.proofs.Common.{◌≡◌, ℕ, suc, zero, pos, negsuc, cond, List, [], ◌∷◌, ◌++◌, length, Option, Some, None, refl, sym, ap, subst, subst₂, ◌∙◌, option_map, option_and_then, slice_get, is_none, flat_map, IsSomeAnd, IfSome, IsFalse, IsTrue, arith, ◌&&◌, ◌⊎◌}
 use Rattle.std.specs.List.{AllByRecursion}
 use Rattle.fz_base.specs.declared.value.Value.{Value}
 use Rattle.fz_base.specs.declared.value.Value.TheVariants.{Int}
-use Rattle.fz_model.specs.Builtins.{ArgValue, Row, Result, leaves_128}
+use Rattle.fz_model.specs.Builtins.{Row, Result, leaves_128}
 use Rattle.fz_model.specs.Builtins.ArgValue.{OneValue, ManyValues}
 use Rattle.fz_model.specs.Builtins.Result.{NoResult, Places, UnitTerm}
 use Rattle.fz_model.specs.declared.Term.{Term}
 use Rattle.fz_model.specs.declared.Term.TheVariants.{Var, Fixed}
-use Rattle.fz_model.specs.Meaning.{Argument, Model, Posted, Point, Partial, value, values, value_at, give, option_cons, terms_in, argument_value, argument_values, row_of, row_holds, HoldsUnder, inside, as_int, number_at, product_before, known_products, sums_leave}
+use Rattle.fz_model.specs.Meaning.{Argument, Model, Point, Partial, value, values, value_at, give, option_cons, terms_in, argument_value, argument_values, row_of, row_holds, HoldsUnder, inside, as_int, product_before, known_products, sums_leave}
 use Rattle.fz_model.specs.Meaning.Place.{Scalar, Array}
 use Rattle.fz_model.specs.Meaning.Argument.{One, ListOf}
 use Rattle.fz_model.specs.Meaning.Point.{DomainPoint, DefinitionPoint, ArrayPoint, ConstraintPoint}
-use Rattle.fz_model.specs.Steps.{Gives, GivesNothing, IsResult, IsTarget, SumsFit, HasUnitCoefficient, terms_at_argument, terms_of, open_terms}
+use Rattle.fz_model.specs.Steps.{Gives, IsResult, IsTarget, SumsFit, HasUnitCoefficient, terms_at_argument, terms_of, open_terms}
 use Rattle.fz_filling.specs.Outlooks.{Agree}
 
 pub all_left : {A : Type 0} (P : A → Type 0) (xs ys : List A) → AllByRecursion P (xs ++ ys) → AllByRecursion P xs

@@ -1,19 +1,16 @@
 -- What is kept through a filling: at its start, as a point is settled, and as a variable gets a value.
-use Rattle.std.proofs.Common.{◌≡◌, ℕ, suc, zero, ◌<◌, ◌≤◌, ◌+◌, ◌-◌, Bool, true, false, cond, ◌==◌, List, [], ◌∷◌, ◌++◌, length, take, drop, Option, Some, None, refl, sym, ap, subst, ◌∙◌, slice_get, arith, eqb-true, ◌⊎◌, inl, inr, get_or}
+use Rattle.std.proofs.Common.{◌≡◌, ℕ, suc, zero, ◌<◌, ◌≤◌, ◌+◌, ◌-◌, ◌*◌, ◌/◌, true, false, ◌==◌, List, [], ◌∷◌, ◌++◌, length, drop, Option, Some, None, refl, sym, ap, subst, ◌∙◌, slice_get, arith, eqb-true, ◌⊎◌, inl, inr, get_or, subst₂}
 use Rattle.std.specs.Prelude.{slice_set, slice_index, slice_range, Vec, replicate}
 use Rattle.std.specs.declared.alloc.Global.{Global}
-use Rattle.std.specs.Option.{option_map_or}
 use Rattle.std.proofs.lemmas.Bool.{eqb-false}
 use Rattle.std.proofs.lemmas.List.{get_or-take, get_or-drop, length-take, length-drop}
 use Rattle.memchr.specs.Find.{Nowhere, NoneBefore, Passes, IsFirstByte, is_byte}
-use Rattle.std.specs.List.{AllByRecursion}
 use Rattle.fz_base.specs.declared.value.Value.{Value}
 use Rattle.fz_model.specs.Meaning.{Model, Point, Partial, value_at, give, points}
-use Rattle.fz_model.specs.Steps.{Gives, GivesNothing}
+use Rattle.fz_model.specs.Steps.{GivesNothing}
 use Rattle.fz_model.proofs.Steps.{value_at_other}
-use Rattle.fz_verdict.specs.Filling.{HasAllOf}
 use Rattle.fz_filling.specs.Outlooks.{IsLater, IsOpen, IsWaiting}
-use Rattle.fz_filling.specs.Kept.{IsPending, watched, WaitsFor, marked, WaitsToo, IsLeft, IsAwaited, IsSettled, IsKept, IsNext, NoneIsPending}
+use Rattle.fz_filling.specs.Kept.{IsPending, watched, WaitsFor, marked, marked_blocks, WaitsToo, IsCovered, IsLeft, IsAwaited, IsSettled, IsKept, IsNext, NoneIsPending}
 use Rattle.fz_filling.specs.Stepping.{NoneGives}
 use Rattle.fz_filling.specs.declared.outlook.Waiting.{Waiting}
 use Rattle.fz_filling.specs.declared.outlook.Waiting.TheVariants.{Forever, For, ForEither}
@@ -96,12 +93,86 @@ length_replicate : (n v : ℕ) → length (replicate n v) ≡ n
 length_replicate zero v = refl
 length_replicate (suc n) v = ap suc (length_replicate n v)
 
+-- ---- blocks
+
+-- a byte that is set to 0 is not set
+not_cleared : (xs : List ℕ) (k j : ℕ) → IsPending (slice_set xs k 0) j → IsPending xs j
+not_cleared [] k j h = h
+not_cleared (x ∷ xs) zero zero h = cc
+not_cleared (x ∷ xs) zero (suc j) h = h
+not_cleared (x ∷ xs) (suc k) zero h = h
+not_cleared (x ∷ xs) (suc k) (suc j) h = not_cleared xs k j h
+
+-- what is set by one more mark
+set_by : (xs : List ℕ) (k j : ℕ) → IsPending (slice_set xs k 1) j → (j ≡ k) ⊎ (j ≡ k → ⊥) → IsPending xs j ⊎ ((j ≡ k) × (k < length xs))
+set_by [] k j h same = inl h
+set_by (x ∷ xs) k j h (inr other) = inl (sym (index_other (x ∷ xs) k 1 j other) ∙ h)
+set_by (x ∷ xs) k j h (inl same) = elim (split k (length (x ∷ xs))) [
+  | inl below ↦ inr (same, below)
+  | inr past ↦ inl (sym (past_stays (x ∷ xs) k j past) ∙ h)
+]
+  where
+    past_stays : (ys : List ℕ) (i j : ℕ) → length ys ≤ i → slice_index (slice_set ys i 1) j ≡ slice_index ys j
+    past_stays [] i j p = refl
+    past_stays (y ∷ ys) zero j p = absurd (omega arith)
+    past_stays (y ∷ ys) (suc i) zero p = refl
+    past_stays (y ∷ ys) (suc i) (suc j) p = past_stays ys i j (omega arith)
+
+covered_set : (pending blocks : List ℕ) (k : ℕ) → IsCovered pending blocks → IsCovered (slice_set pending k 1) (slice_set blocks (k / 512) 1)
+covered_set pending blocks k c =
+    let long : length (slice_set pending k 1) ≡ length pending = length_set pending k 1 in
+    let many : length (slice_set blocks (k / 512) 1) ≡ length blocks = length_set blocks (k / 512) 1 in
+    let enough : length pending ≤ length blocks * 512 = c.enough in
+    record {
+      enough = omega arith;
+      in_block = λ j is. by_number j (set_by pending k j is (is_same j k));
+    }
+  where
+    by_number : (j : ℕ) → IsPending pending j ⊎ ((j ≡ k) × (k < length pending)) → IsPending (slice_set blocks (k / 512) 1) (j / 512)
+    by_number j (inl was) = pending_set blocks (k / 512) (j / 512) (c.in_block j was)
+    by_number j (inr (same, below)) =
+        let enough : length pending ≤ length blocks * 512 = c.enough in
+        let within : k / 512 < length blocks = omega arith in
+        ap (λ z. slice_index (slice_set blocks (k / 512) 1) (z / 512)) same ∙ index_set blocks (k / 512) 1 within
+
+covered_marked : (ks : List ℕ) (pending blocks : List ℕ) → IsCovered pending blocks → IsCovered (marked pending ks) (marked_blocks blocks ks)
+covered_marked [] pending blocks c = c
+covered_marked (k ∷ ks) pending blocks c = covered_marked ks (slice_set pending k 1) (slice_set blocks (k / 512) 1) (covered_set pending blocks k c)
+
+covered_settled : (pending blocks : List ℕ) (k : ℕ) → IsCovered pending blocks → IsCovered (slice_set pending k 0) blocks
+covered_settled pending blocks k c =
+    let long : length (slice_set pending k 0) ≡ length pending = length_set pending k 0 in
+    let enough : length pending ≤ length blocks * 512 = c.enough in
+    record { enough = omega arith; in_block = λ j is. c.in_block j (not_cleared pending k j is) }
+
+covered_at_first : (points : ℕ) → IsCovered (replicate points 1) (replicate (points / 512 + 1) 1)
+covered_at_first points =
+    let long : length (replicate points 1) ≡ points = length_replicate points 1 in
+    let many : length (replicate (points / 512 + 1) 1) ≡ points / 512 + 1 = length_replicate (points / 512 + 1) 1 in
+    record {
+      enough = omega (arith, long, many, rest points);
+      in_block = λ k is. by_range k is (split k points);
+    }
+  where
+    rest : (n : ℕ) → n ≤ (n / 512 + 1) * 512
+    rest n = omega arith
+
+    past_is : (n k : ℕ) → n ≤ k → slice_index (replicate n 1) k ≡ 0
+    past_is zero k h = refl
+    past_is (suc n) zero h = absurd (omega arith)
+    past_is (suc n) (suc k) h = past_is n k (omega arith)
+
+    by_range : (k : ℕ) → IsPending (replicate points 1) k → (k < points) ⊎ (points ≤ k) → IsPending (replicate (points / 512 + 1) 1) (k / 512)
+    by_range k is (inl below) = all_pending (points / 512 + 1) (k / 512) (omega arith)
+    by_range k is (inr past) = let none : slice_index (replicate points 1) k ≡ 0 = past_is points k past in absurd (omega (arith, none, is))
+
 -- ---- at first
 
-pub kept_at_first : (m : Model) (K : Partial) (w : Watch) → w.pending.items ≡ replicate (length (points m)) 1 → length w.watchers.items ≡ length K → ((n k : ℕ) → WaitsFor w.watchers.items n k → ⊥) → IsKept m K w
-kept_at_first m K w all as_many none = record {
+pub kept_at_first : (m : Model) (K : Partial) (w : Watch) → w.pending.items ≡ replicate (length (points m)) 1 → w.blocks.items ≡ replicate (length (points m) / 512 + 1) 1 → length w.watchers.items ≡ length K → ((n k : ℕ) → WaitsFor w.watchers.items n k → ⊥) → IsKept m K w
+kept_at_first m K w all blocks as_many none = record {
   each_point = ap length all ∙ length_replicate (length (points m)) 1;
   each_variable = as_many;
+  covered = subst₂ IsCovered (sym all) (sym blocks) (covered_at_first (length (points m)));
   are_open = λ n k waits. absurd (none n k waits);
   asleep = λ k p at not_pending. absurd (not_pending (subst (λ xs. IsPending xs k) (sym all) (all_pending (length (points m)) k (in_range (points m) k p at))));
 }
@@ -129,6 +200,17 @@ none_and_one m K from k before here j p above below is = by_number (is_same j k)
     by_number : (j ≡ k) ⊎ (j ≡ k → ⊥) → GivesNothing m K p
     by_number (inl same) = here p (subst (λ z. slice_get (points m) z ≡ Some p) same is)
     by_number (inr other) = before j p above (below_other j k below other) is
+
+-- where the search changes the blocks alone
+pub kept_searched : (m : Model) (K : Partial) (before after : Watch) → IsKept m K before → after.pending.items ≡ before.pending.items → after.watchers.items ≡ before.watchers.items → IsCovered after.pending.items after.blocks.items → IsKept m K after
+kept_searched m K before after kept pending watchers covered = record {
+  each_point = ap length pending ∙ kept.each_point;
+  each_variable = ap length watchers ∙ kept.each_variable;
+  covered = covered;
+  are_open = λ n k waits. kept.are_open n k (subst (λ ws. WaitsFor ws n k) watchers waits);
+  asleep = λ k p at settled L later still.
+      kept.asleep k p at (λ is. settled (subst (λ xs. IsPending xs k) (sym pending) is)) L later (λ n waits. still n (subst (λ ws. WaitsFor ws n k) (sym watchers) waits));
+}
 
 -- ---- a point is settled
 
@@ -169,6 +251,7 @@ module _ (m : Model) (K : Partial) (before after : Watch) (k : ℕ) (p : Point) 
   kept_settled kept at h s = record {
     each_point = ap length s.pending ∙ length_set before.pending.items k 0 ∙ kept.each_point;
     each_variable = s.as_many ∙ kept.each_variable;
+    covered = subst₂ IsCovered (sym s.pending) (sym s.blocks) (covered_settled before.pending.items before.blocks.items k kept.covered);
     are_open = λ n j waits. opens n j (s.no_more n j waits);
     asleep = settled_asleep kept at h s;
   }
@@ -193,10 +276,11 @@ module _ (m : Model) (K : Partial) (before after : Watch) (x : ℕ) (v : Value) 
       let other : n ≡ x → ⊥ = λ same. let none : slice_get (watched after.watchers.items n) i ≡ None = ap (λ j. slice_get (watched after.watchers.items j) i) same ∙ ap (λ ks. slice_get ks i) left.none_waits in cc in
       (other, (i, sym (ap (λ ks. slice_get ks i) (left.others n other)) ∙ at))
 
-  pub kept_woken : IsKept m K before → IsOpen K x → after.pending.items ≡ marked before.pending.items (watched before.watchers.items x) → IsLeft before.watchers.items after.watchers.items x → IsKept m (give K x v) after
-  kept_woken kept none pending left = record {
+  pub kept_woken : IsKept m K before → IsOpen K x → after.pending.items ≡ marked before.pending.items (watched before.watchers.items x) → after.blocks.items ≡ marked_blocks before.blocks.items (watched before.watchers.items x) → IsLeft before.watchers.items after.watchers.items x → IsKept m (give K x v) after
+  kept_woken kept none pending blocks left = record {
     each_point = ap length pending ∙ length_marked before.pending.items (watched before.watchers.items x) ∙ kept.each_point;
     each_variable = left.as_many ∙ kept.each_variable ∙ sym (length_given K x v);
+    covered = subst₂ IsCovered (sym pending) (sym blocks) (covered_marked (watched before.watchers.items x) before.pending.items before.blocks.items kept.covered);
     are_open = λ n k waits. let (other, was) = waited left n k waits in value_at_other K x n v other ∙ kept.are_open n k was;
     asleep = λ k p at settled L later still.
         kept.asleep k p at (λ was. settled (subst (λ xs. IsPending xs k) (sym pending) (still_marked before.pending.items (watched before.watchers.items x) k was))) L (earlier L later)
@@ -274,37 +358,18 @@ module _ (before : List (Vec ℕ Global)) (n k : ℕ) (v : Vec ℕ Global) where
           ]
       no_more j i (inr other) (at, stands) = inl (at, sym (ap (λ xs. slice_get xs at) (watched_there before n j other)) ∙ stands)
 
-  pub is_left : n < length before → v.items ≡ [] → IsLeft before (slice_set before n v) n
-  is_left within items = record {
-    as_many = length_watchers before n;
-    none_waits = watched_here before n within ∙ items;
-    others = λ j other. watched_there before n j other;
-  }
-
 pub watched_is : (before : List (Vec ℕ Global)) (n : ℕ) (v d : Vec ℕ Global) → n < length before → v ≡ get_or before n d → watched before n ≡ v.items
 watched_is [] n v d h e = absurd (omega arith)
 watched_is (w ∷ before) zero v d h e = ap (λ z. z.items) (sym e)
 watched_is (w ∷ before) (suc n) v d h e = watched_is before n v d (omega arith) e
 
--- nothing changes
-pub waits_past : (before : List (Vec ℕ Global)) (n k : ℕ) → length before ≤ n → WaitsToo before before n k
-waits_past before n k past = record { as_many = refl; keeps = λ j i waits. waits; no_more = λ j i waits. inl waits; waits = λ h. absurd (omega arith) }
-
 -- ---- what is settled
 
-module _ (before after : Watch) (k : ℕ) (pending : after.pending.items ≡ slice_set before.pending.items k 0) where
-  pub settled_forever : after.watchers.items ≡ before.watchers.items → IsSettled before after k Forever
-  settled_forever same = record {
-    pending = pending;
-    as_many = ap length same;
-    keeps = λ j i waits. subst (λ ws. WaitsFor ws j i) (sym same) waits;
-    no_more = λ j i waits. inl (subst (λ ws. WaitsFor ws j i) same waits);
-    waits = λ j is within. absurd is;
-  }
-
+module _ (before after : Watch) (k : ℕ) (pending : after.pending.items ≡ slice_set before.pending.items k 0) (blocks : after.blocks.items ≡ before.blocks.items) where
   pub settled_for : (n : ℕ) → WaitsToo before.watchers.items after.watchers.items n k → IsSettled before after k (For n)
   settled_for n w = record {
     pending = pending;
+    blocks = blocks;
     as_many = w.as_many;
     keeps = w.keeps;
     no_more = λ j i waits. elim (w.no_more j i waits) [ inl was ↦ inl was | inr h ↦ inr (h.1, h.0) ];
@@ -314,6 +379,7 @@ module _ (before after : Watch) (k : ℕ) (pending : after.pending.items ≡ sli
   pub settled_for_either : (a b : ℕ) (between : List (Vec ℕ Global)) → WaitsToo before.watchers.items between a k → WaitsToo between after.watchers.items b k → IsSettled before after k (ForEither a b)
   settled_for_either a b between w u = record {
     pending = pending;
+    blocks = blocks;
     as_many = u.as_many ∙ w.as_many;
     keeps = λ j i waits. u.keeps j i (w.keeps j i waits);
     no_more = λ j i waits. second j i (u.no_more j i waits);
@@ -384,6 +450,3 @@ one_more_empty [] v none e zero = e
 one_more_empty [] v none e (suc n) = refl
 one_more_empty (w ∷ ws) v none e zero = none zero
 one_more_empty (w ∷ ws) v none e (suc n) = one_more_empty ws v (λ j. none (suc j)) e n
-
-pub none_waits_there : (ws : List (Vec ℕ Global)) → ((n : ℕ) → watched ws n ≡ []) → (n k : ℕ) → WaitsFor ws n k → ⊥
-none_waits_there ws none n k (i, stands) = let nothing : slice_get (watched ws n) i ≡ None = ap (λ xs. slice_get xs i) (none n) in cc

@@ -1,7 +1,6 @@
 -- The first answer in a list, as a loop looks for it, and the scalars of arguments as they are kept.
 use Rattle.std.proofs.Common.{◌≡◌, ℕ, suc, zero, ◌+◌, ◌<◌, ◌≤◌, List, [], ◌∷◌, ◌++◌, map, flat_map, length, drop, get_or, Option, Some, None, is_some, refl, sym, ap, ◌∙◌, slice_get, arith, add-one, drop-cons, true, false}
 use Rattle.std.specs.Option.{option_or, option_map_or}
-use Rattle.fz_model.specs.declared.Term.{Term}
 use Rattle.fz_model.specs.declared.Variable.{Variable}
 use Rattle.fz_model.specs.declared.Array.{Array}
 use Rattle.fz_model.specs.declared.Place.{Place}
@@ -26,13 +25,6 @@ first_append f (x ∷ xs) ys = ap (option_or (f x)) (first_append f xs ys) ∙ s
 pub first_flat : {A B C : Type 0} (f : B → Option C) (g : A → List B) (xs : List A) → first_some f (flat_map g xs) ≡ first_some (λ x. first_some f (g x)) xs
 first_flat f g [] = refl
 first_flat f g (x ∷ xs) = first_append f (g x) (flat_map g xs) ∙ ap (option_or (first_some f (g x))) (first_flat f g xs)
-
-pub only_first : {A B : Type 0} (f : A → Option B) (x : A) → first_some f (x ∷ []) ≡ f x
-only_first f x = or_nothing (f x)
-  where
-    or_nothing : {C : Type 0} (o : Option C) → option_or o None ≡ o
-    or_nothing None = refl
-    or_nothing (Some y) = refl
 
 module _ {A B : Type 0} (f : A → Option B) (xs : List A) (i : ℕ) (x : A) (within : i < length xs) (is : x ≡ get_or xs i x) where
   rest_is : drop i xs ≡ x ∷ drop (i + 1) xs

@@ -1,20 +1,18 @@
 -- As long as what a point waits for has no value the point gives nothing.
-use Rattle.std.proofs.Common.{◌≡◌, ℕ, suc, zero, Bool, true, false, cond, ◌==◌, List, [], ◌∷◌, length, Option, Some, None, refl, sym, ap, subst, ◌∙◌, slice_get, option_map, is_none, is_some, arith, eqb-true, ◌⊎◌, inl, inr, subst₂}
+use Rattle.std.proofs.Common.{◌≡◌, ℕ, suc, zero, Bool, true, false, cond, ◌==◌, List, [], ◌∷◌, Option, Some, None, refl, sym, ap, subst, ◌∙◌, slice_get, option_map, is_none, is_some, eqb-true, ◌⊎◌, inl, inr}
 use Rattle.std.proofs.lemmas.Bool.{eqb-false}
-use Rattle.std.specs.List.{AllByRecursion, filter}
 use Rattle.std.specs.Option.{option_or}
 use Rattle.fz_base.specs.declared.value.Value.{Value}
 use Rattle.fz_model.specs.declared.Term.{Term}
 use Rattle.fz_model.specs.declared.Term.TheVariants.{Var, Fixed}
-use Rattle.fz_model.specs.declared.Domain.{Domain}
 use Rattle.fz_model.specs.Meaning.{Model, Posted, Variable, Point, Partial, value, value_at}
-use Rattle.fz_model.specs.Meaning.Point.{DomainPoint, DefinitionPoint, ArrayPoint, ConstraintPoint}
-use Rattle.fz_model.specs.Steps.{Gives, GivesNothing, open_terms, terms_of}
+use Rattle.fz_model.specs.Meaning.Point.{DefinitionPoint, ConstraintPoint}
+use Rattle.fz_model.specs.Steps.{open_terms, terms_of}
 use Rattle.fz_model.proofs.Steps.{only_open_none}
 use Rattle.fz_verdict.specs.Filling.{HasAllOf}
 use Rattle.fz_filling.specs.Outlooks.{Agree, IsLater, IsOpen, IsOutlook, IsWaiting, open_variable, open_other, first_other}
 use Rattle.fz_filling.specs.declared.outlook.Outlook.TheVariants.{Asks}
-use Rattle.fz_filling.specs.declared.outlook.Waiting.TheVariants.{Forever, For, ForEither}
+use Rattle.fz_filling.specs.declared.outlook.Waiting.TheVariants.{Forever, For}
 use Rattle.fz_filling.proofs.Agreeing.{gives_agree}
 
 -- ---- the only scalar without a value
@@ -169,39 +167,7 @@ open_is : (K : Partial) (t : Term) (j : ℕ) → open_variable K t ≡ Some j �
 open_is K (Fixed v) j e = cc
 open_is K (Var k) j e = let (same, none) = here_open K k j e in (ap Var same, subst (λ i. IsOpen K i) same none)
 
-closed_value : (K : Partial) (t : Term) → open_variable K t ≡ None → (v : Value) × (value K t ≡ Some v)
-closed_value K (Fixed v) e = (v, refl)
-closed_value K (Var k) e = there (value_at K k) e
-  where
-    there : (o : Option Value) → ◌≡◌ {A = Option ℕ} (cond (is_none o) (Some k) None) None → (v : Value) × (o ≡ Some v)
-    there None e = cc
-    there (Some v) e = (v, refl)
-
 module _ (m : Model) (K : Partial) where
-  pub never_array : (name : List ℕ) (d : Domain) (ts : List Term) → IsWaiting m K (ArrayPoint name d ts) Forever
-  never_array name d ts = λ L later n v g. g.target
-
-  pub never_domain : (x : Variable) (k : ℕ) (v : Value) → value_at K k ≡ Some v → IsWaiting m K (DomainPoint x k) Forever
-  never_domain x k v set = λ L later n w g. never_set K k v set L later (Var k ∷ []) (g.only_open ∙ ap (λ j. Var j ∷ []) (sym g.target.0))
-
-  pub never_definition : (x : Variable) (k : ℕ) (e : Term) (v w : Value) → value_at K k ≡ Some v → value K e ≡ Some w → IsWaiting m K (DefinitionPoint x k e) Forever
-  never_definition x k e v w left right = λ L later n u g. by_side L later n u g g.target
-    where
-      by_side : (L : Partial) → IsLater K L → (n : ℕ) (u : Value) → Gives m L (DefinitionPoint x k e) n u → (k ≡ n) ⊎ (e ≡ Var n) → ⊥
-      by_side L later n u g (inl same) = never_set K n v (subst (λ j. value_at K j ≡ Some v) same left) L later (Var k ∷ e ∷ []) g.only_open
-      by_side L later n u g (inr same) = never_set K n w (subst (λ t. value K t ≡ Some w) same right) L later (Var k ∷ e ∷ []) g.only_open
-
-  pub waits_definition : (x : Variable) (k j : ℕ) → IsOpen K k → IsOpen K j → IsWaiting m K (DefinitionPoint x k (Var j)) (ForEither k j)
-  waits_definition x k j left right = (left, right, λ L later still_left still_right n v g. two L still_left still_right n g.only_open)
-    where
-      two : (L : Partial) → IsOpen L k → IsOpen L j → (n : ℕ) → open_terms L (Var k ∷ Var j ∷ []) ≡ Var n ∷ [] → ⊥
-      two L left right n e =
-          let both : Var k ∷ Var j ∷ [] ≡ Var n ∷ [] = subst₂ (λ o p. cond (is_none o) (Var k ∷ cond (is_none p) (Var j ∷ []) []) (cond (is_none p) (Var j ∷ []) []) ≡ Var n ∷ []) left right e in
-          cc
-
-  pub never_without_target : (i : ℕ) (p : Posted) → p.target ≡ None → IsWaiting m K (ConstraintPoint i p) Forever
-  never_without_target i p no_target = λ L later n v g. let named : p.target ≡ Some n = g.target.0 in cc
-
   pub never_given : (i : ℕ) (p : Posted) (k : ℕ) (v : Value) → p.target ≡ Some k → value_at K k ≡ Some v → IsWaiting m K (ConstraintPoint i p) Forever
   never_given i p k v target set = λ L later n w g.
       let named : p.target ≡ Some n = g.target.0 in
@@ -225,11 +191,3 @@ module _ (m : Model) (K : Partial) where
   asks_side x k e v j set found =
       let (same, none) = open_is K e j found in
       asks m K j (DefinitionPoint x k e) none (λ i. option_or (closed_here K j (Var k) (closed_set K k v set) i) (option_or ((ap (open_other K j) same ∙ own_is_none K j) i) None))
-
-  pub never_sides : (x : Variable) (k : ℕ) (e : Term) (v : Value) → value_at K k ≡ Some v → open_variable K e ≡ None → IsWaiting m K (DefinitionPoint x k e) Forever
-  never_sides x k e v set closed = let (w, is) = closed_value K e closed in never_definition x k e v w set is
-
-  pub waits_sides : (x : Variable) (k : ℕ) (e : Term) (j : ℕ) → IsOpen K k → open_variable K e ≡ Some j → IsWaiting m K (DefinitionPoint x k e) (ForEither k j)
-  waits_sides x k e j none found =
-      let (same, open') = open_is K e j found in
-      subst (λ t. IsWaiting m K (DefinitionPoint x k t) (ForEither k j)) (sym same) (waits_definition x k j none open')

@@ -1,5 +1,5 @@
 -- Which points are to be looked at, and which wait for a variable. Only private functions use these.
-use Rattle.std.specs.Prelude.{◌≡◌, ℕ, ◌<◌, ◌≤◌, List, [], ◌∷◌, length, Option, Some, slice_get, slice_set, slice_index, Vec, ◌⊎◌}
+use Rattle.std.specs.Prelude.{◌≡◌, ℕ, ◌<◌, ◌≤◌, ◌*◌, ◌/◌, List, [], ◌∷◌, length, Some, slice_get, slice_set, slice_index, Vec, ◌⊎◌}
 use Rattle.std.specs.Option.{option_map_or}
 use Rattle.std.specs.declared.alloc.Global.{Global}
 use Rattle.fz_model.specs.Meaning.{Model, Partial, Point, points}
@@ -21,12 +21,22 @@ watched watchers n = option_map_or (λ v. v.items) (slice_get watchers n) []
 abbrev pub WaitsFor : List (Vec ℕ Global) → ℕ → ℕ → Type 0
 WaitsFor watchers n k = (i : ℕ) × (slice_get (watched watchers n) i ≡ Some k)
 
+-- each point that is to be looked at lies in a block that is marked; 512 points make a block
+pub record IsCovered (pending blocks : List ℕ) : Type 0 where
+  pub enough : length pending ≤ length blocks * 512
+  pub in_block : (k : ℕ) → IsPending pending k → IsPending blocks (k / 512)
+
 -- ---- changes
 
 -- these points are to be looked at too
 abbrev pub marked : List ℕ → List ℕ → List ℕ
 marked pending [] = pending
 marked pending (k ∷ ks) = marked (slice_set pending k 1) ks
+
+-- the blocks of these points are marked too
+abbrev pub marked_blocks : List ℕ → List ℕ → List ℕ
+marked_blocks blocks [] = blocks
+marked_blocks blocks (k ∷ ks) = marked_blocks (slice_set blocks (k / 512) 1) ks
 
 -- the point waits for the variable too, and nothing else changes
 pub record WaitsToo (before after : List (Vec ℕ Global)) (n k : ℕ) : Type 0 where
@@ -50,6 +60,7 @@ IsAwaited (ForEither a b) n = (n ≡ a) ⊎ (n ≡ b)
 -- the point waits, and is not to be looked at
 pub record IsSettled (before after : Watch) (k : ℕ) (w : Waiting) : Type 0 where
   pub pending : after.pending.items ≡ slice_set before.pending.items k 0
+  pub blocks : after.blocks.items ≡ before.blocks.items
   pub as_many : length after.watchers.items ≡ length before.watchers.items
   pub keeps : (j i : ℕ) → WaitsFor before.watchers.items j i → WaitsFor after.watchers.items j i
   pub no_more : (j i : ℕ) → WaitsFor after.watchers.items j i → WaitsFor before.watchers.items j i ⊎ ((i ≡ k) × IsAwaited w j)
@@ -62,6 +73,7 @@ pub record IsSettled (before after : Watch) (k : ℕ) (w : Waiting) : Type 0 whe
 pub record IsKept (m : Model) (K : Partial) (w : Watch) : Type 0 where
   pub each_point : length w.pending.items ≡ length (points m)
   pub each_variable : length w.watchers.items ≡ length K
+  pub covered : IsCovered w.pending.items w.blocks.items
   pub are_open : (n k : ℕ) → WaitsFor w.watchers.items n k → IsOpen K n
   pub asleep : (k : ℕ) (p : Point) → slice_get (points m) k ≡ Some p → (IsPending w.pending.items k → ⊥)
       → (L : Partial) → IsLater K L → ((n : ℕ) → WaitsFor w.watchers.items n k → IsOpen L n) → GivesNothing m L p

@@ -1,5 +1,5 @@
 -- Steps by the numbers of points, and the variables without a value. Only private functions use these.
-use Rattle.std.specs.Prelude.{◌≡◌, ℕ, suc, ◌<◌, ◌≤◌, List, [], ◌∷◌, Option, None, Some, slice_get}
+use Rattle.std.specs.Prelude.{◌≡◌, ℕ, suc, ◌<◌, ◌≤◌, [], ◌∷◌, None, Some, slice_get}
 use Rattle.fz_base.specs.declared.value.Value.{Value}
 use Rattle.fz_model.specs.Meaning.{Model, Partial, Point, points}
 use Rattle.fz_model.specs.Steps.{Gives, GivesNothing}

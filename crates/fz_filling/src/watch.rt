@@ -1,7 +1,7 @@
 //! Which points are to be looked at, and which wait for a variable.
 
-ghost use Rattle.std.specs.Prelude.{◌≡◌, ◌<◌, ◌≤◌, IfOk, IfSome, IsNone, OnOk, length, replicate, ℕ, []};
-ghost use Rattle.fz_filling.specs.Kept.{IsLeft, IsNext, IsSettled, NoneIsPending, WaitsFor, WaitsToo, marked, watched};
+ghost use Rattle.std.specs.Prelude.{◌≡◌, ◌<◌, ◌≤◌, ◌+◌, ◌*◌, ◌/◌, IfOk, IfSome, IsNone, OnOk, length, replicate, ℕ, []};
+ghost use Rattle.fz_filling.specs.Kept.{IsCovered, IsLeft, IsNext, IsSettled, NoneIsPending, WaitsFor, WaitsToo, marked, marked_blocks, watched};
 
 use crate::outlook::Waiting;
 use memchr::memchr;
@@ -11,10 +11,15 @@ const PENDING: u8 = 1;
 
 const SETTLED: u8 = 0;
 
-/// One byte a point, which tells whether the point is to be looked at, and for each variable the points that wait for it.
+/// So many points make a block.
+const BLOCK: usize = 512;
+
+/// One byte a point, which tells whether the point is to be looked at, and for each variable the points that wait for it. One byte a block
+/// of points tells whether one of them may be to be looked at, so that the next such point is found without a walk over all.
 #[derive(Drop)]
 pub(crate) struct Watch {
     pending: Vec<u8>,
+    blocks: Vec<u8>,
     watchers: Vec<Vec<usize>>,
 }
 
@@ -22,28 +27,69 @@ impl Watch {
     /// All points are to be looked at, and none waits.
     pub(crate) fn new(alloc: Global, points: usize, variables: usize) -> Result<Watch, AllocError>
         ensures pending { IfOk result (λ w. w.pending.items ≡ replicate points 1) }
+        ensures blocks { IfOk result (λ w. w.blocks.items ≡ replicate (points / 512 + 1) 1) }
         ensures as_many { IfOk result (λ w. length w.watchers.items ≡ variables) }
         ensures none_waits { IfOk result (λ w. (n k : ℕ) → WaitsFor w.watchers.items n k → ⊥) }
     {
         let mut pending = Vec::new(alloc);
         pending.resize(points, PENDING)?;
+        let mut blocks = Vec::new(alloc);
+        blocks.resize(points / BLOCK + 1, PENDING)?;
         Ok(Watch {
             pending,
+            blocks,
             watchers: no_watchers(alloc, variables)?,
         })
     }
 
     /// The first point to be looked at of those from a number up to another.
-    pub(crate) fn next(&self, from: usize, to: usize) -> Option<usize>
+    pub(crate) fn next(&mut self, from: usize, to: usize) -> Option<usize>
         requires in_order { from ≤ to }
-        requires in_range { to ≤ length self.now.pending.items }
-        ensures first { IfSome result (λ k. IsNext self.now.pending.items from to k) }
-        ensures none { IsNone result → NoneIsPending self.now.pending.items from to }
+        requires in_range { to ≤ length self.old.pending.items }
+        requires covered { IsCovered self.old.pending.items self.old.blocks.items }
+        ensures first { IfSome result (λ k. IsNext self.old.pending.items from to k) }
+        ensures none { IsNone result → NoneIsPending self.old.pending.items from to }
+        ensures pending { self.new.pending.items ≡ self.old.pending.items }
+        ensures watchers { self.new.watchers.items ≡ self.old.watchers.items }
+        ensures covered { IsCovered self.new.pending.items self.new.blocks.items }
     {
-        match memchr(PENDING, &self.pending[from..to]) {
-            Some(place) => Some(from + place),
-            None => None,
+        let mut at = from;
+        while at < to {
+            let Some(block) = first_set(&self.blocks, at / BLOCK, (to - 1) / BLOCK + 1) else {
+                return None;
+            };
+            let base = block * BLOCK;
+            let start = if at < base { base } else { at };
+            let end = if to - base < BLOCK { to } else { base + BLOCK };
+            if let Some(point) = self.next_within(block, start, end) {
+                return Some(point);
+            }
+            at = end;
         }
+        None
+    }
+
+    /// The first point to be looked at of a part of a block. Where a whole block has none, that is kept.
+    fn next_within(&mut self, block: usize, start: usize, end: usize) -> Option<usize>
+        requires in_order { start ≤ end }
+        requires in_range { end ≤ length self.old.pending.items }
+        requires in_block { (block * 512 ≤ start) × (end ≤ block * 512 + 512) }
+        requires is_block { block < length self.old.blocks.items }
+        requires covered { IsCovered self.old.pending.items self.old.blocks.items }
+        ensures first { IfSome result (λ k. IsNext self.old.pending.items start end k) }
+        ensures none { IsNone result → NoneIsPending self.old.pending.items start end }
+        ensures pending { self.new.pending.items ≡ self.old.pending.items }
+        ensures watchers { self.new.watchers.items ≡ self.old.watchers.items }
+        ensures covered { IsCovered self.new.pending.items self.new.blocks.items }
+    {
+        if let Some(point) = first_set(&self.pending, start, end) {
+            return Some(point);
+        }
+        if end - start < BLOCK {
+            return None;
+        }
+        self.blocks[block] = SETTLED;
+        None
     }
 
     /// The point waits, and is not looked at until then.
@@ -67,9 +113,11 @@ impl Watch {
     pub(crate) fn wake(&mut self, variable: usize)
         requires in_range { variable < length self.old.watchers.items }
         ensures pending { self.new.pending.items ≡ marked self.old.pending.items (watched self.old.watchers.items variable) }
+        ensures blocks { self.new.blocks.items ≡ marked_blocks self.old.blocks.items (watched self.old.watchers.items variable) }
         ensures left { IsLeft self.old.watchers.items self.new.watchers.items variable }
     {
         mark(&mut self.pending, &self.watchers[variable]);
+        mark_blocks(&mut self.blocks, &self.watchers[variable]);
         self.watchers[variable].clear();
     }
 }
@@ -104,5 +152,30 @@ fn mark(pending: &mut Vec<u8>, points: &[usize])
         if *point < pending.len() {
             pending[*point] = PENDING;
         }
+    }
+}
+
+/// The blocks of these points have one to be looked at.
+fn mark_blocks(blocks: &mut Vec<u8>, points: &[usize])
+    ensures { blocks.new.items ≡ marked_blocks blocks.old.items points.now }
+{
+    for point in points {
+        let block = *point / BLOCK;
+        if block < blocks.len() {
+            blocks[block] = PENDING;
+        }
+    }
+}
+
+/// The first of the bytes from a place up to another that is set.
+fn first_set(bytes: &[u8], from: usize, to: usize) -> Option<usize>
+    requires in_order { from ≤ to }
+    requires in_range { to ≤ length bytes.now }
+    ensures first { IfSome result (λ k. IsNext bytes.now from to k) }
+    ensures none { IsNone result → NoneIsPending bytes.now from to }
+{
+    match memchr(PENDING, &bytes[from..to]) {
+        Some(place) => Some(from + place),
+        None => None,
     }
 }

@@ -1,5 +1,5 @@
-use Rattle.std.proofs.Common.{◌≡◌, ◌<◌, ℕ, suc, length, replicate, is_some, refl, sym, ap, subst, ◌∙◌, arith}
-use Rattle.fz_model.specs.Meaning.{IsPartial, give, points}
+use Rattle.std.proofs.Common.{◌≡◌, ◌+◌, ◌/◌, ℕ, suc, length, replicate, is_some, sym, ap, subst, ◌∙◌, arith}
+use Rattle.fz_model.specs.Meaning.{IsPartial, give}
 use Rattle.fz_verdict.proofs.Loops.{Reaches, reaches_after, reaches_at_first, reaches_end}
 use Rattle.fz_filling.specs.Kept.{IsKept}
 use Rattle.fz_filling.specs.Stepping.{unset_count}
@@ -13,7 +13,8 @@ loop-unset-init c = record {
   in_range = omega arith;
   fits = c.requires.fits;
   counted = c.unset_count-unset.ensures ∙ ap unset_count c.values.ensures.all;
-  kept = kept_at_first c.args.model.now c.args.partial.now c.in_ok-watch.watch (c.in_ok-watch.ensures.pending ∙ ap (λ (n : ℕ). replicate n 1) c.points.ensures.counted) (c.in_ok-watch.ensures.as_many ∙ ap length c.values-2.ensures.all) c.in_ok-watch.ensures.none_waits;
+  kept = kept_at_first c.args.model.now c.args.partial.now c.in_ok-watch.watch (c.in_ok-watch.ensures.pending ∙ ap (λ (n : ℕ). replicate n 1) c.points.ensures.counted)
+      (c.in_ok-watch.ensures.blocks ∙ ap (λ (n : ℕ). replicate (n / 512 + 1) 1) c.points.ensures.counted) (c.in_ok-watch.ensures.as_many ∙ ap length c.values-2.ensures.all) c.in_ok-watch.ensures.none_waits;
 }
 
 pub returns-in_default-clause-filled : goal.returns-in_default-clause-filled
@@ -51,7 +52,7 @@ loop-unset-preserved c =
       fits = subst (IsPartial c.args.model.now) (sym c.set.ensures.given) (step_fits c.args.model.now c.loop-unset.partial c.loop-unset.from c.in-Some.step.point c.in-Some.step.variable c.in-Some.step.value c.loop-unset.invariant.fits first);
       counted = omega (arith, less, same, before);
       kept = subst (λ K. IsKept c.args.model.now K c.wake.new.self) (sym c.set.ensures.given)
-          (kept_woken c.args.model.now c.loop-unset.partial c.next_step.new.watch c.wake.new.self c.in-Some.step.variable c.in-Some.step.value c.in_ok-step.ensures.kept unset c.wake.ensures.pending c.wake.ensures.left);
+          (kept_woken c.args.model.now c.loop-unset.partial c.next_step.new.watch c.wake.new.self c.in-Some.step.variable c.in-Some.step.value c.in_ok-step.ensures.kept unset c.wake.ensures.pending c.wake.ensures.blocks c.wake.ensures.left);
     }
 
 pub returns-clause-filled : goal.returns-clause-filled

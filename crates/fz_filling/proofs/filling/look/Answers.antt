@@ -1,5 +1,4 @@
-use Rattle.std.proofs.Common.{refl, sym, ap, subst, ◌∙◌, ◌≡◌, slice_get, Some}
-use Rattle.fz_model.specs.Meaning.{points}
+use Rattle.std.proofs.Common.{sym, subst, ◌∙◌, ◌≡◌, Some}
 use Rattle.fz_model.specs.Steps.{GivesNothing}
 use Rattle.fz_model.specs.Shown.{point_view}
 use Rattle.fz_filling.specs.declared.outlook.Waiting.TheVariants.{For}

@@ -1,6 +1,6 @@
-use Rattle.std.proofs.Common.{is_some, sym, ap, arith}
+use Rattle.std.proofs.Common.{is_some, ap, arith}
 use Rattle.fz_filling.specs.Stepping.{NoneGives}
-use Rattle.fz_filling.proofs.Keeping.{none_and_one, none_between, none_joined}
+use Rattle.fz_filling.proofs.Keeping.{kept_searched, none_and_one, none_between, none_joined}
 use Rattle.fz_filling.proofs.Stepping.{at_some}
 use Rattle.fz_filling.proofs.filling.step_between.Goals as goal
 
@@ -31,3 +31,11 @@ loop-at-preserved c =
       none_gives = none_and_one c.args.model.now c.args.partial.now c.args.from c.in-Some.point before (c.in_ok-variable.ensures.nothing (ap is_some c.in_default-2.is));
       kept = c.in_ok-variable.ensures.kept;
     }
+
+pub returns-in_default-clause-kept : goal.returns-in_default-clause-kept
+returns-in_default-clause-kept c =
+    kept_searched c.args.model.now c.args.partial.now c.loop-at.watch c.next.new.self c.loop-at.invariant.kept c.next.ensures.pending c.next.ensures.watchers c.next.ensures.covered
+
+pub look-requires-clause-kept : goal.look-requires-clause-kept
+look-requires-clause-kept c =
+    kept_searched c.args.model.now c.args.partial.now c.loop-at.watch c.next.new.self c.loop-at.invariant.kept c.next.ensures.pending c.next.ensures.watchers c.next.ensures.covered

@@ -1,6 +1,6 @@
 use Rattle.std.proofs.Common.{◌≡◌, drop}
 use Rattle.fz_model.specs.Meaning.{first_some}
-use Rattle.fz_filling.specs.Outlooks.{first_other, open_other, terms_given, terms_kept}
+use Rattle.fz_filling.specs.Outlooks.{first_other, terms_kept}
 use Rattle.fz_filling.proofs.outlook.first_among.Given as goal
 
 abbrev pub invariant-loop-place : goal.invariant-loop-place

@@ -1,6 +1,6 @@
 use Rattle.std.proofs.Common.{is_some, sym, ap, ◌∙◌, arith}
-use Rattle.fz_filling.specs.Outlooks.{first_other, open_other, terms_given, terms_kept}
-use Rattle.fz_filling.proofs.Searching.{some_here, none_here, none_left, first_flat}
+use Rattle.fz_filling.specs.Outlooks.{open_other}
+use Rattle.fz_filling.proofs.Searching.{some_here, none_here, none_left}
 use Rattle.fz_filling.proofs.outlook.first_of.Goals as goal
 
 pub returns-then-is_some : goal.returns-then-is_some

@@ -1,6 +1,6 @@
 use Rattle.std.proofs.Common.{◌≡◌, drop}
 use Rattle.fz_model.specs.Meaning.{first_some}
-use Rattle.fz_filling.specs.Outlooks.{first_other, open_other, terms_given, terms_kept}
+use Rattle.fz_filling.specs.Outlooks.{open_other}
 use Rattle.fz_filling.proofs.outlook.first_of.Given as goal
 
 abbrev pub invariant-loop-term : goal.invariant-loop-term

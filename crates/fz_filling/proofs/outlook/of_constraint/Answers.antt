@@ -1,4 +1,4 @@
-use Rattle.std.proofs.Common.{refl, sym, ap, ◌∙◌}
+use Rattle.std.proofs.Common.{sym, ap, ◌∙◌}
 use Rattle.fz_model.specs.Meaning.{first_some}
 use Rattle.fz_model.specs.Meaning.Point.{ConstraintPoint}
 use Rattle.fz_model.specs.Parts.{posted_view}

@@ -1,5 +1,5 @@
-use Rattle.std.proofs.Common.{refl, sym, ◌∙◌}
-use Rattle.fz_filling.proofs.Waiting.{asks_side, asks_own, never_sides, waits_sides}
+use Rattle.std.proofs.Common.{sym}
+use Rattle.fz_filling.proofs.Waiting.{asks_side, asks_own}
 use Rattle.fz_filling.proofs.outlook.of_definition.Goals as goal
 
 pub returns-in-Some-open : goal.returns-in-Some-open

@@ -1,4 +1,4 @@
-use Rattle.std.proofs.Common.{refl, sym, ◌∙◌}
+use Rattle.std.proofs.Common.{sym}
 use Rattle.fz_model.specs.Meaning.Point.{DomainPoint}
 use Rattle.fz_filling.proofs.Waiting.{asks, first_of_own}
 use Rattle.fz_filling.proofs.outlook.of_domain.Goals as goal
