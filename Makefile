@@ -29,6 +29,7 @@ test:
 	cp crates/fzcheck/out/fzcheck build/fzcheck
 	tests/program.sh build/fzcheck
 	tests/broken/run.py build/fzcheck
+	tests/corpus/run.py build/fzcheck tests/corpus examples
 
 corpus: build/fzcheck
 	tests/corpus/run.py build/fzcheck tests/corpus examples
