@@ -28,6 +28,8 @@ usage='usage: fzcheck show MODEL | check MODEL [STREAM]'
 accepted=$'block 1: satisfied\naccepted: blocks 1'
 printf 'x = 1;\n----------\n' >"$folder/wrong.out"
 printf 'x = 3;\n' >"$folder/open.out"
+printf 'x = 3;\n----------\nx = 4;\n' >"$folder/two.out"
+printf 'x = 3;\n----------\ny = 4;\n----------\n' >"$folder/other.out"
 printf 'solve satisfy' >"$folder/broken.fzn"
 printf 'bool: b = true;\nvar int: b;\nsolve satisfy;\n' >"$folder/twice.fzn"
 
@@ -45,6 +47,9 @@ expect 'the first model, by --' 0 "$accepted" '' "$program" check -- examples/fi
 expect 'standard input without a block' 3 'no blocks' '' "$program" check examples/first.fzn
 expect 'a violated block' 1 $'block 1: violated: constraint 1 int_le\nrejected: block 1' '' "$program" check examples/first.fzn "$folder/wrong.out"
 expect 'an open block' 4 '' 'refused: stream: Unfinished at 0..7' "$program" check examples/first.fzn "$folder/open.out"
+expect 'the lines before a fault' 4 'block 1: satisfied' 'refused: stream: Unfinished at 18..25' "$program" check examples/first.fzn "$folder/two.out"
+expect 'the lines before a block that does not fit' 4 'block 1: satisfied' 'refused: block 2: UnknownName at 18..19' "$program" check examples/first.fzn "$folder/other.out"
+expect 'an optimisation' 0 "$(cat examples/knapsack/report.txt)" '' "$program" check examples/knapsack/model.fzn examples/knapsack/stream.txt
 expect 'a broken model' 4 '' 'refused: model: Syntax at 13..13' "$program" show "$folder/broken.fzn"
 expect 'a name declared twice' 4 '' 'refused: model: DuplicateName at 25..26' "$program" show "$folder/twice.fzn"
 expect 'a name declared twice, checked' 4 '' 'refused: model: DuplicateName at 25..26' "$program" check "$folder/twice.fzn" examples/first.out
@@ -59,6 +64,25 @@ for model in examples/*.fzn examples/*/model.fzn tests/corpus/*/model.fzn; do
   expect "$model shown" 0 "$(cat "$wanted")" '' "$program" show "$model"
   expect "$model shown twice" 0 "$(cat "$folder/shown.fzn")" '' "$program" show "$folder/shown.fzn"
 done
+
+# a block's line is written before the next block is complete
+mkfifo "$folder/pipe"
+"$program" check examples/first.fzn <"$folder/pipe" >"$folder/lines" 2>&1 &
+exec 7>"$folder/pipe"
+printf 'x = 3;\n----------\nx = 4;\n' >&7
+for _ in $(seq 100); do
+  [ -s "$folder/lines" ] && break
+  sleep 0.1
+done
+early=$(cat "$folder/lines")
+exec 7>&-
+wait
+if [ "$early" = 'block 1: satisfied' ]; then
+  passed=$((passed + 1))
+else
+  failed=$((failed + 1))
+  echo "failed: a line is late: $early"
+fi
 
 echo "$passed passed, $failed failed"
 [ "$failed" -eq 0 ]
