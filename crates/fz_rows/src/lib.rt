@@ -9,3 +9,5 @@ mod checking;
 mod printing;
 #[cfg(test)]
 mod reading;
+#[cfg(test)]
+mod streaming;
