@@ -13,9 +13,9 @@ use Rattle.fz_base.specs.Sets.{NumberSet, numbers_between, symmetric_difference,
 use Rattle.fz_base.specs.Ranges.{numbers_of, CoversOnly, covers, is_between, keeps}
 use Rattle.fz_base.proofs.Numbers.{contains-numbers_of, contains-numbers_between, contains-symmetric_difference, same_numbers}
 
--- a list of ranges that are those of the set
-pub seen : (s : NumberSet) (rs ls : List Range) → numbers_of rs ≡ s → ls ≡ rs → (x : ℤ) → covers ls x ≡ contains s x
-seen s rs ls view e x = rw (e, ← view) (sym (contains-numbers_of rs x))
+-- ranges that cover the numbers of a set
+pub seen : (s : NumberSet) (rs : List Range) → numbers_of rs ≡ s → (x : ℤ) → covers rs x ≡ contains s x
+seen s rs view x = rw (← view) (sym (contains-numbers_of rs x))
 
 -- ranges that cover what a set contains
 pub made : (rs : List Range) (s : NumberSet) → ((x : ℤ) → covers rs x ≡ contains s x) → numbers_of rs ≡ s

@@ -14,7 +14,7 @@ use crate::outcome::Outcome;
 use crate::sums::sums_leave;
 use fz_data::{ConstraintParts, Partial};
 use fz_meaning::State;
-use fz_scene::{Readiness, Scene, no_numbers};
+use fz_scene::{Readiness, Scene};
 use fz_table::Known;
 use std::alloc::{AllocError, Global};
 
@@ -30,8 +30,7 @@ pub(crate) fn of_constraint(
     let Some(known) = parts.known else {
         return Ok(State::Unknown);
     };
-    let empty = no_numbers(alloc)?;
-    of_scene(alloc, known, &Scene::new(parts, partial, &empty))
+    of_scene(alloc, known, &Scene::new(parts, partial))
 }
 
 fn of_scene(alloc: Global, known: Known, scene: &Scene<'_, '_>) -> Result<State, AllocError>

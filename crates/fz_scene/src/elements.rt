@@ -1,8 +1,5 @@
 //! The elements of an array under a partial assignment.
 
-ghost use Rattle.std.specs.Prelude.{◌≡◌};
-ghost use Rattle.std.specs.FinSet as the_sets;
-
 use crate::reading::{all_read, are_read, bool_in, int_in, scalar_at, set_in, term_at};
 use fz_base::{IntSet, Value};
 use fz_data::{Partial, Place};
@@ -20,8 +17,6 @@ pub(crate) enum Kept<'s, 'a> {
 pub struct Elements<'s, 'a> {
     pub(crate) kept: Kept<'s, 'a>,
     pub(crate) partial: &'s Partial,
-    pub(crate) empty: &'s IntSet,
-    ghost has_no_numbers: { empty.now ≡ the_sets.empty },
 }
 
 impl<'s, 'a> Elements<'s, 'a> {
@@ -82,7 +77,7 @@ impl<'s, 'a> Elements<'s, 'a> {
         requires in_range { index < length (slots_of self.now) }
         ensures read { slice_get (sets self.now) index ≡ Some result.now }
     {
-        set_in(self.value(index), self.empty)
+        set_in(self.value(index), self.partial.no_numbers())
     }
 
     // Whether each has a value of the kind.

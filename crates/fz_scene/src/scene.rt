@@ -1,35 +1,21 @@
 //! A constraint under a partial assignment.
 
-ghost use Rattle.std.specs.Prelude.{◌≡◌, IfOk};
-ghost use Rattle.std.specs.FinSet as sets;
-
 use crate::elements::{Elements, Kept};
 use crate::given::{are_given, elements};
 use crate::reading::{Readiness, bool_in, int_in, is_of, set_in, value_at};
 use fz_base::{IntSet, Value};
 use fz_data::{Argument, ConstraintParts, Partial, Place};
 use fz_table::Shape;
-use std::alloc::{AllocError, Global};
-
-/// The empty set, which a scene reads where there is no other. It takes no memory.
-pub fn no_numbers(alloc: Global) -> Result<IntSet, AllocError>
-    ensures { IfOk result (λ s. s ≡ sets.empty) }
-{
-    IntSet::list(alloc, &[]).map_err(|_| AllocError)
-}
 
 /// A constraint's arguments under a partial assignment.
 #[derive(Clone, Copy)]
 pub struct Scene<'s, 'a> {
     parts: ConstraintParts<'s, 'a>,
     partial: &'s Partial,
-    empty: &'s IntSet,
-    ghost has_no_numbers: { empty.now ≡ sets.empty },
 }
 
 impl<'s, 'a> Scene<'s, 'a> {
     ghost use Rattle.std.specs.Prelude.{◌≡◌, map, option_map};
-    ghost use Rattle.std.specs.FinSet as sets;
     ghost use Rattle.fz_meaning.specs.Meaning as meaning;
     ghost use Rattle.fz_table.specs.Known.{shape_of};
     ghost use Rattle.fz_data.specs.Parts.{argument_view, place_view, posted_view};
@@ -37,20 +23,11 @@ impl<'s, 'a> Scene<'s, 'a> {
     ghost use Rattle.fz_scene.specs.Views.{IsReadiness, arguments_of, assigned, slots_kept, slots_of, under};
 
     /// The arguments of a constraint, under a partial assignment. It takes no memory.
-    pub fn new(
-        parts: ConstraintParts<'s, 'a>,
-        partial: &'s Partial,
-        empty: &'s IntSet,
-    ) -> Scene<'s, 'a>
-        requires no_numbers { empty.now ≡ sets.empty }
+    pub fn new(parts: ConstraintParts<'s, 'a>, partial: &'s Partial) -> Scene<'s, 'a>
         ensures arguments { arguments_of result ≡ (posted_view parts.entry.variables.now parts.entry.arrays.now parts.entry.posted.now).arguments }
         ensures assigned { assigned result ≡ partial.now }
     {
-        Scene {
-            parts,
-            partial,
-            empty,
-        }
+        Scene { parts, partial }
     }
 
     /// The argument at a place, counted from 0, as a whole number. It takes no memory.
@@ -71,7 +48,7 @@ impl<'s, 'a> Scene<'s, 'a> {
     pub fn set(&self, index: usize) -> &'s IntSet
         ensures read { result.now ≡ set_at (assigned self.now) (arguments_of self.now) index }
     {
-        set_in(self.value(index), self.empty)
+        set_in(self.value(index), self.partial.no_numbers())
     }
 
     /// The elements of the argument at a place, where it is an array. It takes no memory.
@@ -112,7 +89,6 @@ impl<'s, 'a> Scene<'s, 'a> {
         Elements {
             kept,
             partial: self.partial,
-            empty: self.empty,
         }
     }
 
