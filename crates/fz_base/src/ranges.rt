@@ -293,6 +293,58 @@ fn nothing_kept(a: &[Range], b: &[Range], rule: Rule) -> bool
     }
 }
 
+/// What `stretch` gives of three lists, up to the nearest end.
+fn common_stretch(a: &[Range], b: &[Range], c: &[Range], at: i64) -> (bool, bool, bool, i64)
+    requires a_in_order { AreInOrder lowest a.now }
+    requires b_in_order { AreInOrder lowest b.now }
+    requires c_in_order { AreInOrder lowest c.now }
+    requires a_ahead { ReachesTo at a.now }
+    requires b_ahead { ReachesTo at b.now }
+    requires c_ahead { ReachesTo at c.now }
+    ensures goes_on { at ≤ℤ result.3 }
+    ensures a_ahead { ReachesTo result.3 a.now }
+    ensures b_ahead { ReachesTo result.3 b.now }
+    ensures c_ahead { ReachesTo result.3 c.now }
+    ensures a_alike { (x : ℤ) → at ≤ℤ x → x ≤ℤ result.3 → covers a.now x ≡ result.0 }
+    ensures b_alike { (x : ℤ) → at ≤ℤ x → x ≤ℤ result.3 → covers b.now x ≡ result.1 }
+    ensures c_alike { (x : ℤ) → at ≤ℤ x → x ≤ℤ result.3 → covers c.now x ≡ result.2 }
+{
+    let (in_a, in_b, end) = shared_stretch(a, b, at);
+    let (in_c, end_c) = stretch(c, at);
+    if end_c < end {
+        (in_a, in_b, in_c, end_c)
+    } else {
+        (in_a, in_b, in_c, end)
+    }
+}
+
+/// Whether the third set has what the rule keeps of the two others, and nothing else.
+pub fn is_kept(a: &[Range], b: &[Range], c: &[Range], rule: Rule) -> bool
+    requires a_in_order { AreInOrder lowest a.now }
+    requires b_in_order { AreInOrder lowest b.now }
+    requires c_in_order { AreInOrder lowest c.now }
+    ensures { IsTrue result ↔ ((x : ℤ) → covers c.now x ≡ keeps rule (covers a.now x) (covers b.now x)) }
+{
+    let mut at = i64::MIN;
+    let mut rest_a = a;
+    let mut rest_b = b;
+    let mut rest_c = c;
+    'walk: loop {
+        let (in_a, in_b, in_c, end) = common_stretch(rest_a, rest_b, rest_c, at);
+        let wanted = keeps(rule, in_a, in_b);
+        if in_c != wanted {
+            return false;
+        }
+        if end == i64::MAX {
+            return true;
+        }
+        rest_a = past(rest_a, end);
+        rest_b = past(rest_b, end);
+        rest_c = past(rest_c, end);
+        at = end + 1;
+    }
+}
+
 /// The ranges of numbers that are listed in order, with repeats.
 pub fn gather(alloc: Global, numbers: &[i64]) -> Result<Vec<Range>, AllocError>
     requires { IsSorted int_cmp numbers.now }

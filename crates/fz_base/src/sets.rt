@@ -135,6 +135,38 @@ impl IntSet {
     }
 }
 
+/// Asking whether a set is what an operation makes of two others, in one pass over the three. These calls take no memory and
+/// always succeed.
+impl IntSet {
+    /// Whether this set is what is in one of the two or in both.
+    pub fn is_union(&self, a: &IntSet, b: &IntSet) -> bool
+        ensures { IsTrue result ↔ (self.now ≡ set.union a.now b.now) }
+    {
+        ranges::is_kept(a.kept(), b.kept(), self.kept(), Rule::Union)
+    }
+
+    /// Whether this set is what is in both.
+    pub fn is_intersection(&self, a: &IntSet, b: &IntSet) -> bool
+        ensures { IsTrue result ↔ (self.now ≡ set.intersection a.now b.now) }
+    {
+        ranges::is_kept(a.kept(), b.kept(), self.kept(), Rule::Intersect)
+    }
+
+    /// Whether this set is what is in the first and not in the second.
+    pub fn is_difference(&self, a: &IntSet, b: &IntSet) -> bool
+        ensures { IsTrue result ↔ (self.now ≡ set.difference a.now b.now) }
+    {
+        ranges::is_kept(a.kept(), b.kept(), self.kept(), Rule::Minus)
+    }
+
+    /// Whether this set is what is in exactly one of the two.
+    pub fn is_symmetric_difference(&self, a: &IntSet, b: &IntSet) -> bool
+        ensures { IsTrue result ↔ (self.now ≡ symmetric_difference a.now b.now) }
+    {
+        ranges::is_kept(a.kept(), b.kept(), self.kept(), Rule::Symdiff)
+    }
+}
+
 /// Combining and copying sets, in one pass over the operands. Each of these calls refuses only where
 /// memory runs out.
 impl IntSet {
