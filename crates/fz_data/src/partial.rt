@@ -58,6 +58,7 @@ impl Partial {
     }
 
     /// The value of the variable of a number: none where it has none, or where the number is no variable's. It takes no memory.
+    #[inline(always)]
     pub fn get(&self, number: usize) -> Option<&Value>
         ensures looked_up { option_map (λ v. v.now) result ≡ value_at self.now number }
     {
@@ -65,6 +66,7 @@ impl Partial {
     }
 
     /// The value of a scalar, where it has one. It takes no memory.
+    #[inline(always)]
     pub fn value<'p>(&'p self, term: &'p Term) -> Option<&'p Value>
         ensures valued { option_map (λ v. v.now) result ≡ value self.now term.now }
     {

@@ -19,6 +19,7 @@ use fz_table::Known;
 use std::alloc::{AllocError, Global};
 
 /// The state of a constraint: unknown without a row, whatever its values are; then without a value; then too large; then by its row.
+#[inline]
 pub(crate) fn of_constraint(
     alloc: Global,
     parts: ConstraintParts<'_, '_>,
@@ -33,6 +34,7 @@ pub(crate) fn of_constraint(
     of_scene(alloc, known, &Scene::new(parts, partial))
 }
 
+#[inline]
 fn of_scene(alloc: Global, known: Known, scene: &Scene<'_, '_>) -> Result<State, AllocError>
     requires fits { have_shapes (known_row known).shapes (arguments_of scene.now) ≡ true }
     ensures { IfOk result (λ s. s ≡ state_of_row (assigned scene.now) (arguments_of scene.now) (Some (known_row known))) }
@@ -55,6 +57,7 @@ fn is_too_large(known: Known, scene: &Scene<'_, '_>) -> bool
 }
 
 // The row's outcome: of a form with a truth value, whether its last argument says what the base row comes to.
+#[inline]
 fn of_known(alloc: Global, known: Known, scene: &Scene<'_, '_>) -> Result<Outcome, AllocError>
     ensures { IfOk result (λ o. o ≡ row_outcome (known_row known) (assigned scene.now) (arguments_of scene.now)) }
 {

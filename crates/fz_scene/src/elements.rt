@@ -27,6 +27,7 @@ impl<'s, 'a> Elements<'s, 'a> {
     ghost use Rattle.fz_scene.specs.Views.{bools, ints, sets, slots_of, under};
 
     /// How many there are. It takes no memory.
+    #[inline(always)]
     pub fn len(&self) -> usize
         ensures counted { result ≡ length (slots_of self.now) }
     {
@@ -37,6 +38,7 @@ impl<'s, 'a> Elements<'s, 'a> {
     }
 
     /// The scalar at a place, counted from 0: none where an array's name stands there, which no constraint with a row has. It takes no memory.
+    #[inline(always)]
     pub fn term(&self, index: usize) -> Option<&'s Term>
         requires in_range { index < length (slots_of self.now) }
         ensures found { slice_get (slots_of self.now) index ≡ Some (option_map (λ t. t.now) result) }
@@ -48,6 +50,7 @@ impl<'s, 'a> Elements<'s, 'a> {
     }
 
     /// Its value, where it has one. It takes no memory.
+    #[inline(always)]
     pub fn value(&self, index: usize) -> Option<&'s Value>
         requires in_range { index < length (slots_of self.now) }
         ensures valued { slice_get (map (value_of (under self.now)) (slots_of self.now)) index ≡ Some (option_map (λ v. v.now) result) }
@@ -57,6 +60,7 @@ impl<'s, 'a> Elements<'s, 'a> {
     }
 
     /// Its value as a whole number. It takes no memory.
+    #[inline(always)]
     pub fn int(&self, index: usize) -> i64
         requires in_range { index < length (slots_of self.now) }
         ensures read { slice_get (ints self.now) index ≡ Some result }
@@ -65,6 +69,7 @@ impl<'s, 'a> Elements<'s, 'a> {
     }
 
     /// Its value as a truth value. It takes no memory.
+    #[inline(always)]
     pub fn truth(&self, index: usize) -> bool
         requires in_range { index < length (slots_of self.now) }
         ensures read { slice_get (bools self.now) index ≡ Some result }
@@ -73,6 +78,7 @@ impl<'s, 'a> Elements<'s, 'a> {
     }
 
     /// Its value as a set. It takes no memory.
+    #[inline(always)]
     pub fn set(&self, index: usize) -> &'s IntSet
         requires in_range { index < length (slots_of self.now) }
         ensures read { slice_get (sets self.now) index ≡ Some result.now }

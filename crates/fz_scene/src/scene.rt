@@ -23,6 +23,7 @@ impl<'s, 'a> Scene<'s, 'a> {
     ghost use Rattle.fz_scene.specs.Views.{IsReadiness, arguments_of, assigned, slots_kept, slots_of, under};
 
     /// The arguments of a constraint, under a partial assignment. It takes no memory.
+    #[inline(always)]
     pub fn new(parts: ConstraintParts<'s, 'a>, partial: &'s Partial) -> Scene<'s, 'a>
         ensures arguments { arguments_of result ≡ (posted_view parts.entry.variables.now parts.entry.arrays.now parts.entry.posted.now).arguments }
         ensures assigned { assigned result ≡ partial.now }
@@ -31,6 +32,7 @@ impl<'s, 'a> Scene<'s, 'a> {
     }
 
     /// The argument at a place, counted from 0, as a whole number. It takes no memory.
+    #[inline]
     pub fn int(&self, index: usize) -> i64
         ensures read { result ≡ int_at (assigned self.now) (arguments_of self.now) index }
     {
@@ -38,6 +40,7 @@ impl<'s, 'a> Scene<'s, 'a> {
     }
 
     /// The argument at a place as a truth value. It takes no memory.
+    #[inline]
     pub fn truth(&self, index: usize) -> bool
         ensures read { result ≡ bool_at (assigned self.now) (arguments_of self.now) index }
     {
@@ -45,6 +48,7 @@ impl<'s, 'a> Scene<'s, 'a> {
     }
 
     /// The argument at a place as a set. It takes no memory.
+    #[inline]
     pub fn set(&self, index: usize) -> &'s IntSet
         ensures read { result.now ≡ set_at (assigned self.now) (arguments_of self.now) index }
     {
@@ -52,6 +56,7 @@ impl<'s, 'a> Scene<'s, 'a> {
     }
 
     /// The elements of the argument at a place, where it is an array. It takes no memory.
+    #[inline]
     pub fn elements(&self, index: usize) -> Elements<'s, 'a>
         ensures slots { slots_of result ≡ slots_at (arguments_of self.now) index }
         ensures under { under result ≡ assigned self.now }
@@ -64,6 +69,7 @@ impl<'s, 'a> Scene<'s, 'a> {
     }
 
     // The value of the scalar at a place.
+    #[inline]
     fn value(&self, index: usize) -> Option<&'s Value>
         ensures { option_map (λ v. v.now) result ≡ value_of (assigned self.now) (slot_at (arguments_of self.now) index) }
     {
@@ -73,6 +79,7 @@ impl<'s, 'a> Scene<'s, 'a> {
         }
     }
 
+    #[inline(always)]
     fn value_in(&self, argument: &'s Argument<'a>) -> Option<&'s Value>
         ensures { option_map (λ v. v.now) result ≡ value_of (assigned self.now) (slot_in (argument_view self.now.parts.variables.now self.now.parts.arrays.now argument.now)) }
     {
@@ -82,6 +89,7 @@ impl<'s, 'a> Scene<'s, 'a> {
         }
     }
 
+    #[inline(always)]
     fn elements_of(&self, kept: Kept<'s, 'a>) -> Elements<'s, 'a>
         ensures kept { result.kept ≡ kept.entry }
         ensures under { under result ≡ assigned self.now }
@@ -92,6 +100,7 @@ impl<'s, 'a> Scene<'s, 'a> {
         }
     }
 
+    #[inline(always)]
     fn kept_in(&self, argument: &'s Argument<'a>) -> Kept<'s, 'a>
         ensures { slots_kept result ≡ slots_in (argument_view self.now.parts.variables.now self.now.parts.arrays.now argument.now) }
     {
@@ -101,6 +110,7 @@ impl<'s, 'a> Scene<'s, 'a> {
         }
     }
 
+    #[inline(always)]
     fn kept_at(&self, place: &'s Place<'a>) -> Kept<'s, 'a>
         ensures { slots_kept result ≡ slots_in (meaning.Argument.One (place_view self.now.parts.variables.now self.now.parts.arrays.now place.now)) }
     {
@@ -138,6 +148,7 @@ impl<'s, 'a> Scene<'s, 'a> {
         true
     }
 
+    #[inline]
     fn is_read(&self, shape: Shape, argument: &'s Argument<'a>) -> bool
         ensures { result ≡ argument_is_read (assigned self.now) (shape_of shape) (argument_view self.now.parts.variables.now self.now.parts.arrays.now argument.now) }
     {
