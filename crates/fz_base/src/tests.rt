@@ -1,6 +1,14 @@
 use crate::{IntSet, SetError, Value};
 use std::alloc::{AllocError, Global};
+use std::mem::size_of;
 use std::test::Fail;
+
+// Values stand in tables that are read for each constraint of each block, so they are kept small.
+const _: () = prove!(size_of::<IntSet>() == 8);
+
+const _: () = prove!(size_of::<Value>() == 16);
+
+const _: () = prove!(size_of::<Option<Value>>() == 24);
 
 /// Whether the set has the listed numbers, each listed once, and no other.
 fn has_exactly(set: &IntSet, listed: &[i64]) -> bool {

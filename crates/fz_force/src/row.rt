@@ -16,7 +16,7 @@ use crate::only::{Spot, only_open};
 use crate::step::fitting;
 use fz_base::Value;
 use fz_data::{ConstraintParts, Model, Partial};
-use fz_scene::{Scene, no_numbers};
+use fz_scene::Scene;
 use fz_solve::{left_value, unit_value};
 use fz_table::{Filled, Known};
 use std::alloc::{AllocError, Global};
@@ -67,8 +67,7 @@ fn only_value(
     if !kinds_fit(known.shapes(), arguments, parts.arrays, partial) {
         return Ok(None);
     }
-    let empty = no_numbers(alloc)?;
-    value_at(alloc, known, spot, &Scene::new(parts, partial, &empty))
+    value_at(alloc, known, spot, &Scene::new(parts, partial))
 }
 
 // The value of the variable at the spot with which the row holds.
