@@ -8,5 +8,6 @@ pub mod Found
 pub mod Splitting
 pub mod Lending
 pub mod Step
+pub mod Kept
 pub mod Keeping
 pub mod Inside

@@ -4,6 +4,7 @@
 mod block;
 mod error;
 mod held;
+mod kept;
 mod line;
 mod reading;
 mod splitter;
