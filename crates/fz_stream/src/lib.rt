@@ -3,6 +3,7 @@
 
 mod block;
 mod error;
+mod hashing;
 mod held;
 mod kept;
 mod line;
