@@ -14,4 +14,5 @@ pub mod FeedLemmas
 pub mod TakenLemmas
 pub mod FaultLemmas
 pub mod PlaceLemmas
+pub mod KeptLemmas
 pub mod Rows
