@@ -16,8 +16,8 @@ ghost use Rattle.fz_judge.specs.Working.{IsWithin, agree_all, element_pairs, has
 
 use crate::error::BlockError;
 use crate::faults::value_fault;
-use crate::values::is_of_literal;
-use fz_model::{Model, Partial, Term, What, literal_value};
+use crate::values::{is_of_literal, value_of};
+use fz_model::{Model, Partial, Term, What};
 use fz_syntax::{Literal, LiteralKind, Printed, PrintedValue};
 use std::alloc::{AllocError, Global};
 
@@ -43,7 +43,7 @@ fn set_variable(
     if let Some(value) = partial.get(number) {
         return is_of_literal(alloc, value, literal);
     }
-    let value = literal_value(alloc, literal)?;
+    let value = value_of(alloc, literal)?;
     partial.set(number, value);
     Ok(true)
 }
