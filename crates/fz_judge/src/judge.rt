@@ -56,7 +56,7 @@ fn disagreement<'a>(
     printed_fails(alloc, model, &filling.partial, items)
 }
 
-/// The verdict on a block under the values: each printed name, each point and the objective is looked at, whatever gave the values.
+/// The verdict on a block under its filling: each point and the objective is looked at again, and each printed name unless all agreed.
 fn verdict_under<'a>(
     alloc: Global,
     model: &Model<'a>,
