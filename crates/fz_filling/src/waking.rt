@@ -1,4 +1,4 @@
-//! The chain of a filling: forced steps until no point gives one.
+//! The rest of a chain where points wait: a point is looked at again only where a variable that it waits for has got a value.
 
 ghost use Rattle.std.specs.Prelude.{◌≡◌, ◌≤◌, ◌<◌, IfOk, IfSome, IsNone, OnOk, Some, length, slice_get};
 ghost use Rattle.std.specs.List.{AllByRecursion};
@@ -6,21 +6,14 @@ ghost use Rattle.fz_model.specs.Meaning.{IsPartial, Point, points};
 ghost use Rattle.fz_model.specs.Steps.{Gives, GivesNothing};
 ghost use Rattle.fz_verdict.specs.Filling.{Chain, IsFirstStep};
 ghost use Rattle.fz_filling.specs.Kept.{IsKept};
-ghost use Rattle.fz_filling.specs.Stepping.{IsStepAhead, NoneGives, unset_count};
+ghost use Rattle.fz_filling.specs.Stepping.{IsStepAhead, NoneGives};
 
+use crate::ahead::{Step, unset_count};
 use crate::outlook::{Outlook, Waiting, outlook_of};
 use crate::watch::Watch;
 use fz_base::Value;
 use fz_model::{Model, Partial, forced};
 use std::alloc::{AllocError, Global};
-
-/// A forced step: the number of the point that gives it, the variable's number, and the value.
-#[derive(Drop)]
-struct Step {
-    point: usize,
-    variable: usize,
-    value: Value,
-}
 
 /// The step that a point gives. One that gives none is settled.
 fn look(
@@ -109,32 +102,22 @@ fn next_step(
     step_between(alloc, model, partial, watch, 0, from)
 }
 
-/// How many variables have no value.
-fn unset_count(values: &[Option<Value>]) -> usize
-    ensures { result ≡ unset_count values.now }
-{
-    let mut count = 0;
-    for value in values {
-        if value.is_none() {
-            count += 1;
-        }
-    }
-    count
-}
-
-/// Fills in what follows, one forced step after another. Once each variable has a value there is nothing left to give. A point is looked
-/// at once, and again each time that a variable that it waits for gets a value. It refuses only where memory runs out.
-pub fn fill_in(alloc: Global, model: &Model<'_>, partial: &mut Partial) -> Result<(), AllocError>
+/// Goes on with the chain from the point of a number, to its end. A point is looked at once, and again each time that a variable that it
+/// waits for gets a value.
+pub(crate) fn fill_woken(
+    alloc: Global,
+    model: &Model<'_>,
+    partial: &mut Partial,
+    start: usize,
+) -> Result<(), AllocError>
     requires fits { IsPartial model.now partial.old }
-    ensures filled { OnOk result (Chain model.now partial.old 0 partial.new) }
+    requires in_range { start ≤ length (points model.now) }
+    ensures filled { OnOk result (Chain model.now partial.old start partial.new) }
     ensures kinds { OnOk result (IsPartial model.now partial.new) }
 {
     let mut unset = unset_count(partial.values());
-    if unset == 0 {
-        return Ok(());
-    }
     let mut watch = Watch::new(alloc, model.points(), partial.values().len())?;
-    let mut from = 0;
+    let mut from = start;
     while unset > 0 {
         let Some(step) = next_step(alloc, model, partial, &mut watch, from)? else {
             return Ok(());
