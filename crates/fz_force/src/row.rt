@@ -33,10 +33,10 @@ pub(crate) fn by_row(
     requires fits { IsPartial model.now partial.now }
     ensures forced { IfOk result (λ o. IsForced model.now partial.now (ConstraintPoint parts.entry.number (posted_view parts.entry.variables.now parts.entry.arrays.now parts.entry.posted.now)) o) }
 {
-    let Some(known) = parts.known else {
+    let Some(target) = parts.posted.target else {
         return Ok(None);
     };
-    let Some(target) = parts.posted.target else {
+    let Some(known) = parts.known else {
         return Ok(None);
     };
     match only_value(alloc, known, target, parts, partial)? {
@@ -60,11 +60,12 @@ fn only_value(
     if given.is_some() {
         return Ok(None);
     }
+    let values = partial.values();
     let arguments = parts.posted.arguments.as_slice();
-    let Some(spot) = only_open(arguments, parts.arrays, target, partial) else {
+    let Some(spot) = only_open(arguments, parts.arrays, target, values) else {
         return Ok(None);
     };
-    if !kinds_fit(known.shapes(), arguments, parts.arrays, partial) {
+    if !kinds_fit(known.shapes(), arguments, parts.arrays, values) {
         return Ok(None);
     }
     value_at(alloc, known, spot, &Scene::new(parts, partial))

@@ -2,7 +2,7 @@ use Rattle.std.proofs.Common.{sym, ◌∙◌}
 use Rattle.std.proofs.lemmas.Option.{IfSome_then}
 use Rattle.fz_filling.proofs.Stepping.{ok_then}
 use Rattle.fz_filling.proofs.Stepping.{ahead_is_first, wrapped_is_first, no_first}
-use Rattle.fz_filling.proofs.filling.next_step.Goals as goal
+use Rattle.fz_filling.proofs.waking.next_step.Goals as goal
 
 pub returns-then-is_some-clause-first : goal.returns-then-is_some-clause-first
 returns-then-is_some-clause-first c =

@@ -1,6 +1,6 @@
 use Rattle.std.proofs.Common.{◌≡◌, ◌+◌, ◌≤◌, drop}
 use Rattle.fz_filling.specs.Stepping.{unset_count}
-use Rattle.fz_filling.proofs.filling.unset_count.Given as goal
+use Rattle.fz_filling.proofs.ahead.unset_count.Given as goal
 
 abbrev pub invariant-loop-value : goal.invariant-loop-value
 invariant-loop-value l = record {

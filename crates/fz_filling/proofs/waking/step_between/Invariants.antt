@@ -1,7 +1,7 @@
 use Rattle.std.proofs.Common.{◌-◌, ◌≤◌}
 use Rattle.fz_filling.specs.Kept.{IsKept}
 use Rattle.fz_filling.specs.Stepping.{NoneGives}
-use Rattle.fz_filling.proofs.filling.step_between.Given as goal
+use Rattle.fz_filling.proofs.waking.step_between.Given as goal
 
 abbrev pub invariant-loop-at : goal.invariant-loop-at
 invariant-loop-at l = record {

@@ -3,7 +3,7 @@ use Rattle.fz_model.specs.Steps.{GivesNothing}
 use Rattle.fz_model.specs.Shown.{point_view}
 use Rattle.fz_filling.specs.declared.outlook.Waiting.TheVariants.{For}
 use Rattle.fz_filling.proofs.Keeping.{kept_settled, waits_now}
-use Rattle.fz_filling.proofs.filling.look.Goals as goal
+use Rattle.fz_filling.proofs.waking.look.Goals as goal
 
 pub returns-in_ok-settle-in-Waits-clause-nothing : goal.returns-in_ok-settle-in-Waits-clause-nothing
 returns-in_ok-settle-in-Waits-clause-nothing c = λ _ p at.

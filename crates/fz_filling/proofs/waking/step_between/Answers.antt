@@ -2,7 +2,7 @@ use Rattle.std.proofs.Common.{is_some, ap, arith}
 use Rattle.fz_filling.specs.Stepping.{NoneGives}
 use Rattle.fz_filling.proofs.Keeping.{kept_searched, none_and_one, none_between, none_joined}
 use Rattle.fz_filling.proofs.Stepping.{at_some}
-use Rattle.fz_filling.proofs.filling.step_between.Goals as goal
+use Rattle.fz_filling.proofs.waking.step_between.Goals as goal
 
 pub returns-in_default-clause-none : goal.returns-in_default-clause-none
 returns-in_default-clause-none c = λ _.

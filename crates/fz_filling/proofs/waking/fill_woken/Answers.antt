@@ -1,16 +1,15 @@
 use Rattle.std.proofs.Common.{◌≡◌, ◌+◌, ◌/◌, ℕ, suc, length, replicate, is_some, sym, ap, subst, ◌∙◌, arith}
 use Rattle.fz_model.specs.Meaning.{IsPartial, give}
-use Rattle.fz_verdict.proofs.Loops.{Reaches, reaches_after, reaches_at_first, reaches_end}
 use Rattle.fz_filling.specs.Kept.{IsKept}
 use Rattle.fz_filling.specs.Stepping.{unset_count}
 use Rattle.fz_filling.proofs.Keeping.{kept_at_first, kept_woken}
-use Rattle.fz_filling.proofs.Stepping.{at_some, nothing_left, one_less, step_fits, step_unset, step_within}
-use Rattle.fz_filling.proofs.filling.fill_in.Goals as goal
+use Rattle.fz_filling.proofs.Stepping.{Reaches, at_some, nothing_left, one_less, reaches_after, reaches_end, step_fits, step_unset, step_within}
+use Rattle.fz_filling.proofs.waking.fill_woken.Goals as goal
 
 pub loop-unset-init : goal.loop-unset-init
 loop-unset-init c = record {
-  reaches = reaches_at_first c.args.model.now c.args.partial.now;
-  in_range = omega arith;
+  reaches = λ F chain. chain;
+  in_range = c.requires.in_range;
   fits = c.requires.fits;
   counted = c.unset_count-unset.ensures ∙ ap unset_count c.values.ensures.all;
   kept = kept_at_first c.args.model.now c.args.partial.now c.in_ok-watch.watch (c.in_ok-watch.ensures.pending ∙ ap (λ (n : ℕ). replicate n 1) c.points.ensures.counted)
@@ -18,7 +17,7 @@ loop-unset-init c = record {
 }
 
 pub returns-in_default-clause-filled : goal.returns-in_default-clause-filled
-returns-in_default-clause-filled c = reaches_end c.args.model.now c.args.partial.now c.loop-unset.partial c.loop-unset.from c.loop-unset.invariant.reaches (c.in_ok-step.ensures.none (ap is_some c.in_default.is))
+returns-in_default-clause-filled c = reaches_end c.args.model.now c.args.partial.now c.args.start c.loop-unset.partial c.loop-unset.from c.loop-unset.invariant.reaches (c.in_ok-step.ensures.none (ap is_some c.in_default.is))
 
 pub set-requires-clause-in_range : goal.set-requires-clause-in_range
 set-requires-clause-in_range c =
@@ -46,8 +45,8 @@ loop-unset-preserved c =
     let same : unset_count c.set.new.self ≡ unset_count (give c.loop-unset.partial c.in-Some.step.variable c.in-Some.step.value) = ap unset_count c.set.ensures.given in
     let before : c.loop-unset.unset ≡ unset_count c.loop-unset.partial = c.loop-unset.invariant.counted in
     record {
-      reaches = subst (λ K. Reaches c.args.model.now c.args.partial.now K c.in-Some.step.point) (sym c.set.ensures.given)
-          (reaches_after c.args.model.now c.args.partial.now c.loop-unset.partial c.loop-unset.from c.in-Some.step.point c.in-Some.step.variable c.in-Some.step.value c.loop-unset.invariant.reaches first);
+      reaches = subst (λ K. Reaches c.args.model.now c.args.partial.now c.args.start K c.in-Some.step.point) (sym c.set.ensures.given)
+          (reaches_after c.args.model.now c.args.partial.now c.args.start c.loop-unset.partial c.loop-unset.from c.in-Some.step.point c.in-Some.step.variable c.in-Some.step.value c.loop-unset.invariant.reaches first);
       in_range = at_some _ c.in_ok-step.field-0 c.in-Some.step c.in-Some.is c.in_ok-step.ensures.in_range;
       fits = subst (IsPartial c.args.model.now) (sym c.set.ensures.given) (step_fits c.args.model.now c.loop-unset.partial c.loop-unset.from c.in-Some.step.point c.in-Some.step.variable c.in-Some.step.value c.loop-unset.invariant.fits first);
       counted = omega (arith, less, same, before);
@@ -58,10 +57,4 @@ loop-unset-preserved c =
 pub returns-clause-filled : goal.returns-clause-filled
 returns-clause-filled c =
     let none : unset_count c.loop-unset.partial ≡ 0 = omega (arith, c.loop-unset.invariant.counted, c.loop-unset-test.false) in
-    reaches_end c.args.model.now c.args.partial.now c.loop-unset.partial c.loop-unset.from c.loop-unset.invariant.reaches (nothing_left c.args.model.now c.loop-unset.partial c.loop-unset.invariant.fits none)
-
-pub returns-then-unset-eq0-clause-filled : goal.returns-then-unset-eq0-clause-filled
-returns-then-unset-eq0-clause-filled c =
-    let same : c.unset_count-unset.result ≡ unset_count c.args.partial.now = c.unset_count-unset.ensures ∙ ap unset_count c.values.ensures.all in
-    let none : unset_count c.args.partial.now ≡ 0 = omega (arith, same, c.if-unset-eq0.true) in
-    reaches_end c.args.model.now c.args.partial.now c.args.partial.now 0 (reaches_at_first c.args.model.now c.args.partial.now) (nothing_left c.args.model.now c.args.partial.now c.requires.fits none)
+    reaches_end c.args.model.now c.args.partial.now c.args.start c.loop-unset.partial c.loop-unset.from c.loop-unset.invariant.reaches (nothing_left c.args.model.now c.loop-unset.partial c.loop-unset.invariant.fits none)
