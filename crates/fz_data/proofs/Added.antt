@@ -19,7 +19,7 @@ use Rattle.fz_meaning.specs.Names.{parts, kind_of_base, domain_of, is_scalar, is
 use Rattle.fz_meaning.proofs.Scope.{same_kind_is}
 use Rattle.fz_scope.proofs.Known.{next_number, number_here}
 use Rattle.fz_data.specs.declared.parts.Array as the_array
-use Rattle.fz_data.specs.declared.parts.Declared.TheVariants as declarations
+use Rattle.fz_data.specs.Naming.{Declared as declarations}
 use Rattle.fz_data.specs.declared.parts.DeclaredPoint.TheVariants as points
 use Rattle.fz_data.specs.declared.parts.Variable.{Variable}
 use Rattle.fz_data.specs.Parts.{variable_view, no_variable, variable_at, definition_at, array_view, array_declared, declared_point, definition_point, elements_point, no_array}
@@ -43,7 +43,7 @@ stands_behind (y ∷ xs) x ys = stands_behind xs x ys
 
 -- ---- a parameter
 
-module _ (all known : List Decl) (d : Decl) (k : Bor (List ℕ)) (v : Value) (named : k.now ≡ d.name.text) (scalar : is_scalar d ≡ true) (fixed : d.is_var ≡ false) (value : v ≡ literal_of d.value)
+module _ (all known : List Decl) (d : Decl) (k : List ℕ) (v : Value) (named : k ≡ d.name.text) (scalar : is_scalar d ≡ true) (fixed : d.is_var ≡ false) (value : v ≡ literal_of d.value)
     (kinds : same_kind (kind_of v) (kind_of_base d.base) ≡ true) where
   parameter_place : place_of_declared all d ≡ Scalar (kind_of v) (Fixed v)
   parameter_place =
@@ -76,7 +76,7 @@ module _ (us : List Variable) (zs : List the_array.Array) (n : ℕ) where
   variable_placed (Some t) e lt = (lt, ((lt, ap is_some e), tt))
 
 module _ (all known : List Decl) (d : Decl) (rest : List Decl) (split : all ≡ known ++ d ∷ rest) (new : declares known d.name.text ≡ false)
-    (k : Bor (List ℕ)) (v : Variable) (named : k.now ≡ d.name.text) (scalar : is_scalar d ≡ true) (varies : d.is_var ≡ true) (view : variable_view v ≡ variable_declared d)
+    (k : List ℕ) (v : Variable) (named : k ≡ d.name.text) (scalar : is_scalar d ≡ true) (varies : d.is_var ≡ true) (view : variable_view v ≡ variable_declared d)
     (definition : v.definition ≡ definition_of all d.value) (vs : List Variable) (count : length vs ≡ next_number known) (xs : List the_array.Array) where
   is_one : is_scalar_variable d ≡ true
   is_one = ap (λ b. b && is_scalar d) varies ∙ scalar
@@ -128,7 +128,7 @@ all_cond : {A : Type 0} (P : A → Type 0) (b : Bool) (x : A) → P x → AllByR
 all_cond P true x h = (h, tt)
 all_cond P false x h = tt
 
-module _ (all known : List Decl) (d : Decl) (k : Bor (List ℕ)) (x : the_array.Array) (named : k.now ≡ d.name.text) (list : is_scalar d ≡ false) (varies : x.is_variable ≡ d.is_var) (name : x.name.now ≡ d.name.text)
+module _ (all known : List Decl) (d : Decl) (k : List ℕ) (x : the_array.Array) (named : k ≡ d.name.text) (list : is_scalar d ≡ false) (varies : x.is_variable ≡ d.is_var) (name : x.name.now ≡ d.name.text)
     (kind : x.kind ≡ kind_of_base d.base) (domain : x.domain ≡ domain_of d.base) (elements : x.elements.items ≡ map (term_of all) (parts d.value)) (vs : List Variable) (xs : List the_array.Array) where
   array_place : place_of_declared all d ≡ Array d.name.text (kind_of_base d.base) (map (term_of all) (parts d.value))
   array_place = cond_false (is_scalar d) _ _ list
@@ -144,7 +144,7 @@ module _ (all known : List Decl) (d : Decl) (k : Bor (List ℕ)) (x : the_array.
 
   pub adds_array : Adds all known d (k, declarations.Array (length xs)) vs [] xs (x ∷ []) (cond (has_elements_point x) (points.Elements (length xs) ∷ []) [])
   adds_array = record {
-    declared = λ ws ys. ap (λ o. option_map_or array_declared o (Parameter k.now no_array)) (here ys) ∙ declared_is;
+    declared = λ ws ys. ap (λ o. option_map_or array_declared o (Parameter k no_array)) (here ys) ∙ declared_is;
     places = λ ws ys. (λ i. (named i, (ap (λ o. option_map_or array_view o no_array) (here ys) ∙ (λ j. Array (name j) (kind j) (elements j)) ∙ sym array_place) i));
     kept = λ ys. ap (option_map (λ (a : the_array.Array). a.name.now)) (here ys) ∙ ap Some (name ∙ sym named);
     variables = ap (λ b. map variable_declared (cond b (d ∷ []) [])) (sym (ap (λ b. d.is_var && b) list ∙ and_false d.is_var));

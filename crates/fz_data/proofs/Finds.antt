@@ -1,25 +1,28 @@
 -- What a look-up among the names finds.
-use Rattle.std.proofs.Common.{◌≡◌, ℕ, List, [], ◌∷◌, map, Option, Some, None, option_map, slice_get, refl, sym, ap, ◌∙◌, subst, cond, Bor, Bool, true, false}
+use Rattle.std.proofs.Common.{◌≡◌, ℕ, zero, suc, ◌+◌, ◌<◌, length, arith, List, [], ◌∷◌, map, Option, Some, None, option_map, slice_get, refl, sym, ap, ◌∙◌, subst, cond, Bor, Bool, true, false}
 use Rattle.std.specs.Option.{option_map_or, option_or}
 use Rattle.std.specs.Str.{bytes_eq}
-use Rattle.std.specs.Map.{lookup, lookup_key}
+use Rattle.std.specs.Map.{lookup}
 use Rattle.std.specs.Cmp.{both_ways}
 use Rattle.std.proofs.lemmas.Slice.Eq.{bytes_eq-Decides}
+use Rattle.std.proofs.lemmas.List.{length-map}
 use Rattle.std.proofs.lemmas.Option.{slice_get-map, same_Some}
 use Rattle.fz_meaning.specs.Meaning as meaning
 use Rattle.fz_meaning.specs.Meaning.{find_name, first_some, place_if_named, numbered, variables_of}
+use Rattle.fz_meaning.specs.declared.kind.Kind.{Kind}
 use Rattle.fz_meaning.specs.declared.kind.Kind.TheVariants.{Int as IntKind}
 use Rattle.fz_meaning.specs.declared.term.Term.{Term}
 use Rattle.fz_meaning.specs.declared.term.Term.TheVariants.{Var, Fixed}
 use Rattle.fz_data.specs.declared.model.Model.TheInside.{Inside}
 use Rattle.fz_data.specs.declared.parts.Variable.{Variable}
 use Rattle.fz_data.specs.declared.parts.Array.{Array}
-use Rattle.fz_data.specs.declared.parts.Declared.{Declared}
-use Rattle.fz_data.specs.declared.parts.Declared.TheVariants as declarations
-use Rattle.fz_meaning.proofs.Lists.{at_place}
+use Rattle.fz_data.specs.Naming.{Declared, has_text}
+use Rattle.fz_data.specs.Naming.{Declared as declarations}
 use Rattle.fz_data.specs.Parts.{variable_view, no_variable, kind_of_term, array_view, no_array, declared_place}
 use Rattle.fz_data.specs.Layout.{model_view, named_place, IsArrayNamed, IsKeptAs, IsLaidOut}
 use Rattle.fz_data.specs.Shown.{kind_among}
+use Rattle.fz_data.proofs.Loops.{found_entry}
+use Rattle.fz_data.proofs.NameTable.{own_get}
 
 -- the place of the first pair that has the name
 abbrev pub by_name : List ℕ → (List ℕ × meaning.Place) → Option meaning.Place
@@ -44,33 +47,22 @@ bytes_eq-turn xs ys =
     both_ways (bytes_eq xs ys) (bytes_eq ys xs) (λ e. (bytes_eq-Decides ys xs).1 (sym ((bytes_eq-Decides xs ys).0 e))) (λ e. (bytes_eq-Decides xs ys).1 (sym ((bytes_eq-Decides ys xs).0 e)))
 
 -- an entry as its name and what the name stands for
-abbrev entry_place : List Variable → List Array → (Bor (List ℕ) × Declared) → (List ℕ × meaning.Place)
-entry_place vs xs p = (p.0.now, declared_place vs xs p.1)
-
-abbrev has_text : List ℕ → Bor (List ℕ) → Bool
-has_text x k = bytes_eq x k.now
+abbrev entry_place : List Variable → List Array → (List ℕ × Declared) → (List ℕ × meaning.Place)
+entry_place vs xs p = (p.0, declared_place vs xs p.1)
 
 pub or_else : {A B : Type 0} (f : A → B) (b : Bool) (x : A) (o : Option A) → option_or (cond b (Some (f x)) None) (option_map f o) ≡ option_map f (cond b (Some x) o)
 or_else f true x o = refl
 or_else f false x o = refl
 
 -- the first entry that has the name
-pub first_entry : (vs : List Variable) (xs : List Array) (x : List ℕ) (es : List (Bor (List ℕ) × Declared)) → first_some (by_name x) (map (entry_place vs xs) es) ≡ option_map (declared_place vs xs) (lookup (has_text x) es)
+pub first_entry : (vs : List Variable) (xs : List Array) (x : List ℕ) (es : List (List ℕ × Declared)) → first_some (by_name x) (map (entry_place vs xs) es) ≡ option_map (declared_place vs xs) (lookup (has_text x) es)
 first_entry vs xs x [] = refl
 first_entry vs xs x (e ∷ es) =
-    (λ i. option_or (cond (bytes_eq-turn e.0.now x i) (Some (declared_place vs xs e.1)) None) (first_entry vs xs x es i)) ∙ or_else (declared_place vs xs) (has_text x e.0) e.1 (lookup (has_text x) es)
+    (λ i. option_or (cond (bytes_eq-turn e.0 x i) (Some (declared_place vs xs e.1)) None) (first_entry vs xs x es i)) ∙ or_else (declared_place vs xs) (has_text x e.0) e.1 (lookup (has_text x) es)
 
-pub find_is_lookup : (m : Inside) (laid : IsLaidOut m) (x : List ℕ) → find_name (model_view m) x ≡ option_map (declared_place m.variables.items m.arrays.items) (lookup (has_text x) m.names.entries)
+pub find_is_lookup : (m : Inside) (laid : IsLaidOut m) (x : List ℕ) → find_name (model_view m) x ≡ option_map (declared_place m.variables.items m.arrays.items) (lookup (has_text x) m.names)
 find_is_lookup m laid x =
-    find_by_name (model_view m) x ∙ ap (first_some (by_name x)) laid.places ∙ first_entry m.variables.items m.arrays.items x m.names.entries
-
--- what is kept of the first entry that has the name
-pub key_passes : {V : Type 0} (x : List ℕ) (es : List (Bor (List ℕ) × V)) (k : Bor (List ℕ)) → Some k ≡ lookup_key (has_text x) es → k.now ≡ x
-key_passes x [] k e = cc
-key_passes {V} x (y ∷ es) k e = (elim (has_text x y.0) as (λ b. has_text x y.0 ≡ b → Some k ≡ cond b (Some y.0) (lookup_key (has_text x) es) → k.now ≡ x) [
-  | true ↦ λ passes e. let same : k ≡ y.0 = cc in ap (λ (w : Bor (List ℕ)). w.now) same ∙ sym ((bytes_eq-Decides x y.0.now).0 passes)
-  | false ↦ λ _ later. key_passes x es k later
-]) refl e
+    find_by_name (model_view m) x ∙ ap (first_some (by_name x)) laid.places ∙ first_entry m.variables.items m.arrays.items x m.names
 
 kind_at_place : (o : Option Variable) → option_map_or (λ (v : meaning.Variable). v.kind) (option_map variable_view o) IntKind ≡ (option_map_or variable_view o no_variable).kind
 kind_at_place None = refl
@@ -80,27 +72,41 @@ same_kinds : (vs : List Variable) (t : Term) → kind_among (map variable_view v
 same_kinds vs (Var n) = ap (λ o. option_map_or (λ (v : meaning.Variable). v.kind) o IntKind) (slice_get-map variable_view vs n) ∙ kind_at_place (slice_get vs n)
 same_kinds vs (Fixed v) = refl
 
+-- what has a kind there is there
+within : (vs : List meaning.Variable) (n : ℕ) (k : Kind) → option_map (λ (v : meaning.Variable). v.kind) (slice_get vs n) ≡ Some k → n < length vs
+within [] n k e = cc
+within (v ∷ vs) zero k e = omega arith
+within (v ∷ vs) (suc n) k e = omega (arith, within vs n k e)
+
 module _ (m : Inside) (laid : IsLaidOut m) (now : meaning.Model) (view_is : model_view m ≡ now) (x : List ℕ) where
-  pub found_none : None ≡ lookup (has_text x) m.names.entries → None ≡ find_name now x
+  pub found_none : None ≡ lookup (has_text x) m.names → None ≡ find_name now x
   found_none e = ap (option_map (declared_place m.variables.items m.arrays.items)) e ∙ sym (find_is_lookup m laid x) ∙ ap (λ w. find_name w x) view_is
 
-  found_some : (d : Declared) → Some d ≡ lookup (has_text x) m.names.entries → Some (declared_place m.variables.items m.arrays.items d) ≡ find_name now x
+  found_some : (d : Declared) → Some d ≡ lookup (has_text x) m.names → Some (declared_place m.variables.items m.arrays.items d) ≡ find_name now x
   found_some d e = ap (option_map (declared_place m.variables.items m.arrays.items)) e ∙ sym (find_is_lookup m laid x) ∙ ap (λ w. find_name w x) view_is
 
-  pub found_scalar : (d : Declared) (t : Term) → Some d ≡ lookup (has_text x) m.names.entries → d ≡ declarations.Scalar t → Some (meaning.Place.Scalar (kind_among (variables_of now) t) t) ≡ find_name now x
+  pub found_scalar : (d : Declared) (t : Term) → Some d ≡ lookup (has_text x) m.names → d ≡ declarations.Scalar t → Some (meaning.Place.Scalar (kind_among (variables_of now) t) t) ≡ find_name now x
   found_scalar d t e is =
       ap (λ vs. Some (meaning.Place.Scalar (kind_among vs t) t)) (ap variables_of (sym view_is) ∙ laid.variables) ∙ ap (λ k. Some (meaning.Place.Scalar k t)) (same_kinds m.variables.items t)
       ∙ ap (λ w. Some (declared_place m.variables.items m.arrays.items w)) (sym is) ∙ found_some d e
 
-  module _ (k : Bor (List ℕ)) (d : Declared) (i n : ℕ) (entry : slice_get m.names.entries n ≡ Some (k, d)) (is : d ≡ declarations.Array i) where
-    named : IsArrayNamed m.arrays.items i k.now
-    named = subst (IsKeptAs m.arrays.items k.now) is (at_place (λ (p : Bor (List ℕ) × Declared). IsKeptAs m.arrays.items p.0.now p.1) m.names.entries n (k, d) laid.kept entry)
+  -- a variable that a name stands for has its term
+  pub own_term : (d : Declared) (n : ℕ) → Some d ≡ lookup (has_text x) m.names → d ≡ declarations.Scalar (Var n) → slice_get m.terms.items n ≡ Some (Var n)
+  own_term d n e is =
+      let found = find_is_lookup m laid x ∙ ap (option_map (declared_place m.variables.items m.arrays.items)) (sym e) ∙ ap (λ w. Some (declared_place m.variables.items m.arrays.items w)) is in
+      let few = within (variables_of (model_view m)) n _ (laid.kinds x _ found) in
+      let counted = ap length laid.variables ∙ length-map m.variables.items variable_view in
+      ap (λ ts. slice_get ts n) laid.terms ∙ own_get 0 (length m.variables.items) n (omega (arith, few, counted)) ∙ (let same : 0 + n ≡ n = omega arith in ap (λ k. Some (Var k)) same)
+
+  module _ (d : Declared) (i : ℕ) (e : Some d ≡ lookup (has_text x) m.names) (is : d ≡ declarations.Array i) where
+    named : IsArrayNamed m.arrays.items i x
+    named = subst (IsKeptAs m.arrays.items x) is (found_entry (IsKeptAs m.arrays.items) x m.names d laid.kept e)
 
     pub stands : slice_get m.arrays.items i ≡ None → ⊥
-    stands none = let no : ◌≡◌ {A = Option (List ℕ)} None (Some k.now) = ap (option_map (λ (a : Array). a.name.now)) (sym none) ∙ named in cc
+    stands none = let no : ◌≡◌ {A = Option (List ℕ)} None (Some x) = ap (option_map (λ (a : Array). a.name.now)) (sym none) ∙ named in cc
 
-    pub found_array : (a : Array) → Some d ≡ lookup (has_text x) m.names.entries → slice_get m.arrays.items i ≡ Some a → Some (meaning.Place.Array k.now a.kind a.elements.items) ≡ find_name now x
-    found_array a e at =
-        let same : a.name.now ≡ k.now = same_Some _ _ (ap (option_map (λ (b : Array). b.name.now)) (sym at) ∙ named) in
+    pub found_array : (a : Array) → slice_get m.arrays.items i ≡ Some a → Some (meaning.Place.Array x a.kind a.elements.items) ≡ find_name now x
+    found_array a at =
+        let same : a.name.now ≡ x = same_Some _ _ (ap (option_map (λ (b : Array). b.name.now)) (sym at) ∙ named) in
         ap (λ y. Some (meaning.Place.Array y a.kind a.elements.items)) (sym same) ∙ ap (λ o. Some (option_map_or array_view o no_array)) (sym at)
         ∙ ap (λ w. Some (declared_place m.variables.items m.arrays.items w)) (sym is) ∙ found_some d e

@@ -31,7 +31,8 @@ use Rattle.fz_scope.proofs.Steps.{first_none, second_none, constraint_by_argumen
 use Rattle.fz_scope.proofs.Table.{term_or_array}
 use Rattle.fz_data.specs.declared.scope.Scope.{Scope}
 use Rattle.fz_data.specs.Parts.{declared_place}
-use Rattle.fz_data.specs.Scope.{has_text, place_in, place_fault, fault_in, faults_in, term_at, term_in, place_at, place_of_part, argument_fault, argument_in, is_declared, decl_fault_in, definition_in, constraint_fault_in, variable_by_place, defined_in, posted_in, aim_in}
+use Rattle.fz_data.specs.Naming.{has_text}
+use Rattle.fz_data.specs.Scope.{place_in, place_fault, fault_in, faults_in, term_at, term_in, place_at, place_of_part, argument_fault, argument_in, is_declared, decl_fault_in, definition_in, constraint_fault_in, variable_by_place, defined_in, posted_in, aim_in}
 use Rattle.fz_data.proofs.Finds.{by_name, first_entry, first_some-same, or_else}
 use Rattle.fz_data.specs.Stands.{Stands, entry_place, declared_pair}
 
@@ -75,16 +76,16 @@ no_answer : (b : Bool) → ◌≡◌ {A = Option ℕ} (cond b None None) None
 no_answer true = refl
 no_answer false = refl
 
-module _ (all known : List Decl) (s : Scope) (st : Stands all known s.names.entries s.variables.items s.arrays.items s.points.items) where
-  places_now : map (entry_place s.variables.items s.arrays.items) s.names.entries ≡ map (declared_pair all) known
-  places_now = (λ i. map (entry_place (sym (append-nil s.variables.items) i) (sym (append-nil s.arrays.items) i)) s.names.entries) ∙ st.places [] []
+module _ (all known : List Decl) (s : Scope) (st : Stands all known s.names s.variables.items s.arrays.items s.points.items) where
+  places_now : map (entry_place s.variables.items s.arrays.items) s.names ≡ map (declared_pair all) known
+  places_now = (λ i. map (entry_place (sym (append-nil s.variables.items) i) (sym (append-nil s.arrays.items) i)) s.names) ∙ st.places [] []
 
   pub knows : (x : List ℕ) → place_in s x ≡ option_map (place_of_declared all) (declaration known x)
-  knows x = sym (first_entry s.variables.items s.arrays.items x s.names.entries) ∙ ap (first_some (by_name x)) places_now ∙ first_pair all known x
+  knows x = sym (first_entry s.variables.items s.arrays.items x s.names) ∙ ap (first_some (by_name x)) places_now ∙ first_pair all known x
 
   pub declares_same : (x : List ℕ) → is_declared s x ≡ declares known x
   declares_same x =
-      sym (some_map (declared_place s.variables.items s.arrays.items) (lookup (has_text x) s.names.entries)) ∙ ap is_some (knows x) ∙ some_map (place_of_declared all) (declaration known x) ∙ some_found (named_as x) known
+      sym (some_map (declared_place s.variables.items s.arrays.items) (lookup (has_text x) s.names)) ∙ ap is_some (knows x) ∙ some_map (place_of_declared all) (declaration known x) ∙ some_found (named_as x) known
 
   -- ---- faults
 
@@ -135,7 +136,7 @@ module _ (all known : List Decl) (s : Scope) (st : Stands all known s.names.entr
 
 -- ---- where all declarations were read
 
-module _ (all : List Decl) (s : Scope) (st : Stands all all s.names.entries s.variables.items s.arrays.items s.points.items) (new : AreNew [] all) where
+module _ (all : List Decl) (s : Scope) (st : Stands all all s.names s.variables.items s.arrays.items s.points.items) (new : AreNew [] all) where
   place_same : (b : Basic) → place_of_part s b ≡ place_of all b
   place_same (Lit l) = refl
   place_same (Named x) = ap (place_at x.text) (knows all all s st x.text) ∙ place_or (place_of_declared all) x.text (declaration all x.text)

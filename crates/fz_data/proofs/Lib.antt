@@ -10,3 +10,4 @@ pub mod Knows
 pub mod Loops
 pub mod Next
 pub mod Loaded
+pub mod NameTable

@@ -1,5 +1,5 @@
 -- What was read is laid out as the model of the tree.
-use Rattle.std.proofs.Common.{◌≡◌, true, false, cond, List, [], ◌∷◌, ◌++◌, map, Vec, Global, Option, Some, None, option_map, refl, sym, ap, subst, ◌∙◌, flat_map, append_assoc}
+use Rattle.std.proofs.Common.{◌≡◌, true, false, cond, List, [], ◌∷◌, ◌++◌, length, map, Vec, Global, Option, Some, None, option_map, refl, sym, ap, subst, ◌∙◌, flat_map, append_assoc}
 use Rattle.std.specs.List.{AllByRecursion}
 use Rattle.std.proofs.lemmas.List.{append-nil}
 use Rattle.fz_meaning.specs.declared.error.ModelError.{ModelError}
@@ -21,6 +21,8 @@ use Rattle.fz_data.specs.declared.model.Model.TheInside.{Inside}
 use Rattle.fz_data.specs.declared.parts.Goal as the_goal
 use Rattle.fz_data.specs.declared.parts.Posted as the_posted
 use Rattle.fz_data.specs.declared.scope.Scope.{Scope}
+use Rattle.fz_meaning.specs.declared.term.Term.{Term}
+use Rattle.fz_data.specs.Naming.{own_terms}
 use Rattle.fz_data.specs.Parts.{posted_view, goal_view, declared_point}
 use Rattle.fz_data.specs.Layout.{model_view, named_place, IsLaidOut, IsPlaced, CitesArrays}
 use Rattle.fz_data.specs.Scope.{AreKept, Tells, posted_in, aim_in, faults_in, constraint_fault_in}
@@ -51,11 +53,11 @@ named_pairs all before (d ∷ ds) e new =
 -- ---- the scope by itself
 
 module _ (all : List Decl) (s : Scope) (st : StandsFor all all s) where
-  declared_now : map (entry_view s.variables.items s.arrays.items) s.names.entries ≡ map (declared_of all) all
-  declared_now = (λ i. map (entry_view (sym (append-nil s.variables.items) i) (sym (append-nil s.arrays.items) i)) s.names.entries) ∙ st.declared [] []
+  declared_now : map (entry_view s.variables.items s.arrays.items) s.names ≡ map (declared_of all) all
+  declared_now = (λ i. map (entry_view (sym (append-nil s.variables.items) i) (sym (append-nil s.arrays.items) i)) s.names) ∙ st.declared [] []
 
-  pairs_now : map (entry_place s.variables.items s.arrays.items) s.names.entries ≡ map (declared_pair all) all
-  pairs_now = (λ i. map (entry_place (sym (append-nil s.variables.items) i) (sym (append-nil s.arrays.items) i)) s.names.entries) ∙ st.places [] []
+  pairs_now : map (entry_place s.variables.items s.arrays.items) s.names ≡ map (declared_pair all) all
+  pairs_now = (λ i. map (entry_place (sym (append-nil s.variables.items) i) (sym (append-nil s.arrays.items) i)) s.names) ∙ st.places [] []
 
   points_now : map (declared_point s.variables.items s.arrays.items) s.points.items ≡ flat_map declared_points (numbered_from 0 (map (declared_of all) all))
   points_now = (λ i. map (declared_point (sym (append-nil s.variables.items) i) (sym (append-nil s.arrays.items) i)) s.points.items) ∙ st.points [] []
@@ -66,15 +68,15 @@ module _ (all : List Decl) (s : Scope) (st : StandsFor all all s) where
       (subst (λ zs. AllByRecursion (IsPlaced (s.variables.items ++ []) zs) s.points.items) (append-nil s.arrays.items) (st.placed [] []))
 
   pub kept_now : AreKept s
-  kept_now = subst (λ zs. AllByRecursion (is_kept zs) s.names.entries) (append-nil s.arrays.items) (st.kept [])
+  kept_now = subst (λ zs. AllByRecursion (is_kept zs) s.names) (append-nil s.arrays.items) (st.kept [])
 
 -- ---- the whole
 
-module _ (t : LocatedTree) (s : Scope) (cs : Vec the_posted.Posted Global) (ks : Vec (Option Known) Global) (g : the_goal.Goal) (st : StandsFor t.decls t.decls s) (clean : decls_fault [] t.decls ≡ None)
+module _ (t : LocatedTree) (s : Scope) (ts : Vec Term Global) (cs : Vec the_posted.Posted Global) (ks : Vec (Option Known) Global) (g : the_goal.Goal) (st : StandsFor t.decls t.decls s) (clean : decls_fault [] t.decls ≡ None)
     (posted : map (posted_view s.variables.items s.arrays.items) cs.items ≡ map (posted_in s) t.constraints) (cited : AllByRecursion (CitesArrays s.arrays.items) cs.items)
     (sound : faults_in s (Some IntKind) (goal_parts t.solve.goal) ≡ None) (aim : goal_view g ≡ aim_in s t.solve.goal) where
   abbrev fields : Inside
-  fields = record { names = s.names; variables = s.variables; arrays = s.arrays; points = s.points; constraints = cs; known = ks; goal = g }
+  fields = record { names = s.names; variables = s.variables; terms = ts; arrays = s.arrays; points = s.points; constraints = cs; known = ks; goal = g }
 
   new : AreNew [] t.decls
   new = are_new [] t.decls clean
@@ -88,8 +90,9 @@ module _ (t : LocatedTree) (s : Scope) (cs : Vec the_posted.Posted Global) (ks :
   pub model_is : model_view fields ≡ model_of t
   model_is = λ i. record { declared = declared_now t.decls s st i; constraints = posted_is i; aim = aim_is i }
 
-  pub laid_out : HasNoFault t → map (option_map known_row) ks.items ≡ map row_of (map (posted_view s.variables.items s.arrays.items) cs.items) → IsLaidOut fields
-  laid_out sound rows = record {
+  pub laid_out : HasNoFault t → ts.items ≡ own_terms (length s.variables.items) → map (option_map known_row) ks.items ≡ map row_of (map (posted_view s.variables.items s.arrays.items) cs.items) → IsLaidOut fields
+  laid_out sound own rows = record {
+    terms = own;
     variables = ap (flat_map variable_of) (declared_now t.decls s st) ∙ variables_known t.decls t.decls ∙ sym st.variables;
     places = ap (λ qs. map named_place (numbered_from 0 qs)) (declared_now t.decls s st) ∙ ap (map named_place) (numbered_is t) ∙ named_pairs t.decls [] t.decls refl new ∙ sym (pairs_now t.decls s st);
     points = ap (λ qs. flat_map declared_points (numbered_from 0 qs)) (declared_now t.decls s st) ∙ sym (points_now t.decls s st);

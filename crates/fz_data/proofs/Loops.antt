@@ -7,7 +7,7 @@ use Rattle.std.proofs.lemmas.Slice.Eq.{bytes_eq-Decides}
 use Rattle.fz_meaning.specs.Meaning.{first_some}
 use Rattle.fz_meaning.proofs.Lists.{all_append}
 use Rattle.fz_scope.proofs.Steps.{first_stops, take_one_more}
-use Rattle.fz_data.specs.Scope.{has_text}
+use Rattle.fz_data.specs.Naming.{has_text}
 use Rattle.fz_syntax.specs.Tree as tree
 use Rattle.fz_syntax.specs.View.{arg_list, bare_arg}
 use Rattle.fz_syntax.specs.declared.tree.NoteArg.{NoteArg}
@@ -44,14 +44,14 @@ answer_found f g xs i x o lt at none is some =
     found ∙ sym (first_stops f g xs i x y lt at none (sym is ∙ found))
 
 -- what holds of each entry holds of the one that is found
-pub found_entry : {D : Type 0} (P : List ℕ → D → Type 0) (x : List ℕ) (es : List (Bor (List ℕ) × D)) (d : D) → AllByRecursion (λ e. P e.0.now e.1) es → Some d ≡ lookup (has_text x) es → P x d
+pub found_entry : {D : Type 0} (P : List ℕ → D → Type 0) (x : List ℕ) (es : List (List ℕ × D)) (d : D) → AllByRecursion (λ e. P e.0 e.1) es → Some d ≡ lookup (has_text x) es → P x d
 found_entry P x [] d h e = cc
 found_entry {D} P x (y ∷ es) d h e =
     (elim (has_text x y.0) as (λ b. has_text x y.0 ≡ b → Some d ≡ cond b (Some y.1) (lookup (has_text x) es) → P x d) [
       | true ↦ λ passes e.
           let same : y.1 ≡ d = cc in
-          let text : y.0.now ≡ x = sym ((bytes_eq-Decides x y.0.now).0 passes) in
-          subst (λ z. P z d) text (subst (P y.0.now) same h.0)
+          let text : y.0 ≡ x = sym ((bytes_eq-Decides x y.0).0 passes) in
+          subst (λ z. P z d) text (subst (P y.0) same h.0)
       | false ↦ λ _ later. found_entry P x es d h.1 later
     ]) refl e
 

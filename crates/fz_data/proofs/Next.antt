@@ -12,7 +12,8 @@ use Rattle.fz_data.specs.declared.scope.Item.{Item}
 use Rattle.fz_data.specs.declared.scope.Item.TheVariants as items
 use Rattle.fz_data.specs.declared.scope.Scope.{Scope}
 use Rattle.fz_data.specs.Parts.{variable_view}
-use Rattle.fz_data.specs.Scope.{has_text, IsNewName, IsAdded, IsItem, name_fault_in, decl_fault_in, faults_in, kept_with, new_variables, new_arrays, new_points}
+use Rattle.fz_data.specs.Naming.{has_text}
+use Rattle.fz_data.specs.Scope.{IsNewName, IsAdded, IsItem, name_fault_in, decl_fault_in, faults_in, kept_with, new_variables, new_arrays, new_points}
 use Rattle.fz_data.specs.Stands.{StandsFor}
 use Rattle.fz_data.proofs.Stands.{Adds, stands_more}
 use Rattle.fz_data.proofs.Added.{adds_parameter, adds_variable, adds_array}
@@ -25,10 +26,10 @@ not_some (Some x) f g e = cc
 
 pub new_name : (s : Scope) (d : Decl) → decl_fault_in s d ≡ None → IsNewName s d.name.text
 new_name s d e =
-    not_some (lookup (has_text d.name.text) s.names.entries) (DuplicateName, d.name.span) (cond (differs_in_length d) (Some (WrongLength, d.name.span)) None)
+    not_some (lookup (has_text d.name.text) s.names) (DuplicateName, d.name.span) (cond (differs_in_length d) (Some (WrongLength, d.name.span)) None)
     (first_none (name_fault_in s d) (faults_in s (Some (kind_of_base d.base)) (parts d.value)) e)
 
-module _ (all known rest : List Decl) (d : Decl) (split : all ≡ known ++ d ∷ rest) (s : Scope) (st : StandsFor all known s) (clean : decl_fault_in s d ≡ None) (k : Bor (List ℕ)) (named : k.now ≡ d.name.text) where
+module _ (all known rest : List Decl) (d : Decl) (split : all ≡ known ++ d ∷ rest) (s : Scope) (st : StandsFor all known s) (clean : decl_fault_in s d ≡ None) (k : List ℕ) (named : k ≡ d.name.text) where
   clean_here : decl_fault known d ≡ None
   clean_here = sym (decl_same all known s st d) ∙ clean
 
@@ -47,4 +48,4 @@ module _ (all known rest : List Decl) (d : Decl) (split : all ≡ known ++ d ∷
   pub stands_next : (it : Item) (new : Scope) → IsItem s d it → IsAdded s k it new → StandsFor all (known ++ d ∷ []) new
   stands_next it new is added =
       rw (added.names, added.variables, added.arrays, added.points)
-      (stands_more all known d s.names.entries (k, kept_with s it) s.variables.items (new_variables it) s.arrays.items (new_arrays it) s.points.items (new_points s it) st (adds it is))
+      (stands_more all known d s.names (k, kept_with s it) s.variables.items (new_variables it) s.arrays.items (new_arrays it) s.points.items (new_points s it) st (adds it is))

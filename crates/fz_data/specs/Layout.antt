@@ -6,8 +6,8 @@ use Rattle.fz_meaning.specs.Meaning.{Model, find_name, name_of, place_named, num
 use Rattle.fz_table.specs.Known.{known_row}
 use Rattle.fz_data.specs.declared.parts.Variable.{Variable}
 use Rattle.fz_data.specs.declared.parts.Array.{Array}
-use Rattle.fz_data.specs.declared.parts.Declared.{Declared}
-use Rattle.fz_data.specs.declared.parts.Declared.TheVariants as declarations
+use Rattle.fz_data.specs.Naming.{Declared, own_terms}
+use Rattle.fz_data.specs.Naming.{Declared as declarations}
 use Rattle.fz_data.specs.declared.parts.Place.{Place}
 use Rattle.fz_data.specs.declared.parts.Place.TheVariants as places
 use Rattle.fz_data.specs.declared.parts.Argument.{Argument}
@@ -21,7 +21,7 @@ use Rattle.fz_data.specs.Parts.{variable_view, declared_view, declared_place, po
 
 abbrev pub model_view : Inside → Model
 model_view m = record {
-  declared = map (λ p. declared_view m.variables.items m.arrays.items p.0.now p.1) m.names.entries;
+  declared = map (λ p. declared_view m.variables.items m.arrays.items p.0 p.1) m.names;
   constraints = map (posted_view m.variables.items m.arrays.items) m.constraints.items;
   aim = goal_view m.goal;
 }
@@ -61,12 +61,14 @@ pub record IsLaidOut (m : Inside) : Type 0 where
   -- the variables are the declared ones, in their order
   pub variables : variables_of (model_view m) ≡ map variable_view m.variables.items
   -- each name stands for what it is kept with
-  pub places : map named_place (numbered (model_view m)) ≡ map (λ p. (p.0.now, declared_place m.variables.items m.arrays.items p.1)) m.names.entries
+  pub places : map named_place (numbered (model_view m)) ≡ map (λ p. (p.0, declared_place m.variables.items m.arrays.items p.1)) m.names
+  -- the scalars that the variables are
+  pub terms : m.terms.items ≡ own_terms (length m.variables.items)
   -- the points are those of the declarations, in their order
   pub points : flat_map declared_points (numbered (model_view m)) ≡ map (declared_point m.variables.items m.arrays.items) m.points.items
   pub placed : AllByRecursion (IsPlaced m.variables.items m.arrays.items) m.points.items
   -- declared arrays stand in the list of arrays, and constraints cite them there
-  pub kept : AllByRecursion (λ p. IsKeptAs m.arrays.items p.0.now p.1) m.names.entries
+  pub kept : AllByRecursion (λ p. IsKeptAs m.arrays.items p.0 p.1) m.names
   pub cited : AllByRecursion (CitesArrays m.arrays.items) m.constraints.items
   -- each constraint is kept with the row that it fits
   pub known : map (option_map known_row) m.known.items ≡ map row_of (model_view m).constraints

@@ -7,3 +7,5 @@ pub mod Partial
 pub mod Fitting
 pub mod Scope
 pub mod Stands
+pub mod Naming
+pub mod Names

@@ -11,8 +11,8 @@ use Rattle.fz_meaning.specs.declared.term.Domain.TheVariants.{All}
 use Rattle.fz_meaning.specs.Meaning as meaning
 use Rattle.fz_data.specs.declared.parts.Variable.{Variable}
 use Rattle.fz_data.specs.declared.parts.Array.{Array}
-use Rattle.fz_data.specs.declared.parts.Declared.{Declared}
-use Rattle.fz_data.specs.declared.parts.Declared.TheVariants as declarations
+use Rattle.fz_data.specs.Naming.{Declared}
+use Rattle.fz_data.specs.Naming.{Declared as declarations}
 use Rattle.fz_data.specs.declared.parts.Place.{Place}
 use Rattle.fz_data.specs.declared.parts.Place.TheVariants as places
 use Rattle.fz_data.specs.declared.parts.Argument.{Argument}

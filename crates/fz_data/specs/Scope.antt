@@ -1,6 +1,5 @@
 -- Only private functions use these: what the names that were declared so far stand for, as the loader keeps them, and what an error tells.
 use Rattle.std.specs.Prelude.{◌≡◌, ◌++◌, ◌∷◌, ℕ, pos, ⊤, Bool, true, false, List, [], Option, Some, None, cond, bytes_eq, option_map, map, length, is_some, is_none, not, ◌&&◌, codes, option_and_then}
-use Rattle.std.specs.Borrow.{Bor}
 use Rattle.std.specs.Map.{lookup}
 use Rattle.fz_base.specs.declared.span.Span.{Span}
 use Rattle.fz_base.specs.declared.value.Value.TheVariants.{Int}
@@ -33,8 +32,9 @@ use Rattle.fz_data.specs.declared.scope.Scope.{Scope}
 use Rattle.fz_data.specs.declared.scope.Item.{Item}
 use Rattle.fz_data.specs.declared.scope.Item.TheVariants as items
 use Rattle.fz_data.specs.declared.parts.Array as the_array
-use Rattle.fz_data.specs.declared.parts.Declared as the_declared
-use Rattle.fz_data.specs.declared.parts.Declared.TheVariants as declarations
+use Rattle.fz_data.specs.Naming as the_declared
+use Rattle.fz_data.specs.Naming.{has_text}
+use Rattle.fz_data.specs.Naming.{Declared as declarations}
 use Rattle.fz_data.specs.declared.parts.DeclaredPoint.{DeclaredPoint}
 use Rattle.fz_data.specs.declared.parts.DeclaredPoint.TheVariants as points
 use Rattle.fz_data.specs.declared.parts.Variable.{Variable}
@@ -48,12 +48,9 @@ Tells (errors.Kind at) f = f ≡ Some (WrongKind, at)
 Tells (errors.Length at) f = f ≡ Some (WrongLength, at)
 Tells errors.Memory f = ⊤
 
-abbrev pub has_text : List ℕ → Bor (List ℕ) → Bool
-has_text x k = bytes_eq x k.now
-
 -- what a name stands for
 abbrev pub place_in : Scope → List ℕ → Option Place
-place_in s x = option_map (declared_place s.variables.items s.arrays.items) (lookup (has_text x) s.names.entries)
+place_in s x = option_map (declared_place s.variables.items s.arrays.items) (lookup (has_text x) s.names)
 
 -- a name that stands for nothing, or for no scalar of the wanted kind
 abbrev pub place_fault : Option Kind → Option Place → Span → Option Fault
@@ -98,10 +95,10 @@ argument_in s (Several bs) = ListOf (map (place_of_part s) bs)
 
 -- the name is declared already
 abbrev pub is_declared : Scope → List ℕ → Bool
-is_declared s x = is_some (lookup (has_text x) s.names.entries)
+is_declared s x = is_some (lookup (has_text x) s.names)
 
 abbrev pub IsNewName : Scope → List ℕ → Type 0
-IsNewName s x = is_none (lookup (has_text x) s.names.entries) ≡ true
+IsNewName s x = is_none (lookup (has_text x) s.names) ≡ true
 
 abbrev pub name_fault_in : Scope → Decl → Option Fault
 name_fault_in s d = cond (is_declared s d.name.text) (Some (DuplicateName, d.name.span)) (cond (differs_in_length d) (Some (WrongLength, d.name.span)) None)
@@ -147,8 +144,8 @@ new_points s (items.Variable v) = points.Domain (length s.variables.items) ∷ c
 new_points s (items.Array x) = cond (has_elements_point x) (points.Elements (length s.arrays.items) ∷ []) []
 
 -- the scope with what the name declares
-pub record IsAdded (old : Scope) (name : Bor (List ℕ)) (item : Item) (new : Scope) : Type 0 where
-  pub names : new.names.entries ≡ old.names.entries ++ (name, kept_with old item) ∷ []
+pub record IsAdded (old : Scope) (name : List ℕ) (item : Item) (new : Scope) : Type 0 where
+  pub names : new.names ≡ old.names ++ (name, kept_with old item) ∷ []
   pub variables : new.variables.items ≡ old.variables.items ++ new_variables item
   pub arrays : new.arrays.items ≡ old.arrays.items ++ new_arrays item
   pub points : new.points.items ≡ old.points.items ++ new_points old item
@@ -157,7 +154,7 @@ pub record IsAdded (old : Scope) (name : Bor (List ℕ)) (item : Item) (new : Sc
 
 -- a declared array stands in the list of arrays, under its name
 abbrev pub AreKept : Scope → Type 0
-AreKept s = AllByRecursion (λ e. IsKeptAs s.arrays.items e.0.now e.1) s.names.entries
+AreKept s = AllByRecursion (λ e. IsKeptAs s.arrays.items e.0 e.1) s.names
 
 abbrev pub constraint_fault_in : Scope → Constraint → Option Fault
 constraint_fault_in s c = first_some (argument_fault s) c.args

@@ -7,7 +7,7 @@ use Rattle.fz_meaning.specs.Meaning as meaning
 use Rattle.fz_meaning.specs.Meaning.{Place, declared_points, numbered_from}
 use Rattle.fz_meaning.specs.Names.{scalar_variables, place_of_declared, declared_of, variable_declared}
 use Rattle.fz_data.specs.declared.parts.Array as the_array
-use Rattle.fz_data.specs.declared.parts.Declared as the_declared
+use Rattle.fz_data.specs.Naming as the_declared
 use Rattle.fz_data.specs.declared.parts.DeclaredPoint.{DeclaredPoint}
 use Rattle.fz_data.specs.declared.parts.Variable.{Variable}
 use Rattle.fz_data.specs.declared.scope.Scope.{Scope}
@@ -15,16 +15,16 @@ use Rattle.fz_data.specs.Parts.{variable_view, declared_view, declared_place, de
 use Rattle.fz_data.specs.Layout.{IsKeptAs, IsPlaced}
 
 abbrev pub Entry : Type 0
-Entry = Bor (List ℕ) × the_declared.Declared
+Entry = List ℕ × the_declared.Declared
 
 abbrev pub entry_view : List Variable → List the_array.Array → Entry → meaning.Declared
-entry_view vs xs p = declared_view vs xs p.0.now p.1
+entry_view vs xs p = declared_view vs xs p.0 p.1
 
 abbrev pub entry_place : List Variable → List the_array.Array → Entry → (List ℕ × Place)
-entry_place vs xs p = (p.0.now, declared_place vs xs p.1)
+entry_place vs xs p = (p.0, declared_place vs xs p.1)
 
 abbrev pub is_kept : List the_array.Array → Entry → Type 0
-is_kept xs p = IsKeptAs xs p.0.now p.1
+is_kept xs p = IsKeptAs xs p.0 p.1
 
 abbrev pub declared_pair : List Decl → Decl → (List ℕ × Place)
 declared_pair all d = (d.name.text, place_of_declared all d)
@@ -39,4 +39,4 @@ pub record Stands (all known : List Decl) (es : List Entry) (vs : List Variable)
 
 -- the scope stands for the first of all declarations
 abbrev pub StandsFor : List Decl → List Decl → Scope → Type 0
-StandsFor all known s = Stands all known s.names.entries s.variables.items s.arrays.items s.points.items
+StandsFor all known s = Stands all known s.names s.variables.items s.arrays.items s.points.items

@@ -53,7 +53,7 @@ fn check_name(scope: &Scope<'_>, decl: &Decl<'_>) -> Result<(), ModelError>
     ensures clean { IfOk result (λ _. name_fault_in scope.now (located_decl decl.now) ≡ None) }
     ensures tells { IfErr result (λ e. Tells e (name_fault_in scope.now (located_decl decl.now))) }
 {
-    if scope.names.contains_key(decl.name.text) {
+    if scope.names.contains(decl.name.text) {
         return Err(ModelError::DuplicateName(decl.name.span));
     }
     if is_of_another_length(decl) {

@@ -3,12 +3,7 @@
 ghost use Rattle.std.specs.Prelude.{◌≡◌, ◌+◌, ◌*◌, ◌%◌, ◌^◌};
 ghost use Rattle.fz_data.specs.Hashing.{with_first};
 
-use crate::parts::Declared;
-use indexmap::IndexMap;
-use std::hash::{BuildHasherDefault, Hasher};
-
-/// Declared names with what they stand for, in source order.
-pub(crate) type Names<'a> = IndexMap<&'a [u8], Declared, BuildHasherDefault<NameHasher>>;
+use std::hash::Hasher;
 
 /// A hasher of names. A slice writes its length and then each byte by itself, and this one takes the first byte of each write: a few
 /// instructions a byte, where the usual hasher multiplies to 128 bits. As with the usual one, whose seed is fixed too, whoever picks the

@@ -7,6 +7,7 @@ mod found;
 mod hashing;
 mod loading;
 mod model;
+mod names;
 mod partial;
 mod parts;
 mod point;

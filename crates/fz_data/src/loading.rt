@@ -5,30 +5,30 @@ ghost use Rattle.fz_meaning.specs.declared.error.ModelError.TheVariants.{Memory}
 ghost use Rattle.fz_meaning.specs.Names.{HasNoFault, IsInReadingOrder, model_of};
 ghost use Rattle.fz_meaning.specs.View.{TellsFirstFault, located, located_decl};
 ghost use Rattle.fz_scope.specs.FirstFault.{decls_fault, first_fault};
+ghost use Rattle.fz_data.specs.Naming.{own_terms};
 ghost use Rattle.fz_data.specs.Scope.{Tells};
 ghost use Rattle.fz_data.specs.Stands.{StandsFor};
 
 use crate::declaring::item_of;
 use crate::model::Model;
+use crate::names::Names;
 use crate::posting::{all_posted, goal_of};
 use crate::rows::kinds_of;
 use crate::scope::{Scope, add};
-use fz_meaning::ModelError;
+use fz_meaning::{ModelError, Term};
 use fz_syntax::{Ast, Decl};
-use indexmap::IndexMap;
-use std::alloc::Global;
-use std::hash::BuildHasherDefault;
+use std::alloc::{AllocError, Global};
 
 /// Nothing declared yet, with room for this many names.
 fn empty<'a>(alloc: Global, names: usize) -> Result<Scope<'a>, ModelError>
-    ensures names { IfOk result (λ s. s.names.entries ≡ []) }
+    ensures names { IfOk result (λ s. s.names ≡ []) }
     ensures variables { IfOk result (λ s. s.variables.items ≡ []) }
     ensures arrays { IfOk result (λ s. s.arrays.items ≡ []) }
     ensures points { IfOk result (λ s. s.points.items ≡ []) }
     ensures memory { IfErr result (λ e. e ≡ Memory) }
 {
     Ok(Scope {
-        names: IndexMap::with_capacity_and_hasher(alloc, names, BuildHasherDefault::new())?,
+        names: Names::with_capacity(alloc, names)?,
         variables: Vec::with_capacity(alloc, names)?,
         arrays: Vec::new(alloc),
         points: Vec::new(alloc),
@@ -49,6 +49,17 @@ fn declared<'a>(alloc: Global, decls: &[Decl<'a>]) -> Result<Scope<'a>, ModelErr
     Ok(scope)
 }
 
+/// The scalars that this many variables are, by their numbers.
+fn variable_terms(alloc: Global, count: usize) -> Result<Vec<Term>, AllocError>
+    ensures { IfOk result (λ ts. ts.items ≡ own_terms count) }
+{
+    let mut terms = Vec::with_capacity(alloc, count)?;
+    for number in 0..count {
+        terms.push(Term::Var(number))?;
+    }
+    Ok(terms)
+}
+
 /// The model of a tree, or the fault that is met first.
 fn read<'a>(alloc: Global, ast: &Ast<'a>) -> Result<Model<'a>, ModelError>
     ensures clean { IfOk result (λ _. first_fault (located ast.now) ≡ None) }
@@ -59,7 +70,8 @@ fn read<'a>(alloc: Global, ast: &Ast<'a>) -> Result<Model<'a>, ModelError>
     let kinds = kinds_of(alloc, &scope.variables)?;
     let constraints = all_posted(alloc, &scope, &kinds, &ast.constraints)?;
     let goal = goal_of(alloc, &scope, &ast.solve.goal)?;
-    Ok(Model::assembled(scope, constraints.posted, constraints.known, goal))
+    let terms = variable_terms(alloc, scope.variables.len())?;
+    Ok(Model::assembled(scope, terms, constraints.posted, constraints.known, goal))
 }
 
 /// The model of a tree. It refuses a tree with faults, with the leftmost; else only where memory runs out.

@@ -8,10 +8,11 @@ ghost use Rattle.fz_data.specs.Parts.{goal_view, posted_view, variable_view};
 ghost use Rattle.fz_data.specs.Shown.{IfConstraint, found_place, point_name, point_view, shown_posted};
 
 use crate::found::{Found, What};
-use crate::hashing::Names;
-use crate::parts::{Array, Declared, DeclaredPoint, Goal, Posted, Variable};
+use crate::names::{Names, Standing};
+use crate::parts::{Array, DeclaredPoint, Goal, Posted, Variable};
 use crate::point::{ConstraintParts, Point, PointParts};
 use crate::scope::Scope;
+use fz_meaning::Term;
 use fz_table::Known;
 
 /// A model with its names looked up. A contract sees it as the model of the tree that it was loaded from.
@@ -20,6 +21,8 @@ pub struct Model<'a> {
     /// the declared names, in source order
     names: Names<'a>,
     variables: Vec<Variable<'a>>,
+    /// the scalar that each variable is, in their order, for those who look up its name
+    terms: Vec<Term>,
     arrays: Vec<Array<'a>>,
     /// the points of the declarations, in their order
     points: Vec<DeclaredPoint>,
@@ -73,15 +76,19 @@ impl<'a> Model<'a> {
         ensures text { IfSome result (λ f. f.name.now ≡ name.now) }
         ensures kinds { IfSome result (λ f. PlaceFits self.now (found_place (variables_of self.now) f)) }
     {
-        let (_, text, declared) = self.names.get_full(name)?;
-        let what = match declared {
-            Declared::Scalar(term) => What::Scalar(term),
-            Declared::Array(number) => {
-                let array = self.arrays.get(*number)?;
+        let (text, standing) = self.names.find(name)?;
+        let what = match standing {
+            Standing::Variable(number) => {
+                let term = self.terms.get(number)?;
+                What::Scalar(term)
+            }
+            Standing::Parameter(term) => What::Scalar(term),
+            Standing::Array(number) => {
+                let array = self.arrays.get(number)?;
                 What::Array(array.kind, &array.elements)
             }
         };
-        Some(Found { name: *text, what })
+        Some(Found { name: text, what })
     }
 
     /// The number of points. It takes no memory.
@@ -147,12 +154,13 @@ impl<'a> Model<'a> {
     /// The model of what was declared, with constraints, their rows and a goal that cite it.
     pub(crate) fn assembled(
         scope: Scope<'a>,
+        terms: Vec<Term>,
         constraints: Vec<Posted<'a>>,
         known: Vec<Option<Known>>,
         goal: Goal,
     ) -> Model<'a>
-        requires laid_out { IsLaidOut (record { names = scope.names; variables = scope.variables; arrays = scope.arrays; points = scope.points; constraints = constraints; known = known; goal = goal }) }
-        ensures view { result ≡ model_view (record { names = scope.entry.names; variables = scope.entry.variables; arrays = scope.entry.arrays; points = scope.entry.points; constraints = constraints.entry; known = known; goal = goal }) }
+        requires laid_out { IsLaidOut (record { names = scope.names; variables = scope.variables; terms = terms; arrays = scope.arrays; points = scope.points; constraints = constraints; known = known; goal = goal }) }
+        ensures view { result ≡ model_view (record { names = scope.entry.names; variables = scope.entry.variables; terms = terms; arrays = scope.entry.arrays; points = scope.entry.points; constraints = constraints.entry; known = known; goal = goal }) }
     {
         let Scope {
             names,
@@ -163,6 +171,7 @@ impl<'a> Model<'a> {
         Model {
             names,
             variables,
+            terms,
             arrays,
             points,
             constraints,

@@ -22,13 +22,6 @@ pub struct Array<'a> {
     pub elements: Vec<Term>,
 }
 
-/// What a declared name stands for: a scalar, or the array of a number.
-#[derive(Debug, Drop)]
-pub enum Declared {
-    Scalar(Term),
-    Array(usize),
-}
-
 /// A declared array by its name, and by its number among the arrays.
 #[derive(Clone, Copy, Debug)]
 pub struct ArrayName<'a> {

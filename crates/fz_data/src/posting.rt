@@ -12,11 +12,12 @@ ghost use Rattle.fz_table.specs.Known.{known_row};
 ghost use Rattle.fz_data.specs.Fitting.{kinds_among};
 ghost use Rattle.fz_data.specs.Layout.{AreCited, CitesArrays, IsCited};
 ghost use Rattle.fz_data.specs.Parts.{argument_view, goal_view, place_view, posted_view};
-ghost use Rattle.fz_data.specs.Scope.{AreKept, Tells, aim_in, argument_fault, argument_in, constraint_fault_in, defined_in, bare_name_of, fault_in, faults_in, inner_of, only_arg, place_in, place_of_part, posted_in, variable_by_place};
+ghost use Rattle.fz_data.specs.Scope.{AreKept, Tells, aim_in, argument_fault, argument_in, constraint_fault_in, defined_in, bare_name_of, fault_in, faults_in, inner_of, only_arg, place_in, place_of_part, posted_in, variable_at_term, variable_by_place};
 ghost use Rattle.fz_meaning.specs.Located.Basic.{Named};
 ghost use Rattle.fz_syntax.specs.View.{arg_list, bare_arg};
 
-use crate::parts::{Argument, ArrayName, Declared, Goal, Place, Posted};
+use crate::names::Standing;
+use crate::parts::{Argument, ArrayName, Goal, Place, Posted};
 use crate::rows::{Cited, row_of};
 use crate::scope::{Scope, term_of};
 use crate::values::{copied, literal_value};
@@ -39,11 +40,12 @@ fn named_place<'a>(
 {
     match scope.names.get(name.text) {
         None => Err(ModelError::UnknownName(name.span)),
-        Some(Declared::Scalar(term)) => Ok(Place::Scalar(copied(alloc, term)?)),
-        Some(Declared::Array(number)) => Ok(Place::Array(ArrayName {
+        Some(Standing::Variable(number)) => Ok(Place::Scalar(Term::Var(number))),
+        Some(Standing::Array(number)) => Ok(Place::Array(ArrayName {
             text: name.text,
-            number: *number,
+            number,
         })),
+        Some(Standing::Parameter(term)) => Ok(Place::Scalar(copied(alloc, term)?)),
     }
 }
 
@@ -125,13 +127,23 @@ fn arguments_of<'a>(
     Ok(found)
 }
 
+fn variable_number(term: &Term) -> Option<usize>
+    ensures { result ≡ variable_at_term term.now }
+{
+    match term {
+        Term::Var(number) => Some(*number),
+        Term::Fixed(_) => None,
+    }
+}
+
 /// The number of the scalar variable of a name.
 fn variable_named(scope: &Scope<'_>, name: &[u8]) -> Option<usize>
     ensures { result ≡ variable_by_place (place_in scope.now name.now) }
 {
     match scope.names.get(name)? {
-        Declared::Scalar(Term::Var(number)) => Some(*number),
-        _ => None,
+        Standing::Variable(number) => Some(number),
+        Standing::Parameter(term) => variable_number(term),
+        Standing::Array(_) => None,
     }
 }
 

@@ -1,9 +1,8 @@
 //! What was declared so far.
 
 ghost use Rattle.std.specs.Prelude.{◌≡◌, ◌++◌, ◌∷◌, [], IfErr, IfOk, OnOk, None, Some, cond, is_none, length, map, true};
-ghost use Rattle.std.specs.Map.{lookup};
 ghost use Rattle.fz_meaning.specs.View.{located_basic};
-ghost use Rattle.fz_meaning.specs.declared.term.Term.TheVariants.{Fixed};
+ghost use Rattle.fz_meaning.specs.declared.term.Term.TheVariants.{Fixed, Var};
 ghost use Rattle.fz_scope.specs.FirstFault.{literal_fault};
 ghost use Rattle.fz_meaning.specs.Names.{literal_value};
 ghost use Rattle.fz_meaning.specs.Values.{kind_of};
@@ -11,10 +10,10 @@ ghost use Rattle.fz_syntax.specs.View.{bare_literal_kind};
 ghost use Rattle.fz_data.specs.Parts.{kind_of_term};
 ghost use Rattle.fz_data.specs.declared.scope.Item.TheVariants.{Parameter, Variable as item_variable, Array as item_array};
 ghost use Rattle.fz_meaning.specs.declared.error.ModelError.TheVariants.{Memory};
-ghost use Rattle.fz_data.specs.Scope.{IsAdded, Tells, fault_in, faults_in, has_elements_point, has_text, IsNewName, place_fault, place_in, term_at, term_in};
+ghost use Rattle.fz_data.specs.Scope.{IsAdded, Tells, fault_in, faults_in, has_elements_point, IsNewName, place_fault, place_in, term_at, term_in};
 
-use crate::hashing::Names;
-use crate::parts::{Array, Declared, DeclaredPoint, Variable};
+use crate::names::{Names, Standing};
+use crate::parts::{Array, DeclaredPoint, Variable};
 use crate::values::{copied, kind_of, literal_kind, literal_value, same_kind};
 use fz_base::Value;
 use fz_meaning::{Domain, Kind, ModelError, Term};
@@ -38,15 +37,22 @@ pub(crate) enum Item<'a> {
     Array(Array<'a>),
 }
 
+/// The kind of the variable of a number.
+fn variable_kind(variables: &[Variable<'_>], number: usize) -> Kind
+    ensures { result ≡ kind_of_term variables.now (Var number) }
+{
+    match variables.get(number) {
+        Some(variable) => variable.kind,
+        None => Kind::Int,
+    }
+}
+
 /// The kind of a scalar among these variables.
 fn scalar_kind(variables: &[Variable<'_>], term: &Term) -> Kind
     ensures { result ≡ kind_of_term variables.now term.now }
 {
     match term {
-        Term::Var(number) => match variables.get(*number) {
-            Some(variable) => variable.kind,
-            None => Kind::Int,
-        },
+        Term::Var(number) => variable_kind(variables, *number),
         Term::Fixed(value) => kind_of(value),
     }
 }
@@ -76,8 +82,14 @@ fn named_term(
 {
     match scope.names.get(name.text) {
         None => Err(ModelError::UnknownName(name.span)),
-        Some(Declared::Array(_)) => Err(ModelError::Kind(name.span)),
-        Some(Declared::Scalar(term)) => {
+        Some(Standing::Array(_)) => Err(ModelError::Kind(name.span)),
+        Some(Standing::Variable(number)) => {
+            if !same_kind(variable_kind(&scope.variables, number), wanted) {
+                return Err(ModelError::Kind(name.span));
+            }
+            Ok(Term::Var(number))
+        }
+        Some(Standing::Parameter(term)) => {
             if !same_kind(scalar_kind(&scope.variables, term), wanted) {
                 return Err(ModelError::Kind(name.span));
             }
@@ -122,16 +134,6 @@ pub(crate) fn terms_of(
     Ok(terms)
 }
 
-/// Keeps a new name.
-fn keep<'a>(names: &mut Names<'a>, name: &'a [u8], declared: Declared) -> Result<(), ModelError>
-    requires new { is_none (lookup (has_text name.now) names.old.entries) ≡ true }
-    ensures kept { OnOk result (names.new.entries ≡ names.old.entries ++ (name.entry, declared) ∷ []) }
-    ensures memory { IfErr result (λ e. e ≡ Memory) }
-{
-    let _ = names.insert(name, declared)?;
-    Ok(())
-}
-
 /// Puts a point behind the others, where it is wanted.
 fn push_if(
     points: &mut Vec<DeclaredPoint>,
@@ -149,10 +151,11 @@ fn push_if(
 /// Adds a parameter under a new name.
 fn add_parameter<'a>(scope: &mut Scope<'a>, name: &'a [u8], value: Value) -> Result<(), ModelError>
     requires new { IsNewName scope.old name.now }
-    ensures added { OnOk result (IsAdded scope.old name.entry (Parameter value) scope.new) }
+    ensures added { OnOk result (IsAdded scope.old name.now (Parameter value) scope.new) }
     ensures memory { IfErr result (λ e. e ≡ Memory) }
 {
-    keep(&mut scope.names, name, Declared::Scalar(Term::Fixed(value)))
+    scope.names.push_parameter(name, value)?;
+    Ok(())
 }
 
 /// Adds a variable with its points.
@@ -162,7 +165,7 @@ fn add_variable<'a>(
     variable: Variable<'a>,
 ) -> Result<(), ModelError>
     requires new { IsNewName scope.old name.now }
-    ensures added { OnOk result (IsAdded scope.old name.entry (item_variable variable.entry) scope.new) }
+    ensures added { OnOk result (IsAdded scope.old name.now (item_variable variable.entry) scope.new) }
     ensures memory { IfErr result (λ e. e ≡ Memory) }
 {
     let number = scope.variables.len();
@@ -174,7 +177,8 @@ fn add_variable<'a>(
         DeclaredPoint::Definition(number),
     )?;
     scope.variables.push(variable)?;
-    keep(&mut scope.names, name, Declared::Scalar(Term::Var(number)))
+    scope.names.push_variable(name, number)?;
+    Ok(())
 }
 
 /// Whether an array has a domain to check: that of its variables, where it has bounds.
@@ -190,7 +194,7 @@ fn is_bounded(array: &Array<'_>) -> bool
 /// Adds an array with its point.
 fn add_array<'a>(scope: &mut Scope<'a>, name: &'a [u8], array: Array<'a>) -> Result<(), ModelError>
     requires new { IsNewName scope.old name.now }
-    ensures added { OnOk result (IsAdded scope.old name.entry (item_array array.entry) scope.new) }
+    ensures added { OnOk result (IsAdded scope.old name.now (item_array array.entry) scope.new) }
     ensures memory { IfErr result (λ e. e ≡ Memory) }
 {
     let number = scope.arrays.len();
@@ -201,7 +205,8 @@ fn add_array<'a>(scope: &mut Scope<'a>, name: &'a [u8], array: Array<'a>) -> Res
         DeclaredPoint::Elements(number),
     )?;
     scope.arrays.push(array)?;
-    keep(&mut scope.names, name, Declared::Array(number))
+    scope.names.push_array(name, number)?;
+    Ok(())
 }
 
 /// Adds what a new name declares, behind the rest. It refuses only where memory runs out.
@@ -211,7 +216,7 @@ pub(crate) fn add<'a>(
     item: Item<'a>,
 ) -> Result<(), ModelError>
     requires new { IsNewName scope.old name.now }
-    ensures added { OnOk result (IsAdded scope.old name.entry item.entry scope.new) }
+    ensures added { OnOk result (IsAdded scope.old name.now item.entry scope.new) }
     ensures memory { IfErr result (λ e. e ≡ Memory) }
 {
     match item {

@@ -29,6 +29,6 @@ loop-decl-preserved c =
       clean = decls_more located_decl c.args.decls.now c.loop-decl.decl-index c.decl-item.result c.loop-decl-test.true c.decl-item.is c.loop-decl.invariant.clean
           (sym (decl_same all known c.loop-decl.scope c.loop-decl.invariant.stands (located_decl c.decl-item.result)) ∙ c.in_ok-item.ensures.clean);
       stands = subst (λ ds. StandsFor all ds c.add.new.scope) (sym (take_one_more located_decl c.args.decls.now c.loop-decl.decl-index c.decl-item.result c.loop-decl-test.true c.decl-item.is))
-          (stands_next all known rest (located_decl c.decl-item.result) split c.loop-decl.scope c.loop-decl.invariant.stands c.in_ok-item.ensures.clean c.decl-item.result.name.text refl
+          (stands_next all known rest (located_decl c.decl-item.result) split c.loop-decl.scope c.loop-decl.invariant.stands c.in_ok-item.ensures.clean c.decl-item.result.name.text.now refl
           c.in_ok-item.item c.add.new.scope c.in_ok-item.ensures.item c.in_ok-add.ensures.added);
     }
