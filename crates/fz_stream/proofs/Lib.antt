@@ -1,4 +1,5 @@
 pub mod LineLemmas
+pub mod KindLemmas
 pub mod NameLemmas
 pub mod PartLemmas
 pub mod ReadingLemmas
