@@ -1,14 +1,14 @@
 //! Forced steps as the points come in their order, without memory of which points wait.
 
-ghost use Rattle.std.specs.Prelude.{◌≡◌, ◌≤◌, IfOk, IfSome, IsNone, Some, length, slice_get};
+ghost use Rattle.std.specs.Prelude.{◌≡◌, ◌≤◌, ◌<◌, IfOk, IfSome, IsNone, Some, is_some, length, slice_get, true};
 ghost use Rattle.std.specs.List.{AllByRecursion};
-ghost use Rattle.fz_model.specs.Meaning.{IsPartial, Partial as Values, points};
-ghost use Rattle.fz_model.specs.Steps.{GivesNothing};
+ghost use Rattle.fz_model.specs.Meaning.{IsPartial, Model as Meaning, Partial as Values, Point, points, value_at};
+ghost use Rattle.fz_model.specs.Steps.{Gives, GivesNothing};
 ghost use Rattle.fz_verdict.specs.Filling.{Chain, IsFirstStep};
-ghost use Rattle.fz_filling.specs.Stepping.{IsStepAhead, NoneGives, unset_count};
+ghost use Rattle.fz_filling.specs.Stepping.{IsStepAhead, NoneGives, StandBehind, is_shut, unset_count};
 
 use fz_base::Value;
-use fz_model::{Model, Partial, forced};
+use fz_model::{Model, Partial, Posted, forced};
 use std::alloc::{AllocError, Global};
 
 /// So often the search may come round to the first point before it is worth the memory to keep which points wait.
@@ -20,6 +20,75 @@ pub(crate) struct Step {
     pub(crate) point: usize,
     pub(crate) variable: usize,
     pub(crate) value: Value,
+}
+
+/// The constraints of a model, and how many points stand before theirs.
+#[derive(Clone, Copy)]
+struct Posts<'m, 'a> {
+    before: usize,
+    all: &'m [Posted<'a>],
+}
+
+fn posts_of<'m, 'a>(model: &'m Model<'a>) -> Posts<'m, 'a>
+    ensures { StandBehind model.now result.before result.all.now }
+{
+    let all = model.constraints();
+    Posts {
+        before: model.points() - all.len(),
+        all,
+    }
+}
+
+fn has_value(number: usize, values: &[Option<Value>]) -> bool
+    ensures { result ≡ is_some (value_at values.now number) }
+{
+    match values.get(number) {
+        Some(given) => given.is_some(),
+        None => false,
+    }
+}
+
+/// Whether there is nothing to give to a target: there is none, or it has a value.
+fn is_shut(target: Option<usize>, values: &[Option<Value>]) -> bool
+    ensures { result ≡ is_shut values.now target }
+{
+    match target {
+        Some(number) => has_value(number, values),
+        None => true,
+    }
+}
+
+/// Whether a point is a constraint that can give nothing, as most are. It reads no argument.
+fn is_idle(posts: Posts<'_, '_>, point: usize, values: &[Option<Value>]) -> bool
+    ensures { result ≡ true → (m : Meaning) → StandBehind m posts.entry.before posts.entry.all.now → (p : Point) → slice_get (points m) point ≡ Some p → GivesNothing m values.now p }
+{
+    if point < posts.before {
+        return false;
+    }
+    match posts.all.get(point - posts.before) {
+        Some(posted) => is_shut(posted.target, values),
+        None => false,
+    }
+}
+
+/// The step that a point gives.
+fn step_at(
+    alloc: Global,
+    model: &Model<'_>,
+    posts: Posts<'_, '_>,
+    partial: &Partial,
+    point: usize,
+) -> Result<Option<(usize, Value)>, AllocError>
+    requires fits { IsPartial model.now partial.now }
+    requires in_range { point < length (points model.now) }
+    requires posts { StandBehind model.now posts.before posts.all.now }
+    ensures given { IfOk result (λ o. IfSome o (λ r. (p : Point) → slice_get (points model.now) point ≡ Some p → Gives model.now partial.now p r.0 r.1)) }
+    ensures nothing { IfOk result (λ o. IsNone o → (p : Point) → slice_get (points model.now) point ≡ Some p → GivesNothing model.now partial.now p) }
+{
+    if is_idle(posts, point, partial.values()) {
+        return Ok(None);
+    }
+    forced(alloc, model, point, partial)
 }
 
 /// The first step of the points from a number up to another.
@@ -35,8 +104,9 @@ fn step_among(
     ensures first { IfOk result (λ o. IfSome o (λ s. IsStepAhead model.now partial.now from to s.point s.variable s.value)) }
     ensures none { IfOk result (λ o. IsNone o → NoneGives model.now partial.now from to) }
 {
+    let posts = posts_of(model);
     for point in from..to {
-        if let Some((variable, value)) = forced(alloc, model, point, partial)? {
+        if let Some((variable, value)) = step_at(alloc, model, posts, partial, point)? {
             return Ok(Some(Step {
                 point,
                 variable,
