@@ -132,8 +132,3 @@ reaches_after m S start K from k n v reaches first = λ F chain. reaches F (Step
 
 pub reaches_end : (m : Model) (S : Partial) (start : ℕ) (K : Partial) (from : ℕ) → Reaches m S start K from → AllByRecursion (GivesNothing m K) (points m) → Chain m S start K
 reaches_end m S start K from reaches none = reaches K (Ends none)
-
--- ---- fewer points
-
-pub none_shorter : (m : Model) (K : Partial) (from at to : ℕ) → to ≤ at → NoneGives m K from at → NoneGives m K from to
-none_shorter m K from at to h none j p above below is = none j p above (omega arith) is

@@ -1,4 +1,4 @@
-use Rattle.std.proofs.Common.{◌≡◌, ◌+◌, suc, is_some, sym, ap, subst, ◌∙◌, arith}
+use Rattle.std.proofs.Common.{◌≡◌, suc, is_some, sym, ap, subst, arith}
 use Rattle.fz_model.specs.Meaning.{IsPartial, give}
 use Rattle.fz_filling.specs.Stepping.{unset_count}
 use Rattle.fz_filling.proofs.Stepping.{Reaches, at_some, nothing_left, one_less, reaches_after, reaches_end, step_fits, step_unset, step_within}

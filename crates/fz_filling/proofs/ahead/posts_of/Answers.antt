@@ -1,4 +1,4 @@
-use Rattle.std.proofs.Common.{◌≡◌, ◌+◌, ◌≤◌, length, arith}
+use Rattle.std.proofs.Common.{◌≤◌, length, arith}
 use Rattle.fz_model.specs.Meaning.{points}
 use Rattle.fz_filling.proofs.Posting.{no_more_posts, stand_behind}
 use Rattle.fz_filling.proofs.ahead.posts_of.Goals as goal
