@@ -16,8 +16,9 @@ ghost use Rattle.fz_judge.specs.Working.{IsWithin, agree_all, element_pairs, has
 
 use crate::error::BlockError;
 use crate::faults::value_fault;
-use crate::values::{is_of_literal, value_of};
-use fz_model::{Model, Partial, Term, What};
+use crate::values::is_of_literal;
+use fz_base::Value;
+use fz_model::{Model, Partial, Term, What, literal_value};
 use fz_syntax::{Literal, LiteralKind, Printed, PrintedValue};
 use std::alloc::{AllocError, Global};
 
@@ -26,6 +27,48 @@ use std::alloc::{AllocError, Global};
 pub(crate) struct Proposed {
     pub(crate) partial: Partial,
     pub(crate) agrees: bool,
+}
+
+/// Gives a variable without a value that of a literal. A number or a truth value goes to its place with no copy on the way.
+#[inline(always)]
+fn give_value(
+    alloc: Global,
+    partial: &mut Partial,
+    number: usize,
+    literal: &LiteralKind,
+) -> Result<(), AllocError>
+    requires in_range { number < length partial.old }
+    requires unset { value_at partial.old number ≡ None }
+    ensures { OnOk result (partial.new ≡ give partial.old number (literal_value (bare_literal_kind literal.now))) }
+{
+    match literal {
+        LiteralKind::Whole(whole) => {
+            partial.set(number, Value::Int(*whole));
+            Ok(())
+        }
+        LiteralKind::Truth(truth) => {
+            partial.set(number, Value::Bool(*truth));
+            Ok(())
+        }
+        LiteralKind::Range(_, _) => give_made(alloc, partial, number, literal),
+        LiteralKind::Braces(_) => give_made(alloc, partial, number, literal),
+    }
+}
+
+/// Gives a variable without a value that of a literal, which is made.
+fn give_made(
+    alloc: Global,
+    partial: &mut Partial,
+    number: usize,
+    literal: &LiteralKind,
+) -> Result<(), AllocError>
+    requires in_range { number < length partial.old }
+    requires unset { value_at partial.old number ≡ None }
+    ensures { OnOk result (partial.new ≡ give partial.old number (literal_value (bare_literal_kind literal.now))) }
+{
+    let value = literal_value(alloc, literal)?;
+    partial.set(number, value);
+    Ok(())
 }
 
 /// Gives a variable the value of a literal, where it has none, and tells whether it has that value then.
@@ -43,8 +86,7 @@ fn set_variable(
     if let Some(value) = partial.get(number) {
         return is_of_literal(alloc, value, literal);
     }
-    let value = value_of(alloc, literal)?;
-    partial.set(number, value);
+    give_value(alloc, partial, number, literal)?;
     Ok(true)
 }
 

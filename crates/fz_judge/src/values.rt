@@ -1,4 +1,4 @@
-//! The values of literals: made, and compared with values without being made where none has to be.
+//! Whether a value is the one of a literal, without making the literal's value where none has to be made.
 
 ghost use Rattle.std.specs.Prelude.{◌≡◌, IfOk};
 ghost use Rattle.fz_model.specs.Names.{literal_value};
@@ -9,19 +9,6 @@ use fz_base::Value;
 use fz_model::literal_value;
 use fz_syntax::LiteralKind;
 use std::alloc::{AllocError, Global};
-
-/// The value of a literal. Numbers and truth values are made in place. It refuses only where memory runs out.
-#[inline(always)]
-pub(crate) fn value_of(alloc: Global, literal: &LiteralKind) -> Result<Value, AllocError>
-    ensures { IfOk result (λ v. v ≡ literal_value (bare_literal_kind literal.now)) }
-{
-    match literal {
-        LiteralKind::Whole(number) => Ok(Value::Int(*number)),
-        LiteralKind::Truth(truth) => Ok(Value::Bool(*truth)),
-        LiteralKind::Range(_, _) => literal_value(alloc, literal),
-        LiteralKind::Braces(_) => literal_value(alloc, literal),
-    }
-}
 
 /// Whether a number is the literal's value.
 #[inline]
