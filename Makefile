@@ -1,7 +1,7 @@
 # make             proves the program with all that it stands on, builds it and leaves it at build/fzcheck
 # make test        the gate: every proof from nothing, the must-fail edits, the tests, the built program
 # make corpus      runs the built program over tests/corpus and examples, and beside a second checker on random ones
-# make bench       measures the phases of a check beside a plain program, and prints one table (some minutes)
+# make bench       measures the phases of a check beside a plain program, and a long stream through a pipe (some minutes)
 # make quick       runs the program on the first example with NO proof: for a first look while editing
 # make install     puts the program and its manual page in place, below PREFIX (/usr/local)
 # make fmt         lays out the sources
@@ -36,9 +36,10 @@ corpus: build/fzcheck
 	tests/corpus/differ.py build/fzcheck - 300
 
 # Cargo builds the plain program, from its own sources alone; the files that are measured are made into build/bench.
-bench: build/fz_bench
+bench: build/fz_bench build/fzcheck
 	cargo build --release --offline --quiet --manifest-path bench/plain/Cargo.toml --target-dir build/plain
 	bench/run.py build/fz_bench build/plain/release/plain build/bench
+	bench/pipe.py build/fzcheck build/plain/release/plain build/bench
 
 build/fz_bench: $(SOURCES)
 	@mkdir -p build

@@ -10,6 +10,8 @@ writes FOLDER/SORT-MEGABYTES.fzn and FOLDER/SORT-MEGABYTES.out, the same bytes f
     stream   a stream of that size, of blocks of 1,500 bytes that get better and a claim, and a model for it
     chain    a model of that size whose definitions are posted in reverse order of their dependence, and a
              stream that prints the first value alone
+    long     a stream of that size, of 200 blocks that get better, and a model over the whole table for it, at
+             90 MB one of 16 MB
 
 A value is chosen for each variable first. Then constraints are made that hold under these values; those
 with a result mostly define a variable of their own, which the stream leaves out."""
@@ -59,6 +61,7 @@ class Model:
         self.tables = {"I": [], "B": [], "S": []}
         self.lists = {"I": [], "B": [], "S": []}
         self.decisions = {"I": [], "B": [], "S": []}
+        self.introduced = []
         self.path = 0
 
     def declare(self, line):
@@ -109,6 +112,7 @@ class Model:
         else:
             domain = "bool" if kind == "B" else "set of int"
         self.declare(f"var {domain}: {name} :: var_is_introduced :: is_defined_var;")
+        self.introduced.append((name, value))
         return self.add(kind, name, value)
 
     def some_set(self):
@@ -456,8 +460,9 @@ ROWS = [
 ]
 
 
-def make_model(size, rand):
-    """A model over the whole table, and a stream of one block."""
+def make_model(size, rand, block_size=0):
+    """A model over the whole table, and a stream of one block. Where the block is to be larger than its arrays make
+    it, defined variables are printed by name."""
     variables = max(60, size // 160)
     model = Model(rand, variables)
     for number in range(max(1, size // 100_000)):
@@ -473,6 +478,10 @@ def make_model(size, rand):
     goal = "solve :: int_search(out_I0,first_fail,indomain_min,complete) :: restart_geometric(1.5,100) minimize cost;"
     while model.size < size - len(goal):
         rand.choice(ROWS)(model)
+    for name, value in model.introduced:
+        if len(block) >= block_size:
+            break
+        block += f"{name} = {text_of(value)};\n"
     rand.shuffle(model.posted)
     lines = ["predicate fzn_all_different_int(array [int] of var int: x);"]
     text = "\n".join(lines + model.declared + model.posted + [goal]) + "\n"
@@ -529,7 +538,16 @@ def make_chain(size, rand):
     return "\n".join(lines) + "\nsolve satisfy;\n", "X_INTRODUCED_0_ = 3;\n----------\n"
 
 
-SORTS = {"model": make_model, "stream": make_stream, "chain": make_chain}
+def make_long(size, rand):
+    """A large model, and 200 blocks of which each prints the arrays and so many of the other variables by name."""
+    blocks = 200
+    model, block = make_model(size * 16 // 90, rand, size // blocks)
+    values, cost = block.rsplit("cost = ", 1)
+    first = 1_000_000
+    return model, "".join(f"{values}cost = {first - n};\n----------\n" for n in range(blocks))
+
+
+SORTS = {"model": make_model, "stream": make_stream, "chain": make_chain, "long": make_long}
 
 
 def main():

@@ -8,14 +8,15 @@ use Rattle.std.specs.Cmp.{int_cmp_total, both_ways}
 use Rattle.std.specs.FinSet.{contains, from_list, contains-from_list, union, intersection, difference, is_subset, contains-union, contains-intersection, contains-difference, is_subset-contains, contains-is_subset}
 use Rattle.std.proofs.lemmas.Bool.{false≢true}
 use Rattle.fz_base.specs.declared.ranges.Range.{Range}
+use Rattle.fz_base.specs.declared.ranges.Rule.{Rule}
 use Rattle.fz_base.specs.declared.ranges.Rule.TheVariants.{Union, Intersect, Minus, Symdiff}
 use Rattle.fz_base.specs.Sets.{NumberSet, numbers_between, symmetric_difference, LiesWithin, IsOnly}
 use Rattle.fz_base.specs.Ranges.{numbers_of, CoversOnly, covers, is_between, keeps}
 use Rattle.fz_base.proofs.Numbers.{contains-numbers_of, contains-numbers_between, contains-symmetric_difference, same_numbers}
 
--- a list of ranges that are those of the set
-pub seen : (s : NumberSet) (rs ls : List Range) → numbers_of rs ≡ s → ls ≡ rs → (x : ℤ) → covers ls x ≡ contains s x
-seen s rs ls view e x = rw (e, ← view) (sym (contains-numbers_of rs x))
+-- ranges that cover the numbers of a set
+pub seen : (s : NumberSet) (rs : List Range) → numbers_of rs ≡ s → (x : ℤ) → covers rs x ≡ contains s x
+seen s rs view x = rw (← view) (sym (contains-numbers_of rs x))
 
 -- ranges that cover what a set contains
 pub made : (rs : List Range) (s : NumberSet) → ((x : ℤ) → covers rs x ≡ contains s x) → numbers_of rs ≡ s
@@ -71,6 +72,27 @@ module _ (s t : NumberSet) (a b : List Range) (is_a : (x : ℤ) → covers a x �
     λ e. same_numbers s t (λ x. sym (is_a x) ∙ alike (covers a x) (covers b x) (h.0 e x) ∙ is_b x),
     λ e. h.1 (λ x. rw (is_a x, is_b x, e) (not_apart (contains t x))),
   )
+
+  -- a set of which ranges cover what the rule keeps is the one that has just that
+  is_kept_is : (rule : Rule) (u v : NumberSet) (c : List Range) → ((x : ℤ) → covers c x ≡ contains u x) → ((x : ℤ) → contains v x ≡ keeps rule (contains s x) (contains t x)) → (r : Bool)
+      → (r ≡ true ↔ ((x : ℤ) → covers c x ≡ keeps rule (covers a x) (covers b x))) → (r ≡ true ↔ (u ≡ v))
+  is_kept_is rule u v c is_c has r h = (
+    λ e. same_numbers u v (λ x. sym (is_c x) ∙ h.0 e x ∙ (λ i. keeps rule (is_a x i) (is_b x i)) ∙ sym (has x)),
+    λ e. h.1 (λ x. is_c x ∙ ap (λ w. contains w x) e ∙ has x ∙ (λ i. keeps rule (sym (is_a x) i) (sym (is_b x) i))),
+  )
+
+  module _ (u : NumberSet) (c : List Range) (is_c : (x : ℤ) → covers c x ≡ contains u x) (r : Bool) where
+    pub is_union_is : (r ≡ true ↔ ((x : ℤ) → covers c x ≡ keeps Union (covers a x) (covers b x))) → (r ≡ true ↔ (u ≡ union s t))
+    is_union_is h = is_kept_is Union u (union s t) c is_c (contains-union int_cmp_total s t) r h
+
+    pub is_intersection_is : (r ≡ true ↔ ((x : ℤ) → covers c x ≡ keeps Intersect (covers a x) (covers b x))) → (r ≡ true ↔ (u ≡ intersection s t))
+    is_intersection_is h = is_kept_is Intersect u (intersection s t) c is_c (contains-intersection int_cmp_total s t) r h
+
+    pub is_difference_is : (r ≡ true ↔ ((x : ℤ) → covers c x ≡ keeps Minus (covers a x) (covers b x))) → (r ≡ true ↔ (u ≡ difference s t))
+    is_difference_is h = is_kept_is Minus u (difference s t) c is_c (contains-difference int_cmp_total s t) r h
+
+    pub is_symmetric_difference_is : (r ≡ true ↔ ((x : ℤ) → covers c x ≡ keeps Symdiff (covers a x) (covers b x))) → (r ≡ true ↔ (u ≡ symmetric_difference s t))
+    is_symmetric_difference_is h = is_kept_is Symdiff u (symmetric_difference s t) c is_c (contains-symmetric_difference s t) r h
 
 pub lies_within_is : (s : NumberSet) (a : List Range) → ((x : ℤ) → covers a x ≡ contains s x) → (lo hi : ℤ) (r : Bool) → (r ≡ true ↔ ((x : ℤ) → covers a x ≡ true → (lo ≤ℤ x) × (x ≤ℤ hi))) → (r ≡ true ↔ LiesWithin lo hi s)
 lies_within_is s a is_a lo hi r h = (λ e x in_s. h.0 e x (is_a x ∙ in_s), λ all. h.1 (λ x in_a. all x (sym (is_a x) ∙ in_a)))

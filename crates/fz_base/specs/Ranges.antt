@@ -52,3 +52,7 @@ keeps Symdiff a b = (a && not b) || (b && not a)
 -- the ranges cover one number alone
 abbrev pub CoversOnly : ℤ → List Range → Type 0
 CoversOnly n rs = (x : ℤ) → (covers rs x ≡ true) ↔ (x ≡ n)
+
+-- each number that the one covers is covered by the other
+abbrev pub LiesIn : List Range → List Range → Type 0
+LiesIn rs ss = (x : ℤ) → covers rs x ≡ true → covers ss x ≡ true

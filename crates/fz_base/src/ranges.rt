@@ -1,11 +1,11 @@
 // Ranges of whole numbers in order, as the sets of this crate are kept. Each function goes over its
 // ranges once; a set relation or operation walks two lists side by side, stretch by stretch.
-ghost use Rattle.std.specs.Prelude.{◌≡◌, ◌≤◌, ◌^◌, ℤ, ◌≤ℤ◌, ◌<ℤ◌, ◌+◌, ◌↔◌, ◌||◌, false, IsTrue, IfNone, IfOk, IfSome, OnOk, pos, ◌+ℤ◌, ◌-ℤ◌, ◌&&◌};
+ghost use Rattle.std.specs.Prelude.{◌≡◌, ◌≤◌, ◌^◌, ℤ, ◌≤ℤ◌, ◌<ℤ◌, ◌+◌, ◌↔◌, ◌||◌, false, true, IsTrue, IfNone, IfOk, IfSome, OnOk, pos, ◌+ℤ◌, ◌-ℤ◌, ◌&&◌};
 ghost use Rattle.std.specs.List.{sum_by, list_any};
 ghost use Rattle.std.specs.Ordering.{int_cmp, int_eq};
 ghost use Rattle.std.specs.List.Sorted.{IsSorted};
 ghost use Rattle.fz_base.specs.Sets.{count_between};
-ghost use Rattle.fz_base.specs.Ranges.{lowest, AreInOrder, CoversOnly, EndUpTo, ReachesTo, covers, is_between, keeps};
+ghost use Rattle.fz_base.specs.Ranges.{lowest, AreInOrder, CoversOnly, EndUpTo, LiesIn, ReachesTo, covers, is_between, keeps};
 
 use std::alloc::{AllocError, Global};
 
@@ -190,8 +190,88 @@ pub fn combine(
     }
 }
 
-/// Whether the rule keeps nothing of two sets.
+/// The ranges that reach to a number or past it.
+fn reaching(ranges: &[Range], at: i64) -> &[Range]
+    requires { AreInOrder lowest ranges.now }
+    ensures in_order { AreInOrder lowest result.now }
+    ensures ahead { ReachesTo at result.now }
+    ensures alike { (x : ℤ) → at ≤ℤ x → covers result.now x ≡ covers ranges.now x }
+{
+    let mut rest = ranges;
+    'passing: loop {
+        match rest {
+            [] => return rest,
+            [first, others @ ..] => {
+                if at <= first.hi {
+                    return rest;
+                }
+                rest = others;
+            }
+        }
+    }
+}
+
+/// Whether all numbers from `lo` to `hi` are in ranges of which the first reaches to `lo`. As there are gaps between them, that one has
+/// all these numbers then.
+fn have_all(ranges: &[Range], lo: i64, hi: i64) -> bool
+    requires in_order { AreInOrder lowest ranges.now }
+    requires ahead { ReachesTo lo ranges.now }
+    requires some { lo ≤ℤ hi }
+    ensures all { result ≡ true → (x : ℤ) → lo ≤ℤ x → x ≤ℤ hi → covers ranges.now x ≡ true }
+    ensures missing { result ≡ false → ((x : ℤ) → lo ≤ℤ x → x ≤ℤ hi → covers ranges.now x ≡ true) → ⊥ }
+{
+    match ranges {
+        [] => false,
+        [first, ..] => {
+            if lo < first.lo {
+                return false;
+            }
+            if first.hi < hi {
+                return false;
+            }
+            true
+        }
+    }
+}
+
+/// Whether each number of the one is in the other.
+fn are_covered(a: &[Range], b: &[Range]) -> bool
+    requires a_in_order { AreInOrder lowest a.now }
+    requires b_in_order { AreInOrder lowest b.now }
+    ensures { IsTrue result ↔ LiesIn a.now b.now }
+{
+    let mut rest_a = a;
+    let mut rest_b = b;
+    'covering: loop {
+        match rest_a {
+            [] => return true,
+            [first, others @ ..] => {
+                rest_b = reaching(rest_b, first.lo);
+                if !have_all(rest_b, first.lo, first.hi) {
+                    return false;
+                }
+                rest_a = others;
+            }
+        }
+    }
+}
+
+/// Whether the rule keeps nothing of two sets. Of what is in the one and not in the other it is told from whole ranges.
 pub fn keeps_nothing(a: &[Range], b: &[Range], rule: Rule) -> bool
+    requires a_in_order { AreInOrder lowest a.now }
+    requires b_in_order { AreInOrder lowest b.now }
+    ensures { IsTrue result ↔ ((x : ℤ) → keeps rule (covers a.now x) (covers b.now x) ≡ false) }
+{
+    match rule {
+        Rule::Minus => are_covered(a, b),
+        Rule::Union => nothing_kept(a, b, rule),
+        Rule::Intersect => nothing_kept(a, b, rule),
+        Rule::Symdiff => nothing_kept(a, b, rule),
+    }
+}
+
+/// Whether the rule keeps nothing of two sets, stretch by stretch.
+fn nothing_kept(a: &[Range], b: &[Range], rule: Rule) -> bool
     requires a_in_order { AreInOrder lowest a.now }
     requires b_in_order { AreInOrder lowest b.now }
     ensures { IsTrue result ↔ ((x : ℤ) → keeps rule (covers a.now x) (covers b.now x) ≡ false) }
@@ -209,6 +289,58 @@ pub fn keeps_nothing(a: &[Range], b: &[Range], rule: Rule) -> bool
         }
         rest_a = past(rest_a, end);
         rest_b = past(rest_b, end);
+        at = end + 1;
+    }
+}
+
+/// What `stretch` gives of three lists, up to the nearest end.
+fn common_stretch(a: &[Range], b: &[Range], c: &[Range], at: i64) -> (bool, bool, bool, i64)
+    requires a_in_order { AreInOrder lowest a.now }
+    requires b_in_order { AreInOrder lowest b.now }
+    requires c_in_order { AreInOrder lowest c.now }
+    requires a_ahead { ReachesTo at a.now }
+    requires b_ahead { ReachesTo at b.now }
+    requires c_ahead { ReachesTo at c.now }
+    ensures goes_on { at ≤ℤ result.3 }
+    ensures a_ahead { ReachesTo result.3 a.now }
+    ensures b_ahead { ReachesTo result.3 b.now }
+    ensures c_ahead { ReachesTo result.3 c.now }
+    ensures a_alike { (x : ℤ) → at ≤ℤ x → x ≤ℤ result.3 → covers a.now x ≡ result.0 }
+    ensures b_alike { (x : ℤ) → at ≤ℤ x → x ≤ℤ result.3 → covers b.now x ≡ result.1 }
+    ensures c_alike { (x : ℤ) → at ≤ℤ x → x ≤ℤ result.3 → covers c.now x ≡ result.2 }
+{
+    let (in_a, in_b, end) = shared_stretch(a, b, at);
+    let (in_c, end_c) = stretch(c, at);
+    if end_c < end {
+        (in_a, in_b, in_c, end_c)
+    } else {
+        (in_a, in_b, in_c, end)
+    }
+}
+
+/// Whether the third set has what the rule keeps of the two others, and nothing else.
+pub fn is_kept(a: &[Range], b: &[Range], c: &[Range], rule: Rule) -> bool
+    requires a_in_order { AreInOrder lowest a.now }
+    requires b_in_order { AreInOrder lowest b.now }
+    requires c_in_order { AreInOrder lowest c.now }
+    ensures { IsTrue result ↔ ((x : ℤ) → covers c.now x ≡ keeps rule (covers a.now x) (covers b.now x)) }
+{
+    let mut at = i64::MIN;
+    let mut rest_a = a;
+    let mut rest_b = b;
+    let mut rest_c = c;
+    'walk: loop {
+        let (in_a, in_b, in_c, end) = common_stretch(rest_a, rest_b, rest_c, at);
+        let wanted = keeps(rule, in_a, in_b);
+        if in_c != wanted {
+            return false;
+        }
+        if end == i64::MAX {
+            return true;
+        }
+        rest_a = past(rest_a, end);
+        rest_b = past(rest_b, end);
+        rest_c = past(rest_c, end);
         at = end + 1;
     }
 }

@@ -1,6 +1,7 @@
 // Finite sets of whole numbers.
 ghost use Rattle.std.specs.Prelude.{◌≡◌, ◌≤◌, ◌^◌, ◌↔◌, ℤ, IsTrue, IfNone, IfOk, IfSome};
 ghost use Rattle.std.specs.FinSet as set;
+ghost use Rattle.fz_base.specs.Ranges.{lowest, numbers_of, AreInOrder};
 ghost use Rattle.fz_base.specs.Sets.{numbers_between, symmetric_difference, LiesWithin, Has64Bits, IsOnly};
 
 use crate::ranges::{self, Range, Rule};
@@ -21,10 +22,11 @@ impl From<AllocError> for SetError {
     }
 }
 
-/// A finite set of whole numbers of 64 bits, of any size.
+/// A finite set of whole numbers of 64 bits, of any size. Its ranges are boxed, so that a set takes 8 bytes where it stands and
+/// a table of values is small.
 #[derive(Debug, Drop)]
 pub struct IntSet {
-    ranges: Vec<Range>,
+    ranges: Box<Vec<Range>>,
 }
 
 impl Model for IntSet {
@@ -38,9 +40,29 @@ impl Model for IntSet {
 
     ghost use Rattle.fz_base.specs.Ranges.{lowest, numbers_of, AreInOrder};
 
-    ghost view = { λ s. numbers_of s.ranges.items };
+    ghost view = { λ s. numbers_of s.ranges.value.items };
 
-    ghost invariant = { λ s. AreInOrder lowest s.ranges.items };
+    ghost invariant = { λ s. AreInOrder lowest s.ranges.value.items };
+}
+
+/// The set of the numbers that ranges in order cover.
+fn of_ranges(alloc: Global, ranges: Vec<Range>) -> Result<IntSet, AllocError>
+    requires in_order { AreInOrder lowest ranges.items }
+    ensures { IfOk result (λ s. s ≡ numbers_of ranges.items) }
+{
+    Ok(IntSet {
+        ranges: Box::new(alloc, ranges)?,
+    })
+}
+
+impl IntSet {
+    /// The ranges that the set is kept as.
+    fn kept(&self) -> &[Range]
+        ensures in_order { AreInOrder lowest result.now }
+        ensures same { numbers_of result.now ≡ self.now }
+    {
+        &self.ranges
+    }
 }
 
 /// Making sets. Each of these calls refuses only where memory runs out.
@@ -49,9 +71,7 @@ impl IntSet {
     pub fn range(alloc: Global, lo: i64, hi: i64) -> Result<IntSet, SetError>
         ensures { IfOk result (λ s. s ≡ numbers_between lo hi) }
     {
-        Ok(IntSet {
-            ranges: ranges::between(alloc, lo, hi)?,
-        })
+        Ok(of_ranges(alloc, ranges::between(alloc, lo, hi)?)?)
     }
 
     /// The listed numbers, which come in any order and may repeat. It sorts them once, and takes
@@ -61,9 +81,7 @@ impl IntSet {
     {
         let mut sorted = Vec::from_slice(alloc, numbers)?;
         sorted.sort_unstable();
-        Ok(IntSet {
-            ranges: ranges::gather(alloc, &sorted)?,
-        })
+        Ok(of_ranges(alloc, ranges::gather(alloc, &sorted)?)?)
     }
 }
 
@@ -73,7 +91,7 @@ impl IntSet {
     pub fn contains(&self, number: i64) -> bool
         ensures { result ≡ set.contains self.now number }
     {
-        ranges::is_covered(&self.ranges, number)
+        ranges::is_covered(self.kept(), number)
     }
 
     /// How many numbers the set has: at most 2^64, where it has all.
@@ -81,7 +99,7 @@ impl IntSet {
         ensures exact { result ≡ set.len self.now }
         ensures bound { result ≤ 2 ^ 64 }
     {
-        ranges::count(&self.ranges)
+        ranges::count(self.kept())
     }
 
     /// The number of the set, where it has exactly one, at once.
@@ -89,21 +107,21 @@ impl IntSet {
         ensures found { IfSome result (λ n. IsOnly n self.now) }
         ensures none { IfNone result ((n : ℤ) → IsOnly n self.now → ⊥) }
     {
-        ranges::only(&self.ranges)
+        ranges::only(self.kept())
     }
 
     /// Whether each number of this set is in the other, in one pass over both.
     pub fn is_subset(&self, other: &IntSet) -> bool
         ensures { result ≡ set.is_subset self.now other.now }
     {
-        ranges::keeps_nothing(&self.ranges, &other.ranges, Rule::Minus)
+        ranges::keeps_nothing(self.kept(), other.kept(), Rule::Minus)
     }
 
     /// Whether the two sets have the same numbers, in one pass over both.
     pub fn equals(&self, other: &IntSet) -> bool
         ensures { IsTrue result ↔ (self.now ≡ other.now) }
     {
-        ranges::keeps_nothing(&self.ranges, &other.ranges, Rule::Symdiff)
+        ranges::keeps_nothing(self.kept(), other.kept(), Rule::Symdiff)
     }
 
     /// Whether each number of the set is from `lo` to `hi`, both included.
@@ -113,7 +131,39 @@ impl IntSet {
         // whatever `lo` and `hi` are
         ensures fits { Has64Bits self.now }
     {
-        ranges::lie_within(&self.ranges, lo, hi)
+        ranges::lie_within(self.kept(), lo, hi)
+    }
+}
+
+/// Asking whether a set is what an operation makes of two others, in one pass over the three. These calls take no memory and
+/// always succeed.
+impl IntSet {
+    /// Whether this set is what is in one of the two or in both.
+    pub fn is_union(&self, a: &IntSet, b: &IntSet) -> bool
+        ensures { IsTrue result ↔ (self.now ≡ set.union a.now b.now) }
+    {
+        ranges::is_kept(a.kept(), b.kept(), self.kept(), Rule::Union)
+    }
+
+    /// Whether this set is what is in both.
+    pub fn is_intersection(&self, a: &IntSet, b: &IntSet) -> bool
+        ensures { IsTrue result ↔ (self.now ≡ set.intersection a.now b.now) }
+    {
+        ranges::is_kept(a.kept(), b.kept(), self.kept(), Rule::Intersect)
+    }
+
+    /// Whether this set is what is in the first and not in the second.
+    pub fn is_difference(&self, a: &IntSet, b: &IntSet) -> bool
+        ensures { IsTrue result ↔ (self.now ≡ set.difference a.now b.now) }
+    {
+        ranges::is_kept(a.kept(), b.kept(), self.kept(), Rule::Minus)
+    }
+
+    /// Whether this set is what is in exactly one of the two.
+    pub fn is_symmetric_difference(&self, a: &IntSet, b: &IntSet) -> bool
+        ensures { IsTrue result ↔ (self.now ≡ symmetric_difference a.now b.now) }
+    {
+        ranges::is_kept(a.kept(), b.kept(), self.kept(), Rule::Symdiff)
     }
 }
 
@@ -124,44 +174,38 @@ impl IntSet {
     pub fn union(&self, alloc: Global, other: &IntSet) -> Result<IntSet, SetError>
         ensures { IfOk result (λ s. s ≡ set.union self.now other.now) }
     {
-        Ok(IntSet {
-            ranges: ranges::combine(alloc, &self.ranges, &other.ranges, Rule::Union)?,
-        })
+        let ranges = ranges::combine(alloc, self.kept(), other.kept(), Rule::Union)?;
+        Ok(of_ranges(alloc, ranges)?)
     }
 
     /// What is in both sets.
     pub fn intersect(&self, alloc: Global, other: &IntSet) -> Result<IntSet, SetError>
         ensures { IfOk result (λ s. s ≡ set.intersection self.now other.now) }
     {
-        Ok(IntSet {
-            ranges: ranges::combine(alloc, &self.ranges, &other.ranges, Rule::Intersect)?,
-        })
+        let ranges = ranges::combine(alloc, self.kept(), other.kept(), Rule::Intersect)?;
+        Ok(of_ranges(alloc, ranges)?)
     }
 
     /// What is in this set and not in the other.
     pub fn minus(&self, alloc: Global, other: &IntSet) -> Result<IntSet, SetError>
         ensures { IfOk result (λ s. s ≡ set.difference self.now other.now) }
     {
-        Ok(IntSet {
-            ranges: ranges::combine(alloc, &self.ranges, &other.ranges, Rule::Minus)?,
-        })
+        let ranges = ranges::combine(alloc, self.kept(), other.kept(), Rule::Minus)?;
+        Ok(of_ranges(alloc, ranges)?)
     }
 
     /// What is in exactly one of the two sets.
     pub fn symdiff(&self, alloc: Global, other: &IntSet) -> Result<IntSet, SetError>
         ensures { IfOk result (λ s. s ≡ symmetric_difference self.now other.now) }
     {
-        Ok(IntSet {
-            ranges: ranges::combine(alloc, &self.ranges, &other.ranges, Rule::Symdiff)?,
-        })
+        let ranges = ranges::combine(alloc, self.kept(), other.kept(), Rule::Symdiff)?;
+        Ok(of_ranges(alloc, ranges)?)
     }
 
     /// A set with the same numbers.
     pub fn copy(&self, alloc: Global) -> Result<IntSet, AllocError>
         ensures { IfOk result (λ s. s ≡ self.now) }
     {
-        Ok(IntSet {
-            ranges: Vec::from_slice(alloc, &self.ranges)?,
-        })
+        of_ranges(alloc, Vec::from_slice(alloc, self.kept())?)
     }
 }

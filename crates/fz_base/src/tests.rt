@@ -1,6 +1,14 @@
 use crate::{IntSet, SetError, Value};
 use std::alloc::{AllocError, Global};
+use std::mem::size_of;
 use std::test::Fail;
+
+// Values stand in tables that are read for each constraint of each block, so they are kept small.
+const _: () = prove!(size_of::<IntSet>() == 8);
+
+const _: () = prove!(size_of::<Value>() == 16);
+
+const _: () = prove!(size_of::<Option<Value>>() == 24);
 
 /// Whether the set has the listed numbers, each listed once, and no other.
 fn has_exactly(set: &IntSet, listed: &[i64]) -> bool {
@@ -99,6 +107,16 @@ fn combined(
     }
 }
 
+/// Whether the set is told to be what the operation makes of two.
+fn is_told(operation: Operation, set: &IntSet, a: &IntSet, b: &IntSet) -> bool {
+    match operation {
+        Operation::Union => set.is_union(a, b),
+        Operation::Intersect => set.is_intersection(a, b),
+        Operation::Minus => set.is_difference(a, b),
+        Operation::Symdiff => set.is_symmetric_difference(a, b),
+    }
+}
+
 /// The number of the subset that the operation gives of two.
 fn kept(operation: Operation, a: u32, b: u32) -> u32 {
     match operation {
@@ -147,7 +165,8 @@ fn pair_agrees(alloc: Global, a: u32, b: u32) -> Result<bool, SetError> {
     for operation in &OPERATIONS {
         let made = combined(alloc, *operation, &set, &other)?;
         let listed = numbers(alloc, kept(*operation, a, b))?;
-        agree &= has_exactly(&made, &listed);
+        agree &= has_exactly(&made, &listed) && is_told(*operation, &made, &set, &other);
+        agree &= is_told(*operation, &set, &set, &other) == (kept(*operation, a, b) == a);
     }
     Ok(agree)
 }

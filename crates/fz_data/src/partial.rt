@@ -1,11 +1,12 @@
 //! Partial assignments: values by variable number.
 
 ghost use Rattle.std.specs.Prelude.{◌≡◌, ◌<◌, IfOk, None, length, option_map};
+ghost use Rattle.std.specs.FinSet as sets;
 ghost use Rattle.fz_meaning.specs.Meaning.{give, value, value_at};
 ghost use Rattle.fz_data.specs.Partial.{nothing_for};
 
 use crate::model::Model;
-use fz_base::Value;
+use fz_base::{IntSet, Value};
 use fz_meaning::Term;
 use std::alloc::{AllocError, Global};
 
@@ -14,6 +15,8 @@ use std::alloc::{AllocError, Global};
 #[derive(Drop)]
 pub struct Partial {
     values: Vec<Option<Value>>,
+    /// the empty set, made once, since making one takes memory: it is read where there is no other set
+    empty: IntSet,
 }
 
 impl std::marker::Model for Partial {
@@ -26,7 +29,18 @@ impl std::marker::Model for Partial {
 
     ghost coded = { Prim.hlevel (codes, the_set.the_row.coded) };
 
+    ghost use Rattle.std.specs.Prelude.{◌≡◌};
+    ghost use Rattle.std.specs.FinSet as sets;
+
     ghost view = { λ p. p.values.items };
+
+    ghost invariant = { λ p. p.empty ≡ sets.empty };
+}
+
+fn no_numbers(alloc: Global) -> Result<IntSet, AllocError>
+    ensures { IfOk result (λ s. s ≡ sets.empty) }
+{
+    IntSet::list(alloc, &[]).map_err(|_| AllocError)
 }
 
 impl Partial {
@@ -39,10 +53,12 @@ impl Partial {
         for _ in 0..count {
             values.push(None)?;
         }
-        Ok(Partial { values })
+        let empty = no_numbers(alloc)?;
+        Ok(Partial { values, empty })
     }
 
     /// The value of the variable of a number: none where it has none, or where the number is no variable's. It takes no memory.
+    #[inline(always)]
     pub fn get(&self, number: usize) -> Option<&Value>
         ensures looked_up { option_map (λ v. v.now) result ≡ value_at self.now number }
     {
@@ -50,6 +66,7 @@ impl Partial {
     }
 
     /// The value of a scalar, where it has one. It takes no memory.
+    #[inline(always)]
     pub fn value<'p>(&'p self, term: &'p Term) -> Option<&'p Value>
         ensures valued { option_map (λ v. v.now) result ≡ value self.now term.now }
     {
@@ -66,6 +83,13 @@ impl Partial {
         ensures given { self.new ≡ give self.old number value }
     {
         self.values[number] = Some(value);
+    }
+
+    /// The empty set. It takes no memory.
+    pub fn no_numbers(&self) -> &IntSet
+        ensures empty { result.now ≡ sets.empty }
+    {
+        &self.empty
     }
 
     /// The values by variable number. It takes no memory.

@@ -14,11 +14,12 @@ use crate::outcome::Outcome;
 use crate::sums::sums_leave;
 use fz_data::{ConstraintParts, Partial};
 use fz_meaning::State;
-use fz_scene::{Readiness, Scene, no_numbers};
+use fz_scene::{Readiness, Scene};
 use fz_table::Known;
 use std::alloc::{AllocError, Global};
 
 /// The state of a constraint: unknown without a row, whatever its values are; then without a value; then too large; then by its row.
+#[inline]
 pub(crate) fn of_constraint(
     alloc: Global,
     parts: ConstraintParts<'_, '_>,
@@ -30,10 +31,10 @@ pub(crate) fn of_constraint(
     let Some(known) = parts.known else {
         return Ok(State::Unknown);
     };
-    let empty = no_numbers(alloc)?;
-    of_scene(alloc, known, &Scene::new(parts, partial, &empty))
+    of_scene(alloc, known, &Scene::new(parts, partial))
 }
 
+#[inline]
 fn of_scene(alloc: Global, known: Known, scene: &Scene<'_, '_>) -> Result<State, AllocError>
     requires fits { have_shapes (known_row known).shapes (arguments_of scene.now) ≡ true }
     ensures { IfOk result (λ s. s ≡ state_of_row (assigned scene.now) (arguments_of scene.now) (Some (known_row known))) }
@@ -56,6 +57,7 @@ fn is_too_large(known: Known, scene: &Scene<'_, '_>) -> bool
 }
 
 // The row's outcome: of a form with a truth value, whether its last argument says what the base row comes to.
+#[inline]
 fn of_known(alloc: Global, known: Known, scene: &Scene<'_, '_>) -> Result<Outcome, AllocError>
     ensures { IfOk result (λ o. o ≡ row_outcome (known_row known) (assigned scene.now) (arguments_of scene.now)) }
 {

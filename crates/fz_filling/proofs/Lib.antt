@@ -3,3 +3,4 @@ pub mod Waiting
 pub mod Keeping
 pub mod Searching
 pub mod Stepping
+pub mod Posting

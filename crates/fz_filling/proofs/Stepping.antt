@@ -7,7 +7,8 @@ use Rattle.fz_model.specs.Meaning.{Model, Point, Partial, Variable, FitVariables
 use Rattle.fz_model.specs.Steps.{GivesNothing, kind_at, terms_of}
 use Rattle.fz_model.specs.Values.{kind_of}
 use Rattle.fz_model.proofs.Steps.{only_open_none}
-use Rattle.fz_verdict.specs.Filling.{IsFirstStep}
+use Rattle.fz_verdict.specs.Filling.{IsFirstStep, Chain}
+use Rattle.fz_verdict.specs.Filling.Chain.{Ends, Step}
 use Rattle.fz_verdict.proofs.Loops.{first_ahead, first_wrapped, none_gives}
 use Rattle.fz_filling.specs.Stepping.{NoneGives, IsStepAhead, unset_count}
 
@@ -120,3 +121,14 @@ at_some P o x e h = subst (λ p. IfSome p P) e h
 pub ok_then : {T E : Type 0} (r : Result T E) {P Q : T → Type 0} → IfOk r P → ((x : T) → P x → Q x) → IfOk r Q
 ok_then (Ok x) h f = f x h
 ok_then (Err e) h f = tt
+
+-- ---- what the chain reaches from here it reaches from the start
+
+abbrev pub Reaches : Model → Partial → ℕ → Partial → ℕ → Type 0
+Reaches m S start K from = (F : Partial) → Chain m K from F → Chain m S start F
+
+pub reaches_after : (m : Model) (S : Partial) (start : ℕ) (K : Partial) (from k n : ℕ) (v : Value) → Reaches m S start K from → IsFirstStep m K from k n v → Reaches m S start (give K n v) k
+reaches_after m S start K from k n v reaches first = λ F chain. reaches F (Step first chain)
+
+pub reaches_end : (m : Model) (S : Partial) (start : ℕ) (K : Partial) (from : ℕ) → Reaches m S start K from → AllByRecursion (GivesNothing m K) (points m) → Chain m S start K
+reaches_end m S start K from reaches none = reaches K (Ends none)

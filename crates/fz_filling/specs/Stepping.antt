@@ -1,7 +1,10 @@
 -- Steps by the numbers of points, and the variables without a value. Only private functions use these.
-use Rattle.std.specs.Prelude.{◌≡◌, ℕ, suc, ◌<◌, ◌≤◌, [], ◌∷◌, None, Some, slice_get}
+use Rattle.std.specs.Prelude.{◌≡◌, ℕ, suc, ◌<◌, ◌≤◌, ◌-◌, Bool, true, List, [], ◌∷◌, Option, None, Some, is_some, slice_get}
 use Rattle.fz_base.specs.declared.value.Value.{Value}
-use Rattle.fz_model.specs.Meaning.{Model, Partial, Point, points}
+use Rattle.fz_model.specs.declared.Posted.{Posted}
+use Rattle.fz_model.specs.Meaning as meaning
+use Rattle.fz_model.specs.Meaning.{Model, Partial, Point, points, value_at}
+use Rattle.fz_model.specs.Meaning.Point.{ConstraintPoint}
 use Rattle.fz_model.specs.Steps.{Gives, GivesNothing}
 
 -- the points with these numbers give nothing
@@ -20,3 +23,18 @@ abbrev pub unset_count : Partial → ℕ
 unset_count [] = 0
 unset_count (None ∷ K) = suc (unset_count K)
 unset_count (Some v ∷ K) = unset_count K
+
+-- ---- the constraints, by the numbers of their points
+
+-- the point is a constraint with the target
+abbrev pub HasTarget : Point → Option ℕ → Type 0
+HasTarget p t = (i : ℕ) × (q : meaning.Posted) × (p ≡ ConstraintPoint i q) × (q.target ≡ t)
+
+-- from the number on, each point has the target of the constraint in its place
+abbrev pub StandBehind : Model → ℕ → List Posted → Type 0
+StandBehind m before qs = (k : ℕ) (p : Point) (q : Posted) → before ≤ k → slice_get (points m) k ≡ Some p → slice_get qs (k - before) ≡ Some q → HasTarget p q.target
+
+-- there is no target, or it has a value
+abbrev pub is_shut : Partial → Option ℕ → Bool
+is_shut K None = true
+is_shut K (Some n) = is_some (value_at K n)

@@ -1,148 +1,23 @@
 //! The chain of a filling: forced steps until no point gives one.
 
-ghost use Rattle.std.specs.Prelude.{◌≡◌, ◌≤◌, ◌<◌, IfOk, IfSome, IsNone, OnOk, Some, length, slice_get};
-ghost use Rattle.std.specs.List.{AllByRecursion};
-ghost use Rattle.fz_model.specs.Meaning.{IsPartial, Point, points};
-ghost use Rattle.fz_model.specs.Steps.{Gives, GivesNothing};
-ghost use Rattle.fz_verdict.specs.Filling.{Chain, IsFirstStep};
-ghost use Rattle.fz_filling.specs.Kept.{IsKept};
-ghost use Rattle.fz_filling.specs.Stepping.{IsStepAhead, NoneGives, unset_count};
+ghost use Rattle.std.specs.Prelude.{OnOk};
+ghost use Rattle.fz_model.specs.Meaning.{IsPartial};
+ghost use Rattle.fz_verdict.specs.Filling.{Chain};
 
-use crate::outlook::{Outlook, Waiting, outlook_of};
-use crate::watch::Watch;
-use fz_base::Value;
-use fz_model::{Model, Partial, forced};
+use crate::ahead::fill_ahead;
+use crate::waking::fill_woken;
+use fz_model::{Model, Partial};
 use std::alloc::{AllocError, Global};
 
-/// A forced step: the number of the point that gives it, the variable's number, and the value.
-#[derive(Drop)]
-struct Step {
-    point: usize,
-    variable: usize,
-    value: Value,
-}
-
-/// The step that a point gives. One that gives none is settled.
-fn look(
-    alloc: Global,
-    model: &Model<'_>,
-    partial: &Partial,
-    watch: &mut Watch,
-    point: usize,
-) -> Result<Option<(usize, Value)>, AllocError>
-    requires fits { IsPartial model.now partial.now }
-    requires in_range { point < length (points model.now) }
-    requires kept { IsKept model.now partial.now watch.old }
-    ensures given { IfOk result (λ o. IfSome o (λ r. (p : Point) → slice_get (points model.now) point ≡ Some p → Gives model.now partial.now p r.0 r.1)) }
-    ensures nothing { IfOk result (λ o. IsNone o → (p : Point) → slice_get (points model.now) point ≡ Some p → GivesNothing model.now partial.now p) }
-    ensures kept { IfOk result (λ _. IsKept model.now partial.now watch.new) }
-{
-    match outlook_of(&model.point_parts(point), partial) {
-        Outlook::Waits(waiting) => {
-            watch.settle(point, waiting)?;
-            Ok(None)
-        }
-        Outlook::Asks(variable) => {
-            let step = forced(alloc, model, point, partial)?;
-            if step.is_some() {
-                return Ok(step);
-            }
-            watch.settle(point, Waiting::For(variable))?;
-            Ok(None)
-        }
-    }
-}
-
-/// The first step of the points from a number up to another.
-fn step_between(
-    alloc: Global,
-    model: &Model<'_>,
-    partial: &Partial,
-    watch: &mut Watch,
-    from: usize,
-    to: usize,
-) -> Result<Option<Step>, AllocError>
-    requires fits { IsPartial model.now partial.now }
-    requires in_range { to ≤ length (points model.now) }
-    requires kept { IsKept model.now partial.now watch.old }
-    ensures first { IfOk result (λ o. IfSome o (λ s. IsStepAhead model.now partial.now from to s.point s.variable s.value)) }
-    ensures none { IfOk result (λ o. IsNone o → NoneGives model.now partial.now from to) }
-    ensures kept { IfOk result (λ _. IsKept model.now partial.now watch.new) }
-{
-    let mut at = from;
-    while at < to {
-        let Some(point) = watch.next(at, to) else {
-            return Ok(None);
-        };
-        if let Some((variable, value)) = look(alloc, model, partial, watch, point)? {
-            return Ok(Some(Step {
-                point,
-                variable,
-                value,
-            }));
-        }
-        at = point + 1;
-    }
-    Ok(None)
-}
-
-/// The first step of all points, counted on from the one of a number.
-fn next_step(
-    alloc: Global,
-    model: &Model<'_>,
-    partial: &Partial,
-    watch: &mut Watch,
-    from: usize,
-) -> Result<Option<Step>, AllocError>
-    requires fits { IsPartial model.now partial.now }
-    requires in_range { from ≤ length (points model.now) }
-    requires kept { IsKept model.now partial.now watch.old }
-    ensures first { IfOk result (λ o. IfSome o (λ s. IsFirstStep model.now partial.now from s.point s.variable s.value)) }
-    ensures in_range { IfOk result (λ o. IfSome o (λ s. s.point ≤ length (points model.now))) }
-    ensures none { IfOk result (λ o. IsNone o → AllByRecursion (GivesNothing model.now partial.now) (points model.now)) }
-    ensures kept { IfOk result (λ _. IsKept model.now partial.now watch.new) }
-{
-    let ahead = step_between(alloc, model, partial, watch, from, model.points())?;
-    if ahead.is_some() {
-        return Ok(ahead);
-    }
-    step_between(alloc, model, partial, watch, 0, from)
-}
-
-/// How many variables have no value.
-fn unset_count(values: &[Option<Value>]) -> usize
-    ensures { result ≡ unset_count values.now }
-{
-    let mut count = 0;
-    for value in values {
-        if value.is_none() {
-            count += 1;
-        }
-    }
-    count
-}
-
-/// Fills in what follows, one forced step after another. Once each variable has a value there is nothing left to give. A point is looked
-/// at once, and again each time that a variable that it waits for gets a value. It refuses only where memory runs out.
+/// Fills in what follows, one forced step after another. Once each variable has a value there is nothing left to give. Most chains go
+/// through the points in their order; for the rest of a longer one it keeps which points wait. It refuses only where memory runs out.
 pub fn fill_in(alloc: Global, model: &Model<'_>, partial: &mut Partial) -> Result<(), AllocError>
     requires fits { IsPartial model.now partial.old }
     ensures filled { OnOk result (Chain model.now partial.old 0 partial.new) }
     ensures kinds { OnOk result (IsPartial model.now partial.new) }
 {
-    let mut unset = unset_count(partial.values());
-    if unset == 0 {
-        return Ok(());
+    match fill_ahead(alloc, model, partial)? {
+        Some(from) => fill_woken(alloc, model, partial, from),
+        None => Ok(()),
     }
-    let mut watch = Watch::new(alloc, model.points(), partial.values().len())?;
-    let mut from = 0;
-    while unset > 0 {
-        let Some(step) = next_step(alloc, model, partial, &mut watch, from)? else {
-            return Ok(());
-        };
-        partial.set(step.variable, step.value);
-        watch.wake(step.variable);
-        from = step.point;
-        unset -= 1;
-    }
-    Ok(())
 }

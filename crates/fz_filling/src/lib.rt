@@ -2,8 +2,10 @@
 //! The inner crate below `fz_judge`.
 #![tactic(auto)]
 
+mod ahead;
 mod filling;
 mod outlook;
+mod waking;
 mod watch;
 
 pub use filling::fill_in;

@@ -139,6 +139,12 @@ take_and_drop ts zero = refl
 take_and_drop [] (suc k) = refl
 take_and_drop (t ∷ ts) (suc k) = ap (λ zs. t ∷ zs) (take_and_drop ts k)
 
+pub take_whole : {A : Type 0} (ts : List A) (k : ℕ) → length ts ≤ k → take k ts ≡ ts
+take_whole [] zero h = refl
+take_whole [] (suc k) h = refl
+take_whole (t ∷ ts) zero h = absurd (omega arith)
+take_whole (t ∷ ts) (suc k) h = ap (λ zs. t ∷ zs) (take_whole ts k (omega arith))
+
 -- ---- one more scalar
 
 module _ (K : Partial) (n : ℕ) (ts : List Term) (k : ℕ) (t : Term) (at : Some t ≡ slice_get ts k) where

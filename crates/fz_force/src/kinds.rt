@@ -1,14 +1,15 @@
 //! Whether the values that a constraint's scalars have are of the kinds that its row asks for.
 
-ghost use Rattle.std.specs.Prelude.{◌≡◌, ◌↔◌, IsTrue};
+ghost use Rattle.std.specs.Prelude.{◌≡◌, ◌↔◌, IsTrue, true};
 ghost use Rattle.std.specs.List.{list_all};
+ghost use Rattle.std.specs.Option.{option_map_or};
 ghost use Rattle.fz_meaning.specs.Values.{kind_of, same_kind};
 ghost use Rattle.fz_table.specs.Known.{shape_of};
 ghost use Rattle.fz_force.specs.Kinds.{each_kept_fits, kind_fits, kind_in};
 ghost use Rattle.fz_force.specs.Only.{terms_given, terms_kept};
 
 use fz_base::Value;
-use fz_data::{Argument, Array, Partial, Place};
+use fz_data::{Argument, Array, Place};
 use fz_meaning::{Kind, Term};
 use fz_table::Shape;
 
@@ -23,52 +24,74 @@ pub(crate) fn is_of(value: &Value, kind: Kind) -> bool
     }
 }
 
-fn term_fits(kind: Kind, term: &Term, partial: &Partial) -> bool
-    ensures { result ≡ kind_fits partial.now kind term.now }
+fn term_fits(kind: Kind, term: &Term, values: &[Option<Value>]) -> bool
+    ensures { result ≡ kind_fits values.now kind term.now }
 {
-    match partial.value(term) {
-        Some(value) => is_of(value, kind),
-        None => true,
-    }
-}
-
-fn terms_fit(kind: Kind, terms: &[Term], partial: &Partial) -> bool
-    ensures { result ≡ list_all (kind_fits partial.now kind) terms.now }
-{
-    terms.iter().all(|term| term_fits(kind, term, partial))
-}
-
-fn place_fits<'a>(kind: Kind, place: &Place<'a>, arrays: &[Array<'a>], partial: &Partial) -> bool
-    ensures { result ≡ list_all (kind_fits partial.now kind) (terms_kept arrays.now place.now) }
-{
-    match place {
-        Place::Scalar(term) => term_fits(kind, term, partial),
-        Place::Array(name) => match arrays.get(name.number) {
-            Some(array) => terms_fit(kind, &array.elements, partial),
+    match term {
+        Term::Fixed(value) => is_of(value, kind),
+        Term::Var(number) => match values.get(*number) {
+            Some(given) => is_of_if_there(given, kind),
             None => true,
         },
     }
 }
 
-fn places_fit<'a>(kind: Kind, places: &[Place<'a>], arrays: &[Array<'a>], partial: &Partial) -> bool
-    ensures { result ≡ list_all (λ p. list_all (kind_fits partial.now kind) (terms_kept arrays.now p)) places.now }
+fn is_of_if_there(given: &Option<Value>, kind: Kind) -> bool
+    ensures { result ≡ option_map_or (λ v. same_kind (kind_of v) kind) given.now true }
+{
+    match given {
+        Some(value) => is_of(value, kind),
+        None => true,
+    }
+}
+
+fn terms_fit(kind: Kind, terms: &[Term], values: &[Option<Value>]) -> bool
+    ensures { result ≡ list_all (kind_fits values.now kind) terms.now }
+{
+    terms.iter().all(|term| term_fits(kind, term, values))
+}
+
+fn place_fits<'a>(
+    kind: Kind,
+    place: &Place<'a>,
+    arrays: &[Array<'a>],
+    values: &[Option<Value>],
+) -> bool
+    ensures { result ≡ list_all (kind_fits values.now kind) (terms_kept arrays.now place.now) }
+{
+    match place {
+        Place::Scalar(term) => term_fits(kind, term, values),
+        Place::Array(name) => match arrays.get(name.number) {
+            Some(array) => terms_fit(kind, &array.elements, values),
+            None => true,
+        },
+    }
+}
+
+fn places_fit<'a>(
+    kind: Kind,
+    places: &[Place<'a>],
+    arrays: &[Array<'a>],
+    values: &[Option<Value>],
+) -> bool
+    ensures { result ≡ list_all (λ p. list_all (kind_fits values.now kind) (terms_kept arrays.now p)) places.now }
 {
     places
         .iter()
-        .all(|place| place_fits(kind, place, arrays, partial))
+        .all(|place| place_fits(kind, place, arrays, values))
 }
 
 fn argument_fits<'a>(
     kind: Kind,
     argument: &Argument<'a>,
     arrays: &[Array<'a>],
-    partial: &Partial,
+    values: &[Option<Value>],
 ) -> bool
-    ensures { result ≡ list_all (kind_fits partial.now kind) (terms_given arrays.now argument.now) }
+    ensures { result ≡ list_all (kind_fits values.now kind) (terms_given arrays.now argument.now) }
 {
     match argument {
-        Argument::One(place) => place_fits(kind, place, arrays, partial),
-        Argument::List(places) => places_fit(kind, places, arrays, partial),
+        Argument::One(place) => place_fits(kind, place, arrays, values),
+        Argument::List(places) => places_fit(kind, places, arrays, values),
     }
 }
 
@@ -85,12 +108,12 @@ pub(crate) fn kinds_fit<'m, 'a>(
     shapes: &[Shape],
     arguments: &'m [Argument<'a>],
     arrays: &'m [Array<'a>],
-    partial: &Partial,
+    values: &[Option<Value>],
 ) -> bool
-    ensures { result ≡ each_kept_fits partial.now arrays.now shapes.now arguments.now }
+    ensures { result ≡ each_kept_fits values.now arrays.now shapes.now arguments.now }
 {
     for (shape, argument) in shapes.iter().zip(arguments) {
-        if !argument_fits(kind_of_shape(*shape), argument, arrays, partial) {
+        if !argument_fits(kind_of_shape(*shape), argument, arrays, values) {
             return false;
         }
     }

@@ -1,11 +1,14 @@
 //! The only scalar without a value among a constraint's arguments.
 
-ghost use Rattle.std.specs.Prelude.{◌≡◌, ◌↔◌, ◌∷◌, [], IsTrue, length, option_map, slice_get};
+ghost use Rattle.std.specs.Prelude.{◌≡◌, ◌↔◌, ◌∷◌, [], IsTrue, List, flat_map, is_some, option_map};
 ghost use Rattle.std.specs.List.{AllByRecursion};
 ghost use Rattle.fz_force.specs.declared.only.Open.TheVariants.{Nothing};
-ghost use Rattle.fz_force.specs.Only.{AreOpen, IsFlat, IsOnlyOpen, scalar_kept, terms_given};
+ghost use Rattle.fz_meaning.specs.Meaning.{value};
+ghost use Rattle.fz_data.specs.declared.parts.Array.{Array as Held};
+ghost use Rattle.fz_force.specs.Only.{AreOpen, IsFlat, IsOnlyOpen, IsScalar, scalar_kept, terms_given, terms_kept};
 
-use fz_data::{Argument, Array, Partial, Place};
+use fz_base::Value;
+use fz_data::{Argument, Array, Place};
 use fz_meaning::Term;
 
 /// Which scalars have no value: none; the target alone, once, at a place counted from 0; or others.
@@ -32,10 +35,10 @@ pub(crate) struct Spot {
     pub(crate) place: usize,
 }
 
-fn open_term(term: &Term, target: usize, partial: &Partial) -> Open
-    ensures { AreOpen partial.now target (term.now ∷ []) result }
+fn open_term(term: &Term, target: usize, values: &[Option<Value>]) -> Open
+    ensures { AreOpen values.now target (term.now ∷ []) result }
 {
-    if partial.value(term).is_some() {
+    if has_value(term, values) {
         return Open::Nothing;
     }
     match term {
@@ -44,39 +47,14 @@ fn open_term(term: &Term, target: usize, partial: &Partial) -> Open
     }
 }
 
-// The number of scalars in an argument.
-fn length<'a>(argument: &Argument<'a>, arrays: &[Array<'a>]) -> usize
-    requires flat { IsFlat argument.now }
-    ensures { result ≡ length (terms_given arrays.now argument.now) }
+fn has_value(term: &Term, values: &[Option<Value>]) -> bool
+    ensures { result ≡ is_some (value values.now term.now) }
 {
-    match argument {
-        Argument::One(Place::Scalar(_)) => 1,
-        Argument::One(Place::Array(name)) => match arrays.get(name.number) {
-            Some(array) => array.elements.len(),
-            None => 0,
-        },
-        Argument::List(places) => places.len(),
-    }
-}
-
-/// The scalar at a place of an argument, counted from 0.
-pub(crate) fn term_at<'m, 'a>(
-    argument: &'m Argument<'a>,
-    arrays: &'m [Array<'a>],
-    place: usize,
-) -> Option<&'m Term>
-    requires flat { IsFlat argument.now }
-    ensures { option_map (λ t. t.now) result ≡ slice_get (terms_given arrays.now argument.now) place }
-{
-    match argument {
-        Argument::One(Place::Scalar(term)) => (place == 0).then_some(term),
-        Argument::One(Place::Array(name)) => match arrays.get(name.number) {
-            Some(array) => array.elements.get(place),
-            None => None,
-        },
-        Argument::List(places) => match places.get(place) {
-            Some(kept) => scalar_in(kept),
-            None => None,
+    match term {
+        Term::Fixed(_) => true,
+        Term::Var(number) => match values.get(*number) {
+            Some(given) => given.is_some(),
+            None => false,
         },
     }
 }
@@ -90,22 +68,13 @@ fn scalar_in<'m>(place: &'m Place<'_>) -> Option<&'m Term>
     }
 }
 
-// Which scalars of an argument have no value.
-fn open_in<'m, 'a>(
-    argument: &'m Argument<'a>,
-    arrays: &'m [Array<'a>],
-    target: usize,
-    partial: &Partial,
-) -> Open
-    requires flat { IsFlat argument.now }
-    ensures { AreOpen partial.now target (terms_given arrays.now argument.now) result }
+// Which scalars of an array have no value.
+fn open_of(terms: &[Term], target: usize, values: &[Option<Value>]) -> Open
+    ensures { AreOpen values.now target terms.now result }
 {
     let mut found = Open::Nothing;
-    for place in 0..length(argument, arrays) {
-        let Some(term) = term_at(argument, arrays, place) else {
-            return found;
-        };
-        match open_term(term, target, partial) {
+    for (place, term) in terms.iter().enumerate() {
+        match open_term(term, target, values) {
             Open::Nothing => {}
             Open::More => return Open::More,
             Open::Target(_) => {
@@ -119,19 +88,63 @@ fn open_in<'m, 'a>(
     found
 }
 
+// Which scalars of a list have no value.
+fn open_among<'a>(places: &[Place<'a>], target: usize, values: &[Option<Value>]) -> Open
+    requires flat { AllByRecursion IsScalar places.now }
+    ensures { (xs : List Held) → AreOpen values.now target (flat_map (terms_kept xs) places.now) result }
+{
+    let mut found = Open::Nothing;
+    for (place, kept) in places.iter().enumerate() {
+        let Some(term) = scalar_in(kept) else {
+            return found;
+        };
+        match open_term(term, target, values) {
+            Open::Nothing => {}
+            Open::More => return Open::More,
+            Open::Target(_) => {
+                if !found.is_nothing() {
+                    return Open::More;
+                }
+                found = Open::Target(place);
+            }
+        }
+    }
+    found
+}
+
+// Which scalars of an argument have no value.
+fn open_in<'m, 'a>(
+    argument: &'m Argument<'a>,
+    arrays: &'m [Array<'a>],
+    target: usize,
+    values: &[Option<Value>],
+) -> Open
+    requires flat { IsFlat argument.now }
+    ensures { AreOpen values.now target (terms_given arrays.now argument.now) result }
+{
+    match argument {
+        Argument::One(Place::Scalar(term)) => open_term(term, target, values),
+        Argument::One(Place::Array(name)) => match arrays.get(name.number) {
+            Some(array) => open_of(&array.elements, target, values),
+            None => Open::Nothing,
+        },
+        Argument::List(places) => open_among(places, target, values),
+    }
+}
+
 /// Where the target stands, if it is the only scalar without a value, and stands there alone.
 pub(crate) fn only_open<'m, 'a>(
     arguments: &'m [Argument<'a>],
     arrays: &'m [Array<'a>],
     target: usize,
-    partial: &Partial,
+    values: &[Option<Value>],
 ) -> Option<Spot>
     requires flat { AllByRecursion IsFlat arguments.now }
-    ensures { IsOnlyOpen partial.now arrays.now arguments.now target result }
+    ensures { IsOnlyOpen values.now arrays.now arguments.now target result }
 {
     let mut found = None;
     for (number, argument) in arguments.iter().enumerate() {
-        match open_in(argument, arrays, target, partial) {
+        match open_in(argument, arrays, target, values) {
             Open::Nothing => {}
             Open::More => return None,
             Open::Target(place) => {

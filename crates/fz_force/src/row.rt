@@ -16,7 +16,7 @@ use crate::only::{Spot, only_open};
 use crate::step::fitting;
 use fz_base::Value;
 use fz_data::{ConstraintParts, Model, Partial};
-use fz_scene::{Scene, no_numbers};
+use fz_scene::Scene;
 use fz_solve::{left_value, unit_value};
 use fz_table::{Filled, Known};
 use std::alloc::{AllocError, Global};
@@ -33,10 +33,10 @@ pub(crate) fn by_row(
     requires fits { IsPartial model.now partial.now }
     ensures forced { IfOk result (λ o. IsForced model.now partial.now (ConstraintPoint parts.entry.number (posted_view parts.entry.variables.now parts.entry.arrays.now parts.entry.posted.now)) o) }
 {
-    let Some(known) = parts.known else {
+    let Some(target) = parts.posted.target else {
         return Ok(None);
     };
-    let Some(target) = parts.posted.target else {
+    let Some(known) = parts.known else {
         return Ok(None);
     };
     match only_value(alloc, known, target, parts, partial)? {
@@ -60,15 +60,15 @@ fn only_value(
     if given.is_some() {
         return Ok(None);
     }
+    let values = partial.values();
     let arguments = parts.posted.arguments.as_slice();
-    let Some(spot) = only_open(arguments, parts.arrays, target, partial) else {
+    let Some(spot) = only_open(arguments, parts.arrays, target, values) else {
         return Ok(None);
     };
-    if !kinds_fit(known.shapes(), arguments, parts.arrays, partial) {
+    if !kinds_fit(known.shapes(), arguments, parts.arrays, values) {
         return Ok(None);
     }
-    let empty = no_numbers(alloc)?;
-    value_at(alloc, known, spot, &Scene::new(parts, partial, &empty))
+    value_at(alloc, known, spot, &Scene::new(parts, partial))
 }
 
 // The value of the variable at the spot with which the row holds.

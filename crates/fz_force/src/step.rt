@@ -40,7 +40,7 @@ pub fn forced(
 fn by_domain(variable: &Variable<'_>, number: usize, partial: &Partial) -> Option<(usize, Value)>
     ensures { (m : Meaning) → IsPartial m partial.now → kind_at m number ≡ Some variable.now.kind → IsForced m partial.now (DomainPoint (variable_view variable.now) number) result }
 {
-    if !is_int(variable.kind) || partial.get(number).is_some() {
+    if partial.get(number).is_some() || !is_int(variable.kind) {
         return None;
     }
     let only = only_number(&variable.domain)?;

@@ -20,7 +20,7 @@ tests_same false v w h = refused (same_value v w) refl
     refused true e = no (h.1 (same_value_is v w e))
     refused false e = refl
 
-and_false : (a : Bool) → (a && false) ≡ false
+pub and_false : (a : Bool) → (a && false) ≡ false
 and_false true = refl
 and_false false = refl
 

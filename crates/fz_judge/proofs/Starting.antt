@@ -192,12 +192,14 @@ scalars_append m (x ∷ xs) ys = ap (λ qs. item_scalars m x ++ qs) (scalars_app
 pub starts_with_nothing : (m : Model) → nothing_for m ≡ start_from [] 0 (variables_of m)
 starts_with_nothing m = none_printed 0 (variables_of m)
 
--- one more item
-pub start_item_more : (m : Model) (xs : List Printed) (i : Printed) (K L : Partial) → K ≡ start_from (printed_scalars m xs) 0 (variables_of m) → L ≡ with_all K (item_scalars m i) → L ≡ start_from (printed_scalars m (xs ++ i ∷ [])) 0 (variables_of m)
-start_item_more m xs i K L before new =
-    new ∙ ap (λ J. with_all J (item_scalars m i)) before ∙ sym (start_more (printed_scalars m xs) (item_scalars m i) (variables_of m))
-    ∙ ap (λ qs. start_from qs 0 (variables_of m)) (sym (scalars_append m xs (i ∷ []) ∙ ap (λ qs. printed_scalars m xs ++ qs) (append_nil (item_scalars m i))))
+pub scalars_more : (m : Model) (xs : List Printed) (i : Printed) → printed_scalars m (xs ++ i ∷ []) ≡ printed_scalars m xs ++ item_scalars m i
+scalars_more m xs i = scalars_append m xs (i ∷ []) ∙ ap (λ qs. printed_scalars m xs ++ qs) (append_nil (item_scalars m i))
   where
     append_nil : {A : Type 0} (ys : List A) → ys ++ [] ≡ ys
     append_nil [] = refl
     append_nil (y ∷ ys) = ap (λ zs. y ∷ zs) (append_nil ys)
+
+-- one more item
+pub start_item_more : (m : Model) (xs : List Printed) (i : Printed) (K L : Partial) → K ≡ start_from (printed_scalars m xs) 0 (variables_of m) → L ≡ with_all K (item_scalars m i) → L ≡ start_from (printed_scalars m (xs ++ i ∷ [])) 0 (variables_of m)
+start_item_more m xs i K L before new =
+    new ∙ ap (λ J. with_all J (item_scalars m i)) before ∙ sym (start_more (printed_scalars m xs) (item_scalars m i) (variables_of m)) ∙ ap (λ qs. start_from qs 0 (variables_of m)) (sym (scalars_more m xs i))

@@ -6,7 +6,7 @@ use Rattle.fz_model.specs.declared.State.TheVariants.{Holds, Fails, NoValue, Unk
 use Rattle.fz_model.specs.Meaning.{Model, Partial, Point, PointName, points, state, first_some, shown_point, variables_of}
 use Rattle.fz_verdict.specs.Verdict.{Fault, Reason, fault_at, fault_named, first_unset, point_fails, point_undecided, reason_at, verdict_by}
 use Rattle.fz_verdict.specs.Verdict.Verdict.{Violated}
-use Rattle.fz_judge.specs.Working.{is_failed, reason_named, with_objective}
+use Rattle.fz_judge.specs.Working.{holds, is_failed, reason_named, with_objective}
 use Rattle.fz_judge.proofs.Lists.{first_append, or_some, there_is}
 
 -- ---- the objective after the points
@@ -52,6 +52,10 @@ whole_point [] i p e = cc
 whole_point (q ∷ ps) zero p e = let same : q ≡ p = cc in ap (λ x. x ∷ ps) same
 whole_point (q ∷ ps) (suc i) p e = ap (λ xs. q ∷ xs) (whole_point ps i p e)
 
+or_none : {A : Type 0} (o : Option A) → option_or o None ≡ o
+or_none None = refl
+or_none (Some x) = refl
+
 module _ {A B : Type 0} (f : A → Option B) (ps : List A) (i : ℕ) (p : A) (at : slice_get ps i ≡ Some p) where
   -- none before the point, and one at it
   pub first_at : (b : B) → first_some f (take i ps) ≡ None → f p ≡ Some b → first_some f ps ≡ Some b
@@ -59,11 +63,29 @@ module _ {A B : Type 0} (f : A → Option B) (ps : List A) (i : ℕ) (p : A) (at
       ap (first_some f) (whole_point ps i p at) ∙ first_append f (take i ps) (p ∷ drop (suc i) ps) ∙ (λ j. option_or (none j) (option_or (here j) (first_some f (drop (suc i) ps))))
 
   pub first_so_far : first_some f (take (i + 1) ps) ≡ option_or (first_some f (take i ps)) (f p)
-  first_so_far = ap (first_some f) (take_point ps i p at) ∙ first_append f (take i ps) (p ∷ []) ∙ ap (option_or (first_some f (take i ps))) (or_nothing (f p))
-    where
-      or_nothing : {C : Type 0} (o : Option C) → option_or o None ≡ o
-      or_nothing None = refl
-      or_nothing (Some x) = refl
+  first_so_far = ap (first_some f) (take_point ps i p at) ∙ first_append f (take i ps) (p ∷ []) ∙ ap (option_or (first_some f (take i ps))) (or_none (f p))
+
+-- ---- a point that holds adds nothing
+
+holds_is : (s : State) → holds s ≡ true → s ≡ Holds
+holds_is Holds e = refl
+holds_is Fails e = cc
+holds_is NoValue e = cc
+holds_is Unknown e = cc
+holds_is TooLarge e = cc
+
+module _ (m : Model) (K : Partial) (i : ℕ) (s : State) (within : i < length (points m)) (is : (p : Point) → slice_get (points m) i ≡ Some p → s ≡ state K p) (held : holds s ≡ true) where
+  pub held_passes : first_some (point_fails K) (take i (points m)) ≡ None → first_some (point_fails K) (take (i + 1) (points m)) ≡ None
+  held_passes none =
+      let (p, at) = there_is (points m) i within in
+      first_so_far (point_fails K) (points m) i p at ∙ (λ j. option_or (none j) (point_fails K p)) ∙ ap (fault_at p) (sym (is p at) ∙ holds_is s held)
+
+  pub held_decided : (r : Option Reason) → r ≡ first_some (point_undecided m K) (take i (points m)) → r ≡ first_some (point_undecided m K) (take (i + 1) (points m))
+  held_decided r e =
+      let (p, at) = there_is (points m) i within in
+      let before = first_some (point_undecided m K) (take i (points m)) in
+      let none : point_undecided m K p ≡ None = ap (reason_at m K p) (sym (is p at) ∙ holds_is s held) in
+      e ∙ sym (first_so_far (point_undecided m K) (points m) i p at ∙ ap (option_or before) none ∙ or_none before)
 
 -- ---- a point by its number
 

@@ -50,21 +50,33 @@ abbrev pub element_pairs : List Term → PrintedValue → List (Term × Value)
 element_pairs ts (OneValue l) = []
 element_pairs ts (ArrayOf is ls) = pairs ts (printed_values ls)
 
+-- the scalar has the value of the literal
+abbrev pub has_value : Partial → (Term × Value) → Bool
+has_value K q = option_map_or (λ v. same_value v q.1) (value K q.0) false
+
+-- each scalar has its value once that is taken
+abbrev pub agree_all : Partial → List (Term × Value) → Bool
+agree_all K [] = true
+agree_all K (q ∷ qs) = has_value (with_first K q) q && agree_all (with_first K q) qs
+
 -- the scalars that an item prints
 abbrev pub item_scalars : Model → Printed → List (Term × Value)
 item_scalars m i = option_map_or (λ p. pairs_at p i.value) (find_name m i.name.text) []
 
 -- ---- the verdict
 
--- the scalar has the value of the literal
-abbrev pub has_value : Partial → (Term × Value) → Bool
-has_value K q = option_map_or (λ v. same_value v q.1) (value K q.0) false
-
 -- the scalars have the values beside them, where there are as many
 abbrev pub have_values : Partial → List Term → List Value → Bool
 have_values K [] [] = true
 have_values K (t ∷ ts) (v ∷ vs) = has_value K (t, v) && have_values K ts vs
 have_values K _ _ = false
+
+abbrev pub holds : State → Bool
+holds Holds = true
+holds Fails = false
+holds NoValue = false
+holds Unknown = false
+holds TooLarge = false
 
 abbrev pub is_failed : State → Bool
 is_failed Fails = true

@@ -1,25 +1,25 @@
 //! What of a printed item does not fit the model. Places count from the block's text.
 
-ghost use Rattle.std.specs.Prelude.{◌≡◌, ℕ, List, map, option_map};
+ghost use Rattle.std.specs.Prelude.{◌≡◌, ℕ, List, map, option_map, slice_get};
+ghost use Rattle.std.specs.Option.{option_map_or};
 ghost use Rattle.fz_model.specs.declared.Term.{Term as Scalar};
 ghost use Rattle.fz_model.specs.Meaning.{Place, Variable as DeclaredVariable, first_some};
 ghost use Rattle.fz_model.specs.Parts.{variable_view};
-ghost use Rattle.fz_model.specs.Shown.{what_place};
+ghost use Rattle.fz_model.specs.Shown.{kind_among, what_place};
 ghost use Rattle.fz_model.specs.View.{located_literal, located_name};
 ghost use Rattle.fz_verdict.specs.Blocks.{literal_fault, value_fault};
 ghost use Rattle.fz_verdict.specs.View.{located_printed_value};
 ghost use Rattle.fz_judge.specs.Judged.{refusal};
 
 use crate::error::BlockError;
-use crate::values::{is_same, literal_kind, scalar_kind};
-use fz_model::{Kind, Term, Variable, What};
+use fz_model::{Kind, Term, Variable, What, kind_of, literal_kind, same_kind};
 use fz_syntax::{Literal, Name, PrintedValue};
 
 /// A literal of another kind.
 fn literal_fault(kind: Kind, literal: &Literal) -> Option<BlockError>
     ensures { result ≡ option_map refusal (literal_fault kind (located_literal literal.now)) }
 {
-    if is_same(literal_kind(&literal.what), kind) {
+    if same_kind(literal_kind(&literal.what), kind) {
         None
     } else {
         Some(BlockError::Kind(literal.span))
@@ -37,6 +37,26 @@ fn elements_fault(kind: Kind, literals: &[Literal]) -> Option<BlockError>
         }
     }
     None
+}
+
+/// The kind of the variable of a number; no scalar has a number that is none's.
+fn variable_kind(variables: &[Variable<'_>], number: usize) -> Kind
+    ensures { result ≡ option_map_or (λ v. v.kind) (slice_get (map variable_view variables.now) number) Kind.Int }
+{
+    match variables.get(number) {
+        Some(variable) => variable.kind,
+        None => Kind::Int,
+    }
+}
+
+/// The kind of a scalar: its variable's, or its value's.
+fn scalar_kind(variables: &[Variable<'_>], term: &Term) -> Kind
+    ensures { result ≡ kind_among (map variable_view variables.now) term.now }
+{
+    match term {
+        Term::Var(number) => variable_kind(variables, *number),
+        Term::Fixed(value) => kind_of(value),
+    }
 }
 
 /// What of the value that is printed for a scalar of a kind does not fit.

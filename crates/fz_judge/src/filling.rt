@@ -1,17 +1,17 @@
 //! The filling of a block.
 
-ghost use Rattle.std.specs.Prelude.{◌≡◌, ◌-◌, IfErr, IfOk};
-ghost use Rattle.fz_model.specs.Meaning.{IsPartial};
+ghost use Rattle.std.specs.Prelude.{◌≡◌, ◌-◌, IfErr, IfOk, IsTrue, None};
+ghost use Rattle.fz_model.specs.Meaning.{IsPartial, first_some};
 ghost use Rattle.fz_stream.specs.Found.{EndsWithin, HasPlaces};
 ghost use Rattle.fz_syntax.specs.Places.{IsSpanWithin};
 ghost use Rattle.fz_verdict.specs.Blocks.{moved};
-ghost use Rattle.fz_verdict.specs.Verdict.{IsFilled};
-ghost use Rattle.fz_verdict.specs.View.{located_block};
+ghost use Rattle.fz_verdict.specs.Verdict.{IsFilled, printed_fails};
+ghost use Rattle.fz_verdict.specs.View.{located_block, located_items};
 ghost use Rattle.fz_judge.specs.Judged.{IsBlockRefusal};
 ghost use Rattle.fz_judge.specs.Working.{IsPlacedWithin, moved_error};
 
 use crate::error::BlockError;
-use crate::start::start;
+use crate::start::{Proposed, start};
 use fz_base::Span;
 use fz_filling::fill_in;
 use fz_model::{Model, Partial};
@@ -41,6 +41,28 @@ fn moved_error(error: BlockError, offset: usize) -> BlockError
     }
 }
 
+/// The filling of a block. Where each name has its printed value as it is taken, each has it under the filling: no value changes any more.
+pub(crate) fn filled(
+    alloc: Global,
+    model: &Model<'_>,
+    block: &Block<'_>,
+) -> Result<Proposed, BlockError>
+    ensures filled { IfOk result (λ f. IsFilled model.now (located_block block.now) f.partial) }
+    ensures kinds { IfOk result (λ f. IsPartial model.now f.partial) }
+    ensures agrees { IfOk result (λ f. IsTrue f.agrees → first_some (printed_fails model.now f.partial) (located_items block.now.items.items) ≡ None) }
+    ensures refused { IfErr result (λ e. HasPlaces block.now → EndsWithin usize.MAX block.now → IsBlockRefusal model.now (located_block block.now) e) }
+{
+    let Proposed {
+        mut partial,
+        agrees,
+    } = match start(alloc, model, &block.items) {
+        Ok(started) => started,
+        Err(error) => return Err(moved_error(error, block.offset)),
+    };
+    fill_in(alloc, model, &mut partial)?;
+    Ok(Proposed { partial, agrees })
+}
+
 /// The values that follow from the printed ones by forced steps. It goes over the printed items once, and then over the points, where one
 /// is looked at again only as a variable that it waits for has got a value.
 ///
@@ -53,10 +75,6 @@ pub fn fill(alloc: Global, model: &Model<'_>, block: &Block<'_>) -> Result<Parti
     // Of a block as `fz_stream` reads it: its places lie in its text, and its text ends within the numbers.
     ensures refused { IfErr result (λ e. HasPlaces block.now → EndsWithin usize.MAX block.now → IsBlockRefusal model.now (located_block block.now) e) }
 {
-    let mut partial = match start(alloc, model, &block.items) {
-        Ok(partial) => partial,
-        Err(error) => return Err(moved_error(error, block.offset)),
-    };
-    fill_in(alloc, model, &mut partial)?;
+    let Proposed { partial, agrees: _ } = filled(alloc, model, block)?;
     Ok(partial)
 }

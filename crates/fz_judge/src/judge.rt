@@ -1,21 +1,24 @@
 //! A judge: blocks, one after another, against a model.
 
-ghost use Rattle.std.specs.Prelude.{◌≡◌, IfErr, IfOk, None, option_map};
+ghost use Rattle.std.specs.Prelude.{◌≡◌, IfErr, IfOk, IsTrue, None, option_map};
+ghost use Rattle.fz_model.specs.Meaning.{first_some};
 ghost use Rattle.fz_stream.specs.Found.{EndsWithin, HasPlaces};
 ghost use Rattle.fz_verdict.specs.Blocks.{items_fault};
-ghost use Rattle.fz_verdict.specs.Verdict.{verdict, verdict_by};
+ghost use Rattle.fz_verdict.specs.Verdict.{printed_fails, verdict, verdict_by};
 ghost use Rattle.fz_verdict.specs.View.{located_block, located_items};
 ghost use Rattle.fz_judge.specs.Judged.{IsBlockRefusal, IsJudged};
 ghost use Rattle.fz_judge.specs.View.{fault_view, verdict_view};
 ghost use Rattle.fz_judge.specs.Working.{with_objective};
 
 use crate::error::BlockError;
-use crate::filling::fill;
+use crate::filling::filled;
 use crate::points::{objective, objective_fails, points_verdict};
 use crate::printed::printed_fails;
+use crate::start::Proposed;
 use crate::verdict::{Fault, Verdict};
-use fz_model::{Model, Partial};
+use fz_model::Model;
 use fz_stream::Block;
+use fz_syntax::Printed;
 use std::alloc::{AllocError, Global};
 
 /// The verdict where the printed names and the points have this one, and the objective may fail.
@@ -35,22 +38,41 @@ fn with_objective<'a>(points: Verdict<'a>, objective: Option<Fault<'a>>) -> Verd
     }
 }
 
-/// The verdict on a block under the values: each printed name, each point and the objective is looked at again, whatever gave the values.
+/// The fault of the first printed item whose name has another value than the printed one. Where all were seen to agree, nothing is looked
+/// at again.
+fn disagreement<'a>(
+    alloc: Global,
+    model: &Model<'a>,
+    filling: &Proposed,
+    items: &[Printed<'_>],
+) -> Result<Option<Fault<'a>>, AllocError>
+    requires clean { items_fault model.now (located_items items.now) ≡ None }
+    requires agrees { IsTrue filling.now.agrees → first_some (printed_fails model.now filling.now.partial) (located_items items.now) ≡ None }
+    ensures { IfOk result (λ o. option_map fault_view o ≡ first_some (printed_fails model.now filling.now.partial) (located_items items.now)) }
+{
+    if filling.agrees {
+        return Ok(None);
+    }
+    printed_fails(alloc, model, &filling.partial, items)
+}
+
+/// The verdict on a block under its filling: each point and the objective is looked at again, and each printed name unless all agreed.
 fn verdict_under<'a>(
     alloc: Global,
     model: &Model<'a>,
-    partial: &Partial,
+    filling: &Proposed,
     block: &Block<'_>,
     before: Option<i64>,
 ) -> Result<Verdict<'a>, AllocError>
     requires clean { items_fault model.now (located_items block.now.items.items) ≡ None }
-    ensures { IfOk result (λ v. verdict_view v ≡ verdict model.now partial.now (located_block block.now) before) }
+    requires agrees { IsTrue filling.now.agrees → first_some (printed_fails model.now filling.now.partial) (located_items block.now.items.items) ≡ None }
+    ensures { IfOk result (λ v. verdict_view v ≡ verdict model.now filling.now.partial (located_block block.now) before) }
 {
-    if let Some(fault) = printed_fails(alloc, model, partial, &block.items)? {
+    if let Some(fault) = disagreement(alloc, model, filling, &block.items)? {
         return Ok(Verdict::Violated(fault));
     }
-    let points = points_verdict(alloc, model, partial)?;
-    let now = objective(model, partial);
+    let points = points_verdict(alloc, model, &filling.partial)?;
+    let now = objective(model, &filling.partial);
     Ok(with_objective(points, objective_fails(model.goal(), before, now)))
 }
 
@@ -98,9 +120,9 @@ impl<'m, 'a> Judge<'m, 'a> {
         // Of a block as `fz_stream` reads it: its places lie in its text, and its text ends within the numbers.
         ensures refused { IfErr result (λ e. HasPlaces block.now → EndsWithin usize.MAX block.now → IsBlockRefusal self.old.model (located_block block.now) e) }
     {
-        let filling = fill(alloc, self.model, block)?;
+        let filling = filled(alloc, self.model, block)?;
         let verdict = verdict_under(alloc, self.model, &filling, block, self.before)?;
-        self.before = objective(self.model, &filling);
+        self.before = objective(self.model, &filling.partial);
         Ok(verdict)
     }
 }

@@ -6,7 +6,7 @@ ghost use Rattle.fz_model.specs.Parts.{goal_view, variable_view};
 ghost use Rattle.fz_model.specs.Shown.{point_name};
 ghost use Rattle.fz_verdict.specs.Verdict.{fault_named, first_unset, not_known_at, objective_fails, point_fails, point_undecided, too_large_at, verdict_by};
 ghost use Rattle.fz_judge.specs.View.{fault_view, reason_view, verdict_view};
-ghost use Rattle.fz_judge.specs.Working.{is_failed, reason_named};
+ghost use Rattle.fz_judge.specs.Working.{holds, is_failed, reason_named};
 
 use crate::verdict::{Fault, Reason, Verdict};
 use fz_base::Value;
@@ -83,6 +83,13 @@ fn is_failed(state: State) -> bool
     matches!(state, State::Fails)
 }
 
+/// Whether the point holds.
+fn holds(state: State) -> bool
+    ensures { result ≡ holds state }
+{
+    matches!(state, State::Holds)
+}
+
 /// The first point that fails, or else the first that is undecided.
 pub(crate) fn points_verdict<'a>(
     alloc: Global,
@@ -94,6 +101,10 @@ pub(crate) fn points_verdict<'a>(
     let mut reason = None;
     for number in 0..model.points() {
         let found = state(alloc, model, number, partial)?;
+        // What a point is told by is looked up only where it doesn't hold, as hardly any does.
+        if holds(found) {
+            continue;
+        }
         let point = model.point(number);
         if is_failed(found) {
             return Ok(Verdict::Violated(fault_named(point)));

@@ -13,7 +13,7 @@ ghost use Rattle.fz_verdict.specs.View.{located_items, located_printed, located_
 ghost use Rattle.fz_judge.specs.View.{fault_view};
 ghost use Rattle.fz_judge.specs.Working.{has_value, have_values};
 
-use crate::values::literal_value;
+use crate::values::is_of_literal;
 use crate::verdict::Fault;
 use fz_model::{Model, Partial, Term, What};
 use fz_syntax::{Literal, Printed, PrintedValue};
@@ -29,10 +29,7 @@ fn has_value(
     ensures { IfOk result (λ b. b ≡ has_value partial.now (term.now, literal_value (bare_literal literal.now))) }
 {
     match partial.value(term) {
-        Some(value) => {
-            let printed = literal_value(alloc, &literal.what)?;
-            Ok(value.equals(&printed))
-        }
+        Some(value) => is_of_literal(alloc, value, &literal.what),
         None => Ok(false),
     }
 }

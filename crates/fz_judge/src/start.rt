@@ -4,6 +4,7 @@ ghost use Rattle.std.specs.Prelude.{◌≡◌, ◌<◌, ℕ, List, None, IfErr, 
 ghost use Rattle.std.specs.List.{AllByRecursion};
 ghost use Rattle.fz_model.specs.Meaning.{IsPartial, Variable as DeclaredVariable, give, value_at, variables_of};
 ghost use Rattle.fz_model.specs.Names.{literal_value};
+ghost use Rattle.fz_model.specs.Partial.{nothing_for};
 ghost use Rattle.fz_model.specs.Shown.{what_place};
 ghost use Rattle.fz_model.specs.View.{located_literal};
 ghost use Rattle.fz_syntax.specs.View.{bare_literal, bare_literal_kind};
@@ -11,74 +12,90 @@ ghost use Rattle.fz_verdict.specs.Blocks.{items_fault, printed_fault, printed_va
 ghost use Rattle.fz_verdict.specs.Filling.{pairs, pairs_at, printed_scalars, start_from};
 ghost use Rattle.fz_verdict.specs.View.{located_items, located_printed, located_printed_value};
 ghost use Rattle.fz_judge.specs.Judged.{TellsFault};
-ghost use Rattle.fz_judge.specs.Working.{IsWithin, element_pairs, item_scalars, one_pair, terms_of_what, with_all, with_first};
+ghost use Rattle.fz_judge.specs.Working.{IsWithin, agree_all, element_pairs, has_value, item_scalars, one_pair, terms_of_what, with_all, with_first};
 
 use crate::error::BlockError;
 use crate::faults::value_fault;
-use crate::values::literal_value;
+use crate::values::{is_of_literal, value_of};
 use fz_model::{Model, Partial, Term, What};
 use fz_syntax::{Literal, LiteralKind, Printed, PrintedValue};
 use std::alloc::{AllocError, Global};
 
-/// Gives a variable the value of a literal, where it has none.
+/// The values of a block, and whether each name that it prints has its printed value under them.
+#[derive(Drop)]
+pub(crate) struct Proposed {
+    pub(crate) partial: Partial,
+    pub(crate) agrees: bool,
+}
+
+/// Gives a variable the value of a literal, where it has none, and tells whether it has that value then.
+#[inline]
 fn set_variable(
     alloc: Global,
     partial: &mut Partial,
     number: usize,
     literal: &LiteralKind,
-) -> Result<(), AllocError>
+) -> Result<bool, AllocError>
     requires in_range { number < length partial.old }
     ensures given { OnOk result (partial.new ≡ cond (is_none (value_at partial.old number)) (give partial.old number (literal_value (bare_literal_kind literal.now))) partial.old) }
+    ensures agrees { IfOk result (λ b. b ≡ has_value partial.new (Term.Var number, literal_value (bare_literal_kind literal.now))) }
 {
-    if partial.get(number).is_some() {
-        return Ok(());
+    if let Some(value) = partial.get(number) {
+        return is_of_literal(alloc, value, literal);
     }
-    let value = literal_value(alloc, literal)?;
+    let value = value_of(alloc, literal)?;
     partial.set(number, value);
-    Ok(())
+    Ok(true)
 }
 
-/// Gives a scalar the value of a literal, where it is a variable without one.
+/// Gives a scalar the value of a literal, where it is a variable without one, and tells whether it has that value then.
+#[inline]
 fn set_scalar(
     alloc: Global,
     partial: &mut Partial,
     term: &Term,
     literal: &Literal,
-) -> Result<(), AllocError>
+) -> Result<bool, AllocError>
     requires within { IsWithin (length partial.old) term.now }
     ensures given { OnOk result (partial.new ≡ with_first partial.old (term.now, literal_value (bare_literal literal.now))) }
+    ensures agrees { IfOk result (λ b. b ≡ has_value partial.new (term.now, literal_value (bare_literal literal.now))) }
 {
     match term {
         Term::Var(number) => set_variable(alloc, partial, *number, &literal.what),
-        Term::Fixed(_) => Ok(()),
+        Term::Fixed(value) => is_of_literal(alloc, value, &literal.what),
     }
 }
 
-/// Gives each scalar the value of the literal beside it, where it is a variable without one.
+/// Gives each scalar the value of the literal beside it, where it is a variable without one, and tells whether each has its value then.
 fn set_elements(
     alloc: Global,
     partial: &mut Partial,
     terms: &[Term],
     literals: &[Literal],
-) -> Result<(), AllocError>
+) -> Result<bool, AllocError>
     requires within { AllByRecursion (IsWithin (length partial.old)) terms.now }
     ensures given { OnOk result (partial.new ≡ with_all partial.old (pairs terms.now (printed_values (map located_literal literals.now)))) }
+    ensures agrees { IfOk result (λ b. b ≡ agree_all partial.old (pairs terms.now (printed_values (map located_literal literals.now)))) }
 {
+    let mut agrees = true;
     for (term, literal) in terms.iter().zip(literals) {
-        set_scalar(alloc, partial, term, literal)?;
+        if !set_scalar(alloc, partial, term, literal)? {
+            agrees = false;
+        }
     }
-    Ok(())
+    Ok(agrees)
 }
 
-/// Gives what a name stands for its printed value, where variables have none.
+/// Gives what a name stands for its printed value, where variables have none, and tells whether it has that value then.
 fn set_value(
     alloc: Global,
     partial: &mut Partial,
     what: What<'_>,
     value: &PrintedValue,
-) -> Result<(), AllocError>
+) -> Result<bool, AllocError>
     requires within { AllByRecursion (IsWithin (length partial.old)) (terms_of_what what) }
     ensures given { OnOk result ((vs : List DeclaredVariable) (x : List ℕ) → partial.new ≡ with_all partial.old (pairs_at (what_place vs x what.entry) (located_printed_value value.now))) }
+    ensures agrees { IfOk result (λ b. (vs : List DeclaredVariable) (x : List ℕ) → b ≡ agree_all partial.old (pairs_at (what_place vs x what.entry) (located_printed_value value.now))) }
 {
     match what {
         What::Scalar(term) => set_one(alloc, partial, term, value),
@@ -86,48 +103,52 @@ fn set_value(
     }
 }
 
-/// Gives a scalar its printed value.
+/// Gives a scalar its printed value, and tells whether it has that value then.
 fn set_one(
     alloc: Global,
     partial: &mut Partial,
     term: &Term,
     value: &PrintedValue,
-) -> Result<(), AllocError>
+) -> Result<bool, AllocError>
     requires within { IsWithin (length partial.old) term.now }
     ensures given { OnOk result (partial.new ≡ with_all partial.old (one_pair term.now (located_printed_value value.now))) }
+    ensures agrees { IfOk result (λ b. b ≡ agree_all partial.old (one_pair term.now (located_printed_value value.now))) }
 {
     match value {
         PrintedValue::One(literal) => set_scalar(alloc, partial, term, literal),
-        PrintedValue::Array { .. } => Ok(()),
+        PrintedValue::Array { .. } => Ok(true),
     }
 }
 
-/// Gives the elements of an array their printed values.
+/// Gives the elements of an array their printed values, and tells whether each has its value then.
 fn set_array(
     alloc: Global,
     partial: &mut Partial,
     terms: &[Term],
     value: &PrintedValue,
-) -> Result<(), AllocError>
+) -> Result<bool, AllocError>
     requires within { AllByRecursion (IsWithin (length partial.old)) terms.now }
     ensures given { OnOk result (partial.new ≡ with_all partial.old (element_pairs terms.now (located_printed_value value.now))) }
+    ensures agrees { IfOk result (λ b. b ≡ agree_all partial.old (element_pairs terms.now (located_printed_value value.now))) }
 {
     match value {
-        PrintedValue::One(_) => Ok(()),
+        PrintedValue::One(_) => Ok(true),
         PrintedValue::Array { elements, .. } => set_elements(alloc, partial, terms, elements),
     }
 }
 
-/// Takes the values of an item into the start, where the item has no fault. A fault's place counts from the block's text.
+/// Takes the values of an item into the start, where the item has no fault, and tells whether its name has its printed value then. A
+/// fault's place counts from the block's text.
 fn set_item(
     alloc: Global,
     model: &Model<'_>,
     partial: &mut Partial,
     item: &Printed<'_>,
-) -> Result<(), BlockError>
+) -> Result<bool, BlockError>
     requires fits { IsPartial model.now partial.old }
     ensures given { OnOk result (partial.new ≡ with_all partial.old (item_scalars model.now (located_printed item.now))) }
     ensures kinds { OnOk result (IsPartial model.now partial.new) }
+    ensures agrees { IfOk result (λ b. b ≡ agree_all partial.old (item_scalars model.now (located_printed item.now))) }
     ensures clean { OnOk result (printed_fault model.now (located_printed item.now) ≡ None) }
     ensures told { IfErr result (λ e. TellsFault e (printed_fault model.now (located_printed item.now))) }
 {
@@ -137,24 +158,28 @@ fn set_item(
     if let Some(fault) = value_fault(model.variables(), &item.name, found.what, &item.value) {
         return Err(fault);
     }
-    set_value(alloc, partial, found.what, &item.value)?;
-    Ok(())
+    Ok(set_value(alloc, partial, found.what, &item.value)?)
 }
 
-/// The values that a block's items print, where no item has a fault. A fault's place counts from the block's text.
+/// The values that a block's items print, where no item has a fault, and whether each name has its printed one. A fault's place counts
+/// from the block's text.
 pub(crate) fn start(
     alloc: Global,
     model: &Model<'_>,
     items: &[Printed<'_>],
-) -> Result<Partial, BlockError>
-    ensures started { IfOk result (λ K. K ≡ start_from (printed_scalars model.now (located_items items.now)) 0 (variables_of model.now)) }
-    ensures kinds { IfOk result (IsPartial model.now) }
+) -> Result<Proposed, BlockError>
+    ensures started { IfOk result (λ s. s.partial ≡ start_from (printed_scalars model.now (located_items items.now)) 0 (variables_of model.now)) }
+    ensures kinds { IfOk result (λ s. IsPartial model.now s.partial) }
+    ensures agrees { IfOk result (λ s. s.agrees ≡ agree_all (nothing_for model.now) (printed_scalars model.now (located_items items.now))) }
     ensures clean { IfOk result (λ _. items_fault model.now (located_items items.now) ≡ None) }
     ensures told { IfErr result (λ e. TellsFault e (items_fault model.now (located_items items.now))) }
 {
     let mut partial = Partial::new(alloc, model)?;
+    let mut agrees = true;
     for item in items {
-        set_item(alloc, model, &mut partial, item)?;
+        if !set_item(alloc, model, &mut partial, item)? {
+            agrees = false;
+        }
     }
-    Ok(partial)
+    Ok(Proposed { partial, agrees })
 }

@@ -12,7 +12,7 @@ use Rattle.fz_lex.specs.Token.{TokenValue, Word, Whole, FloatText, StringText, M
 use Rattle.fz_lex.specs.Lexing.{SpannedToken, CutBetween, nothing, blank, comment, spelling, IsWholeComment, IsLongestSpelling, NothingBegins, LexesToSpanned, AreInOrder}
 use Rattle.fz_lex.specs.Limits.{most_bytes, IsWithinLimit, IsTokenWithinLimit, AreWithinLimit, LexesWithinLimits}
 use Rattle.fz_lex.specs.Scan.{FrontToken, found, none, front_of}
-use Rattle.fz_lex.specs.Ahead.{gap_from, is_whole_within, is_within, tokens_at, tokens_from, tokens_ahead, stop_at, stop_from, stop_ahead}
+use Rattle.fz_lex.specs.Ahead.{comma_at, gap_from, is_whole_within, is_within, tokens_at, tokens_from, tokens_ahead, stop_at, stop_from, stop_ahead}
 use Rattle.fz_lex.specs.View.{spanned, IsSpelledAtSpan, IsLexicalFault}
 use Rattle.fz_lex.specs.Left.{first_and}
 use Rattle.fz_lex.specs.Found.{NextFrom, FaultFrom, IsScanned, IsScanFault}
@@ -20,6 +20,7 @@ use Rattle.fz_lex.specs.declared.token.Token.{Token}
 use Rattle.fz_lex.specs.declared.error.SyntaxError.{SyntaxError}
 use Rattle.fz_lex.specs.declared.error.SyntaxError.TheVariants.{TooLong, BadByte, TooLarge, Float, Syntax, TooDeep, TooMany, Memory}
 use Rattle.fz_lex.proofs.Laws.{found_is_longest, longest_is_positive, none_begins}
+use Rattle.fz_lex.proofs.Next.{comma_cut}
 use Rattle.fz_lex.proofs.Cuts.{at_place, cut_then, cut_forward, cut_continues, cut_stays, cut_ordered, in_order_upto, comment_positive, no_cut_from, no_limit_from}
 use Rattle.fz_lex.proofs.Texts.{cut_spelled}
 use Rattle.fz_base.specs.declared.span.Span.{Span}
@@ -208,6 +209,9 @@ ahead_token source place end t h k n = ahead_same source place _ _ h (step_ahead
 -- behind a token reading stops where it stops from that token on
 pub stop_stays : (source : List ℕ) (place end : ℕ) (t : SpannedToken) → place ≤ length source → end ≤ length source → CutBetween source place end (t ∷ []) → IsTokenWithinLimit t.token → stop_ahead source end ≡ stop_ahead source place
 stop_stays source place end t h k c w = sym (stop_same source place _ _ h (step_ahead source place end t k c w))
+
+pub ahead_comma : (source : List ℕ) (place : ℕ) → place < length source → get_or source place 0 ≡ 44 → tokens_ahead source place ≡ comma_at place ∷ tokens_ahead source (place + 1)
+ahead_comma source place h b = ahead_same source place _ _ (omega arith) (step_ahead source place (place + 1) (comma_at place) (omega arith) (comma_cut source place h b) tt)
 
 none_ahead : (source : List ℕ) (place end : ℕ) → NextFrom source place end None → AreAhead source place (length source) []
 none_ahead source place end n = record { cut = n; numbers = tt; stopped = at_end refl }

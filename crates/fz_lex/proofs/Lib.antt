@@ -11,6 +11,7 @@ pub mod Numbers
 pub mod Printed
 pub mod Rows
 pub mod Runs
+pub mod Short
 pub mod Spelled
 pub mod StringRest
 pub mod Texts

@@ -3,15 +3,19 @@ use Rattle.std.proofs.Common.{◌≡◌, ◌≢◌, ℕ, ◌+◌, ◌-◌, ◌<�
 use Rattle.std.proofs.lemmas.List.{take_rest, length-drop, append-nil}
 use Rattle.std.specs.List.{AllByRecursion}
 use Rattle.fz_lex.specs.Byte.{is_blank}
-use Rattle.fz_lex.specs.Lexing.{SpannedToken, CutBetween, CutUpTo, IsLongestSpelling}
+use Rattle.fz_lex.specs.Ahead.{comma_at}
+use Rattle.fz_lex.specs.Lexing.{SpannedToken, nothing, CutBetween, CutUpTo, IsLongestSpelling}
 use Rattle.fz_lex.specs.Limits.{IsTokenWithinLimit, AreWithinLimit}
 use Rattle.fz_lex.specs.View.{token_value, IsLexicalFault}
 use Rattle.fz_lex.specs.Found.{IsFrontOf, FaultFrom}
+use Rattle.fz_lex.specs.declared.token.Mark.TheVariants.{Comma}
 use Rattle.fz_lex.specs.declared.token.TokenKind.{TokenKind}
+use Rattle.fz_lex.specs.declared.token.TokenKind.TheVariants as kinds
 use Rattle.fz_lex.specs.declared.scanner.Front.TheVariants.{Found, OutsideLimit, Nothing}
 use Rattle.fz_lex.specs.declared.error.SyntaxError.{SyntaxError}
 use Rattle.fz_lex.specs.declared.error.SyntaxError.TheVariants.{TooLong, BadByte, TooLarge, Float, Syntax, TooDeep, TooMany, Memory}
 use Rattle.fz_lex.proofs.Laws.{found_is_longest, longest_is_positive, none_begins}
+use Rattle.fz_lex.proofs.Fronts.{lone_front}
 use Rattle.fz_lex.proofs.Cuts.{gap_then_token, cut_then, cut_forward, at_place}
 
 -- the rest of the source, as the code sees it
@@ -68,6 +72,12 @@ module _ (source : List ℕ) (place start : ℕ) (in_range : start ≤ length so
         },
         refl,
       )
+
+-- a comma that stands right at a place is the token there
+pub comma_cut : (source : List ℕ) (place : ℕ) → place < length source → get_or source place 0 ≡ 44 → CutBetween source place (place + 1) (comma_at place ∷ [])
+comma_cut source place h b =
+    let front : IsFrontOf (rest_from source place) (Found (kinds.Mark Comma) 1) = (rw take_rest (lone_front (drop place source) Comma 44 refl (λ e. absurd (omega arith)) (at_place source place ∙ b)), tt) in
+    found_cut source place place (omega arith) (nothing place) (kinds.Mark Comma) 1 (comma_at place) front refl refl refl
 
 -- a fault behind tokens that are cut off already is a fault of the source
 pub fault_after : (source : List ℕ) (place : ℕ) (before : List SpannedToken) → CutUpTo source place before → AreWithinLimit before → (e : SyntaxError) → FaultFrom source place e → IsLexicalFault source e

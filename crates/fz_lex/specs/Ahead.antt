@@ -5,6 +5,7 @@ use Rattle.std.specs.List.{position_or_len}
 use Rattle.fz_lex.specs.Byte.{is_blank, is_line_feed}
 use Rattle.fz_lex.specs.Token.{TokenValue, Word, Whole, FloatText, StringText, Marked}
 use Rattle.fz_lex.specs.Lexing.{SpannedToken}
+use Rattle.fz_lex.specs.declared.token.Mark.TheVariants.{Comma}
 use Rattle.fz_lex.specs.Scan.{FrontToken, found, none, front_of}
 
 -- where the blanks and comments end that begin at a place, with room for so many of them
@@ -55,3 +56,7 @@ stop_from (suc room) source place =
 
 abbrev pub stop_ahead : List ℕ → ℕ → ℕ
 stop_ahead source place = stop_from (length source) source place
+
+-- a comma that stands at a place
+abbrev pub comma_at : ℕ → SpannedToken
+comma_at place = record { token = Marked Comma; start = place; end = place + 1 }

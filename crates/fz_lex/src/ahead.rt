@@ -7,11 +7,12 @@ ghost use Rattle.fz_lex.specs.Lexing.{SpannedToken, AreInOrder, LexesToSpanned};
 ghost use Rattle.fz_lex.specs.View.{spanned, IsSpelledAtSpan, IsLexicalFault, IsPlacedWithin};
 ghost use Rattle.fz_lex.specs.Ahead.{tokens_ahead};
 ghost use Rattle.fz_lex.specs.Found.{IsScanned, IsScanFault};
-ghost use Rattle.fz_lex.specs.Left.{left, source_of};
+ghost use Rattle.fz_lex.specs.Left.{left, listed_token, listed_comma, source_of};
 
 use crate::error::SyntaxError;
 use crate::lexer::{Lexer, MOST_BYTES};
-use crate::token::Token;
+use crate::token::{Token, TokenKind};
+use fz_base::Span;
 
 /// Tells whether a text consists of tokens, blanks and comments, by the rules of `lex`. It takes no memory.
 ///
@@ -45,6 +46,14 @@ fn scan(mut lexer: Lexer<'_>) -> Result<(), SyntaxError>
 pub struct Tokens<'a> {
     lexer: Lexer<'a>,
     first: Option<Token<'a>>,
+}
+
+/// A whole number, where it stands, and where the comma stands right behind it.
+#[derive(Clone, Copy, Debug)]
+pub struct ListedWhole {
+    pub value: i64,
+    pub span: Span,
+    pub comma: Span,
 }
 
 impl<'a> Tokens<'a> {
@@ -81,6 +90,27 @@ impl<'a> Tokens<'a> {
         if self.first.is_some() {
             self.load();
         }
+    }
+
+    /// Takes a whole number and the comma behind it, where these are the first two tokens that are left and nothing
+    /// stands between them. Most numbers of a list are such, and are read at once so.
+    #[inline(always)]
+    pub fn take_listed(&mut self) -> Option<ListedWhole>
+        ensures taken { IfSome result (λ w. left self.old ≡ listed_token w ∷ (listed_comma w ∷ left self.new)) }
+        ensures kept { IfNone result (self.new ≡ self.old) }
+        ensures source { source_of self.new ≡ source_of self.old }
+    {
+        let first = self.first?;
+        let TokenKind::Whole(value) = first.kind else {
+            return None;
+        };
+        let comma = self.lexer.eat_comma()?;
+        self.load();
+        Some(ListedWhole {
+            value,
+            span: first.span,
+            comma,
+        })
     }
 
     /// Reads on to the end of the text, and tells whether the whole text consists of tokens, blanks and comments,

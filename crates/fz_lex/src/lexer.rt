@@ -1,11 +1,11 @@
 //! Goes over a source token by token, and lists its tokens.
 
-ghost use Rattle.std.specs.Prelude.{◌≡◌, ◌≢◌, ◌<◌, ◌≤◌, [], List, length, slice_index, IsFalse, IfOk, IfErr, OnErr, MatchResult};
+ghost use Rattle.std.specs.Prelude.{◌≡◌, ◌≢◌, ◌+◌, ◌<◌, ◌≤◌, ◌∷◌, [], IfSome, IfNone, List, length, slice_index, IsFalse, IfOk, IfErr, OnErr, MatchResult};
 ghost use Rattle.fz_lex.specs.Byte as bytes_spec;
 ghost use Rattle.fz_lex.specs.Limits.{most_bytes, LexesWithinLimits};
 ghost use Rattle.fz_lex.specs.Lexing.{SpannedToken, CutBetween, AreInOrder};
 ghost use Rattle.fz_lex.specs.View.{all_spanned, TextsAreSlices, IsLexicalFault, IsPlacedWithin};
-ghost use Rattle.fz_lex.specs.Ahead.{stop_ahead};
+ghost use Rattle.fz_lex.specs.Ahead.{comma_at, tokens_ahead, stop_ahead};
 ghost use Rattle.fz_lex.specs.Found.{NextFrom, FaultFrom, IsLexed};
 
 use crate::error::SyntaxError;
@@ -54,6 +54,23 @@ pub(crate) struct Lexer<'a> {
 }
 
 impl<'a> Lexer<'a> {
+    /// Goes on behind a comma that stands right here, and gives its place.
+    #[inline(always)]
+    pub(crate) fn eat_comma(&mut self) -> Option<Span>
+        ensures source { self.new.source.now ≡ self.old.source.now }
+        ensures comma { IfSome result (λ s. (s.start ≡ self.old.place) × (s.end ≡ self.old.place + 1) × (self.new.place ≡ self.old.place + 1)) }
+        ensures ahead { IfSome result (λ s. tokens_ahead self.old.source.now self.old.place ≡ comma_at self.old.place ∷ tokens_ahead self.new.source.now self.new.place) }
+        ensures kept { IfNone result (self.new ≡ self.old) }
+    {
+        let start = self.place;
+        if start == self.source.len() || self.source[start] != b',' {
+            return None;
+        }
+        let end = start + 1;
+        self.place = end;
+        Some(Span { start, end })
+    }
+
     /// The next token, or none at the end of the text. After an error the lexer is where it was.
     #[inline(always)]
     pub(crate) fn next_token(&mut self) -> Result<Option<Token<'a>>, SyntaxError>

@@ -1,11 +1,11 @@
 //! What stands at the front of some bytes: a token, or none.
 
-ghost use Rattle.std.specs.Prelude.{◌≡◌, ◌≢◌, ◌-◌, ◌^◌, ◌<◌, ◌≤◌, ◌∷◌, [], false, length, min, slice_index, IfSome, IfNone, option_map};
+ghost use Rattle.std.specs.Prelude.{◌≡◌, ◌≢◌, ◌-◌, ◌^◌, ◌<◌, ◌≤◌, ◌∷◌, [], false, length, min, slice_index, IsFalse, IfSome, Some, true, IfNone, option_map};
 ghost use Rattle.std.specs.List.{position_or_len};
 ghost use Rattle.std.specs.Char.{digit_value, is_digit};
 ghost use Rattle.fz_lex.specs.Byte as bytes_spec;
 ghost use Rattle.fz_lex.specs.Byte.{is_word_start};
-ghost use Rattle.fz_lex.specs.Token.{mark_text};
+ghost use Rattle.fz_lex.specs.Token.{Whole, mark_text};
 ghost use Rattle.fz_lex.specs.Limits.{IsWithinLimit};
 ghost use Rattle.fz_lex.specs.Scan as scan;
 ghost use Rattle.fz_lex.specs.Found.{IsFrontOf, IsNumberFound};
@@ -17,6 +17,9 @@ use crate::word::word_len;
 const LEAST_WHOLE: i64 = i64::MIN;
 
 const GREATEST_WHOLE: i64 = i64::MAX;
+
+/// The greatest number that is below 2^63 with any one more digit behind it.
+const GREATEST_SHORT: u64 = 922_337_203_685_477_579;
 
 /// The byte at a place. Past the end it is 0, with which no text of a token goes on.
 #[inline]
@@ -203,6 +206,53 @@ fn number_front(bytes: &[u8]) -> NumberFront
     }
 }
 
+/// Digits at the front and their number, where that is below 2^63 by a first look: nearly all numbers are.
+#[inline(always)]
+fn short_digits(bytes: &[u8]) -> Option<DigitRun>
+    ensures len { IfSome result (λ run. run.len ≡ scan.digits_len 10 bytes.now) }
+    ensures within { IfSome result (λ run. run.len ≤ length bytes.now) }
+    ensures value { IfSome result (λ run. run.value ≡ scan.leading_number 10 bytes.now) }
+    ensures small { IfSome result (λ run. run.value < 2 ^ 63) }
+{
+    let mut len = 0;
+    let mut value: u64 = 0;
+    while len < bytes.len() {
+        // Every byte but a digit comes out at 10 or more.
+        let digit = bytes[len].wrapping_sub(b'0');
+        if digit > 9 {
+            break;
+        }
+        if value > GREATEST_SHORT {
+            return None;
+        }
+        value = value * 10 + u64::from(digit);
+        len += 1;
+    }
+    Some(DigitRun { len, value })
+}
+
+/// Whether a number may go on with the byte behind its first digits: a point, an exponent, or the letter of a base.
+#[inline(always)]
+fn may_go_on(byte: u8) -> bool
+    ensures { IsFalse result → (byte ≢ 46) × (byte ≢ 101) × (byte ≢ 69) × (byte ≢ 120) × (byte ≢ 111) }
+{
+    matches!(byte, b'.' | b'e' | b'E' | b'x' | b'o')
+}
+
+/// A number without a sign that is whole and small, where that shows from its digits and the byte behind them.
+#[inline(always)]
+fn short_number(bytes: &[u8]) -> Option<DigitRun>
+    ensures is { IfSome result (λ run. scan.number_front bytes.now ≡ record { natural = Some run.value; len = run.len }) }
+    ensures within { IfSome result (λ run. run.len ≤ length bytes.now) }
+    ensures some { IfSome result (λ run. 0 < run.len → is_digit (slice_index bytes.now 0) 10 ≡ true) }
+    ensures small { IfSome result (λ run. run.value < 2 ^ 63) }
+{
+    match short_digits(bytes) {
+        Some(run) if !may_go_on(byte_at(bytes, run.len)) => Some(run),
+        _ => None,
+    }
+}
+
 /// The length of the rest of a string behind its opening quote, where it is closed on its line.
 #[tactic(auto, using(crate::proofs::StringRest::string_steps))]
 fn string_rest_len(bytes: &[u8]) -> Option<usize>
@@ -304,6 +354,37 @@ fn lone_mark(byte: u8) -> Option<Mark>
     }
 }
 
+/// A whole number within the limit and the length of its text.
+#[derive(Drop)]
+struct WholeFront {
+    value: i64,
+    len: usize,
+}
+
+/// The whole number at the front, where one stands there and is a short one.
+#[inline(always)]
+fn short_whole(bytes: &[u8]) -> Option<WholeFront>
+    ensures { IfSome result (λ w. (scan.front_of bytes.now ≡ scan.found (Whole w.value) w.len) × IsWithinLimit w.value) }
+{
+    match byte_at(bytes, 0) {
+        b'0'..=b'9' => match short_number(bytes) {
+            Some(run) => Some(WholeFront {
+                value: run.value as i64,
+                len: run.len,
+            }),
+            None => None,
+        },
+        b'-' => match short_number(&bytes[1..]) {
+            Some(run) if run.len > 0 => Some(WholeFront {
+                value: -(run.value as i64),
+                len: 1 + run.len,
+            }),
+            _ => None,
+        },
+        _ => None,
+    }
+}
+
 /// What stands at the front, where that is no word.
 #[tactic(auto, unfolding(crate::specs::Scan::front_of))]
 fn read_other_front(bytes: &[u8]) -> Front
@@ -330,7 +411,7 @@ fn read_other_front(bytes: &[u8]) -> Front
     }
 }
 
-/// Most tokens are words and marks of one byte, so these come first.
+/// Most tokens are words, short numbers and marks of one byte, so these come first.
 #[tactic(auto, unfolding(crate::specs::Scan::front_of))]
 #[inline(always)]
 pub(crate) fn read_front(bytes: &[u8]) -> Front
@@ -340,6 +421,9 @@ pub(crate) fn read_front(bytes: &[u8]) -> Front
     let first = byte_at(bytes, 0);
     if is_word_start(first) {
         return Front::Found(TokenKind::Word, word_len(bytes));
+    }
+    if let Some(whole) = short_whole(bytes) {
+        return Front::Found(TokenKind::Whole(whole.value), whole.len);
     }
     match lone_mark(first) {
         Some(mark) => Front::Found(TokenKind::Mark(mark), 1),

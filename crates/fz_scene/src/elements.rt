@@ -1,8 +1,5 @@
 //! The elements of an array under a partial assignment.
 
-ghost use Rattle.std.specs.Prelude.{◌≡◌};
-ghost use Rattle.std.specs.FinSet as the_sets;
-
 use crate::reading::{all_read, are_read, bool_in, int_in, scalar_at, set_in, term_at};
 use fz_base::{IntSet, Value};
 use fz_data::{Partial, Place};
@@ -20,8 +17,6 @@ pub(crate) enum Kept<'s, 'a> {
 pub struct Elements<'s, 'a> {
     pub(crate) kept: Kept<'s, 'a>,
     pub(crate) partial: &'s Partial,
-    pub(crate) empty: &'s IntSet,
-    ghost has_no_numbers: { empty.now ≡ the_sets.empty },
 }
 
 impl<'s, 'a> Elements<'s, 'a> {
@@ -32,6 +27,7 @@ impl<'s, 'a> Elements<'s, 'a> {
     ghost use Rattle.fz_scene.specs.Views.{bools, ints, sets, slots_of, under};
 
     /// How many there are. It takes no memory.
+    #[inline(always)]
     pub fn len(&self) -> usize
         ensures counted { result ≡ length (slots_of self.now) }
     {
@@ -42,6 +38,7 @@ impl<'s, 'a> Elements<'s, 'a> {
     }
 
     /// The scalar at a place, counted from 0: none where an array's name stands there, which no constraint with a row has. It takes no memory.
+    #[inline(always)]
     pub fn term(&self, index: usize) -> Option<&'s Term>
         requires in_range { index < length (slots_of self.now) }
         ensures found { slice_get (slots_of self.now) index ≡ Some (option_map (λ t. t.now) result) }
@@ -53,6 +50,7 @@ impl<'s, 'a> Elements<'s, 'a> {
     }
 
     /// Its value, where it has one. It takes no memory.
+    #[inline(always)]
     pub fn value(&self, index: usize) -> Option<&'s Value>
         requires in_range { index < length (slots_of self.now) }
         ensures valued { slice_get (map (value_of (under self.now)) (slots_of self.now)) index ≡ Some (option_map (λ v. v.now) result) }
@@ -62,6 +60,7 @@ impl<'s, 'a> Elements<'s, 'a> {
     }
 
     /// Its value as a whole number. It takes no memory.
+    #[inline(always)]
     pub fn int(&self, index: usize) -> i64
         requires in_range { index < length (slots_of self.now) }
         ensures read { slice_get (ints self.now) index ≡ Some result }
@@ -70,6 +69,7 @@ impl<'s, 'a> Elements<'s, 'a> {
     }
 
     /// Its value as a truth value. It takes no memory.
+    #[inline(always)]
     pub fn truth(&self, index: usize) -> bool
         requires in_range { index < length (slots_of self.now) }
         ensures read { slice_get (bools self.now) index ≡ Some result }
@@ -78,11 +78,12 @@ impl<'s, 'a> Elements<'s, 'a> {
     }
 
     /// Its value as a set. It takes no memory.
+    #[inline(always)]
     pub fn set(&self, index: usize) -> &'s IntSet
         requires in_range { index < length (slots_of self.now) }
         ensures read { slice_get (sets self.now) index ≡ Some result.now }
     {
-        set_in(self.value(index), self.empty)
+        set_in(self.value(index), self.partial.no_numbers())
     }
 
     // Whether each has a value of the kind.

@@ -9,4 +9,4 @@ mod scene;
 
 pub use elements::Elements;
 pub use reading::Readiness;
-pub use scene::{Scene, no_numbers};
+pub use scene::Scene;

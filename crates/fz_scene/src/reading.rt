@@ -21,6 +21,7 @@ pub enum Readiness {
     Missing,
 }
 
+#[inline(always)]
 fn int_of(value: &Value) -> i64
     ensures { result ≡ int_in (Some value.now) }
 {
@@ -30,6 +31,7 @@ fn int_of(value: &Value) -> i64
     }
 }
 
+#[inline(always)]
 fn bool_of(value: &Value) -> bool
     ensures { result ≡ bool_in (Some value.now) }
 {
@@ -39,6 +41,7 @@ fn bool_of(value: &Value) -> bool
     }
 }
 
+#[inline(always)]
 fn set_of<'s>(value: &'s Value, empty: &'s IntSet) -> &'s IntSet
     requires { empty.now ≡ sets.empty }
     ensures { result.now ≡ set_in (Some value.now) }
@@ -50,6 +53,7 @@ fn set_of<'s>(value: &'s Value, empty: &'s IntSet) -> &'s IntSet
 }
 
 /// The number that a scalar is read as.
+#[inline(always)]
 pub(crate) fn int_in(value: Option<&Value>) -> i64
     ensures { result ≡ int_in (option_map (λ v. v.now) value.entry) }
 {
@@ -60,6 +64,7 @@ pub(crate) fn int_in(value: Option<&Value>) -> i64
 }
 
 /// The truth value that a scalar is read as.
+#[inline(always)]
 pub(crate) fn bool_in(value: Option<&Value>) -> bool
     ensures { result ≡ bool_in (option_map (λ v. v.now) value.entry) }
 {
@@ -70,6 +75,7 @@ pub(crate) fn bool_in(value: Option<&Value>) -> bool
 }
 
 /// The set that a scalar is read as.
+#[inline(always)]
 pub(crate) fn set_in<'s>(value: Option<&'s Value>, empty: &'s IntSet) -> &'s IntSet
     requires { empty.now ≡ sets.empty }
     ensures { result.now ≡ set_in (option_map (λ v. v.now) value.entry) }
@@ -81,6 +87,7 @@ pub(crate) fn set_in<'s>(value: Option<&'s Value>, empty: &'s IntSet) -> &'s Int
 }
 
 /// Whether there is a value of the kind.
+#[inline(always)]
 pub(crate) fn is_of(value: Option<&Value>, kind: Kind) -> bool
     ensures { result ≡ option_map_or (λ v. same_kind (kind_of v) kind) (option_map (λ v. v.now) value.entry) false }
 {
@@ -90,6 +97,7 @@ pub(crate) fn is_of(value: Option<&Value>, kind: Kind) -> bool
     }
 }
 
+#[inline(always)]
 fn has_kind(value: &Value, kind: Kind) -> bool
     ensures { result ≡ same_kind (kind_of value.now) kind }
 {
@@ -101,6 +109,7 @@ fn has_kind(value: &Value, kind: Kind) -> bool
 }
 
 /// The scalar at an index.
+#[inline(always)]
 pub(crate) fn term_at(terms: &[Term], index: usize) -> &Term
     requires { index < length terms.now }
     ensures { slice_get terms.now index ≡ Some result.now }
@@ -109,6 +118,7 @@ pub(crate) fn term_at(terms: &[Term], index: usize) -> &Term
 }
 
 /// The scalar at an index of a list in brackets.
+#[inline(always)]
 pub(crate) fn scalar_at<'s>(places: &'s [Place<'_>], index: usize) -> Option<&'s Term>
     requires { index < length places.now }
     ensures { slice_get (map slot_kept places.now) index ≡ Some (option_map (λ t. t.now) result) }
@@ -116,6 +126,7 @@ pub(crate) fn scalar_at<'s>(places: &'s [Place<'_>], index: usize) -> Option<&'s
     scalar_in(&places[index])
 }
 
+#[inline(always)]
 fn scalar_in<'s>(place: &'s Place<'_>) -> Option<&'s Term>
     ensures { option_map (λ t. t.now) result ≡ slot_kept place.now }
 {
@@ -126,6 +137,7 @@ fn scalar_in<'s>(place: &'s Place<'_>) -> Option<&'s Term>
 }
 
 /// The value of a scalar at a place.
+#[inline(always)]
 pub(crate) fn value_at<'s>(partial: &'s Partial, place: &'s Place<'_>) -> Option<&'s Value>
     ensures { option_map (λ v. v.now) result ≡ value_of partial.now (slot_kept place.now) }
 {
@@ -135,12 +147,14 @@ pub(crate) fn value_at<'s>(partial: &'s Partial, place: &'s Place<'_>) -> Option
     }
 }
 
+#[inline(always)]
 fn term_is_read(partial: &Partial, kind: Kind, term: &Term) -> bool
     ensures { result ≡ term_is_read partial.now kind term.now }
 {
     is_of(partial.value(term), kind)
 }
 
+#[inline(always)]
 fn place_is_read(partial: &Partial, kind: Kind, place: &Place<'_>) -> bool
     ensures { result ≡ place_is_read partial.now kind place.now }
 {

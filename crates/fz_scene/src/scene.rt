@@ -1,35 +1,21 @@
 //! A constraint under a partial assignment.
 
-ghost use Rattle.std.specs.Prelude.{◌≡◌, IfOk};
-ghost use Rattle.std.specs.FinSet as sets;
-
 use crate::elements::{Elements, Kept};
 use crate::given::{are_given, elements};
 use crate::reading::{Readiness, bool_in, int_in, is_of, set_in, value_at};
 use fz_base::{IntSet, Value};
 use fz_data::{Argument, ConstraintParts, Partial, Place};
 use fz_table::Shape;
-use std::alloc::{AllocError, Global};
-
-/// The empty set, which a scene reads where there is no other. It takes no memory.
-pub fn no_numbers(alloc: Global) -> Result<IntSet, AllocError>
-    ensures { IfOk result (λ s. s ≡ sets.empty) }
-{
-    IntSet::list(alloc, &[]).map_err(|_| AllocError)
-}
 
 /// A constraint's arguments under a partial assignment.
 #[derive(Clone, Copy)]
 pub struct Scene<'s, 'a> {
     parts: ConstraintParts<'s, 'a>,
     partial: &'s Partial,
-    empty: &'s IntSet,
-    ghost has_no_numbers: { empty.now ≡ sets.empty },
 }
 
 impl<'s, 'a> Scene<'s, 'a> {
     ghost use Rattle.std.specs.Prelude.{◌≡◌, map, option_map};
-    ghost use Rattle.std.specs.FinSet as sets;
     ghost use Rattle.fz_meaning.specs.Meaning as meaning;
     ghost use Rattle.fz_table.specs.Known.{shape_of};
     ghost use Rattle.fz_data.specs.Parts.{argument_view, place_view, posted_view};
@@ -37,23 +23,16 @@ impl<'s, 'a> Scene<'s, 'a> {
     ghost use Rattle.fz_scene.specs.Views.{IsReadiness, arguments_of, assigned, slots_kept, slots_of, under};
 
     /// The arguments of a constraint, under a partial assignment. It takes no memory.
-    pub fn new(
-        parts: ConstraintParts<'s, 'a>,
-        partial: &'s Partial,
-        empty: &'s IntSet,
-    ) -> Scene<'s, 'a>
-        requires no_numbers { empty.now ≡ sets.empty }
+    #[inline(always)]
+    pub fn new(parts: ConstraintParts<'s, 'a>, partial: &'s Partial) -> Scene<'s, 'a>
         ensures arguments { arguments_of result ≡ (posted_view parts.entry.variables.now parts.entry.arrays.now parts.entry.posted.now).arguments }
         ensures assigned { assigned result ≡ partial.now }
     {
-        Scene {
-            parts,
-            partial,
-            empty,
-        }
+        Scene { parts, partial }
     }
 
     /// The argument at a place, counted from 0, as a whole number. It takes no memory.
+    #[inline]
     pub fn int(&self, index: usize) -> i64
         ensures read { result ≡ int_at (assigned self.now) (arguments_of self.now) index }
     {
@@ -61,6 +40,7 @@ impl<'s, 'a> Scene<'s, 'a> {
     }
 
     /// The argument at a place as a truth value. It takes no memory.
+    #[inline]
     pub fn truth(&self, index: usize) -> bool
         ensures read { result ≡ bool_at (assigned self.now) (arguments_of self.now) index }
     {
@@ -68,13 +48,15 @@ impl<'s, 'a> Scene<'s, 'a> {
     }
 
     /// The argument at a place as a set. It takes no memory.
+    #[inline]
     pub fn set(&self, index: usize) -> &'s IntSet
         ensures read { result.now ≡ set_at (assigned self.now) (arguments_of self.now) index }
     {
-        set_in(self.value(index), self.empty)
+        set_in(self.value(index), self.partial.no_numbers())
     }
 
     /// The elements of the argument at a place, where it is an array. It takes no memory.
+    #[inline]
     pub fn elements(&self, index: usize) -> Elements<'s, 'a>
         ensures slots { slots_of result ≡ slots_at (arguments_of self.now) index }
         ensures under { under result ≡ assigned self.now }
@@ -87,6 +69,7 @@ impl<'s, 'a> Scene<'s, 'a> {
     }
 
     // The value of the scalar at a place.
+    #[inline]
     fn value(&self, index: usize) -> Option<&'s Value>
         ensures { option_map (λ v. v.now) result ≡ value_of (assigned self.now) (slot_at (arguments_of self.now) index) }
     {
@@ -96,6 +79,7 @@ impl<'s, 'a> Scene<'s, 'a> {
         }
     }
 
+    #[inline(always)]
     fn value_in(&self, argument: &'s Argument<'a>) -> Option<&'s Value>
         ensures { option_map (λ v. v.now) result ≡ value_of (assigned self.now) (slot_in (argument_view self.now.parts.variables.now self.now.parts.arrays.now argument.now)) }
     {
@@ -105,6 +89,7 @@ impl<'s, 'a> Scene<'s, 'a> {
         }
     }
 
+    #[inline(always)]
     fn elements_of(&self, kept: Kept<'s, 'a>) -> Elements<'s, 'a>
         ensures kept { result.kept ≡ kept.entry }
         ensures under { under result ≡ assigned self.now }
@@ -112,10 +97,10 @@ impl<'s, 'a> Scene<'s, 'a> {
         Elements {
             kept,
             partial: self.partial,
-            empty: self.empty,
         }
     }
 
+    #[inline(always)]
     fn kept_in(&self, argument: &'s Argument<'a>) -> Kept<'s, 'a>
         ensures { slots_kept result ≡ slots_in (argument_view self.now.parts.variables.now self.now.parts.arrays.now argument.now) }
     {
@@ -125,6 +110,7 @@ impl<'s, 'a> Scene<'s, 'a> {
         }
     }
 
+    #[inline(always)]
     fn kept_at(&self, place: &'s Place<'a>) -> Kept<'s, 'a>
         ensures { slots_kept result ≡ slots_in (meaning.Argument.One (place_view self.now.parts.variables.now self.now.parts.arrays.now place.now)) }
     {
@@ -162,6 +148,7 @@ impl<'s, 'a> Scene<'s, 'a> {
         true
     }
 
+    #[inline]
     fn is_read(&self, shape: Shape, argument: &'s Argument<'a>) -> bool
         ensures { result ≡ argument_is_read (assigned self.now) (shape_of shape) (argument_view self.now.parts.variables.now self.now.parts.arrays.now argument.now) }
     {

@@ -3,7 +3,7 @@
 use crate::{left_value, unit_value};
 use fz_base::Value;
 use fz_data::{ConstraintParts, Model, Partial, PointParts, load};
-use fz_scene::{Scene, no_numbers};
+use fz_scene::Scene;
 use fz_syntax::parse;
 use fz_table::{Filled, Known};
 use std::alloc::{AllocError, Global};
@@ -35,10 +35,9 @@ fn left(alloc: Global, source: &[u8]) -> Result<Option<Value>, Fail> {
     let ast = parse(alloc, source)?;
     let model = load(alloc, &ast)?;
     let partial = Partial::new(alloc, &model)?;
-    let empty = no_numbers(alloc)?;
     let parts = last_constraint(&model).ok_or("no constraint")?;
     let known = parts.known.ok_or("no row")?;
-    let scene = Scene::new(parts, &partial, &empty);
+    let scene = Scene::new(parts, &partial);
     Ok(left_of(alloc, known, &scene)?)
 }
 
@@ -60,9 +59,8 @@ fn unit(alloc: Global, source: &[u8], index: usize) -> Result<Option<i64>, Fail>
     let ast = parse(alloc, source)?;
     let model = load(alloc, &ast)?;
     let partial = Partial::new(alloc, &model)?;
-    let empty = no_numbers(alloc)?;
     let parts = last_constraint(&model).ok_or("no constraint")?;
-    let scene = Scene::new(parts, &partial, &empty);
+    let scene = Scene::new(parts, &partial);
     Ok(unit_of(&scene, index))
 }
 

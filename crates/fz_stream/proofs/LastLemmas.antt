@@ -1,5 +1,5 @@
 -- What the end of a stream makes of what a splitter keeps.
-use Rattle.std.proofs.Common.{◌≡◌, ◌≢◌, ℕ, ◌+◌, ◌<◌, Option, Some, None, List, [], ◌∷◌, ◌++◌, length, take, refl, sym, ap, ◌∙◌, subst, ⊎_elim, append-nil, length-append, arith, Result, Ok, Err, IfOk, IfErr, IsSome, is_some, true, false}
+use Rattle.std.proofs.Common.{◌≡◌, ◌≢◌, ℕ, ◌+◌, ◌<◌, Option, Some, None, List, [], ◌∷◌, ◌++◌, length, refl, sym, ap, ◌∙◌, subst, ⊎_elim, append-nil, length-append, arith, Result, Ok, Err, IfOk, IfErr, IsSome, is_some, true, false}
 use Rattle.fz_syntax.specs.Span.{Span}
 use Rattle.fz_stream.specs.declared.held.Ended.{Ended}
 use Rattle.fz_stream.specs.declared.held.Held.{Held}
@@ -9,10 +9,9 @@ use Rattle.fz_stream.specs.declared.line.LineKind.TheVariants.{Blank, Item}
 use Rattle.fz_stream.specs.Lines.{Line, lines_of, joined, kind_of, HasNoFeed, IsFiller}
 use Rattle.fz_stream.specs.Parts.{StreamPart, AreBlockLines, AreLinesOfPart, GoesOnAfter, IsStreamText}
 use Rattle.fz_stream.specs.Broken.{IsBrokenAtEndAfter}
-use Rattle.fz_stream.specs.Keeping.{Keeps, HasLine, IsHeld, DropsLine, JoinsLine, GoesOnHolding, EndsPart, BreaksBlock, CanBeRead, EndsOpen, EndsStream}
+use Rattle.fz_stream.specs.Keeping.{Keeps, HasLine, IsHeld, DropsLine, JoinsLine, GoesOnHolding, EndsPart, BreaksBlock, EndsOpen, EndsStream}
 use Rattle.fz_stream.specs.Telling.{TellsOf}
 use Rattle.fz_stream.proofs.PartLemmas.{every_append, joined-append, joined_one, AreLinesOf-push}
-use Rattle.fz_stream.proofs.TakeLemmas.{ends_readable}
 use Rattle.fz_stream.proofs.SplitLemmas.{lines_after, lines_of-begun, no_end}
 
 -- the current line isn't empty
@@ -202,12 +201,6 @@ module _ (h new : Held) (i : IsHeld h) (l : h.line < length h.buffer.items) wher
       → IfOk r (λ r. (ended : Ended) → r ≡ Some ended → (bytes : List ℕ) (parts : List StreamPart) → Keeps bytes parts h.buffer.items → h.before + length h.buffer.items ≡ length bytes → EndsStream new bytes parts (Some ended))
   all_ends (Ok r) count same g = λ ended is bytes parts k size. ends_stream bytes parts h i k size l new ended count (same (ap is_some is)).0 (g ended is i.body i.current i.lines)
   all_ends (Err e) count same g = tt
-
-  pub all_readable : (r : Result (Option Ended) StreamError) → IfOk r (λ r. (ended : Ended) → r ≡ Some ended → (body : List Line) (line : Line) → HasLine h body line → EndsPart new body line ended)
-      → IfOk r (λ r. CanBeRead r (take new.line new.buffer.items))
-  all_readable (Ok None) g = tt
-  all_readable (Ok (Some ended)) g = ends_readable new i.body i.current ended (g ended refl i.body i.current i.lines)
-  all_readable (Err e) g = tt
 
   pub all_broken : (r : Result (Option Ended) StreamError) → IfErr r (λ e. e ≢ Memory → (body : List Line) (line : Line) → HasLine h body line → BreaksBlock h.before body line e)
       → IfErr r (λ e. e ≢ Memory → (bytes : List ℕ) (parts : List StreamPart) → Keeps bytes parts h.buffer.items → h.before + length h.buffer.items ≡ length bytes → IsBrokenAtEndAfter bytes parts e)

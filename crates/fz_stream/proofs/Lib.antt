@@ -1,4 +1,5 @@
 pub mod LineLemmas
+pub mod KindLemmas
 pub mod NameLemmas
 pub mod PartLemmas
 pub mod ReadingLemmas
@@ -14,4 +15,5 @@ pub mod FeedLemmas
 pub mod TakenLemmas
 pub mod FaultLemmas
 pub mod PlaceLemmas
+pub mod KeptLemmas
 pub mod Rows

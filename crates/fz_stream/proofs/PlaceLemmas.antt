@@ -11,11 +11,11 @@ use Rattle.fz_stream.specs.Moving.{moved_span}
 use Rattle.fz_stream.specs.Telling.{PrintsAgain, IsSecondPrinting}
 
 module _ (source : List ℕ) (upto : ℕ) where
-  stand_before : (from : ℕ) (spots : List Spot) → Stand source from upto spots → from ≤ upto
+  pub stand_before : (from : ℕ) (spots : List Spot) → Stand source from upto spots → from ≤ upto
   stand_before from [] h = h
   stand_before from (s ∷ spots) h = let more = stand_before s.end spots h.3 in omega (arith, h.0, h.1, more)
 
-  stand_behind : (from : ℕ) (xs ys : List Spot) → Stand source from upto (xs ++ ys) → (next : ℕ) × Stand source next upto ys
+  pub stand_behind : (from : ℕ) (xs ys : List Spot) → Stand source from upto (xs ++ ys) → (next : ℕ) × Stand source next upto ys
   stand_behind from [] ys h = (from, h)
   stand_behind from (x ∷ xs) ys h = stand_behind x.end xs ys h.3
 

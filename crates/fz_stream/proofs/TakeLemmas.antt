@@ -2,17 +2,15 @@
 use Rattle.std.proofs.Common.{◌≡◌, ◌≢◌, ℕ, ◌+◌, ◌-◌, ◌<◌, ◌≤◌, ◌^◌, Some, List, [], ◌∷◌, ◌++◌, length, take, drop, get_or, sym, ap, ◌∙◌, subst, ◌⊎◌, inl, inr, ⊎_elim, append_assoc, append-nil, length-append, length-take, length-drop, arith, take-append-drop}
 use Rattle.std.proofs.lemmas.List.{take_all, take-take}
 use Rattle.std.proofs.Math.Seq.{take-add}
-use Rattle.fz_syntax.specs.Tree.{Printed}
 use Rattle.fz_stream.specs.declared.held.Ended.{Ended}
-use Rattle.fz_stream.specs.declared.held.Ended.TheVariants.{BlockEnded, ClaimEnded}
 use Rattle.fz_stream.specs.declared.held.Held.{Held}
 use Rattle.fz_stream.specs.declared.error.StreamError.{StreamError}
-use Rattle.fz_stream.specs.Lines.{Line, lines_of, joined, kind_of, HasNoFeed, EndsWithFeed}
-use Rattle.fz_stream.specs.Parts.{StreamPart, BlockPart, ClaimPart, IsBlockText, AreLinesOfPart, Covers}
+use Rattle.fz_stream.specs.Lines.{lines_of, joined, kind_of, HasNoFeed, EndsWithFeed}
+use Rattle.fz_stream.specs.Parts.{StreamPart, Covers}
 use Rattle.fz_stream.specs.Broken.{IsBrokenAfter}
 use Rattle.fz_stream.specs.Splitting.{PassesLimit}
 use Rattle.fz_stream.specs.Telling.{TellsOf}
-use Rattle.fz_stream.specs.Keeping.{Keeps, DropsLine, JoinsLine, HasLine, IsHeld, GoesOnHolding, EndsPart, BreaksBlock, CanBeRead, KeepsAll, TakesPart, EndedAs}
+use Rattle.fz_stream.specs.Keeping.{Keeps, DropsLine, JoinsLine, HasLine, IsHeld, GoesOnHolding, EndsPart, BreaksBlock, KeepsAll, TakesPart}
 use Rattle.fz_stream.proofs.PartLemmas.{every_append, joined-append, joined_one}
 use Rattle.fz_stream.proofs.SplitLemmas.{keeps_more, keeps_filler, holds_current, ends_part, keeps_nothing, breaks, first_cut, whole_from_last, begun_from_last, whole_joined, no_feed_before}
 
@@ -206,12 +204,3 @@ module _ (old now : Held) (piece : List ℕ) (at : ℕ) (t : Taking old now piec
           subst (λ l. IsBrokenAfter l parts e) whole
           (breaks (bytes ++ take at piece) parts now.buffer.items h t.held.body t.held.lines.whole t.held.lines.own part (t.held.current ++ part) bytes_mid ends_whole b.begun b.cannot
           e (subst (λ n. TellsOf n (joined t.held.body) (Some (kind_of (t.held.current ++ part))) e) place b.tells) (drop (at + length part) piece))
-
--- what ended can be read
-pub ends_readable : (new : Held) (body : List Line) (line : Line) (ended : Ended) → EndsPart new body line ended → CanBeRead (Some ended) (take new.line new.buffer.items)
-ends_readable new body line (ClaimEnded kind) e = tt
-ends_readable new body line BlockEnded e = by e.part e.is (e.lines new.before [] tt (omega arith))
-  where
-    by : (part : StreamPart) → EndedAs BlockEnded new.before (take new.line new.buffer.items) part → AreLinesOfPart new.before (body ++ line ∷ []) part → (items : List Printed) × IsBlockText (take new.line new.buffer.items) items
-    by (BlockPart block) is l = (block.items, subst (λ t. IsBlockText t block.items) is.1 l.items)
-    by (ClaimPart kind) is l = absurd is

@@ -6,7 +6,7 @@ use Rattle.fz_stream.specs.declared.held.Ended.TheVariants.{BlockEnded, ClaimEnd
 use Rattle.fz_stream.specs.declared.splitter.Stage.TheVariants.{Running, Failed}
 use Rattle.fz_stream.specs.declared.splitter.Splitter.TheInside.{Inside}
 use Rattle.fz_stream.specs.Splitting.{SplitterState, WaitingPart, WaitingBlock, WaitingClaim, most_held, most_taken}
-use Rattle.fz_stream.specs.Keeping.{IsHeld, CanBeRead, held_while}
+use Rattle.fz_stream.specs.Keeping.{IsHeld, IsKept, held_while}
 
 abbrev pub waiting_of : Option Ended → ℕ → List ℕ → Option WaitingPart
 waiting_of None offset text = None
@@ -27,4 +27,4 @@ pub record IsSplitter (s : Inside) : Type 0 where
   pub taken : s.held.before + length s.held.buffer.items ≤ most_taken
   pub holds : s.stage ≡ Running → s.ended ≡ None → IsHeld s.held
   pub failed : s.stage ≡ Failed → s.ended ≡ None
-  pub waits : CanBeRead s.ended (take s.held.line s.held.buffer.items)
+  pub kept : IsKept s.ended s.held

@@ -2,13 +2,13 @@
 -- of the public contracts need not believe it.
 use Rattle.std.specs.Prelude.{◌≡◌, ◌≢◌, ℕ, ◌+◌, List, [], ◌∷◌, ◌++◌, length, take, Option, Some, None, ◌⊎◌}
 use Rattle.std.specs.List.{AllByRecursion}
-use Rattle.fz_syntax.specs.Tree.{Printed}
 use Rattle.fz_stream.specs.declared.error.StreamError.{StreamError}
 use Rattle.fz_stream.specs.declared.held.Ended.{Ended}
 use Rattle.fz_stream.specs.declared.held.Ended.TheVariants.{BlockEnded, ClaimEnded}
 use Rattle.fz_stream.specs.declared.held.Held.{Held}
+use Rattle.fz_stream.specs.Kept.{AreKept}
 use Rattle.fz_stream.specs.Lines.{Line, joined, kind_of, HasNoFeed, EndsWithFeed, IsFiller}
-use Rattle.fz_stream.specs.Parts.{StreamPart, BlockPart, ClaimPart, IsBlockText, AreBlockLines, AreLinesOfPart, AreLinesOf, Covers, IsStreamText, GoesOnAfter}
+use Rattle.fz_stream.specs.Parts.{StreamPart, BlockPart, ClaimPart, AreBlockLines, AreLinesOfPart, AreLinesOf, Covers, IsStreamText, GoesOnAfter}
 use Rattle.fz_stream.specs.Broken.{CannotFollow}
 use Rattle.fz_stream.specs.Telling.{TellsOf}
 
@@ -71,11 +71,11 @@ pub record BreaksBlock (offset : ℕ) (body : List Line) (line : Line) (fault : 
   pub cannot : CannotFollow (joined body) (kind_of line)
   pub tells : TellsOf offset (joined body) (Some (kind_of line)) fault
 
--- a block that waits has a text that can be read
-abbrev pub CanBeRead : Option Ended → List ℕ → Type 0
-CanBeRead None text = Unit {0}
-CanBeRead (Some BlockEnded) text = (items : List Printed) × IsBlockText text items
-CanBeRead (Some (ClaimEnded kind)) text = Unit {0}
+-- the items of a block that waits are kept
+abbrev pub IsKept : Option Ended → Held → Type 0
+IsKept None h = Unit {0}
+IsKept (Some BlockEnded) h = AreKept (take h.line h.buffer.items) h.kept.items
+IsKept (Some (ClaimEnded kind)) h = Unit {0}
 
 -- All of the piece was taken, and no part ended.
 pub record KeepsAll (old new : Held) (piece : List ℕ) (n : ℕ) : Type 0 where

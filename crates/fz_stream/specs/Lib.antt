@@ -7,6 +7,8 @@ pub mod Broken
 pub mod Found
 pub mod Splitting
 pub mod Lending
+pub mod Hashing
 pub mod Step
+pub mod Kept
 pub mod Keeping
 pub mod Inside

@@ -10,9 +10,10 @@ ghost use Rattle.fz_stream.specs.Step.{IsBlockFault};
 ghost use Rattle.fz_stream.specs.Telling.{PrintsAgain, TellsOfText};
 
 use crate::error::{StreamError, item_fault, moved_span};
+use crate::hashing::Names;
 use fz_syntax::{Printed, Span, read_items};
-use indexmap::IndexSet;
 use std::alloc::{AllocError, Global};
+use std::hash::BuildHasherDefault;
 
 /// What a solver printed of one solution.
 #[derive(Drop)]
@@ -31,7 +32,10 @@ fn repeated_name(alloc: Global, items: &[Printed<'_>]) -> Result<Option<Span>, A
     ensures some { IfOk result (λ found. IfSome found (λ _. HasDistinctNames (bare_items items.now) → ⊥)) }
     ensures place { IfOk result (λ found. IfSome found (λ span. (again : Printed) × PrintsAgain items.now again × (span ≡ again.name.span))) }
 {
-    let mut names = IndexSet::with_capacity(alloc, items.len())?;
+    if items.len() < 2 {
+        return Ok(None);
+    }
+    let mut names = Names::with_capacity_and_hasher(alloc, items.len(), BuildHasherDefault::new())?;
     for item in items {
         let (_, is_new) = names.insert_full(item.name.text)?;
         if !is_new {

@@ -3,14 +3,14 @@ ghost use Rattle.std.specs.Prelude.{◌≡◌, ◌≢◌, ℕ, ◌+◌, ◌≤�
 ghost use Rattle.fz_stream.specs.declared.held.Ended.{Ended};
 ghost use Rattle.fz_stream.specs.Broken.{IsBrokenAfter, IsBrokenAtEndAfter};
 ghost use Rattle.fz_stream.specs.Faults.{IsFaultWithin};
-ghost use Rattle.fz_stream.specs.Keeping.{Keeps, HasLine, IsHeld, GoesOnHolding, EndsPart, BreaksBlock, CanBeRead, KeepsAll, TakesPart, EndsOpen, EndsStream, held_while};
+ghost use Rattle.fz_stream.specs.Keeping.{Keeps, HasLine, IsHeld, GoesOnHolding, EndsPart, BreaksBlock, IsKept, KeepsAll, TakesPart, EndsOpen, EndsStream, held_while};
 ghost use Rattle.fz_stream.specs.Lines.{Line};
 ghost use Rattle.fz_stream.specs.Parts.{StreamPart};
 ghost use Rattle.fz_stream.specs.Splitting.{PassesLimit, most_held, most_taken};
 ghost use Rattle.fz_stream.specs.Step.{begun_of, IsLineFault};
 
-use crate::block::read_block;
 use crate::error::StreamError;
+use crate::kept::{KeptItem, read_kept};
 use crate::line::{ClaimKind, first_line, line_kind};
 use crate::step::{Step, after_line};
 use fz_syntax::Span;
@@ -37,6 +37,8 @@ pub struct Held {
     pub line: usize,
     /// How many bytes of the stream stand before the buffer.
     pub before: usize,
+    /// The items of the block that ended last.
+    pub kept: Vec<KeptItem>,
 }
 
 /// Where the open block begins, whose whole lines have this length.
@@ -57,6 +59,7 @@ fn end_line(alloc: Global, held: &mut Held) -> Result<Option<Ended>, StreamError
     ensures goes_on { IfOk result (λ r. r ≡ None → (body : List Line) (line : Line) → HasLine held.old body line → GoesOnHolding held.old held.new body line) }
     ensures ends { IfOk result (λ r. (ended : Ended) → r ≡ Some ended → (body : List Line) (line : Line) → HasLine held.old body line → EndsPart held.new body line ended) }
     ensures same { IfOk result (λ r. IsSome r → (held.new.buffer.items ≡ held.old.buffer.items) × (held.new.line ≡ held.old.line)) }
+    ensures kept { IfOk result (λ r. IsKept r held.new) }
     ensures breaks { IfErr result (λ e. e ≢ StreamError.Memory → (body : List Line) (line : Line) → HasLine held.old body line → BreaksBlock held.old.before body line e) }
     ensures fault { IfErr result IsLineFault }
     ensures place { IfErr result (IsFaultWithin (held.old.before + length held.old.buffer.items)) }
@@ -77,7 +80,7 @@ fn end_line(alloc: Global, held: &mut Held) -> Result<Option<Ended>, StreamError
         }
         Step::EndsBlock(_) => {
             let line = held.line;
-            let _ = read_block(alloc, held.before, &held.buffer[..line])?;
+            held.kept = read_kept(alloc, held.before, &held.buffer[..line])?;
             Ok(Some(Ended::BlockEnded))
         }
         Step::Claims(kind) => Ok(Some(Ended::ClaimEnded(kind))),
@@ -120,7 +123,7 @@ pub fn take_bytes(
     ensures all { IfOk result (λ r. r.1 ≡ None → KeepsAll held.old held.new piece.now r.0) }
     ensures part { IfOk result (λ r. (ended : Ended) → r.1 ≡ Some ended → (bytes : List ℕ) (parts : List StreamPart) → Keeps bytes parts held.old.buffer.items →
         held.old.before + length held.old.buffer.items ≡ length bytes → TakesPart held.new bytes (take r.0 piece.now) parts ended) }
-    ensures readable { IfOk result (λ r. CanBeRead r.1 (take held.new.line held.new.buffer.items)) }
+    ensures kept { IfOk result (λ r. IsKept r.1 held.new) }
     ensures broken { IfErr result (λ e. e ≢ StreamError.Memory → e ≢ StreamError.TooLong →
         (bytes : List ℕ) (parts : List StreamPart) → Keeps bytes parts held.old.buffer.items →
         held.old.before + length held.old.buffer.items ≡ length bytes → IsBrokenAfter (bytes ++ piece.now) parts e) }
@@ -162,7 +165,7 @@ fn end_last_line(alloc: Global, held: &mut Held) -> Result<Option<Ended>, Stream
         held.old.before + length held.old.buffer.items ≡ length bytes → EndsOpen held.new bytes parts) }
     ensures ends { IfOk result (λ r. (ended : Ended) → r ≡ Some ended → (bytes : List ℕ) (parts : List StreamPart) → Keeps bytes parts held.old.buffer.items →
         held.old.before + length held.old.buffer.items ≡ length bytes → EndsStream held.new bytes parts (Some ended)) }
-    ensures readable { IfOk result (λ r. CanBeRead r (take held.new.line held.new.buffer.items)) }
+    ensures kept { IfOk result (λ r. IsKept r held.new) }
     ensures broken { IfErr result (λ e. e ≢ StreamError.Memory → (bytes : List ℕ) (parts : List StreamPart) → Keeps bytes parts held.old.buffer.items →
         held.old.before + length held.old.buffer.items ≡ length bytes → IsBrokenAtEndAfter bytes parts e) }
     ensures fault { IfErr result IsLineFault }
@@ -185,7 +188,7 @@ pub fn end_stream(alloc: Global, held: &mut Held) -> Result<Option<Ended>, Strea
     ensures shorter { length held.new.buffer.items ≤ length held.old.buffer.items }
     ensures ends { IfOk result (λ r. (bytes : List ℕ) (parts : List StreamPart) → Keeps bytes parts held.old.buffer.items →
         held.old.before + length held.old.buffer.items ≡ length bytes → EndsStream held.new bytes parts r) }
-    ensures readable { IfOk result (λ r. CanBeRead r (take held.new.line held.new.buffer.items)) }
+    ensures kept { IfOk result (λ r. IsKept r held.new) }
     ensures broken { IfErr result (λ e. e ≢ StreamError.Memory → (bytes : List ℕ) (parts : List StreamPart) → Keeps bytes parts held.old.buffer.items →
         held.old.before + length held.old.buffer.items ≡ length bytes → IsBrokenAtEndAfter bytes parts e) }
     ensures fault { IfErr result IsLineFault }

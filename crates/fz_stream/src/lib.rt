@@ -3,7 +3,9 @@
 
 mod block;
 mod error;
+mod hashing;
 mod held;
+mod kept;
 mod line;
 mod reading;
 mod splitter;

@@ -1,6 +1,6 @@
 ghost use Rattle.std.specs.Prelude.{◌≡◌, reverse, ◌∷◌, length, ◌<◌, ◌≤◌, take, drop, ◌==◌, position};
 ghost use Rattle.fz_syntax.specs.Byte.{is_blank};
-ghost use Rattle.fz_stream.specs.Lines.{kind_of, lines_of, skip_blanks, trimmed};
+ghost use Rattle.fz_stream.specs.Lines.{kind_of, kind_of_words, lines_of, skip_blanks};
 
 use memchr::memchr;
 
@@ -65,40 +65,45 @@ fn before_blanks(line: &[u8]) -> &[u8]
     rest
 }
 
-/// A line without the blanks at its ends.
-fn trim(line: &[u8]) -> &[u8]
-    ensures { result.now ≡ trimmed line.now }
+/// What a line without blanks at its ends is that begins with a sign.
+fn kind_by_words(words: &[u8]) -> LineKind
+    ensures { result ≡ kind_of_words words.now }
 {
-    before_blanks(after_blanks(line))
-}
-
-#[tactic(auto, unfolding(crate::specs::Lines::kind_of))]
-pub fn line_kind(line: &[u8]) -> LineKind
-    ensures { result ≡ kind_of line.now }
-{
-    let text = trim(line);
-    if text.is_empty() {
-        return LineKind::Blank;
-    }
-    if text[0] == b'%' {
-        return LineKind::Comment;
-    }
-    if text == b"----------".as_slice() {
+    if words == b"----------".as_slice() {
         LineKind::Marker
-    } else if text == b"==========".as_slice() {
+    } else if words == b"==========".as_slice() {
         LineKind::Claim(ClaimKind::Complete)
-    } else if text == b"=====UNSATISFIABLE=====".as_slice() {
+    } else if words == b"=====UNSATISFIABLE=====".as_slice() {
         LineKind::Claim(ClaimKind::Unsatisfiable)
-    } else if text == b"=====UNKNOWN=====".as_slice() {
+    } else if words == b"=====UNKNOWN=====".as_slice() {
         LineKind::Claim(ClaimKind::Unknown)
-    } else if text == b"=====UNBOUNDED=====".as_slice() {
+    } else if words == b"=====UNBOUNDED=====".as_slice() {
         LineKind::Claim(ClaimKind::Unbounded)
-    } else if text == b"=====UNSATorUNBOUNDED=====".as_slice() {
+    } else if words == b"=====UNSATorUNBOUNDED=====".as_slice() {
         LineKind::Claim(ClaimKind::UnsatOrUnbounded)
-    } else if text == b"=====ERROR=====".as_slice() {
+    } else if words == b"=====ERROR=====".as_slice() {
         LineKind::Claim(ClaimKind::Error)
     } else {
         LineKind::Item
+    }
+}
+
+/// What a line is. Most lines are items, and begin with a letter: their first byte tells it.
+pub fn line_kind(line: &[u8]) -> LineKind
+    ensures { result ≡ kind_of line.now }
+{
+    let text = after_blanks(line);
+    match text {
+        [] => LineKind::Blank,
+        [first, ..] => {
+            if *first == b'%' {
+                LineKind::Comment
+            } else if *first == b'-' || *first == b'=' {
+                kind_by_words(before_blanks(text))
+            } else {
+                LineKind::Item
+            }
+        }
     }
 }
 

@@ -4,9 +4,10 @@ ghost use Rattle.fz_stream.specs.Faults.{IsStreamFault, IsFaultWithin};
 ghost use Rattle.fz_stream.specs.Parts.{StreamPart};
 ghost use Rattle.fz_stream.specs.Splitting.{Fits, Fed, PassesLimit, EndsWith, Lends, IsPartOfItems, parts_of, most_held, most_taken};
 
-use crate::block::{Block, read_block};
+use crate::block::Block;
 use crate::error::StreamError;
 use crate::held::{Ended, Held, drop_part, end_stream, take_bytes};
+use crate::kept::kept_block;
 use crate::line::ClaimKind;
 use std::alloc::Global;
 use std::marker::Model;
@@ -62,6 +63,7 @@ impl Splitter {
                 buffer: Vec::new(alloc),
                 line: 0,
                 before: 0,
+                kept: Vec::new(alloc),
             },
             ended: None,
             stage: Stage::Running,
@@ -99,7 +101,7 @@ impl Splitter {
             Some(Ended::ClaimEnded(kind)) => Ok(Some(Part::Claim(kind))),
             Some(Ended::BlockEnded) => {
                 let text = &self.held.buffer[..self.held.line];
-                match read_block(self.alloc, self.held.before, text) {
+                match kept_block(self.alloc, self.held.before, text, &self.held.kept) {
                     Ok(block) => Ok(Some(Part::Block(block))),
                     Err(_) => Err(StreamError::Memory),
                 }

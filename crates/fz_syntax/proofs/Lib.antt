@@ -18,6 +18,7 @@ pub mod TreeAgain
 pub mod PrintedLaws
 pub mod IndexSets
 pub mod More
+pub mod Listed
 pub mod Walks
 pub mod Folds
 pub mod PrintSteps

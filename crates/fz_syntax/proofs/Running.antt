@@ -1,5 +1,5 @@
 -- What the parser's loops keep.
-use Rattle.std.proofs.Common.{◌≡◌, ◌+◌, ℕ, suc, Bool, true, false, List, [], ◌∷◌, ◌++◌, length, map, Ok, Err, refl, sym, ap, subst, ◌∙◌, arith, length-append}
+use Rattle.std.proofs.Common.{◌≡◌, ◌+◌, ℕ, suc, Bool, true, false, cond, drop, List, [], ◌∷◌, ◌++◌, length, map, Ok, Err, refl, sym, ap, subst, ◌∙◌, arith, length-append}
 use Rattle.std.proofs.lemmas.List.{map_push}
 use Rattle.fz_syntax.specs.declared.parser.refusal.Refusal.{Refusal}
 use Rattle.fz_lex.specs.declared.token.Mark.{Mark}
@@ -42,6 +42,33 @@ stops e m part front before after left all i at b wanted tested taken c h =
 pub is_whole_list : {A : Type 0} (m : Mark) (part : ℕ → Reader A) (front : List A) (before after : List TokenValue) (all : Read (List A)) (b : Bool) → b ≡ false → b ≡ next_is m before → Taken m before after
     → Continues m part front before all → all ≡ Ok (front, after)
 is_whole_list m part front before after all b wanted tested taken c = marked_ends m part front (length front) before after all (sym tested ∙ wanted) taken c.so_far
+
+-- The parts so far are all but those from here on: the mark was taken behind which the next one stands.
+pub record Awaits {A : Type 0} (m : Mark) (part : ℕ → Reader A) (front : List A) (tokens : List TokenValue) (all : Read (List A)) : Type 0 where
+  pub before : List TokenValue
+  pub marked : next_is m before ≡ true
+  pub taken : Taken m before tokens
+  pub so_far : Continues m part front before all
+
+-- the mark is taken
+pub awaits_first : {A : Type 0} (m : Mark) (part : ℕ → Reader A) (front : List A) (before after : List TokenValue) (all : Read (List A)) (b : Bool) → b ≡ true → b ≡ next_is m before → Taken m before after
+    → Continues m part front before all → Awaits m part front after all
+awaits_first m part front before after all b wanted tested taken c = record { before = before; marked = sym tested ∙ wanted; taken = taken; so_far = c }
+
+-- the part is read
+pub awaits_part : {A : Type 0} (m : Mark) (part : ℕ → Reader A) → Shrinks part → (front items : List A) (after : List TokenValue) (x : A) (rest : List TokenValue) (all : Read (List A)) → (i : ℕ) → i ≡ length front → items ≡ front ++ x ∷ []
+    → part i after ≡ Ok (x, rest) → Awaits m part front after all → Continues m part items rest all
+awaits_part m part shrinks front items after x rest all i at grew found a = keeps_on m part shrinks front items a.before after x rest all i at grew true refl (sym a.marked) a.taken found a.so_far
+
+pub awaits_fails : {A : Type 0} (e : Refusal) (m : Mark) (part : ℕ → Reader A) (front : List A) (after left : List TokenValue) (all : Read (List A)) (i : ℕ) → i ≡ length front
+    → Awaits m part front after all → Fails e (part i after) left → Fails e all left
+awaits_fails e m part front after left all i at a h = stops e m part front a.before after left all i at true refl (sym a.marked) a.taken a.so_far h
+
+-- the part is read, and the mark behind it is taken
+pub awaits_more : {A : Type 0} (m : Mark) (part : ℕ → Reader A) → Shrinks part → (front items : List A) (after : List TokenValue) (x : A) (rest : List TokenValue) (all : Read (List A)) → (i : ℕ) → i ≡ length front → items ≡ front ++ x ∷ [] → next_is m rest ≡ true
+    → part i after ≡ Ok (x, rest) → Awaits m part front after all → Awaits m part items (drop 1 rest) all
+awaits_more m part shrinks front items after x rest all i at grew marked found a =
+    record { before = rest; marked = marked; taken = sym (ap (λ b. cond b (drop 1 rest) rest) marked); so_far = awaits_part m part shrinks front items after x rest all i at grew found a }
 
 pub length_seen : {A B : Type 0} (view : A → B) (xs : List A) → length xs ≡ length (map view xs)
 length_seen view [] = refl

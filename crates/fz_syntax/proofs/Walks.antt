@@ -9,7 +9,8 @@ use Rattle.std.proofs.lemmas.List.Concat.{flat_map-cons}
 use Rattle.std.proofs.lemmas.Grind.{flat_map-append}
 use Rattle.fz_lex.specs.Token.{Spells}
 use Rattle.fz_lex.specs.Lexing.{SpannedToken, AreInOrder}
-use Rattle.fz_lex.specs.Left.{source_of}
+use Rattle.fz_lex.specs.Left.{listed_token, listed_comma, source_of}
+use Rattle.fz_lex.specs.declared.ahead.ListedWhole.{ListedWhole}
 use Rattle.fz_lex.specs.View.{token_value, spanned, IsSpelledAtSpan}
 use Rattle.fz_lex.specs.declared.token.TokenKind.{TokenKind}
 use Rattle.fz_lex.specs.declared.token.TokenKind.TheVariants as kinds
@@ -94,6 +95,30 @@ skip_began p q t rest before after upto same = record {
       let order : AreInOrder p.reached (length source) (t ∷ rest) = subst (AreInOrder p.reached (length source)) before laid.order in
       let at : start_of (ahead p) p.end ≡ t.start = ap (λ ts. start_of ts p.end) before in
       (omega (arith, order.0, at), omega (arith, order.1, upto, at));
+}
+
+-- no token is taken
+pub walk_still : (p q : Parser) → ahead q ≡ ahead p → q.reached ≡ p.reached → source_of q.tokens ≡ source_of p.tokens → Walk p q []
+walk_still p q left upto same = record {
+  stand = λ source laid. omega (arith, upto);
+  laid = λ source laid. record {
+    order = subst (λ n. AreInOrder n (length source) (ahead q)) (sym upto) (subst (AreInOrder p.reached (length source)) (sym left) laid.order);
+    texts = subst (AllByRecursion (IsSpelledAtSpan source)) (sym left) laid.texts;
+  };
+  same_source = same;
+}
+
+-- the first two tokens are taken, a number as a literal and the comma behind it
+pub number_walk : (p q : Parser) (w : ListedWhole) (l : Literal) → ahead p ≡ listed_token w ∷ (listed_comma w ∷ ahead q) → q.reached ≡ w.comma.end → source_of q.tokens ≡ source_of p.tokens → l.span.start ≡ w.span.start → l.span.end ≡ w.span.end → Walk p q (literal_spots l)
+number_walk p q w l before upto same start end = record {
+  stand = λ source laid.
+      let order : AreInOrder p.reached (length source) (listed_token w ∷ (listed_comma w ∷ ahead q)) = subst (AreInOrder p.reached (length source)) before laid.order in
+      (omega (arith, order.0, start), omega (arith, order.1, start, end), tt, omega (arith, order.2.0, order.2.1, upto, end));
+  laid = λ source laid.
+      let order : AreInOrder p.reached (length source) (listed_token w ∷ (listed_comma w ∷ ahead q)) = subst (AreInOrder p.reached (length source)) before laid.order in
+      let texts : AllByRecursion (IsSpelledAtSpan source) (listed_token w ∷ (listed_comma w ∷ ahead q)) = subst (AllByRecursion (IsSpelledAtSpan source)) before laid.texts in
+      record { order = subst (λ n. AreInOrder n (length source) (ahead q)) (sym upto) order.2.2; texts = texts.1.1 };
+  same_source = same;
 }
 
 -- a word has its text where it stands

@@ -1,10 +1,12 @@
 -- Of the code; a reader of the contracts need not believe this file. What a method of the parser returned, held against what reading gives.
-use Rattle.std.specs.Prelude.{◌≡◌, if◌then◌else◌, List, Result, Ok, Err}
+use Rattle.std.specs.Prelude.{◌≡◌, if◌then◌else◌, List, ◌∷◌, Result, Ok, Err}
 use Rattle.fz_lex.specs.declared.error.SyntaxError.{SyntaxError}
 use Rattle.fz_lex.specs.declared.error.SyntaxError.TheVariants as errors
 use Rattle.fz_syntax.specs.declared.parser.refusal.Refusal.{Refusal}
 use Rattle.fz_syntax.specs.declared.parser.refusal.Refusal.TheVariants as refusals
-use Rattle.fz_lex.specs.Token.{TokenValue}
+use Rattle.fz_lex.specs.Token.{TokenValue, Whole, Marked}
+use Rattle.fz_lex.specs.declared.token.Mark.TheVariants.{Comma}
+use Rattle.fz_syntax.specs.Tree.{Literal, Number}
 use Rattle.fz_syntax.specs.Reading.{FaultKind, Syntax, Float, TooDeep, TooMany, Fault, Read, is_float, next_passes}
 
 -- an error is this fault's
@@ -54,3 +56,8 @@ abbrev pub IsWhole : {X A : Type 0} → (X → A) → Result X SyntaxError → R
 IsWhole view (Ok x) read = read ≡ Ok (view x)
 IsWhole view (Err errors.Memory) read = Unit {0}
 IsWhole view (Err e) read = (f : Fault) × (read ≡ Err f) × IsFault e f.kind
+
+-- the literal is a number and the first token, a comma is the second, and behind them stand the tokens after
+abbrev pub IsListed : Literal → List TokenValue → List TokenValue → Type 0
+IsListed (Number z) before after = before ≡ Whole z ∷ (Marked Comma ∷ after)
+IsListed _ before after = ⊥

@@ -40,6 +40,7 @@ impl Known {
     }
 
     /// The kinds of the arguments that a constraint needs to have.
+    #[inline]
     pub fn shapes(self) -> &'static [Shape]
         ensures { map shape_of result.now ≡ (known_row self).shapes }
     {

@@ -74,6 +74,7 @@ const ALONE: bool = false;
 impl Builtin {
     // The row of the table.
     #[tactic(auto, unfolding(crate::specs::Known::name_of, crate::specs::Known::row_at))]
+    #[inline(always)]
     pub(crate) fn base_row(self) -> BaseRow
         ensures { IsData result (row_at self) }
     {

@@ -1,8 +1,8 @@
 //! Literals, names and lists of them.
 
-ghost use Rattle.std.specs.Prelude.{◌≡◌, ◌≤◌, length, IfOk, []};
+ghost use Rattle.std.specs.Prelude.{◌≡◌, ◌<◌, ◌≤◌, length, IfOk, IfSome, IfNone, []};
 ghost use Rattle.fz_syntax.specs.View.{bare_literal, bare_expression, bare_expressions, bare_expr};
-ghost use Rattle.fz_syntax.specs.Outcome.{Gives};
+ghost use Rattle.fz_syntax.specs.Outcome.{Gives, IsListed};
 ghost use Rattle.fz_syntax.specs.Reading.{mark_at, whole_at, is_whole, begins_literal, begins_basic, at_most, separated_at, braces_at, from_whole, literal_at, basic_at, expr_list_at, expr_at, list_at, literal_basic_at};
 ghost use Rattle.fz_lex.specs.declared.token.Mark.TheVariants.{CloseBracket};
 ghost use Rattle.fz_syntax.specs.Shape.{the_limits};
@@ -17,6 +17,29 @@ use crate::tree::{Basic, Expr, Literal, LiteralKind};
 use fz_lex::Mark;
 
 impl<'a> Parser<'a> {
+    /// Takes a number and the comma behind it, as an element of a list, where they are next and nothing stands between
+    /// them. Long lists are mostly such.
+    #[inline(always)]
+    pub(crate) fn eat_listed(&mut self) -> Option<Literal>
+        ensures read { IfSome result (λ l. IsListed (bare_literal l) (lexemes self.old) (lexemes self.new)) }
+        ensures shorter { IfSome result (λ _. length (lexemes self.new) < length (lexemes self.old)) }
+        ensures end { self.new.end ≡ self.old.end }
+        ensures walked { IfSome result (λ l. Walk self.old self.new (literal_spots l)) }
+        ensures kept { IfNone result (lexemes self.new ≡ lexemes self.old) }
+        ensures stays { IfNone result (Walk self.old self.new []) }
+    {
+        match self.tokens.take_listed() {
+            Some(listed) => {
+                self.reached = listed.comma.end;
+                Some(Literal {
+                    span: listed.span,
+                    what: LiteralKind::Whole(listed.value),
+                })
+            }
+            None => None,
+        }
+    }
+
     /// A number of a list that has `count` so far.
     #[inline(always)]
     pub(crate) fn listed_whole(&mut self, count: usize) -> Result<i64, Refusal>

@@ -86,6 +86,13 @@ impl<'a> Parser<'a> {
         let mut elements = Vec::new(self.alloc);
         elements.push(self.listed_element(0)?)?;
         while self.eat(Mark::Comma) {
+            // Numbers with a comma right behind them, as nearly all elements are.
+            'numbers: while elements.len() < MAX_ELEMENTS {
+                let Some(number) = self.eat_listed() else {
+                    break;
+                };
+                elements.push(number)?;
+            }
             let element = self.listed_element(elements.len())?;
             elements.push(element)?;
         }

@@ -3,7 +3,7 @@ use Rattle.fz_model.specs.Meaning.{points}
 use Rattle.fz_model.specs.Shown.{point_name}
 use Rattle.fz_judge.specs.View.{reason_view}
 use Rattle.fz_judge.proofs.Lists.{not_some, seen_is_some}
-use Rattle.fz_judge.proofs.Verdicts.{point_violates, point_passes, reason_here, reason_before}
+use Rattle.fz_judge.proofs.Verdicts.{held_passes, held_decided, point_violates, point_passes, reason_here, reason_before}
 use Rattle.fz_judge.proofs.points.points_verdict.Goals.{then-is_none, else-is_none}
 use Rattle.fz_judge.proofs.points.points_verdict.Goals as goal
 
@@ -11,6 +11,15 @@ pub returns-then-is_failed : goal.returns-then-is_failed
 returns-then-is_failed c =
     let within : c.loop-number.number < length (points c.args.model.now) = omega (arith, c.points-number-end.ensures.counted, c.loop-number-test.true) in
     point_violates c.args.model.now c.args.partial.now c.loop-number.number c.in_ok-found.found (point_name c.point-point.result) within c.in_ok-found.ensures.exact c.point-point.ensures.told _ c.loop-number.invariant.none_fails (sym c.is_failed.ensures ∙ c.if-is_failed.true) c.fault_named.ensures
+
+pub loop-number-preserved-then-holds : goal.loop-number-preserved-then-holds
+loop-number-preserved-then-holds c =
+    let within : c.loop-number.number < length (points c.args.model.now) = omega (arith, c.points-number-end.ensures.counted, c.loop-number-test.true) in
+    let held = sym c.holds.ensures ∙ c.if-holds.true in
+    record {
+      none_fails = held_passes c.args.model.now c.args.partial.now c.loop-number.number c.in_ok-found.found within c.in_ok-found.ensures.exact held c.loop-number.invariant.none_fails;
+      undecided = held_decided c.args.model.now c.args.partial.now c.loop-number.number c.in_ok-found.found within c.in_ok-found.ensures.exact held _ c.loop-number.invariant.undecided;
+    }
 
 pub loop-number-preserved : goal.loop-number-preserved
 loop-number-preserved c =

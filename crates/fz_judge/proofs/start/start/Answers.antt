@@ -1,18 +1,24 @@
-use Rattle.std.proofs.Common.{refl, sym, ap, subst, take, ◌∙◌}
+use Rattle.std.proofs.Common.{◌≡◌, ◌+◌, ◌&&◌, refl, sym, ap, subst, take, ◌∙◌}
 use Rattle.std.proofs.lemmas.Result.{err_from_is_err_and}
 use Rattle.fz_model.specs.Meaning.{IsPartial, variables_of}
+use Rattle.fz_model.specs.Partial.{nothing_for}
 use Rattle.fz_verdict.specs.Blocks.{printed_fault}
 use Rattle.fz_verdict.specs.Filling.{printed_scalars, start_from}
 use Rattle.fz_verdict.specs.View.{located_items, located_printed}
+use Rattle.fz_judge.specs.Working.{agree_all, item_scalars}
+use Rattle.fz_judge.proofs.Agreeing.{agree_item_more, and_true}
 use Rattle.fz_judge.proofs.Lists.{first_more, take_one_more}
+use Rattle.fz_judge.proofs.Printing.{and_false}
 use Rattle.fz_judge.proofs.Refusing.{tells_stop}
 use Rattle.fz_judge.proofs.Starting.{nothing_fits, start_item_more, starts_with_nothing}
+use Rattle.fz_judge.proofs.start.start.Goals.{then-not-branch, else-not-branch}
 use Rattle.fz_judge.proofs.start.start.Goals as goal
 
 pub loop-item-init : goal.loop-item-init
 loop-item-init c = record {
   started = c.in_ok-partial.ensures.empty ∙ starts_with_nothing c.args.model.now;
   kinds = subst (IsPartial c.args.model.now) (sym c.in_ok-partial.ensures.empty) (nothing_fits c.args.model.now);
+  agree = refl;
   clean = refl;
 }
 
@@ -22,9 +28,20 @@ returns-in_err-set_item-clause-told c =
     rw (p.1, p.2) (tells_stop (printed_fault c.args.model.now) located_printed c.args.items.now c.loop-item.item-index c.item-item.result _ c.loop-item-test.true c.item-item.is c.loop-item.invariant.clean c.in_err-set_item.ensures.told)
 
 pub loop-item-preserved : goal.loop-item-preserved
-loop-item-preserved c = record {
-  started = start_item_more c.args.model.now (located_items (take c.loop-item.item-index c.args.items.now)) (located_printed c.item-item.result) c.loop-item.partial c.set_item.new.partial c.loop-item.invariant.started c.in_ok-set_item.ensures.given
-      ∙ ap (λ xs. start_from (printed_scalars c.args.model.now xs) 0 (variables_of c.args.model.now)) (sym (take_one_more located_printed c.args.items.now c.loop-item.item-index c.item-item.result c.loop-item-test.true c.item-item.is));
-  kinds = c.in_ok-set_item.ensures.kinds;
-  clean = first_more (printed_fault c.args.model.now) located_printed c.args.items.now c.loop-item.item-index c.item-item.result c.loop-item-test.true c.item-item.is c.loop-item.invariant.clean c.in_ok-set_item.ensures.clean;
-}
+loop-item-preserved c =
+    let m = c.args.model.now in
+    let before = located_items (take c.loop-item.item-index c.args.items.now) in
+    let more = take_one_more located_printed c.args.items.now c.loop-item.item-index c.item-item.result c.loop-item-test.true c.item-item.is in
+    let both : agree_all (nothing_for m) (printed_scalars m (located_items (take (c.loop-item.item-index + 1) c.args.items.now))) ≡ (c.loop-item.agrees && c.in_ok-set_item.field-0) =
+    ap (λ xs. agree_all (nothing_for m) (printed_scalars m xs)) more ∙ agree_item_more m before (located_printed c.item-item.result) c.loop-item.partial c.loop-item.invariant.started
+    ∙ ap (λ a. a && agree_all c.loop-item.partial (item_scalars m (located_printed c.item-item.result))) (sym c.loop-item.invariant.agree) ∙ ap (λ b. c.loop-item.agrees && b) (sym c.in_ok-set_item.ensures.agrees) in
+    record {
+      started = start_item_more m before (located_printed c.item-item.result) c.loop-item.partial c.set_item.new.partial c.loop-item.invariant.started c.in_ok-set_item.ensures.given
+          ∙ ap (λ xs. start_from (printed_scalars m xs) 0 (variables_of m)) (sym more);
+      kinds = c.in_ok-set_item.ensures.kinds;
+      agree = elim c.if-not-branch.branch [
+        | then-not-branch w ↦ w.agrees-is ∙ sym (both ∙ ap (λ b. c.loop-item.agrees && b) w.if-not-branch.true ∙ and_false c.loop-item.agrees)
+        | else-not-branch w ↦ w.agrees-is ∙ sym (both ∙ ap (λ b. c.loop-item.agrees && b) w.if-not-branch.false ∙ and_true c.loop-item.agrees)
+      ];
+      clean = first_more (printed_fault m) located_printed c.args.items.now c.loop-item.item-index c.item-item.result c.loop-item-test.true c.item-item.is c.loop-item.invariant.clean c.in_ok-set_item.ensures.clean;
+    }

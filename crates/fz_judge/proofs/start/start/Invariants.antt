@@ -1,13 +1,16 @@
 use Rattle.std.proofs.Common.{◌≡◌, None, take}
 use Rattle.fz_model.specs.Meaning.{IsPartial, variables_of}
+use Rattle.fz_model.specs.Partial.{nothing_for}
 use Rattle.fz_verdict.specs.Blocks.{items_fault}
 use Rattle.fz_verdict.specs.Filling.{printed_scalars, start_from}
 use Rattle.fz_verdict.specs.View.{located_items}
+use Rattle.fz_judge.specs.Working.{agree_all}
 use Rattle.fz_judge.proofs.start.start.Given as goal
 
 abbrev pub invariant-loop-item : goal.invariant-loop-item
 invariant-loop-item l = record {
   started : l.partial ≡ start_from (printed_scalars l.model (located_items (take l.item-index l.items))) 0 (variables_of l.model);
   kinds : IsPartial l.model l.partial;
+  agree : l.agrees ≡ agree_all (nothing_for l.model) (printed_scalars l.model (located_items (take l.item-index l.items)));
   clean : items_fault l.model (located_items (take l.item-index l.items)) ≡ None;
 }

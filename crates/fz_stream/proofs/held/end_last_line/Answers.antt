@@ -1,5 +1,5 @@
 use Rattle.std.proofs.Common.{◌<◌, length, arith}
-use Rattle.fz_stream.proofs.LastLemmas.{ends_open_without, all_goes_on, all_ends, all_readable, all_broken}
+use Rattle.fz_stream.proofs.LastLemmas.{ends_open_without, all_goes_on, all_ends, all_broken}
 use Rattle.fz_stream.proofs.held.end_last_line.Goals as goal
 
 pub returns-then-held-len-clause-goes_on : goal.returns-then-held-len-clause-goes_on
@@ -14,11 +14,6 @@ pub returns-clause-ends : goal.returns-clause-ends
 returns-clause-ends c =
     let some : c.args.held.now.line < length c.args.held.now.buffer.items = omega (arith, c.args.held.now.buffer.ok.0) in
     all_ends c.args.held.now c.end_line.new.held c.requires.held some c.end_line.result c.end_line.ensures.taken c.end_line.ensures.same c.end_line.ensures.ends
-
-pub returns-clause-readable : goal.returns-clause-readable
-returns-clause-readable c =
-    let some : c.args.held.now.line < length c.args.held.now.buffer.items = omega (arith, c.args.held.now.buffer.ok.0) in
-    all_readable c.args.held.now c.end_line.new.held c.requires.held some c.end_line.result c.end_line.ensures.ends
 
 pub returns-clause-broken : goal.returns-clause-broken
 returns-clause-broken c =

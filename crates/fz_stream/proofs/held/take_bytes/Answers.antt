@@ -1,7 +1,7 @@
 use Rattle.std.proofs.Common.{◌≡◌, ℕ, ◌+◌, ◌≤◌, ◌^◌, ◌-◌, inl, inr, List, length, ap, ◌∙◌, refl, arith, Some, is_some}
 use Rattle.std.proofs.lemmas.List.{take_rest}
 use Rattle.std.proofs.lemmas.Result.{err_from_is_err_and}
-use Rattle.fz_stream.proofs.TakeLemmas.{taking_begun, taking_line, takes_part, takes_broken, passes_limit, lines_mid, ends_readable}
+use Rattle.fz_stream.proofs.TakeLemmas.{taking_begun, taking_line, takes_part, takes_broken, passes_limit, lines_mid}
 use Rattle.fz_stream.proofs.held.take_bytes.Goals as goal
 use Rattle.fz_stream.proofs.held.take_bytes.Goals.{then-part-room-via-then-part-room, then-part-room-via-else-part-room+then-part-left}
 
@@ -15,40 +15,33 @@ pub loop-at-preserved : goal.loop-at-preserved
 loop-at-preserved c =
     let room : length c.loop-at.held.buffer.items + length c.first_line-part.result.now ≤ 2 ^ 24 = omega arith in
     let over : c.loop-at.held.before + length c.loop-at.held.buffer.items + length c.first_line-part.result.now ≤ 2 ^ 40 = omega arith in
-    taking_begun c.args.held.now c.loop-at.held c.args.piece.now c.loop-at.at c.loop-at.invariant c.first_line-part.result.now _ (take_rest c.args.piece.now c.loop-at.at) c.first_line-part.ensures.front c.first_line-part.ensures.within c.first_line-part.ensures.some c.first_line-part.ensures.cut (record { buffer = c.extend_from_slice.new.self; line = c.loop-at.held.line; before = c.loop-at.held.before }) c.in_ok-extend_from_slice.ensures.items refl refl room over c.if-is_whole.false
+    taking_begun c.args.held.now c.loop-at.held c.args.piece.now c.loop-at.at c.loop-at.invariant c.first_line-part.result.now _ (take_rest c.args.piece.now c.loop-at.at) c.first_line-part.ensures.front c.first_line-part.ensures.within c.first_line-part.ensures.some c.first_line-part.ensures.cut (record { buffer = c.extend_from_slice.new.self; line = c.loop-at.held.line; before = c.loop-at.held.before; kept = c.loop-at.held.kept }) c.in_ok-extend_from_slice.ensures.items refl refl room over c.if-is_whole.false
 
 pub loop-at-preserved-in_default : goal.loop-at-preserved-in_default
 loop-at-preserved-in_default c =
     let room : length c.loop-at.held.buffer.items + length c.first_line-part.result.now ≤ 2 ^ 24 = omega arith in
     let over : c.loop-at.held.before + length c.loop-at.held.buffer.items + length c.first_line-part.result.now ≤ 2 ^ 40 = omega arith in
-    let l = lines_mid c.args.held.now c.loop-at.held c.args.piece.now c.loop-at.at c.loop-at.invariant c.first_line-part.result.now _ (take_rest c.args.piece.now c.loop-at.at) c.first_line-part.ensures.front c.first_line-part.ensures.within c.first_line-part.ensures.some c.first_line-part.ensures.cut (record { buffer = c.extend_from_slice.new.self; line = c.loop-at.held.line; before = c.loop-at.held.before }) c.in_ok-extend_from_slice.ensures.items refl refl room over in
-    taking_line c.args.held.now c.loop-at.held c.args.piece.now c.loop-at.at c.loop-at.invariant c.first_line-part.result.now _ (take_rest c.args.piece.now c.loop-at.at) c.first_line-part.ensures.front c.first_line-part.ensures.within c.first_line-part.ensures.some c.first_line-part.ensures.cut (record { buffer = c.extend_from_slice.new.self; line = c.loop-at.held.line; before = c.loop-at.held.before }) c.in_ok-extend_from_slice.ensures.items refl refl room over c.if-is_whole.true _
+    let l = lines_mid c.args.held.now c.loop-at.held c.args.piece.now c.loop-at.at c.loop-at.invariant c.first_line-part.result.now _ (take_rest c.args.piece.now c.loop-at.at) c.first_line-part.ensures.front c.first_line-part.ensures.within c.first_line-part.ensures.some c.first_line-part.ensures.cut (record { buffer = c.extend_from_slice.new.self; line = c.loop-at.held.line; before = c.loop-at.held.before; kept = c.loop-at.held.kept }) c.in_ok-extend_from_slice.ensures.items refl refl room over in
+    taking_line c.args.held.now c.loop-at.held c.args.piece.now c.loop-at.at c.loop-at.invariant c.first_line-part.result.now _ (take_rest c.args.piece.now c.loop-at.at) c.first_line-part.ensures.front c.first_line-part.ensures.within c.first_line-part.ensures.some c.first_line-part.ensures.cut (record { buffer = c.extend_from_slice.new.self; line = c.loop-at.held.line; before = c.loop-at.held.before; kept = c.loop-at.held.kept }) c.in_ok-extend_from_slice.ensures.items refl refl room over c.if-is_whole.true _
     c.in_ok-ended.ensures.line_after c.in_ok-ended.ensures.taken c.in_ok-ended.ensures.shorter (c.in_ok-ended.ensures.goes_on c.in_default.is _ _ l)
 
 pub returns-in-Some-clause-part : goal.returns-in-Some-clause-part
 returns-in-Some-clause-part c ended e bytes parts k size =
     let room : length c.loop-at.held.buffer.items + length c.first_line-part.result.now ≤ 2 ^ 24 = omega arith in
     let over : c.loop-at.held.before + length c.loop-at.held.buffer.items + length c.first_line-part.result.now ≤ 2 ^ 40 = omega arith in
-    let l = lines_mid c.args.held.now c.loop-at.held c.args.piece.now c.loop-at.at c.loop-at.invariant c.first_line-part.result.now _ (take_rest c.args.piece.now c.loop-at.at) c.first_line-part.ensures.front c.first_line-part.ensures.within c.first_line-part.ensures.some c.first_line-part.ensures.cut (record { buffer = c.extend_from_slice.new.self; line = c.loop-at.held.line; before = c.loop-at.held.before }) c.in_ok-extend_from_slice.ensures.items refl refl room over in
+    let l = lines_mid c.args.held.now c.loop-at.held c.args.piece.now c.loop-at.at c.loop-at.invariant c.first_line-part.result.now _ (take_rest c.args.piece.now c.loop-at.at) c.first_line-part.ensures.front c.first_line-part.ensures.within c.first_line-part.ensures.some c.first_line-part.ensures.cut (record { buffer = c.extend_from_slice.new.self; line = c.loop-at.held.line; before = c.loop-at.held.before; kept = c.loop-at.held.kept }) c.in_ok-extend_from_slice.ensures.items refl refl room over in
     let same : c.in-Some.ended ≡ ended = cc in
-    takes_part c.args.held.now c.loop-at.held c.args.piece.now c.loop-at.at c.loop-at.invariant c.first_line-part.result.now _ (take_rest c.args.piece.now c.loop-at.at) c.first_line-part.ensures.front c.first_line-part.ensures.within c.first_line-part.ensures.some c.first_line-part.ensures.cut (record { buffer = c.extend_from_slice.new.self; line = c.loop-at.held.line; before = c.loop-at.held.before }) c.in_ok-extend_from_slice.ensures.items refl refl room over c.if-is_whole.true _ ended c.in_ok-ended.ensures.taken (c.in_ok-ended.ensures.same (ap is_some c.in-Some.is)).0
+    takes_part c.args.held.now c.loop-at.held c.args.piece.now c.loop-at.at c.loop-at.invariant c.first_line-part.result.now _ (take_rest c.args.piece.now c.loop-at.at) c.first_line-part.ensures.front c.first_line-part.ensures.within c.first_line-part.ensures.some c.first_line-part.ensures.cut (record { buffer = c.extend_from_slice.new.self; line = c.loop-at.held.line; before = c.loop-at.held.before; kept = c.loop-at.held.kept }) c.in_ok-extend_from_slice.ensures.items refl refl room over c.if-is_whole.true _ ended c.in_ok-ended.ensures.taken (c.in_ok-ended.ensures.same (ap is_some c.in-Some.is)).0
     (c.in_ok-ended.ensures.ends ended (c.in-Some.is ∙ ap Some same) _ _ l) bytes parts k size
-
-pub returns-in-Some-clause-readable : goal.returns-in-Some-clause-readable
-returns-in-Some-clause-readable c =
-    let room : length c.loop-at.held.buffer.items + length c.first_line-part.result.now ≤ 2 ^ 24 = omega arith in
-    let over : c.loop-at.held.before + length c.loop-at.held.buffer.items + length c.first_line-part.result.now ≤ 2 ^ 40 = omega arith in
-    let l = lines_mid c.args.held.now c.loop-at.held c.args.piece.now c.loop-at.at c.loop-at.invariant c.first_line-part.result.now _ (take_rest c.args.piece.now c.loop-at.at) c.first_line-part.ensures.front c.first_line-part.ensures.within c.first_line-part.ensures.some c.first_line-part.ensures.cut (record { buffer = c.extend_from_slice.new.self; line = c.loop-at.held.line; before = c.loop-at.held.before }) c.in_ok-extend_from_slice.ensures.items refl refl room over in
-    ends_readable c.end_line.new.held _ _ c.in-Some.ended (c.in_ok-ended.ensures.ends c.in-Some.ended c.in-Some.is _ _ l)
 
 pub returns-in_err-ended-clause-broken : goal.returns-in_err-ended-clause-broken
 returns-in_err-ended-clause-broken c =
     let p = err_from_is_err_and c.from_residual-in_err-ended.result c.from_residual-in_err-ended.ensures.1 in
     let room : length c.loop-at.held.buffer.items + length c.first_line-part.result.now ≤ 2 ^ 24 = omega arith in
     let over : c.loop-at.held.before + length c.loop-at.held.buffer.items + length c.first_line-part.result.now ≤ 2 ^ 40 = omega arith in
-    let l = lines_mid c.args.held.now c.loop-at.held c.args.piece.now c.loop-at.at c.loop-at.invariant c.first_line-part.result.now _ (take_rest c.args.piece.now c.loop-at.at) c.first_line-part.ensures.front c.first_line-part.ensures.within c.first_line-part.ensures.some c.first_line-part.ensures.cut (record { buffer = c.extend_from_slice.new.self; line = c.loop-at.held.line; before = c.loop-at.held.before }) c.in_ok-extend_from_slice.ensures.items refl refl room over in
+    let l = lines_mid c.args.held.now c.loop-at.held c.args.piece.now c.loop-at.at c.loop-at.invariant c.first_line-part.result.now _ (take_rest c.args.piece.now c.loop-at.at) c.first_line-part.ensures.front c.first_line-part.ensures.within c.first_line-part.ensures.some c.first_line-part.ensures.cut (record { buffer = c.extend_from_slice.new.self; line = c.loop-at.held.line; before = c.loop-at.held.before; kept = c.loop-at.held.kept }) c.in_ok-extend_from_slice.ensures.items refl refl room over in
     rw (p.1, p.2) (λ known _ bytes parts k size.
-    takes_broken c.args.held.now c.loop-at.held c.args.piece.now c.loop-at.at c.loop-at.invariant c.first_line-part.result.now _ (take_rest c.args.piece.now c.loop-at.at) c.first_line-part.ensures.front c.first_line-part.ensures.within c.first_line-part.ensures.some c.first_line-part.ensures.cut (record { buffer = c.extend_from_slice.new.self; line = c.loop-at.held.line; before = c.loop-at.held.before }) c.in_ok-extend_from_slice.ensures.items refl refl room over c.if-is_whole.true _ (c.in_err-ended.ensures.breaks known _ _ l) bytes parts k size)
+    takes_broken c.args.held.now c.loop-at.held c.args.piece.now c.loop-at.at c.loop-at.invariant c.first_line-part.result.now _ (take_rest c.args.piece.now c.loop-at.at) c.first_line-part.ensures.front c.first_line-part.ensures.within c.first_line-part.ensures.some c.first_line-part.ensures.cut (record { buffer = c.extend_from_slice.new.self; line = c.loop-at.held.line; before = c.loop-at.held.before; kept = c.loop-at.held.kept }) c.in_ok-extend_from_slice.ensures.items refl refl room over c.if-is_whole.true _ (c.in_err-ended.ensures.breaks known _ _ l) bytes parts k size)
 
 pub returns-then-part-room-clause-too_long : goal.returns-then-part-room-clause-too_long
 returns-then-part-room-clause-too_long c _ bytes parts k size =

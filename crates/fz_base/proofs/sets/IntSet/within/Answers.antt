@@ -1,4 +1,4 @@
-use Rattle.std.proofs.Common.{FitsSigned, w64, refl, ◌∙◌}
+use Rattle.std.proofs.Common.{FitsSigned, w64, ◌∙◌}
 use Rattle.std.proofs.lemmas.Int.{to_z-of_z}
 use Rattle.fz_base.proofs.Covers.{covered_fits}
 use Rattle.fz_base.proofs.SetRelations.{seen, lies_within_is}
@@ -8,9 +8,9 @@ pub returns-clause-exact : goal.returns-clause-exact
 returns-clause-exact c =
     let low : FitsSigned w64 c.args.lo = c.ranges.lo in
     let high : FitsSigned w64 c.args.hi = c.ranges.hi in
-    lies_within_is c.args.self.now c.deref.result.now (seen c.args.self.now c.self.inside.ranges.items c.deref.result.now c.self.view_is c.deref.ensures.value)
+    lies_within_is c.args.self.now c.kept.result.now (seen c.args.self.now c.kept.result.now c.kept.ensures.same)
     c.args.lo c.args.hi c.lie_within.result (simp to_z-of_z at c.lie_within.ensures)
 
 pub returns-clause-fits : goal.returns-clause-fits
 returns-clause-fits c = λ x in_s.
-    covered_fits x c.self.inside.ranges.items c.self.invariant (seen c.args.self.now c.self.inside.ranges.items c.self.inside.ranges.items c.self.view_is refl x ∙ in_s)
+    covered_fits x c.kept.result.now c.kept.ensures.in_order (seen c.args.self.now c.kept.result.now c.kept.ensures.same x ∙ in_s)

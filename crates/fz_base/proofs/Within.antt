@@ -1,0 +1,121 @@
+-- Whether what ranges cover is covered by others, one range after another.
+use Rattle.std.proofs.Common.{◌≡◌, ℤ, pos, ◌+ℤ◌, ◌≤ℤ◌, ◌<ℤ◌, Bool, true, false, not, ◌&&◌, ◌||◌, List, [], ◌∷◌, length, get_or, drop, ◌<◌, FitsSigned, w64, refl, sym, ap, ◌∙◌, inl, inr, arith}
+use Rattle.std.specs.Prelude.{◌↔◌}
+use Rattle.std.proofs.lemmas.Bool.{true≢false}
+use Rattle.std.proofs.lemmas.Int.{ints}
+use Rattle.fz_base.specs.declared.ranges.Range.{Range}
+use Rattle.fz_base.specs.Ranges.{lowest, AreInOrder, LiesIn, ReachesTo, is_between, covers}
+use Rattle.fz_base.proofs.Covers.{apart, between_yes, between_above, covers_below, in_order_at, in_order_from, or-true}
+
+-- ---- the ranges that reach to a number
+
+module _ (at : ℤ) (rs : List Range) (d : Range) (some : 0 < length rs) (order : AreInOrder lowest rs) where
+  pub reaches_first : at ≤ℤ (get_or rs 0 d).hi → ReachesTo at rs
+  reaches_first h = first rs some h
+    where
+      first : (qs : List Range) → 0 < length qs → at ≤ℤ (get_or qs 0 d).hi → ReachesTo at qs
+      first [] s h = tt
+      first (q ∷ qs) s h = h
+
+  pub order_past : AreInOrder lowest (drop 1 rs)
+  order_past = past rs some order
+    where
+      past : (qs : List Range) → 0 < length qs → AreInOrder lowest qs → AreInOrder lowest (drop 1 qs)
+      past [] s o = tt
+      past (q ∷ qs) s o = in_order_from (q.hi +ℤ pos 2) lowest qs (omega (arith, ints)) o.3
+
+  pub covers_past : (x : ℤ) → (get_or rs 0 d).hi <ℤ x → covers (drop 1 rs) x ≡ covers rs x
+  covers_past x h = past rs some h
+    where
+      past : (qs : List Range) → 0 < length qs → (get_or qs 0 d).hi <ℤ x → covers (drop 1 qs) x ≡ covers qs x
+      past [] s h = refl
+      past (q ∷ qs) s h = sym (ap (λ b. b || covers qs x) (between_above q.lo q.hi x h))
+
+-- ---- one range in others
+
+pub all_in_first : (rs : List Range) (d : Range) (lo hi : ℤ) → 0 < length rs → (get_or rs 0 d).lo ≤ℤ lo → hi ≤ℤ (get_or rs 0 d).hi → (x : ℤ) → lo ≤ℤ x → x ≤ℤ hi → covers rs x ≡ true
+all_in_first [] d lo hi some low high x h k = absurd (omega arith)
+all_in_first (r ∷ rs) d lo hi some low high x h k = ap (λ b. b || covers rs x) (between_yes r.lo r.hi x (omega (arith, ints)) (omega (arith, ints)))
+
+-- a number before the first range is in none, and so is the one behind it
+pub not_all : (rs : List Range) (d : Range) (lo hi : ℤ) → 0 < length rs → AreInOrder lowest rs → ReachesTo lo rs → lo ≤ℤ hi → ((get_or rs 0 d).lo ≤ℤ lo → hi ≤ℤ (get_or rs 0 d).hi → ⊥)
+    → ((x : ℤ) → lo ≤ℤ x → x ≤ℤ hi → covers rs x ≡ true) → ⊥
+not_all [] d lo hi some order ahead le not_both all = absurd (omega arith)
+not_all (r ∷ rs) d lo hi some order ahead le not_both all =
+    elim (apart lo r.lo) [
+      | inl h ↦ true≢false (sym (all lo (omega (arith, ints)) le) ∙ covers_below r.lo lo (r ∷ rs) (omega (arith, ints), order.1, order.2, order.3) h)
+      | inr h ↦ elim (apart r.hi hi) [
+        | inl k ↦
+            let next : ℤ = r.hi +ℤ pos 1 in
+            let none : covers (r ∷ rs) next ≡ false = ap (λ b. b || covers rs next) (between_above r.lo r.hi next (omega (arith, ints))) ∙ covers_below (r.hi +ℤ pos 2) next rs order.3 (omega (arith, ints)) in
+            true≢false (sym (all next (omega (arith, ints)) (omega (arith, ints))) ∙ none)
+        | inr k ↦ not_both h k
+      ]
+    ]
+
+pub none_not_all : (rs : List Range) (lo hi : ℤ) → length rs < 1 → lo ≤ℤ hi → ((x : ℤ) → lo ≤ℤ x → x ≤ℤ hi → covers rs x ≡ true) → ⊥
+none_not_all [] lo hi few le all = true≢false (sym (all lo (omega (arith, ints)) le))
+none_not_all (r ∷ rs) lo hi few le all = absurd (omega arith)
+
+-- ---- one range after another
+
+pub some_numbers : (rs : List Range) (d : Range) → 0 < length rs → AreInOrder lowest rs → (get_or rs 0 d).lo ≤ℤ (get_or rs 0 d).hi
+some_numbers [] d some order = absurd (omega arith)
+some_numbers (r ∷ rs) d some order = order.1
+
+pub first_low_fits : (rs : List Range) (d : Range) → 0 < length rs → AreInOrder lowest rs → FitsSigned w64 (get_or rs 0 d).lo
+first_low_fits rs d some order =
+    let (le, low, high) = in_order_at lowest rs 0 d order some in
+    omega (arith, ints)
+
+pub first_high_fits : (rs : List Range) (d : Range) → 0 < length rs → AreInOrder lowest rs → FitsSigned w64 (get_or rs 0 d).hi
+first_high_fits rs d some order =
+    let (le, low, high) = in_order_at lowest rs 0 d order some in
+    omega (arith, ints)
+
+pub none_lies_in : (rs ss : List Range) → length rs < 1 → LiesIn rs ss
+none_lies_in [] ss few x h = absurd (true≢false (sym h))
+none_lies_in (r ∷ rs) ss few x h = absurd (omega arith)
+
+module _ (ss left : List Range) where
+  first_covered : (r : Range) (rs : List Range) (x : ℤ) → r.lo ≤ℤ x → x ≤ℤ r.hi → covers (r ∷ rs) x ≡ true
+  first_covered r rs x h k = ap (λ b. b || covers rs x) (between_yes r.lo r.hi x h k)
+
+  -- what is covered begins at the first range
+  begins : (r : Range) (rs : List Range) (x : ℤ) → AreInOrder lowest (r ∷ rs) → covers (r ∷ rs) x ≡ true → r.lo ≤ℤ x
+  begins r rs x o h = elim (apart x r.lo) [ inl k ↦ absurd (true≢false (sym h ∙ covers_below r.lo x (r ∷ rs) (omega (arith, ints), o.1, o.2, o.3) k)) | inr k ↦ k ]
+
+  pub lies_in_more : (rs : List Range) (d : Range) → 0 < length rs → AreInOrder lowest rs → ((x : ℤ) → (get_or rs 0 d).lo ≤ℤ x → covers left x ≡ covers ss x)
+      → ((x : ℤ) → (get_or rs 0 d).lo ≤ℤ x → x ≤ℤ (get_or rs 0 d).hi → covers left x ≡ true) → (LiesIn (drop 1 rs) left ↔ LiesIn rs ss)
+  lies_in_more [] d some order alike all = absurd (omega arith)
+  lies_in_more (r ∷ rs) d some order alike all = (
+    λ later x h.
+        let from : r.lo ≤ℤ x = begins r rs x order h in
+        sym (alike x from)
+        ∙ (elim (apart r.hi x) [
+          | inl k ↦ later x (sym (ap (λ b. b || covers rs x) (between_above r.lo r.hi x k)) ∙ h)
+          | inr k ↦ all x from k
+        ]),
+    λ whole x h.
+        let in_all : covers (r ∷ rs) x ≡ true = ap (λ b. is_between r.lo r.hi x || b) h ∙ or-true (is_between r.lo r.hi x) in
+        alike x (begins r rs x order in_all) ∙ whole x in_all,
+  )
+
+  pub lies_not_in : (rs : List Range) (d : Range) → 0 < length rs → ((x : ℤ) → (get_or rs 0 d).lo ≤ℤ x → covers left x ≡ covers ss x)
+      → (((x : ℤ) → (get_or rs 0 d).lo ≤ℤ x → x ≤ℤ (get_or rs 0 d).hi → covers left x ≡ true) → ⊥) → LiesIn rs ss → ⊥
+  lies_not_in [] d some alike missing whole = absurd (omega arith)
+  lies_not_in (r ∷ rs) d some alike missing whole = missing (λ x h k. alike x h ∙ whole x (first_covered r rs x h k))
+
+-- ---- nothing of the one is left without the other
+
+minus_none : (a b : Bool) → (a ≡ true → b ≡ true) → (a && not b) ≡ false
+minus_none true b h = ap not (h refl)
+minus_none false b h = refl
+
+none_minus : (a b : Bool) → (a && not b) ≡ false → a ≡ true → b ≡ true
+none_minus true true h e = refl
+none_minus true false h e = absurd (true≢false h)
+none_minus false b h e = absurd (true≢false (sym e))
+
+pub minus_is : (a b : List Range) → (LiesIn a b ↔ ((x : ℤ) → (covers a x && not (covers b x)) ≡ false))
+minus_is a b = (λ h x. minus_none (covers a x) (covers b x) (h x), λ h x. none_minus (covers a x) (covers b x) (h x))

@@ -1,0 +1,25 @@
+use Rattle.std.proofs.Common.{◌≡◌, None, sym, subst, arith, ◌∙◌}
+use Rattle.fz_model.specs.Meaning.{first_some}
+use Rattle.fz_verdict.specs.Blocks.{block_fault, items_fault}
+use Rattle.fz_verdict.specs.Verdict.{printed_fails}
+use Rattle.fz_verdict.specs.View.{located_block, located_items}
+use Rattle.fz_verdict.proofs.Violated.{chain_grows}
+use Rattle.fz_judge.specs.Judged.{TellsFault}
+use Rattle.fz_judge.proofs.Agreeing.{none_fails}
+use Rattle.fz_judge.proofs.Refusing.{moved_tells, told_within}
+use Rattle.fz_judge.proofs.filling.filled.Goals as goal
+
+pub returns-in-Err-clause-refused : goal.returns-in-Err-clause-refused
+returns-in-Err-clause-refused c places ends =
+    let m = c.args.model.now in
+    let b = c.args.block.now in
+    let told = subst (λ xs. TellsFault c.in-Err.error (items_fault m (located_items xs))) c.deref.ensures.value c.in-Err.ensures.told in
+    let is = c.moved_error.ensures (told_within m b.text.now b.items.items _ c.in-Err.error (omega (arith, ends)) places told) in
+    subst (λ e. TellsFault e (block_fault m (located_block b))) (sym is) (moved_tells m (located_block b) c.in-Err.error told)
+
+pub returns-clause-agrees : goal.returns-clause-agrees
+returns-clause-agrees c agrees =
+    let m = c.args.model.now in
+    let F = c.fill_in.new.partial in
+    subst (λ xs. first_some (printed_fails m F) (located_items xs) ≡ None) c.deref.ensures.value
+    (none_fails m c.in-Ok.started.partial F (located_items c.deref.result.now) c.in-Ok.ensures.clean c.in-Ok.ensures.started (sym c.in-Ok.ensures.agrees ∙ agrees) (chain_grows m c.in_ok-fill_in.ensures.filled))

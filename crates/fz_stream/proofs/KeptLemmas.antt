@@ -1,0 +1,60 @@
+-- What is kept of a block's items.
+use Rattle.std.proofs.Common.{◌≡◌, ℕ, zero, suc, ◌<◌, List, [], ◌∷◌, ◌++◌, length, map, get_or, slice_range, Some, refl, sym, ap, ◌∙◌, subst, arith}
+use Rattle.std.specs.List.{flat_map}
+use Rattle.fz_syntax.specs.declared.tree.Printed.{Printed}
+use Rattle.fz_syntax.specs.Places.{IsSpanWithin}
+use Rattle.fz_syntax.specs.Spots.{Spot, Stand, printed_value_spots, item_spots}
+use Rattle.fz_syntax.specs.Tree as tree
+use Rattle.fz_syntax.specs.View.{bare_printed, bare_printed_value, bare_items}
+use Rattle.fz_stream.specs.declared.kept.KeptItem.{KeptItem}
+use Rattle.fz_stream.specs.Kept.{kept_of, bare_kept, kept_spots, AreKept}
+use Rattle.fz_stream.specs.Parts.{IsBlockText}
+use Rattle.fz_stream.proofs.PlaceLemmas.{stand_before, stand_behind}
+
+module _ (text : List ℕ) (upto : ℕ) where
+  -- an item's name is the text at its place
+  pub same_items : (from : ℕ) (items : List Printed) → Stand text from upto (item_spots items) → map (bare_kept text) (map kept_of items) ≡ bare_items items
+  same_items from [] h = refl
+  same_items from (p ∷ items) h =
+      let name : p.name.text.now ≡ slice_range text p.name.span.start p.name.span.end = h.2 in
+      let w = stand_behind text upto p.name.span.end (printed_value_spots p.value) (item_spots items) h.3 in
+      let more = same_items w.0 items w.1 in
+      let here : bare_kept text (kept_of p) ≡ bare_printed p = ap (λ (n : List ℕ). record_of n p) (sym name) in
+      ap (λ (x : tree.Printed). x ∷ map (bare_kept text) (map kept_of items)) here ∙ ap (λ (xs : List tree.Printed). bare_printed p ∷ xs) more
+    where
+      record_of : List ℕ → Printed → tree.Printed
+      record_of n p = record { name = n; value = bare_printed_value p.value }
+
+  pub same_spots : (from : ℕ) (items : List Printed) → Stand text from upto (item_spots items) → flat_map (kept_spots text) (map kept_of items) ≡ item_spots items
+  same_spots from [] h = refl
+  same_spots from (p ∷ items) h =
+      let name : p.name.text.now ≡ slice_range text p.name.span.start p.name.span.end = h.2 in
+      let w = stand_behind text upto p.name.span.end (printed_value_spots p.value) (item_spots items) h.3 in
+      let more = same_spots w.0 items w.1 in
+      ap (λ (n : List ℕ). spot_of n p ∷ (printed_value_spots p.value ++ flat_map (kept_spots text) (map kept_of items))) (sym name)
+      ∙ ap (λ (spots : List Spot). spot_of p.name.text.now p ∷ (printed_value_spots p.value ++ spots)) more
+    where
+      spot_of : List ℕ → Printed → Spot
+      spot_of n p = record { start = p.name.span.start; end = p.name.span.end; text = Some n }
+
+  -- the place of each name lies in the text
+  pub placed_kept : (from : ℕ) (kept : List KeptItem) (k : ℕ) (d : KeptItem) → k < length kept → Stand text from upto (flat_map (kept_spots text) kept) → IsSpanWithin upto (get_or kept k d).name
+  placed_kept from [] k d l h = absurd (omega (arith, l))
+  placed_kept from (x ∷ kept) zero d l h =
+      let here : x.name.start < x.name.end = h.1 in
+      (omega (arith, here), stand_before text upto x.name.end (printed_value_spots x.value ++ flat_map (kept_spots text) kept) h.3)
+  placed_kept from (x ∷ kept) (suc k) d l h =
+      let w = stand_behind text upto x.name.end (printed_value_spots x.value) (flat_map (kept_spots text) kept) h.3 in
+      placed_kept w.0 kept k d (omega arith) w.1
+
+-- what is kept of a block's items
+pub are_kept : (text : List ℕ) (items : List Printed) (kept : List KeptItem) → kept ≡ map kept_of items → IsBlockText text (bare_items items)
+    → ((others : List tree.Printed) → IsBlockText text others → others ≡ bare_items items) → Stand text 0 (length text) (item_spots items) → AreKept text kept
+are_kept text items kept is block only stand =
+    let same : map (bare_kept text) kept ≡ bare_items items = ap (map (bare_kept text)) is ∙ same_items text (length text) 0 items stand in
+    let spots : flat_map (kept_spots text) kept ≡ item_spots items = ap (flat_map (kept_spots text)) is ∙ same_spots text (length text) 0 items stand in
+    record {
+      block = subst (IsBlockText text) (sym same) block;
+      only = λ others t. only others t ∙ sym same;
+      stand = subst (Stand text 0 (length text)) (sym spots) stand;
+    }

@@ -1,0 +1,151 @@
+// The items of a block that waits. They don't borrow its text, so that they can stand beside it.
+ghost use Rattle.std.specs.Prelude.{◌≡◌, ◌≢◌, ◌+◌, ◌≤◌, List, length, map, slice_range, IfOk, IfErr};
+ghost use Rattle.std.specs.List.{flat_map};
+ghost use Rattle.fz_syntax.specs.Limits.{most_bytes};
+ghost use Rattle.fz_syntax.specs.Places.{IsSpanWithin};
+ghost use Rattle.fz_syntax.specs.Spots.{Stand, literal_spots, printed_value_spots, item_spots};
+ghost use Rattle.fz_syntax.specs.Tree.{Printed as PlainPrinted};
+ghost use Rattle.fz_syntax.specs.View.{bare_literal, bare_printed_value, bare_items};
+ghost use Rattle.fz_stream.specs.Faults.{IsFaultWithin};
+ghost use Rattle.fz_stream.specs.Found.{HasPlaces};
+ghost use Rattle.fz_stream.specs.Kept.{kept_of, bare_kept, kept_spots, AreKept};
+ghost use Rattle.fz_stream.specs.Parts.{IsBlockText};
+ghost use Rattle.fz_stream.specs.Step.{IsBlockFault};
+ghost use Rattle.fz_stream.specs.Telling.{TellsOfText};
+
+use crate::block::{Block, read_block};
+use crate::error::StreamError;
+use fz_syntax::{Literal, LiteralKind, Name, Printed, PrintedValue, Span};
+use std::alloc::{AllocError, Global};
+
+/// An item without its name's text, which stands at the name's place in the block's text.
+#[derive(Drop)]
+pub struct KeptItem {
+    pub name: Span,
+    pub value: PrintedValue,
+}
+
+/// What is kept of the items. Their values are moved.
+fn kept_items(alloc: Global, items: Vec<Printed<'_>>) -> Result<Vec<KeptItem>, AllocError>
+    ensures { IfOk result (λ kept. kept.items ≡ map kept_of items.entry.items) }
+{
+    let mut kept = Vec::with_capacity(alloc, items.len())?;
+    for item in items {
+        kept.push(KeptItem {
+            name: item.name.span,
+            value: item.value,
+        })?;
+    }
+    Ok(kept)
+}
+
+/// Reads the text of a block, and keeps its items.
+pub fn read_kept(alloc: Global, offset: usize, text: &[u8]) -> Result<Vec<KeptItem>, StreamError>
+    requires fits { offset + length text.now ≤ usize.MAX }
+    requires short { length text.now ≤ most_bytes }
+    ensures kept { IfOk result (λ kept. AreKept text.now kept.items) }
+    ensures refused { IfErr result (λ e. e ≢ StreamError.Memory → (items : List PlainPrinted) → IsBlockText text.now items → ⊥) }
+    ensures fault { IfErr result IsBlockFault }
+    ensures place { IfErr result (IsFaultWithin (offset + length text.now)) }
+    ensures tells { IfErr result (TellsOfText offset text.now) }
+{
+    match read_block(alloc, offset, text) {
+        Ok(block) => match kept_items(alloc, block.items) {
+            Ok(kept) => Ok(kept),
+            Err(_) => Err(StreamError::Memory),
+        },
+        Err(e) => Err(e),
+    }
+}
+
+fn copied_literal(alloc: Global, literal: &Literal) -> Result<Literal, AllocError>
+    ensures bare { IfOk result (λ copy. bare_literal copy ≡ bare_literal literal.now) }
+    ensures place { IfOk result (λ copy. copy.span ≡ literal.now.span) }
+{
+    let what = match &literal.what {
+        LiteralKind::Whole(number) => LiteralKind::Whole(*number),
+        LiteralKind::Truth(is_true) => LiteralKind::Truth(*is_true),
+        LiteralKind::Range(low, high) => LiteralKind::Range(*low, *high),
+        LiteralKind::Braces(numbers) => LiteralKind::Braces(Vec::from_slice(alloc, numbers)?),
+    };
+    Ok(Literal {
+        span: literal.span,
+        what,
+    })
+}
+
+fn copied_literals(alloc: Global, literals: &[Literal]) -> Result<Vec<Literal>, AllocError>
+    ensures bare { IfOk result (λ copy. map bare_literal copy.items ≡ map bare_literal literals.now) }
+    ensures places { IfOk result (λ copy. flat_map literal_spots copy.items ≡ flat_map literal_spots literals.now) }
+{
+    let mut copy = Vec::with_capacity(alloc, literals.len())?;
+    for literal in literals {
+        copy.push(copied_literal(alloc, literal)?)?;
+    }
+    Ok(copy)
+}
+
+fn copied_value(alloc: Global, value: &PrintedValue) -> Result<PrintedValue, AllocError>
+    ensures bare { IfOk result (λ copy. bare_printed_value copy ≡ bare_printed_value value.now) }
+    ensures places { IfOk result (λ copy. printed_value_spots copy ≡ printed_value_spots value.now) }
+{
+    match value {
+        PrintedValue::One(literal) => Ok(PrintedValue::One(copied_literal(alloc, literal)?)),
+        PrintedValue::Array { indexes, elements } => Ok(PrintedValue::Array {
+            indexes: copied_literals(alloc, indexes)?,
+            elements: copied_literals(alloc, elements)?,
+        }),
+    }
+}
+
+/// The part of the text at a place.
+fn text_at(text: &[u8], place: Span) -> &[u8]
+    requires { IsSpanWithin (length text.now) place }
+    ensures { result.now ≡ slice_range text.now place.start place.end }
+{
+    &text[place.start..place.end]
+}
+
+/// The items as they were read, with their names as slices of the text.
+fn lent_items<'a>(
+    alloc: Global,
+    text: &'a [u8],
+    kept: &[KeptItem],
+) -> Result<Vec<Printed<'a>>, AllocError>
+    requires { Stand text.now 0 (length text.now) (flat_map (kept_spots text.now) kept.now) }
+    ensures bare { IfOk result (λ items. bare_items items.items ≡ map (bare_kept text.now) kept.now) }
+    ensures places { IfOk result (λ items. item_spots items.items ≡ flat_map (kept_spots text.now) kept.now) }
+{
+    let mut items = Vec::with_capacity(alloc, kept.len())?;
+    for item in kept {
+        let name = Name {
+            text: text_at(text, item.name),
+            span: item.name,
+        };
+        let value = copied_value(alloc, &item.value)?;
+        items.push(Printed { name, value })?;
+    }
+    Ok(items)
+}
+
+/// The block whose items were kept: what `read_block` gives of its text.
+pub fn kept_block<'a>(
+    alloc: Global,
+    offset: usize,
+    text: &'a [u8],
+    kept: &[KeptItem],
+) -> Result<Block<'a>, AllocError>
+    requires { AreKept text.now kept.now }
+    ensures offset { IfOk result (λ b. b.offset ≡ offset) }
+    ensures text { IfOk result (λ b. b.text.now ≡ text.now) }
+    ensures items { IfOk result (λ b. IsBlockText text.now (bare_items b.items.items)) }
+    ensures only { IfOk result (λ b. (others : List PlainPrinted) → IsBlockText text.now others → others ≡ bare_items b.items.items) }
+    ensures places { IfOk result HasPlaces }
+{
+    let items = lent_items(alloc, text, kept)?;
+    Ok(Block {
+        offset,
+        text,
+        items,
+    })
+}
