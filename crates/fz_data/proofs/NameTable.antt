@@ -1,5 +1,5 @@
 -- The table of names: what is looked up there, and what one more name leaves as it is.
-use Rattle.std.proofs.Common.{◌≡◌, ℕ, suc, zero, ◌+◌, ◌<◌, List, [], ◌∷◌, ◌++◌, map, length, Option, Some, None, option_map, slice_get, cond, Bool, true, false, Bor, refl, sym, ap, ◌∙◌, subst, is_some, is_none, arith}
+use Rattle.std.proofs.Common.{◌≡◌, ℕ, suc, zero, ◌+◌, ◌<◌, List, [], ◌∷◌, ◌++◌, map, length, Option, Some, None, option_map, slice_get, cond, Bool, true, false, refl, sym, ap, ◌∙◌, subst, is_some, is_none, arith}
 use Rattle.std.specs.List.{AllByRecursion}
 use Rattle.std.specs.Option.{option_map_or}
 use Rattle.std.specs.Str.{bytes_eq}
@@ -10,15 +10,16 @@ use Rattle.fz_meaning.proofs.Lists.{all_append}
 use Rattle.fz_meaning.specs.declared.term.Term.{Term}
 use Rattle.fz_meaning.specs.declared.term.Term.TheVariants.{Var, Fixed}
 use Rattle.fz_data.specs.declared.names.Entry.{Entry}
+use Rattle.fz_data.specs.declared.names.Text.{Text}
 use Rattle.fz_data.specs.declared.names.Entry.TheVariants as entries
 use Rattle.fz_data.specs.Naming.{Declared, has_text, stands_for, IsAmongTerms, own_from, own_terms, no_term}
 use Rattle.fz_data.specs.Names.{entry_stands, is_among_terms}
 
 abbrev pub Kept : Type 0
-Kept = Bor (List ℕ) × Entry
+Kept = Text × Entry
 
-abbrev pub is_key : List ℕ → Bor (List ℕ) → Bool
-is_key x k = bytes_eq x k.now
+abbrev pub is_key : List ℕ → Text → Bool
+is_key x k = bytes_eq x k.bytes.now
 
 map_cond : {A B : Type 0} (f : A → B) (b : Bool) (x : A) (o : Option A) → cond b (Some (f x)) (option_map f o) ≡ option_map f (cond b (Some x) o)
 map_cond f true x o = refl
@@ -39,10 +40,10 @@ found_among ts x (y ∷ es) e h is =
     ]) is
 
 -- the key that is found has the text
-pub key_passes : (x : List ℕ) (es : List Kept) (k : Bor (List ℕ)) → Some k ≡ lookup_key (is_key x) es → k.now ≡ x
+pub key_passes : (x : List ℕ) (es : List Kept) (k : Text) → Some k ≡ lookup_key (is_key x) es → k.bytes.now ≡ x
 key_passes x [] k e = cc
-key_passes x (y ∷ es) k e = (elim (is_key x y.0) as (λ b. is_key x y.0 ≡ b → Some k ≡ cond b (Some y.0) (lookup_key (is_key x) es) → k.now ≡ x) [
-  | true ↦ λ passes e. let same : k ≡ y.0 = cc in ap (λ (w : Bor (List ℕ)). w.now) same ∙ sym ((bytes_eq-Decides x y.0.now).0 passes)
+key_passes x (y ∷ es) k e = (elim (is_key x y.0) as (λ b. is_key x y.0 ≡ b → Some k ≡ cond b (Some y.0) (lookup_key (is_key x) es) → k.bytes.now ≡ x) [
+  | true ↦ λ passes e. let same : k ≡ y.0 = cc in ap (λ (w : Text). w.bytes.now) same ∙ sym ((bytes_eq-Decides x y.0.bytes.now).0 passes)
   | false ↦ λ _ later. key_passes x es k later
 ]) refl e
 
@@ -81,7 +82,7 @@ stands_same ts us (entries.Array i) h = refl
 
 pub all_stand_same : (ts us : List Term) (es : List Kept) → AllByRecursion (is_among_terms ts) es → map (entry_stands (ts ++ us)) es ≡ map (entry_stands ts) es
 all_stand_same ts us [] h = refl
-all_stand_same ts us (e ∷ es) h = λ i. (e.0.now, stands_same ts us e.1 h.0 i) ∷ all_stand_same ts us es h.1 i
+all_stand_same ts us (e ∷ es) h = λ i. (e.0.bytes.now, stands_same ts us e.1 h.0 i) ∷ all_stand_same ts us es h.1 i
 
 -- ---- the scalars that variables are
 
@@ -109,12 +110,12 @@ some_map f (Some x) = refl
 pub declared_there : (ts : List Term) (x : List ℕ) (es : List Kept) → is_some (lookup (is_key x) es) ≡ is_some (lookup (has_text x) (map (entry_stands ts) es))
 declared_there ts x es = some_map (stands_for ts) (lookup (is_key x) es) ∙ ap is_some (sym (looked_up ts x es))
 
-module _ (ts : List Term) (es new : List Kept) (k : Bor (List ℕ)) (e : Entry) (grew : new ≡ es ++ (k, e) ∷ []) where
+module _ (ts : List Term) (es new : List Kept) (k : Text) (e : Entry) (grew : new ≡ es ++ (k, e) ∷ []) where
   pub among_pushed : AllByRecursion (is_among_terms ts) es → IsAmongTerms ts e → AllByRecursion (is_among_terms ts) new
   among_pushed h here = subst (AllByRecursion (is_among_terms ts)) (sym grew) (all_append (is_among_terms ts) es ((k, e) ∷ []) h (here, tt))
 
-  pub view_pushed : (n : List (List ℕ × Declared)) → map (entry_stands ts) es ≡ n → map (entry_stands ts) new ≡ n ++ (k.now, stands_for ts e) ∷ []
-  view_pushed n is = ap (map (entry_stands ts)) grew ∙ map-append (entry_stands ts) es ((k, e) ∷ []) ∙ ap (λ zs. zs ++ (k.now, stands_for ts e) ∷ []) is
+  pub view_pushed : (n : List (List ℕ × Declared)) → map (entry_stands ts) es ≡ n → map (entry_stands ts) new ≡ n ++ (k.bytes.now, stands_for ts e) ∷ []
+  view_pushed n is = ap (map (entry_stands ts)) grew ∙ map-append (entry_stands ts) es ((k, e) ∷ []) ∙ ap (λ zs. zs ++ (k.bytes.now, stands_for ts e) ∷ []) is
 
 at_end : {A : Type 0} (xs : List A) (x : A) → slice_get (xs ++ x ∷ []) (length xs) ≡ Some x
 at_end [] x = refl

@@ -1,5 +1,4 @@
 pub mod Parts
-pub mod Hashing
 pub mod Kinds
 pub mod Layout
 pub mod Shown

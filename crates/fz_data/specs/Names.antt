@@ -1,19 +1,19 @@
 -- The table of names as the list that it stands for: each name with what it stands for, in source order (private functions only).
 use Rattle.std.specs.Prelude.{ℕ, List, map}
-use Rattle.std.specs.Borrow.{Bor}
 use Rattle.std.specs.List.{AllByRecursion}
 use Rattle.fz_meaning.specs.declared.term.Term.{Term}
 use Rattle.fz_data.specs.declared.names.Entry.{Entry}
+use Rattle.fz_data.specs.declared.names.Text.{Text}
 use Rattle.fz_data.specs.declared.names.Names.TheInside.{Inside}
 use Rattle.fz_data.specs.Naming.{Declared, stands_for, IsAmongTerms}
 
-abbrev pub entry_stands : List Term → (Bor (List ℕ) × Entry) → (List ℕ × Declared)
-entry_stands ts e = (e.0.now, stands_for ts e.1)
+abbrev pub entry_stands : List Term → (Text × Entry) → (List ℕ × Declared)
+entry_stands ts e = (e.0.bytes.now, stands_for ts e.1)
 
 abbrev pub names_view : Inside → List (List ℕ × Declared)
 names_view n = map (entry_stands n.parameters.items) n.entries.entries
 
-abbrev pub is_among_terms : List Term → (Bor (List ℕ) × Entry) → Type 0
+abbrev pub is_among_terms : List Term → (Text × Entry) → Type 0
 is_among_terms ts e = IsAmongTerms ts e.1
 
 abbrev pub AreAmongTerms : Inside → Type 0

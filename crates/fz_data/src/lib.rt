@@ -4,7 +4,6 @@
 
 mod declaring;
 mod found;
-mod hashing;
 mod loading;
 mod model;
 mod names;

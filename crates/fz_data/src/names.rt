@@ -1,17 +1,62 @@
 //! Declared names with what they stand for.
 
 ghost use Rattle.std.specs.Prelude.{◌≡◌, ◌++◌, ◌∷◌, [], IfOk, IfSome, OnOk, is_none, is_some, option_map, true};
+ghost use Rattle.std.proofs.Common.{ap, rules};
+ghost use Rattle.std.specs.Cmp.Lexicographic.{bytes_decides, nat_list_eq_equiv};
+ghost use Rattle.std.specs.Cmp.Rules.{comparing};
+ghost use Rattle.std.specs.Str.{bytes_eq};
 ghost use Rattle.std.specs.Map.{lookup};
 ghost use Rattle.fz_meaning.specs.declared.term.Term.TheVariants.{Fixed, Var};
 ghost use Rattle.fz_data.specs.Naming.Declared.{Array as TheArray, Scalar};
 ghost use Rattle.fz_data.specs.Naming.{has_text, standing_view, stands_for, IsAmongTerms};
 
-use crate::hashing::NameHasher;
 use fz_base::Value;
 use fz_meaning::Term;
-use indexmap::IndexMap;
+use indexmap::{Equivalent, IndexMap};
 use std::alloc::{AllocError, Global};
-use std::hash::BuildHasherDefault;
+use std::hash::{Hash, Hasher};
+
+/// A name as a key. It is hashed in one piece, where a slice is hashed one byte after another.
+#[derive(Clone, Copy)]
+pub(crate) struct Text<'a> {
+    bytes: &'a [u8],
+}
+
+impl PartialEq for Text<'_> {
+    ghost eq = { λ a b. bytes_eq a.bytes.now b.bytes.now };
+
+    ghost laws = { Prim.search (comparing, rules) };
+
+    fn eq(&self, other: &Self) -> bool {
+        self.bytes == other.bytes
+    }
+}
+
+impl Eq for Text<'_> {
+    ghost laws = { Prim.search (comparing, rules) };
+}
+
+impl Hash for Text<'_> {
+    ghost hash_input = { λ t. t.bytes.now ∷ [] };
+
+    ghost respects_eq = { λ x y e. ap (λ bytes. bytes ∷ []) ((bytes_decides x.bytes.now y.bytes.now).0 e) };
+
+    fn hash<H: Hasher>(&self, state: &mut H) {
+        state.write(self.bytes);
+    }
+}
+
+impl<'b> Equivalent<Text<'b>> for Text<'_> {
+    ghost equivalent = { λ q k. bytes_eq q.bytes.now k.bytes.now };
+
+    ghost respects_hash = { λ q k e. ap (λ bytes. bytes ∷ []) ((bytes_decides q.bytes.now k.bytes.now).0 e) };
+
+    ghost respects_eq = { λ q x y. nat_list_eq_equiv.congr q.bytes.now x.bytes.now y.bytes.now };
+
+    fn equivalent(&self, key: &Text<'b>) -> bool {
+        self.bytes == key.bytes
+    }
+}
 
 /// What a name is kept with: the number of a variable, of a parameter or of an array. It takes two words, so that a look-up seldom waits
 /// for memory.
@@ -33,7 +78,7 @@ pub(crate) enum Standing<'m> {
 /// The declared names, in source order. A contract sees the list of them, each with what it stands for.
 #[derive(Drop)]
 pub(crate) struct Names<'a> {
-    entries: IndexMap<&'a [u8], Entry, BuildHasherDefault<NameHasher>>,
+    entries: IndexMap<Text<'a>, Entry>,
     /// the values of parameters, by their numbers
     parameters: Vec<Term>,
 }
@@ -74,7 +119,7 @@ impl<'a> Names<'a> {
         ensures none { IfOk result (λ n. n ≡ []) }
     {
         Ok(Names {
-            entries: IndexMap::with_capacity_and_hasher(alloc, count, BuildHasherDefault::new())?,
+            entries: IndexMap::with_capacity(alloc, count)?,
             parameters: Vec::new(alloc),
         })
     }
@@ -84,7 +129,7 @@ impl<'a> Names<'a> {
     pub(crate) fn contains(&self, name: &[u8]) -> bool
         ensures declared { result ≡ is_some (lookup (has_text name.now) self.now) }
     {
-        self.entries.contains_key(name)
+        self.entries.contains_key(Text { bytes: name })
     }
 
     /// What a name stands for, where it is declared.
@@ -92,7 +137,7 @@ impl<'a> Names<'a> {
     pub(crate) fn get(&self, name: &[u8]) -> Option<Standing<'_>>
         ensures stands { option_map standing_view result ≡ lookup (has_text name.now) self.now }
     {
-        match self.entries.get(name) {
+        match self.entries.get(Text { bytes: name }) {
             Some(entry) => Some(standing_of(&self.parameters, *entry)),
             None => None,
         }
@@ -103,8 +148,8 @@ impl<'a> Names<'a> {
         ensures stands { option_map (λ f. standing_view f.1) result ≡ lookup (has_text name.now) self.now }
         ensures text { IfSome result (λ f. f.0.now ≡ name.now) }
     {
-        match self.entries.get_key_value(name) {
-            Some((text, entry)) => Some((*text, standing_of(&self.parameters, *entry))),
+        match self.entries.get_key_value(Text { bytes: name }) {
+            Some((text, entry)) => Some((text.bytes, standing_of(&self.parameters, *entry))),
             None => None,
         }
     }
@@ -114,7 +159,9 @@ impl<'a> Names<'a> {
         requires new { is_none (lookup (has_text name.now) self.old) ≡ true }
         ensures pushed { OnOk result (self.new ≡ self.old ++ (name.now, Scalar (Var number)) ∷ []) }
     {
-        let _ = self.entries.insert(name, Entry::Variable(number))?;
+        let _ = self
+            .entries
+            .insert(Text { bytes: name }, Entry::Variable(number))?;
         Ok(())
     }
 
@@ -123,7 +170,9 @@ impl<'a> Names<'a> {
         requires new { is_none (lookup (has_text name.now) self.old) ≡ true }
         ensures pushed { OnOk result (self.new ≡ self.old ++ (name.now, TheArray number) ∷ []) }
     {
-        let _ = self.entries.insert(name, Entry::Array(number))?;
+        let _ = self
+            .entries
+            .insert(Text { bytes: name }, Entry::Array(number))?;
         Ok(())
     }
 
@@ -134,7 +183,9 @@ impl<'a> Names<'a> {
     {
         let number = self.parameters.len();
         self.parameters.push(Term::Fixed(value))?;
-        let _ = self.entries.insert(name, Entry::Parameter(number))?;
+        let _ = self
+            .entries
+            .insert(Text { bytes: name }, Entry::Parameter(number))?;
         Ok(())
     }
 }

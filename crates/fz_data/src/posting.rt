@@ -27,6 +27,7 @@ use fz_table::Known;
 use std::alloc::Global;
 
 /// What a name stands for.
+#[inline(always)]
 fn named_place<'a>(
     alloc: Global,
     scope: &Scope<'a>,
@@ -50,6 +51,7 @@ fn named_place<'a>(
 }
 
 /// What a literal or a name in a constraint stands for.
+#[inline(always)]
 fn place_of<'a>(alloc: Global, scope: &Scope<'a>, part: &Basic<'a>) -> Result<Place<'a>, ModelError>
     requires kept { AreKept scope.now }
     ensures known { IfOk result (λ _. fault_in scope.now None (located_basic part.now) ≡ None) }
@@ -84,6 +86,7 @@ fn places_of<'a>(
 }
 
 /// An argument of a constraint.
+#[inline(always)]
 fn argument_of<'a>(
     alloc: Global,
     scope: &Scope<'a>,

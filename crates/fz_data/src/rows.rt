@@ -102,6 +102,7 @@ fn are_terms_of(kind: Kind, places: &[Place<'_>], cited: &Cited<'_, '_>) -> bool
     places.iter().all(|place| is_term_of(kind, place, cited))
 }
 
+#[inline]
 fn is_term_of(kind: Kind, place: &Place<'_>, cited: &Cited<'_, '_>) -> bool
     ensures { result ≡ is_term_among cited.now.variables.now kind place.now }
 {
@@ -144,6 +145,7 @@ fn array_kind(number: usize, arrays: &[Array<'_>]) -> Kind
     }
 }
 
+#[inline]
 fn term_kind(term: &Term, cited: &Cited<'_, '_>) -> Kind
     ensures { result ≡ kind_of_term cited.now.variables.now term.now }
 {

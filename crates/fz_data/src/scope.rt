@@ -38,6 +38,7 @@ pub(crate) enum Item<'a> {
 }
 
 /// The kind of the variable of a number.
+#[inline]
 fn variable_kind(variables: &[Variable<'_>], number: usize) -> Kind
     ensures { result ≡ kind_of_term variables.now (Var number) }
 {
@@ -70,6 +71,7 @@ fn literal_term(alloc: Global, wanted: Kind, literal: &Literal) -> Result<Term, 
 }
 
 /// The term of a name of a scalar of the wanted kind.
+#[inline]
 fn named_term(
     alloc: Global,
     scope: &Scope<'_>,
@@ -99,6 +101,7 @@ fn named_term(
 }
 
 /// The term of a literal or a name, where a scalar of a kind is wanted.
+#[inline(always)]
 pub(crate) fn term_of(
     alloc: Global,
     scope: &Scope<'_>,

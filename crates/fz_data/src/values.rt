@@ -11,6 +11,7 @@ use fz_syntax::{Base, Literal, LiteralKind};
 use std::alloc::{AllocError, Global};
 
 /// The kind of a value. It takes no memory.
+#[inline]
 pub fn kind_of(value: &Value) -> Kind
     ensures { result ≡ kind_of value.now }
 {
@@ -22,6 +23,7 @@ pub fn kind_of(value: &Value) -> Kind
 }
 
 /// Whether the two kinds are the same. It takes no memory.
+#[inline]
 pub fn same_kind(left: Kind, right: Kind) -> bool
     ensures { result ≡ same_kind left right }
 {
@@ -107,6 +109,7 @@ pub(crate) fn domain_of(alloc: Global, base: &Base) -> Result<Domain, AllocError
 }
 
 /// An equal term. It refuses only where memory runs out.
+#[inline]
 pub(crate) fn copied(alloc: Global, term: &Term) -> Result<Term, AllocError>
     ensures { IfOk result (λ t. t ≡ term.now) }
 {

@@ -1,7 +1,0 @@
--- How names are hashed (private functions only; nothing rests on which names collide).
-use Rattle.std.specs.Prelude.{ℕ, List, [], ◌∷◌, ◌+◌, ◌*◌, ◌%◌, ◌^◌}
-
--- the state with the first byte of what is written
-abbrev pub with_first : ℕ → List ℕ → ℕ
-with_first state [] = state
-with_first state (first ∷ rest) = (state * 257 % 2 ^ 64 + first) % 2 ^ 64
