@@ -9,7 +9,7 @@ use fz_data::{Model, Partial, PointParts};
 use fz_meaning::State;
 use std::alloc::{AllocError, Global};
 
-/// The state of the point of a number, from 0, under a partial assignment. It takes memory for some rows over sets and for long lists of
+/// The state of the point of a number, from 0, under a partial assignment. It takes memory for long lists of
 /// `fzn_all_different_int` alone, and refuses only where there is none.
 #[inline]
 pub fn state(

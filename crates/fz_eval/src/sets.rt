@@ -1,6 +1,6 @@
 //! The rows over sets.
 
-ghost use Rattle.std.specs.Prelude.{◌≡◌, pos, not, IfOk};
+ghost use Rattle.std.specs.Prelude.{◌≡◌, pos, not};
 ghost use Rattle.std.specs.FinSet as sets;
 ghost use Rattle.fz_base.specs.Sets.{symmetric_difference};
 ghost use Rattle.fz_meaning.specs.Values.{◌=ℤ◌, ◌=ˢ◌};
@@ -10,7 +10,6 @@ use fz_kernel::sets::{
     has_cardinality, is_difference, is_intersection, is_symmetric_difference, is_union, same_set,
 };
 use fz_scene::Scene;
-use std::alloc::{AllocError, Global};
 
 /// Whether the number is in the set.
 pub(crate) fn set_in(scene: &Scene<'_, '_>) -> bool
@@ -48,31 +47,31 @@ pub(crate) fn set_superset(scene: &Scene<'_, '_>) -> bool
 }
 
 /// Whether the third set is the union of the others.
-pub(crate) fn set_union(alloc: Global, scene: &Scene<'_, '_>) -> Result<bool, AllocError>
-    ensures { IfOk result (λ r. r ≡ (numbers scene.now 2 =ˢ sets.union (numbers scene.now 0) (numbers scene.now 1))) }
+pub(crate) fn set_union(scene: &Scene<'_, '_>) -> bool
+    ensures { result ≡ (numbers scene.now 2 =ˢ sets.union (numbers scene.now 0) (numbers scene.now 1)) }
 {
-    is_union(alloc, scene.set(0), scene.set(1), scene.set(2))
+    is_union(scene.set(0), scene.set(1), scene.set(2))
 }
 
 /// Whether the third set is the intersection of the others.
-pub(crate) fn set_intersect(alloc: Global, scene: &Scene<'_, '_>) -> Result<bool, AllocError>
-    ensures { IfOk result (λ r. r ≡ (numbers scene.now 2 =ˢ sets.intersection (numbers scene.now 0) (numbers scene.now 1))) }
+pub(crate) fn set_intersect(scene: &Scene<'_, '_>) -> bool
+    ensures { result ≡ (numbers scene.now 2 =ˢ sets.intersection (numbers scene.now 0) (numbers scene.now 1)) }
 {
-    is_intersection(alloc, scene.set(0), scene.set(1), scene.set(2))
+    is_intersection(scene.set(0), scene.set(1), scene.set(2))
 }
 
 /// Whether the third set is what is in the first and not in the second.
-pub(crate) fn set_diff(alloc: Global, scene: &Scene<'_, '_>) -> Result<bool, AllocError>
-    ensures { IfOk result (λ r. r ≡ (numbers scene.now 2 =ˢ sets.difference (numbers scene.now 0) (numbers scene.now 1))) }
+pub(crate) fn set_diff(scene: &Scene<'_, '_>) -> bool
+    ensures { result ≡ (numbers scene.now 2 =ˢ sets.difference (numbers scene.now 0) (numbers scene.now 1)) }
 {
-    is_difference(alloc, scene.set(0), scene.set(1), scene.set(2))
+    is_difference(scene.set(0), scene.set(1), scene.set(2))
 }
 
 /// Whether the third set is what is in exactly one of the others.
-pub(crate) fn set_symdiff(alloc: Global, scene: &Scene<'_, '_>) -> Result<bool, AllocError>
-    ensures { IfOk result (λ r. r ≡ (numbers scene.now 2 =ˢ symmetric_difference (numbers scene.now 0) (numbers scene.now 1))) }
+pub(crate) fn set_symdiff(scene: &Scene<'_, '_>) -> bool
+    ensures { result ≡ (numbers scene.now 2 =ˢ symmetric_difference (numbers scene.now 0) (numbers scene.now 1)) }
 {
-    is_symmetric_difference(alloc, scene.set(0), scene.set(1), scene.set(2))
+    is_symmetric_difference(scene.set(0), scene.set(1), scene.set(2))
 }
 
 /// Whether the set has so many elements.

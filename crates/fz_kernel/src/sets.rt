@@ -1,11 +1,10 @@
 // Sets: the relations of the builtins, each decided without making the set that it speaks of.
-ghost use Rattle.std.specs.Prelude.{◌≡◌, pos, IfOk};
+ghost use Rattle.std.specs.Prelude.{◌≡◌, pos};
 ghost use Rattle.std.specs.FinSet as set;
 ghost use Rattle.fz_base.specs.Sets.{symmetric_difference};
 ghost use Rattle.fz_meaning.specs.Values.{◌=ℤ◌, ◌=ˢ◌};
 
 use fz_base::IntSet;
-use std::alloc::{AllocError, Global};
 
 /// Whether the sets have the same elements.
 pub fn same_set(a: &IntSet, b: &IntSet) -> bool
@@ -22,39 +21,29 @@ pub fn has_cardinality(a: &IntSet, number: i64) -> bool
 }
 
 /// Whether `c` is the union of `a` and `b`.
-pub fn is_union(_alloc: Global, a: &IntSet, b: &IntSet, c: &IntSet) -> Result<bool, AllocError>
-    ensures exact { IfOk result (λ r. r ≡ (c.now =ˢ set.union a.now b.now)) }
+pub fn is_union(a: &IntSet, b: &IntSet, c: &IntSet) -> bool
+    ensures exact { result ≡ (c.now =ˢ set.union a.now b.now) }
 {
-    Ok(c.is_union(a, b))
+    c.is_union(a, b)
 }
 
 /// Whether `c` is the intersection of `a` and `b`.
-pub fn is_intersection(
-    _alloc: Global,
-    a: &IntSet,
-    b: &IntSet,
-    c: &IntSet,
-) -> Result<bool, AllocError>
-    ensures exact { IfOk result (λ r. r ≡ (c.now =ˢ set.intersection a.now b.now)) }
+pub fn is_intersection(a: &IntSet, b: &IntSet, c: &IntSet) -> bool
+    ensures exact { result ≡ (c.now =ˢ set.intersection a.now b.now) }
 {
-    Ok(c.is_intersection(a, b))
+    c.is_intersection(a, b)
 }
 
 /// Whether `c` is what is in `a` and not in `b`.
-pub fn is_difference(_alloc: Global, a: &IntSet, b: &IntSet, c: &IntSet) -> Result<bool, AllocError>
-    ensures exact { IfOk result (λ r. r ≡ (c.now =ˢ set.difference a.now b.now)) }
+pub fn is_difference(a: &IntSet, b: &IntSet, c: &IntSet) -> bool
+    ensures exact { result ≡ (c.now =ˢ set.difference a.now b.now) }
 {
-    Ok(c.is_difference(a, b))
+    c.is_difference(a, b)
 }
 
 /// Whether `c` is what is in exactly one of `a` and `b`.
-pub fn is_symmetric_difference(
-    _alloc: Global,
-    a: &IntSet,
-    b: &IntSet,
-    c: &IntSet,
-) -> Result<bool, AllocError>
-    ensures exact { IfOk result (λ r. r ≡ (c.now =ˢ symmetric_difference a.now b.now)) }
+pub fn is_symmetric_difference(a: &IntSet, b: &IntSet, c: &IntSet) -> bool
+    ensures exact { result ≡ (c.now =ˢ symmetric_difference a.now b.now) }
 {
-    Ok(c.is_symmetric_difference(a, b))
+    c.is_symmetric_difference(a, b)
 }

@@ -206,25 +206,25 @@ returns-in-SetSuperset c =
     let s = c.args.scene.now in
     ap Truth c.set_superset.ensures ∙ sym (set_superset_is (assigned s) (arguments_of s)) ∙ ap (λ b. row_outcome (row_at b) (assigned s) (arguments_of s)) (sym c.in-SetSuperset.is)
 
-pub returns-in_ok-set_union-in-SetUnion : goal.returns-in_ok-set_union-in-SetUnion
-returns-in_ok-set_union-in-SetUnion c =
+pub returns-in-SetUnion : goal.returns-in-SetUnion
+returns-in-SetUnion c =
     let s = c.args.scene.now in
-    ap Truth c.in_ok-set_union-in-SetUnion.ensures ∙ sym (set_union_is (assigned s) (arguments_of s)) ∙ ap (λ b. row_outcome (row_at b) (assigned s) (arguments_of s)) (sym c.in-SetUnion.is)
+    ap Truth c.set_union.ensures ∙ sym (set_union_is (assigned s) (arguments_of s)) ∙ ap (λ b. row_outcome (row_at b) (assigned s) (arguments_of s)) (sym c.in-SetUnion.is)
 
-pub returns-in_ok-set_intersect-in-SetIntersect : goal.returns-in_ok-set_intersect-in-SetIntersect
-returns-in_ok-set_intersect-in-SetIntersect c =
+pub returns-in-SetIntersect : goal.returns-in-SetIntersect
+returns-in-SetIntersect c =
     let s = c.args.scene.now in
-    ap Truth c.in_ok-set_intersect-in-SetIntersect.ensures ∙ sym (set_intersect_is (assigned s) (arguments_of s)) ∙ ap (λ b. row_outcome (row_at b) (assigned s) (arguments_of s)) (sym c.in-SetIntersect.is)
+    ap Truth c.set_intersect.ensures ∙ sym (set_intersect_is (assigned s) (arguments_of s)) ∙ ap (λ b. row_outcome (row_at b) (assigned s) (arguments_of s)) (sym c.in-SetIntersect.is)
 
-pub returns-in_ok-set_diff-in-SetDiff : goal.returns-in_ok-set_diff-in-SetDiff
-returns-in_ok-set_diff-in-SetDiff c =
+pub returns-in-SetDiff : goal.returns-in-SetDiff
+returns-in-SetDiff c =
     let s = c.args.scene.now in
-    ap Truth c.in_ok-set_diff-in-SetDiff.ensures ∙ sym (set_diff_is (assigned s) (arguments_of s)) ∙ ap (λ b. row_outcome (row_at b) (assigned s) (arguments_of s)) (sym c.in-SetDiff.is)
+    ap Truth c.set_diff.ensures ∙ sym (set_diff_is (assigned s) (arguments_of s)) ∙ ap (λ b. row_outcome (row_at b) (assigned s) (arguments_of s)) (sym c.in-SetDiff.is)
 
-pub returns-in_ok-set_symdiff-in-SetSymdiff : goal.returns-in_ok-set_symdiff-in-SetSymdiff
-returns-in_ok-set_symdiff-in-SetSymdiff c =
+pub returns-in-SetSymdiff : goal.returns-in-SetSymdiff
+returns-in-SetSymdiff c =
     let s = c.args.scene.now in
-    ap Truth c.in_ok-set_symdiff-in-SetSymdiff.ensures ∙ sym (set_symdiff_is (assigned s) (arguments_of s)) ∙ ap (λ b. row_outcome (row_at b) (assigned s) (arguments_of s)) (sym c.in-SetSymdiff.is)
+    ap Truth c.set_symdiff.ensures ∙ sym (set_symdiff_is (assigned s) (arguments_of s)) ∙ ap (λ b. row_outcome (row_at b) (assigned s) (arguments_of s)) (sym c.in-SetSymdiff.is)
 
 pub returns-in-SetCard : goal.returns-in-SetCard
 returns-in-SetCard c =
