@@ -31,6 +31,9 @@ printf 'x = 3;\n' >"$folder/open.out"
 printf 'x = 3;\n----------\nx = 4;\n' >"$folder/two.out"
 printf 'x = 3;\n----------\ny = 4;\n----------\n' >"$folder/other.out"
 printf 'solve satisfy' >"$folder/broken.fzn"
+printf 'var bool: p;\nvar bool: q;\narray [1..2] of var bool: bs :: output_array([1..2]) = [p,q];\nsolve satisfy;\n' >"$folder/list.fzn"
+printf 'bs = array1d(1..2,[12,true]);\n----------\n' >"$folder/first.out"
+printf 'bs = array1d(1..2,[true, -7]);\n----------\n' >"$folder/last.out"
 printf 'bool: b = true;\nvar int: b;\nsolve satisfy;\n' >"$folder/twice.fzn"
 
 expect 'no words' 5 '' "$usage" "$program"
@@ -49,6 +52,8 @@ expect 'a violated block' 1 $'block 1: violated: constraint 1 int_le\nrejected: 
 expect 'an open block' 4 '' 'refused: stream: Unfinished at 0..7' "$program" check examples/first.fzn "$folder/open.out"
 expect 'the lines before a fault' 4 'block 1: satisfied' 'refused: stream: Unfinished at 18..25' "$program" check examples/first.fzn "$folder/two.out"
 expect 'the lines before a block that does not fit' 4 'block 1: satisfied' 'refused: block 2: UnknownName at 18..19' "$program" check examples/first.fzn "$folder/other.out"
+expect 'the place of a number in a list' 4 '' 'refused: block 1: Kind at 19..21' "$program" check "$folder/list.fzn" "$folder/first.out"
+expect 'the place of the last number in a list' 4 '' 'refused: block 1: Kind at 25..27' "$program" check "$folder/list.fzn" "$folder/last.out"
 expect 'an optimisation' 0 "$(cat examples/knapsack/report.txt)" '' "$program" check examples/knapsack/model.fzn examples/knapsack/stream.txt
 expect 'a broken model' 4 '' 'refused: model: Syntax at 13..13' "$program" show "$folder/broken.fzn"
 expect 'a name declared twice' 4 '' 'refused: model: DuplicateName at 25..26' "$program" show "$folder/twice.fzn"

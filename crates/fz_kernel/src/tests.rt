@@ -14,14 +14,14 @@ fn relations_of_sets_are_decided(rt: HostRuntime) -> Result<(), Fail> {
     let both = IntSet::list(alloc, &[3, 4])?;
     let first = IntSet::list(alloc, &[1, 2])?;
     let one = IntSet::list(alloc, &[1, 2, 5, 6])?;
-    assert!(rt; is_union(alloc, &a, &b, &union)?);
-    assert!(rt; !is_union(alloc, &a, &b, &one)?);
-    assert!(rt; is_intersection(alloc, &a, &b, &both)?);
-    assert!(rt; !is_intersection(alloc, &a, &b, &first)?);
-    assert!(rt; is_difference(alloc, &a, &b, &first)?);
-    assert!(rt; !is_difference(alloc, &a, &b, &both)?);
-    assert!(rt; is_symmetric_difference(alloc, &a, &b, &one)?);
-    assert!(rt; !is_symmetric_difference(alloc, &a, &b, &union)?);
+    assert!(rt; is_union(&a, &b, &union));
+    assert!(rt; !is_union(&a, &b, &one));
+    assert!(rt; is_intersection(&a, &b, &both));
+    assert!(rt; !is_intersection(&a, &b, &first));
+    assert!(rt; is_difference(&a, &b, &first));
+    assert!(rt; !is_difference(&a, &b, &both));
+    assert!(rt; is_symmetric_difference(&a, &b, &one));
+    assert!(rt; !is_symmetric_difference(&a, &b, &union));
     Ok(())
 }
 
