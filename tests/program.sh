@@ -71,6 +71,33 @@ for model in examples/*.fzn examples/*/model.fzn tests/corpus/*/model.fzn; do
 done
 
 # a block's line is written before the next block is complete
+# A model of 20,000 points, whose constraints are looked at row by row: rows of several kinds, constants of all, a declared array.
+large() {
+  awk 'BEGIN {
+    n = 5000
+    print "array [1..9] of int: t = [1,2,3,4,5,6,7,8,9];"
+    for (i = 1; i <= n; i++) printf "var 0..9: x%d;\n", i
+    for (i = 1; i <= n; i++) printf "var 0..20: y%d;\n", i
+    for (i = 1; i <= n; i++) {
+      printf "constraint int_plus(x%d,x%d,y%d) :: defines_var(y%d);\n", i, i % n + 1, i, i
+      if (i % 4 == 0) printf "constraint set_in(x%d,{1,3,5,7});\n", i
+      if (i % 4 == 1) printf "constraint array_int_element(x%d,t,x%d);\n", i, i
+      if (i % 4 == 2) printf "constraint int_lin_le([1,-1],[x%d,y%d],0);\n", i, i
+      if (i % 4 == 3) printf "constraint int_ne_reif(x%d,4000000000000,true);\n", i
+    }
+    print "solve satisfy;"
+  }' </dev/null
+}
+values() {
+  awk -v place="$1" 'BEGIN { for (i = 1; i <= 5000; i++) printf "x%d = %d;\n", i, i == place ? 9 : i % 4 * 2 + 1; print "----------" }' </dev/null
+}
+large >"$folder/large.fzn"
+awk '/^solve/ { print "constraint my_own(x1);" } { print }' "$folder/large.fzn" >"$folder/unknown.fzn"
+values 0 >"$folder/large.out"
+values 2500 >"$folder/large_wrong.out"
+expect 'a large model' 0 "$accepted" '' "$program" check "$folder/large.fzn" "$folder/large.out"
+expect 'a large model, violated' 1 $'block 1: violated: constraint 5000 set_in\nrejected: block 1' '' "$program" check "$folder/large.fzn" "$folder/large_wrong.out"
+expect 'a large model with an unknown constraint' 2 $'block 1: undecided: constraint 10001 my_own not known\nundecided: block 1' '' "$program" check "$folder/unknown.fzn" "$folder/large.out"
 mkfifo "$folder/pipe"
 "$program" check examples/first.fzn <"$folder/pipe" >"$folder/lines" 2>&1 &
 exec 7>"$folder/pipe"

@@ -25,8 +25,10 @@ use Rattle.fz_model.proofs.Reading.{in_reading_order}
 use Rattle.fz_judge.specs.declared.error.BlockError.{BlockError}
 use Rattle.fz_check.proofs.Reporting.{checked}
 use Rattle.fz_check.specs.Refused.{HasBlockFault, HasNameFault, HasStreamFault, IsFirstFault}
+use Rattle.fz_check.specs.declared.error.CheckError.{CheckError}
 use Rattle.fz_check.specs.declared.error.CheckError.TheVariants as errors
-use Rattle.fz_check.specs.Loading.{text_refusal, name_refusal, stream_refusal}
+use Rattle.std.specs.Prelude.{IfErr}
+use Rattle.fz_check.specs.Loading.{text_refusal, name_refusal, stream_refusal, IsStreamRefusal, IsJudgingRefusal, IsCheckRefusal}
 
 pub told_text : (e f : SyntaxError) → text_refusal e ≡ errors.Model f → (e ≡ f) × (f ≡ syntax.Memory → ⊥)
 told_text syntax.TooLong f h = let same : syntax.TooLong ≡ f = cc in (same, λ m. cc)
@@ -49,6 +51,30 @@ told_name names.Memory f h = cc
 pub residual_is : {A E : Type 0} (r : Result A E) (e f : E) → IsErrAnd r (λ g. g ≡ e) → r ≡ Err f → e ≡ f
 residual_is (Err g) e f h same = let is : g ≡ f = cc in sym h ∙ is
 residual_is (Ok x) e f h same = cc
+
+-- and what is so of the one that was met is so of it
+pub handed_on : {A E : Type 0} (Q : E → Type 0) (r : Result A E) (e : E) → IsErrAnd r (λ g. g ≡ e) → Q e → IfErr r Q
+handed_on Q (Err g) e h q = subst Q (sym h) q
+handed_on Q (Ok x) e h q = tt
+
+-- the refusals of one step are among those of a check
+pub stream_is_check : (e : CheckError) → IsStreamRefusal e → IsCheckRefusal e
+stream_is_check (errors.Stream e) h = tt
+stream_is_check errors.Memory h = tt
+stream_is_check errors.Read h = h
+stream_is_check errors.Write h = h
+stream_is_check (errors.Model e) h = tt
+stream_is_check (errors.Names e) h = tt
+stream_is_check (errors.Block n e) h = tt
+
+pub judging_is_check : (e : CheckError) → IsJudgingRefusal e → IsCheckRefusal e
+judging_is_check (errors.Block n e) h = tt
+judging_is_check errors.Memory h = tt
+judging_is_check errors.Read h = h
+judging_is_check errors.Write h = h
+judging_is_check (errors.Model e) h = tt
+judging_is_check (errors.Names e) h = tt
+judging_is_check (errors.Stream e) h = tt
 
 told_stream : (e f : StreamError) → stream_refusal e ≡ errors.Stream f → (e ≡ f) × (f ≡ stream.Memory → ⊥)
 told_stream stream.TooLong f h = let same : stream.TooLong ≡ f = cc in (same, λ m. cc)

@@ -11,3 +11,5 @@ pub mod Loops
 pub mod Next
 pub mod Loaded
 pub mod NameTable
+pub mod Sheets
+pub mod Grown

@@ -21,6 +21,8 @@ use Rattle.fz_data.specs.declared.model.Model.TheInside.{Inside}
 use Rattle.fz_data.specs.declared.parts.Goal as the_goal
 use Rattle.fz_data.specs.declared.parts.Posted as the_posted
 use Rattle.fz_data.specs.declared.scope.Scope.{Scope}
+use Rattle.fz_data.specs.declared.sheet.Sheets.{Sheets}
+use Rattle.fz_data.specs.Sheets.{AreSheetsOf}
 use Rattle.fz_meaning.specs.declared.term.Term.{Term}
 use Rattle.fz_data.specs.Naming.{own_terms}
 use Rattle.fz_data.specs.Parts.{posted_view, goal_view, declared_point}
@@ -72,11 +74,11 @@ module _ (all : List Decl) (s : Scope) (st : StandsFor all all s) where
 
 -- ---- the whole
 
-module _ (t : LocatedTree) (s : Scope) (ts : Vec Term Global) (cs : Vec the_posted.Posted Global) (ks : Vec (Option Known) Global) (g : the_goal.Goal) (st : StandsFor t.decls t.decls s) (clean : decls_fault [] t.decls ≡ None)
+module _ (t : LocatedTree) (s : Scope) (ts : Vec Term Global) (cs : Vec the_posted.Posted Global) (ks : Vec (Option Known) Global) (g : the_goal.Goal) (sh : Sheets) (st : StandsFor t.decls t.decls s) (clean : decls_fault [] t.decls ≡ None)
     (posted : map (posted_view s.variables.items s.arrays.items) cs.items ≡ map (posted_in s) t.constraints) (cited : AllByRecursion (CitesArrays s.arrays.items) cs.items)
     (sound : faults_in s (Some IntKind) (goal_parts t.solve.goal) ≡ None) (aim : goal_view g ≡ aim_in s t.solve.goal) where
   abbrev fields : Inside
-  fields = record { names = s.names; variables = s.variables; terms = ts; arrays = s.arrays; points = s.points; constraints = cs; known = ks; goal = g }
+  fields = record { names = s.names; variables = s.variables; terms = ts; arrays = s.arrays; points = s.points; constraints = cs; known = ks; goal = g; sheets = sh }
 
   new : AreNew [] t.decls
   new = are_new [] t.decls clean
@@ -90,8 +92,9 @@ module _ (t : LocatedTree) (s : Scope) (ts : Vec Term Global) (cs : Vec the_post
   pub model_is : model_view fields ≡ model_of t
   model_is = λ i. record { declared = declared_now t.decls s st i; constraints = posted_is i; aim = aim_is i }
 
-  pub laid_out : HasNoFault t → ts.items ≡ own_terms (length s.variables.items) → map (option_map known_row) ks.items ≡ map row_of (map (posted_view s.variables.items s.arrays.items) cs.items) → IsLaidOut fields
-  laid_out sound own rows = record {
+  pub laid_out : HasNoFault t → ts.items ≡ own_terms (length s.variables.items) → map (option_map known_row) ks.items ≡ map row_of (map (posted_view s.variables.items s.arrays.items) cs.items) → AreSheetsOf s.arrays.items cs.items ks.items sh → IsLaidOut fields
+  laid_out sound own rows sheets = record {
+    sheets = sheets;
     terms = own;
     variables = ap (flat_map variable_of) (declared_now t.decls s st) ∙ variables_known t.decls t.decls ∙ sym st.variables;
     places = ap (λ qs. map named_place (numbered_from 0 qs)) (declared_now t.decls s st) ∙ ap (map named_place) (numbered_is t) ∙ named_pairs t.decls [] t.decls refl new ∙ sym (pairs_now t.decls s st);

@@ -8,7 +8,7 @@ use Rattle.std.proofs.lemmas.List.{map-append, length-append}
 use Rattle.std.proofs.lemmas.Slice.Eq.{bytes_eq-Decides}
 use Rattle.fz_meaning.proofs.Lists.{all_append}
 use Rattle.fz_meaning.specs.declared.term.Term.{Term}
-use Rattle.fz_meaning.specs.declared.term.Term.TheVariants.{Var, Fixed}
+use Rattle.fz_meaning.specs.declared.term.Term.TheVariants.{Var}
 use Rattle.fz_data.specs.declared.names.Entry.{Entry}
 use Rattle.fz_data.specs.declared.names.Text.{Text}
 use Rattle.fz_data.specs.declared.names.Entry.TheVariants as entries

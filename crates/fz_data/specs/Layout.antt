@@ -17,6 +17,7 @@ use Rattle.fz_data.specs.declared.parts.DeclaredPoint.{DeclaredPoint}
 use Rattle.fz_data.specs.declared.parts.DeclaredPoint.TheVariants as points
 use Rattle.fz_data.specs.declared.model.Model.TheInside.{Inside}
 use Rattle.fz_data.specs.Kinds.{PlaceFits}
+use Rattle.fz_data.specs.Sheets.{AreSheetsOf}
 use Rattle.fz_data.specs.Parts.{variable_view, declared_view, declared_place, posted_view, goal_view, declared_point, definition_at}
 
 abbrev pub model_view : Inside → Model
@@ -72,5 +73,7 @@ pub record IsLaidOut (m : Inside) : Type 0 where
   pub cited : AllByRecursion (CitesArrays m.arrays.items) m.constraints.items
   -- each constraint is kept with the row that it fits
   pub known : map (option_map known_row) m.known.items ≡ map row_of (model_view m).constraints
+  -- each constraint stands on a sheet, where it reads as it is kept, or among the rest
+  pub sheets : AreSheetsOf m.arrays.items m.constraints.items m.known.items m.sheets
   -- what a name stands for has its kind
   pub kinds : (x : List ℕ) (p : meaning.Place) → find_name (model_view m) x ≡ Some p → PlaceFits (model_view m) p

@@ -8,3 +8,6 @@ pub mod Scope
 pub mod Stands
 pub mod Naming
 pub mod Names
+pub mod Readings
+pub mod Sheets
+pub mod Laying

@@ -1,6 +1,5 @@
 -- Only private functions use these: what was declared so far stands for declarations, whatever more variables and arrays come.
 use Rattle.std.specs.Prelude.{◌≡◌, ℕ, ◌++◌, List, map, flat_map}
-use Rattle.std.specs.Borrow.{Bor}
 use Rattle.std.specs.List.{AllByRecursion}
 use Rattle.fz_meaning.specs.Located.{Decl}
 use Rattle.fz_meaning.specs.Meaning as meaning

@@ -4,6 +4,8 @@
 
 mod declaring;
 mod found;
+mod laying;
+mod lines;
 mod loading;
 mod model;
 mod names;
@@ -13,14 +15,18 @@ mod point;
 mod posting;
 mod rows;
 mod scope;
+mod sheet;
 #[cfg(test)]
 mod tests;
 mod values;
 
 pub use found::{Found, What};
+pub use laying::Laying;
+pub use lines::part;
 pub use loading::load;
 pub use model::Model;
 pub use partial::Partial;
 pub use parts::{Argument, Array, ArrayName, Goal, Place, Posted, Variable};
-pub use point::{ConstraintParts, Point, PointParts};
+pub use point::{ConstraintParts, LaidParts, Point, PointParts};
+pub use sheet::{Laid, Line, Sheet, Slot};
 pub use values::{kind_of, literal_kind, literal_value, same_kind};

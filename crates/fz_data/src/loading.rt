@@ -71,7 +71,14 @@ fn read<'a>(alloc: Global, ast: &Ast<'a>) -> Result<Model<'a>, ModelError>
     let constraints = all_posted(alloc, &scope, &kinds, &ast.constraints)?;
     let goal = goal_of(alloc, &scope, &ast.solve.goal)?;
     let terms = variable_terms(alloc, scope.variables.len())?;
-    Ok(Model::assembled(scope, terms, constraints.posted, constraints.known, goal))
+    Ok(Model::assembled(
+        scope,
+        terms,
+        constraints.posted,
+        constraints.known,
+        goal,
+        constraints.sheets,
+    ))
 }
 
 /// The model of a tree. It refuses a tree with faults, with the leftmost; else only where memory runs out.

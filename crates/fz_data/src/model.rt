@@ -5,13 +5,17 @@ ghost use Rattle.fz_meaning.specs.Meaning.{constraint_points, find_name, points,
 ghost use Rattle.fz_table.specs.Known.{known_row};
 ghost use Rattle.fz_data.specs.Kinds.{PlaceFits};
 ghost use Rattle.fz_data.specs.Parts.{goal_view, posted_view, variable_view};
+ghost use Rattle.std.specs.List.{AllByRecursion};
+ghost use Rattle.fz_data.specs.Sheets.{Covers};
 ghost use Rattle.fz_data.specs.Shown.{IfConstraint, found_place, point_name, point_view, shown_posted};
 
 use crate::found::{Found, What};
+use crate::laying::Laying;
 use crate::names::{Names, Standing};
 use crate::parts::{Array, DeclaredPoint, Goal, Posted, Variable};
 use crate::point::{ConstraintParts, Point, PointParts};
 use crate::scope::Scope;
+use crate::sheet::Sheets;
 use fz_meaning::Term;
 use fz_table::Known;
 
@@ -30,6 +34,8 @@ pub struct Model<'a> {
     /// the row of the table that each constraint fits, in their order
     known: Vec<Option<Known>>,
     goal: Goal,
+    /// the constraints by their rows
+    sheets: Sheets,
 }
 
 impl<'a> std::marker::Model for Model<'a> {
@@ -91,6 +97,23 @@ impl<'a> Model<'a> {
         Some(Found { name: text, what })
     }
 
+    /// The constraints as they stand on sheets, for who looks at all of them. It takes no memory.
+    pub fn laying(&self) -> Laying<'_, 'a>
+        ensures constraints { map (posted_view result.variables.now result.arrays.now) result.constraints.now ≡ self.now.constraints }
+        ensures rows { map (option_map known_row) result.known.now ≡ map row_of self.now.constraints }
+        ensures covers { Covers result.rest.now result.sheets.now (length self.now.constraints) }
+        ensures within { AllByRecursion (λ n. n < length self.now.constraints) result.rest.now }
+    {
+        Laying {
+            constraints: &self.constraints,
+            variables: &self.variables,
+            arrays: &self.arrays,
+            known: &self.known,
+            sheets: &self.sheets.sheets,
+            rest: &self.sheets.rest,
+        }
+    }
+
     /// The number of points. It takes no memory.
     pub fn points(&self) -> usize
         ensures counted { result ≡ length (points self.now) }
@@ -127,6 +150,7 @@ impl<'a> Model<'a> {
                 variables: &self.variables,
                 arrays: &self.arrays,
                 known,
+                laid: None,
             });
         }
         match self.points[number] {
@@ -158,9 +182,10 @@ impl<'a> Model<'a> {
         constraints: Vec<Posted<'a>>,
         known: Vec<Option<Known>>,
         goal: Goal,
+        sheets: Sheets,
     ) -> Model<'a>
-        requires laid_out { IsLaidOut (record { names = scope.names; variables = scope.variables; terms = terms; arrays = scope.arrays; points = scope.points; constraints = constraints; known = known; goal = goal }) }
-        ensures view { result ≡ model_view (record { names = scope.entry.names; variables = scope.entry.variables; terms = terms; arrays = scope.entry.arrays; points = scope.entry.points; constraints = constraints.entry; known = known; goal = goal }) }
+        requires laid_out { IsLaidOut (record { names = scope.names; variables = scope.variables; terms = terms; arrays = scope.arrays; points = scope.points; constraints = constraints; known = known; goal = goal; sheets = sheets }) }
+        ensures view { result ≡ model_view (record { names = scope.entry.names; variables = scope.entry.variables; terms = terms; arrays = scope.entry.arrays; points = scope.entry.points; constraints = constraints.entry; known = known; goal = goal; sheets = sheets }) }
     {
         let Scope {
             names,
@@ -177,6 +202,7 @@ impl<'a> Model<'a> {
             constraints,
             known,
             goal,
+            sheets,
         }
     }
 }

@@ -1,6 +1,13 @@
 //! What is checked of a model, one point after another.
 
+ghost use Rattle.std.specs.Prelude.{◌≡◌};
+ghost use Rattle.std.specs.Coded.{codes};
+ghost use Rattle.fz_base.specs.contracts.sets.IntSet as the_set;
+ghost use Rattle.fz_data.specs.Readings.{kept_readings, readings_or};
+
 use crate::parts::{Array, Posted, Variable};
+use crate::sheet::{Laid, Slot};
+use fz_base::Value;
 use fz_meaning::{Domain, Term};
 use fz_table::Known;
 
@@ -21,6 +28,17 @@ pub struct ConstraintParts<'m, 'a> {
     pub variables: &'m [Variable<'a>],
     pub arrays: &'m [Array<'a>],
     pub known: Option<Known>,
+    /// its arguments as they stand on a sheet, where they were looked up there
+    pub laid: Option<LaidParts<'m>>,
+    ghost reads: { readings_or arrays.now laid (kept_readings arrays.now posted.now) ≡ kept_readings arrays.now posted.now } by { Prim.hlevel (codes, the_set.the_row.coded) },
+}
+
+/// The arguments of a constraint on a sheet, with the sheet's slots and constants.
+#[derive(Clone, Copy)]
+pub struct LaidParts<'m> {
+    pub arguments: &'m [Laid],
+    pub slots: &'m [Slot],
+    pub constants: &'m [Value],
 }
 
 /// A point with its parts: a variable with its number, its definition, an array's name, domain and elements, or a constraint.

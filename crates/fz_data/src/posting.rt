@@ -12,6 +12,7 @@ ghost use Rattle.fz_table.specs.Known.{known_row};
 ghost use Rattle.fz_data.specs.Fitting.{kinds_among};
 ghost use Rattle.fz_data.specs.Layout.{AreCited, CitesArrays, IsCited};
 ghost use Rattle.fz_data.specs.Parts.{argument_view, goal_view, place_view, posted_view};
+ghost use Rattle.fz_data.specs.Sheets.{AreSheetsOf};
 ghost use Rattle.fz_data.specs.Scope.{AreKept, Tells, aim_in, argument_fault, argument_in, constraint_fault_in, defined_in, bare_name_of, fault_in, faults_in, inner_of, only_arg, place_in, place_of_part, posted_in, variable_at_term, variable_by_place};
 ghost use Rattle.fz_meaning.specs.Located.Basic.{Named};
 ghost use Rattle.fz_syntax.specs.View.{arg_list, bare_arg};
@@ -20,6 +21,7 @@ use crate::names::Standing;
 use crate::parts::{Argument, ArrayName, Goal, Place, Posted};
 use crate::rows::{Cited, row_of};
 use crate::scope::{Scope, term_of};
+use crate::sheet::Sheets;
 use crate::values::{copied, literal_value};
 use fz_meaning::{Kind, ModelError, Term};
 use fz_syntax::{Basic, Constraint, Expr, Goal as TreeGoal, Name, Note, NoteArg, NoteBasic};
@@ -241,6 +243,7 @@ fn posted<'a>(
 pub(crate) struct Constraints<'a> {
     pub(crate) posted: Vec<Posted<'a>>,
     pub(crate) known: Vec<Option<Known>>,
+    pub(crate) sheets: Sheets,
 }
 
 /// The constraints, in source order. The row of each is found while its arguments are at hand.
@@ -256,6 +259,7 @@ pub(crate) fn all_posted<'a>(
     ensures posted { IfOk result (λ cs. map (posted_view scope.now.variables.items scope.now.arrays.items) cs.posted.items ≡ map (posted_in scope.now) (map located_constraint constraints.now)) }
     ensures rows { IfOk result (λ cs. map (option_map known_row) cs.known.items ≡ map row_of (map (posted_view scope.now.variables.items scope.now.arrays.items) cs.posted.items)) }
     ensures cited { IfOk result (λ cs. AllByRecursion (CitesArrays scope.now.arrays.items) cs.posted.items) }
+    ensures sheets { IfOk result (λ cs. AreSheetsOf scope.now.arrays.items cs.posted.items cs.known.items cs.sheets) }
     ensures tells { IfErr result (λ e. Tells e (first_some (constraint_fault_in scope.now) (map located_constraint constraints.now))) }
 {
     let cited = Cited {
@@ -265,15 +269,18 @@ pub(crate) fn all_posted<'a>(
     };
     let mut found = Vec::with_capacity(alloc, constraints.len())?;
     let mut known = Vec::with_capacity(alloc, constraints.len())?;
+    let mut sheets = Sheets::new(alloc)?;
     for constraint in constraints {
         let one = posted(alloc, scope, constraint)?;
         let row = row_of(&one, &cited);
+        sheets.add(alloc, found.len(), row, &one)?;
         known.push(row)?;
         found.push(one)?;
     }
     Ok(Constraints {
         posted: found,
         known,
+        sheets,
     })
 }
 

@@ -5,6 +5,7 @@ mod arrays;
 mod builtins;
 mod constraints;
 mod domains;
+mod holding;
 mod numbers;
 mod outcome;
 mod points;
@@ -13,5 +14,6 @@ mod sums;
 mod truths;
 
 pub use builtins::of_builtin;
+pub use holding::all_hold;
 pub use outcome::Outcome;
 pub use points::state;

@@ -1,11 +1,14 @@
 -- The verdict from its parts: the printed names, the points, and the objective.
 use Rattle.std.proofs.Common.{◌≡◌, ℕ, zero, suc, ◌+◌, ◌<◌, true, false, List, [], ◌∷◌, ◌++◌, length, take, drop, Option, Some, None, is_some, option_map, slice_get, refl, sym, ap, ◌∙◌, arith}
+use Rattle.std.specs.List.{list_all}
 use Rattle.std.specs.Option.{option_or}
+use Rattle.fz_model.specs.Holding.{is_held, point_holds}
+use Rattle.fz_model.proofs.Values.{and_first, and_second}
 use Rattle.fz_model.specs.declared.State.{State}
 use Rattle.fz_model.specs.declared.State.TheVariants.{Holds, Fails, NoValue, Unknown, TooLarge}
 use Rattle.fz_model.specs.Meaning.{Model, Partial, Point, PointName, points, state, first_some, shown_point, variables_of}
 use Rattle.fz_verdict.specs.Verdict.{Fault, Reason, fault_at, fault_named, first_unset, point_fails, point_undecided, reason_at, verdict_by}
-use Rattle.fz_verdict.specs.Verdict.Verdict.{Violated}
+use Rattle.fz_verdict.specs.Verdict.Verdict.{Violated, Satisfied}
 use Rattle.fz_judge.specs.Working.{holds, is_failed, reason_named, with_objective}
 use Rattle.fz_judge.proofs.Lists.{first_append, or_some, there_is}
 
@@ -116,3 +119,29 @@ module _ (m : Model) (K : Partial) (i : ℕ) (s : State) (q : PointName) (within
   reason_before some =
       let (p, at) = there_is (points m) i within in
       sym (first_so_far (point_undecided m K) (points m) i p at ∙ or_some (first_some (point_undecided m K) (take i (points m))) (point_undecided m K p) some)
+
+-- ---- where all points hold
+
+is_held_is : (s : State) → is_held s ≡ true → s ≡ Holds
+is_held_is Holds e = refl
+is_held_is Fails e = cc
+is_held_is NoValue e = cc
+is_held_is Unknown e = cc
+is_held_is TooLarge e = cc
+
+none_fail : (K : Partial) (ps : List Point) → list_all (point_holds K) ps ≡ true → first_some (point_fails K) ps ≡ None
+none_fail K [] h = refl
+none_fail K (p ∷ ps) h =
+    let held = is_held_is (state K p) (and_first (point_holds K p) _ h) in
+    let more = none_fail K ps (and_second (point_holds K p) _ h) in
+    λ j. option_or (fault_at p (held j)) (more j)
+
+none_undecided : (m : Model) (K : Partial) (ps : List Point) → list_all (point_holds K) ps ≡ true → first_some (point_undecided m K) ps ≡ None
+none_undecided m K [] h = refl
+none_undecided m K (p ∷ ps) h =
+    let held = is_held_is (state K p) (and_first (point_holds K p) _ h) in
+    let more = none_undecided m K ps (and_second (point_holds K p) _ h) in
+    λ j. option_or (reason_at m K p (held j)) (more j)
+
+pub all_held : (m : Model) (K : Partial) → list_all (point_holds K) (points m) ≡ true → Satisfied ≡ verdict_by (first_some (point_fails K) (points m)) (first_some (point_undecided m K) (points m))
+all_held m K h = let fails = none_fail K (points m) h in let undecided = none_undecided m K (points m) h in λ j. verdict_by (sym fails j) (sym undecided j)

@@ -10,3 +10,4 @@ pub use Rattle.fz_data.specs.Parts
 pub use Rattle.fz_data.specs.Shown
 pub use Rattle.fz_data.specs.Partial
 pub use Rattle.fz_data.specs.Kinds
+pub use Rattle.fz_eval.specs.Holding

@@ -2,3 +2,4 @@ pub mod Slots
 pub mod Shapes
 pub mod Ready
 pub mod Sums
+pub mod Standing

@@ -4,32 +4,29 @@ use Rattle.std.proofs.lemmas.List.{at_drop_more, at_drop_all}
 use Rattle.fz_meaning.specs.Meaning.{Partial}
 use Rattle.fz_table.specs.declared.row.Shape.{Shape}
 use Rattle.fz_table.specs.Known.{shape_of}
-use Rattle.fz_data.specs.declared.parts.Variable.{Variable}
-use Rattle.fz_data.specs.declared.parts.Array.{Array}
-use Rattle.fz_data.specs.declared.parts.Argument.{Argument}
-use Rattle.fz_data.specs.Parts.{argument_view}
-use Rattle.fz_scene.specs.Given.{are_read, argument_is_read}
+use Rattle.fz_data.specs.Readings.{Reading}
+use Rattle.fz_scene.specs.Laid.{reading_is_read, readings_are_read}
 
 and_false : (a : Bool) → (a && false) ≡ false
 and_false true = refl
 and_false false = refl
 
-module _ (K : Partial) (vs : List Variable) (xs : List Array) where
+module _ {X : Type 0} (K : Partial) (view : X → Reading) where
   -- the arguments can be read as the shapes ask
-  abbrev pub fit : List Shape → List Argument → Bool
-  fit ss as' = are_read K (map shape_of ss) (map (argument_view vs xs) as')
+  abbrev pub fit : List Shape → List X → Bool
+  fit ss as' = readings_are_read K (map shape_of ss) (map view as')
 
-  abbrev one : Shape → Argument → Bool
-  one s a = argument_is_read K (shape_of s) (argument_view vs xs a)
+  abbrev one : Shape → X → Bool
+  one s a = reading_is_read K (shape_of s) (view a)
 
-  pub fit_not_long : (ss : List Shape) (as' : List Argument) → length ss ≢ length as' → false ≡ fit ss as'
+  pub fit_not_long : (ss : List Shape) (as' : List X) → length ss ≢ length as' → false ≡ fit ss as'
   fit_not_long [] [] h = absurd (h refl)
   fit_not_long [] (a ∷ as') h = refl
   fit_not_long (s ∷ ss) [] h = refl
   fit_not_long (s ∷ ss) (a ∷ as') h = sym (and_false (one s a)) ∙ ap (λ b. one s a && b) (fit_not_long ss as' (λ e. h (ap suc e)))
 
-  module _ (ss : List Shape) (as' : List Argument) (k : ℕ) where
-    module _ (s : Shape) (a : Argument) (lt : k < length ss) (lt' : k < length as') (at : s ≡ get_or ss k s) (at' : a ≡ get_or as' k a)
+  module _ (ss : List Shape) (as' : List X) (k : ℕ) where
+    module _ (s : Shape) (a : X) (lt : k < length ss) (lt' : k < length as') (at : s ≡ get_or ss k s) (at' : a ≡ get_or as' k a)
         (left : fit ss as' ≡ fit (drop k ss) (drop k as')) (b : Bool) (is : b ≡ one s a) where
       fit_next : fit ss as' ≡ (one s a && fit (drop (k + 1) ss) (drop (k + 1) as'))
       fit_next =

@@ -35,6 +35,9 @@ read_found f K [] i v b e is = cc
 read_found f K (s ∷ ss) zero v b e is = let same : value_of K s ≡ v = cc in ap Some (ap f same ∙ sym is)
 read_found f K (s ∷ ss) (suc i) v b e is = read_found f K ss i v b e is
 
+pub slot_found : {A B C : Type 0} (f : B → C) (g : A → B) (ss : List A) (i : ℕ) (s : A) (b : C) → slice_get ss i ≡ Some s → b ≡ f (g s) → slice_get (map f (map g ss)) i ≡ Some b
+slot_found f g ss i s b e is = mapped_at f (map g ss) i (g s) (mapped_at g ss i s e) ∙ ap Some (sym is)
+
 -- ---- what is asked of each element
 
 list_all-same : {A : Type 0} (f g : A → Bool) → ((x : A) → f x ≡ g x) → (xs : List A) → list_all f xs ≡ list_all g xs

@@ -1,5 +1,5 @@
 -- What the code's views of a constraint stand for.
-use Rattle.std.specs.Prelude.{◌≡◌, ℕ, ℤ, Bool, true, false, List, [], map, slice_get, Option, None, Some}
+use Rattle.std.specs.Prelude.{◌≡◌, ℕ, ℤ, Bool, true, false, List, [], map, slice_get, Option, Some}
 use Rattle.std.specs.List.{list_all}
 use Rattle.std.specs.Option.{option_map_or}
 use Rattle.fz_base.specs.Sets.{NumberSet}
@@ -13,6 +13,7 @@ use Rattle.fz_data.specs.declared.parts.Argument.{Argument}
 use Rattle.fz_data.specs.declared.parts.Argument.TheVariants as arguments
 use Rattle.fz_data.specs.declared.parts.Array.{Array}
 use Rattle.fz_data.specs.Parts.{argument_view}
+use Rattle.fz_data.specs.Readings.{place_term, slot_term}
 use Rattle.fz_scene.specs.declared.elements.Elements.{Elements}
 use Rattle.fz_scene.specs.declared.elements.Kept.{Kept}
 use Rattle.fz_scene.specs.declared.elements.Kept.TheVariants as kept
@@ -25,12 +26,12 @@ use Rattle.fz_scene.specs.Given.{ints_of, bools_of, sets_of, is_read, has_value,
 
 -- the scalar at a place, as the code keeps it
 abbrev pub slot_kept : Place → Option Term
-slot_kept (places.Scalar t) = Some t
-slot_kept (places.Array x) = None
+slot_kept p = place_term p
 
 abbrev pub slots_kept : Kept → List (Option Term)
 slots_kept (kept.Terms ts) = map Some ts.now
 slots_kept (kept.Places ps) = map slot_kept ps.now
+slots_kept (kept.Slots ss cs) = map (slot_term cs.now) ss.now
 
 abbrev pub slots_of : Elements → List (Option Term)
 slots_of e = slots_kept e.kept

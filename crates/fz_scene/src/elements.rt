@@ -1,15 +1,17 @@
 //! The elements of an array under a partial assignment.
 
-use crate::reading::{all_read, are_read, bool_in, int_in, scalar_at, set_in, term_at};
+use crate::laid::{slot_at, slot_int, slot_set, slot_truth, slots_are_read};
+use crate::reading::{all_read, are_read, bool_in, int_in, place_value, set_in, term_value};
 use fz_base::{IntSet, Value};
-use fz_data::{Partial, Place};
+use fz_data::{Partial, Place, Slot};
 use fz_meaning::{Kind, Term};
 
-// A declared array's elements, or a list in brackets.
+// A declared array's elements, a list in brackets, or the slots of one with the constants of their sheet.
 #[derive(Clone, Copy)]
 pub(crate) enum Kept<'s, 'a> {
     Terms(&'s [Term]),
     Places(&'s [Place<'a>]),
+    Slots(&'s [Slot], &'s [Value]),
 }
 
 /// The elements of an array argument. Where one has no value of the kind that is asked for, a reading gives 0, false or the empty set.
@@ -21,9 +23,8 @@ pub struct Elements<'s, 'a> {
 
 impl<'s, 'a> Elements<'s, 'a> {
     ghost use Rattle.std.specs.Prelude.{◌≡◌, ◌<◌, Some, length, map, option_map, slice_get};
-    ghost use Rattle.std.specs.Option.{option_map_or};
     ghost use Rattle.std.specs.List.{list_all};
-    ghost use Rattle.fz_scene.specs.Given.{is_read, value_of};
+    ghost use Rattle.fz_scene.specs.Given.{is_read};
     ghost use Rattle.fz_scene.specs.Views.{bools, ints, sets, slots_of, under};
 
     /// How many there are. It takes no memory.
@@ -34,29 +35,8 @@ impl<'s, 'a> Elements<'s, 'a> {
         match self.kept {
             Kept::Terms(terms) => terms.len(),
             Kept::Places(places) => places.len(),
+            Kept::Slots(slots, _) => slots.len(),
         }
-    }
-
-    /// The scalar at a place, counted from 0: none where an array's name stands there, which no constraint with a row has. It takes no memory.
-    #[inline(always)]
-    pub fn term(&self, index: usize) -> Option<&'s Term>
-        requires in_range { index < length (slots_of self.now) }
-        ensures found { slice_get (slots_of self.now) index ≡ Some (option_map (λ t. t.now) result) }
-    {
-        match self.kept {
-            Kept::Terms(terms) => Some(term_at(terms, index)),
-            Kept::Places(places) => scalar_at(places, index),
-        }
-    }
-
-    /// Its value, where it has one. It takes no memory.
-    #[inline(always)]
-    pub fn value(&self, index: usize) -> Option<&'s Value>
-        requires in_range { index < length (slots_of self.now) }
-        ensures valued { slice_get (map (value_of (under self.now)) (slots_of self.now)) index ≡ Some (option_map (λ v. v.now) result) }
-    {
-        let term = self.term(index)?;
-        self.partial.value(term)
     }
 
     /// Its value as a whole number. It takes no memory.
@@ -65,7 +45,13 @@ impl<'s, 'a> Elements<'s, 'a> {
         requires in_range { index < length (slots_of self.now) }
         ensures read { slice_get (ints self.now) index ≡ Some result }
     {
-        int_in(self.value(index))
+        match self.kept {
+            Kept::Terms(terms) => int_in(term_value(self.partial, terms, index)),
+            Kept::Places(places) => int_in(place_value(self.partial, places, index)),
+            Kept::Slots(slots, constants) => {
+                slot_int(self.partial, constants, slot_at(slots, index))
+            }
+        }
     }
 
     /// Its value as a truth value. It takes no memory.
@@ -74,7 +60,13 @@ impl<'s, 'a> Elements<'s, 'a> {
         requires in_range { index < length (slots_of self.now) }
         ensures read { slice_get (bools self.now) index ≡ Some result }
     {
-        bool_in(self.value(index))
+        match self.kept {
+            Kept::Terms(terms) => bool_in(term_value(self.partial, terms, index)),
+            Kept::Places(places) => bool_in(place_value(self.partial, places, index)),
+            Kept::Slots(slots, constants) => {
+                slot_truth(self.partial, constants, slot_at(slots, index))
+            }
+        }
     }
 
     /// Its value as a set. It takes no memory.
@@ -83,7 +75,14 @@ impl<'s, 'a> Elements<'s, 'a> {
         requires in_range { index < length (slots_of self.now) }
         ensures read { slice_get (sets self.now) index ≡ Some result.now }
     {
-        set_in(self.value(index), self.partial.no_numbers())
+        let empty = self.partial.no_numbers();
+        match self.kept {
+            Kept::Terms(terms) => set_in(term_value(self.partial, terms, index), empty),
+            Kept::Places(places) => set_in(place_value(self.partial, places, index), empty),
+            Kept::Slots(slots, constants) => {
+                slot_set(self.partial, constants, slot_at(slots, index))
+            }
+        }
     }
 
     // Whether each has a value of the kind.
@@ -93,6 +92,7 @@ impl<'s, 'a> Elements<'s, 'a> {
         match self.kept {
             Kept::Terms(terms) => are_read(self.partial, kind, terms),
             Kept::Places(places) => all_read(self.partial, kind, places),
+            Kept::Slots(slots, constants) => slots_are_read(self.partial, constants, kind, slots),
         }
     }
 }

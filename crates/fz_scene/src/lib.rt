@@ -4,6 +4,7 @@
 
 mod elements;
 mod given;
+mod laid;
 mod reading;
 mod scene;
 

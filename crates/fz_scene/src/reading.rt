@@ -117,6 +117,33 @@ pub(crate) fn term_at(terms: &[Term], index: usize) -> &Term
     &terms[index]
 }
 
+/// The value of the scalar at an index.
+#[inline(always)]
+pub(crate) fn term_value<'s>(
+    partial: &'s Partial,
+    terms: &'s [Term],
+    index: usize,
+) -> Option<&'s Value>
+    requires { index < length terms.now }
+    ensures { slice_get (map (value_of partial.now) (map Some terms.now)) index ≡ Some (option_map (λ v. v.now) result) }
+{
+    partial.value(term_at(terms, index))
+}
+
+/// The value of the scalar at an index of a list in brackets.
+#[inline(always)]
+pub(crate) fn place_value<'s>(
+    partial: &'s Partial,
+    places: &'s [Place<'_>],
+    index: usize,
+) -> Option<&'s Value>
+    requires { index < length places.now }
+    ensures { slice_get (map (value_of partial.now) (map slot_kept places.now)) index ≡ Some (option_map (λ v. v.now) result) }
+{
+    let term = scalar_at(places, index)?;
+    partial.value(term)
+}
+
 /// The scalar at an index of a list in brackets.
 #[inline(always)]
 pub(crate) fn scalar_at<'s>(places: &'s [Place<'_>], index: usize) -> Option<&'s Term>

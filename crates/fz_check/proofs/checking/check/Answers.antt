@@ -5,7 +5,8 @@ use Rattle.fz_judge.specs.View.{verdict_view}
 use Rattle.fz_check.specs.declared.error.CheckError.TheVariants as errors
 use Rattle.fz_check.proofs.Accepting.{accepted_solved, of_stream, in_order}
 use Rattle.fz_check.proofs.Reporting.{reported, none_where_violated}
-use Rattle.fz_check.proofs.Refusals.{name_fault_on, block_fault_on, residual_is}
+use Rattle.fz_check.proofs.Refusals.{name_fault_on, block_fault_on, residual_is, handed_on, stream_is_check, judging_is_check}
+use Rattle.fz_check.specs.Loading.{IsCheckRefusal}
 use Rattle.fz_check.specs.Refused.{IsFirstFault}
 use Rattle.fz_check.proofs.checking.check.Goals as goal
 
@@ -52,3 +53,11 @@ returns-in_err-verdicts-clause-block c = λ n e same.
     c.in_ok-found.found.blocks.items c.in_ok-found.found.claims.items c.in_ok-found.ensures.read c.in_ok-found.ensures.places n e
     (subst (λ l. IsFirstFault c.in_ok-loaded.loaded l n e) c.deref.ensures.value
     (c.judge_blocks.ensures.block n e (c.in_err-verdicts.was ∙ ap Err (residual_is c.from_residual-in_err-verdicts.result c.in_err-verdicts.field-0.0 (errors.Block n e) c.from_residual-in_err-verdicts.ensures.1 same))))
+
+pub returns-in_err-found-clause-kinds : goal.returns-in_err-found-clause-kinds
+returns-in_err-found-clause-kinds c =
+    handed_on IsCheckRefusal c.from_residual-in_err-found.result c.in_err-found.field-0.0 c.from_residual-in_err-found.ensures.1 (stream_is_check c.in_err-found.field-0.0 c.in_err-found.ensures.kinds)
+
+pub returns-in_err-verdicts-clause-kinds : goal.returns-in_err-verdicts-clause-kinds
+returns-in_err-verdicts-clause-kinds c =
+    handed_on IsCheckRefusal c.from_residual-in_err-verdicts.result c.in_err-verdicts.field-0.0 c.from_residual-in_err-verdicts.ensures.1 (judging_is_check c.in_err-verdicts.field-0.0 c.in_err-verdicts.ensures.kinds)

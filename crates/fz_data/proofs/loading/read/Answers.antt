@@ -47,10 +47,11 @@ assembled-requires c =
     let known = subst (λ cs. first_some (constraint_fault_in s) (map located_constraint cs) ≡ None) c.deref-4.ensures.value c.in_ok-constraints.ensures.known in
     let counted : c.len.result ≡ length s.variables.items = omega arith in
     record {
-      laid_out = laid_out t s c.in_ok-terms.terms c.in_ok-constraints.constraints.posted c.in_ok-constraints.constraints.known c.in_ok-goal.goal stands clean posted c.in_ok-constraints.ensures.cited c.in_ok-goal.ensures.clean c.in_ok-goal.ensures.aim
+      laid_out = laid_out t s c.in_ok-terms.terms c.in_ok-constraints.constraints.posted c.in_ok-constraints.constraints.known c.in_ok-goal.goal c.in_ok-constraints.constraints.sheets stands clean posted c.in_ok-constraints.ensures.cited c.in_ok-goal.ensures.clean c.in_ok-goal.ensures.aim
           (no_fault t (none_anywhere t s stands clean known c.in_ok-goal.ensures.clean))
           (c.in_ok-terms.ensures ∙ ap own_terms counted)
-          c.in_ok-constraints.ensures.rows;
+          c.in_ok-constraints.ensures.rows
+          c.in_ok-constraints.ensures.sheets;
     }
 
 pub returns-clause-clean : goal.returns-clause-clean
@@ -69,4 +70,4 @@ returns-clause-model c =
     let stands = subst (λ ds. StandsFor (map located_decl ds) (map located_decl ds) s) c.deref.ensures.value c.in_ok-scope.ensures.stands in
     let clean = subst (λ ds. decls_fault [] (map located_decl ds) ≡ None) c.deref.ensures.value c.in_ok-scope.ensures.clean in
     let posted = subst (λ cs. map (posted_view s.variables.items s.arrays.items) c.in_ok-constraints.constraints.posted.items ≡ map (posted_in s) (map located_constraint cs)) c.deref-4.ensures.value c.in_ok-constraints.ensures.posted in
-    c.assembled.ensures.view ∙ model_is t s c.in_ok-terms.terms c.in_ok-constraints.constraints.posted c.in_ok-constraints.constraints.known c.in_ok-goal.goal stands clean posted c.in_ok-constraints.ensures.cited c.in_ok-goal.ensures.clean c.in_ok-goal.ensures.aim
+    c.assembled.ensures.view ∙ model_is t s c.in_ok-terms.terms c.in_ok-constraints.constraints.posted c.in_ok-constraints.constraints.known c.in_ok-goal.goal c.in_ok-constraints.constraints.sheets stands clean posted c.in_ok-constraints.ensures.cited c.in_ok-goal.ensures.clean c.in_ok-goal.ensures.aim

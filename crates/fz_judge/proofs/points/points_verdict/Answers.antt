@@ -3,9 +3,12 @@ use Rattle.fz_model.specs.Meaning.{points}
 use Rattle.fz_model.specs.Shown.{point_name}
 use Rattle.fz_judge.specs.View.{reason_view}
 use Rattle.fz_judge.proofs.Lists.{not_some, seen_is_some}
-use Rattle.fz_judge.proofs.Verdicts.{held_passes, held_decided, point_violates, point_passes, reason_here, reason_before}
+use Rattle.fz_judge.proofs.Verdicts.{all_held, held_passes, held_decided, point_violates, point_passes, reason_here, reason_before}
 use Rattle.fz_judge.proofs.points.points_verdict.Goals.{then-is_none, else-is_none}
 use Rattle.fz_judge.proofs.points.points_verdict.Goals as goal
+
+pub returns-then-branch : goal.returns-then-branch
+returns-then-branch c = all_held c.args.model.now c.args.partial.now (c.in_ok-are_seen_to_hold.ensures c.if-branch.true)
 
 pub returns-then-is_failed : goal.returns-then-is_failed
 returns-then-is_failed c =

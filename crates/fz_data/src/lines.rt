@@ -1,0 +1,73 @@
+//! Constraints as they are looked up on sheets.
+
+ghost use Rattle.std.specs.Prelude.{◌≡◌, ◌<◌, Some, drop, length, option_map, pred, slice_get, suc, take};
+ghost use Rattle.fz_data.specs.Laying.{IsPartsOf};
+ghost use Rattle.fz_data.specs.Sheets.{known_at, lines_of};
+
+use crate::laying::Laying;
+use crate::point::{ConstraintParts, LaidParts};
+
+/// So many items from a place on, as far as there are.
+#[inline]
+pub fn part<T>(items: &[T], first: usize, count: usize) -> &[T]
+    ensures { result.now ≡ take count (drop first items.now) }
+{
+    if first > items.len() {
+        return &[];
+    }
+    let tail = &items[first..];
+    if count > tail.len() {
+        return tail;
+    }
+    &tail[..count]
+}
+
+impl<'m, 'a> Laying<'m, 'a> {
+    /// How many sheets there are.
+    pub fn sheets(&self) -> usize
+        ensures counted { result ≡ length self.now.sheets.now }
+    {
+        self.sheets.len()
+    }
+
+    /// How many constraints stand on the sheet of a number.
+    pub fn lines(&self, sheet: usize) -> usize
+        requires in_range { sheet < length self.now.sheets.now }
+        ensures counted { result ≡ length (lines_of self.now.sheets.now sheet) }
+    {
+        self.sheets[sheet].lines.len()
+    }
+
+    /// The numbers, from 0, of the constraints that stand on no sheet.
+    pub fn rest(&self) -> &'m [usize]
+        ensures all { result.now ≡ self.now.rest.now }
+    {
+        self.rest
+    }
+
+    /// The constraint on a line of a sheet.
+    #[inline]
+    pub fn parts(&self, sheet: usize, line: usize) -> ConstraintParts<'m, 'a>
+        requires is_sheet { sheet < length self.now.sheets.now }
+        requires is_line { line < length (lines_of self.now.sheets.now sheet) }
+        ensures number { option_map (λ l. suc l.number) (slice_get (lines_of self.now.sheets.now sheet) line) ≡ Some result.number }
+        ensures posted { IsPartsOf self.now result }
+        ensures known { result.known ≡ known_at self.now.known.now (pred result.number) }
+    {
+        let sheet = &self.sheets[sheet];
+        let line = sheet.lines[line];
+        let number = line.number as usize;
+        ConstraintParts {
+            number: number + 1,
+            posted: &self.constraints[number],
+            variables: self.variables,
+            arrays: self.arrays,
+            known: Some(line.known),
+            laid: Some(LaidParts {
+                arguments: part(&sheet.laid, line.first as usize, line.count as usize),
+                slots: &sheet.slots,
+                constants: &sheet.constants,
+            }),
+        }
+    }
+}

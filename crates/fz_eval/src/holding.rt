@@ -1,0 +1,151 @@
+//! Whether all points hold. The constraints are looked at row by row, as they stand on the model's sheets: the same is done for many of them
+//! in turn, over memory in its order.
+
+ghost use Rattle.std.specs.Prelude.{◌≡◌, ◌≤◌, ◌<◌, ◌+◌, IfOk, Some, length, map, option_map, slice_get, take};
+ghost use Rattle.std.specs.List.{AllByRecursion, list_all};
+ghost use Rattle.fz_meaning.specs.Meaning.{points, row_of};
+ghost use Rattle.fz_table.specs.Known.{known_row};
+ghost use Rattle.fz_data.specs.Parts.{posted_view};
+ghost use Rattle.fz_data.specs.Sheets.{lines_of};
+ghost use Rattle.fz_data.specs.declared.sheet.Line.{Line};
+ghost use Rattle.fz_eval.specs.Holding.{is_held, number_holds, point_holds};
+
+use crate::constraints::of_constraint;
+use crate::points::state;
+use fz_data::{Laying, Model, Partial};
+use fz_meaning::State;
+use std::alloc::{AllocError, Global};
+
+fn is_held(state: State) -> bool
+    ensures { result ≡ is_held state }
+{
+    matches!(state, State::Holds)
+}
+
+/// Whether the first so many points hold.
+fn first_hold(
+    alloc: Global,
+    model: &Model<'_>,
+    count: usize,
+    partial: &Partial,
+) -> Result<bool, AllocError>
+    requires in_range { count ≤ length (points model.now) }
+    ensures { IfOk result (λ b. b ≡ list_all (point_holds partial.now) (take count (points model.now))) }
+{
+    for number in 0..count {
+        let found = state(alloc, model, number, partial)?;
+        if !is_held(found) {
+            return Ok(false);
+        }
+    }
+    Ok(true)
+}
+
+/// Whether the constraint of a number, from 0, holds, where so many points stand before the constraints.
+fn number_holds(
+    alloc: Global,
+    model: &Model<'_>,
+    before: usize,
+    number: usize,
+    partial: &Partial,
+) -> Result<bool, AllocError>
+    requires counted { before + length model.now.constraints ≡ length (points model.now) }
+    requires few { length (points model.now) ≤ usize.MAX }
+    requires in_range { number < length model.now.constraints }
+    ensures { IfOk result (λ b. b ≡ number_holds partial.now model.now.constraints number) }
+{
+    let found = state(alloc, model, before + number, partial)?;
+    Ok(is_held(found))
+}
+
+/// Whether the constraints of these numbers hold.
+fn rest_holds(
+    alloc: Global,
+    model: &Model<'_>,
+    before: usize,
+    rest: &[usize],
+    partial: &Partial,
+) -> Result<bool, AllocError>
+    requires counted { before + length model.now.constraints ≡ length (points model.now) }
+    requires few { length (points model.now) ≤ usize.MAX }
+    requires in_range { AllByRecursion (λ n. n < length model.now.constraints) rest.now }
+    ensures { IfOk result (λ b. b ≡ list_all (number_holds partial.now model.now.constraints) rest.now) }
+{
+    for place in 0..rest.len() {
+        let number = rest[place];
+        if !number_holds(alloc, model, before, number, partial)? {
+            return Ok(false);
+        }
+    }
+    Ok(true)
+}
+
+/// Whether the constraint on a line of a sheet holds.
+#[inline]
+fn line_holds(
+    alloc: Global,
+    laying: &Laying<'_, '_>,
+    sheet: usize,
+    line: usize,
+    partial: &Partial,
+) -> Result<bool, AllocError>
+    requires rows { map (option_map known_row) laying.now.known.now ≡ map row_of (map (posted_view laying.now.variables.now laying.now.arrays.now) laying.now.constraints.now) }
+    requires is_sheet { sheet < length laying.now.sheets.now }
+    requires is_line { line < length (lines_of laying.now.sheets.now sheet) }
+    ensures { IfOk result (λ b. (l : Line) → slice_get (lines_of laying.now.sheets.now sheet) line ≡ Some l → b ≡ number_holds partial.now (map (posted_view laying.now.variables.now laying.now.arrays.now) laying.now.constraints.now) l.number) }
+{
+    let found = of_constraint(alloc, laying.parts(sheet, line), partial)?;
+    Ok(is_held(found))
+}
+
+/// Whether the constraints on a sheet hold.
+fn sheet_holds(
+    alloc: Global,
+    laying: &Laying<'_, '_>,
+    sheet: usize,
+    partial: &Partial,
+) -> Result<bool, AllocError>
+    requires rows { map (option_map known_row) laying.now.known.now ≡ map row_of (map (posted_view laying.now.variables.now laying.now.arrays.now) laying.now.constraints.now) }
+    requires is_sheet { sheet < length laying.now.sheets.now }
+    ensures { IfOk result (λ b. b ≡ list_all (λ l. number_holds partial.now (map (posted_view laying.now.variables.now laying.now.arrays.now) laying.now.constraints.now) l.number) (lines_of laying.now.sheets.now sheet)) }
+{
+    for line in 0..laying.lines(sheet) {
+        if !line_holds(alloc, laying, sheet, line, partial)? {
+            return Ok(false);
+        }
+    }
+    Ok(true)
+}
+
+/// Whether the constraints on all sheets hold.
+fn sheets_hold(
+    alloc: Global,
+    laying: &Laying<'_, '_>,
+    partial: &Partial,
+) -> Result<bool, AllocError>
+    requires rows { map (option_map known_row) laying.now.known.now ≡ map row_of (map (posted_view laying.now.variables.now laying.now.arrays.now) laying.now.constraints.now) }
+    ensures { IfOk result (λ b. b ≡ list_all (λ s. list_all (λ l. number_holds partial.now (map (posted_view laying.now.variables.now laying.now.arrays.now) laying.now.constraints.now) l.number) s.lines.items) laying.now.sheets.now) }
+{
+    for sheet in 0..laying.sheets() {
+        if !sheet_holds(alloc, laying, sheet, partial)? {
+            return Ok(false);
+        }
+    }
+    Ok(true)
+}
+
+/// Whether all points hold under a partial assignment. It takes memory for long lists of `fzn_all_different_int` alone, and refuses
+/// only where there is none.
+pub fn all_hold(alloc: Global, model: &Model<'_>, partial: &Partial) -> Result<bool, AllocError>
+    ensures exact { IfOk result (λ b. b ≡ list_all (point_holds partial.now) (points model.now)) }
+{
+    let before = model.points() - model.constraints().len();
+    if !first_hold(alloc, model, before, partial)? {
+        return Ok(false);
+    }
+    let laying = model.laying();
+    if !rest_holds(alloc, model, before, laying.rest(), partial)? {
+        return Ok(false);
+    }
+    Ok(sheets_hold(alloc, &laying, partial)?)
+}
