@@ -18,7 +18,7 @@ use Rattle.fz_filling.specs.declared.watch.Watch.{Watch}
 
 -- ---- numbers
 
-is_same : (j k : ℕ) → (j ≡ k) ⊎ (j ≡ k → ⊥)
+pub is_same : (j k : ℕ) → (j ≡ k) ⊎ (j ≡ k → ⊥)
 is_same j k = (elim (j == k) as (λ b. (j == k) ≡ b → (j ≡ k) ⊎ (j ≡ k → ⊥)) [ true ↦ λ e. inl (eqb-true j k e) | false ↦ λ e. inr (λ same. absurd (eqb-false j k e same)) ]) refl
 
 split : (x y : ℕ) → (x < y) ⊎ (y ≤ x)
@@ -179,7 +179,7 @@ kept_at_first m K w all blocks as_many none = record {
 
 -- ---- a point that is not to be looked at
 
-same_later : (K : Partial) → IsLater K K
+pub same_later : (K : Partial) → IsLater K K
 same_later K = record { as_many = refl; has_all = λ n v e. e }
 
 pub gives_nothing_now : (m : Model) (K : Partial) (w : Watch) (k : ℕ) (p : Point) → IsKept m K w → slice_get (points m) k ≡ Some p → (IsPending w.pending.items k → ⊥) → GivesNothing m K p
@@ -262,7 +262,7 @@ module _ (m : Model) (K : Partial) (before after : Watch) (k : ℕ) (p : Point) 
 
 -- ---- a variable gets a value
 
-length_given : (K : Partial) (n : ℕ) (v : Value) → length (give K n v) ≡ length K
+pub length_given : (K : Partial) (n : ℕ) (v : Value) → length (give K n v) ≡ length K
 length_given [] n v = refl
 length_given (o ∷ K) zero v = refl
 length_given (o ∷ K) (suc n) v = ap suc (length_given K n v)

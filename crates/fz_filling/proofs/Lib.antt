@@ -4,3 +4,6 @@ pub mod Keeping
 pub mod Searching
 pub mod Stepping
 pub mod Posting
+pub mod Reordering
+pub mod Runs
+pub mod Noting

@@ -1,10 +1,10 @@
 -- The chain of the filling: the first step, and the end where each variable has a value.
-use Rattle.std.proofs.Common.{◌≡◌, ℕ, zero, suc, ◌<◌, ◌≤◌, ◌⊎◌, inl, inr, List, [], ◌∷◌, length, Option, Some, None, slice_get, IfSome, IfOk, Result, Ok, Err, option_map, refl, sym, ap, subst, arith}
+use Rattle.std.proofs.Common.{◌≡◌, ℕ, zero, suc, ◌<◌, ◌≤◌, ◌⊎◌, inl, inr, List, [], ◌∷◌, length, Option, Some, None, slice_get, IfSome, IfOk, OnOk, Result, Ok, Err, option_map, refl, sym, ap, subst, arith}
 use Rattle.std.specs.List.{AllByRecursion}
 use Rattle.fz_base.specs.declared.value.Value.{Value}
 use Rattle.fz_model.specs.declared.Kind.{Kind}
 use Rattle.fz_model.specs.Meaning.{Model, Point, Partial, Variable, FitVariables, give, value_at, variables_of, points, IsPartial}
-use Rattle.fz_model.specs.Steps.{GivesNothing, kind_at, terms_of}
+use Rattle.fz_model.specs.Steps.{Gives, GivesNothing, kind_at, terms_of}
 use Rattle.fz_model.specs.Values.{kind_of}
 use Rattle.fz_model.proofs.Steps.{only_open_none}
 use Rattle.fz_verdict.specs.Filling.{IsFirstStep, Chain}
@@ -26,7 +26,7 @@ fits_length [] (o ∷ K) h = absurd h
 fits_length (x ∷ xs) [] h = absurd h
 fits_length (x ∷ xs) (o ∷ K) h = ap suc (fits_length xs K h.1)
 
-give_fits : (xs : List Variable) (K : Partial) (n : ℕ) (v : Value) → FitVariables xs K → option_map (λ x. x.kind) (slice_get xs n) ≡ Some (kind_of v) → FitVariables xs (give K n v)
+pub give_fits : (xs : List Variable) (K : Partial) (n : ℕ) (v : Value) → FitVariables xs K → option_map (λ x. x.kind) (slice_get xs n) ≡ Some (kind_of v) → FitVariables xs (give K n v)
 give_fits [] [] n v h e = cc
 give_fits [] (o ∷ K) n v h e = absurd h
 give_fits (x ∷ xs) [] n v h e = absurd h
@@ -38,7 +38,7 @@ in_list [] n k e = cc
 in_list (x ∷ xs) zero k e = omega arith
 in_list (x ∷ xs) (suc n) k e = let below : n < length xs = in_list xs n k e in omega arith
 
-number_within : (m : Model) (K : Partial) (n : ℕ) (k : Kind) → IsPartial m K → kind_at m n ≡ Some k → n < length K
+pub number_within : (m : Model) (K : Partial) (n : ℕ) (k : Kind) → IsPartial m K → kind_at m n ≡ Some k → n < length K
 number_within m K n k h e = let long : length K ≡ length (variables_of m) = fits_length (variables_of m) K h in let below : n < length (variables_of m) = in_list (variables_of m) n k e in omega arith
 
 -- ---- the points from a number up to another
@@ -132,3 +132,13 @@ reaches_after m S start K from k n v reaches first = λ F chain. reaches F (Step
 
 pub reaches_end : (m : Model) (S : Partial) (start : ℕ) (K : Partial) (from : ℕ) → Reaches m S start K from → AllByRecursion (GivesNothing m K) (points m) → Chain m S start K
 reaches_end m S start K from reaches none = reaches K (Ends none)
+
+-- the point of a number, and what it gives
+pub point_gives : (m : Model) (K : Partial) (k n : ℕ) (v : Value) (o : Option (ℕ × Value)) → o ≡ Some (n, v) → k < length (points m)
+    → IfSome o (λ r. (p : Point) → slice_get (points m) k ≡ Some p → Gives m K p r.0 r.1) → (p : Point) × (slice_get (points m) k ≡ Some p) × Gives m K p n v
+point_gives m K k n v o is within gives = let (p, at) = there_is (points m) k within in (p, at, at_some _ o (n, v) is gives p at)
+
+-- what follows where a call succeeds
+pub on_ok_then : {T E : Type 0} (r : Result T E) {P Q : Type 0} → OnOk r P → (P → Q) → OnOk r Q
+on_ok_then (Ok x) h f = f h
+on_ok_then (Err e) h f = tt

@@ -7,6 +7,7 @@ ghost use Rattle.fz_model.specs.Steps.{Gives, GivesNothing};
 ghost use Rattle.fz_verdict.specs.Filling.{Chain, IsFirstStep};
 ghost use Rattle.fz_filling.specs.Stepping.{IsStepAhead, NoneGives, StandBehind, is_shut, unset_count};
 
+use crate::course::Trail;
 use fz_base::Value;
 use fz_model::{Model, Partial, Posted, forced};
 use std::alloc::{AllocError, Global};
@@ -156,6 +157,7 @@ pub(crate) fn fill_ahead(
     alloc: Global,
     model: &Model<'_>,
     partial: &mut Partial,
+    trail: &mut Trail,
 ) -> Result<Option<usize>, AllocError>
     requires fits { IsPartial model.now partial.old }
     ensures ended { IfOk result (λ o. IsNone o → Chain model.now partial.old 0 partial.new) }
@@ -173,6 +175,7 @@ pub(crate) fn fill_ahead(
         if step.point < from {
             rounds += 1;
         }
+        trail.note(step.point)?;
         partial.set(step.variable, step.value);
         from = step.point;
         unset -= 1;

@@ -1,23 +1,72 @@
 //! The chain of a filling: forced steps until no point gives one.
 
-ghost use Rattle.std.specs.Prelude.{OnOk};
+ghost use Rattle.std.specs.Prelude.{IfSome, OnOk};
 ghost use Rattle.fz_model.specs.Meaning.{IsPartial};
 ghost use Rattle.fz_verdict.specs.Filling.{Chain};
+ghost use Rattle.fz_filling.specs.Courses.{IsCourse};
 
 use crate::ahead::fill_ahead;
+use crate::course::{Course, Trail};
+use crate::retrace::retrace;
 use crate::waking::fill_woken;
 use fz_model::{Model, Partial};
 use std::alloc::{AllocError, Global};
 
-/// Fills in what follows, one forced step after another. Once each variable has a value there is nothing left to give. Most chains go
-/// through the points in their order; for the rest of a longer one it keeps which points wait. It refuses only where memory runs out.
-pub fn fill_in(alloc: Global, model: &Model<'_>, partial: &mut Partial) -> Result<(), AllocError>
+/// Goes through the points in their order, as most chains do; for the rest of a longer one it keeps which points wait.
+fn fill_on(
+    alloc: Global,
+    model: &Model<'_>,
+    partial: &mut Partial,
+    trail: &mut Trail,
+) -> Result<(), AllocError>
     requires fits { IsPartial model.now partial.old }
     ensures filled { OnOk result (Chain model.now partial.old 0 partial.new) }
     ensures kinds { OnOk result (IsPartial model.now partial.new) }
 {
-    match fill_ahead(alloc, model, partial)? {
-        Some(from) => fill_woken(alloc, model, partial, from),
+    match fill_ahead(alloc, model, partial, trail)? {
+        Some(from) => fill_woken(alloc, model, partial, from, trail),
         None => Ok(()),
     }
+}
+
+/// Takes the steps of the filling before again, and then those that are left.
+fn fill_along(
+    alloc: Global,
+    model: &Model<'_>,
+    partial: &mut Partial,
+    course: &mut Course,
+) -> Result<(), AllocError>
+    requires fits { IsPartial model.now partial.old }
+    requires course { IsCourse model.now course.old }
+    ensures filled { OnOk result (Chain model.now partial.old 0 partial.new) }
+    ensures kinds { OnOk result (IsPartial model.now partial.new) }
+    ensures course { IsCourse model.now course.new }
+{
+    if course.lone {
+        retrace(alloc, model, partial, &course.trail)?;
+    }
+    fill_on(alloc, model, partial, &mut course.trail)
+}
+
+/// Fills in what follows, one forced step after another. Once each variable has a value there is nothing left to give. What is known of the
+/// course of fillings of the same model is made the first time, and kept for the next. It refuses only where memory runs out.
+pub fn fill_in(
+    alloc: Global,
+    model: &Model<'_>,
+    partial: &mut Partial,
+    known: &mut Option<Course>,
+) -> Result<(), AllocError>
+    requires fits { IsPartial model.now partial.old }
+    requires course { IfSome known.old (IsCourse model.now) }
+    ensures filled { OnOk result (Chain model.now partial.old 0 partial.new) }
+    ensures kinds { OnOk result (IsPartial model.now partial.new) }
+    ensures course { IfSome known.new (IsCourse model.now) }
+{
+    let mut course = match known.take() {
+        Some(course) => course,
+        None => Course::new(alloc, model)?,
+    };
+    fill_along(alloc, model, partial, &mut course)?;
+    *known = Some(course);
+    Ok(())
 }

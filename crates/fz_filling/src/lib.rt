@@ -3,9 +3,13 @@
 #![tactic(auto)]
 
 mod ahead;
+mod course;
 mod filling;
+mod lone;
 mod outlook;
+mod retrace;
 mod waking;
 mod watch;
 
+pub use course::Course;
 pub use filling::fill_in;

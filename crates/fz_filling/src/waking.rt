@@ -9,6 +9,7 @@ ghost use Rattle.fz_filling.specs.Kept.{IsKept};
 ghost use Rattle.fz_filling.specs.Stepping.{IsStepAhead, NoneGives};
 
 use crate::ahead::{Step, unset_count};
+use crate::course::Trail;
 use crate::outlook::{Outlook, Waiting, outlook_of};
 use crate::watch::Watch;
 use fz_base::Value;
@@ -109,6 +110,7 @@ pub(crate) fn fill_woken(
     model: &Model<'_>,
     partial: &mut Partial,
     start: usize,
+    trail: &mut Trail,
 ) -> Result<(), AllocError>
     requires fits { IsPartial model.now partial.old }
     requires in_range { start ≤ length (points model.now) }
@@ -122,6 +124,7 @@ pub(crate) fn fill_woken(
         let Some(step) = next_step(alloc, model, partial, &mut watch, from)? else {
             return Ok(());
         };
+        trail.note(step.point)?;
         partial.set(step.variable, step.value);
         watch.wake(step.variable);
         from = step.point;

@@ -9,4 +9,4 @@ mod step;
 #[cfg(test)]
 mod tests;
 
-pub use step::forced;
+pub use step::{forced, only_number};

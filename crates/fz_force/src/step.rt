@@ -76,9 +76,9 @@ fn by_definition(
     }
 }
 
-// The one number of a domain, where it has exactly one.
-fn only_number(domain: &Domain) -> Option<i64>
-    ensures { IsOnlyNumber domain.now result }
+/// The one number of a domain, where it has exactly one. It takes no memory.
+pub fn only_number(domain: &Domain) -> Option<i64>
+    ensures exact { IsOnlyNumber domain.now result }
 {
     match domain {
         Domain::All => None,

@@ -1,6 +1,7 @@
 //! The filling of a block.
 
-ghost use Rattle.std.specs.Prelude.{◌≡◌, ◌-◌, IfErr, IfOk, IsTrue, None};
+ghost use Rattle.std.specs.Prelude.{◌≡◌, ◌-◌, IfErr, IfOk, IfSome, IsTrue, None};
+ghost use Rattle.fz_filling.specs.Courses.{IsCourse};
 ghost use Rattle.fz_model.specs.Meaning.{IsPartial, first_some};
 ghost use Rattle.fz_stream.specs.Found.{EndsWithin, HasPlaces};
 ghost use Rattle.fz_syntax.specs.Places.{IsSpanWithin};
@@ -13,7 +14,7 @@ ghost use Rattle.fz_judge.specs.Working.{IsPlacedWithin, moved_error};
 use crate::error::BlockError;
 use crate::start::{Proposed, start};
 use fz_base::Span;
-use fz_filling::fill_in;
+use fz_filling::{Course, fill_in};
 use fz_model::{Model, Partial};
 use fz_stream::Block;
 use std::alloc::Global;
@@ -41,16 +42,19 @@ fn moved_error(error: BlockError, offset: usize) -> BlockError
     }
 }
 
-/// The filling of a block. Where each name has its printed value as it is taken, each has it under the filling: no value changes any more.
+/// The filling of a block, along the course of those before it. Where each name has its printed value as it is taken, each has it under the filling: no value changes any more.
 pub(crate) fn filled(
     alloc: Global,
     model: &Model<'_>,
     block: &Block<'_>,
+    course: &mut Option<Course>,
 ) -> Result<Proposed, BlockError>
+    requires course { IfSome course.old (IsCourse model.now) }
     ensures filled { IfOk result (λ f. IsFilled model.now (located_block block.now) f.partial) }
     ensures kinds { IfOk result (λ f. IsPartial model.now f.partial) }
     ensures agrees { IfOk result (λ f. IsTrue f.agrees → first_some (printed_fails model.now f.partial) (located_items block.now.items.items) ≡ None) }
     ensures refused { IfErr result (λ e. HasPlaces block.now → EndsWithin usize.MAX block.now → IsBlockRefusal model.now (located_block block.now) e) }
+    ensures course { IfSome course.new (IsCourse model.now) }
 {
     let Proposed {
         mut partial,
@@ -59,7 +63,7 @@ pub(crate) fn filled(
         Ok(started) => started,
         Err(error) => return Err(moved_error(error, block.offset)),
     };
-    fill_in(alloc, model, &mut partial)?;
+    fill_in(alloc, model, &mut partial, course)?;
     Ok(Proposed { partial, agrees })
 }
 
@@ -75,6 +79,7 @@ pub fn fill(alloc: Global, model: &Model<'_>, block: &Block<'_>) -> Result<Parti
     // Of a block as `fz_stream` reads it: its places lie in its text, and its text ends within the numbers.
     ensures refused { IfErr result (λ e. HasPlaces block.now → EndsWithin usize.MAX block.now → IsBlockRefusal model.now (located_block block.now) e) }
 {
-    let Proposed { partial, agrees: _ } = filled(alloc, model, block)?;
+    let mut course = Some(Course::unknown(alloc));
+    let Proposed { partial, agrees: _ } = filled(alloc, model, block, &mut course)?;
     Ok(partial)
 }

@@ -16,6 +16,7 @@ use crate::points::{objective, objective_fails, points_verdict};
 use crate::printed::printed_fails;
 use crate::start::Proposed;
 use crate::verdict::{Fault, Verdict};
+use fz_filling::Course;
 use fz_model::Model;
 use fz_stream::Block;
 use fz_syntax::Printed;
@@ -76,11 +77,12 @@ fn verdict_under<'a>(
     Ok(with_objective(points, objective_fails(model.goal(), before, now)))
 }
 
-/// A model with the objective of the block that was judged last.
+/// A model with the objective of the block that was judged last, and what its fillings so far have shown of the next.
 #[derive(Drop)]
 pub struct Judge<'m, 'a> {
     model: &'m Model<'a>,
     before: Option<i64>,
+    course: Option<Course>,
 }
 
 impl<'m, 'a> std::marker::Model for Judge<'m, 'a> {
@@ -92,7 +94,12 @@ impl<'m, 'a> std::marker::Model for Judge<'m, 'a> {
 
     ghost coded = { Prim.hlevel (codes, the_set.the_row.coded) };
 
+    ghost use Rattle.std.specs.Prelude.{IfSome};
+    ghost use Rattle.fz_filling.specs.Courses.{IsCourse};
+
     ghost view = { λ j. record { model = j.model.now; before = j.before } };
+
+    ghost invariant = { λ j. IfSome j.course (IsCourse j.model.now) };
 }
 
 impl<'m, 'a> Judge<'m, 'a> {
@@ -103,6 +110,7 @@ impl<'m, 'a> Judge<'m, 'a> {
         Judge {
             model,
             before: None,
+            course: None,
         }
     }
 
@@ -120,7 +128,7 @@ impl<'m, 'a> Judge<'m, 'a> {
         // Of a block as `fz_stream` reads it: its places lie in its text, and its text ends within the numbers.
         ensures refused { IfErr result (λ e. HasPlaces block.now → EndsWithin usize.MAX block.now → IsBlockRefusal self.old.model (located_block block.now) e) }
     {
-        let filling = filled(alloc, self.model, block)?;
+        let filling = filled(alloc, self.model, block, &mut self.course)?;
         let verdict = verdict_under(alloc, self.model, &filling, block, self.before)?;
         self.before = objective(self.model, &filling.partial);
         Ok(verdict)

@@ -1,6 +1,5 @@
-use Rattle.std.proofs.Common.{◌≡◌, List, Some, flat_map, refl, sym, subst, take, ◌+◌, ◌<◌, ◌≤◌, length, slice_get, ◌∙◌, arith}
+use Rattle.std.proofs.Common.{flat_map, refl, sym, subst, take, ◌+◌, ◌<◌, ◌≤◌, length, ◌∙◌}
 use Rattle.std.proofs.lemmas.Option.{slice_get_read}
-use Rattle.fz_data.specs.declared.parts.Array.{Array}
 use Rattle.fz_meaning.proofs.Values.{no}
 use Rattle.fz_force.specs.Only.{AreOpen, terms_kept}
 use Rattle.fz_force.proofs.Opens.{goes_on, finds, nothing_at, scalar_at, scalars_counted, stops_here, stops_twice, take_whole}

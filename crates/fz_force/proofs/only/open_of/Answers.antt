@@ -1,4 +1,4 @@
-use Rattle.std.proofs.Common.{refl, sym, subst, take, ◌+◌, length, arith}
+use Rattle.std.proofs.Common.{refl, sym, subst, take, ◌+◌, length}
 use Rattle.std.proofs.lemmas.Option.{slice_get_read}
 use Rattle.fz_meaning.proofs.Values.{no}
 use Rattle.fz_force.specs.Only.{AreOpen}
