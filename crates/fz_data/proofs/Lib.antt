@@ -9,6 +9,8 @@ pub mod Added
 pub mod Knows
 pub mod Loops
 pub mod Next
+pub mod OwnKinds
+pub mod Tabled
 pub mod Loaded
 pub mod NameTable
 pub mod Sheets

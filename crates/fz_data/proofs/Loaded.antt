@@ -8,12 +8,11 @@ use Rattle.fz_meaning.specs.declared.kind.Kind.TheVariants.{Int as IntKind}
 use Rattle.fz_meaning.specs.Located.{Decl, LocatedTree}
 use Rattle.fz_meaning.specs.Meaning.{declared_points, numbered_from, name_of, place_named, variable_of, first_some, find_name, row_of}
 use Rattle.fz_meaning.specs.Meaning.Declared.{Parameter, ScalarVariable, ArrayOfVariables}
-use Rattle.fz_meaning.specs.Names.{HasNoFault, IsInReadingOrder, goal_parts, parts, kind_of_base, domain_of, is_scalar, number_of, variable_declared, definition_of, term_of, place_of_declared, declared_of, posted_of, aim_of, model_of}
+use Rattle.fz_meaning.specs.Names.{IsInReadingOrder, goal_parts, parts, kind_of_base, domain_of, is_scalar, number_of, variable_declared, definition_of, term_of, place_of_declared, declared_of, posted_of, aim_of, model_of}
 use Rattle.fz_meaning.specs.View.{TellsFirstFault}
-use Rattle.fz_meaning.proofs.NamedKinds.{named_fits}
 use Rattle.fz_table.specs.declared.known.Known.{Known}
 use Rattle.fz_table.specs.Known.{known_row}
-use Rattle.fz_data.specs.Kinds.{PlaceFits}
+use Rattle.fz_data.specs.Kinds.{PlaceFits, PostedFits}
 use Rattle.fz_scope.specs.FirstFault.{FirstFaultIsLeftmost, decls_fault, constraint_fault, constraints_fault, goal_fault, first_fault}
 use Rattle.fz_scope.proofs.Known.{next_number, number_here}
 use Rattle.fz_scope.proofs.Names.{AreNew, are_new, numbered_after, numbered_is, place_named_is}
@@ -31,6 +30,7 @@ use Rattle.fz_data.specs.Scope.{AreKept, Tells, posted_in, aim_in, faults_in, co
 use Rattle.fz_data.specs.Stands.{StandsFor, entry_view, entry_place, is_kept, declared_pair}
 use Rattle.fz_scope.proofs.Steps.{in_constraints, in_goal, nowhere}
 use Rattle.fz_data.proofs.Finds.{first_some-same}
+use Rattle.fz_data.proofs.OwnKinds.{HasOwnKind, name_fits, own_kinds, posted_fit}
 use Rattle.fz_data.proofs.Tells.{tells_further}
 use Rattle.fz_data.proofs.Stands.{variables_known}
 use Rattle.fz_data.proofs.Knows.{faults_same, constraint_same, all_posted_same, aim_same}
@@ -92,10 +92,13 @@ module _ (t : LocatedTree) (s : Scope) (ts : Vec Term Global) (cs : Vec the_post
   pub model_is : model_view fields ≡ model_of t
   model_is = λ i. record { declared = declared_now t.decls s st i; constraints = posted_is i; aim = aim_is i }
 
-  pub laid_out : HasNoFault t → ts.items ≡ own_terms (length s.variables.items) → map (option_map known_row) ks.items ≡ map row_of (map (posted_view s.variables.items s.arrays.items) cs.items) → AreSheetsOf s.arrays.items cs.items ks.items sh → IsLaidOut fields
-  laid_out sound own rows sheets = record {
+  own : AllByRecursion HasOwnKind t.decls
+  own = own_kinds t.decls s.variables.items s.arrays.items s.names t.decls (pairs_now t.decls s st)
+
+  pub laid_out : ts.items ≡ own_terms (length s.variables.items) → map (option_map known_row) ks.items ≡ map row_of (map (posted_view s.variables.items s.arrays.items) cs.items) → AreSheetsOf s.arrays.items cs.items ks.items sh → IsLaidOut fields
+  laid_out numbered rows sheets = record {
     sheets = sheets;
-    terms = own;
+    terms = numbered;
     variables = ap (flat_map variable_of) (declared_now t.decls s st) ∙ variables_known t.decls t.decls ∙ sym st.variables;
     places = ap (λ qs. map named_place (numbered_from 0 qs)) (declared_now t.decls s st) ∙ ap (map named_place) (numbered_is t) ∙ named_pairs t.decls [] t.decls refl new ∙ sym (pairs_now t.decls s st);
     points = ap (λ qs. flat_map declared_points (numbered_from 0 qs)) (declared_now t.decls s st) ∙ sym (points_now t.decls s st);
@@ -103,7 +106,8 @@ module _ (t : LocatedTree) (s : Scope) (ts : Vec Term Global) (cs : Vec the_post
     kept = kept_now t.decls s st;
     cited = cited;
     known = rows;
-    kinds = λ x p e. subst (λ m. PlaceFits m p) (sym model_is) (named_fits t sound x p (subst (λ m. find_name m x ≡ Some p) model_is e));
+    kinds = λ x p e. subst (λ m. PlaceFits m p) (sym model_is) (name_fits t clean own x p (subst (λ m. find_name m x ≡ Some p) model_is e));
+    posted_kinds = subst (λ m. AllByRecursion (PostedFits m) m.constraints) (sym model_is) (posted_fit t clean own t.constraints);
   }
 
 -- ---- what an error tells

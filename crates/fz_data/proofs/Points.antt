@@ -19,6 +19,7 @@ use Rattle.fz_data.specs.declared.parts.Variable.{Variable}
 use Rattle.fz_data.specs.declared.parts.Array.{Array}
 use Rattle.fz_data.specs.declared.parts.Posted as the_posted
 use Rattle.fz_data.specs.Parts.{variable_view, no_variable, definition_at, posted_view, declared_point, definition_point, elements_point}
+use Rattle.fz_data.specs.Kinds.{PostedFits}
 use Rattle.fz_data.specs.Layout.{model_view, IsPlaced, IsLaidOut}
 
 length-constraint_points : (n : ℕ) (ps : List Posted) → length (constraint_points n ps) ≡ length ps
@@ -74,6 +75,12 @@ module _ (m : Inside) (laid : IsLaidOut m) where
       (ap (option_map (option_map known_row)) (sym here) ∙ sym (slice_get-map (option_map known_row) m.known.items k) ∙ ap (λ rs. slice_get rs k) laid.known
       ∙ slice_get-map row_of (map (posted_view m.variables.items m.arrays.items) m.constraints.items) k
       ∙ ap (option_map row_of) (slice_get-map (posted_view m.variables.items m.arrays.items) m.constraints.items k ∙ ap (option_map (posted_view m.variables.items m.arrays.items)) at))
+
+  -- what stands in it has its kind
+  pub kinds_in_place : (k : ℕ) (p : the_posted.Posted) → slice_get m.constraints.items k ≡ Some p → PostedFits (model_view m) (posted_view m.variables.items m.arrays.items p)
+  kinds_in_place k p at =
+      at_place (PostedFits (model_view m)) (map (posted_view m.variables.items m.arrays.items) m.constraints.items) k (posted_view m.variables.items m.arrays.items p) laid.posted_kinds
+      (slice_get-map (posted_view m.variables.items m.arrays.items) m.constraints.items k ∙ ap (option_map (posted_view m.variables.items m.arrays.items)) at)
 
   -- a point of a declaration
   pub point_declared : (k : ℕ) (p : DeclaredPoint) → slice_get m.points.items k ≡ Some p → k < length m.points.items → slice_get (points (model_view m)) k ≡ Some (declared_point m.variables.items m.arrays.items p)

@@ -16,7 +16,7 @@ use Rattle.fz_data.specs.declared.parts.Posted.{Posted}
 use Rattle.fz_data.specs.declared.parts.DeclaredPoint.{DeclaredPoint}
 use Rattle.fz_data.specs.declared.parts.DeclaredPoint.TheVariants as points
 use Rattle.fz_data.specs.declared.model.Model.TheInside.{Inside}
-use Rattle.fz_data.specs.Kinds.{PlaceFits}
+use Rattle.fz_data.specs.Kinds.{PlaceFits, PostedFits}
 use Rattle.fz_data.specs.Sheets.{AreSheetsOf}
 use Rattle.fz_data.specs.Parts.{variable_view, declared_view, declared_place, posted_view, goal_view, declared_point, definition_at}
 
@@ -77,3 +77,5 @@ pub record IsLaidOut (m : Inside) : Type 0 where
   pub sheets : AreSheetsOf m.arrays.items m.constraints.items m.known.items m.sheets
   -- what a name stands for has its kind
   pub kinds : (x : List ℕ) (p : meaning.Place) → find_name (model_view m) x ≡ Some p → PlaceFits (model_view m) p
+  -- and so has what stands in a constraint
+  pub posted_kinds : AllByRecursion (PostedFits (model_view m)) (model_view m).constraints

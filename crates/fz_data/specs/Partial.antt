@@ -1,7 +1,25 @@
--- The partial assignment without a value (this project's profile).
-use Rattle.std.specs.Prelude.{map, None}
+-- The partial assignment without a value, and its values by their kinds (this project's profile).
+use Rattle.std.specs.Prelude.{◌≡◌, ℤ, pos, Bool, false, List, map, Option, None, Some, is_some}
+use Rattle.fz_base.specs.declared.value.Value.{Value}
+use Rattle.fz_base.specs.declared.value.Value.TheVariants.{Int, Bool as Truth, Set}
 use Rattle.fz_meaning.specs.Meaning.{Model, Partial, variables_of}
 
 -- no variable of the model has a value
 abbrev pub nothing_for : Model → Partial
 nothing_for m = map (λ x. None) (variables_of m)
+
+-- ---- a value as it is read, also where there is none of the kind
+
+abbrev pub number_in : Option Value → ℤ
+number_in (Some (Int n)) = n
+number_in _ = pos 0
+
+abbrev pub truth_in : Option Value → Bool
+truth_in (Some (Truth b)) = b
+truth_in _ = false
+
+-- each value's number, its truth value, and whether there is one stand in tables of their own
+pub record IsTabled (K : List (Option Value)) (ns : List ℤ) (bs gs : List Bool) : Type 0 where
+  pub numbers : ns ≡ map number_in K
+  pub truths : bs ≡ map truth_in K
+  pub given : gs ≡ map is_some K

@@ -25,7 +25,7 @@ pub use laying::Laying;
 pub use lines::part;
 pub use loading::load;
 pub use model::Model;
-pub use partial::Partial;
+pub use partial::{Partial, number_of, truth_of};
 pub use parts::{Argument, Array, ArrayName, Goal, Place, Posted, Variable};
 pub use point::{ConstraintParts, LaidParts, Point, PointParts};
 pub use sheet::{Laid, Line, Sheet, Slot};

@@ -3,7 +3,7 @@
 ghost use Rattle.std.specs.Prelude.{◌≡◌, ◌<◌, ◌++◌, IfSome, Some, length, map, option_map, slice_get};
 ghost use Rattle.fz_meaning.specs.Meaning.{constraint_points, find_name, points, row_of, shown_point, shown_posted as shown, variables_of};
 ghost use Rattle.fz_table.specs.Known.{known_row};
-ghost use Rattle.fz_data.specs.Kinds.{PlaceFits};
+ghost use Rattle.fz_data.specs.Kinds.{PlaceFits, PostedFits};
 ghost use Rattle.fz_data.specs.Parts.{goal_view, posted_view, variable_view};
 ghost use Rattle.std.specs.List.{AllByRecursion};
 ghost use Rattle.fz_data.specs.Sheets.{Covers};
@@ -103,6 +103,7 @@ impl<'a> Model<'a> {
         ensures rows { map (option_map known_row) result.known.now ≡ map row_of self.now.constraints }
         ensures covers { Covers result.rest.now result.sheets.now (length self.now.constraints) }
         ensures within { AllByRecursion (λ n. n < length self.now.constraints) result.rest.now }
+        ensures kinds { AllByRecursion (PostedFits self.now) self.now.constraints }
     {
         Laying {
             constraints: &self.constraints,
@@ -140,6 +141,7 @@ impl<'a> Model<'a> {
         requires in_range { number < length (points self.now) }
         ensures parts { slice_get (points self.now) number ≡ Some (point_view result) }
         ensures known { IfConstraint result (λ c. option_map known_row c.known ≡ row_of (posted_view c.variables.now c.arrays.now c.posted.now)) }
+        ensures kinds { IfConstraint result (λ c. PostedFits self.now (posted_view c.variables.now c.arrays.now c.posted.now)) }
     {
         if number >= self.points.len() {
             let place = number - self.points.len();

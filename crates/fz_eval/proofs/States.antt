@@ -200,3 +200,7 @@ pub row_fits : (p : Posted) (r : Row) → row_of p ≡ Some r → have_shapes r.
 row_fits p r e =
     let both = found_passes (λ r. bytes_eq r.name p.name && fits r p.arguments) rows r e in
     and_first (have_shapes r.shapes p.arguments) _ (and_second (bytes_eq r.name p.name) (fits r p.arguments) both)
+
+-- the state under the row that the constraint fits
+pub same_state : (K L : Partial) (xs ys : List Argument) (r : Row) (o : Option Row) → K ≡ L → xs ≡ ys → o ≡ Some r → state_of_row K xs (Some r) ≡ state_of_row L ys o
+same_state K L xs ys r o same also e = λ i. state_of_row (same i) (also i) (sym e i)

@@ -1,3 +1,4 @@
 pub mod Readings
 pub mod Outcomes
 pub mod Holding
+pub mod Whole

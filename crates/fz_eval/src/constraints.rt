@@ -1,13 +1,15 @@
 //! Constraints.
 
-ghost use Rattle.std.specs.Prelude.{◌≡◌, IfOk, Some, ◌&&◌, true, map, option_map};
+ghost use Rattle.std.specs.Prelude.{◌≡◌, IfOk, IsTrue, Some, ◌&&◌, true, map, option_map};
 ghost use Rattle.fz_meaning.specs.Builtins.{leaves_128, products};
 ghost use Rattle.fz_meaning.specs.Meaning.{have_shapes, row_of, state_of_row};
 ghost use Rattle.fz_table.specs.Known.{known_row};
 ghost use Rattle.fz_data.specs.Parts.{posted_view};
+ghost use Rattle.fz_scene.specs.Given.{are_read};
 ghost use Rattle.fz_scene.specs.Views.{arguments_of, assigned};
 ghost use Rattle.fz_eval.specs.Outcomes.{row_outcome};
 ghost use Rattle.fz_eval.specs.Readings.{ints};
+ghost use Rattle.fz_eval.specs.Whole.{IsReady};
 
 use crate::builtins::of_builtin;
 use crate::outcome::Outcome;
@@ -19,19 +21,27 @@ use fz_table::Known;
 use std::alloc::{AllocError, Global};
 
 /// The state of a constraint: unknown without a row, whatever its values are; then without a value; then too large; then by its row.
+/// Where it is known to be ready, whether it is isn't looked at.
 #[inline]
 pub(crate) fn of_constraint(
     alloc: Global,
     parts: ConstraintParts<'_, '_>,
     partial: &Partial,
+    ready: bool,
 ) -> Result<State, AllocError>
     requires known { option_map known_row parts.known ≡ row_of (posted_view parts.variables.now parts.arrays.now parts.posted.now) }
+    requires ready { IsTrue ready → IsReady partial.now (posted_view parts.variables.now parts.arrays.now parts.posted.now) }
     ensures { IfOk result (λ s. s ≡ state_of_row partial.now (posted_view parts.entry.variables.now parts.entry.arrays.now parts.entry.posted.now).arguments (row_of (posted_view parts.entry.variables.now parts.entry.arrays.now parts.entry.posted.now))) }
 {
     let Some(known) = parts.known else {
         return Ok(State::Unknown);
     };
-    of_scene(alloc, known, &Scene::new(parts, partial))
+    let scene = Scene::new(parts, partial);
+    if ready {
+        of_ready(alloc, known, &scene)
+    } else {
+        of_scene(alloc, known, &scene)
+    }
 }
 
 #[inline]
@@ -46,8 +56,18 @@ fn of_scene(alloc: Global, known: Known, scene: &Scene<'_, '_>) -> Result<State,
         } else {
             State::Fails
         }),
-        Readiness::Ready => Ok(of_known(alloc, known, scene)?.told()),
+        Readiness::Ready => of_ready(alloc, known, scene),
     }
+}
+
+/// The state of a constraint whose scalars have values of the kinds that its row asks for.
+#[inline]
+fn of_ready(alloc: Global, known: Known, scene: &Scene<'_, '_>) -> Result<State, AllocError>
+    requires fits { have_shapes (known_row known).shapes (arguments_of scene.now) ≡ true }
+    requires ready { are_read (assigned scene.now) (known_row known).shapes (arguments_of scene.now) ≡ true }
+    ensures { IfOk result (λ s. s ≡ state_of_row (assigned scene.now) (arguments_of scene.now) (Some (known_row known))) }
+{
+    Ok(of_known(alloc, known, scene)?.told())
 }
 
 fn is_too_large(known: Known, scene: &Scene<'_, '_>) -> bool

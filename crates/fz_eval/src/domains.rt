@@ -89,8 +89,9 @@ fn is_same(left: &Value, right: &Value) -> bool
     left.equals(right)
 }
 
-// Whether the value lies in the domain. No truth value lies in a domain with bounds.
-fn is_inside(domain: &Domain, value: &Value) -> bool
+/// Whether the value lies in the domain. No truth value lies in a domain with bounds.
+#[inline]
+pub(crate) fn is_inside(domain: &Domain, value: &Value) -> bool
     ensures { result ≡ inside domain.now value.now }
 {
     match value {

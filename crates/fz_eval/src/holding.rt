@@ -1,18 +1,21 @@
 //! Whether all points hold. The constraints are looked at row by row, as they stand on the model's sheets: the same is done for many of them
 //! in turn, over memory in its order.
 
-ghost use Rattle.std.specs.Prelude.{◌≡◌, ◌≤◌, ◌<◌, ◌+◌, IfOk, Some, length, map, option_map, slice_get, take};
+ghost use Rattle.std.specs.Prelude.{◌≡◌, ◌≤◌, ◌<◌, ◌+◌, IfOk, IsTrue, Some, length, map, option_map, slice_get, take, true};
 ghost use Rattle.std.specs.List.{AllByRecursion, list_all};
-ghost use Rattle.fz_meaning.specs.Meaning.{points, row_of};
+ghost use Rattle.fz_meaning.specs.Meaning.{points, row_of, variables_of};
 ghost use Rattle.fz_table.specs.Known.{known_row};
 ghost use Rattle.fz_data.specs.Parts.{posted_view};
 ghost use Rattle.fz_data.specs.Sheets.{lines_of};
+ghost use Rattle.fz_data.specs.Shown.{point_view};
 ghost use Rattle.fz_data.specs.declared.sheet.Line.{Line};
 ghost use Rattle.fz_eval.specs.Holding.{is_held, number_holds, point_holds};
+ghost use Rattle.fz_eval.specs.Whole.{AreReady, is_domain, lie_inside};
 
 use crate::constraints::of_constraint;
 use crate::points::state;
-use fz_data::{Laying, Model, Partial};
+use crate::whole::lie_inside;
+use fz_data::{Laying, Model, Partial, PointParts};
 use fz_meaning::State;
 use std::alloc::{AllocError, Global};
 
@@ -39,6 +42,56 @@ fn first_hold(
         }
     }
     Ok(true)
+}
+
+/// Whether the point is that of a variable's domain. It doesn't read the variable.
+#[inline]
+fn is_domain(parts: &PointParts<'_, '_>) -> bool
+    ensures { result ≡ is_domain (point_view parts.now) }
+{
+    matches!(parts, PointParts::Domain(_, _))
+}
+
+/// Whether the first so many points hold, where every value is known to lie inside its domain: the points of domains aren't looked at.
+fn others_hold(
+    alloc: Global,
+    model: &Model<'_>,
+    count: usize,
+    partial: &Partial,
+) -> Result<bool, AllocError>
+    requires in_range { count ≤ length (points model.now) }
+    requires inside { lie_inside (variables_of model.now) partial.now ≡ true }
+    ensures { IfOk result (λ b. b ≡ list_all (point_holds partial.now) (take count (points model.now))) }
+{
+    for number in 0..count {
+        if is_domain(&model.point_parts(number)) {
+            continue;
+        }
+        let found = state(alloc, model, number, partial)?;
+        if !is_held(found) {
+            return Ok(false);
+        }
+    }
+    Ok(true)
+}
+
+/// Whether the first so many points hold. Where the values are known to lie inside their domains, that isn't looked at again.
+fn declared_hold(
+    alloc: Global,
+    model: &Model<'_>,
+    count: usize,
+    partial: &Partial,
+    inside: bool,
+) -> Result<bool, AllocError>
+    requires in_range { count ≤ length (points model.now) }
+    requires inside { IsTrue inside → lie_inside (variables_of model.now) partial.now ≡ true }
+    ensures { IfOk result (λ b. b ≡ list_all (point_holds partial.now) (take count (points model.now))) }
+{
+    if inside {
+        others_hold(alloc, model, count, partial)
+    } else {
+        first_hold(alloc, model, count, partial)
+    }
 }
 
 /// Whether the constraint of a number, from 0, holds, where so many points stand before the constraints.
@@ -80,7 +133,7 @@ fn rest_holds(
     Ok(true)
 }
 
-/// Whether the constraint on a line of a sheet holds.
+/// Whether the constraint on a line of a sheet holds. Where the assignment is whole, the constraint is ready.
 #[inline]
 fn line_holds(
     alloc: Global,
@@ -88,13 +141,15 @@ fn line_holds(
     sheet: usize,
     line: usize,
     partial: &Partial,
+    whole: bool,
 ) -> Result<bool, AllocError>
     requires rows { map (option_map known_row) laying.now.known.now ≡ map row_of (map (posted_view laying.now.variables.now laying.now.arrays.now) laying.now.constraints.now) }
+    requires ready { IsTrue whole → AreReady partial.now (map (posted_view laying.now.variables.now laying.now.arrays.now) laying.now.constraints.now) }
     requires is_sheet { sheet < length laying.now.sheets.now }
     requires is_line { line < length (lines_of laying.now.sheets.now sheet) }
     ensures { IfOk result (λ b. (l : Line) → slice_get (lines_of laying.now.sheets.now sheet) line ≡ Some l → b ≡ number_holds partial.now (map (posted_view laying.now.variables.now laying.now.arrays.now) laying.now.constraints.now) l.number) }
 {
-    let found = of_constraint(alloc, laying.parts(sheet, line), partial)?;
+    let found = of_constraint(alloc, laying.parts(sheet, line), partial, whole)?;
     Ok(is_held(found))
 }
 
@@ -104,13 +159,15 @@ fn sheet_holds(
     laying: &Laying<'_, '_>,
     sheet: usize,
     partial: &Partial,
+    whole: bool,
 ) -> Result<bool, AllocError>
     requires rows { map (option_map known_row) laying.now.known.now ≡ map row_of (map (posted_view laying.now.variables.now laying.now.arrays.now) laying.now.constraints.now) }
+    requires ready { IsTrue whole → AreReady partial.now (map (posted_view laying.now.variables.now laying.now.arrays.now) laying.now.constraints.now) }
     requires is_sheet { sheet < length laying.now.sheets.now }
     ensures { IfOk result (λ b. b ≡ list_all (λ l. number_holds partial.now (map (posted_view laying.now.variables.now laying.now.arrays.now) laying.now.constraints.now) l.number) (lines_of laying.now.sheets.now sheet)) }
 {
     for line in 0..laying.lines(sheet) {
-        if !line_holds(alloc, laying, sheet, line, partial)? {
+        if !line_holds(alloc, laying, sheet, line, partial, whole)? {
             return Ok(false);
         }
     }
@@ -122,12 +179,14 @@ fn sheets_hold(
     alloc: Global,
     laying: &Laying<'_, '_>,
     partial: &Partial,
+    whole: bool,
 ) -> Result<bool, AllocError>
     requires rows { map (option_map known_row) laying.now.known.now ≡ map row_of (map (posted_view laying.now.variables.now laying.now.arrays.now) laying.now.constraints.now) }
+    requires ready { IsTrue whole → AreReady partial.now (map (posted_view laying.now.variables.now laying.now.arrays.now) laying.now.constraints.now) }
     ensures { IfOk result (λ b. b ≡ list_all (λ s. list_all (λ l. number_holds partial.now (map (posted_view laying.now.variables.now laying.now.arrays.now) laying.now.constraints.now) l.number) s.lines.items) laying.now.sheets.now) }
 {
     for sheet in 0..laying.sheets() {
-        if !sheet_holds(alloc, laying, sheet, partial)? {
+        if !sheet_holds(alloc, laying, sheet, partial, whole)? {
             return Ok(false);
         }
     }
@@ -140,12 +199,13 @@ pub fn all_hold(alloc: Global, model: &Model<'_>, partial: &Partial) -> Result<b
     ensures exact { IfOk result (λ b. b ≡ list_all (point_holds partial.now) (points model.now)) }
 {
     let before = model.points() - model.constraints().len();
-    if !first_hold(alloc, model, before, partial)? {
+    let inside = lie_inside(model.variables(), partial.values());
+    if !declared_hold(alloc, model, before, partial, inside)? {
         return Ok(false);
     }
     let laying = model.laying();
     if !rest_holds(alloc, model, before, laying.rest(), partial)? {
         return Ok(false);
     }
-    Ok(sheets_hold(alloc, &laying, partial)?)
+    Ok(sheets_hold(alloc, &laying, partial, inside)?)
 }

@@ -12,6 +12,7 @@ mod points;
 mod sets;
 mod sums;
 mod truths;
+mod whole;
 
 pub use builtins::of_builtin;
 pub use holding::all_hold;

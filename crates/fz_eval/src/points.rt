@@ -27,6 +27,6 @@ pub fn state(
             Ok(of_definition(partial.get(place), partial.value(term)))
         }
         PointParts::Elements(_, domain, elements) => Ok(of_elements(partial, domain, elements)),
-        PointParts::Constraint(parts) => of_constraint(alloc, parts, partial),
+        PointParts::Constraint(parts) => of_constraint(alloc, parts, partial, false),
     }
 }

@@ -29,7 +29,7 @@ and_true : (b : Bool) → (b && true) ≡ b
 and_true true = refl
 and_true false = refl
 
-same_kind_itself : (k : Kind) → same_kind k k ≡ true
+pub same_kind_itself : (k : Kind) → same_kind k k ≡ true
 same_kind_itself IntKind = refl
 same_kind_itself BoolKind = refl
 same_kind_itself SetKind = refl
@@ -141,27 +141,6 @@ module _ (K : Partial) (n : ℕ) (none : value_at K n ≡ None) (within : n < le
       (reads ss xs i j z (and_second (has_shape s x) _ h) parts.1 at shape is (and_second (list_all (kind_fits K (kind_in s)) (terms_in x)) _ f))
 
   -- ---- and only then
-
-  back_term : (k : Kind) (t : Term) → is_read (give K n v) k (Some t) ≡ true → kind_fits K k t ≡ true
-  back_term k t h =
-      elim (value K t) as (λ o. value K t ≡ o → option_map_or (of_kind k) o true ≡ true) [
-        | None ↦ λ _. refl
-        | Some w ↦ λ e.
-            let keeps : value (give K n v) t ≡ Some w = term_keeps K n none v t (ap is_none e) ∙ e in
-            ap (λ o. option_map_or (of_kind k) o false) (sym keeps) ∙ h
-      ] refl
-
-  back_terms : (k : Kind) (ts : List Term) → list_all (is_read (give K n v) k) (map Some ts) ≡ true → list_all (kind_fits K k) ts ≡ true
-  back_terms k [] h = refl
-  back_terms k (t ∷ ts) h = and_both (kind_fits K k t) _ (back_term k t (and_first (is_read (give K n v) k (Some t)) _ h)) (back_terms k ts (and_second (is_read (give K n v) k (Some t)) _ h))
-
-  pub fits_back : (ss : List Shape) (xs : List Argument) → have_shapes ss xs ≡ true → are_read (give K n v) ss xs ≡ true → each_fits K ss xs ≡ true
-  fits_back [] xs h r = refl
-  fits_back (s ∷ ss) [] h r = refl
-  fits_back (s ∷ ss) (x ∷ xs) h r =
-      and_both (list_all (kind_fits K (kind_in s)) (terms_in x)) _
-      (back_terms (kind_in s) (terms_in x) (sym (shaped (give K n v) s x (and_first (has_shape s x) _ h)) ∙ and_first (argument_is_read (give K n v) s x) _ r))
-      (fits_back ss xs (and_second (has_shape s x) _ h) (and_second (argument_is_read (give K n v) s x) _ r))
 
   pub kind_back : (ss : List Shape) (xs : List Argument) (i j : ℕ) (s : Shape) → have_shapes ss xs ≡ true → are_read (give K n v) ss xs ≡ true → slice_get (terms_at_argument xs i) j ≡ Some (Var n)
       → slice_get ss i ≡ Some s → kind_of v ≡ kind_in s

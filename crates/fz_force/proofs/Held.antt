@@ -157,15 +157,15 @@ module _ (K : Partial) (xs : List Argument) (r : Row) (s : Spot) (h : IsReady K 
         (ready_values (give K s.variable w) r.shapes xs h.shaped (reads K s.variable none within w r.shapes xs s.argument s.place z h.shaped h.only_open h.stands shape is h.kinds)) passed
 
     pub is_left : (o : Option Value) → IsLeft (kind_in z) test o → IsOnlyValue K xs r s.variable o
-    is_left (Some v) left = λ within. (
-      record {
+    is_left (Some v) left = (
+      h.only_open,
+      λ within. record {
         only_open = h.only_open;
         sums_fit = sums;
         result = result;
         within_limits = left.1;
         holds = given_holds within v left.0 (test_is within v left.0 ∙ left.2);
       },
-      (λ w f. holds_kind within w f.holds ∙ sym left.0),
     )
     is_left None left = λ within w f.
         let is : kind_of w ≡ kind_in z = holds_kind within w f.holds in

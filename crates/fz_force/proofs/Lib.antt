@@ -3,8 +3,9 @@ pub mod Spots
 pub mod Gaps
 pub mod Sides
 pub mod Fits
-pub mod KindsKept
+pub mod ScalarsKept
 pub mod Held
+pub mod KindsFit
 pub mod Tables
 pub mod Units
 pub mod Placed

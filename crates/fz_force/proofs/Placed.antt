@@ -12,7 +12,7 @@ use Rattle.fz_meaning.specs.Meaning as meaning
 use Rattle.fz_meaning.specs.Meaning.{Model, Partial, Posted, IsPartial, argument_values, give, value_at, has_shape, have_shapes, is_term_of, row_holds, row_of, sums_leave, terms_in}
 use Rattle.fz_meaning.specs.Meaning.Point.{ConstraintPoint}
 use Rattle.fz_meaning.specs.Steps.{Gives, IsResult, kind_at, open_terms}
-use Rattle.fz_meaning.proofs.Values.{no, no', and_first, and_second}
+use Rattle.fz_meaning.proofs.Values.{no, and_first, and_second}
 use Rattle.fz_meaning.proofs.States.{intro}
 use Rattle.fz_meaning.proofs.Steps.{only_open_none, some_of}
 use Rattle.fz_data.specs.declared.parts.Variable.{Variable}
@@ -21,15 +21,15 @@ use Rattle.fz_data.specs.declared.parts.Place.{Place}
 use Rattle.fz_data.specs.declared.parts.Place.TheVariants as places
 use Rattle.fz_data.specs.declared.parts.Argument.{Argument}
 use Rattle.fz_data.specs.declared.parts.Argument.TheVariants as arguments
+use Rattle.fz_data.specs.Kinds.{PostedFits}
 use Rattle.fz_data.specs.Parts.{argument_view, place_view, array_view, no_array}
 use Rattle.fz_force.specs.declared.only.Spot.{Spot}
-use Rattle.fz_force.specs.Forced.{Fills, IsFitting, IsForced, IsOnlyValue, IsReady}
+use Rattle.fz_force.specs.Forced.{Fills, IsForced, IsOnlyValue, IsReady}
 use Rattle.fz_force.specs.Kinds.{each_fits}
 use Rattle.fz_force.specs.Only.{IsFlat, IsOnlyAt, IsOnlyOpen, IsScalar}
-use Rattle.fz_force.proofs.Fits.{fits_back}
 use Rattle.fz_force.proofs.Gaps.{has_place}
-use Rattle.fz_force.proofs.Held.{holds_read}
-use Rattle.fz_force.proofs.KindsKept.{at_argument, of_arguments}
+use Rattle.fz_force.proofs.KindsFit.{filled_kind, has_number}
+use Rattle.fz_force.proofs.ScalarsKept.{at_argument, of_arguments}
 
 module _ (vs : List Variable) (xs : List Array) where
   -- ---- no array stands in a list of a constraint that has the shapes
@@ -70,10 +70,6 @@ module _ (vs : List Variable) (xs : List Array) where
 
   pub not_only : (K : Partial) (as' : List Argument) (r : Row) (n : ℕ) → IsOnlyOpen K xs as' n None → IsOnlyValue K (map (argument_view vs xs) as') r n None
   not_only K as' r n none = λ within w f. none (ap (open_terms K) (of_arguments vs xs as') ∙ f.only_open)
-
-pub wrong_kinds : (K : Partial) (xs : List meaning.Argument) (r : Row) (n : ℕ) → have_shapes r.shapes xs ≡ true → each_fits K r.shapes xs ≡ false → IsOnlyValue K xs r n None
-wrong_kinds K xs r n shaped e = λ within w f.
-    no' (sym (fits_back K n (only_open_none K n (flat_map terms_in xs) f.only_open) within w r.shapes xs shaped (holds_read (give K n w) xs r shaped f.holds)) ∙ e)
 
 pub has_value : (K : Partial) (xs : List meaning.Argument) (r : Row) (n : ℕ) → is_some (value_at K n) ≡ true → IsOnlyValue K xs r n None
 has_value K xs r n some = λ within w f. no (ap is_some (sym (only_open_none K n (flat_map terms_in xs) f.only_open)) ∙ some)
@@ -118,10 +114,7 @@ module _ (m : Model) (K : Partial) (fits : IsPartial m K) (k : ℕ) (p : Posted)
       let here : Gives m K (ConstraintPoint k p) n w = at_target j w g in
       none (has_place m K n (kind_of w) fits here.of_kind) w (fills w here)
 
-  pub forces_value : (v : Value) → IsOnlyValue K p.arguments r n (Some v) → (o : Option (ℕ × Value)) → IsFitting m n v o → IsForced m K (ConstraintPoint k p) o
-  forces_value v only (Some q) fit =
-      subst (λ z. Gives m K (ConstraintPoint k p) z.0 z.1) (sym fit.0) (gives v (only (has_place m K n (kind_of v) fits fit.2)).0 fit.2)
-  forces_value v only None fit = λ j w g.
-      let here : Gives m K (ConstraintPoint k p) n w = at_target j w g in
-      let same : kind_of w ≡ kind_of v = (only (has_place m K n (kind_of w) fits here.of_kind)).1 w (fills w here) in
-      fit (here.of_kind ∙ ap Some same)
+  pub forces_value : PostedFits m p → (v : Value) → IsOnlyValue K p.arguments r n (Some v) → IsForced m K (ConstraintPoint k p) (Some (n, v))
+  forces_value kinds v only =
+      let filled : Fills K p.arguments r n v = only.1 (has_number m K fits p r row kinds n only.0) in
+      gives v filled (filled_kind m K fits p r row kinds n v filled)

@@ -47,7 +47,7 @@ pub record IsReady (K : Partial) (xs : List Argument) (r : Row) (s : Spot) : Typ
   pub stands : slice_get (terms_at_argument xs s.argument) s.place ≡ Some (Var s.variable)
   pub kinds : each_fits K r.shapes xs ≡ true
 
--- an answer fills the place, and has the kind of each value that does; no answer says that no value does
+-- an answer fills the place of the only open scalar; no answer says that no value does
 abbrev pub IsOnlyValue : Partial → List Argument → Row → ℕ → Option Value → Type 0
-IsOnlyValue K xs r n (Some v) = n < length K → Fills K xs r n v × ((w : Value) → Fills K xs r n w → kind_of w ≡ kind_of v)
+IsOnlyValue K xs r n (Some v) = (open_terms K (flat_map terms_in xs) ≡ Var n ∷ []) × (n < length K → Fills K xs r n v)
 IsOnlyValue K xs r n None = n < length K → (w : Value) → Fills K xs r n w → ⊥

@@ -8,11 +8,6 @@ use Rattle.fz_meaning.specs.Values.{kind_of, same_kind}
 use Rattle.fz_meaning.specs.Builtins.{Shape}
 use Rattle.fz_meaning.specs.Builtins.Shape.{ScalarOf, ArrayOf}
 use Rattle.fz_meaning.specs.Meaning.{Argument, Partial, value, terms_in}
-use Rattle.fz_table.specs.declared.row.Shape.{Shape as KeptShape}
-use Rattle.fz_table.specs.Known.{shape_of}
-use Rattle.fz_data.specs.declared.parts.Array.{Array}
-use Rattle.fz_data.specs.declared.parts.Argument.{Argument as KeptArgument}
-use Rattle.fz_force.specs.Only.{terms_given}
 
 abbrev pub kind_in : Shape → Kind
 kind_in (ScalarOf k) = k
@@ -25,9 +20,3 @@ kind_fits K k t = option_map_or (λ v. same_kind (kind_of v) k) (value K t) true
 abbrev pub each_fits : Partial → List Shape → List Argument → Bool
 each_fits K (s ∷ ss) (x ∷ xs) = list_all (kind_fits K (kind_in s)) (terms_in x) && each_fits K ss xs
 each_fits K _ _ = true
-
--- ---- the same of a constraint as it is kept
-
-abbrev pub each_kept_fits : Partial → List Array → List KeptShape → List KeptArgument → Bool
-each_kept_fits K xs (s ∷ ss) (a ∷ as') = list_all (kind_fits K (kind_in (shape_of s))) (terms_given xs a) && each_kept_fits K xs ss as'
-each_kept_fits K xs _ _ = true

@@ -7,8 +7,7 @@ ghost use Rattle.fz_meaning.specs.Meaning.{value};
 ghost use Rattle.fz_data.specs.declared.parts.Array.{Array as Held};
 ghost use Rattle.fz_force.specs.Only.{AreOpen, IsFlat, IsOnlyOpen, IsScalar, scalar_kept, terms_given, terms_kept};
 
-use fz_base::Value;
-use fz_data::{Argument, Array, Place};
+use fz_data::{Argument, Array, Partial, Place};
 use fz_meaning::Term;
 
 /// Which scalars have no value: none; the target alone, once, at a place counted from 0; or others.
@@ -35,10 +34,10 @@ pub(crate) struct Spot {
     pub(crate) place: usize,
 }
 
-fn open_term(term: &Term, target: usize, values: &[Option<Value>]) -> Open
-    ensures { AreOpen values.now target (term.now ∷ []) result }
+fn open_term(term: &Term, target: usize, partial: &Partial) -> Open
+    ensures { AreOpen partial.now target (term.now ∷ []) result }
 {
-    if has_value(term, values) {
+    if has_value(term, partial) {
         return Open::Nothing;
     }
     match term {
@@ -47,15 +46,12 @@ fn open_term(term: &Term, target: usize, values: &[Option<Value>]) -> Open
     }
 }
 
-fn has_value(term: &Term, values: &[Option<Value>]) -> bool
-    ensures { result ≡ is_some (value values.now term.now) }
+fn has_value(term: &Term, partial: &Partial) -> bool
+    ensures { result ≡ is_some (value partial.now term.now) }
 {
     match term {
         Term::Fixed(_) => true,
-        Term::Var(number) => match values.get(*number) {
-            Some(given) => given.is_some(),
-            None => false,
-        },
+        Term::Var(number) => partial.has(*number),
     }
 }
 
@@ -69,12 +65,12 @@ fn scalar_in<'m>(place: &'m Place<'_>) -> Option<&'m Term>
 }
 
 // Which scalars of an array have no value.
-fn open_of(terms: &[Term], target: usize, values: &[Option<Value>]) -> Open
-    ensures { AreOpen values.now target terms.now result }
+fn open_of(terms: &[Term], target: usize, partial: &Partial) -> Open
+    ensures { AreOpen partial.now target terms.now result }
 {
     let mut found = Open::Nothing;
     for (place, term) in terms.iter().enumerate() {
-        match open_term(term, target, values) {
+        match open_term(term, target, partial) {
             Open::Nothing => {}
             Open::More => return Open::More,
             Open::Target(_) => {
@@ -89,16 +85,16 @@ fn open_of(terms: &[Term], target: usize, values: &[Option<Value>]) -> Open
 }
 
 // Which scalars of a list have no value.
-fn open_among<'a>(places: &[Place<'a>], target: usize, values: &[Option<Value>]) -> Open
+fn open_among<'a>(places: &[Place<'a>], target: usize, partial: &Partial) -> Open
     requires flat { AllByRecursion IsScalar places.now }
-    ensures { (xs : List Held) → AreOpen values.now target (flat_map (terms_kept xs) places.now) result }
+    ensures { (xs : List Held) → AreOpen partial.now target (flat_map (terms_kept xs) places.now) result }
 {
     let mut found = Open::Nothing;
     for (place, kept) in places.iter().enumerate() {
         let Some(term) = scalar_in(kept) else {
             return found;
         };
-        match open_term(term, target, values) {
+        match open_term(term, target, partial) {
             Open::Nothing => {}
             Open::More => return Open::More,
             Open::Target(_) => {
@@ -117,18 +113,18 @@ fn open_in<'m, 'a>(
     argument: &'m Argument<'a>,
     arrays: &'m [Array<'a>],
     target: usize,
-    values: &[Option<Value>],
+    partial: &Partial,
 ) -> Open
     requires flat { IsFlat argument.now }
-    ensures { AreOpen values.now target (terms_given arrays.now argument.now) result }
+    ensures { AreOpen partial.now target (terms_given arrays.now argument.now) result }
 {
     match argument {
-        Argument::One(Place::Scalar(term)) => open_term(term, target, values),
+        Argument::One(Place::Scalar(term)) => open_term(term, target, partial),
         Argument::One(Place::Array(name)) => match arrays.get(name.number) {
-            Some(array) => open_of(&array.elements, target, values),
+            Some(array) => open_of(&array.elements, target, partial),
             None => Open::Nothing,
         },
-        Argument::List(places) => open_among(places, target, values),
+        Argument::List(places) => open_among(places, target, partial),
     }
 }
 
@@ -137,14 +133,14 @@ pub(crate) fn only_open<'m, 'a>(
     arguments: &'m [Argument<'a>],
     arrays: &'m [Array<'a>],
     target: usize,
-    values: &[Option<Value>],
+    partial: &Partial,
 ) -> Option<Spot>
     requires flat { AllByRecursion IsFlat arguments.now }
-    ensures { IsOnlyOpen values.now arrays.now arguments.now target result }
+    ensures { IsOnlyOpen partial.now arrays.now arguments.now target result }
 {
     let mut found = None;
     for (number, argument) in arguments.iter().enumerate() {
-        match open_in(argument, arrays, target, values) {
+        match open_in(argument, arrays, target, partial) {
             Open::Nothing => {}
             Open::More => return None,
             Open::Target(place) => {

@@ -1,21 +1,21 @@
 //! What a constraint forces by its row of the table.
 
-ghost use Rattle.std.specs.Prelude.{◌≡◌, ◌↔◌, IfOk, IsTrue, Some, option_map};
+ghost use Rattle.std.specs.Prelude.{◌≡◌, ◌↔◌, IfOk, IfSome, IsTrue, Some, option_map, true};
 ghost use Rattle.fz_base.specs.declared.value.Value.TheVariants.{Int};
 ghost use Rattle.fz_meaning.specs.Builtins.Result.{UnitTerm};
-ghost use Rattle.fz_meaning.specs.Meaning.{IsPartial, row_of};
+ghost use Rattle.fz_meaning.specs.Meaning.{IsPartial, Model as Meaning, row_of};
 ghost use Rattle.fz_meaning.specs.Meaning.Point.{ConstraintPoint};
 ghost use Rattle.fz_table.specs.Known.{known_row, result_of};
+ghost use Rattle.fz_data.specs.Kinds.{PostedFits};
 ghost use Rattle.fz_data.specs.Parts.{posted_view};
 ghost use Rattle.fz_scene.specs.Views.{arguments_of, assigned};
 ghost use Rattle.fz_solve.specs.Left.{HasUnit, IsPlaceOf};
 ghost use Rattle.fz_force.specs.Forced.{IsForced, IsOnlyValue, IsReady, IsRow};
+ghost use Rattle.fz_force.specs.Kinds.{each_fits};
 
-use crate::kinds::kinds_fit;
 use crate::only::{Spot, only_open};
-use crate::step::fitting;
 use fz_base::Value;
-use fz_data::{ConstraintParts, Model, Partial};
+use fz_data::{ConstraintParts, Partial};
 use fz_scene::Scene;
 use fz_solve::{left_value, unit_value};
 use fz_table::{Filled, Known};
@@ -25,13 +25,12 @@ use std::alloc::{AllocError, Global};
 /// without a value.
 pub(crate) fn by_row(
     alloc: Global,
-    model: &Model<'_>,
     parts: ConstraintParts<'_, '_>,
     partial: &Partial,
 ) -> Result<Option<(usize, Value)>, AllocError>
     requires known { option_map known_row parts.known ≡ row_of (posted_view parts.variables.now parts.arrays.now parts.posted.now) }
-    requires fits { IsPartial model.now partial.now }
-    ensures forced { IfOk result (λ o. IsForced model.now partial.now (ConstraintPoint parts.entry.number (posted_view parts.entry.variables.now parts.entry.arrays.now parts.entry.posted.now)) o) }
+    requires kinds { IfSome parts.known (λ k. each_fits partial.now (known_row k).shapes (posted_view parts.variables.now parts.arrays.now parts.posted.now).arguments ≡ true) }
+    ensures forced { (m : Meaning) → IsPartial m partial.now → PostedFits m (posted_view parts.entry.variables.now parts.entry.arrays.now parts.entry.posted.now) → IfOk result (λ o. IsForced m partial.now (ConstraintPoint parts.entry.number (posted_view parts.entry.variables.now parts.entry.arrays.now parts.entry.posted.now)) o) }
 {
     let Some(target) = parts.posted.target else {
         return Ok(None);
@@ -40,7 +39,7 @@ pub(crate) fn by_row(
         return Ok(None);
     };
     match only_value(alloc, known, target, parts, partial)? {
-        Some(value) => Ok(fitting(model, target, value)),
+        Some(value) => Ok(Some((target, value))),
         None => Ok(None),
     }
 }
@@ -54,20 +53,16 @@ fn only_value(
     partial: &Partial,
 ) -> Result<Option<Value>, AllocError>
     requires row { row_of (posted_view parts.variables.now parts.arrays.now parts.posted.now) ≡ Some (known_row known) }
+    requires kinds { each_fits partial.now (known_row known).shapes (posted_view parts.variables.now parts.arrays.now parts.posted.now).arguments ≡ true }
     ensures { IfOk result (λ o. IsOnlyValue partial.now (posted_view parts.entry.variables.now parts.entry.arrays.now parts.entry.posted.now).arguments (known_row known) target o) }
 {
-    let given = partial.get(target);
-    if given.is_some() {
+    if partial.has(target) {
         return Ok(None);
     }
-    let values = partial.values();
     let arguments = parts.posted.arguments.as_slice();
-    let Some(spot) = only_open(arguments, parts.arrays, target, values) else {
+    let Some(spot) = only_open(arguments, parts.arrays, target, partial) else {
         return Ok(None);
     };
-    if !kinds_fit(known.shapes(), arguments, parts.arrays, values) {
-        return Ok(None);
-    }
     value_at(alloc, known, spot, &Scene::new(parts, partial))
 }
 

@@ -32,7 +32,7 @@ pub fn forced(
         PointParts::Domain(variable, own) => Ok(by_domain(variable, own, partial)),
         PointParts::Definition(_, own, side) => by_definition(alloc, model, own, side, partial),
         PointParts::Elements(..) => Ok(None),
-        PointParts::Constraint(parts) => by_row(alloc, model, parts, partial),
+        PointParts::Constraint(parts) => by_row(alloc, parts, partial),
     }
 }
 
@@ -87,8 +87,8 @@ pub fn only_number(domain: &Domain) -> Option<i64>
     }
 }
 
-/// A variable with a value, where the value is of its kind.
-pub(crate) fn fitting(model: &Model<'_>, number: usize, value: Value) -> Option<(usize, Value)>
+// A variable with a value, where the value is of its kind.
+fn fitting(model: &Model<'_>, number: usize, value: Value) -> Option<(usize, Value)>
     ensures { IsFitting model.now number value result }
 {
     let variable = model.variables().get(number)?;

@@ -1,8 +1,6 @@
 //! What fails and what is undecided of a model's points and of the objective.
 
-ghost use Rattle.std.specs.Prelude.{◌≡◌, ◌<◌, IfOk, IsTrue, length, map, option_map, true};
-ghost use Rattle.std.specs.List.{list_all};
-ghost use Rattle.fz_model.specs.Holding.{point_holds};
+ghost use Rattle.std.specs.Prelude.{◌≡◌, IfOk, map, option_map};
 ghost use Rattle.fz_model.specs.Meaning.{first_some, number_at, objective, points, variables_of};
 ghost use Rattle.fz_model.specs.Parts.{goal_view, variable_view};
 ghost use Rattle.fz_model.specs.Shown.{point_name};
@@ -92,20 +90,8 @@ fn holds(state: State) -> bool
     matches!(state, State::Holds)
 }
 
-/// With so many points it is worth while to look at the constraints row by row: fewer are all in the near caches.
-const MANY: usize = 10_000;
-
-/// Whether all points were seen to hold. That isn't looked at where they are few.
-fn are_seen_to_hold(alloc: Global, model: &Model<'_>, partial: &Partial) -> Result<bool, AllocError>
-    ensures { IfOk result (λ b. IsTrue b → list_all (point_holds partial.now) (points model.now) ≡ true) }
-{
-    if model.points() < MANY {
-        return Ok(false);
-    }
-    Ok(all_hold(alloc, model, partial)?)
-}
-
-/// The first point that fails, or else the first that is undecided.
+/// The first point that fails, or else the first that is undecided. Mostly all points hold, which is told soonest in another order than
+/// theirs.
 pub(crate) fn points_verdict<'a>(
     alloc: Global,
     model: &Model<'a>,
@@ -113,7 +99,7 @@ pub(crate) fn points_verdict<'a>(
 ) -> Result<Verdict<'a>, AllocError>
     ensures { IfOk result (λ v. verdict_view v ≡ verdict_by (first_some (point_fails partial.now) (points model.now)) (first_some (point_undecided model.now partial.now) (points model.now))) }
 {
-    if are_seen_to_hold(alloc, model, partial)? {
+    if all_hold(alloc, model, partial)? {
         return Ok(Verdict::Satisfied);
     }
     let mut reason = None;

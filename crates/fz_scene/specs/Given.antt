@@ -14,6 +14,7 @@ use Rattle.fz_meaning.specs.Values.{kind_of, same_kind}
 use Rattle.fz_meaning.specs.Builtins.{Shape, ArgValue}
 use Rattle.fz_meaning.specs.Builtins.Shape.{ScalarOf, ArrayOf}
 use Rattle.fz_meaning.specs.Builtins.ArgValue.{OneValue, ManyValues}
+use Rattle.fz_data.specs.Partial.{number_in, truth_in}
 use Rattle.fz_meaning.specs.Meaning.{Argument, Place, Partial, value, terms_in}
 use Rattle.fz_meaning.specs.Meaning.Place.{Scalar, Array}
 use Rattle.fz_meaning.specs.Meaning.Argument.{One, ListOf}
@@ -49,12 +50,10 @@ abbrev pub value_of : Partial → Option Term → Option Value
 value_of K s = option_and_then (value K) s
 
 abbrev pub int_in : Option Value → ℤ
-int_in (Some (Int n)) = n
-int_in _ = pos 0
+int_in o = number_in o
 
 abbrev pub bool_in : Option Value → Bool
-bool_in (Some (Truth b)) = b
-bool_in _ = false
+bool_in o = truth_in o
 
 abbrev pub set_in : Option Value → NumberSet
 set_in (Some (Set s)) = s

@@ -38,7 +38,7 @@ pub(crate) fn slot_int(partial: &Partial, constants: &[Value], slot: &Slot) -> i
     ensures { result ≡ int_of partial.now (slot_term constants.now slot.now) }
 {
     match slot {
-        Slot::Variable(number) => int_in(partial.get(*number as usize)),
+        Slot::Variable(number) => partial.number(*number as usize),
         Slot::Number(number) => i64::from(*number),
         Slot::Truth(_) => 0,
         Slot::Constant(place) => int_in(constant(constants, *place)),
@@ -51,7 +51,7 @@ pub(crate) fn slot_truth(partial: &Partial, constants: &[Value], slot: &Slot) ->
     ensures { result ≡ bool_of partial.now (slot_term constants.now slot.now) }
 {
     match slot {
-        Slot::Variable(number) => bool_in(partial.get(*number as usize)),
+        Slot::Variable(number) => partial.truth(*number as usize),
         Slot::Number(_) => false,
         Slot::Truth(truth) => *truth,
         Slot::Constant(place) => bool_in(constant(constants, *place)),

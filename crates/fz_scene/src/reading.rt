@@ -9,7 +9,7 @@ ghost use Rattle.fz_scene.specs.Given.{bool_in, int_in, set_in, value_of};
 ghost use Rattle.fz_scene.specs.Views.{place_is_read, slot_kept, term_is_read};
 
 use fz_base::{IntSet, Value};
-use fz_data::{Partial, Place};
+use fz_data::{Partial, Place, number_of, truth_of};
 use fz_meaning::{Kind, Term};
 
 /// Whether the arguments of a constraint can be read as its row's shapes ask: each scalar has a value of the kind; each has a value, and
@@ -19,26 +19,6 @@ pub enum Readiness {
     Ready,
     WrongKind,
     Missing,
-}
-
-#[inline(always)]
-fn int_of(value: &Value) -> i64
-    ensures { result ≡ int_in (Some value.now) }
-{
-    match value {
-        Value::Int(number) => *number,
-        Value::Bool(_) | Value::Set(_) => 0,
-    }
-}
-
-#[inline(always)]
-fn bool_of(value: &Value) -> bool
-    ensures { result ≡ bool_in (Some value.now) }
-{
-    match value {
-        Value::Bool(truth) => *truth,
-        Value::Int(_) | Value::Set(_) => false,
-    }
 }
 
 #[inline(always)]
@@ -58,7 +38,7 @@ pub(crate) fn int_in(value: Option<&Value>) -> i64
     ensures { result ≡ int_in (option_map (λ v. v.now) value.entry) }
 {
     match value {
-        Some(value) => int_of(value),
+        Some(value) => number_of(value),
         None => 0,
     }
 }
@@ -69,7 +49,7 @@ pub(crate) fn bool_in(value: Option<&Value>) -> bool
     ensures { result ≡ bool_in (option_map (λ v. v.now) value.entry) }
 {
     match value {
-        Some(value) => bool_of(value),
+        Some(value) => truth_of(value),
         None => false,
     }
 }

@@ -8,7 +8,6 @@ use Rattle.fz_data.specs.Scope.{Tells, posted_in, constraint_fault_in}
 use Rattle.fz_data.specs.Fitting.{kinds_among}
 use Rattle.fz_data.specs.Naming.{own_terms}
 use Rattle.fz_data.specs.Stands.{StandsFor}
-use Rattle.fz_scope.proofs.Found.{no_fault}
 use Rattle.fz_data.proofs.Loaded.{kept_now, laid_out, model_is, told_in_constraints, told_in_goal, none_anywhere}
 use Rattle.fz_data.proofs.loading.read.Goals as goal
 
@@ -44,11 +43,9 @@ assembled-requires c =
     let stands = subst (λ ds. StandsFor (map located_decl ds) (map located_decl ds) s) c.deref.ensures.value c.in_ok-scope.ensures.stands in
     let clean = subst (λ ds. decls_fault [] (map located_decl ds) ≡ None) c.deref.ensures.value c.in_ok-scope.ensures.clean in
     let posted = subst (λ cs. map (posted_view s.variables.items s.arrays.items) c.in_ok-constraints.constraints.posted.items ≡ map (posted_in s) (map located_constraint cs)) c.deref-4.ensures.value c.in_ok-constraints.ensures.posted in
-    let known = subst (λ cs. first_some (constraint_fault_in s) (map located_constraint cs) ≡ None) c.deref-4.ensures.value c.in_ok-constraints.ensures.known in
     let counted : c.len.result ≡ length s.variables.items = omega arith in
     record {
       laid_out = laid_out t s c.in_ok-terms.terms c.in_ok-constraints.constraints.posted c.in_ok-constraints.constraints.known c.in_ok-goal.goal c.in_ok-constraints.constraints.sheets stands clean posted c.in_ok-constraints.ensures.cited c.in_ok-goal.ensures.clean c.in_ok-goal.ensures.aim
-          (no_fault t (none_anywhere t s stands clean known c.in_ok-goal.ensures.clean))
           (c.in_ok-terms.ensures ∙ ap own_terms counted)
           c.in_ok-constraints.ensures.rows
           c.in_ok-constraints.ensures.sheets;

@@ -2,8 +2,7 @@ use Rattle.std.proofs.Common.{cond, sym, ap, ◌∙◌}
 use Rattle.fz_meaning.specs.declared.state.State.TheVariants.{Fails, TooLarge}
 use Rattle.fz_scene.specs.Given.{are_read}
 use Rattle.fz_scene.specs.Views.{arguments_of, assigned}
-use Rattle.fz_eval.specs.Outcomes.{told}
-use Rattle.fz_eval.proofs.States.{missing, of_wrong_kind, of_ready}
+use Rattle.fz_eval.proofs.States.{missing, of_wrong_kind}
 use Rattle.fz_eval.proofs.constraints.of_scene.Goals as goal
 
 pub returns-in-Missing : goal.returns-in-Missing
@@ -25,9 +24,5 @@ returns-else-is_too_large c =
     ap (λ b. cond b TooLarge Fails) (sym c.if-is_too_large.false)
     ∙ of_wrong_kind c.args.known K xs c.requires.fits unread c.in-WrongKind.ensures.exact.1 c.is_too_large.result c.is_too_large.ensures
 
-pub returns-in_ok-of_known-in-Ready : goal.returns-in_ok-of_known-in-Ready
-returns-in_ok-of_known-in-Ready c =
-    let K = assigned c.args.scene.now in
-    let xs = arguments_of c.args.scene.now in
-    let ready = ap (λ ss. are_read K ss xs) (sym c.shapes.ensures) ∙ c.in-Ready.ensures.exact in
-    c.told.ensures ∙ ap told c.in_ok-of_known-in-Ready.ensures ∙ of_ready c.args.known K xs c.requires.fits ready
+pub of_ready-requires : goal.of_ready-requires
+of_ready-requires c = record { fits = c.requires.fits; ready = ap (λ ss. are_read (assigned c.args.scene.now) ss (arguments_of c.args.scene.now)) (sym c.shapes.ensures) ∙ c.in-Ready.ensures.exact }

@@ -1,6 +1,8 @@
 use Rattle.std.proofs.Common.{map, pred, option_map, sym, ap, ◌∙◌, suc}
+use Rattle.fz_meaning.proofs.Lists.{at_place}
 use Rattle.fz_table.specs.Known.{known_row}
 use Rattle.fz_data.specs.Parts.{posted_view}
+use Rattle.fz_eval.specs.Whole.{IsReady}
 use Rattle.fz_eval.proofs.Together.{row_at, line_held}
 use Rattle.fz_eval.proofs.holding.line_holds.Goals as goal
 
@@ -8,7 +10,12 @@ pub of_constraint-requires : goal.of_constraint-requires
 of_constraint-requires c =
     let m = c.args.laying.now in
     let p = c.parts.result in
-    record { known = ap (option_map known_row) c.parts.ensures.known ∙ row_at m.known.now (map (posted_view m.variables.now m.arrays.now) m.constraints.now) (pred p.number) (posted_view p.variables.now p.arrays.now p.posted.now) c.requires.rows c.parts.ensures.posted }
+    let ps = map (posted_view m.variables.now m.arrays.now) m.constraints.now in
+    let here = posted_view p.variables.now p.arrays.now p.posted.now in
+    record {
+      known = ap (option_map known_row) c.parts.ensures.known ∙ row_at m.known.now ps (pred p.number) here c.requires.rows c.parts.ensures.posted;
+      ready = λ whole. at_place (IsReady c.args.partial.now) ps (pred p.number) here (c.requires.ready whole) c.parts.ensures.posted;
+    }
 
 pub returns : goal.returns
 returns c = λ l at.

@@ -8,17 +8,17 @@ use Rattle.fz_force.proofs.only.only_open.Goals.{in-Nothing, in-Target+else-is_s
 pub returns-in-More : goal.returns-in-More
 returns-in-More c =
     let at = slice_get_read c.args.arguments.now (length c.args.arguments.now) c.loop-number.number c.index-arguments-number.result refl c.loop-number-test.true c.index-arguments-number.is in
-    has_others c.args.values.now c.args.arrays.now c.args.target c.args.arguments.now c.loop-number.number c.index-arguments-number.result at c.loop-number-test.true c.in-More.ensures
+    has_others c.args.partial.now c.args.arrays.now c.args.target c.args.arguments.now c.loop-number.number c.index-arguments-number.result at c.loop-number-test.true c.in-More.ensures
 
 pub returns-then-is_some : goal.returns-then-is_some
 returns-then-is_some c =
     let at = slice_get_read c.args.arguments.now (length c.args.arguments.now) c.loop-number.number c.index-arguments-number.result refl c.loop-number-test.true c.index-arguments-number.is in
-    has_two_if c.args.values.now c.args.arrays.now c.args.target c.args.arguments.now c.loop-number.number c.index-arguments-number.result at c.loop-number-test.true
+    has_two_if c.args.partial.now c.args.arrays.now c.args.target c.args.arguments.now c.loop-number.number c.index-arguments-number.result at c.loop-number-test.true
     c.loop-number.found c.in-Target.place c.if-is_some.ensures c.loop-number.invariant c.in-Target.ensures
 
 pub loop-number-preserved : goal.loop-number-preserved
 loop-number-preserved c =
-    let K = c.args.values.now in
+    let K = c.args.partial.now in
     let n = c.args.target in
     let xs = c.args.arrays.now in
     let as' = c.args.arguments.now in

@@ -3,4 +3,4 @@ use Rattle.fz_force.proofs.Spots.{SoFar}
 use Rattle.fz_force.proofs.only.only_open.Given as goal
 
 abbrev pub invariant-loop-number : goal.invariant-loop-number
-invariant-loop-number l = SoFar l.values l.arrays (take l.number l.arguments) l.target l.found
+invariant-loop-number l = SoFar l.partial l.arrays (take l.number l.arguments) l.target l.found

@@ -21,7 +21,7 @@ returns-in-More c = λ xs.
     let i = c.loop-place.place in
     let p = c.index-places-place.result in
     let at = slice_get_read ps (length ps) i p refl c.loop-place-test.true c.index-places-place.is in
-    stops_here c.args.values.now c.args.target (flat_map (terms_kept xs) ps) i c.in-Some.term.now (c.in-Some.ensures ∙ scalar_at xs ps i p c.requires.flat at) c.in-More.ensures
+    stops_here c.args.partial.now c.args.target (flat_map (terms_kept xs) ps) i c.in-Some.term.now (c.in-Some.ensures ∙ scalar_at xs ps i p c.requires.flat at) c.in-More.ensures
 
 pub returns-then-not-is_nothing : goal.returns-then-not-is_nothing
 returns-then-not-is_nothing c = λ xs.
@@ -29,12 +29,12 @@ returns-then-not-is_nothing c = λ xs.
     let i = c.loop-place.place in
     let p = c.index-places-place.result in
     let at = slice_get_read ps (length ps) i p refl c.loop-place-test.true c.index-places-place.is in
-    stops_twice c.args.values.now c.args.target (flat_map (terms_kept xs) ps) i c.in-Some.term.now (c.in-Some.ensures ∙ scalar_at xs ps i p c.requires.flat at) c.in-Target.field-0 c.loop-place.found
+    stops_twice c.args.partial.now c.args.target (flat_map (terms_kept xs) ps) i c.in-Some.term.now (c.in-Some.ensures ∙ scalar_at xs ps i p c.requires.flat at) c.in-Target.field-0 c.loop-place.found
     (λ e. no (c.if-not-is_nothing.ensures.1 e)) (c.loop-place.invariant xs) c.in-Target.ensures
 
 pub loop-place-preserved : goal.loop-place-preserved
 loop-place-preserved c = λ xs.
-    let K = c.args.values.now in
+    let K = c.args.partial.now in
     let n = c.args.target in
     let ps = c.args.places.now in
     let ts = flat_map (terms_kept xs) ps in
@@ -54,4 +54,4 @@ pub returns : goal.returns
 returns c = λ xs.
     let ts = flat_map (terms_kept xs) c.args.places.now in
     let long = scalars_counted xs c.args.places.now c.requires.flat in
-    subst (λ us. AreOpen c.args.values.now c.args.target us c.loop-place.found) (take_whole ts c.loop-place.place (subst (λ m. m ≤ c.loop-place.place) long c.loop-place-test.false)) (c.loop-place.invariant xs)
+    subst (λ us. AreOpen c.args.partial.now c.args.target us c.loop-place.found) (take_whole ts c.loop-place.place (subst (λ m. m ≤ c.loop-place.place) long c.loop-place-test.false)) (c.loop-place.invariant xs)

@@ -11,19 +11,19 @@ returns-in-More c =
     let ts = c.args.terms.now in
     let i = c.loop-place.place in
     let t = c.index-terms-place.result in
-    stops_here c.args.values.now c.args.target ts i t (sym (slice_get_read ts (length ts) i t refl c.loop-place-test.true c.index-terms-place.is)) c.in-More.ensures
+    stops_here c.args.partial.now c.args.target ts i t (sym (slice_get_read ts (length ts) i t refl c.loop-place-test.true c.index-terms-place.is)) c.in-More.ensures
 
 pub returns-then-not-is_nothing : goal.returns-then-not-is_nothing
 returns-then-not-is_nothing c =
     let ts = c.args.terms.now in
     let i = c.loop-place.place in
     let t = c.index-terms-place.result in
-    stops_twice c.args.values.now c.args.target ts i t (sym (slice_get_read ts (length ts) i t refl c.loop-place-test.true c.index-terms-place.is)) c.in-Target.field-0 c.loop-place.found
+    stops_twice c.args.partial.now c.args.target ts i t (sym (slice_get_read ts (length ts) i t refl c.loop-place-test.true c.index-terms-place.is)) c.in-Target.field-0 c.loop-place.found
     (λ e. no (c.if-not-is_nothing.ensures.1 e)) c.loop-place.invariant c.in-Target.ensures
 
 pub loop-place-preserved : goal.loop-place-preserved
 loop-place-preserved c =
-    let K = c.args.values.now in
+    let K = c.args.partial.now in
     let n = c.args.target in
     let ts = c.args.terms.now in
     let i = c.loop-place.place in

@@ -5,6 +5,7 @@ use Rattle.fz_meaning.proofs.Points.{points_fit}
 use Rattle.fz_meaning.proofs.Steps.{PointFits}
 use Rattle.fz_data.specs.Parts.{posted_view, variable_view}
 use Rattle.fz_force.proofs.Gaps.{gives, gives_nothing, forces, forces_nothing}
+use Rattle.fz_force.proofs.KindsFit.{known_fits}
 use Rattle.fz_force.proofs.step.forced.Goals as goal
 
 pub returns-in-Domain-clause-given : goal.returns-in-Domain-clause-given
@@ -33,8 +34,19 @@ returns-in-Definition-clause-nothing c =
     forces_nothing c.args.model.now c.args.partial.now (DefinitionPoint x c.in-Definition.own c.in-Definition.side.now) (points c.args.model.now) c.args.number c.in-Definition.ensures.parts
     c.by_definition.result (c.by_definition.ensures x)
 
+pub by_row-requires-clause-kinds : goal.by_row-requires-clause-kinds
+by_row-requires-clause-kinds c =
+    let k = c.in-Constraint.parts in
+    known_fits c.args.model.now c.args.partial.now c.requires.fits (posted_view k.variables.now k.arrays.now k.posted.now) k.known c.in-Constraint.ensures.kinds c.in-Constraint.ensures.known
+
+pub returns-in-Constraint-clause-given : goal.returns-in-Constraint-clause-given
+returns-in-Constraint-clause-given c =
+    let k = c.in-Constraint.parts in
+    forces c.args.model.now c.args.partial.now (ConstraintPoint k.number (posted_view k.variables.now k.arrays.now k.posted.now)) (points c.args.model.now) c.args.number
+    c.in-Constraint.ensures.parts c.by_row.result (c.by_row.ensures.forced c.args.model.now c.requires.fits c.in-Constraint.ensures.kinds)
+
 pub returns-in-Constraint-clause-nothing : goal.returns-in-Constraint-clause-nothing
 returns-in-Constraint-clause-nothing c =
     let k = c.in-Constraint.parts in
     forces_nothing c.args.model.now c.args.partial.now (ConstraintPoint k.number (posted_view k.variables.now k.arrays.now k.posted.now)) (points c.args.model.now) c.args.number
-    c.in-Constraint.ensures.parts c.by_row.result c.by_row.ensures.forced
+    c.in-Constraint.ensures.parts c.by_row.result (c.by_row.ensures.forced c.args.model.now c.requires.fits c.in-Constraint.ensures.kinds)

@@ -8,7 +8,7 @@ use Rattle.fz_judge.proofs.points.points_verdict.Goals.{then-is_none, else-is_no
 use Rattle.fz_judge.proofs.points.points_verdict.Goals as goal
 
 pub returns-then-branch : goal.returns-then-branch
-returns-then-branch c = all_held c.args.model.now c.args.partial.now (c.in_ok-are_seen_to_hold.ensures c.if-branch.true)
+returns-then-branch c = all_held c.args.model.now c.args.partial.now (sym c.in_ok-all_hold.ensures.exact ∙ c.if-branch.true)
 
 pub returns-then-is_failed : goal.returns-then-is_failed
 returns-then-is_failed c =

@@ -1,6 +1,7 @@
 use Rattle.std.proofs.Common.{◌≡◌, ◌<◌, length, map, sym, ap, subst, ◌∙◌}
 use Rattle.std.specs.List.{AllByRecursion}
 use Rattle.std.proofs.lemmas.List.{length-map}
+use Rattle.fz_data.specs.Kinds.{PostedFits}
 use Rattle.fz_data.specs.Parts.{posted_view}
 use Rattle.fz_data.specs.Sheets.{laid_lines, kept_lines, Covers}
 use Rattle.fz_data.proofs.Points.{how_many_rows}
@@ -31,3 +32,6 @@ returns-clause-within c =
     let count : length m.constraints.items ≡ length c.args.self.now.constraints = sym (length-map m.constraints.items (posted_view m.variables.items m.arrays.items)) ∙ ap (λ z. length z.constraints) c.self.view_is in
     subst (λ n. AllByRecursion (λ k. k < n) c.deref-6.result.now) count
     (subst (λ ns. AllByRecursion (λ k. k < length m.constraints.items) ns) (sym c.deref-6.ensures.value) c.self.invariant.sheets.within)
+
+pub returns-clause-kinds : goal.returns-clause-kinds
+returns-clause-kinds c = subst (λ z. AllByRecursion (PostedFits z) z.constraints) c.self.view_is c.self.invariant.posted_kinds

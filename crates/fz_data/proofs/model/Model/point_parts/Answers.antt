@@ -1,9 +1,11 @@
-use Rattle.std.proofs.Common.{◌≡◌, ◌+◌, ◌-◌, ◌<◌, ◌≤◌, length, refl, sym, ap, ◌∙◌, slice_get, Some, arith}
+use Rattle.std.proofs.Common.{◌≡◌, ◌+◌, ◌-◌, ◌<◌, ◌≤◌, length, refl, sym, ap, subst, ◌∙◌, slice_get, Some, arith}
 use Rattle.std.proofs.lemmas.Option.{slice_get_read}
 use Rattle.fz_meaning.specs.Meaning.{points, row_of}
 use Rattle.fz_meaning.specs.Meaning.Point.{ArrayPoint, ConstraintPoint}
+use Rattle.fz_data.specs.Kinds.{PostedFits}
+use Rattle.fz_data.specs.Layout.{model_view}
 use Rattle.fz_data.specs.Parts.{posted_view}
-use Rattle.fz_data.proofs.Points.{how_many, how_many_rows, row_in_place, point_posted, domain_at, definition_is, no_definition, elements_at}
+use Rattle.fz_data.proofs.Points.{how_many, how_many_rows, row_in_place, kinds_in_place, point_posted, domain_at, definition_is, no_definition, elements_at}
 use Rattle.fz_data.proofs.model.Model.point_parts.Goals as goal
 
 pub overflow_add-result : goal.overflow_add-result
@@ -34,6 +36,10 @@ returns-then-number-len c =
       known = row_in_place c.self.inside c.self.invariant (c.args.number - c.len-then-number-len.result) c.index.result.now c.index-known.result.now
           (slice_get_read c.self.inside.constraints.items _ _ _ refl lt c.index.ensures) (slice_get_read c.self.inside.known.items _ _ _ refl (omega (arith, lt, how_many_rows c.self.inside c.self.invariant)) c.index-known.ensures)
           ∙ (λ i. row_of (posted_view (sym c.deref.ensures.value i) (sym c.deref-then-number-len.ensures.value i) c.index.result.now));
+      kinds = subst (λ m. PostedFits m (posted_view c.deref.result.now c.deref-then-number-len.result.now c.index.result.now)) c.self.view_is
+          (subst (λ vs. PostedFits (model_view c.self.inside) (posted_view vs c.deref-then-number-len.result.now c.index.result.now)) (sym c.deref.ensures.value)
+          (subst (λ xs. PostedFits (model_view c.self.inside) (posted_view c.self.inside.variables.items xs c.index.result.now)) (sym c.deref-then-number-len.ensures.value)
+          (kinds_in_place c.self.inside c.self.invariant (c.args.number - c.len-then-number-len.result) c.index.result.now (slice_get_read c.self.inside.constraints.items _ _ _ refl lt c.index.ensures))));
     }
 
 pub returns-in-Domain : goal.returns-in-Domain
@@ -41,6 +47,7 @@ returns-in-Domain c = record {
   parts = ap (λ m. slice_get (points m) c.args.number) (sym c.self.view_is)
       ∙ domain_at c.self.inside c.self.invariant c.args.number _ c.in-Domain.variable c.index-in-Domain.result.now (omega arith) c.index-2.ensures c.index-in-Domain.ensures c.in-Domain.is;
   known = tt;
+  kinds = tt;
 }
 
 pub returns-in-Some : goal.returns-in-Some
@@ -48,6 +55,7 @@ returns-in-Some c = record {
   parts = ap (λ m. slice_get (points m) c.args.number) (sym c.self.view_is)
       ∙ definition_is c.self.inside c.self.invariant c.args.number _ c.in-Definition.number c.index-variable.result.now (omega arith) c.index-2.ensures c.index-variable.ensures c.in-Some.term c.in-Definition.is c.in-Some.is;
   known = tt;
+  kinds = tt;
 }
 
 pub returns-in-None : goal.returns-in-None
@@ -60,4 +68,5 @@ returns-in-Elements c = record {
       ∙ elements_at c.self.inside c.self.invariant c.args.number _ c.in-Elements.array c.index-array.result.now (omega arith) c.index-2.ensures c.index-array.ensures c.in-Elements.is
       ∙ ap (λ ts. Some (ArrayPoint c.index-array.result.now.name.now c.index-array.result.now.domain ts)) (sym c.deref-in-Elements.ensures.value);
   known = tt;
+  kinds = tt;
 }
