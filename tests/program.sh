@@ -98,6 +98,30 @@ values 2500 >"$folder/large_wrong.out"
 expect 'a large model' 0 "$accepted" '' "$program" check "$folder/large.fzn" "$folder/large.out"
 expect 'a large model, violated' 1 $'block 1: violated: constraint 5000 set_in\nrejected: block 1' '' "$program" check "$folder/large.fzn" "$folder/large_wrong.out"
 expect 'a large model with an unknown constraint' 2 $'block 1: undecided: constraint 10001 my_own not known\nundecided: block 1' '' "$program" check "$folder/unknown.fzn" "$folder/large.out"
+# The steps of one block are tried first for the next: blocks that print other names, and steps in the other order.
+cat >"$folder/steps.fzn" <<'END'
+var 0..9: x :: output_var;
+var 0..9: y :: output_var;
+var 0..99: z;
+constraint int_times(x,y,z) :: defines_var(z);
+constraint int_plus(x,1,y) :: defines_var(y);
+constraint int_ne(z,20);
+solve satisfy;
+END
+printf '%s\n----------\n' 'x = 2;' 'x = 3;' 'y = 4;' 'x = 4;' $'y = 6;\nx = 5;' 'x = 9;' >"$folder/steps.out"
+expect 'steps of the block before' 1 $'block 1: satisfied\nblock 2: satisfied\nblock 3: undecided: no value for x\nblock 4: violated: constraint 3 int_ne\nblock 5: satisfied\nblock 6: violated: domain of y\nrejected: block 4' '' \
+  "$program" check "$folder/steps.fzn" "$folder/steps.out"
+# Two constraints that give y different values: the first in the model's order does, in each block.
+cat >"$folder/rivals.fzn" <<'END'
+var 0..9: x :: output_var;
+var 0..9: y;
+constraint int_plus(x,1,y) :: defines_var(y);
+constraint int_times(x,2,y) :: defines_var(y);
+solve satisfy;
+END
+printf '%s\n----------\n' 'x = 1;' 'x = 2;' 'x = 1;' >"$folder/rivals.out"
+expect 'two that give one variable' 1 $'block 1: satisfied\nblock 2: violated: constraint 2 int_times\nblock 3: satisfied\nrejected: block 2' '' \
+  "$program" check "$folder/rivals.fzn" "$folder/rivals.out"
 mkfifo "$folder/pipe"
 "$program" check examples/first.fzn <"$folder/pipe" >"$folder/lines" 2>&1 &
 exec 7>"$folder/pipe"
