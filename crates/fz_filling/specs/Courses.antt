@@ -1,4 +1,4 @@
--- What is kept from one filling of a model to the next, and which point can give a variable a value. Only private functions use these.
+-- What is kept from one filling of a model to the next, which the contract of `fill_in` cites, and which point can give a variable a value, which only private functions do.
 use Rattle.std.specs.Prelude.{◌≡◌, ℕ, suc, List, Some, IsTrue, slice_get}
 use Rattle.fz_model.specs.Meaning.{Model, Partial, Point}
 use Rattle.fz_model.specs.Steps.{IsTarget}

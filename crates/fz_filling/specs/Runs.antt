@@ -1,4 +1,4 @@
--- Steps in any order. Only private functions use these.
+-- Steps in any order, and where the order doesn't matter.
 use Rattle.std.specs.Prelude.{◌≡◌, ℕ, Some, slice_get}
 use Rattle.fz_base.specs.declared.value.Value.{Value}
 use Rattle.fz_model.specs.Meaning.{Model, Partial, Point, points, give}

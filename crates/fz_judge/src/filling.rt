@@ -42,7 +42,8 @@ fn moved_error(error: BlockError, offset: usize) -> BlockError
     }
 }
 
-/// The filling of a block, along the course of those before it. Where each name has its printed value as it is taken, each has it under the filling: no value changes any more.
+/// The filling of a block, along the course of those before it. Where each name has its printed value as it is taken, each has it under the
+/// filling: no value changes any more.
 pub(crate) fn filled(
     alloc: Global,
     model: &Model<'_>,
