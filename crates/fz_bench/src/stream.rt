@@ -1,6 +1,6 @@
 //! The phases over a stream alone.
 
-ghost use Rattle.std.specs.Prelude.{◌≢◌, OnOk};
+ghost use Rattle.std.specs.Prelude.{◌≡◌, ◌≢◌, OnOk};
 ghost use Rattle.fz_stream.specs.declared.splitter.Stage.TheVariants.{Finished};
 
 use crate::measured::{Measured, Watch};
@@ -30,7 +30,7 @@ pub fn run_splitter(rt: &HostRuntime, stream: &[u8]) -> Result<Measured> {
         count = count.wrapping_add(feed_all(&mut splitter, piece)?);
     }
     splitter.finish()?;
-    count = count.wrapping_add(waiting_blocks(&splitter)?);
+    count = count.wrapping_add(waiting_blocks(&mut splitter)?);
     let took = watch.stop(rt)?;
     Ok(Measured { count, took })
 }
@@ -53,9 +53,12 @@ fn feed_all(splitter: &mut Splitter, piece: &[u8]) -> Result<usize, StreamError>
     Ok(count)
 }
 
-/// How many blocks wait in a splitter: one or none.
-fn waiting_blocks(splitter: &Splitter) -> Result<usize, StreamError> {
-    match splitter.take()? {
+/// How many blocks wait in a splitter: one or none. Their items are moved, and none is copied.
+fn waiting_blocks(splitter: &mut Splitter) -> Result<usize, StreamError>
+    ensures { splitter.new ≡ splitter.old }
+{
+    let released = splitter.release();
+    match splitter.lend(released)? {
         Some(Part::Block(_)) => Ok(1),
         Some(Part::Claim(_)) | None => Ok(0),
     }

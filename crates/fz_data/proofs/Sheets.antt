@@ -1,5 +1,6 @@
 -- Constraints on sheets: what is read there, and what stays as more comes.
-use Rattle.std.proofs.Common.{◌≡◌, ℕ, zero, suc, ◌<◌, true, false, ◌&&◌, List, [], ◌∷◌, ◌++◌, map, length, take, drop, Option, Some, slice_get, option_map, refl, sym, ap, subst, ◌∙◌, arith, append_assoc, length-append, ◌==◌, eqb-true}
+use Rattle.std.proofs.Common.{◌≡◌, ℕ, zero, suc, ◌<◌, true, false, ◌&&◌, List, [], ◌∷◌, ◌++◌, map, length, take, drop, Option, Some, None, Vec, Global, slice_get, option_map, refl, sym, ap, subst, ◌∙◌, arith, append_assoc, length-append, ◌==◌, eqb-true}
+use Rattle.std.specs.Prelude.{IfSome}
 use Rattle.std.specs.List.{list_all, AllByRecursion}
 use Rattle.std.specs.Option.{option_map_or}
 use Rattle.std.proofs.lemmas.Bool.{eqb-false}
@@ -11,10 +12,11 @@ use Rattle.fz_meaning.proofs.Values.{and_first, and_second}
 use Rattle.fz_table.specs.declared.known.Known.{Known}
 use Rattle.fz_data.specs.declared.parts.Array.{Array}
 use Rattle.fz_data.specs.declared.parts.Posted.{Posted}
+use Rattle.fz_data.specs.declared.point.LaidParts.{LaidParts}
 use Rattle.fz_data.specs.declared.sheet.Line.{Line}
 use Rattle.fz_data.specs.declared.sheet.Sheet.{Sheet}
 use Rattle.fz_data.specs.declared.sheet.Sheets.{Sheets}
-use Rattle.fz_data.specs.Readings.{laid_reading, kept_readings}
+use Rattle.fz_data.specs.Readings.{laid_reading, laid_readings, readings_or, kept_readings}
 use Rattle.fz_data.specs.Sheets.{laid_line, kept_line, laid_lines, kept_lines, known_at, lines_of, Covers, IsSheetOf, AreSheetsOf}
 
 -- ---- what is read on a line
@@ -55,6 +57,12 @@ module _ (xs : List Array) (ps : List Posted) (ks : List (Option Known)) where
   pub all_fit : (ss : List Sheet) → AllByRecursion (IsSheetOf xs ps ks) ss → map (laid_lines xs) ss ≡ map (kept_lines xs ps ks) ss
   all_fit [] h = refl
   all_fit (s ∷ ss) h = let one = one_fits s h.0 in let more = all_fit ss h.1 in λ i. one i ∷ more i
+
+-- what is read where arguments were looked up, or as they are kept
+pub reads_or : (xs : List Array) (ps : List Posted) (ks : List (Option Known)) (s : Sheets) (n : ℕ) (p : Posted) → AreSheetsOf xs ps ks s → slice_get ps n ≡ Some p → (o : Option LaidParts) → IfSome o (λ l. (xs : List Array) (ps : List Posted) (ks : List (Option Known)) (p : Posted) → AreSheetsOf xs ps ks s → slice_get ps n ≡ Some p → laid_readings xs l ≡ kept_readings xs p)
+    → readings_or xs o (kept_readings xs p) ≡ kept_readings xs p
+reads_or xs ps ks s n p h here None reads = refl
+reads_or xs ps ks s n p h here (Some l) reads = reads xs ps ks p h here
 
 -- ---- one more constraint
 
@@ -106,3 +114,7 @@ longer_too ks more k ps new p e d same = ap length e ∙ one_longer ks k ∙ ap 
 
 pub grown_too : (xs : List Array) (s : Sheets) (ps new : List Posted) (ks more : List (Option Known)) → AreSheetsOf xs ps ks s → new ≡ ps → more ≡ ks → AreSheetsOf xs new more s
 grown_too xs s ps new ks more h e d = subst (λ zs. AreSheetsOf xs zs more s) (sym e) (subst (λ ws. AreSheetsOf xs ps ws s) (sym d) h)
+
+-- whatever places are kept beside
+pub placed_too : (xs : List Array) (ps : List Posted) (ks : List (Option Known)) (s : Sheets) (places : Vec ℕ Global) → AreSheetsOf xs ps ks s → AreSheetsOf xs ps ks (record { sheets = s.sheets; rest = s.rest; places = places })
+placed_too xs ps ks s places h = record { sheets = h.sheets; covers = h.covers; within = h.within }

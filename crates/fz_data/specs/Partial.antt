@@ -1,7 +1,7 @@
 -- The partial assignment without a value, and its values by their kinds (this project's profile).
-use Rattle.std.specs.Prelude.{◌≡◌, ℤ, pos, Bool, false, List, map, Option, None, Some, is_some}
+use Rattle.std.specs.Prelude.{◌≡◌, ℕ, suc, ℤ, pos, Bool, false, List, [], ◌∷◌, map, Option, None, Some, is_some}
 use Rattle.fz_base.specs.declared.value.Value.{Value}
-use Rattle.fz_base.specs.declared.value.Value.TheVariants.{Int, Bool as Truth, Set}
+use Rattle.fz_base.specs.declared.value.Value.TheVariants.{Int, Bool as Truth}
 use Rattle.fz_meaning.specs.Meaning.{Model, Partial, variables_of}
 
 -- no variable of the model has a value
@@ -23,3 +23,9 @@ pub record IsTabled (K : List (Option Value)) (ns : List ℤ) (bs gs : List Bool
   pub numbers : ns ≡ map number_in K
   pub truths : bs ≡ map truth_in K
   pub given : gs ≡ map is_some K
+
+-- how many variables have no value
+abbrev pub unset_count : List (Option Value) → ℕ
+unset_count [] = 0
+unset_count (None ∷ K) = suc (unset_count K)
+unset_count (Some v ∷ K) = unset_count K

@@ -1,11 +1,17 @@
 //! Constraints as they are looked up on sheets.
 
-ghost use Rattle.std.specs.Prelude.{◌≡◌, ◌<◌, Some, drop, length, option_map, pred, slice_get, suc, take};
+ghost use Rattle.std.specs.Prelude.{◌≡◌, ◌<◌, IfSome, List, Option, Some, drop, length, option_map, pred, slice_get, suc, take};
+ghost use Rattle.fz_table.specs.declared.known.Known.{Known as Row};
+ghost use Rattle.fz_data.specs.declared.parts.Array.{Array as HeldArray};
+ghost use Rattle.fz_data.specs.declared.parts.Posted.{Posted as HeldPosted};
 ghost use Rattle.fz_data.specs.Laying.{IsPartsOf};
-ghost use Rattle.fz_data.specs.Sheets.{known_at, lines_of};
+ghost use Rattle.fz_data.specs.Readings.{kept_readings, laid_readings};
+ghost use Rattle.fz_data.specs.Sheets.{AreSheetsOf, known_at, lines_of};
 
 use crate::laying::Laying;
 use crate::point::{ConstraintParts, LaidParts};
+use crate::sheet::{Sheets, sheet_of};
+use fz_table::Known;
 
 /// So many items from a place on, as far as there are.
 #[inline]
@@ -20,6 +26,27 @@ pub fn part<T>(items: &[T], first: usize, count: usize) -> &[T]
         return tail;
     }
     &tail[..count]
+}
+
+impl Sheets {
+    /// The arguments of the constraint of a number, from 0, as they stand on the sheet of its row, where they do.
+    #[inline(always)]
+    pub(crate) fn laid_at(&self, number: usize, row: Option<Known>) -> Option<LaidParts<'_>>
+        ensures reads { IfSome result (λ l. (xs : List HeldArray) (ps : List HeldPosted) (ks : List (Option Row)) (p : HeldPosted) → AreSheetsOf xs ps ks self.now → slice_get ps number ≡ Some p → laid_readings xs l ≡ kept_readings xs p) }
+    {
+        let sheet = self.sheets.get(sheet_of(row?))?;
+        let place = *self.places.get(number)?;
+        let line = sheet.lines.get(place as usize)?;
+        // only its own line tells of it
+        if line.number as usize != number {
+            return None;
+        }
+        Some(LaidParts {
+            arguments: part(&sheet.laid, line.first as usize, line.count as usize),
+            slots: &sheet.slots,
+            constants: &sheet.constants,
+        })
+    }
 }
 
 impl<'m, 'a> Laying<'m, 'a> {

@@ -136,7 +136,7 @@ impl<'a> Model<'a> {
     }
 
     /// The point of a number, from 0, with its parts: a constraint is known where it has a row. It takes no memory.
-    #[inline]
+    #[inline(always)]
     pub fn point_parts(&self, number: usize) -> PointParts<'_, 'a>
         requires in_range { number < length (points self.now) }
         ensures parts { slice_get (points self.now) number ≡ Some (point_view result) }
@@ -152,7 +152,7 @@ impl<'a> Model<'a> {
                 variables: &self.variables,
                 arrays: &self.arrays,
                 known,
-                laid: None,
+                laid: self.sheets.laid_at(place, known),
             });
         }
         match self.points[number] {

@@ -1,9 +1,9 @@
 //! Partial assignments: values by variable number.
 
-ghost use Rattle.std.specs.Prelude.{◌≡◌, ◌<◌, IfOk, None, Some, false, is_some, length, option_map, pos, replicate};
+ghost use Rattle.std.specs.Prelude.{◌≡◌, ◌<◌, IfOk, None, Some, false, is_some, length, map, option_map, pos, replicate};
 ghost use Rattle.std.specs.FinSet as sets;
 ghost use Rattle.fz_meaning.specs.Meaning.{give, value, value_at};
-ghost use Rattle.fz_data.specs.Partial.{nothing_for, number_in, truth_in};
+ghost use Rattle.fz_data.specs.Partial.{nothing_for, number_in, truth_in, unset_count};
 
 use crate::model::Model;
 use fz_base::{IntSet, Value};
@@ -21,6 +21,8 @@ pub struct Partial {
     truths: Vec<bool>,
     /// whether each variable has a value
     given: Vec<bool>,
+    /// how many variables have no value
+    unset: usize,
     /// the empty set, made once, since making one takes memory: it is read where there is no other set
     empty: IntSet,
 }
@@ -40,9 +42,11 @@ impl std::marker::Model for Partial {
 
     ghost view = { λ p. p.values.items };
 
-    ghost use Rattle.fz_data.specs.Partial.{IsTabled};
+    ghost use Rattle.fz_data.specs.Partial.{IsTabled, unset_count};
 
-    ghost invariant = { λ p. (p.empty ≡ sets.empty) × IsTabled p.values.items p.numbers.items p.truths.items p.given.items };
+    ghost invariant = { λ p. (p.empty ≡ sets.empty)
+        × IsTabled p.values.items p.numbers.items p.truths.items p.given.items
+        × (p.unset ≡ unset_count p.values.items) };
 }
 
 /// The number that a value is, and 0 where it is none. It takes no memory.
@@ -89,6 +93,17 @@ fn no_truths(alloc: Global, count: usize) -> Result<Vec<bool>, AllocError>
     Ok(truths)
 }
 
+/// Takes away each value that is there. The others aren't written to.
+fn forget(values: &mut [Option<Value>])
+    ensures forgotten { values.new ≡ map (λ v. None) values.old }
+{
+    for value in values.iter_mut() {
+        if value.is_some() {
+            *value = None;
+        }
+    }
+}
+
 impl Partial {
     /// No variable has a value. It makes the room for a value of every variable; it refuses only where memory runs out.
     pub fn new(alloc: Global, model: &Model<'_>) -> Result<Partial, AllocError>
@@ -108,6 +123,7 @@ impl Partial {
             numbers,
             truths,
             given,
+            unset: count,
             empty,
         })
     }
@@ -165,15 +181,36 @@ impl Partial {
     }
 
     /// Gives a variable a value, and changes nothing else. It takes no memory.
+    #[inline(always)]
     pub fn set(&mut self, number: usize, value: Value)
         requires in_range { number < length self.old }
         requires unset { value_at self.old number ≡ None }
         ensures given { self.new ≡ give self.old number value }
     {
+        self.unset -= 1;
         self.numbers[number] = number_of(&value);
         self.truths[number] = truth_of(&value);
         self.given[number] = true;
         self.values[number] = Some(value);
+    }
+
+    /// Takes every value away, and keeps the room. It takes no memory.
+    pub fn clear(&mut self)
+        ensures cleared { self.new ≡ map (λ v. None) self.old }
+    {
+        forget(&mut self.values);
+        self.numbers.fill(0);
+        self.truths.fill(false);
+        self.given.fill(false);
+        self.unset = self.values.len();
+    }
+
+    /// How many variables have no value. It takes no memory.
+    #[inline]
+    pub fn unset(&self) -> usize
+        ensures counted { result ≡ unset_count self.now }
+    {
+        self.unset
     }
 
     /// The empty set. It takes no memory.

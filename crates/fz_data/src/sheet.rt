@@ -219,13 +219,16 @@ impl Sheet {
 pub(crate) struct Sheets {
     pub(crate) sheets: Vec<Sheet>,
     pub(crate) rest: Vec<usize>,
+    /// where the line of each constraint should stand on its row's sheet, in their order: who looks there sees whose line it is
+    pub(crate) places: Vec<u32>,
 }
 
 /// So many sheets there are: two for each base row, the second for its form with a truth value.
 const SHEETS: usize = 128;
 
 /// The sheet of a row.
-fn sheet_of(known: Known) -> usize {
+#[inline]
+pub(crate) fn sheet_of(known: Known) -> usize {
     let base = known.builtin as u8 as usize * 2;
     if known.reified { base + 1 } else { base }
 }
@@ -242,7 +245,14 @@ impl Sheets {
         Ok(Sheets {
             sheets,
             rest: Vec::new(alloc),
+            places: Vec::new(alloc),
         })
+    }
+
+    /// Where the next line of the sheet of a row will stand.
+    fn next_line(&self, row: Option<Known>) -> Option<u32> {
+        let sheet = self.sheets.get(sheet_of(row?))?;
+        small(sheet.lines.len())
     }
 
     /// Puts a constraint on the sheet of its row, where it has one and can be laid there.
@@ -277,6 +287,8 @@ impl Sheets {
     ) -> Result<(), AllocError>
         ensures added { OnOk result ((xs : List HeldArray) (ps : List HeldPosted) (ks : List (Option Row)) → length ps ≡ number → length ks ≡ number → AreSheetsOf xs ps ks self.old → AreSheetsOf xs (ps ++ posted.now ∷ []) (ks ++ row ∷ []) self.new) }
     {
+        let place = self.next_line(row).unwrap_or(u32::MAX);
+        self.places.push(place)?;
         if !self.lay(alloc, number, row, posted)? {
             self.rest.push(number)?;
         }

@@ -1,6 +1,6 @@
 //! Worked cases on names: faults with their places, what is loaded, and values that are given.
 
-use crate::{Found, Model, Partial, Point, What, load};
+use crate::{Found, Model, Partial, Point, PointParts, What, load};
 use fz_base::Value;
 use fz_meaning::{ModelError, Term};
 use fz_syntax::{Span, parse};
@@ -195,6 +195,35 @@ fn lists_points(rt: HostRuntime) -> Result<(), Fail> {
     Ok(())
 }
 
+/// Whether the point of a number is a constraint that was looked up on its sheet, with so many arguments.
+fn is_laid(model: &Model<'_>, point: usize, count: usize) -> bool {
+    if point >= model.points() {
+        return false;
+    }
+    match model.point_parts(point) {
+        PointParts::Constraint(parts) => match parts.laid {
+            Some(laid) => laid.arguments.len() == count,
+            None => false,
+        },
+        _ => false,
+    }
+}
+
+const SIDE_BY_SIDE: &[u8] =
+    b"var int: x; constraint int_le(x, 1); constraint int_plus(x, 2, 4); constraint int_le(3, x); constraint p(x); constraint int_le(x, x); solve satisfy;";
+
+#[test]
+fn finds_lines(rt: HostRuntime) -> Result<(), Fail> {
+    let model = loaded(rt.alloc(), SIDE_BY_SIDE)?;
+    assert_eq!(rt; model.points(), 6);
+    assert!(rt; is_laid(&model, 1, 2));
+    assert!(rt; is_laid(&model, 2, 3));
+    assert!(rt; is_laid(&model, 3, 2));
+    assert!(rt; !is_laid(&model, 4, 1));
+    assert!(rt; is_laid(&model, 5, 2));
+    Ok(())
+}
+
 /// The number of the variable that is found, or the length of the array.
 fn number(found: Option<Found<'_, '_>>) -> Option<usize> {
     match found?.what {
@@ -227,5 +256,28 @@ fn gives_values(rt: HostRuntime) -> Result<(), Fail> {
     assert!(rt; values.get(1).is_some_and(|v| v.equals(&Value::Int(7))));
     assert!(rt; values.value(&Term::Var(1)).is_some());
     assert!(rt; values.value(&Term::Fixed(Value::Bool(true))).is_some());
+    Ok(())
+}
+
+#[test]
+fn takes_values_away(rt: HostRuntime) -> Result<(), Fail> {
+    let alloc = rt.alloc();
+    let model = loaded(alloc, MIXED)?;
+    let mut values = Partial::new(alloc, &model)?;
+    assert_eq!(rt; values.values().len(), 2);
+    assert_eq!(rt; values.unset(), 2);
+    assert!(rt; values.get(1).is_none());
+    values.set(1, Value::Int(7));
+    assert_eq!(rt; values.unset(), 1);
+    assert_eq!(rt; values.number(1), 7);
+    values.clear();
+    assert_eq!(rt; values.values().len(), 2);
+    assert_eq!(rt; values.unset(), 2);
+    assert!(rt; values.get(1).is_none());
+    assert!(rt; !values.has(1));
+    assert_eq!(rt; values.number(1), 0);
+    values.set(1, Value::Bool(true));
+    assert_eq!(rt; values.unset(), 1);
+    assert!(rt; values.truth(1));
     Ok(())
 }

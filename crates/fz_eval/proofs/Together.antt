@@ -131,10 +131,14 @@ module _ (m : Model) (K : Partial) where
   enough = omega (arith, counted)
 
   module _ (before : ℕ) (count : before + length m.constraints ≡ length (points m)) where
+    -- the first points are those of the declarations
+    pub declared_first : take before (points m) ≡ flat_map declared_points (numbered m)
+    declared_first = take_left declared (constraint_points 1 m.constraints) before (omega (arith, counted, count))
+
     parted : list_all (point_holds K) (points m) ≡ (list_all (point_holds K) (take before (points m)) && list_all (posted_holds K) m.constraints)
     parted =
         list_all-append (point_holds K) declared (constraint_points 1 m.constraints)
-        ∙ (λ j. list_all (point_holds K) (sym (take_left declared (constraint_points 1 m.constraints) before (omega (arith, counted, count))) j) && constraints_hold K 1 m.constraints j)
+        ∙ (λ j. list_all (point_holds K) (sym declared_first j) && constraints_hold K 1 m.constraints j)
 
     pub first_fails : false ≡ list_all (point_holds K) (take before (points m)) → false ≡ list_all (point_holds K) (points m)
     first_fails e = ap (λ b. b && list_all (posted_holds K) m.constraints) e ∙ sym parted

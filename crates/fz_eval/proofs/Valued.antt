@@ -1,6 +1,6 @@
 -- Where every variable has a value of its kind inside its domain, each constraint is ready, as its scalars are of the kinds that its row asks for; and
 -- each point of a variable's domain holds.
-use Rattle.std.proofs.Common.{◌≡◌, ◌≢◌, ◌<◌, ◌+◌, min, get_or, drop, ℕ, zero, suc, Bool, true, false, ◌&&◌, List, [], ◌∷◌, ◌++◌, map, flat_map, length, Option, Some, None, option_map, slice_get, refl, sym, ap, subst, ◌∙◌, arith, append_assoc, length-append}
+use Rattle.std.proofs.Common.{◌≡◌, ◌≢◌, ◌<◌, ◌≤◌, ◌+◌, get_or, drop, ℕ, zero, suc, Bool, true, false, ◌&&◌, List, [], ◌∷◌, ◌++◌, map, flat_map, length, Option, Some, None, option_map, slice_get, refl, sym, ap, subst, ◌∙◌, arith, append_assoc, length-append}
 use Rattle.std.specs.List.{AllByRecursion, list_all}
 use Rattle.std.specs.Option.{option_map_or}
 use Rattle.std.proofs.lemmas.List.{at_drop_more, at_drop_all}
@@ -15,12 +15,12 @@ use Rattle.fz_meaning.specs.Values.{kind_of, same_kind}
 use Rattle.fz_meaning.specs.Builtins.{Shape}
 use Rattle.fz_meaning.specs.Builtins.Shape.{ScalarOf, ArrayOf}
 use Rattle.fz_meaning.specs.Meaning as meaning
-use Rattle.fz_meaning.specs.Meaning.{Argument, Declared, Model, Partial, Place, Point, Posted, array_points, constraint_points, declared_points, definition_points, has_shape, have_shapes, inside, is_term_of, judged, judged_by, numbered, numbered_from, points, value_at, variable_of, variables_of}
+use Rattle.fz_meaning.specs.Meaning.{Argument, Declared, Model, Partial, Place, Point, Posted, array_points, declared_points, definition_points, has_shape, have_shapes, inside, is_term_of, judged, judged_by, numbered, numbered_from, value_at, variable_of, variables_of}
 use Rattle.fz_meaning.specs.Meaning.Declared.{Parameter, ScalarVariable, ArrayOfVariables}
-use Rattle.fz_meaning.specs.Meaning.Point.{DomainPoint, DefinitionPoint, ArrayPoint, ConstraintPoint}
+use Rattle.fz_meaning.specs.Meaning.Point.{DomainPoint, DefinitionPoint, ArrayPoint}
 use Rattle.fz_meaning.specs.Meaning.Place.{Scalar, Array}
 use Rattle.fz_meaning.specs.Meaning.Argument.{One, ListOf}
-use Rattle.fz_meaning.proofs.Lists.{all_append, at_place}
+use Rattle.fz_meaning.proofs.Lists.{all_append}
 use Rattle.fz_meaning.proofs.Scope.{same_kind_is}
 use Rattle.fz_meaning.proofs.Values.{no, and_first, and_second}
 use Rattle.fz_data.specs.declared.parts.Variable.{Variable}
@@ -103,7 +103,7 @@ all_ready m K kinded within = each_ready m K within m.constraints kinded
 
 -- ---- the points of domains
 
-abbrev HoldsIfDomain : Partial → Point → Type 0
+abbrev pub HoldsIfDomain : Partial → Point → Type 0
 HoldsIfDomain K p = is_domain p ≡ true → point_holds K p ≡ true
 
 value_between : (before after : Partial) (o : Option Value) → value_at (before ++ o ∷ after) (length before) ≡ o
@@ -123,10 +123,6 @@ elements_are_others K name All ts = tt
 elements_are_others K name (Within lo hi) ts = (λ h. no h, tt)
 elements_are_others K name (Among s) ts = (λ h. no h, tt)
 
-constraints_are_others : (K : Partial) (n : ℕ) (ps : List Posted) → AllByRecursion (HoldsIfDomain K) (constraint_points n ps)
-constraints_are_others K n [] = tt
-constraints_are_others K n (p ∷ ps) = (λ h. no h, constraints_are_others K (suc n) ps)
-
 declared_hold : (before : Partial) (n : ℕ) (ds : List Declared) (K : Partial) → length before ≡ n → lie_inside (flat_map variable_of ds) K ≡ true
     → AllByRecursion (HoldsIfDomain (before ++ K)) (flat_map declared_points (numbered_from n ds))
 declared_hold before n [] K count h = tt
@@ -144,12 +140,8 @@ declared_hold before n (ScalarVariable x e ∷ ds) (o ∷ K) count h =
     let rest = subst (λ L. AllByRecursion (HoldsIfDomain L) (flat_map declared_points (numbered_from (suc n) ds))) (append_assoc before (o ∷ []) K) others in
     (λ _. here, all_append (HoldsIfDomain all) (definition_points x n e) (flat_map declared_points (numbered_from (suc n) ds)) (definition_is_other all x n e) rest)
 
-pub domain_holds : (m : Model) (K : Partial) → lie_inside (variables_of m) K ≡ true
-    → (k : ℕ) (p : Point) → slice_get (points m) k ≡ Some p → is_domain p ≡ true → point_holds K p ≡ true
-domain_holds m K within k p at =
-    at_place (HoldsIfDomain K) (points m) k p
-    (all_append (HoldsIfDomain K) (flat_map declared_points (numbered m)) (constraint_points 1 m.constraints) (declared_hold [] 0 m.declared K refl within)
-    (constraints_are_others K 1 m.constraints)) at
+pub domains_hold : (m : Model) (K : Partial) → lie_inside (variables_of m) K ≡ true → AllByRecursion (HoldsIfDomain K) (flat_map declared_points (numbered m))
+domains_hold m K within = declared_hold [] 0 m.declared K refl within
 
 -- ---- variables and values side by side
 
@@ -183,5 +175,5 @@ module _ (vs : List Variable) (K : Partial) (k : ℕ) where
     pub inside_more : b ≡ true → side_by_side vs K ≡ side_by_side (drop (k + 1) vs) (drop (k + 1) K)
     inside_more e = inside_next ∙ ap (λ c. c && side_by_side (drop (k + 1) vs) (drop (k + 1) K)) (sym is ∙ e)
 
-  pub inside_all : length vs ≡ length K → k ≡ min (length vs) (length K) → side_by_side vs K ≡ side_by_side (drop k vs) (drop k K) → true ≡ side_by_side vs K
+  pub inside_all : length vs ≡ length K → length K ≤ k → side_by_side vs K ≡ side_by_side (drop k vs) (drop k K) → true ≡ side_by_side vs K
   inside_all n e left = sym (left ∙ at_drop_all (λ zs. side_by_side zs (drop k K)) vs k (omega arith) ∙ at_drop_all (λ zs. side_by_side [] zs) K k (omega arith))

@@ -1,4 +1,4 @@
--- Where every variable has a value of its kind inside its domain, and what that spares (private functions only).
+-- Where every variable has a value of its kind inside its domain, and what that spares. Only private functions use these, but for `is_domain`, which `IsOverview` cites.
 use Rattle.std.specs.Prelude.{◌≡◌, Bool, true, false, ◌&&◌, List, [], ◌∷◌, Option, Some, None}
 use Rattle.std.specs.List.{AllByRecursion}
 use Rattle.fz_base.specs.declared.value.Value.{Value}

@@ -22,7 +22,7 @@ use std::alloc::{AllocError, Global};
 
 /// The state of a constraint: unknown without a row, whatever its values are; then without a value; then too large; then by its row.
 /// Where it is known to be ready, whether it is isn't looked at.
-#[inline]
+#[inline(always)]
 pub(crate) fn of_constraint(
     alloc: Global,
     parts: ConstraintParts<'_, '_>,
@@ -61,7 +61,7 @@ fn of_scene(alloc: Global, known: Known, scene: &Scene<'_, '_>) -> Result<State,
 }
 
 /// The state of a constraint whose scalars have values of the kinds that its row asks for.
-#[inline]
+#[inline(always)]
 fn of_ready(alloc: Global, known: Known, scene: &Scene<'_, '_>) -> Result<State, AllocError>
     requires fits { have_shapes (known_row known).shapes (arguments_of scene.now) ≡ true }
     requires ready { are_read (assigned scene.now) (known_row known).shapes (arguments_of scene.now) ≡ true }
@@ -77,7 +77,7 @@ fn is_too_large(known: Known, scene: &Scene<'_, '_>) -> bool
 }
 
 // The row's outcome: of a form with a truth value, whether its last argument says what the base row comes to.
-#[inline]
+#[inline(always)]
 fn of_known(alloc: Global, known: Known, scene: &Scene<'_, '_>) -> Result<Outcome, AllocError>
     ensures { IfOk result (λ o. o ≡ row_outcome (known_row known) (assigned scene.now) (arguments_of scene.now)) }
 {

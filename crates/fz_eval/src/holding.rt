@@ -7,15 +7,16 @@ ghost use Rattle.fz_meaning.specs.Meaning.{points, row_of, variables_of};
 ghost use Rattle.fz_table.specs.Known.{known_row};
 ghost use Rattle.fz_data.specs.Parts.{posted_view};
 ghost use Rattle.fz_data.specs.Sheets.{lines_of};
-ghost use Rattle.fz_data.specs.Shown.{point_view};
 ghost use Rattle.fz_data.specs.declared.sheet.Line.{Line};
 ghost use Rattle.fz_eval.specs.Holding.{is_held, number_holds, point_holds};
-ghost use Rattle.fz_eval.specs.Whole.{AreReady, is_domain, lie_inside};
+ghost use Rattle.fz_eval.specs.Overviews.{IsOverview, holds_at};
+ghost use Rattle.fz_eval.specs.Whole.{AreReady, lie_inside};
 
 use crate::constraints::of_constraint;
+use crate::overview::Overview;
 use crate::points::state;
 use crate::whole::lie_inside;
-use fz_data::{Laying, Model, Partial, PointParts};
+use fz_data::{Laying, Model, Partial};
 use fz_meaning::State;
 use std::alloc::{AllocError, Global};
 
@@ -44,30 +45,18 @@ fn first_hold(
     Ok(true)
 }
 
-/// Whether the point is that of a variable's domain. It doesn't read the variable.
-#[inline]
-fn is_domain(parts: &PointParts<'_, '_>) -> bool
-    ensures { result ≡ is_domain (point_view parts.now) }
-{
-    matches!(parts, PointParts::Domain(_, _))
-}
-
-/// Whether the first so many points hold, where every value is known to lie inside its domain: the points of domains aren't looked at.
+/// Whether the points of these numbers hold.
 fn others_hold(
     alloc: Global,
     model: &Model<'_>,
-    count: usize,
+    others: &[usize],
     partial: &Partial,
 ) -> Result<bool, AllocError>
-    requires in_range { count ≤ length (points model.now) }
-    requires inside { lie_inside (variables_of model.now) partial.now ≡ true }
-    ensures { IfOk result (λ b. b ≡ list_all (point_holds partial.now) (take count (points model.now))) }
+    requires in_range { AllByRecursion (λ n. n < length (points model.now)) others.now }
+    ensures { IfOk result (λ b. b ≡ list_all (holds_at partial.now (points model.now)) others.now) }
 {
-    for number in 0..count {
-        if is_domain(&model.point_parts(number)) {
-            continue;
-        }
-        let found = state(alloc, model, number, partial)?;
+    for place in 0..others.len() {
+        let found = state(alloc, model, others[place], partial)?;
         if !is_held(found) {
             return Ok(false);
         }
@@ -75,20 +64,23 @@ fn others_hold(
     Ok(true)
 }
 
-/// Whether the first so many points hold. Where the values are known to lie inside their domains, that isn't looked at again.
+/// Whether the points of the declarations, the first so many, hold. Where the values are known to lie inside their domains, that isn't
+/// looked at again.
 fn declared_hold(
     alloc: Global,
     model: &Model<'_>,
+    overview: &Overview,
     count: usize,
     partial: &Partial,
     inside: bool,
 ) -> Result<bool, AllocError>
-    requires in_range { count ≤ length (points model.now) }
+    requires overview { IsOverview model.now overview.now }
+    requires counted { count + length model.now.constraints ≡ length (points model.now) }
     requires inside { IsTrue inside → lie_inside (variables_of model.now) partial.now ≡ true }
     ensures { IfOk result (λ b. b ≡ list_all (point_holds partial.now) (take count (points model.now))) }
 {
     if inside {
-        others_hold(alloc, model, count, partial)
+        others_hold(alloc, model, &overview.others, partial)
     } else {
         first_hold(alloc, model, count, partial)
     }
@@ -134,7 +126,7 @@ fn rest_holds(
 }
 
 /// Whether the constraint on a line of a sheet holds. Where the assignment is whole, the constraint is ready.
-#[inline]
+#[inline(always)]
 fn line_holds(
     alloc: Global,
     laying: &Laying<'_, '_>,
@@ -195,12 +187,18 @@ fn sheets_hold(
 
 /// Whether all points hold under a partial assignment. It takes memory for long lists of `fzn_all_different_int` alone, and refuses
 /// only where there is none.
-pub fn all_hold(alloc: Global, model: &Model<'_>, partial: &Partial) -> Result<bool, AllocError>
+pub fn all_hold(
+    alloc: Global,
+    model: &Model<'_>,
+    overview: &Overview,
+    partial: &Partial,
+) -> Result<bool, AllocError>
+    requires overview { IsOverview model.now overview.now }
     ensures exact { IfOk result (λ b. b ≡ list_all (point_holds partial.now) (points model.now)) }
 {
     let before = model.points() - model.constraints().len();
-    let inside = lie_inside(model.variables(), partial.values());
-    if !declared_hold(alloc, model, before, partial, inside)? {
+    let inside = lie_inside(&overview.bounds, model.variables(), partial.values());
+    if !declared_hold(alloc, model, overview, before, partial, inside)? {
         return Ok(false);
     }
     let laying = model.laying();

@@ -4,13 +4,14 @@ use Rattle.std.specs.List.{AllByRecursion}
 use Rattle.fz_base.specs.declared.value.Value.{Value}
 use Rattle.fz_model.specs.declared.Kind.{Kind}
 use Rattle.fz_model.specs.Meaning.{Model, Point, Partial, Variable, FitVariables, give, value_at, variables_of, points, IsPartial}
+use Rattle.fz_model.specs.Partial.{unset_count}
 use Rattle.fz_model.specs.Steps.{Gives, GivesNothing, kind_at, terms_of}
 use Rattle.fz_model.specs.Values.{kind_of}
 use Rattle.fz_model.proofs.Steps.{only_open_none}
 use Rattle.fz_verdict.specs.Filling.{IsFirstStep, Chain}
 use Rattle.fz_verdict.specs.Filling.Chain.{Ends, Step}
 use Rattle.fz_verdict.proofs.Loops.{first_ahead, first_wrapped, none_gives}
-use Rattle.fz_filling.specs.Stepping.{NoneGives, IsStepAhead, unset_count}
+use Rattle.fz_filling.specs.Stepping.{NoneGives, IsStepAhead}
 
 -- ---- the values of a partial assignment
 

@@ -1,5 +1,5 @@
--- Steps by the numbers of points, and the variables without a value. Only private functions use these.
-use Rattle.std.specs.Prelude.{◌≡◌, ℕ, suc, ◌<◌, ◌≤◌, ◌-◌, Bool, true, List, [], ◌∷◌, Option, None, Some, is_some, slice_get}
+-- Steps by the numbers of points. Only private functions use these.
+use Rattle.std.specs.Prelude.{◌≡◌, ℕ, ◌<◌, ◌≤◌, ◌-◌, Bool, true, List, Option, None, Some, is_some, slice_get}
 use Rattle.fz_base.specs.declared.value.Value.{Value}
 use Rattle.fz_model.specs.declared.Posted.{Posted}
 use Rattle.fz_model.specs.Meaning as meaning
@@ -17,12 +17,6 @@ pub record IsStepAhead (m : Model) (K : Partial) (from to k n : ℕ) (v : Value)
   pub below : k < to
   pub none_before : NoneGives m K from k
   pub gives : (p : Point) → slice_get (points m) k ≡ Some p → Gives m K p n v
-
--- how many variables have no value
-abbrev pub unset_count : Partial → ℕ
-unset_count [] = 0
-unset_count (None ∷ K) = suc (unset_count K)
-unset_count (Some v ∷ K) = unset_count K
 
 -- ---- the constraints, by the numbers of their points
 

@@ -1,11 +1,11 @@
 //! Forced steps as the points come in their order, without memory of which points wait.
 
-ghost use Rattle.std.specs.Prelude.{◌≡◌, ◌≤◌, ◌<◌, IfOk, IfSome, IsNone, Some, is_some, length, slice_get, true};
+ghost use Rattle.std.specs.Prelude.{◌≡◌, ◌≤◌, ◌<◌, IfOk, IfSome, IsNone, Some, length, slice_get, true};
 ghost use Rattle.std.specs.List.{AllByRecursion};
-ghost use Rattle.fz_model.specs.Meaning.{IsPartial, Model as Meaning, Partial as Values, Point, points, value_at};
+ghost use Rattle.fz_model.specs.Meaning.{IsPartial, Model as Meaning, Partial as Values, Point, points};
 ghost use Rattle.fz_model.specs.Steps.{Gives, GivesNothing};
 ghost use Rattle.fz_verdict.specs.Filling.{Chain, IsFirstStep};
-ghost use Rattle.fz_filling.specs.Stepping.{IsStepAhead, NoneGives, StandBehind, is_shut, unset_count};
+ghost use Rattle.fz_filling.specs.Stepping.{IsStepAhead, NoneGives, StandBehind, is_shut};
 
 use crate::course::Trail;
 use fz_base::Value;
@@ -40,34 +40,25 @@ fn posts_of<'m, 'a>(model: &'m Model<'a>) -> Posts<'m, 'a>
     }
 }
 
-fn has_value(number: usize, values: &[Option<Value>]) -> bool
-    ensures { result ≡ is_some (value_at values.now number) }
-{
-    match values.get(number) {
-        Some(given) => given.is_some(),
-        None => false,
-    }
-}
-
 /// Whether there is nothing to give to a target: there is none, or it has a value.
-fn is_shut(target: Option<usize>, values: &[Option<Value>]) -> bool
-    ensures { result ≡ is_shut values.now target }
+fn is_shut(target: Option<usize>, partial: &Partial) -> bool
+    ensures { result ≡ is_shut partial.now target }
 {
     match target {
-        Some(number) => has_value(number, values),
+        Some(number) => partial.has(number),
         None => true,
     }
 }
 
 /// Whether a point is a constraint that can give nothing, as most are. It reads no argument.
-fn is_idle(posts: Posts<'_, '_>, point: usize, values: &[Option<Value>]) -> bool
-    ensures { result ≡ true → (m : Meaning) → StandBehind m posts.entry.before posts.entry.all.now → (p : Point) → slice_get (points m) point ≡ Some p → GivesNothing m values.now p }
+fn is_idle(posts: Posts<'_, '_>, point: usize, partial: &Partial) -> bool
+    ensures { result ≡ true → (m : Meaning) → StandBehind m posts.entry.before posts.entry.all.now → (p : Point) → slice_get (points m) point ≡ Some p → GivesNothing m partial.now p }
 {
     if point < posts.before {
         return false;
     }
     match posts.all.get(point - posts.before) {
-        Some(posted) => is_shut(posted.target, values),
+        Some(posted) => is_shut(posted.target, partial),
         None => false,
     }
 }
@@ -86,7 +77,7 @@ fn step_at(
     ensures given { IfOk result (λ o. IfSome o (λ r. (p : Point) → slice_get (points model.now) point ≡ Some p → Gives model.now partial.now p r.0 r.1)) }
     ensures nothing { IfOk result (λ o. IsNone o → (p : Point) → slice_get (points model.now) point ≡ Some p → GivesNothing model.now partial.now p) }
 {
-    if is_idle(posts, point, partial.values()) {
+    if is_idle(posts, point, partial) {
         return Ok(None);
     }
     forced(alloc, model, point, partial)
@@ -138,19 +129,6 @@ fn step_from(
     step_among(alloc, model, partial, 0, from)
 }
 
-/// How many variables have no value.
-pub(crate) fn unset_count(values: &[Option<Value>]) -> usize
-    ensures { result ≡ unset_count values.now }
-{
-    let mut count = 0;
-    for value in values {
-        if value.is_none() {
-            count += 1;
-        }
-    }
-    count
-}
-
 /// Fills in one step after another until none is left or the search has come round too often. There it tells the number of the point from
 /// which the chain goes on.
 pub(crate) fn fill_ahead(
@@ -165,10 +143,9 @@ pub(crate) fn fill_ahead(
     ensures in_range { IfOk result (λ o. IfSome o (λ k. k ≤ length (points model.now))) }
     ensures kinds { IfOk result (λ _. IsPartial model.now partial.new) }
 {
-    let mut unset = unset_count(partial.values());
     let mut from = 0;
     let mut rounds = 0;
-    while unset > 0 && rounds < ROUNDS {
+    'steps: while partial.unset() > 0 && rounds < ROUNDS {
         let Some(step) = step_from(alloc, model, partial, from)? else {
             return Ok(None);
         };
@@ -178,9 +155,8 @@ pub(crate) fn fill_ahead(
         trail.note(step.point)?;
         partial.set(step.variable, step.value);
         from = step.point;
-        unset -= 1;
     }
-    if unset == 0 {
+    if partial.unset() == 0 {
         return Ok(None);
     }
     Ok(Some(from))

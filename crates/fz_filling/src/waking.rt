@@ -8,7 +8,7 @@ ghost use Rattle.fz_verdict.specs.Filling.{Chain, IsFirstStep};
 ghost use Rattle.fz_filling.specs.Kept.{IsKept};
 ghost use Rattle.fz_filling.specs.Stepping.{IsStepAhead, NoneGives};
 
-use crate::ahead::{Step, unset_count};
+use crate::ahead::Step;
 use crate::course::Trail;
 use crate::outlook::{Outlook, Waiting, outlook_of};
 use crate::watch::Watch;
@@ -117,10 +117,9 @@ pub(crate) fn fill_woken(
     ensures filled { OnOk result (Chain model.now partial.old start partial.new) }
     ensures kinds { OnOk result (IsPartial model.now partial.new) }
 {
-    let mut unset = unset_count(partial.values());
     let mut watch = Watch::new(alloc, model.points(), partial.values().len())?;
     let mut from = start;
-    while unset > 0 {
+    'steps: while partial.unset() > 0 {
         let Some(step) = next_step(alloc, model, partial, &mut watch, from)? else {
             return Ok(());
         };
@@ -128,7 +127,6 @@ pub(crate) fn fill_woken(
         partial.set(step.variable, step.value);
         watch.wake(step.variable);
         from = step.point;
-        unset -= 1;
     }
     Ok(())
 }

@@ -4,6 +4,7 @@ pub mod Gaps
 pub mod Sides
 pub mod Fits
 pub mod ScalarsKept
+pub mod Readings
 pub mod Held
 pub mod KindsFit
 pub mod Tables

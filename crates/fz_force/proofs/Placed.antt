@@ -26,7 +26,7 @@ use Rattle.fz_data.specs.Parts.{argument_view, place_view, array_view, no_array}
 use Rattle.fz_force.specs.declared.only.Spot.{Spot}
 use Rattle.fz_force.specs.Forced.{Fills, IsForced, IsOnlyValue, IsReady}
 use Rattle.fz_force.specs.Kinds.{each_fits}
-use Rattle.fz_force.specs.Only.{IsFlat, IsOnlyAt, IsOnlyOpen, IsScalar}
+use Rattle.fz_force.specs.Only.{IsFlat, IsOnlyAt, IsOnlyOpen, IsScalar, terms_given}
 use Rattle.fz_force.proofs.Gaps.{has_place}
 use Rattle.fz_force.proofs.KindsFit.{filled_kind, has_number}
 use Rattle.fz_force.proofs.ScalarsKept.{at_argument, of_arguments}
@@ -59,7 +59,7 @@ module _ (vs : List Variable) (xs : List Array) where
 
   -- ---- what is found of it
 
-  pub ready : (K : Partial) (as' : List Argument) (r : Row) (n : ℕ) (s : Spot) → have_shapes r.shapes (map (argument_view vs xs) as') ≡ true → IsOnlyAt K xs as' n s
+  pub ready : (K : Partial) (as' : List Argument) (r : Row) (n : ℕ) (s : Spot) → have_shapes r.shapes (map (argument_view vs xs) as') ≡ true → IsOnlyAt K (terms_given xs) as' n s
       → each_fits K r.shapes (map (argument_view vs xs) as') ≡ true → IsReady K (map (argument_view vs xs) as') r s
   ready K as' r n s shaped only kinds = record {
     shaped = shaped;
@@ -68,7 +68,7 @@ module _ (vs : List Variable) (xs : List Array) where
     kinds = kinds;
   }
 
-  pub not_only : (K : Partial) (as' : List Argument) (r : Row) (n : ℕ) → IsOnlyOpen K xs as' n None → IsOnlyValue K (map (argument_view vs xs) as') r n None
+  pub not_only : (K : Partial) (as' : List Argument) (r : Row) (n : ℕ) → IsOnlyOpen K (terms_given xs) as' n None → IsOnlyValue K (map (argument_view vs xs) as') r n None
   not_only K as' r n none = λ within w f. none (ap (open_terms K) (of_arguments vs xs as') ∙ f.only_open)
 
 pub has_value : (K : Partial) (xs : List meaning.Argument) (r : Row) (n : ℕ) → is_some (value_at K n) ≡ true → IsOnlyValue K xs r n None

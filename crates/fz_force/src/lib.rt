@@ -3,6 +3,7 @@
 #![tactic(auto)]
 
 mod kinds;
+mod laid;
 mod only;
 mod row;
 mod step;

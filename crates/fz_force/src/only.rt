@@ -5,7 +5,7 @@ ghost use Rattle.std.specs.List.{AllByRecursion};
 ghost use Rattle.fz_force.specs.declared.only.Open.TheVariants.{Nothing};
 ghost use Rattle.fz_meaning.specs.Meaning.{value};
 ghost use Rattle.fz_data.specs.declared.parts.Array.{Array as Held};
-ghost use Rattle.fz_force.specs.Only.{AreOpen, IsFlat, IsOnlyOpen, IsScalar, scalar_kept, terms_given, terms_kept};
+ghost use Rattle.fz_force.specs.Only.{AreOpen, IsFlat, IsOnlyOpen, IsScalar, scalar_kept, terms_given, terms_kept, terms_of_array};
 
 use fz_data::{Argument, Array, Partial, Place};
 use fz_meaning::Term;
@@ -19,7 +19,7 @@ pub(crate) enum Open {
 }
 
 impl Open {
-    fn is_nothing(self) -> bool
+    pub(crate) fn is_nothing(self) -> bool
         ensures { IsTrue result ↔ (self ≡ Nothing) }
     {
         matches!(self, Open::Nothing)
@@ -84,6 +84,21 @@ fn open_of(terms: &[Term], target: usize, partial: &Partial) -> Open
     found
 }
 
+/// Which scalars of the array of a number have no value; none where the number is no array's.
+pub(crate) fn open_elements(
+    arrays: &[Array<'_>],
+    number: usize,
+    target: usize,
+    partial: &Partial,
+) -> Open
+    ensures { AreOpen partial.now target (terms_of_array arrays.now number) result }
+{
+    match arrays.get(number) {
+        Some(array) => open_of(&array.elements, target, partial),
+        None => Open::Nothing,
+    }
+}
+
 // Which scalars of a list have no value.
 fn open_among<'a>(places: &[Place<'a>], target: usize, partial: &Partial) -> Open
     requires flat { AllByRecursion IsScalar places.now }
@@ -120,10 +135,7 @@ fn open_in<'m, 'a>(
 {
     match argument {
         Argument::One(Place::Scalar(term)) => open_term(term, target, partial),
-        Argument::One(Place::Array(name)) => match arrays.get(name.number) {
-            Some(array) => open_of(&array.elements, target, partial),
-            None => Open::Nothing,
-        },
+        Argument::One(Place::Array(name)) => open_elements(arrays, name.number, target, partial),
         Argument::List(places) => open_among(places, target, partial),
     }
 }
@@ -136,7 +148,7 @@ pub(crate) fn only_open<'m, 'a>(
     partial: &Partial,
 ) -> Option<Spot>
     requires flat { AllByRecursion IsFlat arguments.now }
-    ensures { IsOnlyOpen partial.now arrays.now arguments.now target result }
+    ensures { IsOnlyOpen partial.now (terms_given arrays.now) arguments.now target result }
 {
     let mut found = None;
     for (number, argument) in arguments.iter().enumerate() {

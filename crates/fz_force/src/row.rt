@@ -1,6 +1,7 @@
 //! What a constraint forces by its row of the table.
 
 ghost use Rattle.std.specs.Prelude.{◌≡◌, ◌↔◌, IfOk, IfSome, IsTrue, Some, option_map, true};
+ghost use Rattle.std.specs.List.{AllByRecursion};
 ghost use Rattle.fz_base.specs.declared.value.Value.TheVariants.{Int};
 ghost use Rattle.fz_meaning.specs.Builtins.Result.{UnitTerm};
 ghost use Rattle.fz_meaning.specs.Meaning.{IsPartial, Model as Meaning, row_of};
@@ -12,7 +13,9 @@ ghost use Rattle.fz_scene.specs.Views.{arguments_of, assigned};
 ghost use Rattle.fz_solve.specs.Left.{HasUnit, IsPlaceOf};
 ghost use Rattle.fz_force.specs.Forced.{IsForced, IsOnlyValue, IsReady, IsRow};
 ghost use Rattle.fz_force.specs.Kinds.{each_fits};
+ghost use Rattle.fz_force.specs.Only.{IsFlat, IsOnlyOpen, terms_given};
 
+use crate::laid::only_open_laid;
 use crate::only::{Spot, only_open};
 use fz_base::Value;
 use fz_data::{ConstraintParts, Partial};
@@ -23,6 +26,7 @@ use std::alloc::{AllocError, Global};
 
 /// What a constraint forces: the value that its row leaves to its target, where that stands in a result place and is the only scalar
 /// without a value.
+#[inline(always)]
 pub(crate) fn by_row(
     alloc: Global,
     parts: ConstraintParts<'_, '_>,
@@ -45,6 +49,7 @@ pub(crate) fn by_row(
 }
 
 // The value of the target with which the constraint holds, where it is the only scalar without one and stands in a result place.
+#[inline(always)]
 fn only_value(
     alloc: Global,
     known: Known,
@@ -59,11 +64,23 @@ fn only_value(
     if partial.has(target) {
         return Ok(None);
     }
-    let arguments = parts.posted.arguments.as_slice();
-    let Some(spot) = only_open(arguments, parts.arrays, target, partial) else {
+    let Some(spot) = spot_of(&parts, target, partial) else {
         return Ok(None);
     };
     value_at(alloc, known, spot, &Scene::new(parts, partial))
+}
+
+// Where the target stands, if it is the only scalar without a value: looked for on the constraint's sheet, or else among its arguments
+// as it keeps them.
+#[inline(always)]
+fn spot_of(parts: &ConstraintParts<'_, '_>, target: usize, partial: &Partial) -> Option<Spot>
+    requires flat { AllByRecursion IsFlat parts.now.posted.now.arguments.items }
+    ensures { IsOnlyOpen partial.now (terms_given parts.now.arrays.now) parts.now.posted.now.arguments.items target result }
+{
+    match parts.laid {
+        Some(laid) => only_open_laid(&laid, parts.arrays, target, partial),
+        None => only_open(&parts.posted.arguments, parts.arrays, target, partial),
+    }
 }
 
 // The value of the variable at the spot with which the row holds.

@@ -26,7 +26,7 @@ use Rattle.fz_verdict.specs.Blocks.PrintedValue.{OneValue, ArrayOf}
 use Rattle.fz_verdict.specs.Blocks.BlockFaultKind.{WrongKind, WrongLength}
 use Rattle.fz_verdict.specs.Filling.{pairs, pairs_at, printed_scalars, if_var, first_printed, start_from}
 use Rattle.fz_verdict.proofs.Accepted.{or_none, first_none}
-use Rattle.fz_judge.specs.Working.{IsWithin, terms_of_what, with_first, with_all, item_scalars}
+use Rattle.fz_judge.specs.Working.{HasRoom, IsWithin, terms_of_what, with_first, with_all, item_scalars}
 
 -- ---- one more value
 
@@ -111,6 +111,18 @@ none_printed : (n : ℕ) (xs : List Variable) → map (λ x. None) xs ≡ start_
 none_printed n [] = refl
 none_printed n (x ∷ xs) = ap (λ K. None ∷ K) (none_printed (suc n) xs)
 
+-- ---- the room of a spare assignment
+
+same_nothing : {A B C : Type 0} (xs : List A) (ys : List B) → length xs ≡ length ys → ◌≡◌ {A = List (Option C)} (map (λ x. None) xs) (map (λ y. None) ys)
+same_nothing [] [] h = refl
+same_nothing [] (y ∷ ys) h = cc
+same_nothing (x ∷ xs) [] h = cc
+same_nothing (x ∷ xs) (y ∷ ys) h = ap (λ K. None ∷ K) (same_nothing xs ys (omega arith))
+
+-- without its values it is the one where nothing has a value
+pub cleared_is_nothing : (m : Model) (K : Partial) → HasRoom m K → ◌≡◌ {A = Partial} (map (λ v. None) K) (nothing_for m)
+cleared_is_nothing m K room = same_nothing K (variables_of m) room
+
 -- ---- kinds
 
 pub fits_length : (xs : List Variable) (K : Partial) → FitVariables xs K → length K ≡ length xs
@@ -125,6 +137,10 @@ give_fits [] (o ∷ K) n v h e = absurd h
 give_fits (x ∷ xs) [] n v h e = absurd h
 give_fits (x ∷ xs) (o ∷ K) zero v h e = let same : kind_of v ≡ x.kind = cc in (same, h.1)
 give_fits (x ∷ xs) (o ∷ K) (suc n) v h e = (h.0, give_fits xs K n v h.1 e)
+
+-- what is filled in has a place for each variable
+pub has_room : (m : Model) (K : Partial) → IsPartial m K → HasRoom m K
+has_room m K fits = fits_length (variables_of m) K fits
 
 -- a variable has the kind of the value that is printed for it
 abbrev pub PairFits : Model → (Term × Value) → Type 0

@@ -1,5 +1,5 @@
 -- Only private functions use these: values taken into a partial assignment one after another, and what is asked of one scalar.
-use Rattle.std.specs.Prelude.{ℕ, ◌<◌, Bool, false, true, cond, ◌&&◌, is_none, List, [], ◌∷◌, Option, None, Some, ⊤}
+use Rattle.std.specs.Prelude.{◌≡◌, ℕ, ◌<◌, Bool, false, true, cond, ◌&&◌, is_none, List, [], ◌∷◌, length, Option, None, Some, ⊤}
 use Rattle.std.specs.Option.{option_map_or}
 use Rattle.fz_base.specs.declared.value.Value.{Value}
 use Rattle.fz_model.specs.declared.State.{State}
@@ -10,7 +10,7 @@ use Rattle.fz_model.specs.declared.What.{What}
 use Rattle.fz_model.specs.declared.What.TheVariants as whats
 use Rattle.fz_model.specs.Names.{literal_value}
 use Rattle.fz_model.specs.Values.{same_value}
-use Rattle.fz_model.specs.Meaning.{Model, Partial, PointName, give, value, value_at, find_name}
+use Rattle.fz_model.specs.Meaning.{Model, Partial, PointName, give, value, value_at, variables_of, find_name}
 use Rattle.fz_syntax.specs.Places.{IsSpanWithin}
 use Rattle.fz_verdict.specs.Blocks.{Printed, PrintedValue, printed_values, moved}
 use Rattle.fz_verdict.specs.Blocks.PrintedValue.{OneValue, ArrayOf}
@@ -22,6 +22,10 @@ use Rattle.fz_judge.specs.declared.error.BlockError.{BlockError}
 use Rattle.fz_judge.specs.declared.error.BlockError.TheVariants as errors
 
 -- ---- the start
+
+-- it has a place for each variable
+abbrev pub HasRoom : Model → Partial → Type 0
+HasRoom m K = length K ≡ length (variables_of m)
 
 -- a variable's number is one of so many
 abbrev pub IsWithin : ℕ → Term → Type 0

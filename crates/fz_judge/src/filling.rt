@@ -9,7 +9,7 @@ ghost use Rattle.fz_verdict.specs.Blocks.{moved};
 ghost use Rattle.fz_verdict.specs.Verdict.{IsFilled, printed_fails};
 ghost use Rattle.fz_verdict.specs.View.{located_block, located_items};
 ghost use Rattle.fz_judge.specs.Judged.{IsBlockRefusal};
-ghost use Rattle.fz_judge.specs.Working.{IsPlacedWithin, moved_error};
+ghost use Rattle.fz_judge.specs.Working.{HasRoom, IsPlacedWithin, moved_error};
 
 use crate::error::BlockError;
 use crate::start::{Proposed, start};
@@ -42,15 +42,17 @@ fn moved_error(error: BlockError, offset: usize) -> BlockError
     }
 }
 
-/// The filling of a block, along the course of those before it. Where each name has its printed value as it is taken, each has it under the
-/// filling: no value changes any more.
+/// The filling of a block, along the course of those before it, in the room of a spare assignment where there is one. Where each name has
+/// its printed value as it is taken, each has it under the filling: no value changes any more.
 pub(crate) fn filled(
     alloc: Global,
     model: &Model<'_>,
     block: &Block<'_>,
     course: &mut Option<Course>,
+    spare: Option<Partial>,
 ) -> Result<Proposed, BlockError>
     requires course { IfSome course.old (IsCourse model.now) }
+    requires room { IfSome spare (HasRoom model.now) }
     ensures filled { IfOk result (λ f. IsFilled model.now (located_block block.now) f.partial) }
     ensures kinds { IfOk result (λ f. IsPartial model.now f.partial) }
     ensures agrees { IfOk result (λ f. IsTrue f.agrees → first_some (printed_fails model.now f.partial) (located_items block.now.items.items) ≡ None) }
@@ -60,7 +62,7 @@ pub(crate) fn filled(
     let Proposed {
         mut partial,
         agrees,
-    } = match start(alloc, model, &block.items) {
+    } = match start(alloc, model, &block.items, spare) {
         Ok(started) => started,
         Err(error) => return Err(moved_error(error, block.offset)),
     };
@@ -81,6 +83,6 @@ pub fn fill(alloc: Global, model: &Model<'_>, block: &Block<'_>) -> Result<Parti
     ensures refused { IfErr result (λ e. HasPlaces block.now → EndsWithin usize.MAX block.now → IsBlockRefusal model.now (located_block block.now) e) }
 {
     let mut course = Some(Course::unknown(alloc));
-    let Proposed { partial, agrees: _ } = filled(alloc, model, block, &mut course)?;
+    let Proposed { partial, agrees: _ } = filled(alloc, model, block, &mut course, None)?;
     Ok(partial)
 }

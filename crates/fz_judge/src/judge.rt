@@ -1,7 +1,8 @@
 //! A judge: blocks, one after another, against a model.
 
-ghost use Rattle.std.specs.Prelude.{◌≡◌, IfErr, IfOk, IsTrue, None, option_map};
+ghost use Rattle.std.specs.Prelude.{◌≡◌, IfErr, IfOk, IfSome, IsTrue, None, option_map};
 ghost use Rattle.fz_model.specs.Meaning.{first_some};
+ghost use Rattle.fz_model.specs.Overviews.{IsOverview};
 ghost use Rattle.fz_stream.specs.Found.{EndsWithin, HasPlaces};
 ghost use Rattle.fz_verdict.specs.Blocks.{items_fault};
 ghost use Rattle.fz_verdict.specs.Verdict.{printed_fails, verdict, verdict_by};
@@ -17,7 +18,7 @@ use crate::printed::printed_fails;
 use crate::start::Proposed;
 use crate::verdict::{Fault, Verdict};
 use fz_filling::Course;
-use fz_model::Model;
+use fz_model::{Model, Overview, Partial};
 use fz_stream::Block;
 use fz_syntax::Printed;
 use std::alloc::{AllocError, Global};
@@ -61,10 +62,12 @@ fn disagreement<'a>(
 fn verdict_under<'a>(
     alloc: Global,
     model: &Model<'a>,
+    overview: &Overview,
     filling: &Proposed,
     block: &Block<'_>,
     before: Option<i64>,
 ) -> Result<Verdict<'a>, AllocError>
+    requires overview { IsOverview model.now overview.now }
     requires clean { items_fault model.now (located_items block.now.items.items) ≡ None }
     requires agrees { IsTrue filling.now.agrees → first_some (printed_fails model.now filling.now.partial) (located_items block.now.items.items) ≡ None }
     ensures { IfOk result (λ v. verdict_view v ≡ verdict model.now filling.now.partial (located_block block.now) before) }
@@ -72,17 +75,57 @@ fn verdict_under<'a>(
     if let Some(fault) = disagreement(alloc, model, filling, &block.items)? {
         return Ok(Verdict::Violated(fault));
     }
-    let points = points_verdict(alloc, model, &filling.partial)?;
+    let points = points_verdict(alloc, model, overview, &filling.partial)?;
     let now = objective(model, &filling.partial);
     Ok(with_objective(points, objective_fails(model.goal(), before, now)))
 }
 
-/// A model with the objective of the block that was judged last, and what its fillings so far have shown of the next.
+/// The overview of a model: the one that is known, or else a new one.
+fn overview_of(
+    alloc: Global,
+    model: &Model<'_>,
+    known: Option<Overview>,
+) -> Result<Overview, AllocError>
+    requires overview { IfSome known (IsOverview model.now) }
+    ensures { IfOk result (IsOverview model.now) }
+{
+    match known {
+        Some(overview) => Ok(overview),
+        None => Overview::new(alloc, model),
+    }
+}
+
+/// The verdict on a block under its filling. The overview of the model is made for the first block, and kept for the next.
+fn verdict_over<'a>(
+    alloc: Global,
+    model: &Model<'a>,
+    known: &mut Option<Overview>,
+    filling: &Proposed,
+    block: &Block<'_>,
+    before: Option<i64>,
+) -> Result<Verdict<'a>, AllocError>
+    requires overview { IfSome known.old (IsOverview model.now) }
+    requires clean { items_fault model.now (located_items block.now.items.items) ≡ None }
+    requires agrees { IsTrue filling.now.agrees → first_some (printed_fails model.now filling.now.partial) (located_items block.now.items.items) ≡ None }
+    ensures judged { IfOk result (λ v. verdict_view v ≡ verdict model.now filling.now.partial (located_block block.now) before) }
+    ensures overview { IfSome known.new (IsOverview model.now) }
+{
+    let overview = overview_of(alloc, model, known.take())?;
+    let found = verdict_under(alloc, model, &overview, filling, block, before)?;
+    *known = Some(overview);
+    Ok(found)
+}
+
+/// A model with the objective of the block that was judged last, what its fillings so far have shown of the next, what is looked at of
+/// its declarations for each block, and the room of the last filling.
 #[derive(Drop)]
 pub struct Judge<'m, 'a> {
     model: &'m Model<'a>,
     before: Option<i64>,
     course: Option<Course>,
+    overview: Option<Overview>,
+    /// the values of the block before, whose room the next one takes
+    spare: Option<Partial>,
 }
 
 impl<'m, 'a> std::marker::Model for Judge<'m, 'a> {
@@ -96,10 +139,12 @@ impl<'m, 'a> std::marker::Model for Judge<'m, 'a> {
 
     ghost use Rattle.std.specs.Prelude.{IfSome};
     ghost use Rattle.fz_filling.specs.Courses.{IsCourse};
+    ghost use Rattle.fz_model.specs.Overviews.{IsOverview};
+    ghost use Rattle.fz_judge.specs.Working.{HasRoom};
 
     ghost view = { λ j. record { model = j.model.now; before = j.before } };
 
-    ghost invariant = { λ j. IfSome j.course (IsCourse j.model.now) };
+    ghost invariant = { λ j. IfSome j.course (IsCourse j.model.now) × IfSome j.overview (IsOverview j.model.now) × IfSome j.spare (HasRoom j.model.now) };
 }
 
 impl<'m, 'a> Judge<'m, 'a> {
@@ -111,6 +156,8 @@ impl<'m, 'a> Judge<'m, 'a> {
             model,
             before: None,
             course: None,
+            overview: None,
+            spare: None,
         }
     }
 
@@ -128,9 +175,18 @@ impl<'m, 'a> Judge<'m, 'a> {
         // Of a block as `fz_stream` reads it: its places lie in its text, and its text ends within the numbers.
         ensures refused { IfErr result (λ e. HasPlaces block.now → EndsWithin usize.MAX block.now → IsBlockRefusal self.old.model (located_block block.now) e) }
     {
-        let filling = filled(alloc, self.model, block, &mut self.course)?;
-        let verdict = verdict_under(alloc, self.model, &filling, block, self.before)?;
+        let spare = self.spare.take();
+        let filling = filled(alloc, self.model, block, &mut self.course, spare)?;
+        let verdict = verdict_over(
+            alloc,
+            self.model,
+            &mut self.overview,
+            &filling,
+            block,
+            self.before,
+        )?;
         self.before = objective(self.model, &filling.partial);
+        self.spare = Some(filling.partial);
         Ok(verdict)
     }
 }

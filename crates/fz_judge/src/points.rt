@@ -2,6 +2,7 @@
 
 ghost use Rattle.std.specs.Prelude.{◌≡◌, IfOk, map, option_map};
 ghost use Rattle.fz_model.specs.Meaning.{first_some, number_at, objective, points, variables_of};
+ghost use Rattle.fz_model.specs.Overviews.{IsOverview};
 ghost use Rattle.fz_model.specs.Parts.{goal_view, variable_view};
 ghost use Rattle.fz_model.specs.Shown.{point_name};
 ghost use Rattle.fz_verdict.specs.Verdict.{fault_named, first_unset, not_known_at, objective_fails, point_fails, point_undecided, too_large_at, verdict_by};
@@ -10,7 +11,7 @@ ghost use Rattle.fz_judge.specs.Working.{holds, is_failed, reason_named};
 
 use crate::verdict::{Fault, Reason, Verdict};
 use fz_base::Value;
-use fz_model::{Goal, Model, Partial, Point, State, Term, Variable, all_hold, state};
+use fz_model::{Goal, Model, Overview, Partial, Point, State, Term, Variable, all_hold, state};
 use std::alloc::{AllocError, Global};
 
 /// The fault of a point that fails.
@@ -95,11 +96,13 @@ fn holds(state: State) -> bool
 pub(crate) fn points_verdict<'a>(
     alloc: Global,
     model: &Model<'a>,
+    overview: &Overview,
     partial: &Partial,
 ) -> Result<Verdict<'a>, AllocError>
+    requires overview { IsOverview model.now overview.now }
     ensures { IfOk result (λ v. verdict_view v ≡ verdict_by (first_some (point_fails partial.now) (points model.now)) (first_some (point_undecided model.now partial.now) (points model.now))) }
 {
-    if all_hold(alloc, model, partial)? {
+    if all_hold(alloc, model, overview, partial)? {
         return Ok(Verdict::Satisfied);
     }
     let mut reason = None;

@@ -1,6 +1,6 @@
 //! The start of a filling: the printed values, each variable's first one.
 
-ghost use Rattle.std.specs.Prelude.{◌≡◌, ◌<◌, ℕ, List, None, IfErr, IfOk, OnOk, cond, is_none, length, map};
+ghost use Rattle.std.specs.Prelude.{◌≡◌, ◌<◌, ℕ, List, None, IfErr, IfOk, IfSome, OnOk, cond, is_none, length, map};
 ghost use Rattle.std.specs.List.{AllByRecursion};
 ghost use Rattle.fz_model.specs.Meaning.{IsPartial, Variable as DeclaredVariable, give, value_at, variables_of};
 ghost use Rattle.fz_model.specs.Names.{literal_value};
@@ -12,7 +12,7 @@ ghost use Rattle.fz_verdict.specs.Blocks.{items_fault, printed_fault, printed_va
 ghost use Rattle.fz_verdict.specs.Filling.{pairs, pairs_at, printed_scalars, start_from};
 ghost use Rattle.fz_verdict.specs.View.{located_items, located_printed, located_printed_value};
 ghost use Rattle.fz_judge.specs.Judged.{TellsFault};
-ghost use Rattle.fz_judge.specs.Working.{IsWithin, agree_all, element_pairs, has_value, item_scalars, one_pair, terms_of_what, with_all, with_first};
+ghost use Rattle.fz_judge.specs.Working.{HasRoom, IsWithin, agree_all, element_pairs, has_value, item_scalars, one_pair, terms_of_what, with_all, with_first};
 
 use crate::error::BlockError;
 use crate::faults::value_fault;
@@ -72,7 +72,7 @@ fn give_made(
 }
 
 /// Gives a variable the value of a literal, where it has none, and tells whether it has that value then.
-#[inline]
+#[inline(always)]
 fn set_variable(
     alloc: Global,
     partial: &mut Partial,
@@ -91,7 +91,7 @@ fn set_variable(
 }
 
 /// Gives a scalar the value of a literal, where it is a variable without one, and tells whether it has that value then.
-#[inline]
+#[inline(always)]
 fn set_scalar(
     alloc: Global,
     partial: &mut Partial,
@@ -203,20 +203,40 @@ fn set_item(
     Ok(set_value(alloc, partial, found.what, &item.value)?)
 }
 
-/// The values that a block's items print, where no item has a fault, and whether each name has its printed one. A fault's place counts
-/// from the block's text.
+/// The partial assignment where no variable has a value, in the room of a spare one where there is one. Else it makes the room.
+fn empty_partial(
+    alloc: Global,
+    model: &Model<'_>,
+    spare: Option<Partial>,
+) -> Result<Partial, AllocError>
+    requires room { IfSome spare (HasRoom model.now) }
+    ensures empty { IfOk result (λ p. p ≡ nothing_for model.now) }
+{
+    match spare {
+        Some(mut partial) => {
+            partial.clear();
+            Ok(partial)
+        }
+        None => Partial::new(alloc, model),
+    }
+}
+
+/// The values that a block's items print, where no item has a fault, and whether each name has its printed one. They stand in the room of
+/// a spare assignment where there is one. A fault's place counts from the block's text.
 pub(crate) fn start(
     alloc: Global,
     model: &Model<'_>,
     items: &[Printed<'_>],
+    spare: Option<Partial>,
 ) -> Result<Proposed, BlockError>
+    requires room { IfSome spare (HasRoom model.now) }
     ensures started { IfOk result (λ s. s.partial ≡ start_from (printed_scalars model.now (located_items items.now)) 0 (variables_of model.now)) }
     ensures kinds { IfOk result (λ s. IsPartial model.now s.partial) }
     ensures agrees { IfOk result (λ s. s.agrees ≡ agree_all (nothing_for model.now) (printed_scalars model.now (located_items items.now))) }
     ensures clean { IfOk result (λ _. items_fault model.now (located_items items.now) ≡ None) }
     ensures told { IfErr result (λ e. TellsFault e (items_fault model.now (located_items items.now))) }
 {
-    let mut partial = Partial::new(alloc, model)?;
+    let mut partial = empty_partial(alloc, model, spare)?;
     let mut agrees = true;
     for item in items {
         if !set_item(alloc, model, &mut partial, item)? {

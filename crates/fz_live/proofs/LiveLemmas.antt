@@ -40,6 +40,10 @@ pub record Living (m : Model) (s : ReaderState) (j : JudgeState) (t : Tally) (le
   pub told : HasTold m j t parts verdicts
   pub writes : Appends w w' (lines_text verdicts parts)
 
+-- a reader of parts in the same state goes on alike
+pub live_same : (s s' : ReaderState) → s' ≡ s → (m : Model) (j : JudgeState) (t : Tally) (left left' w w' : Option (List ℕ)) → Living m s j t left left' w w' → Living m s' j t left left' w w'
+live_same s s' same m j t left left' w w' h = subst (λ x. Living m x j t left left' w w') (sym same) h
+
 pub live_starts : (m : Model) (s : ReaderState) (j : JudgeState) (t : Tally) (left w : Option (List ℕ)) → HasRead s [] [] → j ≡ record { model = m; before = None } → t ≡ record { blocks = 0; violated = None; undecided = None } → Living m s j t left left w w
 live_starts m s j t left w read judge tally = record {
   given = [];

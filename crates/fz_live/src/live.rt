@@ -54,7 +54,7 @@ pub fn check_parts<R: Read, W: Write>(
             Ok(false) => break,
             Err(error) => return Err(live_refusal(error)),
         }
-        match tell_next(alloc, &parts, &mut judge, &mut tally, &mut line) {
+        match tell_next(alloc, &mut parts, &mut judge, &mut tally, &mut line) {
             Ok(()) => {}
             Err(error) => return Err(error),
         }

@@ -1,14 +1,15 @@
-ghost use Rattle.std.specs.Prelude.{◌≡◌, ◌≢◌, ⊤, ℕ, Option, ◌+◌, ◌<◌, ◌≤◌, List, [], ◌∷◌, ◌++◌, ◌↔◌, length, Ok, Err, Some, None, IfOk, OnOk, OnErr, IfErr, IsTrue, IsSome, true, false};
+ghost use Rattle.std.specs.Prelude.{◌≡◌, ◌≢◌, ⊤, ℕ, Option, ◌+◌, ◌<◌, ◌≤◌, List, [], ◌∷◌, ◌++◌, ◌↔◌, length, Ok, Err, Some, None, IfOk, IfSome, OnOk, OnErr, IfErr, IsTrue, IsSome, true, false};
 ghost use Rattle.std.specs.Io.KnownBytes.{Consumes, IsAtEnd, Keeps};
 ghost use Rattle.fz_stream.specs.Broken.{IsBrokenAtEndAfter};
 ghost use Rattle.fz_stream.specs.Faults.{IsStreamFault};
 ghost use Rattle.fz_stream.specs.Parts.{StreamPart, IsStreamText};
+ghost use Rattle.fz_stream.specs.Releasing.{AreOfWaiting};
 ghost use Rattle.fz_stream.specs.Splitting.{Fits, Lends, IsPartOfItems, most_taken};
 ghost use Rattle.fz_live.specs.Reading.{StandsAt, HasRead, HasEnded, ReadsOn, HasOneMore, HasNoMore, IsRefusedInside, IsRefusedAfter, piece_size, steps_left};
 
 use crate::error::{PartError, part_refusal};
 use crate::pieces::{Pieces, ReadFailed};
-use fz_stream::{Part, Splitter, StreamError};
+use fz_stream::{KeptItems, Part, Splitter, StreamError};
 use std::alloc::Global;
 use std::io::Read;
 use std::marker::Model;
@@ -172,7 +173,37 @@ impl PartReader {
             (front : List StreamPart) × (parts ≡ front ++ part_of part ∷ [])) }
         ensures refused { IfErr result (λ e. e ≡ PartError.Memory) }
     {
-        match self.splitter.take() {
+        self.lend(None)
+    }
+
+    /// Takes the items of the block that waits out, so that `lend` moves them and copies none. Where no block waits, or its items were taken
+    /// out before, it answers none.
+    pub fn release(&mut self) -> Option<KeptItems>
+        ensures same { self.new ≡ self.old }
+        ensures items { IfSome result (AreOfWaiting self.old.splitter.waits) }
+    {
+        self.splitter.release()
+    }
+
+    /// Lends the part that waits, as `part` does, and moves into it the items that were released, if they are given back.
+    ///
+    /// # Errors
+    ///
+    /// Want of memory.
+    pub fn lend(&self, released: Option<KeptItems>) -> Result<Part<'_>, PartError>
+        requires waits { IsSome self.now.splitter.waits }
+        // They are those of the block that waits, as `release` answered them.
+        requires items { IfSome released (AreOfWaiting self.now.splitter.waits) }
+        ensures lent { IfOk result (λ part. Lends self.now.splitter.waits (Some (part_of part))) }
+        ensures items { IfOk result (λ part. IsPartOfItems (part_of part)) }
+        ensures places { IfOk result HasPlacesOfItems }
+        ensures within { IfOk result (PartEndsWithin most_taken) }
+        // It is the last of the parts, whatever was read before.
+        ensures given { IfOk result (λ part. (left : Option (List ℕ)) (given : List ℕ) (parts : List StreamPart) → StandsAt self.now left given parts →
+            (front : List StreamPart) × (parts ≡ front ++ part_of part ∷ [])) }
+        ensures refused { IfErr result (λ e. e ≡ PartError.Memory) }
+    {
+        match self.splitter.lend(released) {
             Ok(Some(part)) => Ok(part),
             Ok(None) => unreachable!(),
             Err(_) => Err(PartError::Memory),

@@ -74,21 +74,23 @@ pub(crate) fn tell(
     }
 }
 
-/// Tells the part that waits.
+/// Tells the part that waits. The items of a block are moved, and none is copied.
 pub(crate) fn tell_next(
     alloc: Global,
-    parts: &PartReader,
+    parts: &mut PartReader,
     judge: &mut Judge<'_, '_>,
     tally: &mut Tally,
     line: &mut Vec<u8>,
 ) -> Result<(), LiveError>
-    requires waits { IsSome parts.now.splitter.waits }
+    requires waits { IsSome parts.old.splitter.waits }
     requires room { tally.old.blocks < usize.MAX }
-    ensures told { OnOk result (IsTold parts.now judge.old judge.new tally.old tally.new line.new.items) }
-    ensures refused { (n : ℕ) (e : Refusal) → result ≡ Err (LiveError.Block n e) → IsRefused parts.now judge.old tally.old n e }
+    ensures same { parts.new ≡ parts.old }
+    ensures told { OnOk result (IsTold parts.old judge.old judge.new tally.old tally.new line.new.items) }
+    ensures refused { (n : ℕ) (e : Refusal) → result ≡ Err (LiveError.Block n e) → IsRefused parts.old judge.old tally.old n e }
     ensures kinds { IfErr result IsTellingRefusal }
 {
-    let part = match parts.part() {
+    let released = parts.release();
+    let part = match parts.lend(released) {
         Ok(part) => part,
         Err(_) => return Err(LiveError::Memory),
     };

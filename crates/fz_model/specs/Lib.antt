@@ -11,3 +11,4 @@ pub use Rattle.fz_data.specs.Shown
 pub use Rattle.fz_data.specs.Partial
 pub use Rattle.fz_data.specs.Kinds
 pub use Rattle.fz_eval.specs.Holding
+pub use Rattle.fz_eval.specs.Overviews

@@ -7,7 +7,7 @@ pub use fz_data::{
     Argument, Array, ArrayName, ConstraintParts, Found, Goal, Model, Partial, Place, Point,
     PointParts, Posted, Variable, What, kind_of, literal_kind, literal_value, load, same_kind,
 };
-pub use fz_eval::{all_hold, state};
+pub use fz_eval::{Overview, all_hold, state};
 pub use fz_force::{forced, only_number};
 pub use fz_meaning::{
     Domain, Kind, ModelError, State, Term, located_is_bare, numbers_agree, steps_are_forced,

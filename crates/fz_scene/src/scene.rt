@@ -35,7 +35,7 @@ impl<'s, 'a> Scene<'s, 'a> {
     }
 
     /// The argument at a place, counted from 0, as a whole number. It takes no memory.
-    #[inline]
+    #[inline(always)]
     pub fn int(&self, index: usize) -> i64
         ensures read { result ≡ int_at (assigned self.now) (arguments_of self.now) index }
     {
@@ -49,7 +49,7 @@ impl<'s, 'a> Scene<'s, 'a> {
     }
 
     /// The argument at a place as a truth value. It takes no memory.
-    #[inline]
+    #[inline(always)]
     pub fn truth(&self, index: usize) -> bool
         ensures read { result ≡ bool_at (assigned self.now) (arguments_of self.now) index }
     {
@@ -63,7 +63,7 @@ impl<'s, 'a> Scene<'s, 'a> {
     }
 
     /// The argument at a place as a set. It takes no memory.
-    #[inline]
+    #[inline(always)]
     pub fn set(&self, index: usize) -> &'s IntSet
         ensures read { result.now ≡ set_at (assigned self.now) (arguments_of self.now) index }
     {
@@ -77,7 +77,7 @@ impl<'s, 'a> Scene<'s, 'a> {
     }
 
     /// The elements of the argument at a place, where it is an array. It takes no memory.
-    #[inline]
+    #[inline(always)]
     pub fn elements(&self, index: usize) -> Elements<'s, 'a>
         ensures slots { slots_of result ≡ slots_at (arguments_of self.now) index }
         ensures under { under result ≡ assigned self.now }
@@ -85,7 +85,7 @@ impl<'s, 'a> Scene<'s, 'a> {
         self.elements_of(self.kept_at(index))
     }
 
-    #[inline]
+    #[inline(always)]
     fn kept_at(&self, index: usize) -> Kept<'s, 'a>
         ensures { slots_kept result ≡ slots_at (arguments_of self.now) index }
     {
@@ -105,7 +105,7 @@ impl<'s, 'a> Scene<'s, 'a> {
         }
     }
 
-    #[inline]
+    #[inline(always)]
     fn laid_at(&self, laid: &LaidParts<'s>, index: usize) -> Kept<'s, 'a>
         ensures { slots_kept result ≡ elements_read (laid_readings self.now.parts.arrays.now laid.now) index }
     {

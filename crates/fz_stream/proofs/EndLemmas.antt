@@ -1,5 +1,5 @@
 -- What the end of a line makes of what a splitter keeps.
-use Rattle.std.proofs.Common.{◌≡◌, ℕ, Vec, Global, ◌+◌, ◌-◌, Option, Some, None, List, [], ◌∷◌, ◌++◌, length, take, drop, refl, sym, ap, ◌∙◌, subst, inl, inr, ⊎_elim, length-append, arith}
+use Rattle.std.proofs.Common.{◌≡◌, ℕ, ◌+◌, ◌-◌, Option, Some, None, List, [], ◌∷◌, ◌++◌, length, take, drop, refl, sym, ap, ◌∙◌, subst, inl, inr, ⊎_elim, length-append, arith}
 use Rattle.std.proofs.lemmas.List.{take_at, drop_at, take_all}
 use Rattle.fz_syntax.specs.Tree.{Printed}
 use Rattle.fz_syntax.specs.Span.{Span}
@@ -14,7 +14,7 @@ use Rattle.fz_stream.specs.declared.step.Step.TheVariants.{GoesOn, EndsBlock, Cl
 use Rattle.fz_stream.specs.declared.held.Ended.{Ended}
 use Rattle.fz_stream.specs.declared.held.Ended.TheVariants.{BlockEnded, ClaimEnded}
 use Rattle.fz_stream.specs.declared.held.Held.{Held}
-use Rattle.fz_stream.specs.declared.kept.KeptItem.{KeptItem}
+use Rattle.fz_stream.specs.declared.kept.KeptItems.{KeptItems}
 use Rattle.fz_stream.specs.Lines.{Line, joined, kind_of}
 use Rattle.fz_stream.specs.Parts.{BlockPart, ClaimPart, IsBlockText, HasDistinctNames, AreBlockLines}
 use Rattle.fz_stream.specs.Broken.{CannotFollow}
@@ -128,6 +128,6 @@ module _ (h : Held) (body : List Line) (line : Line) (l : HasLine h body line) w
         }
 
 -- what ended stands beside whatever items are kept
-pub beside_kept : (h : Held) (kept : Vec KeptItem Global) (body : List Line) (line : Line) (ended : Ended) → EndsPart h body line ended
+pub beside_kept : (h : Held) (kept : Option KeptItems) (body : List Line) (line : Line) (ended : Ended) → EndsPart h body line ended
     → EndsPart (record { buffer = h.buffer; line = h.line; before = h.before; kept = kept }) body line ended
 beside_kept h kept body line ended e = record { part = e.part; is = e.is; lines = e.lines }

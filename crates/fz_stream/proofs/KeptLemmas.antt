@@ -47,6 +47,13 @@ module _ (text : List ℕ) (upto : ℕ) where
       let w = stand_behind text upto x.name.end (printed_value_spots x.value) (flat_map (kept_spots text) kept) h.3 in
       placed_kept w.0 kept k d (omega arith) w.1
 
+  -- the place of the name that comes next, behind the items before it
+  pub placed_next : (items : List Printed) (x : KeptItem) (more all : List KeptItem) → item_spots items ++ flat_map (kept_spots text) (x ∷ more) ≡ flat_map (kept_spots text) all
+      → Stand text 0 upto (flat_map (kept_spots text) all) → IsSpanWithin upto x.name
+  placed_next items x more all e h =
+      let w = stand_behind text upto 0 (item_spots items) (flat_map (kept_spots text) (x ∷ more)) (subst (Stand text 0 upto) (sym e) h) in
+      placed_kept w.0 (x ∷ more) zero x (omega arith) w.1
+
 -- what is kept of a block's items
 pub are_kept : (text : List ℕ) (items : List Printed) (kept : List KeptItem) → kept ≡ map kept_of items → IsBlockText text (bare_items items)
     → ((others : List tree.Printed) → IsBlockText text others → others ≡ bare_items items) → Stand text 0 (length text) (item_spots items) → AreKept text kept

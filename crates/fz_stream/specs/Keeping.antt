@@ -1,12 +1,13 @@
 -- The text of an open block and the current line, as a splitter keeps them. It serves private functions alone: a reader
 -- of the public contracts need not believe it.
-use Rattle.std.specs.Prelude.{◌≡◌, ◌≢◌, ℕ, ◌+◌, List, [], ◌∷◌, ◌++◌, length, take, Option, Some, None, ◌⊎◌}
+use Rattle.std.specs.Prelude.{◌≡◌, ◌≢◌, ℕ, ◌+◌, List, [], ◌∷◌, ◌++◌, length, take, Option, Some, None, IfSome, ◌⊎◌}
 use Rattle.std.specs.List.{AllByRecursion}
 use Rattle.fz_stream.specs.declared.error.StreamError.{StreamError}
 use Rattle.fz_stream.specs.declared.held.Ended.{Ended}
 use Rattle.fz_stream.specs.declared.held.Ended.TheVariants.{BlockEnded, ClaimEnded}
 use Rattle.fz_stream.specs.declared.held.Held.{Held}
-use Rattle.fz_stream.specs.Kept.{AreKept}
+use Rattle.fz_stream.specs.declared.kept.KeptItems.{KeptItems}
+use Rattle.fz_stream.specs.Kept.{AreKeptOf, IsTextOfBlock}
 use Rattle.fz_stream.specs.Lines.{Line, joined, kind_of, HasNoFeed, EndsWithFeed, IsFiller}
 use Rattle.fz_stream.specs.Parts.{StreamPart, BlockPart, ClaimPart, AreBlockLines, AreLinesOfPart, AreLinesOf, Covers, IsStreamText, GoesOnAfter}
 use Rattle.fz_stream.specs.Broken.{CannotFollow}
@@ -71,10 +72,15 @@ pub record BreaksBlock (offset : ℕ) (body : List Line) (line : Line) (fault : 
   pub cannot : CannotFollow (joined body) (kind_of line)
   pub tells : TellsOf offset (joined body) (Some (kind_of line)) fault
 
--- the items of a block that waits are kept
+-- The text is a block's, and where its items are kept, they are its own.
+pub record IsWaiting (text : List ℕ) (kept : Option KeptItems) : Type 0 where
+  pub block : IsTextOfBlock text
+  pub own : IfSome kept (AreKeptOf text)
+
+-- the items of a block that waits are kept, or were released
 abbrev pub IsKept : Option Ended → Held → Type 0
 IsKept None h = Unit {0}
-IsKept (Some BlockEnded) h = AreKept (take h.line h.buffer.items) h.kept.items
+IsKept (Some BlockEnded) h = IsWaiting (take h.line h.buffer.items) h.kept
 IsKept (Some (ClaimEnded kind)) h = Unit {0}
 
 -- All of the piece was taken, and no part ended.

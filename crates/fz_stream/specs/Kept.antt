@@ -1,5 +1,5 @@
--- What is kept of a block's items while the block waits. It serves private functions alone: a reader of the public
--- contracts need not believe it.
+-- What is kept of a block's items while the block waits. The contracts of `release` and `lend` cite it through `AreOfWaiting`: what the
+-- one gives out the other takes back. All else serves private functions alone.
 use Rattle.std.specs.Prelude.{◌≡◌, ℕ, List, ◌∷◌, length, map, Some, slice_range}
 use Rattle.std.specs.List.{flat_map}
 use Rattle.fz_syntax.specs.Spots.{Spot, Stand, printed_value_spots}
@@ -7,6 +7,7 @@ use Rattle.fz_syntax.specs.Tree as tree
 use Rattle.fz_syntax.specs.View.{bare_printed_value}
 use Rattle.fz_syntax.specs.declared.tree.Printed.{Printed}
 use Rattle.fz_stream.specs.declared.kept.KeptItem.{KeptItem}
+use Rattle.fz_stream.specs.declared.kept.KeptItems.{KeptItems}
 use Rattle.fz_stream.specs.Parts.{IsBlockText}
 
 -- an item without its name's text
@@ -26,3 +27,11 @@ pub record AreKept (text : List ℕ) (kept : List KeptItem) : Type 0 where
   pub block : IsBlockText text (map (bare_kept text) kept)
   pub only : (others : List tree.Printed) → IsBlockText text others → others ≡ map (bare_kept text) kept
   pub stand : Stand text 0 (length text) (flat_map (kept_spots text) kept)
+
+-- these items are those that are kept of the text
+abbrev pub AreKeptOf : List ℕ → KeptItems → Type 0
+AreKeptOf text kept = AreKept text kept.items.items
+
+-- the text is a block's
+abbrev pub IsTextOfBlock : List ℕ → Type 0
+IsTextOfBlock text = (items : List tree.Printed) × IsBlockText text items

@@ -10,5 +10,6 @@ pub mod Lending
 pub mod Hashing
 pub mod Step
 pub mod Kept
+pub mod Releasing
 pub mod Keeping
 pub mod Inside

@@ -10,7 +10,7 @@ ghost use Rattle.fz_stream.specs.Splitting.{PassesLimit, most_held, most_taken};
 ghost use Rattle.fz_stream.specs.Step.{begun_of, IsLineFault};
 
 use crate::error::StreamError;
-use crate::kept::{KeptItem, read_kept};
+use crate::kept::{KeptItems, read_kept};
 use crate::line::{ClaimKind, first_line, line_kind};
 use crate::step::{Step, after_line};
 use fz_syntax::Span;
@@ -37,8 +37,8 @@ pub struct Held {
     pub line: usize,
     /// How many bytes of the stream stand before the buffer.
     pub before: usize,
-    /// The items of the block that ended last.
-    pub kept: Vec<KeptItem>,
+    /// The items of the block that ended last, where they weren't released.
+    pub kept: Option<KeptItems>,
 }
 
 /// Where the open block begins, whose whole lines have this length.
@@ -80,7 +80,8 @@ fn end_line(alloc: Global, held: &mut Held) -> Result<Option<Ended>, StreamError
         }
         Step::EndsBlock(_) => {
             let line = held.line;
-            held.kept = read_kept(alloc, held.before, &held.buffer[..line])?;
+            let kept = read_kept(alloc, held.before, &held.buffer[..line])?;
+            held.kept = Some(kept);
             Ok(Some(Ended::BlockEnded))
         }
         Step::Claims(kind) => Ok(Some(Ended::ClaimEnded(kind))),

@@ -1,5 +1,5 @@
 // The items of a block that waits. They don't borrow its text, so that they can stand beside it.
-ghost use Rattle.std.specs.Prelude.{◌≡◌, ◌≢◌, ◌+◌, ◌≤◌, List, length, map, slice_range, IfOk, IfErr};
+ghost use Rattle.std.specs.Prelude.{◌≡◌, ◌≢◌, ◌+◌, ◌≤◌, List, length, map, slice_range, IfOk, IfErr, IfSome};
 ghost use Rattle.std.specs.List.{flat_map};
 ghost use Rattle.fz_syntax.specs.Limits.{most_bytes};
 ghost use Rattle.fz_syntax.specs.Places.{IsSpanWithin};
@@ -8,7 +8,7 @@ ghost use Rattle.fz_syntax.specs.Tree.{Printed as PlainPrinted};
 ghost use Rattle.fz_syntax.specs.View.{bare_literal, bare_printed_value, bare_items};
 ghost use Rattle.fz_stream.specs.Faults.{IsFaultWithin};
 ghost use Rattle.fz_stream.specs.Found.{HasPlaces};
-ghost use Rattle.fz_stream.specs.Kept.{kept_of, bare_kept, kept_spots, AreKept};
+ghost use Rattle.fz_stream.specs.Kept.{kept_of, bare_kept, kept_spots, AreKept, AreKeptOf, IsTextOfBlock};
 ghost use Rattle.fz_stream.specs.Parts.{IsBlockText};
 ghost use Rattle.fz_stream.specs.Step.{IsBlockFault};
 ghost use Rattle.fz_stream.specs.Telling.{TellsOfText};
@@ -23,6 +23,12 @@ use std::alloc::{AllocError, Global};
 pub struct KeptItem {
     pub name: Span,
     pub value: PrintedValue,
+}
+
+/// The items of a block that waits, which a splitter releases, so that it can lend them without a copy.
+#[derive(Drop)]
+pub struct KeptItems {
+    items: Vec<KeptItem>,
 }
 
 /// What is kept of the items. Their values are moved.
@@ -40,10 +46,10 @@ fn kept_items(alloc: Global, items: Vec<Printed<'_>>) -> Result<Vec<KeptItem>, A
 }
 
 /// Reads the text of a block, and keeps its items.
-pub fn read_kept(alloc: Global, offset: usize, text: &[u8]) -> Result<Vec<KeptItem>, StreamError>
+pub fn read_kept(alloc: Global, offset: usize, text: &[u8]) -> Result<KeptItems, StreamError>
     requires fits { offset + length text.now ≤ usize.MAX }
     requires short { length text.now ≤ most_bytes }
-    ensures kept { IfOk result (λ kept. AreKept text.now kept.items) }
+    ensures kept { IfOk result (AreKeptOf text.now) }
     ensures refused { IfErr result (λ e. e ≢ StreamError.Memory → (items : List PlainPrinted) → IsBlockText text.now items → ⊥) }
     ensures fault { IfErr result IsBlockFault }
     ensures place { IfErr result (IsFaultWithin (offset + length text.now)) }
@@ -51,7 +57,7 @@ pub fn read_kept(alloc: Global, offset: usize, text: &[u8]) -> Result<Vec<KeptIt
 {
     match read_block(alloc, offset, text) {
         Ok(block) => match kept_items(alloc, block.items) {
-            Ok(kept) => Ok(kept),
+            Ok(items) => Ok(KeptItems { items }),
             Err(_) => Err(StreamError::Memory),
         },
         Err(e) => Err(e),
@@ -128,24 +134,126 @@ fn lent_items<'a>(
     Ok(items)
 }
 
+/// The items as they were read, with their names as slices of the text. Their values are moved.
+fn moved_items<'a>(
+    alloc: Global,
+    text: &'a [u8],
+    kept: Vec<KeptItem>,
+) -> Result<Vec<Printed<'a>>, AllocError>
+    requires { Stand text.now 0 (length text.now) (flat_map (kept_spots text.now) kept.items) }
+    ensures bare { IfOk result (λ items. bare_items items.items ≡ map (bare_kept text.now) kept.items) }
+    ensures places { IfOk result (λ items. item_spots items.items ≡ flat_map (kept_spots text.now) kept.items) }
+{
+    let mut items = Vec::with_capacity(alloc, kept.len())?;
+    for item in kept {
+        let name = Name {
+            text: text_at(text, item.name),
+            span: item.name,
+        };
+        items.push(Printed {
+            name,
+            value: item.value,
+        })?;
+    }
+    Ok(items)
+}
+
 /// The block whose items were kept: what `read_block` gives of its text.
-pub fn kept_block<'a>(
+fn copied_block<'a>(
     alloc: Global,
     offset: usize,
     text: &'a [u8],
-    kept: &[KeptItem],
+    kept: &KeptItems,
 ) -> Result<Block<'a>, AllocError>
-    requires { AreKept text.now kept.now }
+    requires { AreKeptOf text.now kept.now }
     ensures offset { IfOk result (λ b. b.offset ≡ offset) }
     ensures text { IfOk result (λ b. b.text.now ≡ text.now) }
     ensures items { IfOk result (λ b. IsBlockText text.now (bare_items b.items.items)) }
     ensures only { IfOk result (λ b. (others : List PlainPrinted) → IsBlockText text.now others → others ≡ bare_items b.items.items) }
     ensures places { IfOk result HasPlaces }
 {
-    let items = lent_items(alloc, text, kept)?;
+    let items = lent_items(alloc, text, &kept.items)?;
     Ok(Block {
         offset,
         text,
         items,
     })
+}
+
+/// The same block, into which the kept items are moved.
+fn moved_block<'a>(
+    alloc: Global,
+    offset: usize,
+    text: &'a [u8],
+    kept: KeptItems,
+) -> Result<Block<'a>, AllocError>
+    requires { AreKeptOf text.now kept }
+    ensures offset { IfOk result (λ b. b.offset ≡ offset) }
+    ensures text { IfOk result (λ b. b.text.now ≡ text.now) }
+    ensures items { IfOk result (λ b. IsBlockText text.now (bare_items b.items.items)) }
+    ensures only { IfOk result (λ b. (others : List PlainPrinted) → IsBlockText text.now others → others ≡ bare_items b.items.items) }
+    ensures places { IfOk result HasPlaces }
+{
+    let items = moved_items(alloc, text, kept.items)?;
+    Ok(Block {
+        offset,
+        text,
+        items,
+    })
+}
+
+/// The block of a text that was read before. Its kept items are copied; where they were released, the text is read again.
+fn kept_block<'a>(
+    alloc: Global,
+    offset: usize,
+    text: &'a [u8],
+    kept: Option<&KeptItems>,
+) -> Result<Block<'a>, StreamError>
+    requires fits { offset + length text.now ≤ usize.MAX }
+    requires short { length text.now ≤ most_bytes }
+    requires block { IsTextOfBlock text.now }
+    requires kept { IfSome kept (λ k. AreKeptOf text.now k.now) }
+    ensures offset { IfOk result (λ b. b.offset ≡ offset) }
+    ensures text { IfOk result (λ b. b.text.now ≡ text.now) }
+    ensures items { IfOk result (λ b. IsBlockText text.now (bare_items b.items.items)) }
+    ensures only { IfOk result (λ b. (others : List PlainPrinted) → IsBlockText text.now others → others ≡ bare_items b.items.items) }
+    ensures places { IfOk result HasPlaces }
+    ensures refused { IfErr result (λ e. e ≡ StreamError.Memory) }
+{
+    match kept {
+        Some(kept) => match copied_block(alloc, offset, text, kept) {
+            Ok(block) => Ok(block),
+            Err(_) => Err(StreamError::Memory),
+        },
+        None => read_block(alloc, offset, text),
+    }
+}
+
+/// The block of a text that was read before. The items that were released, if any, are moved into it.
+pub fn lent_block<'a>(
+    alloc: Global,
+    offset: usize,
+    text: &'a [u8],
+    released: Option<KeptItems>,
+    kept: Option<&KeptItems>,
+) -> Result<Block<'a>, StreamError>
+    requires fits { offset + length text.now ≤ usize.MAX }
+    requires short { length text.now ≤ most_bytes }
+    requires block { IsTextOfBlock text.now }
+    requires released { IfSome released (AreKeptOf text.now) }
+    requires kept { IfSome kept (λ k. AreKeptOf text.now k.now) }
+    ensures offset { IfOk result (λ b. b.offset ≡ offset) }
+    ensures text { IfOk result (λ b. b.text.now ≡ text.now) }
+    ensures items { IfOk result (λ b. IsBlockText text.now (bare_items b.items.items)) }
+    ensures only { IfOk result (λ b. (others : List PlainPrinted) → IsBlockText text.now others → others ≡ bare_items b.items.items) }
+    ensures places { IfOk result HasPlaces }
+    ensures refused { IfErr result (λ e. e ≡ StreamError.Memory) }
+{
+    match released {
+        Some(released) => match moved_block(alloc, offset, text, released) {
+            Ok(block) => Ok(block),
+            Err(_) => Err(StreamError::Memory),
+        },
+        None => kept_block(alloc, offset, text, kept),
+    }
 }

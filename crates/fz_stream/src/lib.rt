@@ -15,6 +15,7 @@ mod tests;
 
 pub use block::Block;
 pub use error::{StreamError, moved_span};
+pub use kept::KeptItems;
 pub use line::ClaimKind;
 pub use reading::{Claim, Stream, blocks};
 pub use splitter::{Part, Splitter};

@@ -2,12 +2,13 @@ ghost use Rattle.std.specs.Prelude.{◌≡◌, ◌≢◌, ℕ, ◌+◌, ◌≤�
 ghost use Rattle.fz_stream.specs.Broken.{IsBrokenAfter, IsBrokenAtEndAfter};
 ghost use Rattle.fz_stream.specs.Faults.{IsStreamFault, IsFaultWithin};
 ghost use Rattle.fz_stream.specs.Parts.{StreamPart};
+ghost use Rattle.fz_stream.specs.Releasing.{AreOfWaiting};
 ghost use Rattle.fz_stream.specs.Splitting.{Fits, Fed, PassesLimit, EndsWith, Lends, IsPartOfItems, parts_of, most_held, most_taken};
 
 use crate::block::Block;
 use crate::error::StreamError;
 use crate::held::{Ended, Held, drop_part, end_stream, take_bytes};
-use crate::kept::kept_block;
+use crate::kept::{KeptItems, lent_block};
 use crate::line::ClaimKind;
 use std::alloc::Global;
 use std::marker::Model;
@@ -63,7 +64,7 @@ impl Splitter {
                 buffer: Vec::new(alloc),
                 line: 0,
                 before: 0,
-                kept: Vec::new(alloc),
+                kept: None,
             },
             ended: None,
             stage: Stage::Running,
@@ -92,6 +93,38 @@ impl Splitter {
         ensures failed { (result ≡ Err StreamError.Failed) ↔ (self.now.stage ≡ FailedStage) }
         ensures refused { IfErr result (λ e. (e ≡ StreamError.Memory) ⊎ (e ≡ StreamError.Failed)) }
     {
+        self.lend(None)
+    }
+
+    /// Takes the items of the block that waits out of the splitter, so that `lend` moves them and copies none. Where no block waits,
+    /// or its items were taken out before, it answers none.
+    pub fn release(&mut self) -> Option<KeptItems>
+        ensures same { self.new ≡ self.old }
+        ensures items { IfSome result (AreOfWaiting self.old.waits) }
+    {
+        match self.ended {
+            Some(Ended::BlockEnded) => self.held.kept.take(),
+            Some(Ended::ClaimEnded(_)) | None => None,
+        }
+    }
+
+    /// Lends the part that waits, as `take` does, and moves into it the items that were released, if they are given back.
+    pub fn lend(&self, released: Option<KeptItems>) -> Result<Option<Part<'_>>, StreamError>
+        // They are those of the block that waits, as `release` answered them.
+        requires { IfSome released (AreOfWaiting self.now.waits) }
+        ensures lent { IfOk result (λ part. Lends self.now.waits (option_map part_of part)) }
+        ensures items { IfOk result (λ part. IfSome part (λ p. IsPartOfItems (part_of p))) }
+        ensures places { IfOk result (λ part. IfSome part HasPlacesOfItems) }
+        ensures within { IfOk result (λ part. IfSome part (PartEndsWithin most_taken)) }
+
+        // It is the last of the parts, whatever was taken before.
+        ensures given { IfOk result (λ part. (bytes : List ℕ) (parts : List StreamPart) → Fits self.now bytes parts → IsSome part →
+            (front : List StreamPart) × (parts ≡ front ++ parts_of (option_map part_of part))) }
+        ensures given_at_end { IfOk result (λ part. (bytes : List ℕ) (parts more : List StreamPart) → EndsWith self.now bytes parts more → more ≡ parts_of (option_map part_of part)) }
+
+        ensures failed { (result ≡ Err StreamError.Failed) ↔ (self.now.stage ≡ FailedStage) }
+        ensures refused { IfErr result (λ e. (e ≡ StreamError.Memory) ⊎ (e ≡ StreamError.Failed)) }
+    {
         match self.stage {
             Stage::Failed => return Err(StreamError::Failed),
             Stage::Running | Stage::Finished => {}
@@ -101,9 +134,15 @@ impl Splitter {
             Some(Ended::ClaimEnded(kind)) => Ok(Some(Part::Claim(kind))),
             Some(Ended::BlockEnded) => {
                 let text = &self.held.buffer[..self.held.line];
-                match kept_block(self.alloc, self.held.before, text, &self.held.kept) {
+                match lent_block(
+                    self.alloc,
+                    self.held.before,
+                    text,
+                    released,
+                    self.held.kept.as_ref(),
+                ) {
                     Ok(block) => Ok(Some(Part::Block(block))),
-                    Err(_) => Err(StreamError::Memory),
+                    Err(e) => Err(e),
                 }
             }
         }

@@ -3,8 +3,8 @@
 ghost use Rattle.std.specs.Prelude.{◌≢◌, OnOk};
 ghost use Rattle.fz_stream.specs.declared.splitter.Stage.TheVariants.{Finished};
 
-use crate::{ClaimKind, Part, Splitter, StreamError, blocks, moved_span};
-use fz_syntax::{Span, SyntaxError};
+use crate::{Block, ClaimKind, Part, Splitter, StreamError, blocks, moved_span};
+use fz_syntax::{LiteralKind, PrintedValue, Span, SyntaxError};
 use std::alloc::{AllocError, Global};
 use std::test::Fail;
 
@@ -266,6 +266,44 @@ fn pieces(rt: HostRuntime) -> Result<(), Fail> {
     assert!(rt; matches!(splitter.take()?, Some(Part::Claim(ClaimKind::Complete))));
     splitter.finish()?;
     assert!(rt; !splitter.waiting());
+    Ok(())
+}
+
+/// Whether the value is the set of 1 and 3.
+fn is_set(value: &PrintedValue) -> bool {
+    match value {
+        PrintedValue::One(literal) => match &literal.what {
+            LiteralKind::Braces(numbers) => numbers.as_slice() == [1, 3].as_slice(),
+            _ => false,
+        },
+        PrintedValue::Array { .. } => false,
+    }
+}
+
+/// Whether the block stands at the front and prints `x = {1,3};` alone.
+fn prints_set(block: &Block<'_>) -> bool {
+    match block.items.first() {
+        Some(item) => block.offset == 0 && block.items.len() == 1 && is_set(&item.value),
+        None => false,
+    }
+}
+
+fn is_block_of_set(part: &Option<Part<'_>>) -> bool {
+    match part {
+        Some(Part::Block(block)) => prints_set(block),
+        _ => false,
+    }
+}
+
+#[test]
+fn released_items(rt: HostRuntime) -> Result<(), Fail> {
+    let mut splitter = Splitter::new(rt.alloc());
+    assert_eq!(rt; splitter.feed(b"x = {1,3};\n----------\n".as_slice())?, 22);
+    let released = splitter.release();
+    assert!(rt; released.is_some());
+    assert!(rt; is_block_of_set(&splitter.lend(released)?));
+    assert!(rt; splitter.release().is_none());
+    assert!(rt; is_block_of_set(&splitter.take()?));
     Ok(())
 }
 

@@ -17,6 +17,11 @@ pub declared_hold-requires-clause-inside : goal.declared_hold-requires-clause-in
 declared_hold-requires-clause-inside c = λ inside.
     seen_inside c.args.model.now c.args.partial.now _ _ _ c.variables.ensures.all c.values.ensures.all c.lie_inside-inside.ensures inside
 
+pub declared_hold-requires-clause-counted : goal.declared_hold-requires-clause-counted
+declared_hold-requires-clause-counted c =
+    let m = c.args.model.now in
+    omega (arith, same_length shown_posted shown c.constraints.result.now m.constraints c.constraints.ensures.all, enough m c.args.partial.now, c.points.ensures.counted)
+
 pub returns-then-not-branch : goal.returns-then-not-branch
 returns-then-not-branch c =
     let m = c.args.model.now in

@@ -1,18 +1,17 @@
-use Rattle.std.proofs.Common.{◌≡◌, ◌≤◌, length}
+use Rattle.std.proofs.Common.{◌≤◌, length}
 use Rattle.fz_model.specs.Meaning.{IsPartial, points}
+use Rattle.fz_model.specs.Partial.{unset_count}
 use Rattle.fz_filling.specs.Kept.{IsKept}
-use Rattle.fz_filling.specs.Stepping.{unset_count}
 use Rattle.fz_filling.proofs.Stepping.{Reaches}
 use Rattle.fz_filling.proofs.waking.fill_woken.Given as goal
 
-abbrev pub invariant-loop-unset : goal.invariant-loop-unset
-invariant-loop-unset l = record {
+abbrev pub invariant-steps : goal.invariant-steps
+invariant-steps l = record {
   reaches : Reaches l.model l.fn.partial l.start l.partial l.from;
   in_range : l.from ≤ length (points l.model);
   fits : IsPartial l.model l.partial;
-  counted : l.unset ≡ unset_count l.partial;
   kept : IsKept l.model l.partial l.watch;
 }
 
-abbrev pub decreases-loop-unset : goal.decreases-loop-unset
-decreases-loop-unset l = l.unset
+abbrev pub decreases-steps : goal.decreases-steps
+decreases-steps l = unset_count l.partial

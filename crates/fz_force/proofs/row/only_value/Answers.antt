@@ -1,20 +1,18 @@
-use Rattle.std.proofs.Common.{None, map, sym, subst, ◌∙◌}
-use Rattle.std.specs.List.{AllByRecursion}
+use Rattle.std.proofs.Common.{map, sym, subst, ◌∙◌}
 use Rattle.fz_table.specs.Known.{known_row}
 use Rattle.fz_data.specs.Parts.{argument_view, posted_view}
 use Rattle.fz_scene.specs.Views.{arguments_of}
 use Rattle.fz_force.specs.Forced.{IsReady}
-use Rattle.fz_force.specs.Only.{IsFlat, IsOnlyAt}
 use Rattle.fz_force.proofs.Held.{row_shapes}
 use Rattle.fz_force.proofs.Placed.{flat_arguments, has_value, not_only, ready}
 use Rattle.fz_force.proofs.row.only_value.Goals as goal
 
-pub only_open-requires : goal.only_open-requires
-only_open-requires c =
+pub spot_of-requires : goal.spot_of-requires
+spot_of-requires c =
     let vs = c.args.parts.variables.now in
     let xs = c.args.parts.arrays.now in
     let shaped = row_shapes (posted_view vs xs c.args.parts.posted.now) (known_row c.args.known) c.requires.row in
-    record { flat = subst (AllByRecursion IsFlat) (sym c.as_slice-arguments.ensures.value) (flat_arguments vs xs (known_row c.args.known).shapes c.args.parts.posted.now.arguments.items shaped) }
+    record { flat = flat_arguments vs xs (known_row c.args.known).shapes c.args.parts.posted.now.arguments.items shaped }
 
 pub returns-then-has : goal.returns-then-has
 returns-then-has c =
@@ -24,7 +22,7 @@ returns-then-has c =
 pub returns-in_default : goal.returns-in_default
 returns-in_default c =
     not_only c.args.parts.variables.now c.args.parts.arrays.now c.args.partial.now c.args.parts.posted.now.arguments.items (known_row c.args.known) c.args.target
-    (rw c.as_slice-arguments.ensures.value at c.in_default.ensures)
+    c.in_default.ensures
 
 pub value_at-requires-clause-ready : goal.value_at-requires-clause-ready
 value_at-requires-clause-ready c =
@@ -34,5 +32,5 @@ value_at-requires-clause-ready c =
     let as' = c.args.parts.posted.now.arguments.items in
     let r = known_row c.args.known in
     let shaped = row_shapes (posted_view vs xs c.args.parts.posted.now) r c.requires.row in
-    let found = ready vs xs K as' r c.args.target c.in-Some.spot shaped (subst (λ bs. IsOnlyAt K xs bs c.args.target c.in-Some.spot) c.as_slice-arguments.ensures.value c.in-Some.ensures) c.requires.kinds in
+    let found = ready vs xs K as' r c.args.target c.in-Some.spot shaped c.in-Some.ensures c.requires.kinds in
     subst (λ L. IsReady L (arguments_of c.new.result) r c.in-Some.spot) (sym c.new.ensures.assigned) (subst (λ ys. IsReady K ys r c.in-Some.spot) (sym c.new.ensures.arguments) found)

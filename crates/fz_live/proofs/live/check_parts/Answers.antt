@@ -5,7 +5,7 @@ use Rattle.fz_stream.specs.declared.splitter.Stage.TheVariants.{Finished}
 use Rattle.fz_live.specs.declared.error.LiveError.TheVariants as live
 use Rattle.fz_live.specs.Writing.{WritesFront}
 use Rattle.fz_live.specs.View.{answer_view}
-use Rattle.fz_live.proofs.LiveLemmas.{live_starts, live_advanced, live_stops, live_read, live_front, live_room, live_told, live_refused, live_untold, live_unwritten, live_answered, live_unanswered, told_read, told_stream}
+use Rattle.fz_live.proofs.LiveLemmas.{live_starts, live_advanced, live_stops, live_read, live_front, live_room, live_told, live_same, live_refused, live_untold, live_unwritten, live_answered, live_unanswered, told_read, told_stream}
 use Rattle.fz_live.proofs.live.check_parts.Goals as goal
 
 pub loop-error-init : goal.loop-error-init
@@ -51,8 +51,8 @@ pub loop-error-preserved : goal.loop-error-preserved
 loop-error-preserved g c =
     let is = c.in-Ok-true.is ∙ ap Ok c.in-Ok-true.field-0-test in
     let going : c.loop-error.parts.splitter.stage ≢ Finished = λ f. (let no : Ok true ≡ Ok false = sym is ∙ c.advance.ensures.ended f in cc) in
-    live_told _ _ _ _ _ _ _ _ (live_advanced _ _ _ _ _ _ _ _ c.loop-error.invariant _ c.advance.new.self going (c.advance.ensures.more is)) c.tell_next.new.judge c.tell_next.new.tally c.tell_next.new.line.items _
-    c.in-Ok.ensures.told (subst (Appends (g.W.Write.contents c.loop-error.writer) (g.W.Write.contents c.write_whole.new.writer)) c.deref.ensures.value c.in-Ok-write_whole.ensures.whole)
+    live_same _ _ c.tell_next.ensures.same _ _ _ _ _ _ _ (live_told _ _ _ _ _ _ _ _ (live_advanced _ _ _ _ _ _ _ _ c.loop-error.invariant _ c.advance.new.self going (c.advance.ensures.more is)) c.tell_next.new.judge c.tell_next.new.tally c.tell_next.new.line.items _
+    c.in-Ok.ensures.told (subst (Appends (g.W.Write.contents c.loop-error.writer) (g.W.Write.contents c.write_whole.new.writer)) c.deref.ensures.value c.in-Ok-write_whole.ensures.whole))
 
 pub returns-in-Err-write_whole-clause-front : goal.returns-in-Err-write_whole-clause-front
 returns-in-Err-write_whole-clause-front g c =

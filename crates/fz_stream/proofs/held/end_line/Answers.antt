@@ -1,4 +1,4 @@
-use Rattle.std.proofs.Common.{◌≡◌, ℕ, List, sym, ap, ◌∙◌, refl, subst, take, ◌+◌}
+use Rattle.std.proofs.Common.{◌≡◌, ℕ, List, sym, ap, ◌∙◌, refl, subst, take, ◌+◌, Some}
 use Rattle.std.proofs.lemmas.Result.{err_from_is_err_and}
 use Rattle.fz_stream.specs.declared.held.Ended.TheVariants.{BlockEnded, ClaimEnded}
 use Rattle.fz_stream.specs.declared.step.Step.TheVariants.{GoesOn}
@@ -9,15 +9,15 @@ use Rattle.fz_stream.specs.Telling.{TellsOfText}
 use Rattle.fz_stream.proofs.EndLemmas.{step_is, goes_on_none, goes_on_some, ends_with_block, ends_with_claim, beside_kept, breaks_block}
 use Rattle.fz_stream.proofs.held.end_line.Goals as goal
 
-pub returns-in_err-held-in-EndsBlock-clause-breaks :
-    goal.returns-in_err-held-in-EndsBlock-clause-breaks
-returns-in_err-held-in-EndsBlock-clause-breaks c =
+pub returns-in_err-kept-in-EndsBlock-clause-breaks :
+    goal.returns-in_err-kept-in-EndsBlock-clause-breaks
+returns-in_err-kept-in-EndsBlock-clause-breaks c =
     let p = err_from_is_err_and c.from_residual.result c.from_residual.ensures.1 in
     rw (p.1, p.2) (λ known body line l.
     breaks_block c.args.held.now body line l _ c.in-EndsBlock.field-0
     (step_is c.args.held.now body line l (c.args.held.now.before + c.args.held.now.line) _ _ _ _ _ c.begun_at-begun.ensures c.deref.ensures.value c.line_kind-kind.ensures c.after_line.ensures c.in-EndsBlock.is)
-    (λ items t. c.in_err-held-in-EndsBlock.ensures.refused known items (subst (λ b. IsBlockText (take c.args.held.now.line b) items) (sym c.deref-in-EndsBlock.ensures.value) t))
-    _ (subst (λ b. TellsOfText c.args.held.now.before (take c.args.held.now.line b) c.in_err-held-in-EndsBlock.field-0.0) c.deref-in-EndsBlock.ensures.value c.in_err-held-in-EndsBlock.ensures.tells))
+    (λ items t. c.in_err-kept-in-EndsBlock.ensures.refused known items (subst (λ b. IsBlockText (take c.args.held.now.line b) items) (sym c.deref-in-EndsBlock.ensures.value) t))
+    _ (subst (λ b. TellsOfText c.args.held.now.before (take c.args.held.now.line b) c.in_err-kept-in-EndsBlock.field-0.0) c.deref-in-EndsBlock.ensures.value c.in_err-kept-in-EndsBlock.ensures.tells))
 
 pub returns-in-GoesOn-None-clause-goes_on : goal.returns-in-GoesOn-None-clause-goes_on
 returns-in-GoesOn-None-clause-goes_on c _ body line l =
@@ -31,13 +31,13 @@ returns-in-GoesOn-Some-clause-goes_on c _ body line l =
     (step_is c.args.held.now body line l (c.args.held.now.before + c.args.held.now.line) _ _ _ _ _ c.begun_at-begun.ensures c.deref.ensures.value c.line_kind-kind.ensures c.after_line.ensures (c.in-GoesOn-Some.is ∙ ap GoesOn c.in-GoesOn-Some.field-0-is))
     _ refl (c.len-held.ensures ∙ c.args.held.now.buffer.ok.0)
 
-pub returns-in_ok-held-in-EndsBlock-clause-ends :
-    goal.returns-in_ok-held-in-EndsBlock-clause-ends
-returns-in_ok-held-in-EndsBlock-clause-ends c ended e body line l =
+pub returns-in_ok-kept-in-EndsBlock-clause-ends :
+    goal.returns-in_ok-kept-in-EndsBlock-clause-ends
+returns-in_ok-kept-in-EndsBlock-clause-ends c ended e body line l =
     let same : BlockEnded ≡ ended = cc in
     let text : take c.args.held.now.line c.deref-in-EndsBlock.result.now ≡ take c.args.held.now.line c.args.held.now.buffer.items = ap (take c.args.held.now.line) c.deref-in-EndsBlock.ensures.value in
-    let kept : AreKept (take c.args.held.now.line c.args.held.now.buffer.items) c.in_ok-held-in-EndsBlock.field-0.items = subst (λ (t : List ℕ). AreKept t c.in_ok-held-in-EndsBlock.field-0.items) text c.in_ok-held-in-EndsBlock.ensures.kept in
-    beside_kept c.args.held.now c.in_ok-held-in-EndsBlock.field-0 body line ended
+    let kept : AreKept (take c.args.held.now.line c.args.held.now.buffer.items) c.in_ok-kept-in-EndsBlock.kept.items.items = subst (λ (t : List ℕ). AreKept t c.in_ok-kept-in-EndsBlock.kept.items.items) text c.in_ok-kept-in-EndsBlock.ensures.kept in
+    beside_kept c.args.held.now (Some c.in_ok-kept-in-EndsBlock.kept) body line ended
     (subst (EndsPart c.args.held.now body line) same (ends_with_block c.args.held.now body line l _ c.in-EndsBlock.field-0
     (step_is c.args.held.now body line l (c.args.held.now.before + c.args.held.now.line) _ _ _ _ _ c.begun_at-begun.ensures c.deref.ensures.value c.line_kind-kind.ensures c.after_line.ensures c.in-EndsBlock.is)
     _ kept.block))

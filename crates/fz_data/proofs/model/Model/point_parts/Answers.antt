@@ -5,6 +5,8 @@ use Rattle.fz_meaning.specs.Meaning.Point.{ArrayPoint, ConstraintPoint}
 use Rattle.fz_data.specs.Kinds.{PostedFits}
 use Rattle.fz_data.specs.Layout.{model_view}
 use Rattle.fz_data.specs.Parts.{posted_view}
+use Rattle.fz_data.specs.Readings.{readings_or, kept_readings}
+use Rattle.fz_data.proofs.Sheets.{reads_or}
 use Rattle.fz_data.proofs.Points.{how_many, how_many_rows, row_in_place, kinds_in_place, point_posted, domain_at, definition_is, no_definition, elements_at}
 use Rattle.fz_data.proofs.model.Model.point_parts.Goals as goal
 
@@ -23,6 +25,18 @@ pub index-requires : goal.index-requires
 index-requires c =
     let all = ap (λ m. length (points m)) (sym c.self.view_is) ∙ how_many c.self.inside c.self.invariant in
     omega (arith, all, c.requires.in_range, c.len-then-number-len.ensures, c.len.ensures, c.if-number-len.true)
+
+pub invariant_of-result : goal.invariant_of-result
+invariant_of-result c =
+    let m = c.self.inside in
+    let p = c.index.result.now in
+    let all = ap (λ z. length (points z)) (sym c.self.view_is) ∙ how_many m c.self.invariant in
+    let lt : c.args.number - c.len-then-number-len.result < length m.constraints.items = omega (arith, all, c.requires.in_range, c.len-then-number-len.ensures, c.len.ensures, c.if-number-len.true) in
+    record {
+      reads = subst (λ xs. readings_or xs c.laid_at.result (kept_readings xs p) ≡ kept_readings xs p) (sym c.deref-then-number-len.ensures.value)
+          (reads_or m.arrays.items m.constraints.items m.known.items m.sheets (c.args.number - c.len-then-number-len.result) p c.self.invariant.sheets
+          (slice_get_read m.constraints.items _ _ _ refl lt c.index.ensures) c.laid_at.result c.laid_at.ensures.reads);
+    }
 
 pub returns-then-number-len : goal.returns-then-number-len
 returns-then-number-len c =

@@ -2,9 +2,9 @@ use Rattle.std.proofs.Common.{◌++◌, ◌∷◌, [], None, Option, length, map
 use Rattle.std.proofs.lemmas.List.{map_more, length-map, take_all}
 use Rattle.fz_base.specs.declared.value.Value.{Value}
 use Rattle.fz_meaning.specs.Meaning.{Variable, variables_of}
-use Rattle.fz_data.specs.Partial.{IsTabled, number_in, truth_in}
+use Rattle.fz_data.specs.Partial.{IsTabled, number_in, truth_in, unset_count}
 use Rattle.fz_data.specs.Parts.{variable_view, no_variable}
-use Rattle.fz_data.proofs.Tabled.{none_tabled}
+use Rattle.fz_data.proofs.Tabled.{all_unset, none_tabled}
 use Rattle.fz_data.proofs.partial.Partial.new.Goals as goal
 
 nothing : Variable → Option Value
@@ -36,4 +36,5 @@ invariant_of-result c =
           (subst₂ (λ ns bs. IsTabled (map nothing (variables_of c.args.model.now)) ns bs c.in_ok-given.given.items) (sym c.in_ok-numbers.ensures) (sym c.in_ok-truths.ensures)
           (subst (λ gs. IsTabled (map nothing (variables_of c.args.model.now)) (replicate (length c.variables-count.result.now) (number_in None)) (replicate (length c.variables-count.result.now) (truth_in None)) gs)
           (sym c.in_ok-given.ensures) tabled)),
+      sym (ap unset_count all ∙ all_unset (variables_of c.args.model.now) ∙ count),
     )

@@ -2,7 +2,7 @@ use Rattle.std.proofs.Common.{sym, ap, option_map, is_some}
 use Rattle.fz_stream.specs.Lending.{part_of}
 use Rattle.fz_live.specs.Reading.{ReaderState}
 use Rattle.fz_live.proofs.AdvanceLemmas.{lent_last}
-use Rattle.fz_live.proofs.reader.PartReader.part.Goals as goal
+use Rattle.fz_live.proofs.reader.PartReader.lend.Goals as goal
 
 pub returns-in-Ok-Some-clause-given : goal.returns-in-Ok-Some-clause-given
 returns-in-Ok-Some-clause-given c =

@@ -8,7 +8,7 @@ use Rattle.fz_stream.specs.Inside.{waiting_of}
 use Rattle.fz_stream.specs.Parts.{StreamPart, BlockPart, IsBlockText}
 use Rattle.fz_stream.specs.Splitting.{SplitterState, WaitingBlock, Lends, IsPartOfItems}
 use Rattle.fz_stream.proofs.TakenLemmas.{given, given_at_end}
-use Rattle.fz_stream.proofs.splitter.Splitter.take.Goals as goal
+use Rattle.fz_stream.proofs.splitter.Splitter.lend.Goals as goal
 
 pub returns-in-Ok : goal.returns-in-Ok
 returns-in-Ok c =
