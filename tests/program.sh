@@ -122,6 +122,22 @@ END
 printf '%s\n----------\n' 'x = 1;' 'x = 2;' 'x = 1;' >"$folder/rivals.out"
 expect 'two that give one variable' 1 $'block 1: satisfied\nblock 2: violated: constraint 2 int_times\nblock 3: satisfied\nrejected: block 2' '' \
   "$program" check "$folder/rivals.fzn" "$folder/rivals.out"
+# Nothing of one block is seen in the next: values that only the block before gives, and declarations of all kinds.
+cat >"$folder/again.fzn" <<'END'
+var 0..9: x;
+var {1, 4, 6}: y;
+var set of 0..5: s;
+var bool: b;
+var int: z = x;
+array [1..2] of var 0..7: a = [x, y];
+constraint int_le(x, y);
+constraint set_in(x, s);
+solve satisfy;
+END
+printf '%s\n----------\n' $'x = 3;\ny = 4;\ns = {1,3};\nb = true;\nz = 3;' $'x = 3;\ny = 4;\nb = true;' $'x = 3;\ny = 5;\ns = {3,4};\nb = false;' $'x = 9;\ny = 6;\ns = 0..5;\nb = false;' \
+  $'x = 5;\ny = 6;\ns = 0..5;\nb = false;\nz = 4;' $'x = 5;\ny = 6;\ns = 4..9;\nb = true;' $'x = 4;\ny = 6;\ns = {4};\nb = true;' 'y = 4;' >"$folder/again.out"
+expect 'values of the block before' 1 $'block 1: satisfied\nblock 2: undecided: no value for s\nblock 3: violated: domain of y\nblock 4: violated: domain of a\nblock 5: violated: definition of z\nblock 6: violated: domain of s\nblock 7: satisfied\nblock 8: undecided: no value for x\nrejected: block 3' '' \
+  "$program" check "$folder/again.fzn" "$folder/again.out"
 mkfifo "$folder/pipe"
 "$program" check examples/first.fzn <"$folder/pipe" >"$folder/lines" 2>&1 &
 exec 7>"$folder/pipe"
