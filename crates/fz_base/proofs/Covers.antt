@@ -213,7 +213,7 @@ covered_fits x rs o c =
 
 -- ---- ranges that cover one number alone
 
-in_first : (r : Range) (rs : List Range) (x : ℤ) → r.lo ≤ℤ x → x ≤ℤ r.hi → covers (r ∷ rs) x ≡ true
+pub in_first : (r : Range) (rs : List Range) (x : ℤ) → r.lo ≤ℤ x → x ≤ℤ r.hi → covers (r ∷ rs) x ≡ true
 in_first r rs x low high = ap (λ b. b || covers rs x) (between_yes r.lo r.hi x low high)
 
 in_later : (r : Range) (rs : List Range) (x : ℤ) → covers rs x ≡ true → covers (r ∷ rs) x ≡ true

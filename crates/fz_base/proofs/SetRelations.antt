@@ -1,18 +1,18 @@
 -- From what ranges cover to the sets of their numbers.
-use Rattle.std.proofs.Common.{◌≡◌, ℤ, ◌≤ℤ◌, Bool, true, false, not, ◌&&◌, ◌||◌, ◌↔◌, List, Option, Some, None, IfSome, IfNone, refl, sym, ap, ◌∙◌}
+use Rattle.std.proofs.Common.{◌≡◌, ℤ, ◌≤ℤ◌, Bool, true, ◌↔◌, List, Option, Some, None, IfSome, IfNone, sym, ap, ◌∙◌}
 use Rattle.std.specs.List.{list_any}
 use Rattle.std.specs.List.Sorted.{IsPermutation}
 use Rattle.std.specs.Ordering.{int_eq}
 use Rattle.std.proofs.lemmas.List.Sorted.{list_any-IsPermutation}
 use Rattle.std.specs.Cmp.{int_cmp_total, both_ways}
 use Rattle.std.specs.FinSet.{contains, from_list, contains-from_list, union, intersection, difference, is_subset, contains-union, contains-intersection, contains-difference, is_subset-contains, contains-is_subset}
-use Rattle.std.proofs.lemmas.Bool.{false≢true}
 use Rattle.fz_base.specs.declared.ranges.Range.{Range}
 use Rattle.fz_base.specs.declared.ranges.Rule.{Rule}
 use Rattle.fz_base.specs.declared.ranges.Rule.TheVariants.{Union, Intersect, Minus, Symdiff}
 use Rattle.fz_base.specs.Sets.{NumberSet, numbers_between, symmetric_difference, LiesWithin, IsOnly}
-use Rattle.fz_base.specs.Ranges.{numbers_of, CoversOnly, covers, is_between, keeps}
+use Rattle.fz_base.specs.Ranges.{lowest, numbers_of, AreInOrder, CoversOnly, LiesIn, covers, is_between, keeps}
 use Rattle.fz_base.proofs.Numbers.{contains-numbers_of, contains-numbers_between, contains-symmetric_difference, same_numbers}
+use Rattle.fz_base.proofs.Unique.{same_ranges}
 
 -- ranges that cover the numbers of a set
 pub seen : (s : NumberSet) (rs : List Range) → numbers_of rs ≡ s → (x : ℤ) → covers rs x ≡ contains s x
@@ -29,25 +29,6 @@ pub listed_made : (numbers sorted : List ℤ) (out : List Range) → IsPermutati
 listed_made numbers sorted out moved is =
     made out (from_list numbers) (λ x. is x ∙ sym (list_any-IsPermutation (int_eq x) numbers sorted moved) ∙ sym (contains-from_list int_cmp_total numbers x))
 
-in_both : (p q : Bool) → (p && not q) ≡ false → p ≡ true → q ≡ true
-in_both true true e h = refl
-in_both true false e h = sym e
-in_both false q e h = absurd (false≢true h)
-
-in_no_other : (p q : Bool) → (p ≡ true → q ≡ true) → (p && not q) ≡ false
-in_no_other true q h = ap not (h refl)
-in_no_other false q h = refl
-
-alike : (p q : Bool) → ((p && not q) || (q && not p)) ≡ false → p ≡ q
-alike true true e = refl
-alike true false e = e
-alike false true e = sym e
-alike false false e = refl
-
-not_apart : (p : Bool) → ((p && not p) || (p && not p)) ≡ false
-not_apart true = refl
-not_apart false = refl
-
 module _ (s t : NumberSet) (a b : List Range) (is_a : (x : ℤ) → covers a x ≡ contains s x) (is_b : (x : ℤ) → covers b x ≡ contains t x) where
   pub union_made : (out : List Range) → ((x : ℤ) → covers out x ≡ keeps Union (covers a x) (covers b x)) → numbers_of out ≡ union s t
   union_made out kept = made out (union s t) (λ x. kept x ∙ rw (is_a x, is_b x) (sym (contains-union int_cmp_total s t x)))
@@ -61,16 +42,16 @@ module _ (s t : NumberSet) (a b : List Range) (is_a : (x : ℤ) → covers a x �
   pub symmetric_difference_made : (out : List Range) → ((x : ℤ) → covers out x ≡ keeps Symdiff (covers a x) (covers b x)) → numbers_of out ≡ symmetric_difference s t
   symmetric_difference_made out kept = made out (symmetric_difference s t) (λ x. kept x ∙ rw (is_a x, is_b x) (sym (contains-symmetric_difference s t x)))
 
-  pub is_subset_is : (r : Bool) → (r ≡ true ↔ ((x : ℤ) → keeps Minus (covers a x) (covers b x) ≡ false)) → r ≡ is_subset s t
+  pub is_subset_is : (r : Bool) → (r ≡ true ↔ LiesIn a b) → r ≡ is_subset s t
   is_subset_is r h =
       both_ways r (is_subset s t)
-      (λ e. contains-is_subset int_cmp_total s t (λ x in_s. sym (is_b x) ∙ in_both (covers a x) (covers b x) (h.0 e x) (is_a x ∙ in_s)))
-      (λ e. h.1 (λ x. in_no_other (covers a x) (covers b x) (λ in_a. is_b x ∙ is_subset-contains int_cmp_total s t e x (sym (is_a x) ∙ in_a))))
+      (λ e. contains-is_subset int_cmp_total s t (λ x in_s. sym (is_b x) ∙ h.0 e x (is_a x ∙ in_s)))
+      (λ e. h.1 (λ x in_a. is_b x ∙ is_subset-contains int_cmp_total s t e x (sym (is_a x) ∙ in_a)))
 
-  pub equals_is : (r : Bool) → (r ≡ true ↔ ((x : ℤ) → keeps Symdiff (covers a x) (covers b x) ≡ false)) → (r ≡ true ↔ (s ≡ t))
-  equals_is r h = (
-    λ e. same_numbers s t (λ x. sym (is_a x) ∙ alike (covers a x) (covers b x) (h.0 e x) ∙ is_b x),
-    λ e. h.1 (λ x. rw (is_a x, is_b x, e) (not_apart (contains t x))),
+  pub equals_is : AreInOrder lowest a → AreInOrder lowest b → (r : Bool) → (r ≡ true ↔ (a ≡ b)) → (r ≡ true ↔ (s ≡ t))
+  equals_is order_a order_b r h = (
+    λ e. same_numbers s t (λ x. sym (is_a x) ∙ ap (λ rs. covers rs x) (h.0 e) ∙ is_b x),
+    λ e. h.1 (same_ranges lowest lowest a b order_a order_b (λ x. is_a x ∙ ap (λ u. contains u x) e ∙ sym (is_b x))),
   )
 
   -- a set of which ranges cover what the rule keeps is the one that has just that

@@ -1,5 +1,5 @@
 -- Whether what ranges cover is covered by others, one range after another.
-use Rattle.std.proofs.Common.{◌≡◌, ℤ, pos, ◌+ℤ◌, ◌≤ℤ◌, ◌<ℤ◌, Bool, true, false, not, ◌&&◌, ◌||◌, List, [], ◌∷◌, length, get_or, drop, ◌<◌, FitsSigned, w64, refl, sym, ap, ◌∙◌, inl, inr, arith}
+use Rattle.std.proofs.Common.{◌≡◌, ℤ, pos, ◌+ℤ◌, ◌≤ℤ◌, ◌<ℤ◌, true, false, ◌||◌, List, [], ◌∷◌, length, get_or, drop, ◌<◌, FitsSigned, w64, refl, sym, ap, ◌∙◌, inl, inr, arith}
 use Rattle.std.specs.Prelude.{◌↔◌}
 use Rattle.std.proofs.lemmas.Bool.{true≢false}
 use Rattle.std.proofs.lemmas.Int.{ints}
@@ -105,17 +105,3 @@ module _ (ss left : List Range) where
       → (((x : ℤ) → (get_or rs 0 d).lo ≤ℤ x → x ≤ℤ (get_or rs 0 d).hi → covers left x ≡ true) → ⊥) → LiesIn rs ss → ⊥
   lies_not_in [] d some alike missing whole = absurd (omega arith)
   lies_not_in (r ∷ rs) d some alike missing whole = missing (λ x h k. alike x h ∙ whole x (first_covered r rs x h k))
-
--- ---- nothing of the one is left without the other
-
-minus_none : (a b : Bool) → (a ≡ true → b ≡ true) → (a && not b) ≡ false
-minus_none true b h = ap not (h refl)
-minus_none false b h = refl
-
-none_minus : (a b : Bool) → (a && not b) ≡ false → a ≡ true → b ≡ true
-none_minus true true h e = refl
-none_minus true false h e = absurd (true≢false h)
-none_minus false b h e = absurd (true≢false (sym e))
-
-pub minus_is : (a b : List Range) → (LiesIn a b ↔ ((x : ℤ) → (covers a x && not (covers b x)) ≡ false))
-minus_is a b = (λ h x. minus_none (covers a x) (covers b x) (h x), λ h x. none_minus (covers a x) (covers b x) (h x))

@@ -9,6 +9,7 @@
 mod ranges;
 mod sets;
 mod span;
+mod storage;
 #[cfg(test)]
 mod tests;
 mod value;

@@ -1,5 +1,6 @@
 // Ranges of whole numbers in order, as the sets of this crate are kept. Each function goes over its
-// ranges once; a set relation or operation walks two lists side by side, stretch by stretch.
+// ranges once; a set operation walks two lists side by side, stretch by stretch. Whether one set lies in
+// another, and whether two are equal, is told from whole ranges.
 ghost use Rattle.std.specs.Prelude.{◌≡◌, ◌≤◌, ◌^◌, ℤ, ◌≤ℤ◌, ◌<ℤ◌, ◌+◌, ◌↔◌, ◌||◌, false, true, IsTrue, IfNone, IfOk, IfSome, OnOk, pos, ◌+ℤ◌, ◌-ℤ◌, ◌&&◌};
 ghost use Rattle.std.specs.List.{sum_by, list_any};
 ghost use Rattle.std.specs.Ordering.{int_cmp, int_eq};
@@ -235,7 +236,7 @@ fn have_all(ranges: &[Range], lo: i64, hi: i64) -> bool
 }
 
 /// Whether each number of the one is in the other.
-fn are_covered(a: &[Range], b: &[Range]) -> bool
+pub fn are_covered(a: &[Range], b: &[Range]) -> bool
     requires a_in_order { AreInOrder lowest a.now }
     requires b_in_order { AreInOrder lowest b.now }
     ensures { IsTrue result ↔ LiesIn a.now b.now }
@@ -256,41 +257,26 @@ fn are_covered(a: &[Range], b: &[Range]) -> bool
     }
 }
 
-/// Whether the rule keeps nothing of two sets. Of what is in the one and not in the other it is told from whole ranges.
-pub fn keeps_nothing(a: &[Range], b: &[Range], rule: Rule) -> bool
-    requires a_in_order { AreInOrder lowest a.now }
-    requires b_in_order { AreInOrder lowest b.now }
-    ensures { IsTrue result ↔ ((x : ℤ) → keeps rule (covers a.now x) (covers b.now x) ≡ false) }
+/// Whether two ranges have the same ends.
+fn is_same(a: Range, b: Range) -> bool
+    ensures { IsTrue result ↔ (a ≡ b) }
 {
-    match rule {
-        Rule::Minus => are_covered(a, b),
-        Rule::Union => nothing_kept(a, b, rule),
-        Rule::Intersect => nothing_kept(a, b, rule),
-        Rule::Symdiff => nothing_kept(a, b, rule),
-    }
+    a.lo == b.lo && a.hi == b.hi
 }
 
-/// Whether the rule keeps nothing of two sets, stretch by stretch.
-fn nothing_kept(a: &[Range], b: &[Range], rule: Rule) -> bool
-    requires a_in_order { AreInOrder lowest a.now }
-    requires b_in_order { AreInOrder lowest b.now }
-    ensures { IsTrue result ↔ ((x : ℤ) → keeps rule (covers a.now x) (covers b.now x) ≡ false) }
+/// Whether two lists have the same ranges. Of lists in order that is so just where they cover the same numbers.
+pub fn are_same(a: &[Range], b: &[Range]) -> bool
+    ensures { IsTrue result ↔ (a.now ≡ b.now) }
 {
-    let mut at = i64::MIN;
-    let mut rest_a = a;
-    let mut rest_b = b;
-    'walk: loop {
-        let (in_a, in_b, end) = shared_stretch(rest_a, rest_b, at);
-        if keeps(rule, in_a, in_b) {
+    if a.len() != b.len() {
+        return false;
+    }
+    for place in 0..a.len() {
+        if !is_same(a[place], b[place]) {
             return false;
         }
-        if end == i64::MAX {
-            return true;
-        }
-        rest_a = past(rest_a, end);
-        rest_b = past(rest_b, end);
-        at = end + 1;
     }
+    true
 }
 
 /// What `stretch` gives of three lists, up to the nearest end.

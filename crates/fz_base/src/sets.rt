@@ -5,6 +5,7 @@ ghost use Rattle.fz_base.specs.Ranges.{lowest, numbers_of, AreInOrder};
 ghost use Rattle.fz_base.specs.Sets.{numbers_between, symmetric_difference, LiesWithin, Has64Bits, IsOnly};
 
 use crate::ranges::{self, Range, Rule};
+use crate::storage::{self, Storage};
 use std::alloc::{AllocError, Global};
 use std::marker::Model;
 use thiserror::Error;
@@ -26,7 +27,7 @@ impl From<AllocError> for SetError {
 /// a table of values is small.
 #[derive(Debug, Drop)]
 pub struct IntSet {
-    ranges: Box<Vec<Range>>,
+    ranges: Box<Storage>,
 }
 
 impl Model for IntSet {
@@ -39,10 +40,11 @@ impl Model for IntSet {
     ghost coded = { code coded_ℤ };
 
     ghost use Rattle.fz_base.specs.Ranges.{lowest, numbers_of, AreInOrder};
+    ghost use Rattle.fz_base.specs.Storage.{stored, HasPlaces};
 
-    ghost view = { λ s. numbers_of s.ranges.value.items };
+    ghost view = { λ s. numbers_of (stored s.ranges.value) };
 
-    ghost invariant = { λ s. AreInOrder lowest s.ranges.value.items };
+    ghost invariant = { λ s. HasPlaces s.ranges.value × AreInOrder lowest (stored s.ranges.value) };
 }
 
 /// The set of the numbers that ranges in order cover.
@@ -51,17 +53,18 @@ fn of_ranges(alloc: Global, ranges: Vec<Range>) -> Result<IntSet, AllocError>
     ensures { IfOk result (λ s. s ≡ numbers_of ranges.items) }
 {
     Ok(IntSet {
-        ranges: Box::new(alloc, ranges)?,
+        ranges: Box::new(alloc, storage::store(ranges))?,
     })
 }
 
 impl IntSet {
     /// The ranges that the set is kept as.
+    #[inline(always)]
     fn kept(&self) -> &[Range]
         ensures in_order { AreInOrder lowest result.now }
         ensures same { numbers_of result.now ≡ self.now }
     {
-        &self.ranges
+        self.ranges.ranges()
     }
 }
 
@@ -114,14 +117,14 @@ impl IntSet {
     pub fn is_subset(&self, other: &IntSet) -> bool
         ensures { result ≡ set.is_subset self.now other.now }
     {
-        ranges::keeps_nothing(self.kept(), other.kept(), Rule::Minus)
+        ranges::are_covered(self.kept(), other.kept())
     }
 
     /// Whether the two sets have the same numbers, in one pass over both.
     pub fn equals(&self, other: &IntSet) -> bool
         ensures { IsTrue result ↔ (self.now ≡ other.now) }
     {
-        ranges::keeps_nothing(self.kept(), other.kept(), Rule::Symdiff)
+        ranges::are_same(self.kept(), other.kept())
     }
 
     /// Whether each number of the set is from `lo` to `hi`, both included.

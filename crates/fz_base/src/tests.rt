@@ -72,6 +72,30 @@ fn sets_of_any_size(rt: HostRuntime) -> Result<(), Fail> {
     Ok(())
 }
 
+/// Numbers of which no two are neighbours: a set of the first of them has as many ranges as numbers.
+const APART: [i64; 6] = [1, 3, 5, 7, 9, 11];
+
+/// Whether the set of the listed numbers has these and no other, and its copy too, and whether a further number makes it another set
+/// until it is taken away again.
+fn keeps_numbers(alloc: Global, listed: &[i64]) -> Result<bool, SetError> {
+    let set = IntSet::list(alloc, listed)?;
+    let copy = set.copy(alloc)?;
+    let further = IntSet::list(alloc, &[99])?;
+    let more = set.union(alloc, &further)?;
+    let back = more.minus(alloc, &further)?;
+    let same = has_exactly(&set, listed) && has_exactly(&copy, listed);
+    Ok(same && copy.equals(&set) && !more.equals(&set) && more.contains(99) && back.equals(&set))
+}
+
+#[test]
+fn sets_of_few_and_of_many_ranges(rt: HostRuntime) -> Result<(), Fail> {
+    let alloc = rt.alloc();
+    for count in 0..7 {
+        assert!(rt; keeps_numbers(alloc, &APART[..count])?, "{count}");
+    }
+    Ok(())
+}
+
 /// What the sets of `agrees_with_sorted_lists` are made of: neighbours, gaps and both ends.
 const UNIVERSE: [i64; 6] = [i64::MIN, -1, 0, 1, 3, i64::MAX];
 

@@ -4,6 +4,7 @@ use Rattle.std.proofs.Common.{◌≡◌, ℕ, List, map, Option, Some, refl, sym
 use Rattle.fz_syntax.specs.Text.{IsTextOfTree}
 use Rattle.fz_syntax.specs.View.{bare}
 use Rattle.fz_syntax.specs.declared.tree.Ast as the_ast
+use Rattle.fz_syntax.specs.SyntaxError.{SyntaxError}
 use Rattle.fz_stream.specs.declared.error.StreamError.{StreamError}
 use Rattle.fz_model.specs.Meaning.{Model, IsPartial}
 use Rattle.fz_model.specs.Names.{HasNoFault, model_of}
@@ -97,6 +98,13 @@ module _ (model : List ℕ) (a : the_ast.Ast) (m : Model) (text : IsTextOfTree m
     }
 
 -- ---- which error was met
+
+pub told_model : (e : LiveError) (told : SyntaxError) → live_refusal e ≡ errors.Model told → ⊥
+told_model live.Read told h = cc
+told_model live.Write told h = cc
+told_model (live.Stream f) told h = cc
+told_model (live.Block n f) told h = cc
+told_model live.Memory told h = cc
 
 pub told_names : (e : LiveError) (told : ModelError) → live_refusal e ≡ errors.Names told → ⊥
 told_names live.Read told h = cc

@@ -23,8 +23,8 @@ use Rattle.fz_data.specs.declared.sheet.Line.{Line}
 use Rattle.fz_data.specs.declared.sheet.Sheet.{Sheet}
 use Rattle.fz_data.specs.declared.sheet.Sheets.{Sheets}
 use Rattle.fz_data.specs.Readings.{Reading, place_term, slot_term, laid_reading, kept_reading, kept_readings}
-use Rattle.fz_data.specs.Sheets.{RowRead, laid_line, kept_line, Covers, IsGrown, IsSlotOf, IsLaidBy, AreSlotsOf, AreLaidBy, IsSheetOf, IsLonger, IsAdded, AreSheetsOf}
-use Rattle.fz_data.proofs.Sheets.{one_longer, still_fits, still_within, nothing_laid}
+use Rattle.fz_data.specs.Sheets.{RowRead, laid_line, kept_line, Covers, IsGrown, IsSlotOf, IsLaidBy, AreSlotsOf, AreLaidBy, IsSheetOf, IsLonger, IsAdded, AreSheetsOf, AreTargetsOf, IsDefiningOf, target_at}
+use Rattle.fz_data.proofs.Sheets.{one_longer, still_fits, still_defines, still_within, last_there, nothing_on, nothing_laid}
 
 -- ---- lists that grow
 
@@ -46,12 +46,6 @@ taken_behind old behind new more n grown long =
     ∙ ap (λ zs. take (length behind) (drop (length old) zs)) (behind_too old new behind more grown)
     ∙ ap (take (length behind)) (drop-append_seam old (behind ++ more))
     ∙ take-append_seam behind more
-
-at_seam : {A : Type 0} (xs : List A) (x : A) (more : List A) (n : ℕ) → length xs ≡ n → slice_get ((xs ++ x ∷ []) ++ more) n ≡ Some x
-at_seam [] x more zero e = refl
-at_seam [] x more (suc n) e = absurd (omega arith)
-at_seam (y ∷ xs) x more zero e = absurd (omega arith)
-at_seam (y ∷ xs) x more (suc n) e = at_seam xs x more n (omega arith)
 
 as_long : {A B C : Type 0} (f : A → C) (g : B → C) (xs : List A) (ys : List B) → map f xs ≡ map g ys → length xs ≡ length ys
 as_long f g xs ys e = sym (length-map xs f) ∙ ap length e ∙ length-map ys g
@@ -155,26 +149,45 @@ module _ (xs : List Array) (ps : List Posted) (ks : List (Option Known)) (before
       let d = behind_too before.laid.items after.laid.items laid.0 ml laid.1 in
       (λ j. map (laid_line xs (a j) (b j) (d j)) before.lines.items) ∙ h (constants.0 ++ mc) (slots.0 ++ ms) (laid.0 ++ ml) mp mk
 
-longer_fits : (xs : List Array) (ps : List Posted) (ks : List (Option Known)) (before after : Sheet) → IsLonger before after → IsSheetOf xs ps ks before → IsSheetOf xs ps ks after
+pub longer_fits : (xs : List Array) (ps : List Posted) (ks : List (Option Known)) (before after : Sheet) → IsLonger before after → IsSheetOf xs ps ks before → IsSheetOf xs ps ks after
 longer_fits xs ps ks before after longer h mc ms ml mp mk =
     ap (map (laid_line xs (after.constants.items ++ mc) (after.slots.items ++ ms) (after.laid.items ++ ml))) longer.lines
     ∙ reads_still xs ps ks before after longer.constants longer.slots longer.laid h mc ms ml mp mk
     ∙ ap (map (kept_line xs (ps ++ mp) (ks ++ mk))) (sym longer.lines)
 
-module _ (xs : List Array) (ps : List Posted) (ks : List (Option Known)) (p : Posted) (known : Known) (n : ℕ) (next : length ps ≡ n) (even : length ks ≡ n) (before after : Sheet) (added : IsAdded xs before after n known p.arguments.items) where
-  added_fits : IsSheetOf xs ps ks before → IsSheetOf xs (ps ++ p ∷ []) (ks ++ Some known ∷ []) after
-  added_fits h mc ms ml mp mk =
+-- what is there is still there with more behind
+there_too : {A : Type 0} (xs : List A) (x : A) (more : List A) (n : ℕ) → slice_get xs n ≡ Some x → slice_get (xs ++ more) n ≡ Some x
+there_too [] x more n e = cc
+there_too (y ∷ xs) x more zero e = e
+there_too (y ∷ xs) x more (suc n) e = there_too xs x more n e
+
+module _ (xs : List Array) (ps : List Posted) (ks : List (Option Known)) (p : Posted) (n : ℕ) (here : slice_get ps n ≡ Some p) (before after : Sheet) where
+  pub line_added : (known : Known) → slice_get ks n ≡ Some (Some known) → IsAdded xs before after n known p.arguments.items → IsSheetOf xs ps ks before → IsSheetOf xs ps ks after
+  line_added known of_row added h mc ms ml mp mk =
       let (l, lines, number, row, reads) = added.line in
-      let at : l.number ≡ n = number in
+      let at : n ≡ l.number = sym number in
       let laid : Line → RowRead = laid_line xs (after.constants.items ++ mc) (after.slots.items ++ ms) (after.laid.items ++ ml) in
-      let kept : Line → RowRead = kept_line xs ((ps ++ p ∷ []) ++ mp) ((ks ++ Some known ∷ []) ++ mk) in
-      let first : map laid before.lines.items ≡ map kept before.lines.items =
-      reads_still xs (ps ++ p ∷ []) (ks ++ Some known ∷ []) before after added.constants added.slots added.laid (still_fits xs ps ks p (Some known) before h) mc ms ml mp mk in
-      let posted : slice_get ((ps ++ p ∷ []) ++ mp) l.number ≡ Some p = at_seam ps p mp l.number (next ∙ sym at) in
-      let fits : slice_get ((ks ++ Some known ∷ []) ++ mk) l.number ≡ Some (Some known) = at_seam ks (Some known) mk l.number (even ∙ sym at) in
-      let here : kept l ≡ (Some known, kept_readings xs p) = λ j. (option_and_then (λ k. k) (fits j), option_map_or (kept_readings xs) (posted j) []) in
-      let last : laid l ≡ kept l = reads mc ms ml ∙ sym here in
+      let kept : Line → RowRead = kept_line xs (ps ++ mp) (ks ++ mk) in
+      let first : map laid before.lines.items ≡ map kept before.lines.items = reads_still xs ps ks before after added.constants added.slots added.laid h mc ms ml mp mk in
+      let posted : slice_get (ps ++ mp) l.number ≡ Some p = there_too ps p mp l.number (subst (λ m. slice_get ps m ≡ Some p) at here) in
+      let fits : slice_get (ks ++ mk) l.number ≡ Some (Some known) = there_too ks (Some known) mk l.number (subst (λ m. slice_get ks m ≡ Some (Some known)) at of_row) in
+      let read : kept l ≡ (Some known, kept_readings xs p) = λ j. (option_and_then (λ k. k) (fits j), option_map_or (kept_readings xs) (posted j) []) in
+      let last : laid l ≡ kept l = reads mc ms ml ∙ sym read in
       ap (map laid) lines ∙ map-append laid before.lines.items (l ∷ []) ∙ (λ j. first j ++ last j ∷ []) ∙ sym (ap (map kept) lines ∙ map-append kept before.lines.items (l ∷ []))
+
+-- a constraint that defines a variable, with it
+pub target_added : (ps : List Posted) (p : Posted) (n t : ℕ) → slice_get ps n ≡ Some p → p.target ≡ Some t → (before after : List Line) (l : Line) → after ≡ before ++ l ∷ [] → l.number ≡ n → (ts new : List ℕ) → new ≡ ts ++ t ∷ [] → AreTargetsOf ps before ts → AreTargetsOf ps after new
+target_added ps p n t here aims before after l lines number ts new grew h mp =
+    let aimed : Line → Option ℕ = λ l. target_at (ps ++ mp) l.number in
+    let posted : slice_get (ps ++ mp) l.number ≡ Some p = there_too ps p mp l.number (subst (λ m. slice_get ps m ≡ Some p) (sym number) here) in
+    let first : map aimed before ≡ map Some ts = h mp in
+    let last : aimed l ≡ Some t = ap (option_and_then (λ p. p.target)) posted ∙ aims in
+    ap (map aimed) lines ∙ map-append aimed before (l ∷ []) ∙ (λ j. first j ++ last j ∷ []) ∙ sym (ap (map Some) grew ∙ map-append Some ts (t ∷ []))
+
+added_fits : (xs : List Array) (ps : List Posted) (ks : List (Option Known)) (p : Posted) (known : Known) (n : ℕ) → length ps ≡ n → length ks ≡ n → (before after : Sheet) → IsAdded xs before after n known p.arguments.items → IsSheetOf xs ps ks before
+    → IsSheetOf xs (ps ++ p ∷ []) (ks ++ Some known ∷ []) after
+added_fits xs ps ks p known n next even before after added h =
+    line_added xs (ps ++ p ∷ []) (ks ++ Some known ∷ []) p n (last_there ps p n next) before after known (last_there ks (Some known) n even) added (still_fits xs ps ks p (Some known) before h)
 
 -- ---- one sheet of several
 
@@ -210,7 +223,7 @@ module _ (f : ℕ → Bool) (before after : Sheet) (more : List Line) (lines : a
       let (old, new) = passed ss i (omega arith) at (and_second (passes_on f s) _ e) in
       (both _ _ (and_first (passes_on f s) _ e) old, new)
 
-module _ (xs : List Array) (ps : List Posted) (ks : List (Option Known)) (p : Posted) (known : Known) (n i : ℕ) (before after : Sheets) (s t : Sheet) (within : i < length before.sheets.items) (at : s ≡ get_or before.sheets.items i s) (sheets : after.sheets.items ≡ slice_set before.sheets.items i t) (rest : after.rest.items ≡ before.rest.items) where
+module _ (xs : List Array) (ps : List Posted) (ks : List (Option Known)) (p : Posted) (known : Known) (n i : ℕ) (before after : Sheets) (s t : Sheet) (within : i < length before.sheets.items) (at : s ≡ get_or before.sheets.items i s) (sheets : after.sheets.items ≡ slice_set before.sheets.items i t) (rest : after.rest.items ≡ before.rest.items) (as_before : after.defining ≡ before.defining) where
   -- a constraint stands on its sheet
   pub sheet_added : length ps ≡ n → length ks ≡ n → IsAdded xs s t n known p.arguments.items → AreSheetsOf xs ps ks before → AreSheetsOf xs (ps ++ p ∷ []) (ks ++ Some known ∷ []) after
   sheet_added next even added h = record {
@@ -218,6 +231,7 @@ module _ (xs : List Array) (ps : List Posted) (ks : List (Option Known)) (p : Po
         (all_set (IsSheetOf xs ps ks) (IsSheetOf xs (ps ++ p ∷ []) (ks ++ Some known ∷ [])) s t (still_fits xs ps ks p (Some known)) (added_fits xs ps ks p known n next even s t added) before.sheets.items i within at h.sheets);
     covers = covers h.covers;
     within = subst (AllByRecursion (λ m. m < length (ps ++ p ∷ []))) (sym rest) (still_within before.rest.items (length ps) _ (one_longer ps p) h.within);
+    defining = subst (IsDefiningOf xs (ps ++ p ∷ []) (ks ++ Some known ∷ [])) (sym as_before) (still_defines xs ps ks p (Some known) before.defining h.defining);
   }
     where
       less : (m : ℕ) → m < length (ps ++ p ∷ []) → (m ≡ length ps → ⊥) → m < length ps
@@ -234,7 +248,8 @@ module _ (xs : List Array) (ps : List Posted) (ks : List (Option Known)) (p : Po
             | false ↦ λ e. old f (ap (list_all f) (sym rest) ∙ of_rest) was m (less m lt (eqb-false m (length ps) e))
           ]) refl
 
-  -- it doesn't, and nothing that stood there is lost
+-- it doesn't, and nothing that stood there is lost
+module _ (xs : List Array) (ps : List Posted) (ks : List (Option Known)) (i : ℕ) (before after : Sheets) (s t : Sheet) (within : i < length before.sheets.items) (at : s ≡ get_or before.sheets.items i s) (sheets : after.sheets.items ≡ slice_set before.sheets.items i t) (rest : after.rest.items ≡ before.rest.items) (as_before : after.defining ≡ before.defining) where
   pub sheet_longer : IsLonger s t → AreSheetsOf xs ps ks before → AreSheetsOf xs ps ks after
   sheet_longer longer h = record {
     sheets = subst (AllByRecursion (IsSheetOf xs ps ks)) (sym sheets) (all_set (IsSheetOf xs ps ks) (IsSheetOf xs ps ks) s t (λ s h. h) (longer_fits xs ps ks s t longer) before.sheets.items i within at h.sheets);
@@ -242,26 +257,28 @@ module _ (xs : List Array) (ps : List Posted) (ks : List (Option Known)) (p : Po
         let (was, none) = passed f s t [] (longer.lines ∙ sym (append-nil s.lines.items)) before.sheets.items i within at (ap (list_all (passes_on f)) (sym sheets) ∙ on) in
         h.covers f (ap (list_all f) (sym rest) ∙ of_rest) was m lt;
     within = subst (AllByRecursion (λ m. m < length ps)) (sym rest) h.within;
+    defining = subst (IsDefiningOf xs ps ks) (sym as_before) h.defining;
   }
 
 -- the same of what adding to a sheet gave
-module _ {E : Type 0} (r : Result Bool E) (p : Posted) (row : Option Known) (known : Known) (is_row : row ≡ Some known) (n i : ℕ) (before after : Sheets) (s t : Sheet) (within : i < length before.sheets.items) (at : s ≡ get_or before.sheets.items i s) (sheets : after.sheets.items ≡ slice_set before.sheets.items i t) (rest : after.rest.items ≡ before.rest.items) where
+module _ {E : Type 0} (r : Result Bool E) (p : Posted) (row : Option Known) (known : Known) (is_row : row ≡ Some known) (n i : ℕ) (before after : Sheets) (s t : Sheet) (within : i < length before.sheets.items) (at : s ≡ get_or before.sheets.items i s) (sheets : after.sheets.items ≡ slice_set before.sheets.items i t) (rest : after.rest.items ≡ before.rest.items) (as_before : after.defining ≡ before.defining) where
   pub added_if : (qs : List Argument) → qs ≡ p.arguments.items → IfOk r (λ b. IsTrue b → (xs : List Array) → IsAdded xs s t n known qs)
       → IfOk r (λ b. IsTrue b → (xs : List Array) (ps : List Posted) (ks : List (Option Known)) → length ps ≡ n → length ks ≡ n → AreSheetsOf xs ps ks before → AreSheetsOf xs (ps ++ p ∷ []) (ks ++ row ∷ []) after)
   added_if qs held = IfOk-weaker r (λ b. IsTrue b → (xs : List Array) → IsAdded xs s t n known qs) (λ b. IsTrue b → (xs : List Array) (ps : List Posted) (ks : List (Option Known)) → length ps ≡ n → length ks ≡ n → AreSheetsOf xs ps ks before → AreSheetsOf xs (ps ++ p ∷ []) (ks ++ row ∷ []) after)
       (λ b added is xs ps ks next even h.
       subst (λ o. AreSheetsOf xs (ps ++ p ∷ []) (ks ++ o ∷ []) after) (sym is_row)
-      (sheet_added xs ps ks p known n i before after s t within at sheets rest next even (subst (IsAdded xs s t n known) held (added is xs)) h))
+      (sheet_added xs ps ks p known n i before after s t within at sheets rest as_before next even (subst (IsAdded xs s t n known) held (added is xs)) h))
 
   pub longer_if : IfOk r (λ b. IsFalse b → IsLonger s t) → IfOk r (λ b. IsFalse b → (xs : List Array) (ps : List Posted) (ks : List (Option Known)) → AreSheetsOf xs ps ks before → AreSheetsOf xs ps ks after)
   longer_if = IfOk-weaker r (λ b. IsFalse b → IsLonger s t) (λ b. IsFalse b → (xs : List Array) (ps : List Posted) (ks : List (Option Known)) → AreSheetsOf xs ps ks before → AreSheetsOf xs ps ks after)
-      (λ b longer is xs ps ks h. sheet_longer xs ps ks p known n i before after s t within at sheets rest (longer is) h)
+      (λ b longer is xs ps ks h. sheet_longer xs ps ks i before after s t within at sheets rest as_before (longer is) h)
 
 -- ---- no constraint
 
-pub none_there : (xs : List Array) (s : Sheets) → AllByRecursion (λ s. s.lines.items ≡ []) s.sheets.items → s.rest.items ≡ [] → AreSheetsOf xs [] [] s
-none_there xs s none rest = record {
+pub none_there : (xs : List Array) (s : Sheets) → AllByRecursion (λ s. s.lines.items ≡ []) s.sheets.items → s.rest.items ≡ [] → s.defining.sheet.lines.items ≡ [] → s.defining.targets.items ≡ [] → AreSheetsOf xs [] [] s
+none_there xs s none rest defining targets = record {
   sheets = nothing_laid xs s.sheets.items none;
   covers = λ f of_rest on m lt. absurd (omega arith);
   within = subst (AllByRecursion (λ m. m < 0)) (sym rest) tt;
+  defining = record { fits = nothing_on xs s.defining.sheet defining; targets = λ mp. ap (map (λ l. target_at mp l.number)) defining ∙ sym (ap (map Some) targets) };
 }

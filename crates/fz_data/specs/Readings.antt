@@ -57,5 +57,10 @@ abbrev pub readings_or : List Array → Option LaidParts → List Reading → Li
 readings_or xs None rs = rs
 readings_or xs (Some p) rs = laid_readings xs p
 
+-- the variable that a constraint defines, as it was looked up with the arguments, or else as it is kept
+abbrev pub target_or : Option LaidParts → Option ℕ → Option ℕ
+target_or None kept = kept
+target_or (Some p) kept = option_map_or Some p.target kept
+
 abbrev pub kept_readings : List Array → Posted → List Reading
 kept_readings xs p = map (kept_reading xs) p.arguments.items

@@ -13,6 +13,7 @@ use Rattle.fz_data.specs.declared.sheet.Slot.{Slot}
 use Rattle.fz_data.specs.declared.sheet.Laid.{Laid}
 use Rattle.fz_data.specs.declared.sheet.Line.{Line}
 use Rattle.fz_data.specs.declared.sheet.Sheet.{Sheet}
+use Rattle.fz_data.specs.declared.sheet.Defining.{Defining}
 use Rattle.fz_data.specs.declared.sheet.Sheets.{Sheets}
 use Rattle.fz_data.specs.Readings.{Reading, place_term, kept_reading, kept_readings, slot_term, laid_reading}
 
@@ -93,8 +94,26 @@ pub record IsAdded (xs : List Array) (before after : Sheet) (number : ℕ) (know
   pub laid : IsGrown before.laid.items after.laid.items
   pub line : (l : Line) × (after.lines.items ≡ before.lines.items ++ l ∷ []) × (l.number ≡ number) × (l.known ≡ known) × ((mc : List Value) (ms : List Slot) (ml : List Laid) → laid_line xs (after.constants.items ++ mc) (after.slots.items ++ ms) (after.laid.items ++ ml) l ≡ (Some known, map (kept_reading xs) as'))
 
--- the sheets and the rest hold these constraints, with these rows
+-- ---- the constraints that define a variable
+
+-- the variable that the constraint of a number defines
+abbrev pub target_at : List Posted → ℕ → Option ℕ
+target_at ps n = option_and_then (λ p. p.target) (slice_get ps n)
+
+-- each line has its target: the variable that its constraint defines, whatever more constraints come
+abbrev pub AreTargetsOf : List Posted → List Line → List ℕ → Type 0
+AreTargetsOf ps ls ts = (mp : List Posted) → map (λ l. target_at (ps ++ mp) l.number) ls ≡ map Some ts
+
+-- each line reads as its constraint, and has its target
+pub record IsDefiningOf (xs : List Array) (ps : List Posted) (ks : List (Option Known)) (d : Defining) : Type 0 where
+  pub fits : IsSheetOf xs ps ks d.sheet
+  pub targets : AreTargetsOf ps d.sheet.lines.items d.targets.items
+
+-- ---- all
+
+-- the sheets and the rest hold these constraints, with these rows, and each line of the sheet of those that define a variable is one of them
 pub record AreSheetsOf (xs : List Array) (ps : List Posted) (ks : List (Option Known)) (s : Sheets) : Type 0 where
   pub sheets : AllByRecursion (IsSheetOf xs ps ks) s.sheets.items
   pub covers : Covers s.rest.items s.sheets.items (length ps)
   pub within : AllByRecursion (λ n. n < length ps) s.rest.items
+  pub defining : IsDefiningOf xs ps ks s.defining

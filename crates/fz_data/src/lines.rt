@@ -5,12 +5,12 @@ ghost use Rattle.fz_table.specs.declared.known.Known.{Known as Row};
 ghost use Rattle.fz_data.specs.declared.parts.Array.{Array as HeldArray};
 ghost use Rattle.fz_data.specs.declared.parts.Posted.{Posted as HeldPosted};
 ghost use Rattle.fz_data.specs.Laying.{IsPartsOf};
-ghost use Rattle.fz_data.specs.Readings.{kept_readings, laid_readings};
+ghost use Rattle.fz_data.specs.Readings.{kept_readings, laid_readings, target_or};
 ghost use Rattle.fz_data.specs.Sheets.{AreSheetsOf, known_at, lines_of};
 
 use crate::laying::Laying;
 use crate::point::{ConstraintParts, LaidParts};
-use crate::sheet::{Sheets, sheet_of};
+use crate::sheet::Sheets;
 use fz_table::Known;
 
 /// So many items from a place on, as far as there are.
@@ -28,13 +28,25 @@ pub fn part<T>(items: &[T], first: usize, count: usize) -> &[T]
     &tail[..count]
 }
 
+/// The target at a place.
+#[inline(always)]
+fn target_at(targets: &[u32], place: usize) -> Option<usize>
+    ensures { result ≡ slice_get targets.now place }
+{
+    match targets.get(place) {
+        Some(target) => Some(*target as usize),
+        None => None,
+    }
+}
+
 impl Sheets {
-    /// The arguments of the constraint of a number, from 0, as they stand on the sheet of its row, where they do.
+    /// The arguments of the constraint of a number, from 0, as they stand among those that define a variable, where they do, and that variable.
     #[inline(always)]
-    pub(crate) fn laid_at(&self, number: usize, row: Option<Known>) -> Option<LaidParts<'_>>
+    pub(crate) fn laid_at(&self, number: usize) -> Option<LaidParts<'_>>
         ensures reads { IfSome result (λ l. (xs : List HeldArray) (ps : List HeldPosted) (ks : List (Option Row)) (p : HeldPosted) → AreSheetsOf xs ps ks self.now → slice_get ps number ≡ Some p → laid_readings xs l ≡ kept_readings xs p) }
+        ensures target { IfSome result (λ l. (xs : List HeldArray) (ps : List HeldPosted) (ks : List (Option Row)) (p : HeldPosted) → AreSheetsOf xs ps ks self.now → slice_get ps number ≡ Some p → target_or (Some l) p.target ≡ p.target) }
     {
-        let sheet = self.sheets.get(sheet_of(row?))?;
+        let sheet = &self.defining.sheet;
         let place = *self.places.get(number)?;
         let line = sheet.lines.get(place as usize)?;
         // only its own line tells of it
@@ -45,6 +57,7 @@ impl Sheets {
             arguments: part(&sheet.laid, line.first as usize, line.count as usize),
             slots: &sheet.slots,
             constants: &sheet.constants,
+            target: target_at(&self.defining.targets, place as usize),
         })
     }
 }
@@ -94,6 +107,7 @@ impl<'m, 'a> Laying<'m, 'a> {
                 arguments: part(&sheet.laid, line.first as usize, line.count as usize),
                 slots: &sheet.slots,
                 constants: &sheet.constants,
+                target: None,
             }),
         }
     }

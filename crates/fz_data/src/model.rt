@@ -34,7 +34,7 @@ pub struct Model<'a> {
     /// the row of the table that each constraint fits, in their order
     known: Vec<Option<Known>>,
     goal: Goal,
-    /// the constraints by their rows
+    /// the constraints by their rows, and those that define a variable in their order
     sheets: Sheets,
 }
 
@@ -152,7 +152,7 @@ impl<'a> Model<'a> {
                 variables: &self.variables,
                 arrays: &self.arrays,
                 known,
-                laid: self.sheets.laid_at(place, known),
+                laid: self.sheets.laid_at(place),
             });
         }
         match self.points[number] {

@@ -9,6 +9,7 @@ use crate::model::Model;
 use fz_base::{IntSet, Value};
 use fz_meaning::Term;
 use std::alloc::{AllocError, Global};
+use std::mem;
 
 /// Values of some of a model's scalar variables, by their numbers. A contract sees the list of all variables' values, each there
 /// or not.
@@ -104,6 +105,14 @@ fn forget(values: &mut [Option<Value>])
     }
 }
 
+/// Puts a value where none is. What lies there needn't be read to be dropped, so nobody waits for it.
+#[inline(always)]
+fn put(place: &mut Option<Value>, value: Value)
+    ensures there { place.new ≡ Some value }
+{
+    mem::forget(mem::replace(place, Some(value)));
+}
+
 impl Partial {
     /// No variable has a value. It makes the room for a value of every variable; it refuses only where memory runs out.
     pub fn new(alloc: Global, model: &Model<'_>) -> Result<Partial, AllocError>
@@ -191,7 +200,7 @@ impl Partial {
         self.numbers[number] = number_of(&value);
         self.truths[number] = truth_of(&value);
         self.given[number] = true;
-        self.values[number] = Some(value);
+        put(&mut self.values[number], value);
     }
 
     /// Takes every value away, and keeps the room. It takes no memory.

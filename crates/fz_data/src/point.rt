@@ -3,7 +3,7 @@
 ghost use Rattle.std.specs.Prelude.{◌≡◌};
 ghost use Rattle.std.specs.Coded.{codes};
 ghost use Rattle.fz_base.specs.contracts.sets.IntSet as the_set;
-ghost use Rattle.fz_data.specs.Readings.{kept_readings, readings_or};
+ghost use Rattle.fz_data.specs.Readings.{kept_readings, readings_or, target_or};
 
 use crate::parts::{Array, Posted, Variable};
 use crate::sheet::{Laid, Slot};
@@ -31,14 +31,33 @@ pub struct ConstraintParts<'m, 'a> {
     /// its arguments as they stand on a sheet, where they were looked up there
     pub laid: Option<LaidParts<'m>>,
     ghost reads: { readings_or arrays.now laid (kept_readings arrays.now posted.now) ≡ kept_readings arrays.now posted.now } by { Prim.hlevel (codes, the_set.the_row.coded) },
+    ghost aims: { target_or laid posted.now.target ≡ posted.now.target } by { Prim.hlevel codes },
 }
 
-/// The arguments of a constraint on a sheet, with the sheet's slots and constants.
+impl<'m, 'a> ConstraintParts<'m, 'a> {
+    /// The number of the variable that the constraint defines. Where its arguments were looked up on a sheet, that is mostly known from
+    /// there, and the constraint itself isn't read.
+    #[inline(always)]
+    pub fn target(&self) -> Option<usize>
+        ensures defined { result ≡ self.now.posted.now.target }
+    {
+        let Some(laid) = self.laid else {
+            return self.posted.target;
+        };
+        match laid.target {
+            Some(target) => Some(target),
+            None => self.posted.target,
+        }
+    }
+}
+
+/// The arguments of a constraint on a sheet, with the sheet's slots and constants, and the variable that it defines, where the sheet tells it.
 #[derive(Clone, Copy)]
 pub struct LaidParts<'m> {
     pub arguments: &'m [Laid],
     pub slots: &'m [Slot],
     pub constants: &'m [Value],
+    pub target: Option<usize>,
 }
 
 /// A point with its parts: a variable with its number, its definition, an array's name, domain and elements, or a constraint.

@@ -1,13 +1,14 @@
 //! Constraints side by side: those of a row of the table of builtins stand on one sheet, so that who looks at all of them goes through memory
-//! in its order, and does the same for one after another.
+//! in its order, and does the same for one after another. Those that define a variable stand on one sheet more, in their order, since steps
+//! that are forced go over them so.
 
-ghost use Rattle.std.specs.Prelude.{◌≡◌, ◌++◌, ◌∷◌, [], IfOk, IfSome, IsFalse, IsTrue, List, OnOk, Option, ℕ, length};
+ghost use Rattle.std.specs.Prelude.{◌≡◌, ◌++◌, ◌∷◌, [], IfOk, IfSome, IsFalse, IsTrue, List, OnOk, Option, Some, ℕ, length, slice_get};
 ghost use Rattle.fz_base.specs.declared.value.Value.TheVariants.{Int};
 ghost use Rattle.fz_meaning.specs.declared.term.Term.TheVariants.{Fixed};
 ghost use Rattle.fz_table.specs.declared.known.Known.{Known as Row};
 ghost use Rattle.fz_data.specs.declared.parts.Array.{Array as HeldArray};
 ghost use Rattle.fz_data.specs.declared.parts.Posted.{Posted as HeldPosted};
-ghost use Rattle.fz_data.specs.Sheets.{AreLaidBy, AreSheetsOf, AreSlotsOf, IsAdded, IsGrown, IsLaidBy, IsLonger, IsSlotOf};
+ghost use Rattle.fz_data.specs.Sheets.{AreLaidBy, AreSheetsOf, AreSlotsOf, IsAdded, IsDefiningOf, IsGrown, IsLaidBy, IsLonger, IsSlotOf};
 
 use crate::parts::{Argument, Place, Posted};
 use fz_base::Value;
@@ -153,6 +154,9 @@ fn lay_argument(
     }
 }
 
+/// The place of a constraint that doesn't stand among those that define a variable.
+const NOWHERE: u32 = u32::MAX;
+
 impl Sheet {
     /// Nothing stands on it.
     pub(crate) fn new(alloc: Global) -> Sheet
@@ -214,12 +218,62 @@ impl Sheet {
     }
 }
 
-/// The sheets, and the numbers of the constraints that stand on none.
+/// The constraints that define a variable, in their order, on a sheet, and the variable of each.
+#[derive(Drop)]
+pub(crate) struct Defining {
+    pub(crate) sheet: Sheet,
+    pub(crate) targets: Vec<u32>,
+}
+
+impl Defining {
+    /// No constraint stands there.
+    fn new(alloc: Global) -> Defining
+        ensures empty { result.sheet.lines.items ≡ [] }
+        ensures none { result.targets.items ≡ [] }
+    {
+        Defining {
+            sheet: Sheet::new(alloc),
+            targets: Vec::new(alloc),
+        }
+    }
+
+    /// Puts a constraint behind the others, where it defines a variable, has a row and can be laid. Tells the place of its line, or one
+    /// where none stands.
+    fn add(
+        &mut self,
+        alloc: Global,
+        number: usize,
+        row: Option<Known>,
+        posted: &Posted<'_>,
+    ) -> Result<u32, AllocError>
+        ensures laid { OnOk result ((xs : List HeldArray) (ps : List HeldPosted) (ks : List (Option Row)) → slice_get ps number ≡ Some posted.now → slice_get ks number ≡ Some row → IsDefiningOf xs ps ks self.old → IsDefiningOf xs ps ks self.new) }
+    {
+        let Some(target) = posted.target else {
+            return Ok(NOWHERE);
+        };
+        let Some(target) = small(target) else {
+            return Ok(NOWHERE);
+        };
+        let Some(known) = row else {
+            return Ok(NOWHERE);
+        };
+        let place = small(self.sheet.lines.len()).unwrap_or(NOWHERE);
+        if !self.sheet.add(alloc, number, known, &posted.arguments)? {
+            return Ok(NOWHERE);
+        }
+        self.targets.push(target)?;
+        Ok(place)
+    }
+}
+
+/// The sheets of the rows, the numbers of the constraints that stand on none of them, and the sheet of the constraints that define a variable.
 #[derive(Drop)]
 pub(crate) struct Sheets {
     pub(crate) sheets: Vec<Sheet>,
     pub(crate) rest: Vec<usize>,
-    /// where the line of each constraint should stand on its row's sheet, in their order: who looks there sees whose line it is
+    /// the constraints with a row that define a variable, in their order
+    pub(crate) defining: Defining,
+    /// where the line of each constraint should stand among those that define a variable, in their order: who looks there sees whose line it is
     pub(crate) places: Vec<u32>,
 }
 
@@ -228,9 +282,11 @@ const SHEETS: usize = 128;
 
 /// The sheet of a row.
 #[inline]
-pub(crate) fn sheet_of(known: Known) -> usize {
+fn sheet_of(known: Known) -> usize {
     let base = known.builtin as u8 as usize * 2;
-    if known.reified { base + 1 } else { base }
+    let place = if known.reified { base + 1 } else { base };
+    // The rows over sets are the table's last. They come first here, while sets that were just read for their domains are near.
+    (SHEETS - 1).saturating_sub(place)
 }
 
 impl Sheets {
@@ -245,14 +301,9 @@ impl Sheets {
         Ok(Sheets {
             sheets,
             rest: Vec::new(alloc),
+            defining: Defining::new(alloc),
             places: Vec::new(alloc),
         })
-    }
-
-    /// Where the next line of the sheet of a row will stand.
-    fn next_line(&self, row: Option<Known>) -> Option<u32> {
-        let sheet = self.sheets.get(sheet_of(row?))?;
-        small(sheet.lines.len())
     }
 
     /// Puts a constraint on the sheet of its row, where it has one and can be laid there.
@@ -278,6 +329,23 @@ impl Sheets {
     }
 
     /// Puts a constraint, whose number, from 0, is that of those before it, on its row's sheet, or among the rest.
+    fn stand(
+        &mut self,
+        alloc: Global,
+        number: usize,
+        row: Option<Known>,
+        posted: &Posted<'_>,
+    ) -> Result<(), AllocError>
+        ensures added { OnOk result ((xs : List HeldArray) (ps : List HeldPosted) (ks : List (Option Row)) → length ps ≡ number → length ks ≡ number → AreSheetsOf xs ps ks self.old → AreSheetsOf xs (ps ++ posted.now ∷ []) (ks ++ row ∷ []) self.new) }
+    {
+        if !self.lay(alloc, number, row, posted)? {
+            self.rest.push(number)?;
+        }
+        Ok(())
+    }
+
+    /// Puts a constraint, whose number, from 0, is that of those before it, on its row's sheet, or among the rest, and among those that define
+    /// a variable, where it does.
     pub(crate) fn add(
         &mut self,
         alloc: Global,
@@ -287,11 +355,9 @@ impl Sheets {
     ) -> Result<(), AllocError>
         ensures added { OnOk result ((xs : List HeldArray) (ps : List HeldPosted) (ks : List (Option Row)) → length ps ≡ number → length ks ≡ number → AreSheetsOf xs ps ks self.old → AreSheetsOf xs (ps ++ posted.now ∷ []) (ks ++ row ∷ []) self.new) }
     {
-        let place = self.next_line(row).unwrap_or(u32::MAX);
+        self.stand(alloc, number, row, posted)?;
+        let place = self.defining.add(alloc, number, row, posted)?;
         self.places.push(place)?;
-        if !self.lay(alloc, number, row, posted)? {
-            self.rest.push(number)?;
-        }
         Ok(())
     }
 }

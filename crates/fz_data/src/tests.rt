@@ -195,32 +195,32 @@ fn lists_points(rt: HostRuntime) -> Result<(), Fail> {
     Ok(())
 }
 
-/// Whether the point of a number is a constraint that was looked up on its sheet, with so many arguments.
-fn is_laid(model: &Model<'_>, point: usize, count: usize) -> bool {
+/// Of the constraint that the point of a number is: whether it was looked up on a sheet, and how many arguments are read.
+fn read(model: &Model<'_>, point: usize) -> Option<(bool, usize)> {
     if point >= model.points() {
-        return false;
+        return None;
     }
     match model.point_parts(point) {
         PointParts::Constraint(parts) => match parts.laid {
-            Some(laid) => laid.arguments.len() == count,
-            None => false,
+            Some(laid) => Some((true, laid.arguments.len())),
+            None => Some((false, parts.posted.arguments.len())),
         },
-        _ => false,
+        _ => None,
     }
 }
 
 const SIDE_BY_SIDE: &[u8] =
-    b"var int: x; constraint int_le(x, 1); constraint int_plus(x, 2, 4); constraint int_le(3, x); constraint p(x); constraint int_le(x, x); solve satisfy;";
+    b"var int: x; constraint int_le(x, 1); constraint int_plus(x, 2, 4) :: defines_var(x); constraint int_le(3, x); constraint p(x) :: defines_var(x); constraint int_le(x, x) :: defines_var(x); solve satisfy;";
 
 #[test]
 fn finds_lines(rt: HostRuntime) -> Result<(), Fail> {
     let model = loaded(rt.alloc(), SIDE_BY_SIDE)?;
     assert_eq!(rt; model.points(), 6);
-    assert!(rt; is_laid(&model, 1, 2));
-    assert!(rt; is_laid(&model, 2, 3));
-    assert!(rt; is_laid(&model, 3, 2));
-    assert!(rt; !is_laid(&model, 4, 1));
-    assert!(rt; is_laid(&model, 5, 2));
+    assert_eq!(rt; read(&model, 1), Some((false, 2)));
+    assert_eq!(rt; read(&model, 2), Some((true, 3)));
+    assert_eq!(rt; read(&model, 3), Some((false, 2)));
+    assert_eq!(rt; read(&model, 4), Some((false, 1)));
+    assert_eq!(rt; read(&model, 5), Some((true, 2)));
     Ok(())
 }
 

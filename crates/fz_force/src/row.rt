@@ -36,7 +36,7 @@ pub(crate) fn by_row(
     requires kinds { IfSome parts.known (λ k. each_fits partial.now (known_row k).shapes (posted_view parts.variables.now parts.arrays.now parts.posted.now).arguments ≡ true) }
     ensures forced { (m : Meaning) → IsPartial m partial.now → PostedFits m (posted_view parts.entry.variables.now parts.entry.arrays.now parts.entry.posted.now) → IfOk result (λ o. IsForced m partial.now (ConstraintPoint parts.entry.number (posted_view parts.entry.variables.now parts.entry.arrays.now parts.entry.posted.now)) o) }
 {
-    let Some(target) = parts.posted.target else {
+    let Some(target) = parts.target() else {
         return Ok(None);
     };
     let Some(known) = parts.known else {

@@ -7,11 +7,11 @@ ghost use Rattle.fz_lex.specs.Lexing.{SpannedToken, AreInOrder, LexesToSpanned};
 ghost use Rattle.fz_lex.specs.View.{spanned, IsSpelledAtSpan, IsLexicalFault, IsPlacedWithin};
 ghost use Rattle.fz_lex.specs.Ahead.{tokens_ahead};
 ghost use Rattle.fz_lex.specs.Found.{IsScanned, IsScanFault};
-ghost use Rattle.fz_lex.specs.Left.{left, listed_token, listed_comma, source_of};
+ghost use Rattle.fz_lex.specs.Left.{left, listed_comma, source_of};
 
 use crate::error::SyntaxError;
 use crate::lexer::{Lexer, MOST_BYTES};
-use crate::token::{Token, TokenKind};
+use crate::token::Token;
 use fz_base::Span;
 
 /// Tells whether a text consists of tokens, blanks and comments, by the rules of `lex`. It takes no memory.
@@ -48,11 +48,10 @@ pub struct Tokens<'a> {
     first: Option<Token<'a>>,
 }
 
-/// A whole number, where it stands, and where the comma stands right behind it.
+/// A token, and where the comma stands right behind it.
 #[derive(Clone, Copy, Debug)]
-pub struct ListedWhole {
-    pub value: i64,
-    pub span: Span,
+pub struct Listed<'a> {
+    pub token: Token<'a>,
     pub comma: Span,
 }
 
@@ -92,25 +91,18 @@ impl<'a> Tokens<'a> {
         }
     }
 
-    /// Takes a whole number and the comma behind it, where these are the first two tokens that are left and nothing
-    /// stands between them. Most numbers of a list are such, and are read at once so.
+    /// Takes the first token that is left and the comma behind it, where nothing stands between them. Most elements of
+    /// a list are such tokens, and are read at once so.
     #[inline(always)]
-    pub fn take_listed(&mut self) -> Option<ListedWhole>
-        ensures taken { IfSome result (λ w. left self.old ≡ listed_token w ∷ (listed_comma w ∷ left self.new)) }
+    pub fn take_listed(&mut self) -> Option<Listed<'a>>
+        ensures taken { IfSome result (λ l. left self.old ≡ spanned l.token ∷ (listed_comma l ∷ left self.new)) }
         ensures kept { IfNone result (self.new ≡ self.old) }
         ensures source { source_of self.new ≡ source_of self.old }
     {
-        let first = self.first?;
-        let TokenKind::Whole(value) = first.kind else {
-            return None;
-        };
+        let token = self.first?;
         let comma = self.lexer.eat_comma()?;
-        self.load();
-        Some(ListedWhole {
-            value,
-            span: first.span,
-            comma,
-        })
+        self.load_listed();
+        Some(Listed { token, comma })
     }
 
     /// Reads on to the end of the text, and tells whether the whole text consists of tokens, blanks and comments,
@@ -134,5 +126,18 @@ impl<'a> Tokens<'a> {
         ensures source { source_of self.new ≡ source_of self.old }
     {
         self.first = self.lexer.next_token().unwrap_or(None);
+    }
+
+    /// Loads the next token inside a list, where most tokens are short numbers with nothing before them: such a one is
+    /// read right here, and every other token by a call.
+    #[inline(always)]
+    fn load_listed(&mut self)
+        ensures left { left self.new ≡ tokens_ahead self.old.lexer.source.now self.old.lexer.place }
+        ensures source { source_of self.new ≡ source_of self.old }
+    {
+        match self.lexer.eat_short() {
+            Some(token) => self.first = Some(token),
+            None => self.load(),
+        }
     }
 }

@@ -1,6 +1,6 @@
 //! Goes over a source token by token, and lists its tokens.
 
-ghost use Rattle.std.specs.Prelude.{◌≡◌, ◌≢◌, ◌+◌, ◌<◌, ◌≤◌, ◌∷◌, [], IfSome, IfNone, List, length, slice_index, IsFalse, IfOk, IfErr, OnErr, MatchResult};
+ghost use Rattle.std.specs.Prelude.{◌≡◌, ◌≢◌, ◌+◌, ◌<◌, ◌≤◌, ◌∷◌, [], Some, IfSome, IfNone, List, length, slice_index, IsFalse, IfOk, IfErr, OnErr, MatchResult};
 ghost use Rattle.fz_lex.specs.Byte as bytes_spec;
 ghost use Rattle.fz_lex.specs.Limits.{most_bytes, LexesWithinLimits};
 ghost use Rattle.fz_lex.specs.Lexing.{SpannedToken, CutBetween, AreInOrder};
@@ -9,8 +9,8 @@ ghost use Rattle.fz_lex.specs.Ahead.{comma_at, tokens_ahead, stop_ahead};
 ghost use Rattle.fz_lex.specs.Found.{NextFrom, FaultFrom, IsLexed};
 
 use crate::error::SyntaxError;
-use crate::scanner::{Front, comment_len, is_blank, read_front};
-use crate::token::Token;
+use crate::scanner::{Front, comment_len, is_blank, read_front, short_whole};
+use crate::token::{Token, TokenKind};
 use fz_base::Span;
 use std::alloc::Global;
 
@@ -69,6 +69,25 @@ impl<'a> Lexer<'a> {
         let end = start + 1;
         self.place = end;
         Some(Span { start, end })
+    }
+
+    /// Goes on behind a short whole number that stands right here, and gives it as a token.
+    #[inline(always)]
+    pub(crate) fn eat_short(&mut self) -> Option<Token<'a>>
+        ensures source { self.new.source.now ≡ self.old.source.now }
+        ensures token { IfSome result (λ t. NextFrom self.old.source.now self.old.place self.new.place (Some t)) }
+        ensures kept { IfNone result (self.new ≡ self.old) }
+    {
+        let source = self.source;
+        let start = self.place;
+        let whole = short_whole(&source[start..])?;
+        let end = start + whole.len;
+        self.place = end;
+        Some(Token {
+            kind: TokenKind::Whole(whole.value),
+            span: Span { start, end },
+            text: &source[start..end],
+        })
     }
 
     /// The next token, or none at the end of the text. After an error the lexer is where it was.

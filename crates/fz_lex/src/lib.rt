@@ -8,7 +8,7 @@ mod scanner;
 mod token;
 mod word;
 
-pub use ahead::{ListedWhole, Tokens, check_tokens};
+pub use ahead::{Listed, Tokens, check_tokens};
 pub use error::SyntaxError;
 pub use lexer::{MOST_BYTES, lex};
 pub use token::{Mark, Token, TokenKind};

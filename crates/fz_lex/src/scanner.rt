@@ -356,14 +356,14 @@ fn lone_mark(byte: u8) -> Option<Mark>
 
 /// A whole number within the limit and the length of its text.
 #[derive(Drop)]
-struct WholeFront {
-    value: i64,
-    len: usize,
+pub(crate) struct WholeFront {
+    pub(crate) value: i64,
+    pub(crate) len: usize,
 }
 
 /// The whole number at the front, where one stands there and is a short one.
 #[inline(always)]
-fn short_whole(bytes: &[u8]) -> Option<WholeFront>
+pub(crate) fn short_whole(bytes: &[u8]) -> Option<WholeFront>
     ensures { IfSome result (λ w. (scan.front_of bytes.now ≡ scan.found (Whole w.value) w.len) × IsWithinLimit w.value) }
 {
     match byte_at(bytes, 0) {

@@ -11,7 +11,7 @@ use Rattle.fz_syntax.specs.Shape.{Limits}
 use Rattle.fz_syntax.specs.Reading.{Read, Reader, is_mark, next_is, next_passes, many_at, after_token, separated_at, any_number, note_at, notes_at}
 use Rattle.fz_syntax.specs.Outcome.{Fails}
 use Rattle.fz_syntax.proofs.Lists.{Shrinks, with_front, loop_step, loop_fails, loop_ends}
-use Rattle.fz_syntax.proofs.Separated.{separated_starts, marked_step, marked_fails, marked_ends, Taken, fails_like}
+use Rattle.fz_syntax.proofs.Separated.{separated_starts, separated_fails, marked_step, marked_fails, marked_ends, Taken, fails_like}
 
 -- The parts so far, and those that are still read, each behind the mark, are all of them.
 pub record Continues {A : Type 0} (m : Mark) (part : ℕ → Reader A) (front : List A) (tokens : List TokenValue) (all : Read (List A)) : Type 0 where
@@ -64,11 +64,32 @@ pub awaits_fails : {A : Type 0} (e : Refusal) (m : Mark) (part : ℕ → Reader 
     → Awaits m part front after all → Fails e (part i after) left → Fails e all left
 awaits_fails e m part front after left all i at a h = stops e m part front a.before after left all i at true refl (sym a.marked) a.taken a.so_far h
 
--- the part is read, and the mark behind it is taken
-pub awaits_more : {A : Type 0} (m : Mark) (part : ℕ → Reader A) → Shrinks part → (front items : List A) (after : List TokenValue) (x : A) (rest : List TokenValue) (all : Read (List A)) → (i : ℕ) → i ≡ length front → items ≡ front ++ x ∷ [] → next_is m rest ≡ true
-    → part i after ≡ Ok (x, rest) → Awaits m part front after all → Awaits m part items (drop 1 rest) all
-awaits_more m part shrinks front items after x rest all i at grew marked found a =
-    record { before = rest; marked = marked; taken = sym (ap (λ b. cond b (drop 1 rest) rest) marked); so_far = awaits_part m part shrinks front items after x rest all i at grew found a }
+-- The parts so far, and those that are still read, of which the next is an element: none is there yet, or the comma was
+-- taken behind which the next one stands.
+pub data Wants {A : Type 0} (element : ℕ → Reader A) (front : List A) (tokens : List TokenValue) (all : Read (List A)) : Type 0 where
+  wants_first : front ≡ [] → separated_at element tokens ≡ all → Wants element front tokens all
+  wants_next : Awaits Comma element front tokens all → Wants element front tokens all
+
+-- the element is read
+pub wants_part : {A : Type 0} (element : ℕ → Reader A) → Shrinks element → (front items : List A) (after : List TokenValue) (x : A) (rest : List TokenValue) (all : Read (List A)) → (i : ℕ) → i ≡ length front → items ≡ front ++ x ∷ []
+    → element i after ≡ Ok (x, rest) → Wants element front after all → Continues Comma element items rest all
+wants_part {A} element shrinks front items after x rest all i at grew found (wants_first none begins) =
+    let first : element 0 after ≡ Ok (x, rest) = ap (λ n. element n after) (sym (ap (λ (xs : List A). length xs) none) ∙ sym at) ∙ found in
+    subst (λ r. Continues Comma element items rest r) begins (separated_init element after x rest front items none grew first)
+wants_part element shrinks front items after x rest all i at grew found (wants_next a) = awaits_part Comma element shrinks front items after x rest all i at grew found a
+
+pub wants_fails : {A : Type 0} (e : Refusal) (element : ℕ → Reader A) (front : List A) (after left : List TokenValue) (all : Read (List A)) (i : ℕ) → i ≡ length front
+    → Wants element front after all → Fails e (element i after) left → Fails e all left
+wants_fails {A} e element front after left all i at (wants_first none begins) h =
+    let zeroth : i ≡ 0 = at ∙ ap (λ (xs : List A). length xs) none in
+    subst (λ r. Fails e r left) begins (separated_fails e element after left (subst (λ n. Fails e (element n after) left) zeroth h))
+wants_fails e element front after left all i at (wants_next a) h = awaits_fails e Comma element front after left all i at a h
+
+-- the element is read, and the comma behind it is taken
+pub wants_more : {A : Type 0} (element : ℕ → Reader A) → Shrinks element → (front items : List A) (after : List TokenValue) (x : A) (rest : List TokenValue) (all : Read (List A)) → (i : ℕ) → i ≡ length front → items ≡ front ++ x ∷ [] → next_is Comma rest ≡ true
+    → element i after ≡ Ok (x, rest) → Wants element front after all → Wants element items (drop 1 rest) all
+wants_more element shrinks front items after x rest all i at grew marked found w =
+    wants_next (record { before = rest; marked = marked; taken = sym (ap (λ b. cond b (drop 1 rest) rest) marked); so_far = wants_part element shrinks front items after x rest all i at grew found w })
 
 pub length_seen : {A B : Type 0} (view : A → B) (xs : List A) → length xs ≡ length (map view xs)
 length_seen view [] = refl

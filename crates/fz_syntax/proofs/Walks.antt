@@ -9,8 +9,8 @@ use Rattle.std.proofs.lemmas.List.Concat.{flat_map-cons}
 use Rattle.std.proofs.lemmas.Grind.{flat_map-append}
 use Rattle.fz_lex.specs.Token.{Spells}
 use Rattle.fz_lex.specs.Lexing.{SpannedToken, AreInOrder}
-use Rattle.fz_lex.specs.Left.{listed_token, listed_comma, source_of}
-use Rattle.fz_lex.specs.declared.ahead.ListedWhole.{ListedWhole}
+use Rattle.fz_lex.specs.Left.{listed_comma, source_of}
+use Rattle.fz_lex.specs.declared.ahead.Listed.{Listed}
 use Rattle.fz_lex.specs.View.{token_value, spanned, IsSpelledAtSpan}
 use Rattle.fz_lex.specs.declared.token.TokenKind.{TokenKind}
 use Rattle.fz_lex.specs.declared.token.TokenKind.TheVariants as kinds
@@ -23,7 +23,7 @@ use Rattle.fz_syntax.specs.declared.tree.Name.{Name}
 use Rattle.fz_syntax.specs.declared.tree.NoteArg.{NoteArg}
 use Rattle.fz_syntax.specs.declared.tree.NoteBasic.{NoteBasic}
 use Rattle.fz_syntax.specs.Spots.{Spot, Stand, literal_spots, name_spot, name_spots, arg_spots, note_basic_spots}
-use Rattle.fz_syntax.specs.Walk.{IsLaidOut, Walk, Began, ahead, start_of}
+use Rattle.fz_syntax.specs.Walk.{IsLaidOut, Walk, Began, ahead, spot_at, start_of}
 
 stand_from : (source : List ℕ) (a b c : ℕ) (s : List Spot) → a ≤ b → Stand source b c s → Stand source a c s
 stand_from source a b c [] le h = omega (arith, le, h)
@@ -108,17 +108,25 @@ walk_still p q left upto same = record {
   same_source = same;
 }
 
--- the first two tokens are taken, a number as a literal and the comma behind it
-pub number_walk : (p q : Parser) (w : ListedWhole) (l : Literal) → ahead p ≡ listed_token w ∷ (listed_comma w ∷ ahead q) → q.reached ≡ w.comma.end → source_of q.tokens ≡ source_of p.tokens → l.span.start ≡ w.span.start → l.span.end ≡ w.span.end → Walk p q (literal_spots l)
-number_walk p q w l before upto same start end = record {
+-- the first two tokens are taken, a literal of one token and the comma behind it
+pub listed_pair : (p q : Parser) (l : Listed) → ahead p ≡ spanned l.token ∷ (listed_comma l ∷ ahead q) → q.reached ≡ l.comma.end → source_of q.tokens ≡ source_of p.tokens → Walk p q (spot_at l.token.span ∷ [])
+listed_pair p q l before upto same = record {
   stand = λ source laid.
-      let order : AreInOrder p.reached (length source) (listed_token w ∷ (listed_comma w ∷ ahead q)) = subst (AreInOrder p.reached (length source)) before laid.order in
-      (omega (arith, order.0, start), omega (arith, order.1, start, end), tt, omega (arith, order.2.0, order.2.1, upto, end));
+      let order : AreInOrder p.reached (length source) (spanned l.token ∷ (listed_comma l ∷ ahead q)) = subst (AreInOrder p.reached (length source)) before laid.order in
+      (order.0, order.1, tt, omega (arith, order.2.0, order.2.1, upto));
   laid = λ source laid.
-      let order : AreInOrder p.reached (length source) (listed_token w ∷ (listed_comma w ∷ ahead q)) = subst (AreInOrder p.reached (length source)) before laid.order in
-      let texts : AllByRecursion (IsSpelledAtSpan source) (listed_token w ∷ (listed_comma w ∷ ahead q)) = subst (AllByRecursion (IsSpelledAtSpan source)) before laid.texts in
+      let order : AreInOrder p.reached (length source) (spanned l.token ∷ (listed_comma l ∷ ahead q)) = subst (AreInOrder p.reached (length source)) before laid.order in
+      let texts : AllByRecursion (IsSpelledAtSpan source) (spanned l.token ∷ (listed_comma l ∷ ahead q)) = subst (AllByRecursion (IsSpelledAtSpan source)) before laid.texts in
       record { order = subst (λ n. AreInOrder n (length source) (ahead q)) (sym upto) order.2.2; texts = texts.1.1 };
   same_source = same;
+}
+
+-- a step that read a literal, where only its tokens count
+pub walk_past : {p q : Parser} (s : Spot) → Walk p q (s ∷ []) → Walk p q []
+walk_past s w = record {
+  stand = λ source laid. let h = w.stand source laid in omega (arith, h.0, h.1, h.3);
+  laid = w.laid;
+  same_source = w.same_source;
 }
 
 -- a word has its text where it stands

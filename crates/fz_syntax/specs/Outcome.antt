@@ -4,9 +4,12 @@ use Rattle.fz_lex.specs.declared.error.SyntaxError.{SyntaxError}
 use Rattle.fz_lex.specs.declared.error.SyntaxError.TheVariants as errors
 use Rattle.fz_syntax.specs.declared.parser.refusal.Refusal.{Refusal}
 use Rattle.fz_syntax.specs.declared.parser.refusal.Refusal.TheVariants as refusals
-use Rattle.fz_lex.specs.Token.{TokenValue, Whole, Marked}
+use Rattle.fz_syntax.specs.declared.parser.kinds.Plain.{Plain}
+use Rattle.fz_syntax.specs.declared.parser.kinds.Plain.TheVariants as plains
+use Rattle.fz_lex.specs.Token.{TokenValue, Word, Whole, Marked}
 use Rattle.fz_lex.specs.declared.token.Mark.TheVariants.{Comma}
-use Rattle.fz_syntax.specs.Tree.{Literal, Number}
+use Rattle.fz_syntax.specs.Tree.{Literal, Number, Truth}
+use Rattle.fz_syntax.specs.Tokens.{truth_word}
 use Rattle.fz_syntax.specs.Reading.{FaultKind, Syntax, Float, TooDeep, TooMany, Fault, Read, is_float, next_passes}
 
 -- an error is this fault's
@@ -57,7 +60,13 @@ IsWhole view (Ok x) read = read ≡ Ok (view x)
 IsWhole view (Err errors.Memory) read = Unit {0}
 IsWhole view (Err e) read = (f : Fault) × (read ≡ Err f) × IsFault e f.kind
 
--- the literal is a number and the first token, a comma is the second, and behind them stand the tokens after
+-- the token that a literal of one token is
+abbrev pub plain_token : Plain → TokenValue
+plain_token (plains.Whole z) = Whole z
+plain_token (plains.Truth b) = Word (truth_word b)
+
+-- the literal is the first token, a comma is the second, and behind them stand the tokens after
 abbrev pub IsListed : Literal → List TokenValue → List TokenValue → Type 0
 IsListed (Number z) before after = before ≡ Whole z ∷ (Marked Comma ∷ after)
+IsListed (Truth b) before after = before ≡ Word (truth_word b) ∷ (Marked Comma ∷ after)
 IsListed _ before after = ⊥

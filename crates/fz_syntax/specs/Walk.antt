@@ -1,6 +1,7 @@
 -- Of the code; a reader of the contracts need not believe this file. What the parser has left to read, and from where to where a method went.
-use Rattle.std.specs.Prelude.{◌≡◌, ◌≤◌, ◌<◌, ℕ, List, [], ◌∷◌, length, map}
+use Rattle.std.specs.Prelude.{◌≡◌, ◌≤◌, ◌<◌, ℕ, List, [], ◌∷◌, length, map, None}
 use Rattle.std.specs.List.{AllByRecursion}
+use Rattle.fz_base.specs.declared.span.Span.{Span}
 use Rattle.fz_lex.specs.Token.{TokenValue}
 use Rattle.fz_lex.specs.Lexing.{SpannedToken, AreInOrder}
 use Rattle.fz_lex.specs.View.{IsSpelledAtSpan}
@@ -35,3 +36,7 @@ start_of (t ∷ ts) end = t.start
 pub record Began (p q : Parser) : Type 0 where
   pub on : Walk p q []
   pub from : (source : List ℕ) → IsLaidOut source p → (p.reached ≤ start_of (ahead p) p.end) × (start_of (ahead p) p.end < q.reached)
+
+-- a literal that stands at a span
+abbrev pub spot_at : Span → Spot
+spot_at span = record { start = span.start; end = span.end; text = None }

@@ -1,24 +1,44 @@
 //! Literals, names and lists of them.
 
-ghost use Rattle.std.specs.Prelude.{◌≡◌, ◌<◌, ◌≤◌, length, IfOk, IfSome, IfNone, []};
-ghost use Rattle.fz_syntax.specs.View.{bare_literal, bare_expression, bare_expressions, bare_expr};
+ghost use Rattle.std.specs.Prelude.{◌≡◌, ◌<◌, ◌≤◌, ◌∷◌, length, IfOk, IfSome, IfNone, []};
+ghost use Rattle.fz_syntax.specs.View.{lexeme, bare_literal, bare_expression, bare_expressions, bare_expr};
 ghost use Rattle.fz_syntax.specs.Outcome.{Gives, IsListed};
 ghost use Rattle.fz_syntax.specs.Reading.{mark_at, whole_at, is_whole, begins_literal, begins_basic, at_most, separated_at, braces_at, from_whole, literal_at, basic_at, expr_list_at, expr_at, list_at, literal_basic_at};
-ghost use Rattle.fz_lex.specs.declared.token.Mark.TheVariants.{CloseBracket};
+ghost use Rattle.fz_lex.specs.Token.{Whole, Marked};
+ghost use Rattle.fz_lex.specs.declared.token.Mark.TheVariants.{CloseBracket, Comma};
 ghost use Rattle.fz_syntax.specs.Shape.{the_limits};
 ghost use Rattle.fz_syntax.specs.Spots.{literal_spots, basic_spots, expr_spots};
 ghost use Rattle.std.specs.List.{flat_map};
-ghost use Rattle.fz_syntax.specs.Walk.{Walk, lexemes};
+ghost use Rattle.fz_syntax.specs.Walk.{Walk, spot_at, lexemes};
 
 use crate::parser::cursor::{MAX_ELEMENTS, Parser};
+use crate::parser::kinds::{Plain, plain_of};
 use crate::parser::lists::trimmed;
 use crate::parser::refusal::Refusal;
 use crate::tree::{Basic, Expr, Literal, LiteralKind};
-use fz_lex::Mark;
+use fz_lex::{Mark, Token, TokenKind};
 
 impl<'a> Parser<'a> {
-    /// Takes a number and the comma behind it, as an element of a list, where they are next and nothing stands between
-    /// them. Long lists are mostly such.
+    /// Takes the next token and the comma behind it, where nothing stands between them.
+    #[inline(always)]
+    fn eat_with_comma(&mut self) -> Option<Token<'a>>
+        ensures read { IfSome result (λ t. lexemes self.old ≡ lexeme t ∷ (Marked Comma ∷ lexemes self.new)) }
+        ensures end { self.new.end ≡ self.old.end }
+        ensures walked { IfSome result (λ t. Walk self.old self.new (spot_at t.span ∷ [])) }
+        ensures kept { IfNone result (lexemes self.new ≡ lexemes self.old) }
+        ensures stays { IfNone result (Walk self.old self.new []) }
+    {
+        match self.tokens.take_listed() {
+            Some(listed) => {
+                self.reached = listed.comma.end;
+                Some(listed.token)
+            }
+            None => None,
+        }
+    }
+
+    /// Takes a literal of one token and the comma behind it, as an element of a list, where they are next and nothing
+    /// stands between them. Long lists are mostly such.
     #[inline(always)]
     pub(crate) fn eat_listed(&mut self) -> Option<Literal>
         ensures read { IfSome result (λ l. IsListed (bare_literal l) (lexemes self.old) (lexemes self.new)) }
@@ -28,16 +48,34 @@ impl<'a> Parser<'a> {
         ensures kept { IfNone result (lexemes self.new ≡ lexemes self.old) }
         ensures stays { IfNone result (Walk self.old self.new []) }
     {
-        match self.tokens.take_listed() {
-            Some(listed) => {
-                self.reached = listed.comma.end;
-                Some(Literal {
-                    span: listed.span,
-                    what: LiteralKind::Whole(listed.value),
-                })
-            }
-            None => None,
-        }
+        let first = self.tokens.first()?;
+        let plain = plain_of(&first)?;
+        let taken = self.eat_with_comma()?;
+        let what = match plain {
+            Plain::Whole(value) => LiteralKind::Whole(value),
+            Plain::Truth(value) => LiteralKind::Truth(value),
+        };
+        Some(Literal {
+            span: taken.span,
+            what,
+        })
+    }
+
+    /// The same of a number in braces.
+    #[inline(always)]
+    fn eat_listed_whole(&mut self) -> Option<i64>
+        ensures read { IfSome result (λ n. lexemes self.old ≡ Whole n ∷ (Marked Comma ∷ lexemes self.new)) }
+        ensures shorter { IfSome result (λ _. length (lexemes self.new) < length (lexemes self.old)) }
+        ensures end { self.new.end ≡ self.old.end }
+        ensures walked { Walk self.old self.new [] }
+        ensures kept { IfNone result (lexemes self.new ≡ lexemes self.old) }
+    {
+        let first = self.tokens.first()?;
+        let TokenKind::Whole(value) = first.kind else {
+            return None;
+        };
+        self.eat_with_comma()?;
+        Some(value)
     }
 
     /// A number of a list that has `count` so far.
@@ -61,12 +99,20 @@ impl<'a> Parser<'a> {
         ensures walked { IfOk result (λ _. Walk self.old self.new []) }
     {
         let mut numbers = Vec::new(self.alloc);
-        numbers.push(self.listed_whole(0)?)?;
-        while self.eat(Mark::Comma) {
+        'numbers: loop {
+            // Numbers with a comma right behind them, as most but the last are.
+            'listed: while numbers.len() < MAX_ELEMENTS {
+                let Some(number) = self.eat_listed_whole() else {
+                    break;
+                };
+                numbers.push(number)?;
+            }
             let number = self.listed_whole(numbers.len())?;
             numbers.push(number)?;
+            if !self.eat(Mark::Comma) {
+                return Ok(trimmed(self.alloc, numbers));
+            }
         }
-        Ok(trimmed(self.alloc, numbers))
     }
 
     /// Numbers behind the brace that opened at `start`.

@@ -1,7 +1,8 @@
 //! What a token can begin.
 
-ghost use Rattle.std.specs.Prelude.{◌≡◌};
+ghost use Rattle.std.specs.Prelude.{◌≡◌, IfSome};
 ghost use Rattle.fz_syntax.specs.View.{lexeme};
+ghost use Rattle.fz_syntax.specs.Outcome.{plain_token};
 ghost use Rattle.fz_syntax.specs.Reading.{is_float, is_name, begins_literal, is_quoted, may_lack_value, begins_decl};
 ghost use Rattle.fz_syntax.specs.ReadingItems.{dimensions_of, token_dimensions};
 ghost use Rattle.fz_syntax.specs.Words.{may_be_reserved};
@@ -117,6 +118,26 @@ pub(crate) fn may_lack_value(is_var: bool, array: Option<usize>) -> bool
     ensures { result ≡ may_lack_value is_var array }
 {
     is_var && array.is_none()
+}
+
+/// A literal that is one token.
+#[derive(Clone, Copy)]
+pub(crate) enum Plain {
+    Whole(i64),
+    Truth(bool),
+}
+
+/// The literal that a token is by itself, whatever stands behind it.
+#[inline(always)]
+pub(crate) fn plain_of(token: &Token<'_>) -> Option<Plain>
+    ensures { IfSome result (λ p. lexeme token.now ≡ plain_token p) }
+{
+    match token.kind {
+        TokenKind::Whole(value) => Some(Plain::Whole(value)),
+        TokenKind::Word if token.text == b"true".as_slice() => Some(Plain::Truth(true)),
+        TokenKind::Word if token.text == b"false".as_slice() => Some(Plain::Truth(false)),
+        _ => None,
+    }
 }
 
 /// How many index sets the array has that the word begins, or 0.

@@ -84,19 +84,20 @@ impl<'a> Parser<'a> {
         ensures walked { IfOk result (λ v. Walk self.old self.new (flat_map literal_spots v.items)) }
     {
         let mut elements = Vec::new(self.alloc);
-        elements.push(self.listed_element(0)?)?;
-        while self.eat(Mark::Comma) {
-            // Numbers with a comma right behind them, as nearly all elements are.
-            'numbers: while elements.len() < MAX_ELEMENTS {
-                let Some(number) = self.eat_listed() else {
+        'elements: loop {
+            // Literals of one token with a comma right behind them, as most but the last are.
+            'listed: while elements.len() < MAX_ELEMENTS {
+                let Some(literal) = self.eat_listed() else {
                     break;
                 };
-                elements.push(number)?;
+                elements.push(literal)?;
             }
             let element = self.listed_element(elements.len())?;
             elements.push(element)?;
+            if !self.eat(Mark::Comma) {
+                return Ok(trimmed(self.alloc, elements));
+            }
         }
-        Ok(trimmed(self.alloc, elements))
     }
 
     /// An array's elements behind the bracket that opens them.

@@ -1,6 +1,6 @@
 use Rattle.std.proofs.Common.{◌≡◌, ◌∙◌, sym, ap, subst, inr, Err}
 use Rattle.fz_check.specs.declared.error.CheckError.TheVariants as errors
-use Rattle.fz_check.proofs.OverLemmas.{holds_of_model, accepted_over, reported_over, told_names, told_stream, told_block, told_read, never_of_model}
+use Rattle.fz_check.proofs.OverLemmas.{holds_of_model, accepted_over, reported_over, told_model, told_names, told_stream, told_block, told_read, never_of_model}
 use Rattle.fz_check.specs.Over.{IsOfModel}
 use Rattle.fz_check.proofs.Refusals.{name_fault_on}
 use Rattle.fz_check.proofs.live.check_stream_up_to.Goals as goal
@@ -17,6 +17,10 @@ returns-in-Ok-check_parts-clause-accepted g c =
 pub returns-in-Ok-check_parts-clause-report : goal.returns-in-Ok-check_parts-clause-report
 returns-in-Ok-check_parts-clause-report g c =
     reported_over c.args.model.now c.in-Ok.ast c.in-Ok-load_tree.loaded c.in-Ok.ensures.found c.in-Ok-load_tree.ensures.loaded.0 c.in-Ok-load_tree.ensures.loaded.1 _ _ _ _ c.in-Ok-check_parts.answer c.in-Ok-check_parts.ensures.answered
+
+pub returns-clause-no_tree : goal.returns-clause-no_tree
+returns-clause-no_tree g c = λ e same t text.
+    (let told = told_model c.in-Err-check_parts.error e (sym c.live_refusal.ensures ∙ cc) in absurd told)
 
 pub returns-clause-names : goal.returns-clause-names
 returns-clause-names g c = λ e same. absurd (told_names c.in-Err-check_parts.error e (sym c.live_refusal.ensures ∙ cc))

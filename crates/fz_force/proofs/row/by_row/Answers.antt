@@ -15,7 +15,7 @@ returns-in-Some-2 c =
     let p = posted_view c.args.parts.variables.now c.args.parts.arrays.now c.args.parts.posted.now in
     record {
       forced = λ m fits kinds. forces_value m c.args.partial.now fits c.args.parts.number p (known_row c.in-Some-known.known) (sym c.requires.known ∙ ap (option_map known_row) c.in-Some-known.is)
-          c.in-Some.target c.in-Some.is kinds c.in-Some-2.value (rw c.in-Some-2.is at c.in_ok-value.ensures);
+          c.in-Some.target (sym c.target.ensures.defined ∙ c.in-Some.is) kinds c.in-Some-2.value (rw c.in-Some-2.is at c.in_ok-value.ensures);
     }
 
 pub returns-in-None : goal.returns-in-None
@@ -23,5 +23,5 @@ returns-in-None c =
     let p = posted_view c.args.parts.variables.now c.args.parts.arrays.now c.args.parts.posted.now in
     record {
       forced = λ m fits kinds. forces_nothing m c.args.partial.now fits c.args.parts.number p (known_row c.in-Some-known.known) (sym c.requires.known ∙ ap (option_map known_row) c.in-Some-known.is)
-          c.in-Some.target c.in-Some.is (rw c.in-None.is at c.in_ok-value.ensures);
+          c.in-Some.target (sym c.target.ensures.defined ∙ c.in-Some.is) (rw c.in-None.is at c.in_ok-value.ensures);
     }

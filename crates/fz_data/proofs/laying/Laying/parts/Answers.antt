@@ -32,6 +32,7 @@ invariant_of-result c =
       reads = (λ i. map (laid_reading m.arrays.now ((c.deref-3.ensures.value ∙ ap (λ z. z.constants.items) (sym c.index-self-sheet.is)) i) ((c.deref-2.ensures.value ∙ ap (λ z. z.slots.items) (sym c.index-self-sheet.is)) i))
           ((c.part.ensures ∙ ap (λ z. take l.count (drop l.first z)) (c.deref.ensures.value ∙ ap (λ z. z.laid.items) (sym c.index-self-sheet.is))) i))
           ∙ line_reads m.arrays.now m.constraints.now m.known.now m.sheets.now m.fits c.args.sheet c.args.line s l at on (slice_index_or m.constraints.now l.number c.index-self-number.result) (here ∙ ap Some c.index-self-number.is);
+      aims = refl;
     }
 
 pub returns-clause-number : goal.returns-clause-number

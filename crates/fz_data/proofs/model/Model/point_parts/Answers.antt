@@ -6,7 +6,7 @@ use Rattle.fz_data.specs.Kinds.{PostedFits}
 use Rattle.fz_data.specs.Layout.{model_view}
 use Rattle.fz_data.specs.Parts.{posted_view}
 use Rattle.fz_data.specs.Readings.{readings_or, kept_readings}
-use Rattle.fz_data.proofs.Sheets.{reads_or}
+use Rattle.fz_data.proofs.Sheets.{reads_or, aims_or}
 use Rattle.fz_data.proofs.Points.{how_many, how_many_rows, row_in_place, kinds_in_place, point_posted, domain_at, definition_is, no_definition, elements_at}
 use Rattle.fz_data.proofs.model.Model.point_parts.Goals as goal
 
@@ -36,6 +36,8 @@ invariant_of-result c =
       reads = subst (λ xs. readings_or xs c.laid_at.result (kept_readings xs p) ≡ kept_readings xs p) (sym c.deref-then-number-len.ensures.value)
           (reads_or m.arrays.items m.constraints.items m.known.items m.sheets (c.args.number - c.len-then-number-len.result) p c.self.invariant.sheets
           (slice_get_read m.constraints.items _ _ _ refl lt c.index.ensures) c.laid_at.result c.laid_at.ensures.reads);
+      aims = aims_or m.arrays.items m.constraints.items m.known.items m.sheets (c.args.number - c.len-then-number-len.result) p c.self.invariant.sheets
+          (slice_get_read m.constraints.items _ _ _ refl lt c.index.ensures) c.laid_at.result c.laid_at.ensures.target;
     }
 
 pub returns-then-number-len : goal.returns-then-number-len

@@ -22,8 +22,8 @@ invariant_of-self c =
     let fits : FitsSigned w64 c.number_of.result = search rules in
     let less : unset_count p.values.items ≡ suc (unset_count (give p.values.items c.args.number c.args.value)) = counted_down p.values.items c.args.self.now c.args.number c.args.value c.self.view_is c.requires.in_range c.requires.unset in (
       c.self.invariant.0,
-      rw to_z-of_z
+      rw (to_z-of_z, c.put.ensures.there)
           (subst₂ (λ a b. IsTabled (slice_set p.values.items c.args.number (Some c.args.value)) (slice_set p.numbers.items c.args.number a) (slice_set p.truths.items c.args.number b) (slice_set p.given.items c.args.number true))
           (sym c.number_of.ensures.read) (sym c.truth_of.ensures.read) (still_tabled p.values.items p.numbers.items p.truths.items p.given.items c.args.number c.args.value c.self.invariant.1)),
-      omega (arith, c.self.invariant.2, less),
+      rw (c.put.ensures.there) (omega (arith, c.self.invariant.2, less)),
     )

@@ -17,4 +17,4 @@ unfolding IsEmpty
 loop-preserved c = all_found IsEmpty c.loop.sheets.items c.push.new.self.items c.new.result c.loop.invariant c.new.ensures.empty c.in_ok-push.ensures.items
 
 pub returns : goal.returns
-returns c = record { empty = λ xs. none_there xs (record { sheets = c.loop.sheets; rest = c.new-2.result; places = c.new-3.result }) c.loop.invariant c.new-2.ensures.items }
+returns c = record { empty = λ xs. none_there xs (record { sheets = c.loop.sheets; rest = c.new-2.result; defining = c.new-3.result; places = c.new-4.result }) c.loop.invariant c.new-2.ensures.items c.new-3.ensures.empty c.new-3.ensures.none }

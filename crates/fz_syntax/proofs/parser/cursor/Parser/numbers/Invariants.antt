@@ -1,18 +1,28 @@
 use Rattle.std.proofs.Common.{[], ◌≡◌, ◌≤◌, length}
-use Rattle.fz_lex.specs.declared.token.Mark.TheVariants.{Comma}
 use Rattle.fz_syntax.specs.Walk.{Walk, lexemes}
 use Rattle.fz_syntax.specs.Reading.{at_most, separated_at, whole_at, is_whole}
 use Rattle.fz_syntax.specs.Shape.{the_limits}
-use Rattle.fz_syntax.proofs.Running.{Continues}
+use Rattle.fz_syntax.proofs.Running.{Wants}
 use Rattle.fz_syntax.proofs.parser.cursor.Parser.numbers.Given as goal
 
-abbrev pub invariant-loop-self : goal.invariant-loop-self
-invariant-loop-self l = record {
-  continues : Continues Comma (at_most the_limits.elements is_whole whole_at) l.numbers.items (lexemes l.self) (separated_at (at_most the_limits.elements is_whole whole_at) (lexemes l.fn.self));
+abbrev pub invariant-numbers : goal.invariant-numbers
+invariant-numbers l = record {
+  wants : Wants (at_most the_limits.elements is_whole whole_at) l.numbers.items (lexemes l.self) (separated_at (at_most the_limits.elements is_whole whole_at) (lexemes l.fn.self));
   shorter : length (lexemes l.self) ≤ length (lexemes l.fn.self);
   same_end : l.self.end ≡ l.fn.self.end;
   walked : Walk l.fn.self l.self [];
 }
 
-abbrev pub decreases-loop-self : goal.decreases-loop-self
-decreases-loop-self l = length (lexemes l.self)
+abbrev pub decreases-numbers : goal.decreases-numbers
+decreases-numbers l = length (lexemes l.self)
+
+abbrev pub invariant-listed : goal.invariant-listed
+invariant-listed l = record {
+  wants : Wants (at_most the_limits.elements is_whole whole_at) l.numbers.items (lexemes l.self) (separated_at (at_most the_limits.elements is_whole whole_at) (lexemes l.fn.self));
+  shorter : length (lexemes l.self) ≤ length (lexemes l.initial.self);
+  same_end : l.self.end ≡ l.fn.self.end;
+  walked : Walk l.fn.self l.self [];
+}
+
+abbrev pub decreases-listed : goal.decreases-listed
+decreases-listed l = length (lexemes l.self)

@@ -1,7 +1,7 @@
 use Rattle.std.proofs.Common.{◌≡◌, ◌≤◌, drop, sym, ap}
 use Rattle.std.proofs.lemmas.List.Elements.{All-drop}
 use Rattle.fz_lex.specs.Left.{left}
-use Rattle.fz_syntax.proofs.parser.cursor.Parser.eat_listed.Goals as goal
+use Rattle.fz_syntax.proofs.parser.cursor.Parser.eat_with_comma.Goals as goal
 
 pub invariant_of-self : goal.invariant_of-self
 invariant_of-self c =

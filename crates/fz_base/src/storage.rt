@@ -1,0 +1,45 @@
+// How the ranges of a set lie in memory. Most sets have a few ranges. These lie in place, so that who has found the set has found
+// them too and doesn't wait for memory a second time.
+ghost use Rattle.std.specs.Prelude.{◌≡◌};
+ghost use Rattle.fz_base.specs.Storage.{stored, HasPlaces};
+
+use crate::ranges::Range;
+
+/// How many ranges lie in place.
+const PLACES: usize = 4;
+
+/// The ranges of a set: a few of them in the first of the places, or more in a vector of their own.
+#[derive(Debug, Drop)]
+pub enum Storage {
+    Few(usize, [Range; PLACES]),
+    Many(Vec<Range>),
+}
+
+/// Stores ranges, in place where they are few.
+pub fn store(ranges: Vec<Range>) -> Storage
+    ensures same { stored result ≡ ranges.items }
+    ensures places { HasPlaces result }
+{
+    if ranges.len() > PLACES {
+        return Storage::Many(ranges);
+    }
+    let mut places = [Range { lo: 0, hi: 0 }; PLACES];
+    for place in 0..ranges.len() {
+        places[place] = ranges[place];
+    }
+    Storage::Few(ranges.len(), places)
+}
+
+impl Storage {
+    /// The ranges that are stored.
+    #[inline(always)]
+    pub fn ranges(&self) -> &[Range]
+        requires { HasPlaces self.now }
+        ensures { result.now ≡ stored self.now }
+    {
+        match self {
+            Storage::Few(count, places) => &places[..*count],
+            Storage::Many(ranges) => ranges,
+        }
+    }
+}
