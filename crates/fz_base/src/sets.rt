@@ -209,6 +209,8 @@ impl IntSet {
     pub fn copy(&self, alloc: Global) -> Result<IntSet, AllocError>
         ensures { IfOk result (λ s. s ≡ self.now) }
     {
-        of_ranges(alloc, Vec::from_slice(alloc, self.kept())?)
+        Ok(IntSet {
+            ranges: Box::new(alloc, self.ranges.copy(alloc)?)?,
+        })
     }
 }

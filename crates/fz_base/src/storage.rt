@@ -1,9 +1,10 @@
 // How the ranges of a set lie in memory. Most sets have a few ranges. These lie in place, so that who has found the set has found
 // them too and doesn't wait for memory a second time.
-ghost use Rattle.std.specs.Prelude.{◌≡◌};
+ghost use Rattle.std.specs.Prelude.{◌≡◌, IfOk};
 ghost use Rattle.fz_base.specs.Storage.{stored, HasPlaces};
 
 use crate::ranges::Range;
+use std::alloc::{AllocError, Global};
 
 /// How many ranges lie in place.
 const PLACES: usize = 4;
@@ -31,6 +32,18 @@ pub fn store(ranges: Vec<Range>) -> Storage
 }
 
 impl Storage {
+    /// The same ranges stored once more. Those in place take no memory of their own.
+    pub fn copy(&self, alloc: Global) -> Result<Storage, AllocError>
+        requires { HasPlaces self.now }
+        ensures same { IfOk result (λ s. stored s ≡ stored self.now) }
+        ensures places { IfOk result HasPlaces }
+    {
+        match self {
+            Storage::Few(count, places) => Ok(Storage::Few(*count, *places)),
+            Storage::Many(ranges) => Ok(Storage::Many(Vec::from_slice(alloc, ranges)?)),
+        }
+    }
+
     /// The ranges that are stored.
     #[inline(always)]
     pub fn ranges(&self) -> &[Range]

@@ -7,17 +7,17 @@ use Rattle.fz_meaning.specs.declared.term.Domain.{Domain}
 use Rattle.fz_meaning.specs.declared.term.Domain.TheVariants as domains
 use Rattle.fz_meaning.specs.Meaning.{Model, Partial, Point, Variable, declared_points, numbered, variables_of}
 use Rattle.fz_eval.specs.declared.overview.Bounds.{Bounds}
-use Rattle.fz_eval.specs.declared.overview.Bounds.TheVariants.{Any, Within, Listed}
+use Rattle.fz_eval.specs.declared.overview.Bounds.TheVariants.{Any, Within, SetWithin, Listed}
 use Rattle.fz_eval.specs.declared.overview.Overview.{Overview}
 use Rattle.fz_eval.specs.Holding.{point_holds}
 use Rattle.fz_eval.specs.Whole.{is_domain}
 
--- what a domain asks of a value of the kind: where nothing, only the kind counts, and a number may have two ends
+-- what a domain asks of a value of the kind: where nothing, only the kind counts, and a number or the numbers of a set may have two ends
 abbrev pub bounds_in : Kind → Domain → Bounds
 bounds_in k domains.All = Any k
 bounds_in kinds.Int (domains.Within lo hi) = Within lo hi
 bounds_in kinds.Bool (domains.Within lo hi) = Listed
-bounds_in kinds.Set (domains.Within lo hi) = Listed
+bounds_in kinds.Set (domains.Within lo hi) = SetWithin lo hi
 bounds_in k (domains.Among s) = Listed
 
 abbrev pub bounds_of : Variable → Bounds

@@ -12,6 +12,7 @@ use fz_table::Builtin;
 use std::alloc::{AllocError, Global};
 
 /// What the row of a builtin comes to at the values that the scene gives. It refuses only where memory runs out.
+#[inline(always)]
 pub fn of_builtin(
     alloc: Global,
     builtin: Builtin,

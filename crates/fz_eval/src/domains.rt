@@ -111,7 +111,8 @@ fn admits(domain: &Domain, number: i64) -> bool
     }
 }
 
-fn admits_each(domain: &Domain, set: &IntSet) -> bool
+#[inline]
+pub(crate) fn admits_each(domain: &Domain, set: &IntSet) -> bool
     ensures { result ≡ list_all (admits domain.now) (sets.items set.now) }
 {
     match domain {

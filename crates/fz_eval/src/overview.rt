@@ -12,11 +12,13 @@ use fz_data::{Model, PointParts, Variable};
 use fz_meaning::{Domain, Kind};
 use std::alloc::{AllocError, Global};
 
-/// What a variable's declaration asks of its value: any of the kind, a number between two, or what only its domain tells.
+/// What a variable's declaration asks of its value: any of the kind, a number between two, a set of numbers between two, or what only
+/// its domain tells.
 #[derive(Clone, Copy)]
 pub(crate) enum Bounds {
     Any(Kind),
     Within(i64, i64),
+    SetWithin(i64, i64),
     Listed,
 }
 
@@ -29,14 +31,14 @@ pub struct Overview {
     pub(crate) others: Vec<usize>,
 }
 
-/// What two ends ask of a value of the kind. Only of a number are they looked at without the domain.
+/// What two ends ask of a value of the kind. No truth value lies between two numbers, which the domain tells.
 fn between(kind: Kind, low: i64, high: i64) -> Bounds
     ensures { result ≡ bounds_in kind (Within low high) }
 {
     match kind {
         Kind::Int => Bounds::Within(low, high),
         Kind::Bool => Bounds::Listed,
-        Kind::Set => Bounds::Listed,
+        Kind::Set => Bounds::SetWithin(low, high),
     }
 }
 

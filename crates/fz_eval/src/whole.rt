@@ -1,7 +1,7 @@
 //! Whether an assignment gives every variable a value of its kind inside its domain.
 
 ghost use Rattle.std.specs.Prelude.{◌≡◌, ◌&&◌, map};
-ghost use Rattle.fz_meaning.specs.declared.kind.Kind.TheVariants.{Int as IntKind};
+ghost use Rattle.fz_meaning.specs.declared.kind.Kind.TheVariants.{Int as IntKind, Set as SetKind};
 ghost use Rattle.fz_meaning.specs.declared.term.Domain.TheVariants.{Within};
 ghost use Rattle.fz_meaning.specs.Meaning.{inside};
 ghost use Rattle.fz_meaning.specs.Values.{kind_of, same_kind};
@@ -9,10 +9,11 @@ ghost use Rattle.fz_data.specs.Parts.{variable_view};
 ghost use Rattle.fz_eval.specs.Overviews.{bounds_of};
 ghost use Rattle.fz_eval.specs.Whole.{lie_inside, lies_inside};
 
-use crate::domains::is_inside;
+use crate::domains::{admits_each, is_inside};
 use crate::overview::Bounds;
 use fz_base::Value;
 use fz_data::{Variable, kind_of, same_kind};
+use fz_meaning::Domain;
 
 /// Whether the value is a number from one end to the other.
 #[inline]
@@ -26,6 +27,18 @@ fn is_between(low: i64, high: i64, value: &Value) -> bool
     }
 }
 
+/// Whether the value is a set of numbers from one end to the other.
+#[inline]
+fn is_set_between(low: i64, high: i64, value: &Value) -> bool
+    ensures { result ≡ (same_kind (kind_of value.now) SetKind && inside (Within low high) value.now) }
+{
+    match value {
+        Value::Set(set) => admits_each(&Domain::Within(low, high), set),
+        Value::Int(_) => false,
+        Value::Bool(_) => false,
+    }
+}
+
 /// Whether the value is of the variable's kind and lies in its domain. The variable is read only where its bounds don't tell it.
 #[inline]
 fn meets(bounds: &Bounds, variable: &Variable<'_>, value: &Value) -> bool
@@ -35,6 +48,7 @@ fn meets(bounds: &Bounds, variable: &Variable<'_>, value: &Value) -> bool
     match bounds {
         Bounds::Any(kind) => same_kind(kind_of(value), *kind),
         Bounds::Within(low, high) => is_between(*low, *high, value),
+        Bounds::SetWithin(low, high) => is_set_between(*low, *high, value),
         Bounds::Listed => {
             same_kind(kind_of(value), variable.kind) && is_inside(&variable.domain, value)
         }
