@@ -84,6 +84,7 @@ fn spot_of(parts: &ConstraintParts<'_, '_>, target: usize, partial: &Partial) ->
 }
 
 // The value of the variable at the spot with which the row holds.
+#[inline(always)]
 fn value_at(
     alloc: Global,
     known: Known,

@@ -54,6 +54,7 @@ fn left_form(
 }
 
 // What a base row leaves.
+#[inline(always)]
 fn left_base(
     alloc: Global,
     builtin: Builtin,

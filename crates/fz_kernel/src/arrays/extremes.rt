@@ -7,6 +7,7 @@ ghost use Rattle.fz_scene.specs.Views.{ints};
 use fz_scene::Elements;
 
 /// The greatest element; none where there is no element.
+#[inline(always)]
 pub fn maximum(elements: &Elements) -> Option<i64>
     ensures best { IfSome result (λ m. (is_among m (ints elements.now) && list_all (λ x. int_le x m) (ints elements.now)) ≡ true) }
     ensures none { IfNone result (ints elements.now ≡ []) }
@@ -22,6 +23,7 @@ pub fn maximum(elements: &Elements) -> Option<i64>
 }
 
 /// The least element; none where there is no element.
+#[inline(always)]
 pub fn minimum(elements: &Elements) -> Option<i64>
     ensures best { IfSome result (λ m. (is_among m (ints elements.now) && list_all (λ x. int_le m x) (ints elements.now)) ≡ true) }
     ensures none { IfNone result (ints elements.now ≡ []) }
