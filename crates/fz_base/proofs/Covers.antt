@@ -1,8 +1,9 @@
 -- Facts on ranges in order, and on the numbers that they cover.
-use Rattle.std.proofs.Common.{◌≡◌, ◌≤◌, ℤ, pos, ◌+ℤ◌, ◌-ℤ◌, ◌≤ℤ◌, ◌<ℤ◌, Bool, true, false, ◌&&◌, ◌||◌, ◌⊎◌, List, [], ◌∷◌, ◌++◌, length, get_or, drop, ℕ, zero, suc, ◌+◌, ◌<◌, refl, sym, ap, ◌∙◌, inl, inr, arith, FitsSigned, w64}
+use Rattle.std.proofs.Common.{◌≡◌, ◌≤◌, ℤ, pos, ◌+ℤ◌, ◌-ℤ◌, ◌≤ℤ◌, ◌<ℤ◌, Bool, true, false, ◌&&◌, ◌||◌, ◌⊎◌, List, [], ◌∷◌, ◌++◌, length, get_or, drop, take, ℕ, zero, suc, ◌+◌, ◌<◌, refl, sym, ap, ◌∙◌, inl, inr, arith, FitsSigned, w64}
 use Rattle.std.specs.Prelude.{int_le}
 use Rattle.std.proofs.lemmas.Bool.{true≢false}
 use Rattle.std.proofs.lemmas.Int.{ints}
+use Rattle.std.proofs.lemmas.List.{take_more}
 use Rattle.fz_base.specs.declared.ranges.Range.{Range}
 use Rattle.fz_base.specs.Ranges.{lowest, highest, AreInOrder, CoversOnly, EndUpTo, ReachesTo, is_between, covers}
 
@@ -71,6 +72,10 @@ ends_further d e (r ∷ rs) h b = (omega (arith, ints), ends_further d e rs h b.
 pub covers-append : (rs ss : List Range) (x : ℤ) → covers (rs ++ ss) x ≡ (covers rs x || covers ss x)
 covers-append [] ss x = refl
 covers-append (r ∷ rs) ss x = ap (λ b. is_between r.lo r.hi x || b) (covers-append rs ss x) ∙ or_assoc (is_between r.lo r.hi x) (covers rs x) (covers ss x)
+
+-- what the first ranges cover with one more
+pub covers_more : (rs : List Range) (k : ℕ) (d : Range) (x : ℤ) → k < length rs → covers (take (k + 1) rs) x ≡ (covers (take k rs) x || is_between (get_or rs k d).lo (get_or rs k d).hi x)
+covers_more rs k d x h = rw (take_more rs k d h) (covers-append (take k rs) (get_or rs k d ∷ []) x ∙ ap (λ b. covers (take k rs) x || b) (or-false (is_between (get_or rs k d).lo (get_or rs k d).hi x)))
 
 -- what holds of each part of ranges in order
 pub in_order_split : (f : ℤ) (rs : List Range) (r : Range) (ss : List Range) → AreInOrder f (rs ++ r ∷ ss) → AreInOrder f rs × EndUpTo (r.lo -ℤ pos 2) rs × AreInOrder f (r ∷ ss)

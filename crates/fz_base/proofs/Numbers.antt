@@ -1,5 +1,5 @@
 -- Laws of the words on sets (the crates above may cite them), and the numbers of ranges as a list and as a set.
-use Rattle.std.proofs.Common.{◌≡◌, ℕ, zero, suc, ℤ, pos, negsuc, ◌+ℤ◌, ◌-ℤ◌, ◌≤ℤ◌, ◌<ℤ◌, true, false, not, ◌&&◌, ◌||◌, List, [], ◌∷◌, ◌++◌, length, refl, sym, ap, ◌∙◌, arith, length-append}
+use Rattle.std.proofs.Common.{◌≡◌, ℕ, zero, suc, ℤ, pos, negsuc, ◌+ℤ◌, ◌-ℤ◌, ◌≤ℤ◌, ◌<ℤ◌, Bool, true, false, cond, filter, not, ◌&&◌, ◌||◌, List, [], ◌∷◌, ◌++◌, length, refl, sym, ap, ◌∙◌, arith, length-append}
 use Rattle.std.specs.List.{list_any, flat_map, sum_by}
 use Rattle.std.specs.Ordering.{int_cmp, int_eq, is_lt}
 use Rattle.std.specs.Cmp.{int_cmp_total, both_ways}
@@ -91,7 +91,7 @@ Rise-absent f x (k ∷ ks) r h =
     rw (other, Rise-absent (k +ℤ pos 1) x ks r.1 (omega (arith, ints))) refl
 
 -- a list of numbers that rise has as many as its set
-len-from_list : (f : ℤ) (ks : List ℤ) → Rise f ks → len (from_list {R = int_cmp} ks) ≡ length ks
+pub len-from_list : (f : ℤ) (ks : List ℤ) → Rise f ks → len (from_list {R = int_cmp} ks) ≡ length ks
 len-from_list f [] r = len-empty int_cmp
 len-from_list f (k ∷ ks) r =
     let new : contains (from_list {R = int_cmp} ks) k ≡ false = contains-from_list int_cmp_total ks k ∙ Rise-absent (k +ℤ pos 1) k ks r.1 (omega (arith, ints)) in
@@ -107,6 +107,18 @@ Rise-counting f lo zero ks h r = Rise-from (lo +ℤ pos 0) f ks (omega (arith, i
 Rise-counting f lo (suc n) ks h r =
     let same : lo +ℤ pos (suc n) ≡ (lo +ℤ pos 1) +ℤ pos n = omega (arith, ints) in
     (h, Rise-counting (lo +ℤ pos 1) (lo +ℤ pos 1) n ks (omega (arith, ints)) (rw same at r))
+
+pub Rise-counting_from : (lo : ℤ) (n : ℕ) → Rise lo (counting_from lo n)
+Rise-counting_from lo n = rw (← append-nil (counting_from lo n)) (Rise-counting lo lo n [] (omega (arith, ints)) tt)
+
+pub Rise-filter : (p : ℤ → Bool) (f : ℤ) (ks : List ℤ) → Rise f ks → Rise f (filter p ks)
+Rise-filter p f [] r = tt
+Rise-filter p f (k ∷ ks) r =
+    let later = Rise-filter p (k +ℤ pos 1) ks r.1 in
+    elim (p k) as (λ b. Rise f (cond b (k ∷ filter p ks) (filter p ks))) [
+      | true ↦ (r.0, later)
+      | false ↦ Rise-from (k +ℤ pos 1) f (filter p ks) (omega (arith, ints)) later
+    ]
 
 -- the number after the last of a range
 count_between_end : (lo hi : ℤ) → lo ≤ℤ hi → lo +ℤ pos (count_between lo hi) ≡ hi +ℤ pos 1

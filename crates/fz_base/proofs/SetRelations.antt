@@ -1,5 +1,5 @@
--- From what ranges cover to the sets of their numbers.
-use Rattle.std.proofs.Common.{◌≡◌, ℤ, ◌≤ℤ◌, Bool, true, ◌↔◌, List, Option, Some, None, IfSome, IfNone, sym, ap, ◌∙◌}
+-- From what numbers are kept to the set of them.
+use Rattle.std.proofs.Common.{◌≡◌, ℤ, ◌≤ℤ◌, Bool, true, ◌↔◌, List, Option, Some, None, IfSome, IfNone, FitsSigned, w64, sym, ap, ◌∙◌}
 use Rattle.std.specs.List.{list_any}
 use Rattle.std.specs.List.Sorted.{IsPermutation}
 use Rattle.std.specs.Ordering.{int_eq}
@@ -10,81 +10,103 @@ use Rattle.fz_base.specs.declared.ranges.Range.{Range}
 use Rattle.fz_base.specs.declared.ranges.Rule.{Rule}
 use Rattle.fz_base.specs.declared.ranges.Rule.TheVariants.{Union, Intersect, Minus, Symdiff}
 use Rattle.fz_base.specs.Sets.{NumberSet, numbers_between, symmetric_difference, LiesWithin, IsOnly}
-use Rattle.fz_base.specs.Ranges.{lowest, numbers_of, AreInOrder, CoversOnly, LiesIn, covers, is_between, keeps}
+use Rattle.fz_base.specs.declared.kept.Numbers.{Numbers}
+use Rattle.fz_base.specs.declared.kept.Numbers.TheVariants.{Low, Ranges}
+use Rattle.fz_base.specs.Keeping.{has, set_of, AreKept}
+use Rattle.fz_base.specs.Ranges.{lowest, AreInOrder, covers, is_between, keeps}
+use Rattle.fz_base.specs.Storage.{stored}
 use Rattle.fz_base.proofs.Numbers.{contains-numbers_of, contains-numbers_between, contains-symmetric_difference, same_numbers}
+use Rattle.fz_base.proofs.Covers.{covered_fits}
 use Rattle.fz_base.proofs.Unique.{same_ranges}
+use Rattle.fz_base.proofs.Words.{contains-numbers_of_bits, low_fits}
 
--- ranges that cover the numbers of a set
-pub seen : (s : NumberSet) (rs : List Range) → numbers_of rs ≡ s → (x : ℤ) → covers rs x ≡ contains s x
-seen s rs view x = rw (← view) (sym (contains-numbers_of rs x))
+contains-set_of : (n : Numbers) (x : ℤ) → contains (set_of n) x ≡ has n x
+contains-set_of (Low bits) x = contains-numbers_of_bits bits x
+contains-set_of (Ranges storage) x = contains-numbers_of (stored storage.value) x
 
--- ranges that cover what a set contains
-pub made : (rs : List Range) (s : NumberSet) → ((x : ℤ) → covers rs x ≡ contains s x) → numbers_of rs ≡ s
-made rs s is = same_numbers (numbers_of rs) s (λ x. contains-numbers_of rs x ∙ is x)
+-- numbers that are kept for a set
+pub seen : (n : Numbers) (s : NumberSet) → set_of n ≡ s → (x : ℤ) → has n x ≡ contains s x
+seen n s view x = sym (contains-set_of n x) ∙ ap (λ t. contains t x) view
 
-pub between_made : (lo hi : ℤ) (out : List Range) → ((x : ℤ) → covers out x ≡ is_between lo hi x) → numbers_of out ≡ numbers_between lo hi
+-- numbers that are what a set contains
+pub made : (n : Numbers) (s : NumberSet) → ((x : ℤ) → has n x ≡ contains s x) → set_of n ≡ s
+made n s is = same_numbers (set_of n) s (λ x. contains-set_of n x ∙ is x)
+
+pub between_made : (lo hi : ℤ) (out : Numbers) → ((x : ℤ) → has out x ≡ is_between lo hi x) → set_of out ≡ numbers_between lo hi
 between_made lo hi out is = made out (numbers_between lo hi) (λ x. is x ∙ sym (contains-numbers_between lo hi x))
 
-pub listed_made : (numbers sorted : List ℤ) (out : List Range) → IsPermutation numbers sorted → ((x : ℤ) → covers out x ≡ list_any (int_eq x) sorted) → numbers_of out ≡ from_list numbers
-listed_made numbers sorted out moved is =
-    made out (from_list numbers) (λ x. is x ∙ sym (list_any-IsPermutation (int_eq x) numbers sorted moved) ∙ sym (contains-from_list int_cmp_total numbers x))
+pub listed_made : (numbers : List ℤ) (out : Numbers) → ((x : ℤ) → has out x ≡ list_any (int_eq x) numbers) → set_of out ≡ from_list numbers
+listed_made numbers out is = made out (from_list numbers) (λ x. is x ∙ sym (contains-from_list int_cmp_total numbers x))
 
-module _ (s t : NumberSet) (a b : List Range) (is_a : (x : ℤ) → covers a x ≡ contains s x) (is_b : (x : ℤ) → covers b x ≡ contains t x) where
-  pub union_made : (out : List Range) → ((x : ℤ) → covers out x ≡ keeps Union (covers a x) (covers b x)) → numbers_of out ≡ union s t
+-- ranges in order cover the same where they are the same, and only there
+pub same_covered : (a b : List Range) → AreInOrder lowest a → AreInOrder lowest b → (r : Bool) → (r ≡ true ↔ (a ≡ b)) → (r ≡ true ↔ ((x : ℤ) → covers a x ≡ covers b x))
+same_covered a b order_a order_b r h = (λ e x. ap (λ rs. covers rs x) (h.0 e), λ alike. h.1 (same_ranges lowest lowest a b order_a order_b alike))
+
+-- numbers that are sorted are the same
+pub sorted_listed : (numbers sorted : List ℤ) → IsPermutation numbers sorted → (x : ℤ) → list_any (int_eq x) sorted ≡ list_any (int_eq x) numbers
+sorted_listed numbers sorted moved x = sym (list_any-IsPermutation (int_eq x) numbers sorted moved)
+
+module _ (s t : NumberSet) (a b : Numbers) (is_a : (x : ℤ) → has a x ≡ contains s x) (is_b : (x : ℤ) → has b x ≡ contains t x) where
+  pub union_made : (out : Numbers) → ((x : ℤ) → has out x ≡ keeps Union (has a x) (has b x)) → set_of out ≡ union s t
   union_made out kept = made out (union s t) (λ x. kept x ∙ rw (is_a x, is_b x) (sym (contains-union int_cmp_total s t x)))
 
-  pub intersection_made : (out : List Range) → ((x : ℤ) → covers out x ≡ keeps Intersect (covers a x) (covers b x)) → numbers_of out ≡ intersection s t
+  pub intersection_made : (out : Numbers) → ((x : ℤ) → has out x ≡ keeps Intersect (has a x) (has b x)) → set_of out ≡ intersection s t
   intersection_made out kept = made out (intersection s t) (λ x. kept x ∙ rw (is_a x, is_b x) (sym (contains-intersection int_cmp_total s t x)))
 
-  pub difference_made : (out : List Range) → ((x : ℤ) → covers out x ≡ keeps Minus (covers a x) (covers b x)) → numbers_of out ≡ difference s t
+  pub difference_made : (out : Numbers) → ((x : ℤ) → has out x ≡ keeps Minus (has a x) (has b x)) → set_of out ≡ difference s t
   difference_made out kept = made out (difference s t) (λ x. kept x ∙ rw (is_a x, is_b x) (sym (contains-difference int_cmp_total s t x)))
 
-  pub symmetric_difference_made : (out : List Range) → ((x : ℤ) → covers out x ≡ keeps Symdiff (covers a x) (covers b x)) → numbers_of out ≡ symmetric_difference s t
+  pub symmetric_difference_made : (out : Numbers) → ((x : ℤ) → has out x ≡ keeps Symdiff (has a x) (has b x)) → set_of out ≡ symmetric_difference s t
   symmetric_difference_made out kept = made out (symmetric_difference s t) (λ x. kept x ∙ rw (is_a x, is_b x) (sym (contains-symmetric_difference s t x)))
 
-  pub is_subset_is : (r : Bool) → (r ≡ true ↔ LiesIn a b) → r ≡ is_subset s t
+  pub is_subset_is : (r : Bool) → (r ≡ true ↔ ((x : ℤ) → has a x ≡ true → has b x ≡ true)) → r ≡ is_subset s t
   is_subset_is r h =
       both_ways r (is_subset s t)
       (λ e. contains-is_subset int_cmp_total s t (λ x in_s. sym (is_b x) ∙ h.0 e x (is_a x ∙ in_s)))
       (λ e. h.1 (λ x in_a. is_b x ∙ is_subset-contains int_cmp_total s t e x (sym (is_a x) ∙ in_a)))
 
-  pub equals_is : AreInOrder lowest a → AreInOrder lowest b → (r : Bool) → (r ≡ true ↔ (a ≡ b)) → (r ≡ true ↔ (s ≡ t))
-  equals_is order_a order_b r h = (
-    λ e. same_numbers s t (λ x. sym (is_a x) ∙ ap (λ rs. covers rs x) (h.0 e) ∙ is_b x),
-    λ e. h.1 (same_ranges lowest lowest a b order_a order_b (λ x. is_a x ∙ ap (λ u. contains u x) e ∙ sym (is_b x))),
+  pub equals_is : (r : Bool) → (r ≡ true ↔ ((x : ℤ) → has a x ≡ has b x)) → (r ≡ true ↔ (s ≡ t))
+  equals_is r h = (
+    λ e. same_numbers s t (λ x. sym (is_a x) ∙ h.0 e x ∙ is_b x),
+    λ e. h.1 (λ x. is_a x ∙ ap (λ u. contains u x) e ∙ sym (is_b x)),
   )
 
   -- a set of which ranges cover what the rule keeps is the one that has just that
-  is_kept_is : (rule : Rule) (u v : NumberSet) (c : List Range) → ((x : ℤ) → covers c x ≡ contains u x) → ((x : ℤ) → contains v x ≡ keeps rule (contains s x) (contains t x)) → (r : Bool)
-      → (r ≡ true ↔ ((x : ℤ) → covers c x ≡ keeps rule (covers a x) (covers b x))) → (r ≡ true ↔ (u ≡ v))
+  is_kept_is : (rule : Rule) (u v : NumberSet) (c : Numbers) → ((x : ℤ) → has c x ≡ contains u x) → ((x : ℤ) → contains v x ≡ keeps rule (contains s x) (contains t x)) → (r : Bool)
+      → (r ≡ true ↔ ((x : ℤ) → has c x ≡ keeps rule (has a x) (has b x))) → (r ≡ true ↔ (u ≡ v))
   is_kept_is rule u v c is_c has r h = (
     λ e. same_numbers u v (λ x. sym (is_c x) ∙ h.0 e x ∙ (λ i. keeps rule (is_a x i) (is_b x i)) ∙ sym (has x)),
     λ e. h.1 (λ x. is_c x ∙ ap (λ w. contains w x) e ∙ has x ∙ (λ i. keeps rule (sym (is_a x) i) (sym (is_b x) i))),
   )
 
-  module _ (u : NumberSet) (c : List Range) (is_c : (x : ℤ) → covers c x ≡ contains u x) (r : Bool) where
-    pub is_union_is : (r ≡ true ↔ ((x : ℤ) → covers c x ≡ keeps Union (covers a x) (covers b x))) → (r ≡ true ↔ (u ≡ union s t))
+  module _ (u : NumberSet) (c : Numbers) (is_c : (x : ℤ) → has c x ≡ contains u x) (r : Bool) where
+    pub is_union_is : (r ≡ true ↔ ((x : ℤ) → has c x ≡ keeps Union (has a x) (has b x))) → (r ≡ true ↔ (u ≡ union s t))
     is_union_is h = is_kept_is Union u (union s t) c is_c (contains-union int_cmp_total s t) r h
 
-    pub is_intersection_is : (r ≡ true ↔ ((x : ℤ) → covers c x ≡ keeps Intersect (covers a x) (covers b x))) → (r ≡ true ↔ (u ≡ intersection s t))
+    pub is_intersection_is : (r ≡ true ↔ ((x : ℤ) → has c x ≡ keeps Intersect (has a x) (has b x))) → (r ≡ true ↔ (u ≡ intersection s t))
     is_intersection_is h = is_kept_is Intersect u (intersection s t) c is_c (contains-intersection int_cmp_total s t) r h
 
-    pub is_difference_is : (r ≡ true ↔ ((x : ℤ) → covers c x ≡ keeps Minus (covers a x) (covers b x))) → (r ≡ true ↔ (u ≡ difference s t))
+    pub is_difference_is : (r ≡ true ↔ ((x : ℤ) → has c x ≡ keeps Minus (has a x) (has b x))) → (r ≡ true ↔ (u ≡ difference s t))
     is_difference_is h = is_kept_is Minus u (difference s t) c is_c (contains-difference int_cmp_total s t) r h
 
-    pub is_symmetric_difference_is : (r ≡ true ↔ ((x : ℤ) → covers c x ≡ keeps Symdiff (covers a x) (covers b x))) → (r ≡ true ↔ (u ≡ symmetric_difference s t))
+    pub is_symmetric_difference_is : (r ≡ true ↔ ((x : ℤ) → has c x ≡ keeps Symdiff (has a x) (has b x))) → (r ≡ true ↔ (u ≡ symmetric_difference s t))
     is_symmetric_difference_is h = is_kept_is Symdiff u (symmetric_difference s t) c is_c (contains-symmetric_difference s t) r h
 
-pub lies_within_is : (s : NumberSet) (a : List Range) → ((x : ℤ) → covers a x ≡ contains s x) → (lo hi : ℤ) (r : Bool) → (r ≡ true ↔ ((x : ℤ) → covers a x ≡ true → (lo ≤ℤ x) × (x ≤ℤ hi))) → (r ≡ true ↔ LiesWithin lo hi s)
+pub lies_within_is : (s : NumberSet) (a : Numbers) → ((x : ℤ) → has a x ≡ contains s x) → (lo hi : ℤ) (r : Bool) → (r ≡ true ↔ ((x : ℤ) → has a x ≡ true → (lo ≤ℤ x) × (x ≤ℤ hi))) → (r ≡ true ↔ LiesWithin lo hi s)
 lies_within_is s a is_a lo hi r h = (λ e x in_s. h.0 e x (is_a x ∙ in_s), λ all. h.1 (λ x in_a. all x (sym (is_a x) ∙ in_a)))
 
 -- ---- one number alone
 
-module _ (s : NumberSet) (rs : List Range) (is : (x : ℤ) → covers rs x ≡ contains s x) where
-  pub only_found : (o : Option ℤ) → IfSome o (λ n. CoversOnly n rs) → IfSome o (λ n. IsOnly n s)
+module _ (s : NumberSet) (rs : Numbers) (is : (x : ℤ) → has rs x ≡ contains s x) where
+  pub only_found : (o : Option ℤ) → IfSome o (λ n. ((x : ℤ) → (has rs x ≡ true) ↔ (x ≡ n))) → IfSome o (λ n. IsOnly n s)
   only_found None h = h
   only_found (Some n) h = λ x. ((λ e. (h x).0 (is x ∙ e)), (λ e. sym (is x) ∙ (h x).1 e))
 
-  pub only_none : (o : Option ℤ) → IfNone o ((n : ℤ) → CoversOnly n rs → ⊥) → IfNone o ((n : ℤ) → IsOnly n s → ⊥)
+  pub only_none : (o : Option ℤ) → IfNone o ((n : ℤ) → ((x : ℤ) → (has rs x ≡ true) ↔ (x ≡ n)) → ⊥) → IfNone o ((n : ℤ) → IsOnly n s → ⊥)
   only_none None h = λ n g. h n (λ x. ((λ e. (g x).0 (sym (is x) ∙ e)), (λ e. is x ∙ (g x).1 e)))
   only_none (Some n) h = h
+
+-- numbers that are kept have 64 bits
+pub has_fits : (x : ℤ) (n : Numbers) → AreKept n → has n x ≡ true → FitsSigned w64 x
+has_fits x (Low bits) kept in_it = low_fits bits x in_it
+has_fits x (Ranges storage) kept in_it = covered_fits x (stored storage.value) kept.1 in_it

@@ -11,7 +11,7 @@ ghost use Rattle.fz_base.specs.Ranges.{lowest, AreInOrder, CoversOnly, EndUpTo, 
 use std::alloc::{AllocError, Global};
 
 /// The numbers from `lo` to `hi`, both included.
-#[derive(Clone, Copy, Debug)]
+#[derive(Clone, Copy, Debug, Default)]
 pub struct Range {
     pub lo: i64,
     pub hi: i64,
@@ -93,7 +93,7 @@ fn past(ranges: &[Range], end: i64) -> &[Range]
 }
 
 /// Whether no number stands between `end` and `lo`.
-fn touches(end: i64, lo: i64) -> bool
+pub fn touches(end: i64, lo: i64) -> bool
     ensures { IsTrue result ↔ (lo ≤ℤ (end +ℤ pos 1)) }
 {
     lo <= end || lo == end + 1

@@ -1,11 +1,11 @@
 // Finite sets of whole numbers.
 ghost use Rattle.std.specs.Prelude.{◌≡◌, ◌≤◌, ◌^◌, ◌↔◌, ℤ, IsTrue, IfNone, IfOk, IfSome};
 ghost use Rattle.std.specs.FinSet as set;
-ghost use Rattle.fz_base.specs.Ranges.{lowest, numbers_of, AreInOrder};
+ghost use Rattle.fz_base.specs.Keeping.{set_of, AreKept};
 ghost use Rattle.fz_base.specs.Sets.{numbers_between, symmetric_difference, LiesWithin, Has64Bits, IsOnly};
 
-use crate::ranges::{self, Range, Rule};
-use crate::storage::{self, Storage};
+use crate::kept::{self, Numbers};
+use crate::ranges::Rule;
 use std::alloc::{AllocError, Global};
 use std::marker::Model;
 use thiserror::Error;
@@ -23,11 +23,11 @@ impl From<AllocError> for SetError {
     }
 }
 
-/// A finite set of whole numbers of 64 bits, of any size. Its ranges are boxed, so that a set takes 8 bytes where it stands and
-/// a table of values is small.
+/// A finite set of whole numbers of 64 bits, of any size. It takes 16 bytes where it stands, and no other memory where all its numbers
+/// are from 0 to 63.
 #[derive(Debug, Drop)]
 pub struct IntSet {
-    ranges: Box<Storage>,
+    numbers: Numbers,
 }
 
 impl Model for IntSet {
@@ -39,32 +39,29 @@ impl Model for IntSet {
 
     ghost coded = { code coded_ℤ };
 
-    ghost use Rattle.fz_base.specs.Ranges.{lowest, numbers_of, AreInOrder};
-    ghost use Rattle.fz_base.specs.Storage.{stored, HasPlaces};
+    ghost use Rattle.fz_base.specs.Keeping.{set_of, AreKept};
 
-    ghost view = { λ s. numbers_of (stored s.ranges.value) };
+    ghost view = { λ s. set_of s.numbers };
 
-    ghost invariant = { λ s. HasPlaces s.ranges.value × AreInOrder lowest (stored s.ranges.value) };
+    ghost invariant = { λ s. AreKept s.numbers };
 }
 
-/// The set of the numbers that ranges in order cover.
-fn of_ranges(alloc: Global, ranges: Vec<Range>) -> Result<IntSet, AllocError>
-    requires in_order { AreInOrder lowest ranges.items }
-    ensures { IfOk result (λ s. s ≡ numbers_of ranges.items) }
+/// The set of numbers that are kept.
+fn set_of(numbers: Numbers) -> IntSet
+    requires kept { AreKept numbers }
+    ensures { result ≡ set_of numbers }
 {
-    Ok(IntSet {
-        ranges: Box::new(alloc, storage::store(ranges))?,
-    })
+    IntSet { numbers }
 }
 
 impl IntSet {
-    /// The ranges that the set is kept as.
+    /// The numbers as they are kept.
     #[inline(always)]
-    fn kept(&self) -> &[Range]
-        ensures in_order { AreInOrder lowest result.now }
-        ensures same { numbers_of result.now ≡ self.now }
+    fn kept(&self) -> &Numbers
+        ensures kept { AreKept result.now }
+        ensures same { set_of result.now ≡ self.now }
     {
-        self.ranges.ranges()
+        &self.numbers
     }
 }
 
@@ -74,67 +71,71 @@ impl IntSet {
     pub fn range(alloc: Global, lo: i64, hi: i64) -> Result<IntSet, SetError>
         ensures { IfOk result (λ s. s ≡ numbers_between lo hi) }
     {
-        Ok(of_ranges(alloc, ranges::between(alloc, lo, hi)?)?)
+        Ok(set_of(kept::between(alloc, lo, hi)?))
     }
 
-    /// The listed numbers, which come in any order and may repeat. It sorts them once, and takes
+    /// The listed numbers, which come in any order and may repeat. It sorts them once, unless all are from 0 to 63, and takes
     /// time in proportion to their number where they are sorted.
     pub fn list(alloc: Global, numbers: &[i64]) -> Result<IntSet, SetError>
         ensures { IfOk result (λ s. s ≡ set.from_list numbers.now) }
     {
-        let mut sorted = Vec::from_slice(alloc, numbers)?;
-        sorted.sort_unstable();
-        Ok(of_ranges(alloc, ranges::gather(alloc, &sorted)?)?)
+        Ok(set_of(kept::listed(alloc, numbers)?))
     }
 }
 
 /// Asking sets. These calls take no memory and always succeed.
 impl IntSet {
     /// Whether the number is in the set, by halving.
+    #[inline]
     pub fn contains(&self, number: i64) -> bool
         ensures { result ≡ set.contains self.now number }
     {
-        ranges::is_covered(self.kept(), number)
+        self.kept().contain(number)
     }
 
     /// How many numbers the set has: at most 2^64, where it has all.
+    #[inline]
     pub fn len(&self) -> u128
         ensures exact { result ≡ set.len self.now }
         ensures bound { result ≤ 2 ^ 64 }
     {
-        ranges::count(self.kept())
+        self.kept().count()
     }
 
     /// The number of the set, where it has exactly one, at once.
+    #[inline]
     pub fn only(&self) -> Option<i64>
         ensures found { IfSome result (λ n. IsOnly n self.now) }
         ensures none { IfNone result ((n : ℤ) → IsOnly n self.now → ⊥) }
     {
-        ranges::only(self.kept())
+        self.kept().only()
     }
 
     /// Whether each number of this set is in the other, in one pass over both.
+    #[inline]
     pub fn is_subset(&self, other: &IntSet) -> bool
         ensures { result ≡ set.is_subset self.now other.now }
     {
-        ranges::are_covered(self.kept(), other.kept())
+        self.kept().are_covered(other.kept())
     }
 
     /// Whether the two sets have the same numbers, in one pass over both.
+    #[inline]
     pub fn equals(&self, other: &IntSet) -> bool
         ensures { IsTrue result ↔ (self.now ≡ other.now) }
     {
-        ranges::are_same(self.kept(), other.kept())
+        self.kept().are_same(other.kept())
     }
 
     /// Whether each number of the set is from `lo` to `hi`, both included.
+    #[inline]
     pub fn within(&self, lo: i64, hi: i64) -> bool
         ensures exact { IsTrue result ↔ LiesWithin lo hi self.now }
 
         // whatever `lo` and `hi` are
         ensures fits { Has64Bits self.now }
     {
-        ranges::lie_within(self.kept(), lo, hi)
+        self.kept().lie_within(lo, hi)
     }
 }
 
@@ -142,31 +143,35 @@ impl IntSet {
 /// always succeed.
 impl IntSet {
     /// Whether this set is what is in one of the two or in both.
+    #[inline]
     pub fn is_union(&self, a: &IntSet, b: &IntSet) -> bool
         ensures { IsTrue result ↔ (self.now ≡ set.union a.now b.now) }
     {
-        ranges::is_kept(a.kept(), b.kept(), self.kept(), Rule::Union)
+        self.kept().are_kept(a.kept(), b.kept(), Rule::Union)
     }
 
     /// Whether this set is what is in both.
+    #[inline]
     pub fn is_intersection(&self, a: &IntSet, b: &IntSet) -> bool
         ensures { IsTrue result ↔ (self.now ≡ set.intersection a.now b.now) }
     {
-        ranges::is_kept(a.kept(), b.kept(), self.kept(), Rule::Intersect)
+        self.kept().are_kept(a.kept(), b.kept(), Rule::Intersect)
     }
 
     /// Whether this set is what is in the first and not in the second.
+    #[inline]
     pub fn is_difference(&self, a: &IntSet, b: &IntSet) -> bool
         ensures { IsTrue result ↔ (self.now ≡ set.difference a.now b.now) }
     {
-        ranges::is_kept(a.kept(), b.kept(), self.kept(), Rule::Minus)
+        self.kept().are_kept(a.kept(), b.kept(), Rule::Minus)
     }
 
     /// Whether this set is what is in exactly one of the two.
+    #[inline]
     pub fn is_symmetric_difference(&self, a: &IntSet, b: &IntSet) -> bool
         ensures { IsTrue result ↔ (self.now ≡ symmetric_difference a.now b.now) }
     {
-        ranges::is_kept(a.kept(), b.kept(), self.kept(), Rule::Symdiff)
+        self.kept().are_kept(a.kept(), b.kept(), Rule::Symdiff)
     }
 }
 
@@ -177,40 +182,38 @@ impl IntSet {
     pub fn union(&self, alloc: Global, other: &IntSet) -> Result<IntSet, SetError>
         ensures { IfOk result (λ s. s ≡ set.union self.now other.now) }
     {
-        let ranges = ranges::combine(alloc, self.kept(), other.kept(), Rule::Union)?;
-        Ok(of_ranges(alloc, ranges)?)
+        let numbers = self.kept().combine(alloc, other.kept(), Rule::Union)?;
+        Ok(set_of(numbers))
     }
 
     /// What is in both sets.
     pub fn intersect(&self, alloc: Global, other: &IntSet) -> Result<IntSet, SetError>
         ensures { IfOk result (λ s. s ≡ set.intersection self.now other.now) }
     {
-        let ranges = ranges::combine(alloc, self.kept(), other.kept(), Rule::Intersect)?;
-        Ok(of_ranges(alloc, ranges)?)
+        let numbers = self.kept().combine(alloc, other.kept(), Rule::Intersect)?;
+        Ok(set_of(numbers))
     }
 
     /// What is in this set and not in the other.
     pub fn minus(&self, alloc: Global, other: &IntSet) -> Result<IntSet, SetError>
         ensures { IfOk result (λ s. s ≡ set.difference self.now other.now) }
     {
-        let ranges = ranges::combine(alloc, self.kept(), other.kept(), Rule::Minus)?;
-        Ok(of_ranges(alloc, ranges)?)
+        let numbers = self.kept().combine(alloc, other.kept(), Rule::Minus)?;
+        Ok(set_of(numbers))
     }
 
     /// What is in exactly one of the two sets.
     pub fn symdiff(&self, alloc: Global, other: &IntSet) -> Result<IntSet, SetError>
         ensures { IfOk result (λ s. s ≡ symmetric_difference self.now other.now) }
     {
-        let ranges = ranges::combine(alloc, self.kept(), other.kept(), Rule::Symdiff)?;
-        Ok(of_ranges(alloc, ranges)?)
+        let numbers = self.kept().combine(alloc, other.kept(), Rule::Symdiff)?;
+        Ok(set_of(numbers))
     }
 
     /// A set with the same numbers.
     pub fn copy(&self, alloc: Global) -> Result<IntSet, AllocError>
         ensures { IfOk result (λ s. s ≡ self.now) }
     {
-        Ok(IntSet {
-            ranges: Box::new(alloc, self.ranges.copy(alloc)?)?,
-        })
+        Ok(set_of(self.kept().copy(alloc)?))
     }
 }

@@ -4,11 +4,11 @@ use std::mem::size_of;
 use std::test::Fail;
 
 // Values stand in tables that are read for each constraint of each block, so they are kept small.
-const _: () = prove!(size_of::<IntSet>() == 8);
+const _: () = prove!(size_of::<IntSet>() == 16);
 
-const _: () = prove!(size_of::<Value>() == 16);
+const _: () = prove!(size_of::<Value>() == 24);
 
-const _: () = prove!(size_of::<Option<Value>>() == 24);
+const _: () = prove!(size_of::<Option<Value>>() == 32);
 
 /// Whether the set has the listed numbers, each listed once, and no other.
 fn has_exactly(set: &IntSet, listed: &[i64]) -> bool {
@@ -72,8 +72,10 @@ fn sets_of_any_size(rt: HostRuntime) -> Result<(), Fail> {
     Ok(())
 }
 
-/// Numbers of which no two are neighbours: a set of the first of them has as many ranges as numbers.
-const APART: [i64; 6] = [1, 3, 5, 7, 9, 11];
+/// Numbers of which no two are neighbours: a set of the first of them has as many ranges as numbers. A word can have the low ones.
+const LOW: [i64; 6] = [0, 3, 5, 7, 9, 63];
+
+const APART: [i64; 6] = [101, 103, 105, 107, 109, 111];
 
 /// Whether the set of the listed numbers has these and no other, and its copy too, and whether a further number makes it another set
 /// until it is taken away again.
@@ -91,16 +93,18 @@ fn keeps_numbers(alloc: Global, listed: &[i64]) -> Result<bool, SetError> {
 fn sets_of_few_and_of_many_ranges(rt: HostRuntime) -> Result<(), Fail> {
     let alloc = rt.alloc();
     for count in 0..7 {
+        assert!(rt; keeps_numbers(alloc, &LOW[..count])?, "{count}");
         assert!(rt; keeps_numbers(alloc, &APART[..count])?, "{count}");
     }
     Ok(())
 }
 
-/// What the sets of `agrees_with_sorted_lists` are made of: neighbours, gaps and both ends.
-const UNIVERSE: [i64; 6] = [i64::MIN, -1, 0, 1, 3, i64::MAX];
+/// What the sets of `agrees_with_sorted_lists` are made of: neighbours, gaps, both ends, and numbers on both sides of those that a word
+/// can have.
+const UNIVERSE: [i64; 7] = [i64::MIN, -1, 0, 1, 63, 64, i64::MAX];
 
 /// How many subsets the universe has.
-const SUBSETS: u32 = 64;
+const SUBSETS: u32 = 128;
 
 #[derive(Clone, Copy, Debug)]
 enum Operation {

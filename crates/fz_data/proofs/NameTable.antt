@@ -1,61 +1,82 @@
 -- The table of names: what is looked up there, and what one more name leaves as it is.
-use Rattle.std.proofs.Common.{◌≡◌, ℕ, suc, zero, ◌+◌, ◌<◌, List, [], ◌∷◌, ◌++◌, map, length, Option, Some, None, option_map, slice_get, cond, Bool, true, false, refl, sym, ap, ◌∙◌, subst, is_some, is_none, arith}
-use Rattle.std.specs.List.{AllByRecursion}
+use Rattle.std.proofs.Common.{◌≡◌, ℕ, suc, zero, ◌+◌, ◌<◌, List, [], ◌∷◌, ◌++◌, map, length, Option, Some, option_map, slice_get, cond, if◌then◌else◌, ◌||◌, Bool, true, false, refl, sym, ap, ◌∙◌, subst, is_some, is_none, arith}
+use Rattle.std.specs.List.{AllByRecursion, IsDistinct, find, list_any}
 use Rattle.std.specs.Option.{option_map_or}
 use Rattle.std.specs.Str.{bytes_eq}
-use Rattle.std.specs.Map.{lookup, lookup_key}
+use Rattle.std.specs.Map.{lookup}
 use Rattle.std.proofs.lemmas.List.{map-append, length-append}
 use Rattle.std.proofs.lemmas.Slice.Eq.{bytes_eq-Decides}
+use Rattle.indexmap.specs.IndexSet.{insert_key}
 use Rattle.fz_meaning.proofs.Lists.{all_append}
 use Rattle.fz_meaning.specs.declared.term.Term.{Term}
 use Rattle.fz_meaning.specs.declared.term.Term.TheVariants.{Var}
 use Rattle.fz_data.specs.declared.names.Entry.{Entry}
-use Rattle.fz_data.specs.declared.names.Text.{Text}
+use Rattle.fz_data.specs.declared.names.Kept.{Kept}
 use Rattle.fz_data.specs.declared.names.Entry.TheVariants as entries
 use Rattle.fz_data.specs.Naming.{Declared, has_text, stands_for, IsAmongTerms, own_from, own_terms, no_term}
 use Rattle.fz_data.specs.Names.{entry_stands, is_among_terms}
 
-abbrev pub Kept : Type 0
-Kept = Text × Entry
-
-abbrev pub is_key : List ℕ → Text → Bool
+abbrev pub is_key : List ℕ → Kept → Bool
 is_key x k = bytes_eq x k.bytes.now
 
-map_cond : {A B : Type 0} (f : A → B) (b : Bool) (x : A) (o : Option A) → cond b (Some (f x)) (option_map f o) ≡ option_map f (cond b (Some x) o)
-map_cond f true x o = refl
-map_cond f false x o = refl
+abbrev pub same_key : Kept → Kept → Bool
+same_key a b = bytes_eq a.bytes.now b.bytes.now
 
 -- a look-up in the list is one in the table
-pub looked_up : (ts : List Term) (x : List ℕ) (es : List Kept) → lookup (has_text x) (map (entry_stands ts) es) ≡ option_map (stands_for ts) (lookup (is_key x) es)
+pub looked_up : (ts : List Term) (x : List ℕ) (ks : List Kept) → lookup (has_text x) (map (entry_stands ts) ks) ≡ option_map (λ k. stands_for ts k.entry) (find (is_key x) ks)
 looked_up ts x [] = refl
-looked_up ts x (e ∷ es) = ap (λ o. cond (is_key x e.0) (Some (stands_for ts e.1)) o) (looked_up ts x es) ∙ map_cond (stands_for ts) (is_key x e.0) e.1 (lookup (is_key x) es)
+looked_up ts x (k ∷ ks) = ap (λ o. cond (is_key x k) (Some (stands_for ts k.entry)) o) (looked_up ts x ks) ∙ at_first (is_key x k) (find (is_key x) ks)
+  where
+    at_first : (b : Bool) (o : Option Kept) → cond b (Some (stands_for ts k.entry)) (option_map (λ j. stands_for ts j.entry) o) ≡ option_map (λ j. stands_for ts j.entry) (cond b (Some k) o)
+    at_first true o = refl
+    at_first false o = refl
 
 -- an entry that is found is among the terms
-pub found_among : (ts : List Term) (x : List ℕ) (es : List Kept) (e : Entry) → AllByRecursion (is_among_terms ts) es → Some e ≡ lookup (is_key x) es → IsAmongTerms ts e
-found_among ts x [] e h is = cc
-found_among ts x (y ∷ es) e h is =
-    (elim (is_key x y.0) as (λ b. Some e ≡ cond b (Some y.1) (lookup (is_key x) es) → IsAmongTerms ts e) [
-      | true ↦ λ is. let same : y.1 ≡ e = cc in subst (IsAmongTerms ts) same h.0
-      | false ↦ λ later. found_among ts x es e h.1 later
+pub found_among : (ts : List Term) (x : List ℕ) (ks : List Kept) (k : Kept) → AllByRecursion (is_among_terms ts) ks → Some k ≡ find (is_key x) ks → IsAmongTerms ts k.entry
+found_among ts x [] k h is = cc
+found_among ts x (y ∷ ks) k h is =
+    (elim (is_key x y) as (λ b. Some k ≡ cond b (Some y) (find (is_key x) ks) → IsAmongTerms ts k.entry) [
+      | true ↦ λ is. let same : y ≡ k = cc in subst (is_among_terms ts) same h.0
+      | false ↦ λ later. found_among ts x ks k h.1 later
     ]) is
 
 -- the key that is found has the text
-pub key_passes : (x : List ℕ) (es : List Kept) (k : Text) → Some k ≡ lookup_key (is_key x) es → k.bytes.now ≡ x
+pub key_passes : (x : List ℕ) (ks : List Kept) (k : Kept) → Some k ≡ find (is_key x) ks → k.bytes.now ≡ x
 key_passes x [] k e = cc
-key_passes x (y ∷ es) k e = (elim (is_key x y.0) as (λ b. is_key x y.0 ≡ b → Some k ≡ cond b (Some y.0) (lookup_key (is_key x) es) → k.bytes.now ≡ x) [
-  | true ↦ λ passes e. let same : k ≡ y.0 = cc in ap (λ (w : Text). w.bytes.now) same ∙ sym ((bytes_eq-Decides x y.0.bytes.now).0 passes)
-  | false ↦ λ _ later. key_passes x es k later
+key_passes x (y ∷ ks) k e = (elim (is_key x y) as (λ b. is_key x y ≡ b → Some k ≡ cond b (Some y) (find (is_key x) ks) → k.bytes.now ≡ x) [
+  | true ↦ λ passes e. let same : k ≡ y = cc in ap (λ (w : Kept). w.bytes.now) same ∙ sym ((bytes_eq-Decides x y.bytes.now).0 passes)
+  | false ↦ λ _ later. key_passes x ks k later
 ]) refl e
+
+-- the key at a place is the one that is found, since no other has its text
+pub found_there : (ks : List Kept) (i : ℕ) (k : Kept) → IsDistinct same_key ks → Some k ≡ slice_get ks i → find (is_key k.bytes.now) ks ≡ Some k
+unfolding IsDistinct
+found_there [] i k h at = cc
+found_there (y ∷ ks) zero k h at =
+    let same : k ≡ y = cc in
+    subst (λ j. find (is_key j.bytes.now) (y ∷ ks) ≡ Some j) (sym same) (ap (λ b. cond b (Some y) (find (is_key y.bytes.now) ks)) ((bytes_eq-Decides y.bytes.now y.bytes.now).1 refl))
+found_there (y ∷ ks) (suc i) k h at = ap (λ b. cond b (Some y) (find (is_key k.bytes.now) ks)) (other (is_key k.bytes.now y) refl) ∙ found_there ks i k h.1 at
+  where
+    apart : (zs : List Kept) (n : ℕ) → AllByRecursion (λ z. same_key y z ≡ false) zs → Some k ≡ slice_get zs n → same_key y k ≡ false
+    apart [] n all is = cc
+    apart (z ∷ zs) zero all is = let same : z ≡ k = cc in subst (λ w. same_key y w ≡ false) same all.0
+    apart (z ∷ zs) (suc n) all is = apart zs n all.1 is
+
+    other : (b : Bool) → is_key k.bytes.now y ≡ b → is_key k.bytes.now y ≡ false
+    other false e = e
+    other true e =
+        let text = (bytes_eq-Decides k.bytes.now y.bytes.now).0 e in
+        let no : true ≡ false = sym ((bytes_eq-Decides y.bytes.now k.bytes.now).1 (sym text)) ∙ apart ks i h.0 at in cc
 
 -- ---- one more
 
 -- a name that is new in the list is new in the table
-pub new_key : (ts : List Term) (x : List ℕ) (es : List Kept) → is_none (lookup (has_text x) (map (entry_stands ts) es)) ≡ true → lookup (is_key x) es ≡ None
-new_key ts x es e = none_here (lookup (is_key x) es) (sym (ap is_none (looked_up ts x es)) ∙ e)
-  where
-    none_here : (o : Option Entry) → is_none (option_map (stands_for ts) o) ≡ true → o ≡ None
-    none_here None e = refl
-    none_here (Some y) e = cc
+pub new_key : (ts : List Term) (x : List ℕ) (ks : List Kept) → is_none (lookup (has_text x) (map (entry_stands ts) ks)) ≡ true → list_any (is_key x) ks ≡ false
+new_key ts x [] e = refl
+new_key ts x (k ∷ ks) e = (elim (is_key x k) as (λ b. is_none (cond b (Some (stands_for ts k.entry)) (lookup (has_text x) (map (entry_stands ts) ks))) ≡ true → (b || list_any (is_key x) ks) ≡ false) [
+  | true ↦ λ no. cc
+  | false ↦ λ later. new_key ts x ks later
+]) e
 
 -- what was found among the terms is found there where one more comes
 get_front : {A : Type 0} (xs ys : List A) (i : ℕ) → i < length xs → slice_get (xs ++ ys) i ≡ slice_get xs i
@@ -65,7 +86,7 @@ get_front (x ∷ xs) ys (suc i) lt = get_front xs ys i (omega arith)
 
 pub among_more : (ts us : List Term) (es : List Kept) → AllByRecursion (is_among_terms ts) es → AllByRecursion (is_among_terms (ts ++ us)) es
 among_more ts us [] h = tt
-among_more ts us (e ∷ es) h = (one e.1 h.0, among_more ts us es h.1)
+among_more ts us (e ∷ es) h = (one e.entry h.0, among_more ts us es h.1)
   where
     longer : (n i : ℕ) → i < length ts → i < length (ts ++ us)
     longer n i lt = omega (arith, length-append ts us)
@@ -82,7 +103,7 @@ stands_same ts us (entries.Array i) h = refl
 
 pub all_stand_same : (ts us : List Term) (es : List Kept) → AllByRecursion (is_among_terms ts) es → map (entry_stands (ts ++ us)) es ≡ map (entry_stands ts) es
 all_stand_same ts us [] h = refl
-all_stand_same ts us (e ∷ es) h = λ i. (e.0.bytes.now, stands_same ts us e.1 h.0 i) ∷ all_stand_same ts us es h.1 i
+all_stand_same ts us (e ∷ es) h = λ i. (e.bytes.now, stands_same ts us e.entry h.0 i) ∷ all_stand_same ts us es h.1 i
 
 -- ---- the scalars that variables are
 
@@ -103,19 +124,23 @@ own_more k =
 
 -- ---- one more name
 
-some_map : {A B : Type 0} (f : A → B) (o : Option A) → is_some o ≡ is_some (option_map f o)
-some_map f None = refl
-some_map f (Some x) = refl
+pub declared_there : (ts : List Term) (x : List ℕ) (ks : List Kept) → list_any (is_key x) ks ≡ is_some (lookup (has_text x) (map (entry_stands ts) ks))
+declared_there ts x [] = refl
+declared_there ts x (k ∷ ks) = ap (λ b. is_key x k || b) (declared_there ts x ks) ∙ at_first (is_key x k) (lookup (has_text x) (map (entry_stands ts) ks))
+  where
+    at_first : (b : Bool) (o : Option Declared) → (b || is_some o) ≡ is_some (cond b (Some (stands_for ts k.entry)) o)
+    at_first true o = refl
+    at_first false o = refl
 
-pub declared_there : (ts : List Term) (x : List ℕ) (es : List Kept) → is_some (lookup (is_key x) es) ≡ is_some (lookup (has_text x) (map (entry_stands ts) es))
-declared_there ts x es = some_map (stands_for ts) (lookup (is_key x) es) ∙ ap is_some (sym (looked_up ts x es))
+module _ (ts : List Term) (ks new : List Kept) (k : Kept) (grew : new ≡ insert_key same_key ks k) (absent : list_any (same_key k) ks ≡ false) where
+  last : new ≡ ks ++ k ∷ []
+  last = grew ∙ ap (λ b. if b then ks else ks ++ k ∷ []) absent
 
-module _ (ts : List Term) (es new : List Kept) (k : Text) (e : Entry) (grew : new ≡ es ++ (k, e) ∷ []) where
-  pub among_pushed : AllByRecursion (is_among_terms ts) es → IsAmongTerms ts e → AllByRecursion (is_among_terms ts) new
-  among_pushed h here = subst (AllByRecursion (is_among_terms ts)) (sym grew) (all_append (is_among_terms ts) es ((k, e) ∷ []) h (here, tt))
+  pub among_pushed : AllByRecursion (is_among_terms ts) ks → IsAmongTerms ts k.entry → AllByRecursion (is_among_terms ts) new
+  among_pushed h here = subst (AllByRecursion (is_among_terms ts)) (sym last) (all_append (is_among_terms ts) ks (k ∷ []) h (here, tt))
 
-  pub view_pushed : (n : List (List ℕ × Declared)) → map (entry_stands ts) es ≡ n → map (entry_stands ts) new ≡ n ++ (k.bytes.now, stands_for ts e) ∷ []
-  view_pushed n is = ap (map (entry_stands ts)) grew ∙ map-append (entry_stands ts) es ((k, e) ∷ []) ∙ ap (λ zs. zs ++ (k.bytes.now, stands_for ts e) ∷ []) is
+  pub view_pushed : (n : List (List ℕ × Declared)) → map (entry_stands ts) ks ≡ n → map (entry_stands ts) new ≡ n ++ (k.bytes.now, stands_for ts k.entry) ∷ []
+  view_pushed n is = ap (map (entry_stands ts)) last ∙ map-append (entry_stands ts) ks (k ∷ []) ∙ ap (λ zs. zs ++ (k.bytes.now, stands_for ts k.entry) ∷ []) is
 
 at_end : {A : Type 0} (xs : List A) (x : A) → slice_get (xs ++ x ∷ []) (length xs) ≡ Some x
 at_end [] x = refl

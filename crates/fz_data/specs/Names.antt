@@ -2,19 +2,18 @@
 use Rattle.std.specs.Prelude.{ℕ, List, map}
 use Rattle.std.specs.List.{AllByRecursion}
 use Rattle.fz_meaning.specs.declared.term.Term.{Term}
-use Rattle.fz_data.specs.declared.names.Entry.{Entry}
-use Rattle.fz_data.specs.declared.names.Text.{Text}
+use Rattle.fz_data.specs.declared.names.Kept.{Kept}
 use Rattle.fz_data.specs.declared.names.Names.TheInside.{Inside}
 use Rattle.fz_data.specs.Naming.{Declared, stands_for, IsAmongTerms}
 
-abbrev pub entry_stands : List Term → (Text × Entry) → (List ℕ × Declared)
-entry_stands ts e = (e.0.bytes.now, stands_for ts e.1)
+abbrev pub entry_stands : List Term → Kept → (List ℕ × Declared)
+entry_stands ts k = (k.bytes.now, stands_for ts k.entry)
 
 abbrev pub names_view : Inside → List (List ℕ × Declared)
-names_view n = map (entry_stands n.parameters.items) n.entries.entries
+names_view n = map (entry_stands n.parameters.items) n.entries.keys
 
-abbrev pub is_among_terms : List Term → (Text × Entry) → Type 0
-is_among_terms ts e = IsAmongTerms ts e.1
+abbrev pub is_among_terms : List Term → Kept → Type 0
+is_among_terms ts k = IsAmongTerms ts k.entry
 
 abbrev pub AreAmongTerms : Inside → Type 0
-AreAmongTerms n = AllByRecursion (is_among_terms n.parameters.items) n.entries.entries
+AreAmongTerms n = AllByRecursion (is_among_terms n.parameters.items) n.entries.keys

@@ -82,7 +82,19 @@ impl<'a> Model<'a> {
         ensures text { IfSome result (λ f. f.name.now ≡ name.now) }
         ensures kinds { IfSome result (λ f. PlaceFits self.now (found_place (variables_of self.now) f)) }
     {
-        let (text, standing) = self.names.find(name)?;
+        // No name stands at the last number, so that nothing is looked at there.
+        let (found, _) = self.find_at(name, usize::MAX)?;
+        Some(found)
+    }
+
+    /// What a name stands for, where it is declared, and its place among the names. It is looked for at this place first, which may be
+    /// any: who keeps where a name was found finds it there again without a look-up. It takes no memory.
+    pub fn find_at(&self, name: &[u8], place: usize) -> Option<(Found<'_, 'a>, usize)>
+        ensures place { option_map (λ f. found_place (variables_of self.now) f.0) result ≡ find_name self.now name.now }
+        ensures text { IfSome result (λ f. f.0.name.now ≡ name.now) }
+        ensures kinds { IfSome result (λ f. PlaceFits self.now (found_place (variables_of self.now) f.0)) }
+    {
+        let (text, standing, stands_at) = self.names.find_at(name, place)?;
         let what = match standing {
             Standing::Variable(number) => {
                 let term = self.terms.get(number)?;
@@ -94,7 +106,7 @@ impl<'a> Model<'a> {
                 What::Array(array.kind, &array.elements)
             }
         };
-        Some(Found { name: text, what })
+        Some((Found { name: text, what }, stands_at))
     }
 
     /// The constraints as they stand on sheets, for who looks at all of them. It takes no memory.

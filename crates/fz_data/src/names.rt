@@ -1,6 +1,6 @@
 //! Declared names with what they stand for.
 
-ghost use Rattle.std.specs.Prelude.{◌≡◌, ◌++◌, ◌∷◌, [], IfOk, IfSome, OnOk, is_none, is_some, option_map, true};
+ghost use Rattle.std.specs.Prelude.{◌≡◌, ◌++◌, ◌∷◌, [], IfOk, IfSome, OnOk, Some, is_none, is_some, option_map, true};
 ghost use Rattle.std.proofs.Common.{ap, rules};
 ghost use Rattle.std.specs.Cmp.Lexicographic.{bytes_decides, nat_list_eq_equiv};
 ghost use Rattle.std.specs.Cmp.Rules.{comparing};
@@ -12,11 +12,11 @@ ghost use Rattle.fz_data.specs.Naming.{has_text, standing_view, stands_for, IsAm
 
 use fz_base::Value;
 use fz_meaning::Term;
-use indexmap::{Equivalent, IndexMap};
+use indexmap::{Equivalent, IndexSet};
 use std::alloc::{AllocError, Global};
 use std::hash::{Hash, Hasher};
 
-/// A name as a key. It is hashed in one piece, where a slice is hashed one byte after another.
+/// A name that is looked up. It is hashed in one piece, where a slice is hashed one byte after another.
 #[derive(Clone, Copy)]
 pub(crate) struct Text<'a> {
     bytes: &'a [u8],
@@ -46,18 +46,6 @@ impl Hash for Text<'_> {
     }
 }
 
-impl<'b> Equivalent<Text<'b>> for Text<'_> {
-    ghost equivalent = { λ q k. bytes_eq q.bytes.now k.bytes.now };
-
-    ghost respects_hash = { λ q k e. ap (λ bytes. bytes ∷ []) ((bytes_decides q.bytes.now k.bytes.now).0 e) };
-
-    ghost respects_eq = { λ q x y. nat_list_eq_equiv.congr q.bytes.now x.bytes.now y.bytes.now };
-
-    fn equivalent(&self, key: &Text<'b>) -> bool {
-        self.bytes == key.bytes
-    }
-}
-
 /// What a name is kept with: the number of a variable, of a parameter or of an array. It takes two words, so that a look-up seldom waits
 /// for memory.
 #[derive(Clone, Copy)]
@@ -65,6 +53,49 @@ pub(crate) enum Entry {
     Variable(usize),
     Parameter(usize),
     Array(usize),
+}
+
+/// A declared name with what it is kept with: a look-up that has read the one has read the other. The name alone makes the key.
+#[derive(Clone, Copy)]
+pub(crate) struct Kept<'a> {
+    bytes: &'a [u8],
+    entry: Entry,
+}
+
+impl PartialEq for Kept<'_> {
+    ghost eq = { λ a b. bytes_eq a.bytes.now b.bytes.now };
+
+    ghost laws = { Prim.search (comparing, rules) };
+
+    fn eq(&self, other: &Self) -> bool {
+        self.bytes == other.bytes
+    }
+}
+
+impl Eq for Kept<'_> {
+    ghost laws = { Prim.search (comparing, rules) };
+}
+
+impl Hash for Kept<'_> {
+    ghost hash_input = { λ k. k.bytes.now ∷ [] };
+
+    ghost respects_eq = { λ x y e. ap (λ bytes. bytes ∷ []) ((bytes_decides x.bytes.now y.bytes.now).0 e) };
+
+    fn hash<H: Hasher>(&self, state: &mut H) {
+        state.write(self.bytes);
+    }
+}
+
+impl<'b> Equivalent<Kept<'b>> for Text<'_> {
+    ghost equivalent = { λ q k. bytes_eq q.bytes.now k.bytes.now };
+
+    ghost respects_hash = { λ q k e. ap (λ bytes. bytes ∷ []) ((bytes_decides q.bytes.now k.bytes.now).0 e) };
+
+    ghost respects_eq = { λ q x y. nat_list_eq_equiv.congr q.bytes.now x.bytes.now y.bytes.now };
+
+    fn equivalent(&self, kept: &Kept<'b>) -> bool {
+        self.bytes == kept.bytes
+    }
 }
 
 /// What a name stands for: the variable of a number, a parameter's value, or the array of a number.
@@ -78,7 +109,7 @@ pub(crate) enum Standing<'m> {
 /// The declared names, in source order. A contract sees the list of them, each with what it stands for.
 #[derive(Drop)]
 pub(crate) struct Names<'a> {
-    entries: IndexMap<Text<'a>, Entry>,
+    entries: IndexSet<Kept<'a>>,
     /// the values of parameters, by their numbers
     parameters: Vec<Term>,
 }
@@ -119,7 +150,7 @@ impl<'a> Names<'a> {
         ensures none { IfOk result (λ n. n ≡ []) }
     {
         Ok(Names {
-            entries: IndexMap::with_capacity(alloc, count)?,
+            entries: IndexSet::with_capacity(alloc, count)?,
             parameters: Vec::new(alloc),
         })
     }
@@ -129,7 +160,7 @@ impl<'a> Names<'a> {
     pub(crate) fn contains(&self, name: &[u8]) -> bool
         ensures declared { result ≡ is_some (lookup (has_text name.now) self.now) }
     {
-        self.entries.contains_key(Text { bytes: name })
+        self.entries.contains(Text { bytes: name })
     }
 
     /// What a name stands for, where it is declared.
@@ -138,20 +169,40 @@ impl<'a> Names<'a> {
         ensures stands { option_map standing_view result ≡ lookup (has_text name.now) self.now }
     {
         match self.entries.get(Text { bytes: name }) {
-            Some(entry) => Some(standing_of(&self.parameters, *entry)),
+            Some(kept) => Some(standing_of(&self.parameters, kept.entry)),
             None => None,
         }
     }
 
-    /// What a name stands for, where it is declared, with its text in the source.
-    pub(crate) fn find(&self, name: &[u8]) -> Option<(&'a [u8], Standing<'_>)>
+    /// What stands at a place of the table, where its name is this one, with its text in the source.
+    #[inline]
+    fn at(&self, name: &[u8], place: usize) -> Option<(&'a [u8], Standing<'_>)>
+        ensures stands { IfSome result (λ f. Some (standing_view f.1) ≡ lookup (has_text name.now) self.now) }
+        ensures text { IfSome result (λ f. f.0.now ≡ name.now) }
+    {
+        let kept = self.entries.as_slice().get(place)?;
+        if kept.bytes != name {
+            return None;
+        }
+        Some((kept.bytes, standing_of(&self.parameters, kept.entry)))
+    }
+
+    /// What a name stands for, where it is declared, with its text in the source and its place in the table. It is looked for at this
+    /// place first, which may be any.
+    #[inline]
+    pub(crate) fn find_at(
+        &self,
+        name: &[u8],
+        place: usize,
+    ) -> Option<(&'a [u8], Standing<'_>, usize)>
         ensures stands { option_map (λ f. standing_view f.1) result ≡ lookup (has_text name.now) self.now }
         ensures text { IfSome result (λ f. f.0.now ≡ name.now) }
     {
-        match self.entries.get_key_value(Text { bytes: name }) {
-            Some((text, entry)) => Some((text.bytes, standing_of(&self.parameters, *entry))),
-            None => None,
+        if let Some((text, standing)) = self.at(name, place) {
+            return Some((text, standing, place));
         }
+        let (found, kept) = self.entries.get_full(Text { bytes: name })?;
+        Some((kept.bytes, standing_of(&self.parameters, kept.entry), found))
     }
 
     /// Puts the name of a variable behind the others.
@@ -159,9 +210,8 @@ impl<'a> Names<'a> {
         requires new { is_none (lookup (has_text name.now) self.old) ≡ true }
         ensures pushed { OnOk result (self.new ≡ self.old ++ (name.now, Scalar (Var number)) ∷ []) }
     {
-        let _ = self
-            .entries
-            .insert(Text { bytes: name }, Entry::Variable(number))?;
+        let entry = Entry::Variable(number);
+        let _ = self.entries.insert(Kept { bytes: name, entry })?;
         Ok(())
     }
 
@@ -170,9 +220,8 @@ impl<'a> Names<'a> {
         requires new { is_none (lookup (has_text name.now) self.old) ≡ true }
         ensures pushed { OnOk result (self.new ≡ self.old ++ (name.now, TheArray number) ∷ []) }
     {
-        let _ = self
-            .entries
-            .insert(Text { bytes: name }, Entry::Array(number))?;
+        let entry = Entry::Array(number);
+        let _ = self.entries.insert(Kept { bytes: name, entry })?;
         Ok(())
     }
 
@@ -183,9 +232,8 @@ impl<'a> Names<'a> {
     {
         let number = self.parameters.len();
         self.parameters.push(Term::Fixed(value))?;
-        let _ = self
-            .entries
-            .insert(Text { bytes: name }, Entry::Parameter(number))?;
+        let entry = Entry::Parameter(number);
+        let _ = self.entries.insert(Kept { bytes: name, entry })?;
         Ok(())
     }
 }

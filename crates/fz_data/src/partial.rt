@@ -94,14 +94,22 @@ fn no_truths(alloc: Global, count: usize) -> Result<Vec<bool>, AllocError>
     Ok(truths)
 }
 
-/// Takes away each value that is there. The others aren't written to.
+/// Takes a value away. Where there is none, nothing is written.
+#[inline(always)]
+fn empty(place: &mut Option<Value>)
+    ensures gone { place.new ≡ None }
+{
+    if place.is_some() {
+        *place = None;
+    }
+}
+
+/// Takes away each value that is there.
 fn forget(values: &mut [Option<Value>])
     ensures forgotten { values.new ≡ map (λ v. None) values.old }
 {
     for value in values.iter_mut() {
-        if value.is_some() {
-            *value = None;
-        }
+        empty(value);
     }
 }
 

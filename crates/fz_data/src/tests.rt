@@ -244,6 +244,27 @@ fn finds_names(rt: HostRuntime) -> Result<(), Fail> {
     Ok(())
 }
 
+/// What is found from a place: the number of it, and where it stands.
+fn found_at(model: &Model<'_>, name: &[u8], place: usize) -> Option<(Option<usize>, usize)> {
+    let (found, stands_at) = model.find_at(name, place)?;
+    Some((number(Some(found)), stands_at))
+}
+
+/// The names stand as they are declared: `n`, `x`, `a`, `y`.
+#[test]
+fn finds_names_from_any_place(rt: HostRuntime) -> Result<(), Fail> {
+    let model = loaded(rt.alloc(), MIXED)?;
+    for place in [0, 1, 2, 3, 4, usize::MAX] {
+        assert_eq!(rt; found_at(&model, b"n", place), Some((None, 0)));
+        assert_eq!(rt; found_at(&model, b"x", place), Some((Some(0), 1)));
+        assert_eq!(rt; found_at(&model, b"a", place), Some((Some(2), 2)));
+        assert_eq!(rt; found_at(&model, b"y", place), Some((Some(1), 3)));
+        assert_eq!(rt; found_at(&model, b"z", place), None);
+        assert_eq!(rt; found_at(&model, b"", place), None);
+    }
+    Ok(())
+}
+
 #[test]
 fn gives_values(rt: HostRuntime) -> Result<(), Fail> {
     let alloc = rt.alloc();

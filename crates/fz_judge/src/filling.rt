@@ -42,17 +42,17 @@ fn moved_error(error: BlockError, offset: usize) -> BlockError
     }
 }
 
-/// The filling of a block, along the course of those before it, in the room of a spare assignment where there is one. Where each name has
+/// The filling of a block, along the course of those before it, in the room of a spare proposal where there is one. Where each name has
 /// its printed value as it is taken, each has it under the filling: no value changes any more.
 pub(crate) fn filled(
     alloc: Global,
     model: &Model<'_>,
     block: &Block<'_>,
     course: &mut Option<Course>,
-    spare: Option<Partial>,
+    spare: Option<Proposed>,
 ) -> Result<Proposed, BlockError>
     requires course { IfSome course.old (IsCourse model.now) }
-    requires room { IfSome spare (HasRoom model.now) }
+    requires room { IfSome spare (λ s. HasRoom model.now s.partial) }
     ensures filled { IfOk result (λ f. IsFilled model.now (located_block block.now) f.partial) }
     ensures kinds { IfOk result (λ f. IsPartial model.now f.partial) }
     ensures agrees { IfOk result (λ f. IsTrue f.agrees → first_some (printed_fails model.now f.partial) (located_items block.now.items.items) ≡ None) }
@@ -62,12 +62,17 @@ pub(crate) fn filled(
     let Proposed {
         mut partial,
         agrees,
+        places,
     } = match start(alloc, model, &block.items, spare) {
         Ok(started) => started,
         Err(error) => return Err(moved_error(error, block.offset)),
     };
     fill_in(alloc, model, &mut partial, course)?;
-    Ok(Proposed { partial, agrees })
+    Ok(Proposed {
+        partial,
+        agrees,
+        places,
+    })
 }
 
 /// The values that follow from the printed ones by forced steps. It goes over the printed items once, and then over the points, where one
@@ -83,6 +88,10 @@ pub fn fill(alloc: Global, model: &Model<'_>, block: &Block<'_>) -> Result<Parti
     ensures refused { IfErr result (λ e. HasPlaces block.now → EndsWithin usize.MAX block.now → IsBlockRefusal model.now (located_block block.now) e) }
 {
     let mut course = Some(Course::unknown(alloc));
-    let Proposed { partial, agrees: _ } = filled(alloc, model, block, &mut course, None)?;
+    let Proposed {
+        partial,
+        agrees: _,
+        places: _,
+    } = filled(alloc, model, block, &mut course, None)?;
     Ok(partial)
 }

@@ -18,7 +18,7 @@ use crate::printed::printed_fails;
 use crate::start::Proposed;
 use crate::verdict::{Fault, Verdict};
 use fz_filling::Course;
-use fz_model::{Model, Overview, Partial};
+use fz_model::{Model, Overview};
 use fz_stream::Block;
 use fz_syntax::Printed;
 use std::alloc::{AllocError, Global};
@@ -117,15 +117,15 @@ fn verdict_over<'a>(
 }
 
 /// A model with the objective of the block that was judged last, what its fillings so far have shown of the next, what is looked at of
-/// its declarations for each block, and the room of the last filling.
+/// its declarations for each block, and the last filling.
 #[derive(Drop)]
 pub struct Judge<'m, 'a> {
     model: &'m Model<'a>,
     before: Option<i64>,
     course: Option<Course>,
     overview: Option<Overview>,
-    /// the values of the block before, whose room the next one takes
-    spare: Option<Partial>,
+    /// the filling of the block before, whose room the next one takes, and where it finds its names
+    spare: Option<Proposed>,
 }
 
 impl<'m, 'a> std::marker::Model for Judge<'m, 'a> {
@@ -144,7 +144,7 @@ impl<'m, 'a> std::marker::Model for Judge<'m, 'a> {
 
     ghost view = { λ j. record { model = j.model.now; before = j.before } };
 
-    ghost invariant = { λ j. IfSome j.course (IsCourse j.model.now) × IfSome j.overview (IsOverview j.model.now) × IfSome j.spare (HasRoom j.model.now) };
+    ghost invariant = { λ j. IfSome j.course (IsCourse j.model.now) × IfSome j.overview (IsOverview j.model.now) × IfSome j.spare (λ s. HasRoom j.model.now s.partial) };
 }
 
 impl<'m, 'a> Judge<'m, 'a> {
@@ -186,7 +186,7 @@ impl<'m, 'a> Judge<'m, 'a> {
             self.before,
         )?;
         self.before = objective(self.model, &filling.partial);
-        self.spare = Some(filling.partial);
+        self.spare = Some(filling);
         Ok(verdict)
     }
 }

@@ -9,6 +9,8 @@ mod judge;
 mod points;
 mod printed;
 mod start;
+#[cfg(test)]
+mod tests;
 mod values;
 mod verdict;
 

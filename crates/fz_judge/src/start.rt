@@ -1,6 +1,6 @@
 //! The start of a filling: the printed values, each variable's first one.
 
-ghost use Rattle.std.specs.Prelude.{◌≡◌, ◌<◌, ℕ, List, None, IfErr, IfOk, IfSome, OnOk, cond, is_none, length, map};
+ghost use Rattle.std.specs.Prelude.{◌≡◌, ◌<◌, ℕ, List, None, IfErr, IfOk, IfSome, IsTrue, OnOk, cond, is_none, length, map};
 ghost use Rattle.std.specs.List.{AllByRecursion};
 ghost use Rattle.fz_model.specs.Meaning.{IsPartial, Variable as DeclaredVariable, give, value_at, variables_of};
 ghost use Rattle.fz_model.specs.Names.{literal_value};
@@ -27,6 +27,8 @@ use std::alloc::{AllocError, Global};
 pub(crate) struct Proposed {
     pub(crate) partial: Partial,
     pub(crate) agrees: bool,
+    /// where the name of each item stands among the model's, by the item's number, for the next block, which mostly prints the same names
+    pub(crate) places: Vec<usize>,
 }
 
 /// Gives a variable without a value that of a literal. A number or a truth value goes to its place with no copy on the way.
@@ -179,13 +181,14 @@ fn set_array(
     }
 }
 
-/// Takes the values of an item into the start, where the item has no fault, and tells whether its name has its printed value then. A
-/// fault's place counts from the block's text.
+/// Takes the values of an item into the start, where the item has no fault, and tells whether its name has its printed value then. The
+/// name is looked for at a place first, and is left with its own. A fault's place counts from the block's text.
 fn set_item(
     alloc: Global,
     model: &Model<'_>,
     partial: &mut Partial,
     item: &Printed<'_>,
+    place: &mut usize,
 ) -> Result<bool, BlockError>
     requires fits { IsPartial model.now partial.old }
     ensures given { OnOk result (partial.new ≡ with_all partial.old (item_scalars model.now (located_printed item.now))) }
@@ -194,54 +197,84 @@ fn set_item(
     ensures clean { OnOk result (printed_fault model.now (located_printed item.now) ≡ None) }
     ensures told { IfErr result (λ e. TellsFault e (printed_fault model.now (located_printed item.now))) }
 {
-    let Some(found) = model.find(item.name.text) else {
+    let Some((found, stands_at)) = model.find_at(item.name.text, *place) else {
         return Err(BlockError::UnknownName(item.name.span));
     };
+    *place = stands_at;
     if let Some(fault) = value_fault(model.variables(), &item.name, found.what, &item.value) {
         return Err(fault);
     }
     Ok(set_value(alloc, partial, found.what, &item.value)?)
 }
 
-/// The partial assignment where no variable has a value, in the room of a spare one where there is one. Else it makes the room.
-fn empty_partial(
+/// What is proposed before the first item: no variable has a value. It takes the room of a spare proposal where there is one, and its
+/// places. Else it makes the room.
+fn nothing_proposed(
     alloc: Global,
     model: &Model<'_>,
-    spare: Option<Partial>,
-) -> Result<Partial, AllocError>
-    requires room { IfSome spare (HasRoom model.now) }
-    ensures empty { IfOk result (λ p. p ≡ nothing_for model.now) }
+    spare: Option<Proposed>,
+) -> Result<Proposed, AllocError>
+    requires room { IfSome spare (λ s. HasRoom model.now s.partial) }
+    ensures empty { IfOk result (λ s. s.partial ≡ nothing_for model.now) }
+    ensures agrees { IfOk result (λ s. IsTrue s.agrees) }
 {
     match spare {
-        Some(mut partial) => {
-            partial.clear();
-            Ok(partial)
+        Some(mut proposed) => {
+            proposed.partial.clear();
+            proposed.agrees = true;
+            Ok(proposed)
         }
-        None => Partial::new(alloc, model),
+        None => Ok(Proposed {
+            partial: Partial::new(alloc, model)?,
+            agrees: true,
+            places: Vec::new(alloc),
+        }),
+    }
+}
+
+/// Notes where the name of the item of a number stands.
+fn note(places: &mut Vec<usize>, number: usize, place: usize) -> Result<(), AllocError> {
+    match places.get_mut(number) {
+        Some(noted) => {
+            *noted = place;
+            Ok(())
+        }
+        None => Ok(places.push(place)?),
     }
 }
 
 /// The values that a block's items print, where no item has a fault, and whether each name has its printed one. They stand in the room of
-/// a spare assignment where there is one. A fault's place counts from the block's text.
+/// a spare proposal where there is one, and each name is looked for first where that of the item of the same number stood. A fault's place
+/// counts from the block's text.
 pub(crate) fn start(
     alloc: Global,
     model: &Model<'_>,
     items: &[Printed<'_>],
-    spare: Option<Partial>,
+    spare: Option<Proposed>,
 ) -> Result<Proposed, BlockError>
-    requires room { IfSome spare (HasRoom model.now) }
+    requires room { IfSome spare (λ s. HasRoom model.now s.partial) }
     ensures started { IfOk result (λ s. s.partial ≡ start_from (printed_scalars model.now (located_items items.now)) 0 (variables_of model.now)) }
     ensures kinds { IfOk result (λ s. IsPartial model.now s.partial) }
     ensures agrees { IfOk result (λ s. s.agrees ≡ agree_all (nothing_for model.now) (printed_scalars model.now (located_items items.now))) }
     ensures clean { IfOk result (λ _. items_fault model.now (located_items items.now) ≡ None) }
     ensures told { IfErr result (λ e. TellsFault e (items_fault model.now (located_items items.now))) }
 {
-    let mut partial = empty_partial(alloc, model, spare)?;
-    let mut agrees = true;
-    for item in items {
-        if !set_item(alloc, model, &mut partial, item)? {
+    let Proposed {
+        mut partial,
+        mut agrees,
+        mut places,
+    } = nothing_proposed(alloc, model, spare)?;
+    for (number, item) in items.iter().enumerate() {
+        // Where nothing is noted yet, no name stands at the last number either.
+        let mut place = places.get(number).copied().unwrap_or(usize::MAX);
+        if !set_item(alloc, model, &mut partial, item, &mut place)? {
             agrees = false;
         }
+        note(&mut places, number, place)?;
     }
-    Ok(Proposed { partial, agrees })
+    Ok(Proposed {
+        partial,
+        agrees,
+        places,
+    })
 }

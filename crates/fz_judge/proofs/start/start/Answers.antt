@@ -14,34 +14,34 @@ use Rattle.fz_judge.proofs.Starting.{nothing_fits, start_item_more, starts_with_
 use Rattle.fz_judge.proofs.start.start.Goals.{then-not-branch, else-not-branch}
 use Rattle.fz_judge.proofs.start.start.Goals as goal
 
-pub loop-item-init : goal.loop-item-init
-loop-item-init c = record {
+pub loop-number-init : goal.loop-number-init
+loop-number-init c = record {
   started = c.in_ok-partial.ensures.empty ∙ starts_with_nothing c.args.model.now;
   kinds = subst (IsPartial c.args.model.now) (sym c.in_ok-partial.ensures.empty) (nothing_fits c.args.model.now);
-  agree = refl;
+  agree = c.in_ok-partial.ensures.agrees;
   clean = refl;
 }
 
 pub returns-in_err-set_item-clause-told : goal.returns-in_err-set_item-clause-told
 returns-in_err-set_item-clause-told c =
     let p = err_from_is_err_and c.from_residual-in_err-set_item.result c.from_residual-in_err-set_item.ensures.1 in
-    rw (p.1, p.2) (tells_stop (printed_fault c.args.model.now) located_printed c.args.items.now c.loop-item.item-index c.item-item.result _ c.loop-item-test.true c.item-item.is c.loop-item.invariant.clean c.in_err-set_item.ensures.told)
+    rw (p.1, p.2) (tells_stop (printed_fault c.args.model.now) located_printed c.args.items.now c.loop-number.number c.index-items-number.result _ c.loop-number-test.true c.index-items-number.is c.loop-number.invariant.clean c.in_err-set_item.ensures.told)
 
-pub loop-item-preserved : goal.loop-item-preserved
-loop-item-preserved c =
+pub loop-number-preserved : goal.loop-number-preserved
+loop-number-preserved c =
     let m = c.args.model.now in
-    let before = located_items (take c.loop-item.item-index c.args.items.now) in
-    let more = take_one_more located_printed c.args.items.now c.loop-item.item-index c.item-item.result c.loop-item-test.true c.item-item.is in
-    let both : agree_all (nothing_for m) (printed_scalars m (located_items (take (c.loop-item.item-index + 1) c.args.items.now))) ≡ (c.loop-item.agrees && c.in_ok-set_item.field-0) =
-    ap (λ xs. agree_all (nothing_for m) (printed_scalars m xs)) more ∙ agree_item_more m before (located_printed c.item-item.result) c.loop-item.partial c.loop-item.invariant.started
-    ∙ ap (λ a. a && agree_all c.loop-item.partial (item_scalars m (located_printed c.item-item.result))) (sym c.loop-item.invariant.agree) ∙ ap (λ b. c.loop-item.agrees && b) (sym c.in_ok-set_item.ensures.agrees) in
+    let before = located_items (take c.loop-number.number c.args.items.now) in
+    let more = take_one_more located_printed c.args.items.now c.loop-number.number c.index-items-number.result c.loop-number-test.true c.index-items-number.is in
+    let both : agree_all (nothing_for m) (printed_scalars m (located_items (take (c.loop-number.number + 1) c.args.items.now))) ≡ (c.loop-number.agrees && c.in_ok-set_item.field-0) =
+    ap (λ xs. agree_all (nothing_for m) (printed_scalars m xs)) more ∙ agree_item_more m before (located_printed c.index-items-number.result) c.loop-number.partial c.loop-number.invariant.started
+    ∙ ap (λ a. a && agree_all c.loop-number.partial (item_scalars m (located_printed c.index-items-number.result))) (sym c.loop-number.invariant.agree) ∙ ap (λ b. c.loop-number.agrees && b) (sym c.in_ok-set_item.ensures.agrees) in
     record {
-      started = start_item_more m before (located_printed c.item-item.result) c.loop-item.partial c.set_item.new.partial c.loop-item.invariant.started c.in_ok-set_item.ensures.given
+      started = start_item_more m before (located_printed c.index-items-number.result) c.loop-number.partial c.set_item.new.partial c.loop-number.invariant.started c.in_ok-set_item.ensures.given
           ∙ ap (λ xs. start_from (printed_scalars m xs) 0 (variables_of m)) (sym more);
       kinds = c.in_ok-set_item.ensures.kinds;
       agree = elim c.if-not-branch.branch [
-        | then-not-branch w ↦ w.agrees-is ∙ sym (both ∙ ap (λ b. c.loop-item.agrees && b) w.if-not-branch.true ∙ and_false c.loop-item.agrees)
-        | else-not-branch w ↦ w.agrees-is ∙ sym (both ∙ ap (λ b. c.loop-item.agrees && b) w.if-not-branch.false ∙ and_true c.loop-item.agrees)
+        | then-not-branch w ↦ w.agrees-is ∙ sym (both ∙ ap (λ b. c.loop-number.agrees && b) w.if-not-branch.true ∙ and_false c.loop-number.agrees)
+        | else-not-branch w ↦ w.agrees-is ∙ sym (both ∙ ap (λ b. c.loop-number.agrees && b) w.if-not-branch.false ∙ and_true c.loop-number.agrees)
       ];
-      clean = first_more (printed_fault m) located_printed c.args.items.now c.loop-item.item-index c.item-item.result c.loop-item-test.true c.item-item.is c.loop-item.invariant.clean c.in_ok-set_item.ensures.clean;
+      clean = first_more (printed_fault m) located_printed c.args.items.now c.loop-number.number c.index-items-number.result c.loop-number-test.true c.index-items-number.is c.loop-number.invariant.clean c.in_ok-set_item.ensures.clean;
     }

@@ -7,10 +7,10 @@ use Rattle.fz_verdict.specs.View.{located_items}
 use Rattle.fz_judge.specs.Working.{agree_all}
 use Rattle.fz_judge.proofs.start.start.Given as goal
 
-abbrev pub invariant-loop-item : goal.invariant-loop-item
-invariant-loop-item l = record {
-  started : l.partial ≡ start_from (printed_scalars l.model (located_items (take l.item-index l.items))) 0 (variables_of l.model);
+abbrev pub invariant-loop-number : goal.invariant-loop-number
+invariant-loop-number l = record {
+  started : l.partial ≡ start_from (printed_scalars l.model (located_items (take l.number l.items))) 0 (variables_of l.model);
   kinds : IsPartial l.model l.partial;
-  agree : l.agrees ≡ agree_all (nothing_for l.model) (printed_scalars l.model (located_items (take l.item-index l.items)));
-  clean : items_fault l.model (located_items (take l.item-index l.items)) ≡ None;
+  agree : l.agrees ≡ agree_all (nothing_for l.model) (printed_scalars l.model (located_items (take l.number l.items)));
+  clean : items_fault l.model (located_items (take l.number l.items)) ≡ None;
 }

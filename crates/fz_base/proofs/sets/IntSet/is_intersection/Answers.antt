@@ -3,8 +3,8 @@ use Rattle.fz_base.proofs.sets.IntSet.is_intersection.Goals as goal
 
 pub returns : goal.returns
 returns c =
-    is_intersection_is c.args.a.now c.args.b.now c.kept.result.now c.kept-2.result.now
-    (seen c.args.a.now c.kept.result.now c.kept.ensures.same)
-    (seen c.args.b.now c.kept-2.result.now c.kept-2.ensures.same)
-    c.args.self.now c.kept-3.result.now (seen c.args.self.now c.kept-3.result.now c.kept-3.ensures.same)
-    c.is_kept.result c.is_kept.ensures
+    is_intersection_is c.args.a.now c.args.b.now c.kept-2.result.now c.kept-3.result.now
+    (seen c.kept-2.result.now c.args.a.now c.kept-2.ensures.same)
+    (seen c.kept-3.result.now c.args.b.now c.kept-3.ensures.same)
+    c.args.self.now c.kept.result.now (seen c.kept.result.now c.args.self.now c.kept.ensures.same)
+    c.are_kept.result c.are_kept.ensures

@@ -6,5 +6,5 @@ use Rattle.fz_data.proofs.names.Names.contains.Goals as goal
 
 pub returns : goal.returns
 returns c = record {
-  declared = c.contains_key.ensures ∙ declared_there c.self.inside.parameters.items c.args.name.now c.self.inside.entries.entries ∙ ap (λ n. is_some (lookup (has_text c.args.name.now) n)) c.self.view_is;
+  declared = c.contains.ensures ∙ declared_there c.self.inside.parameters.items c.args.name.now c.self.inside.entries.keys ∙ ap (λ n. is_some (lookup (has_text c.args.name.now) n)) c.self.view_is;
 }

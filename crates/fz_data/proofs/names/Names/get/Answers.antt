@@ -6,19 +6,19 @@ use Rattle.fz_data.proofs.names.Names.get.Goals as goal
 
 pub standing_of-requires : goal.standing_of-requires
 standing_of-requires c = record {
-  within = subst (λ ts. IsAmongTerms ts c.in-Some.entry.now) (sym c.deref.ensures.value)
-      (found_among c.self.inside.parameters.items c.args.name.now c.self.inside.entries.entries c.in-Some.entry.now c.self.invariant c.in-Some.ensures.value);
+  within = subst (λ ts. IsAmongTerms ts c.in-Some.kept.now.entry) (sym c.deref.ensures.value)
+      (found_among c.self.inside.parameters.items c.args.name.now c.self.inside.entries.keys c.in-Some.kept.now c.self.invariant c.in-Some.ensures.key);
 }
 
 pub returns-in-Some : goal.returns-in-Some
 returns-in-Some c = record {
-  stands = ap Some c.standing_of.ensures.stands ∙ ap (λ ts. Some (stands_for ts c.in-Some.entry.now)) c.deref.ensures.value
-      ∙ ap (option_map (stands_for c.self.inside.parameters.items)) c.in-Some.ensures.value
-      ∙ sym (looked_up c.self.inside.parameters.items c.args.name.now c.self.inside.entries.entries) ∙ ap (lookup (has_text c.args.name.now)) c.self.view_is;
+  stands = ap Some c.standing_of.ensures.stands ∙ ap (λ ts. Some (stands_for ts c.in-Some.kept.now.entry)) c.deref.ensures.value
+      ∙ ap (option_map (λ k. stands_for c.self.inside.parameters.items k.entry)) c.in-Some.ensures.key
+      ∙ sym (looked_up c.self.inside.parameters.items c.args.name.now c.self.inside.entries.keys) ∙ ap (lookup (has_text c.args.name.now)) c.self.view_is;
 }
 
 pub returns-in-None : goal.returns-in-None
 returns-in-None c = record {
-  stands = ap (option_map (stands_for c.self.inside.parameters.items)) c.in-None.ensures.value
-      ∙ sym (looked_up c.self.inside.parameters.items c.args.name.now c.self.inside.entries.entries) ∙ ap (lookup (has_text c.args.name.now)) c.self.view_is;
+  stands = ap (option_map (λ k. stands_for c.self.inside.parameters.items k.entry)) c.in-None.ensures.key
+      ∙ sym (looked_up c.self.inside.parameters.items c.args.name.now c.self.inside.entries.keys) ∙ ap (lookup (has_text c.args.name.now)) c.self.view_is;
 }

@@ -1,10 +1,9 @@
 use Rattle.std.proofs.Common.{◌≡◌, ◌++◌, ◌∷◌, [], map, length, arith, is_none, ap, ◌∙◌, subst, sym}
 use Rattle.std.specs.Map.{lookup}
 use Rattle.std.specs.List.{AllByRecursion}
-use Rattle.indexmap.proofs.CallerLemmas.{insert_entry-new}
 use Rattle.fz_meaning.specs.declared.term.Term.TheVariants.{Fixed}
 use Rattle.fz_data.specs.declared.names.Entry.TheVariants as entries
-use Rattle.fz_data.specs.declared.names.Text.{Text}
+use Rattle.fz_data.specs.declared.names.Kept.{Kept}
 use Rattle.fz_data.specs.Naming.{has_text}
 use Rattle.fz_data.specs.Names.{entry_stands, is_among_terms}
 use Rattle.fz_data.proofs.NameTable.{new_key, among_pushed, view_pushed, among_more, all_stand_same, stands_last, last_within}
@@ -13,27 +12,24 @@ use Rattle.fz_data.proofs.names.Names.push_parameter.Goals as goal
 pub invariant_of-self-2 : goal.invariant_of-self-2
 invariant_of-self-2 c =
     let ts = c.self.inside.parameters.items in
-    let es = c.self.inside.entries.entries in
-    let key : Text = record { bytes = c.args.name } in
+    let ks = c.self.inside.entries.keys in
     let us = c.push.new.self.items in
     let counted : c.len-number.result ≡ length ts = omega arith in
-    let fresh = new_key ts c.args.name.now es (ap (λ n. is_none (lookup (has_text c.args.name.now) n)) c.self.view_is ∙ c.requires.new) in
-    let e = entries.Parameter c.len-number.result in
-    let stay = subst (λ zs. AllByRecursion (is_among_terms zs) es) (sym c.in_ok-push.ensures.items) (among_more ts (Fixed c.args.value ∷ []) es c.self.invariant) in
-    among_pushed us es _ key e (c.in_ok-insert.ensures.entries ∙ insert_entry-new _ c.self.inside.entries key e fresh) stay
-    (last_within ts us (Fixed c.args.value) c.len-number.result c.in_ok-push.ensures.items counted)
+    let kept : Kept = record { bytes = c.args.name; entry = entries.Parameter c.len-number.result } in
+    let absent = new_key ts c.args.name.now ks (ap (λ n. is_none (lookup (has_text c.args.name.now) n)) c.self.view_is ∙ c.requires.new) in
+    let stay = subst (λ zs. AllByRecursion (is_among_terms zs) ks) (sym c.in_ok-push.ensures.items) (among_more ts (Fixed c.args.value ∷ []) ks c.self.invariant) in
+    among_pushed us ks _ kept c.in_ok-insert.ensures.keys absent stay (last_within ts us (Fixed c.args.value) c.len-number.result c.in_ok-push.ensures.items counted)
 
 pub returns : goal.returns
 returns c =
     let ts = c.self.inside.parameters.items in
-    let es = c.self.inside.entries.entries in
-    let key : Text = record { bytes = c.args.name } in
+    let ks = c.self.inside.entries.keys in
     let us = c.push.new.self.items in
     let counted : c.len-number.result ≡ length ts = omega arith in
-    let fresh = new_key ts c.args.name.now es (ap (λ n. is_none (lookup (has_text c.args.name.now) n)) c.self.view_is ∙ c.requires.new) in
-    let e = entries.Parameter c.len-number.result in
-    let stay = ap (λ zs. map (entry_stands zs) es) c.in_ok-push.ensures.items ∙ all_stand_same ts (Fixed c.args.value ∷ []) es c.self.invariant ∙ c.self.view_is in
+    let kept : Kept = record { bytes = c.args.name; entry = entries.Parameter c.len-number.result } in
+    let absent = new_key ts c.args.name.now ks (ap (λ n. is_none (lookup (has_text c.args.name.now) n)) c.self.view_is ∙ c.requires.new) in
+    let stay = ap (λ zs. map (entry_stands zs) ks) c.in_ok-push.ensures.items ∙ all_stand_same ts (Fixed c.args.value ∷ []) ks c.self.invariant ∙ c.self.view_is in
     record {
-      pushed = view_pushed us es _ key e (c.in_ok-insert.ensures.entries ∙ insert_entry-new _ c.self.inside.entries key e fresh) _ stay
+      pushed = view_pushed us ks _ kept c.in_ok-insert.ensures.keys absent _ stay
           ∙ ap (λ d. c.args.self.now ++ (c.args.name.now, d) ∷ []) (stands_last ts us (Fixed c.args.value) c.len-number.result c.in_ok-push.ensures.items counted);
     }

@@ -8,12 +8,12 @@ use Rattle.fz_data.specs.Naming.{standing_view}
 use Rattle.fz_data.specs.Shown.{found_place, kind_among}
 use Rattle.fz_data.proofs.Finds.{found_none, found_scalar, own_term, stands, found_array}
 use Rattle.fz_data.proofs.FindsKinds.{fits_found, fits_if_found}
-use Rattle.fz_data.proofs.model.Model.find.Goals as goal
-use Rattle.fz_data.proofs.model.Model.find.Goals.{in-Parameter, in-Variable+in_ok-term-in-Variable, in-Array+in_ok-array-in-Array}
+use Rattle.fz_data.proofs.model.Model.find_at.Goals as goal
+use Rattle.fz_data.proofs.model.Model.find_at.Goals.{in-Parameter, in-Variable+in_ok-term-in-Variable, in-Array+in_ok-array-in-Array}
 
 pub returns-in_err-text-clause-place : goal.returns-in_err-text-clause-place
 returns-in_err-text-clause-place c =
-    ap (option_map (found_place (variables_of c.args.self.now))) c.from_residual.ensures ∙ found_none c.self.inside c.self.invariant c.args.self.now c.self.view_is c.args.name.now c.in_err-text.ensures.stands
+    ap (option_map (λ f. found_place (variables_of c.args.self.now) f.0)) c.from_residual.ensures ∙ found_none c.self.inside c.self.invariant c.args.self.now c.self.view_is c.args.name.now c.in_err-text.ensures.stands
 
 pub returns-in_err-term-in-Variable-clause-place : goal.returns-in_err-term-in-Variable-clause-place
 returns-in_err-term-in-Variable-clause-place c =

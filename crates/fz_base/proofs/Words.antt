@@ -1,0 +1,366 @@
+-- The bits of a word as a set of numbers.
+use Rattle.std.proofs.Common.{◌≡◌, ◌<◌, ◌^◌, ◌+◌, ◌-◌, ◌*◌, ◌/◌, ◌%◌, ℕ, zero, suc, min, max, ℤ, pos, negsuc, ◌≤ℤ◌, ◌<ℤ◌, ◌-ℤ◌, nat_abs, Bool, true, false, not, ◌&&◌, ◌||◌, ◌==◌, ◌↔◌, ltb, List, ◌∷◌, cond, filter, length, refl, sym, ap, ◌∙◌, inl, inr, arith, bit_and, bit_or, bit_xor, count_ones, FitsSigned, w64, pow-suc}
+use Rattle.std.specs.Int.{bit_at}
+use Rattle.std.specs.Ordering.{int_eq}
+use Rattle.std.specs.Cmp.{int_cmp_total, both_ways}
+use Rattle.std.specs.FinSet.{contains, contains-from_list, len}
+use Rattle.std.proofs.lemmas.Bool.{true≢false, ltb-true, lt-ltb, cases_lt, cases_eq}
+use Rattle.std.proofs.lemmas.Bool.Decides.{Decides-int_eq}
+use Rattle.std.proofs.lemmas.Int.{ints}
+use Rattle.std.specs.Int.{int_max, int_min}
+use Rattle.std.proofs.lemmas.Nat.{one_shl, shr-shr, and_le_l, pow_below}
+use Rattle.std.proofs.lemmas.Nat.Bits.{bit_at-lt, bit_at-zero, bit_at_not, bit_at_and, bit_at_or, bit_at_xor, bit_at-pow_same, bit_at-pow_other, bit_at_ones, bit_at_ones_above, ones_shr, ones_shl, bit_at_mask_inside, bit_at_mask_below, same_from_bits_below}
+use lib.Count.{ones-le, ones_step}
+use Rattle.fz_base.specs.Bits.{has_bit, numbers_of_bits}
+use Rattle.fz_base.specs.Ranges.{is_between}
+use Rattle.fz_base.specs.Sets.{counting_from}
+use Rattle.fz_base.proofs.Covers.{and-false, and-true, between_yes}
+use Rattle.fz_base.proofs.Rows.{is_listed-filter}
+use Rattle.fz_base.proofs.Numbers.{list_any-counting_from, len-from_list, Rise-filter, Rise-counting_from}
+
+-- ---- one bit of what is made of two words
+
+or_bit : (p q : ℕ) → p < 2 → q < 2 → (max p q == 1) ≡ ((p == 1) || (q == 1))
+or_bit zero zero h k = refl
+or_bit zero (suc zero) h k = refl
+or_bit (suc zero) zero h k = refl
+or_bit (suc zero) (suc zero) h k = refl
+or_bit (suc (suc p)) q h k = absurd (omega arith)
+or_bit p (suc (suc q)) h k = absurd (omega arith)
+
+and_bit : (p q : ℕ) → p < 2 → q < 2 → (min p q == 1) ≡ ((p == 1) && (q == 1))
+and_bit zero zero h k = refl
+and_bit zero (suc zero) h k = refl
+and_bit (suc zero) zero h k = refl
+and_bit (suc zero) (suc zero) h k = refl
+and_bit (suc (suc p)) q h k = absurd (omega arith)
+and_bit p (suc (suc q)) h k = absurd (omega arith)
+
+minus_bit : (p q : ℕ) → p < 2 → q < 2 → (min p (1 - q) == 1) ≡ ((p == 1) && not (q == 1))
+minus_bit zero zero h k = refl
+minus_bit zero (suc zero) h k = refl
+minus_bit (suc zero) zero h k = refl
+minus_bit (suc zero) (suc zero) h k = refl
+minus_bit (suc (suc p)) q h k = absurd (omega arith)
+minus_bit p (suc (suc q)) h k = absurd (omega arith)
+
+xor_bit : (p q : ℕ) → p < 2 → q < 2 → ((p + q) % 2 == 1) ≡ (((p == 1) && not (q == 1)) || ((q == 1) && not (p == 1)))
+xor_bit zero zero h k = refl
+xor_bit zero (suc zero) h k = refl
+xor_bit (suc zero) zero h k = refl
+xor_bit (suc zero) (suc zero) h k = refl
+xor_bit (suc (suc p)) q h k = absurd (omega arith)
+xor_bit p (suc (suc q)) h k = absurd (omega arith)
+
+same_bit : (p q : ℕ) → p < 2 → q < 2 → (p == 1) ≡ (q == 1) → p ≡ q
+same_bit zero zero h k e = refl
+same_bit zero (suc zero) h k e = absurd (true≢false (sym e))
+same_bit (suc zero) zero h k e = absurd (true≢false e)
+same_bit (suc zero) (suc zero) h k e = refl
+same_bit (suc (suc p)) q h k e = absurd (omega arith)
+same_bit p (suc (suc q)) h k e = absurd (omega arith)
+
+-- ---- what a rule keeps of two words
+
+under : (b p q r : Bool) → (b ≡ true → r ≡ (p || q)) → (b && r) ≡ ((b && p) || (b && q))
+under true p q r h = h refl
+under false p q r h = refl
+
+pub has_or : (a b : ℕ) (x : ℤ) → has_bit (bit_or a b) x ≡ (has_bit a x || has_bit b x)
+has_or a b (pos n) = under (ltb n 64) (bit_at a n == 1) (bit_at b n == 1) (bit_at (bit_or a b) n == 1) (λ _. ap (λ d. d == 1) (bit_at_or a b n) ∙ or_bit (bit_at a n) (bit_at b n) (bit_at-lt a n) (bit_at-lt b n))
+has_or a b (negsuc n) = refl
+
+both : (b p q r : Bool) → (b ≡ true → r ≡ (p && q)) → (b && r) ≡ ((b && p) && (b && q))
+both true p q r h = h refl
+both false p q r h = refl
+
+pub has_and : (a b : ℕ) (x : ℤ) → has_bit (bit_and a b) x ≡ (has_bit a x && has_bit b x)
+has_and a b (pos n) = both (ltb n 64) (bit_at a n == 1) (bit_at b n == 1) (bit_at (bit_and a b) n == 1) (λ _. ap (λ d. d == 1) (bit_at_and a b n) ∙ and_bit (bit_at a n) (bit_at b n) (bit_at-lt a n) (bit_at-lt b n))
+has_and a b (negsuc n) = refl
+
+without : (b p q r : Bool) → (b ≡ true → r ≡ (p && not q)) → (b && r) ≡ ((b && p) && not (b && q))
+without true p q r h = h refl
+without false p q r h = refl
+
+pub has_minus : (a b : ℕ) (x : ℤ) → b < 2 ^ 64 → has_bit (bit_and a (18446744073709551615 - b)) x ≡ (has_bit a x && not (has_bit b x))
+has_minus a b (pos n) h =
+    without (ltb n 64) (bit_at a n == 1) (bit_at b n == 1) (bit_at (bit_and a (18446744073709551615 - b)) n == 1) (λ low.
+    ap (λ d. d == 1) (bit_at_and a (18446744073709551615 - b) n ∙ ap (min (bit_at a n)) (bit_at_not w64 b n h (ltb-true n 64 low)))
+    ∙ minus_bit (bit_at a n) (bit_at b n) (bit_at-lt a n) (bit_at-lt b n))
+has_minus a b (negsuc n) h = refl
+
+either : (b p q r : Bool) → (b ≡ true → r ≡ ((p && not q) || (q && not p))) → (b && r) ≡ (((b && p) && not (b && q)) || ((b && q) && not (b && p)))
+either true p q r h = h refl
+either false p q r h = refl
+
+pub has_xor : (a b : ℕ) (x : ℤ) → has_bit (bit_xor a b) x ≡ ((has_bit a x && not (has_bit b x)) || (has_bit b x && not (has_bit a x)))
+has_xor a b (pos n) = either (ltb n 64) (bit_at a n == 1) (bit_at b n == 1) (bit_at (bit_xor a b) n == 1) (λ _. ap (λ d. d == 1) (bit_at_xor a b n) ∙ xor_bit (bit_at a n) (bit_at b n) (bit_at-lt a n) (bit_at-lt b n))
+has_xor a b (negsuc n) = refl
+
+-- ---- words with the same numbers
+
+pub same_words : (a b : ℕ) → a < 2 ^ 64 → b < 2 ^ 64 → ((x : ℤ) → has_bit a x ≡ has_bit b x) → a ≡ b
+same_words a b h k alike =
+    same_from_bits_below 64 a b h k (λ i low. same_bit (bit_at a i) (bit_at b i) (bit_at-lt a i) (bit_at-lt b i) (strip (ltb i 64) _ _ (lt-ltb i 64 low) (alike (pos i))))
+  where
+    strip : (b p q : Bool) → b ≡ true → (b && p) ≡ (b && q) → p ≡ q
+    strip true p q t e = e
+    strip false p q t e = absurd (true≢false (sym t))
+
+pub has_none : (x : ℤ) → has_bit 0 x ≡ false
+has_none (pos n) = ap (λ d. ltb n 64 && (d == 1)) (bit_at-zero n) ∙ and-false (ltb n 64)
+has_none (negsuc n) = refl
+
+-- what is in the one and not in the other is nothing
+nothing_over : (p q : Bool) → (p && not q) ≡ false → p ≡ true → q ≡ true
+nothing_over true true e t = refl
+nothing_over true false e t = absurd (true≢false e)
+nothing_over false q e t = absurd (true≢false (sym t))
+
+all_under : (p q : Bool) → (p ≡ true → q ≡ true) → (p && not q) ≡ false
+all_under true true h = refl
+all_under true false h = absurd (true≢false (sym (h refl)))
+all_under false q h = refl
+
+pub covered_words : (a b : ℕ) → b < 2 ^ 64 → bit_and a (18446744073709551615 - b) ≡ 0 → (x : ℤ) → has_bit a x ≡ true → has_bit b x ≡ true
+covered_words a b h e x in_a = nothing_over (has_bit a x) (has_bit b x) (sym (has_minus a b x h) ∙ ap (λ w. has_bit w x) e ∙ has_none x) in_a
+
+pub words_covered : (a b : ℕ) → a < 2 ^ 64 → b < 2 ^ 64 → ((x : ℤ) → has_bit a x ≡ true → has_bit b x ≡ true) → bit_and a (18446744073709551615 - b) ≡ 0
+words_covered a b h k all =
+    same_words (bit_and a (18446744073709551615 - b)) 0 (omega (arith, and_le_l a (18446744073709551615 - b))) (omega arith) (λ x. has_minus a b x k ∙ all_under (has_bit a x) (has_bit b x) (all x) ∙ sym (has_none x))
+
+-- ---- one number, and the numbers between two
+
+apart_numbers : (n k : ℕ) → (n ≡ k → ⊥) → int_eq (pos n) (pos k) ≡ false
+apart_numbers n k h = grind (arith, ints)
+
+same_number : (k : ℕ) → int_eq (pos k) (pos k) ≡ true
+same_number k = grind (arith, ints)
+
+pub has_one : (k : ℕ) (x : ℤ) → k < 64 → has_bit (2 ^ k) x ≡ int_eq x (pos k)
+has_one k (pos n) h =
+    elim (cases_eq n k) [
+      | inl e ↦ ap (λ (m : ℕ). has_bit (2 ^ k) (pos m)) e ∙ (λ i. lt-ltb k 64 h i && (bit_at-pow_same k i == 1)) ∙ sym (same_number k) ∙ ap (λ (m : ℕ). int_eq (pos m) (pos k)) (sym e)
+      | inr d ↦ ap (λ w. ltb n 64 && (w == 1)) (bit_at-pow_other k n d) ∙ and-false (ltb n 64) ∙ sym (apart_numbers n k d)
+    ]
+has_one k (negsuc n) h = let other : int_eq (negsuc n) (pos k) ≡ false = grind (arith, ints) in sym other
+
+pub has_with : (bits k : ℕ) (x : ℤ) → k < 64 → has_bit (bit_or bits (1 * 2 ^ k % 18446744073709551616)) x ≡ (has_bit bits x || int_eq x (pos k))
+has_with bits k x h = ap (λ w. has_bit (bit_or bits w) x) (one_shl k 64 h) ∙ has_or bits (2 ^ k) x ∙ ap (λ b. has_bit bits x || b) (has_one k x h)
+
+-- the numbers up to one
+pub has_up_to : (k : ℕ) (x : ℤ) → k < 64 → has_bit (2 ^ (k + 1) - 1) x ≡ is_between (pos 0) (pos k) x
+has_up_to k (pos n) h =
+    elim (cases_lt n (k + 1)) [
+      | inl low ↦
+          let within : is_between (pos 0) (pos k) (pos n) ≡ true = grind (arith, ints) in
+          (λ i. lt-ltb n 64 (omega arith) i && (bit_at_ones (k + 1) n low i == 1)) ∙ sym within
+      | inr high ↦
+          let outside : is_between (pos 0) (pos k) (pos n) ≡ false = grind (arith, ints) in
+          ap (λ w. ltb n 64 && (w == 1)) (bit_at_ones_above (k + 1) n high) ∙ and-false (ltb n 64) ∙ sym outside
+    ]
+has_up_to k (negsuc n) h = let outside : is_between (pos 0) (pos k) (negsuc n) ≡ false = grind (arith, ints) in sym outside
+
+-- the numbers from one on
+pub has_from : (k : ℕ) (x : ℤ) → k < 64 → has_bit (2 ^ 64 - 2 ^ k) x ≡ is_between (pos k) (pos 63) x
+has_from k (pos n) h =
+    elim (cases_lt n k) [
+      | inl low ↦
+          let outside : is_between (pos k) (pos 63) (pos n) ≡ false = grind (arith, ints) in
+          ap (λ w. ltb n 64 && (w == 1)) (bit_at_mask_below k 64 n low) ∙ and-false (ltb n 64) ∙ sym outside
+      | inr from ↦ elim (cases_lt n 64) [
+        | inl low ↦
+            let within : is_between (pos k) (pos 63) (pos n) ≡ true = grind (arith, ints) in
+            (λ i. lt-ltb n 64 low i && (bit_at_mask_inside k 64 n from low i == 1)) ∙ sym within
+        | inr high ↦
+            let outside : is_between (pos k) (pos 63) (pos n) ≡ false = grind (arith, ints) in
+            (elim (ltb n 64) as (λ b. ltb n 64 ≡ b → (b && (bit_at (2 ^ 64 - 2 ^ k) n == 1)) ≡ false) [ true ↦ λ t. let bad : n < 64 = ltb-true n 64 t in absurd (omega arith) | false ↦ λ _. refl ]) refl ∙ sym outside
+      ]
+    ]
+has_from k (negsuc n) h = let outside : is_between (pos k) (pos 63) (negsuc n) ≡ false = grind (arith, ints) in sym outside
+
+-- ---- the set of a word
+
+has_low : (bits : ℕ) (x : ℤ) → (is_between (pos 0) (pos 63) x && has_bit bits x) ≡ has_bit bits x
+has_low bits (pos n) =
+    elim (cases_lt n 64) [
+      | inl low ↦ let within : is_between (pos 0) (pos 63) (pos n) ≡ true = grind (arith, ints) in ap (λ b. b && has_bit bits (pos n)) within
+      | inr high ↦
+          let none : has_bit bits (pos n) ≡ false = (elim (ltb n 64) as (λ b. ltb n 64 ≡ b → (b && (bit_at bits n == 1)) ≡ false) [ true ↦ λ t. let bad : n < 64 = ltb-true n 64 t in absurd (omega arith) | false ↦ λ _. refl ]) refl in
+          ap (λ b. is_between (pos 0) (pos 63) (pos n) && b) none ∙ and-false (is_between (pos 0) (pos 63) (pos n)) ∙ sym none
+    ]
+has_low bits (negsuc n) = and-false (is_between (pos 0) (pos 63) (negsuc n))
+
+pub contains-numbers_of_bits : (bits : ℕ) (x : ℤ) → contains (numbers_of_bits bits) x ≡ has_bit bits x
+unfolding numbers_of_bits
+contains-numbers_of_bits bits x =
+    contains-from_list int_cmp_total _ x
+    ∙ is_listed-filter (has_bit bits) (counting_from (pos 0) 64) x
+    ∙ ap (λ b. b && has_bit bits x) (list_any-counting_from x (pos 0) (pos 63))
+    ∙ has_low bits x
+
+-- how many numbers it has
+counted_bits : (bits n k : ℕ) → bits / 2 ^ n < 2 ^ k → n + k ≡ 64 → length (filter (has_bit bits) (counting_from (pos n) k)) ≡ count_ones (bits / 2 ^ n)
+unfolding counting_from
+counted_bits bits n zero h e = omega (arith, ones-le 0 (bits / 2 ^ n) h)
+counted_bits bits n (suc k) h e =
+    let half : bits / 2 ^ n / 2 ≡ bits / 2 ^ (n + 1) = shr-shr bits n 1 in
+    let rest : length (filter (has_bit bits) (counting_from (pos (n + 1)) k)) ≡ count_ones (bits / 2 ^ (n + 1)) = counted_bits bits (n + 1) k (omega (arith, pow-suc 2 k)) (omega arith) in
+    let here : has_bit bits (pos n) ≡ (bit_at bits n == 1) = ap (λ b. b && (bit_at bits n == 1)) (lt-ltb n 64 (omega arith)) in
+    ap (λ b. length (cond b (pos n ∷ filter (has_bit bits) (counting_from (pos (n + 1)) k)) (filter (has_bit bits) (counting_from (pos (n + 1)) k)))) here
+    ∙ one_more (bit_at bits n) (bit_at-lt bits n) (filter (has_bit bits) (counting_from (pos (n + 1)) k))
+    ∙ ap (λ m. bit_at bits n + m) (rest ∙ ap count_ones (sym half))
+    ∙ sym (ones_step (bits / 2 ^ n))
+  where
+    one_more : (d : ℕ) → d < 2 → (xs : List ℤ) → length (cond (d == 1) (pos n ∷ xs) xs) ≡ d + length xs
+    one_more zero h xs = omega arith
+    one_more (suc zero) h xs = omega arith
+    one_more (suc (suc d)) h xs = absurd (omega arith)
+
+pub len-numbers_of_bits : (bits : ℕ) → bits < 2 ^ 64 → count_ones bits ≡ len (numbers_of_bits bits)
+unfolding numbers_of_bits
+len-numbers_of_bits bits h =
+    let whole : bits / 2 ^ 0 ≡ bits = omega arith in
+    sym (len-from_list (pos 0) _ (Rise-filter (has_bit bits) (pos 0) (counting_from (pos 0) 64) (Rise-counting_from (pos 0) 64)) ∙ counted_bits bits 0 64 (omega arith) refl ∙ ap count_ones whole)
+
+pub low_fits : (bits : ℕ) (x : ℤ) → has_bit bits x ≡ true → FitsSigned w64 x
+low_fits bits (pos n) h = let low : n < 64 = ltb-true n 64 (first (ltb n 64) (bit_at bits n == 1) h) in omega (arith, ints)
+  where
+    first : (a b : Bool) → (a && b) ≡ true → a ≡ true
+    first true b e = refl
+    first false b e = absurd (true≢false (sym e))
+low_fits bits (negsuc n) h = absurd (true≢false (sym h))
+
+-- ---- the numbers between two, as they are made
+
+abs_of : (z : ℤ) (n : ℕ) → z ≡ pos n → nat_abs z ≡ n
+abs_of z n e = ap nat_abs e
+
+pub has_cut : (first last x : ℤ) → pos 0 ≤ℤ first → last ≤ℤ pos 63 → first ≤ℤ last
+    → has_bit (bit_and (18446744073709551615 / 2 ^ nat_abs (pos 63 -ℤ last)) (18446744073709551615 * 2 ^ nat_abs first % 18446744073709551616)) x ≡ is_between first last x
+has_cut (negsuc f) last x low high some = absurd (omega (arith, ints))
+has_cut (pos f) (negsuc l) x low high some = absurd (omega (arith, ints))
+has_cut (pos f) (pos l) x low high some =
+    let rest : nat_abs (pos 63 -ℤ pos l) ≡ 63 - l = abs_of (pos 63 -ℤ pos l) (63 - l) (omega (arith, ints)) in
+    let width : 64 - (63 - l) ≡ l + 1 = omega (arith, ints) in
+    let up_to : 18446744073709551615 / 2 ^ nat_abs (pos 63 -ℤ pos l) ≡ 2 ^ (l + 1) - 1 = ap (λ k. 18446744073709551615 / 2 ^ k) rest ∙ ones_shr 64 (63 - l) (omega arith) ∙ ap (λ k. 2 ^ k - 1) width in
+    let from : 18446744073709551615 * 2 ^ f % 18446744073709551616 ≡ 2 ^ 64 - 2 ^ f = ones_shl 64 f (omega (arith, ints)) in
+    let both_ends : (is_between (pos 0) (pos l) x && is_between (pos f) (pos 63) x) ≡ is_between (pos f) (pos l) x = grind (arith, ints) in
+    (λ i. has_bit (bit_and (up_to i) (from i)) x)
+    ∙ has_and (2 ^ (l + 1) - 1) (2 ^ 64 - 2 ^ f) x
+    ∙ (λ i. has_up_to l x (omega (arith, ints)) i && has_from f x (omega (arith, ints)) i)
+    ∙ both_ends
+
+pub between_cut : (lo hi x : ℤ) → is_between (int_max lo (pos 0)) (int_min hi (pos 63)) x ≡ (is_between (pos 0) (pos 63) x && is_between lo hi x)
+between_cut lo hi x = grind (arith, ints)
+
+pub cut_empty : (lo hi x : ℤ) → int_min hi (pos 63) <ℤ int_max lo (pos 0) → false ≡ (is_between (pos 0) (pos 63) x && is_between lo hi x)
+cut_empty lo hi x h = grind (arith, ints)
+
+pub has_with_number : (bits : ℕ) (z x : ℤ) → pos 0 ≤ℤ z → z ≤ℤ pos 63 → has_bit (bit_or bits (1 * 2 ^ nat_abs z % 18446744073709551616)) x ≡ (has_bit bits x || int_eq x z)
+has_with_number bits (pos k) x low high = has_with bits k x (omega (arith, ints))
+has_with_number bits (negsuc k) x low high = absurd (omega (arith, ints))
+
+-- ---- one number alone
+
+same_int : (x y : ℤ) → x ≡ y → int_eq x y ≡ true
+same_int x y e = grind (arith, ints)
+
+pub one_word : (bits t : ℕ) → t < 64 → bits ≡ 1 * 2 ^ t % 18446744073709551616 → (x : ℤ) → (has_bit bits x ≡ true) ↔ (x ≡ pos t)
+one_word bits t h e x =
+    let is : has_bit bits x ≡ int_eq x (pos t) = ap (λ w. has_bit w x) (e ∙ one_shl t 64 h) ∙ has_one t x h in
+    (λ in_it. (Decides-int_eq x (pos t)).0 (sym is ∙ in_it), λ same. is ∙ same_int x (pos t) same)
+
+pub word_of_one : (bits t : ℕ) (n : ℤ) → t < 64 → bits < 2 ^ 64 → bit_at bits t ≡ 1 → ((x : ℤ) → (has_bit bits x ≡ true) ↔ (x ≡ n)) → bits ≡ 1 * 2 ^ t % 18446744073709551616
+word_of_one bits t n h fits set only =
+    let there : has_bit bits (pos t) ≡ true = λ i. lt-ltb t 64 h i && (set i == 1) in
+    let found : pos t ≡ n = (only (pos t)).0 there in
+    same_words bits (2 ^ t) fits (pow_below t 64 h) (λ x. both_ways (has_bit bits x) (has_bit (2 ^ t) x)
+    (λ in_it. has_one t x h ∙ same_int x (pos t) ((only x).0 in_it ∙ sym found))
+    (λ same. (only x).1 ((Decides-int_eq x (pos t)).0 (sym (has_one t x h) ∙ same) ∙ found)))
+    ∙ sym (one_shl t 64 h)
+
+-- ---- within two numbers
+
+pub within_cut : (bits cut : ℕ) (lo hi : ℤ) → ((x : ℤ) → has_bit cut x ≡ (is_between (pos 0) (pos 63) x && is_between lo hi x)) → (r : Bool)
+    → (r ≡ true ↔ ((x : ℤ) → has_bit bits x ≡ true → has_bit cut x ≡ true)) → (r ≡ true ↔ ((x : ℤ) → has_bit bits x ≡ true → (lo ≤ℤ x) × (x ≤ℤ hi)))
+within_cut bits cut lo hi is r h = (
+  λ e x in_it. ends x (second (is_between (pos 0) (pos 63) x) (is_between lo hi x) (sym (is x) ∙ h.0 e x in_it)),
+  λ all. h.1 (λ x in_it. is x ∙ (λ i. low x in_it i && between_yes lo hi x (all x in_it).0 (all x in_it).1 i)),
+)
+  where
+    second : (a b : Bool) → (a && b) ≡ true → b ≡ true
+    second true b e = e
+    second false b e = absurd (true≢false (sym e))
+
+    ends : (x : ℤ) → is_between lo hi x ≡ true → (lo ≤ℤ x) × (x ≤ℤ hi)
+    ends x e = (grind (arith, ints), grind (arith, ints))
+
+    low : (x : ℤ) → has_bit bits x ≡ true → is_between (pos 0) (pos 63) x ≡ true
+    low x e = sym (and-true (is_between (pos 0) (pos 63) x)) ∙ ap (λ b. is_between (pos 0) (pos 63) x && b) (sym e) ∙ has_low bits x ∙ e
+
+-- ---- spreading a word out, one number after another
+
+-- a word without one of its numbers
+pub has_less : (rest t : ℕ) (x : ℤ) → t < 64 → has_bit (bit_and rest (18446744073709551615 - 1 * 2 ^ t % 18446744073709551616)) x ≡ (has_bit rest x && not (int_eq x (pos t)))
+has_less rest t x h =
+    ap (λ w. has_bit (bit_and rest (18446744073709551615 - w)) x) (one_shl t 64 h)
+    ∙ has_minus rest (2 ^ t) x (pow_below t 64 h)
+    ∙ ap (λ b. has_bit rest x && not b) (has_one t x h)
+
+no_rest : (b : Bool) → false ≡ (b && not b)
+no_rest true = refl
+no_rest false = refl
+
+pub nothing_spread : (bits : ℕ) (x : ℤ) → false ≡ (has_bit bits x && not (has_bit bits x))
+nothing_spread bits x = no_rest (has_bit bits x)
+
+pub all_spread : (bits : ℕ) (x : ℤ) → (has_bit bits x && not (has_bit 0 x)) ≡ has_bit bits x
+all_spread bits x = ap (λ b. has_bit bits x && not b) (has_none x) ∙ and-true (has_bit bits x)
+
+one_moved : (b r e : Bool) → (e ≡ true → b ≡ true) → ((b && not r) || e) ≡ (b && not (r && not e))
+one_moved true true true h = refl
+one_moved true true false h = refl
+one_moved true false true h = refl
+one_moved true false false h = refl
+one_moved false r true h = absurd (true≢false (sym (h refl)))
+one_moved false r false h = refl
+
+module _ (bits rest t : ℕ) (small : t < 64) (set : bit_at rest t ≡ 1) (first : (i : ℕ) → i < t → bit_at rest i ≡ 0) (part : (x : ℤ) → has_bit rest x ≡ true → has_bit bits x ≡ true) where
+  pub in_rest : has_bit rest (pos t) ≡ true
+  in_rest = λ i. lt-ltb t 64 small i && (set i == 1)
+
+  pub spread_more : (x : ℤ) → ((has_bit bits x && not (has_bit rest x)) || int_eq x (pos t)) ≡ (has_bit bits x && not (has_bit (bit_and rest (18446744073709551615 - 1 * 2 ^ t % 18446744073709551616)) x))
+  spread_more x =
+      one_moved (has_bit bits x) (has_bit rest x) (int_eq x (pos t)) (λ e. let same : x ≡ pos t = (Decides-int_eq x (pos t)).0 e in ap (has_bit bits) same ∙ part (pos t) in_rest)
+      ∙ ap (λ b. has_bit bits x && not b) (sym (has_less rest t x small))
+
+  both_hold : (p q : Bool) → (p && q) ≡ true → (p ≡ true) × (q ≡ true)
+  both_hold true q e = (refl, e)
+  both_hold false q e = absurd (true≢false (sym e))
+
+  pub part_less : (x : ℤ) → has_bit (bit_and rest (18446744073709551615 - 1 * 2 ^ t % 18446744073709551616)) x ≡ true → has_bit bits x ≡ true
+  part_less x e = part x (both_hold (has_bit rest x) (not (int_eq x (pos t))) (sym (has_less rest t x small) ∙ e)).0
+
+  -- what is left lies above
+  pub above_lowest : (k : ℕ) → has_bit (bit_and rest (18446744073709551615 - 1 * 2 ^ t % 18446744073709551616)) (pos k) ≡ true → t < k
+  above_lowest k e =
+      let parts = both_hold (has_bit rest (pos k)) (not (int_eq (pos k) (pos t))) (sym (has_less rest t (pos k) small) ∙ e) in
+      elim (cases_lt k t) [
+        | inl low ↦ absurd (true≢false (sym (both_hold (ltb k 64) (bit_at rest k == 1) parts.0).1 ∙ ap (λ d. d == 1) (first k low)))
+        | inr from ↦ elim (cases_lt t k) [
+          | inl above ↦ above
+          | inr up ↦ let same : k ≡ t = omega arith in absurd (true≢false (sym parts.1 ∙ ap not (ap (λ (n : ℕ). int_eq (pos n) (pos t)) same ∙ same_number t)))
+        ]
+      ]
+
+  -- a word with a number less is less
+  pub rest_less : rest < 2 ^ 64 → bit_and rest (18446744073709551615 - 1 * 2 ^ t % 18446744073709551616) < rest
+  rest_less fits =
+      elim (cases_lt (bit_and rest (18446744073709551615 - 1 * 2 ^ t % 18446744073709551616)) rest) [
+        | inl below ↦ below
+        | inr up ↦
+            let same : bit_and rest (18446744073709551615 - 1 * 2 ^ t % 18446744073709551616) ≡ rest = omega (arith, and_le_l rest (18446744073709551615 - 1 * 2 ^ t % 18446744073709551616)) in
+            let self : t < t = above_lowest t (ap (λ w. has_bit w (pos t)) same ∙ in_rest) in
+            absurd (omega arith)
+      ]

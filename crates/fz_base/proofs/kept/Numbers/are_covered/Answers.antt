@@ -1,0 +1,4 @@
+use Rattle.fz_base.proofs.kept.Numbers.are_covered.Goals as goal
+
+pub returns-in-Low-Low : goal.returns-in-Low-Low
+returns-in-Low-Low c = rw (c.in-Low-Low.is-0, c.in-Low-Low.is-1) c.are_covered.ensures

@@ -1,0 +1,31 @@
+-- How the numbers of a set are kept: as bits or as ranges. A reader need not believe this file: no public clause speaks of it.
+use Rattle.std.specs.Prelude.{ℤ, Bool, List}
+use Rattle.fz_base.specs.declared.ranges.Range.{Range}
+use Rattle.fz_base.specs.declared.kept.Numbers.{Numbers}
+use Rattle.fz_base.specs.declared.kept.Numbers.TheVariants as numbers
+use Rattle.fz_base.specs.declared.kept.Held.{Held}
+use Rattle.fz_base.specs.declared.kept.Held.TheVariants as held
+use Rattle.fz_base.specs.Bits.{has_bit, numbers_of_bits}
+use Rattle.fz_base.specs.Ranges.{lowest, numbers_of, AreInOrder, covers}
+use Rattle.fz_base.specs.Sets.{NumberSet}
+use Rattle.fz_base.specs.Storage.{stored, HasPlaces}
+
+-- the number is among them
+abbrev pub has : Numbers → ℤ → Bool
+has (numbers.Low bits) x = has_bit bits x
+has (numbers.Ranges storage) x = covers (stored storage.value) x
+
+-- the set of all of them
+abbrev pub set_of : Numbers → NumberSet
+set_of (numbers.Low bits) = numbers_of_bits bits
+set_of (numbers.Ranges storage) = numbers_of (stored storage.value)
+
+-- ranges are stored in order
+abbrev pub AreKept : Numbers → Type 0
+AreKept (numbers.Low bits) = Unit {0}
+AreKept (numbers.Ranges storage) = HasPlaces storage.value × AreInOrder lowest (stored storage.value)
+
+-- the ranges of numbers
+abbrev pub held_ranges : Held → List Range
+held_ranges (held.Spread ranges) = ranges.items
+held_ranges (held.Kept ranges) = ranges.now

@@ -1,0 +1,280 @@
+// How the numbers of a set are kept. Most sets have numbers from 0 to 63 alone. These are the bits of a word, so that who has found the set
+// has found its numbers too. The numbers of other sets are kept as ranges in a box.
+ghost use Rattle.std.specs.Prelude.{◌≡◌, ℤ, ◌≤◌, ◌^◌, ◌≤ℤ◌, ◌↔◌, true, IsTrue, IfNone, IfOk, IfSome};
+ghost use Rattle.std.specs.FinSet as set;
+ghost use Rattle.std.specs.List.{list_any};
+ghost use Rattle.std.specs.Ordering.{int_eq};
+ghost use Rattle.fz_base.specs.Keeping.{has, held_ranges, set_of, AreKept};
+ghost use Rattle.fz_base.specs.Ranges.{lowest, AreInOrder, covers, is_between, keeps};
+
+use crate::bits::{self, PLACES};
+use crate::ranges::{self, Range, Rule};
+use crate::storage::{self, Storage};
+use arrayvec::ArrayVec;
+use std::alloc::{AllocError, Global};
+
+/// The numbers of a set: the bits of a word, or ranges.
+#[derive(Debug, Drop)]
+pub enum Numbers {
+    Low(u64),
+    Ranges(Box<Storage>),
+}
+
+/// The ranges of numbers: those that a word comes to, or those that are kept.
+#[derive(Drop)]
+enum Held<'s> {
+    Spread(ArrayVec<Range, PLACES>),
+    Kept(&'s [Range]),
+}
+
+impl Held<'_> {
+    fn ranges(&self) -> &[Range]
+        ensures { result.now ≡ held_ranges self.now }
+    {
+        match self {
+            Held::Spread(ranges) => ranges.as_slice(),
+            Held::Kept(ranges) => ranges,
+        }
+    }
+}
+
+/// Ranges in order as they are kept in a box.
+fn boxed(alloc: Global, ranges: Vec<Range>) -> Result<Numbers, AllocError>
+    requires in_order { AreInOrder lowest ranges.items }
+    ensures kept { IfOk result AreKept }
+    ensures same { IfOk result (λ n. (x : ℤ) → has n x ≡ covers ranges.items x) }
+{
+    Ok(Numbers::Ranges(Box::new(alloc, storage::store(ranges))?))
+}
+
+/// The numbers that ranges in order cover, as a word where it can have them.
+fn of_ranges(alloc: Global, ranges: Vec<Range>) -> Result<Numbers, AllocError>
+    requires in_order { AreInOrder lowest ranges.items }
+    ensures kept { IfOk result AreKept }
+    ensures same { IfOk result (λ n. (x : ℤ) → has n x ≡ covers ranges.items x) }
+{
+    match bits::of_ranges(&ranges) {
+        Some(bits) => Ok(Numbers::Low(bits)),
+        None => boxed(alloc, ranges),
+    }
+}
+
+/// The numbers from `lo` to `hi`, both included.
+pub fn between(alloc: Global, lo: i64, hi: i64) -> Result<Numbers, AllocError>
+    ensures kept { IfOk result AreKept }
+    ensures same { IfOk result (λ n. (x : ℤ) → has n x ≡ is_between lo hi x) }
+{
+    match bits::between(lo, hi) {
+        Some(bits) => Ok(Numbers::Low(bits)),
+        None => boxed(alloc, ranges::between(alloc, lo, hi)?),
+    }
+}
+
+/// The listed numbers, which come in any order and may repeat.
+pub fn listed(alloc: Global, numbers: &[i64]) -> Result<Numbers, AllocError>
+    ensures kept { IfOk result AreKept }
+    ensures same { IfOk result (λ n. (x : ℤ) → has n x ≡ list_any (int_eq x) numbers.now) }
+{
+    match bits::listed(numbers) {
+        Some(bits) => Ok(Numbers::Low(bits)),
+        None => sorted(alloc, numbers),
+    }
+}
+
+/// The listed numbers, which are sorted once.
+fn sorted(alloc: Global, numbers: &[i64]) -> Result<Numbers, AllocError>
+    ensures kept { IfOk result AreKept }
+    ensures same { IfOk result (λ n. (x : ℤ) → has n x ≡ list_any (int_eq x) numbers.now) }
+{
+    let mut sorted = Vec::from_slice(alloc, numbers)?;
+    sorted.sort_unstable();
+    let ranges = ranges::gather(alloc, &sorted)?;
+    Ok(boxed(alloc, ranges)?)
+}
+
+impl Numbers {
+    /// The ranges of the numbers.
+    fn held(&self) -> Held<'_>
+        requires kept { AreKept self.now }
+        ensures in_order { AreInOrder lowest (held_ranges result) }
+        ensures same { (x : ℤ) → covers (held_ranges result) x ≡ has self.now x }
+    {
+        match self {
+            Numbers::Low(bits) => Held::Spread(bits::spread(*bits)),
+            Numbers::Ranges(storage) => Held::Kept(storage.ranges()),
+        }
+    }
+
+    /// Whether the number is among them.
+    #[inline]
+    pub fn contain(&self, number: i64) -> bool
+        requires kept { AreKept self.now }
+        ensures { result ≡ has self.now number }
+    {
+        match self {
+            Numbers::Low(bits) => bits::has(*bits, number),
+            Numbers::Ranges(storage) => ranges::is_covered(storage.ranges(), number),
+        }
+    }
+
+    /// How many they are.
+    #[inline]
+    pub fn count(&self) -> u128
+        requires kept { AreKept self.now }
+        ensures exact { result ≡ set.len (set_of self.now) }
+        ensures bound { result ≤ 2 ^ 64 }
+    {
+        match self {
+            Numbers::Low(bits) => u128::from(bits::count(*bits)),
+            Numbers::Ranges(storage) => ranges::count(storage.ranges()),
+        }
+    }
+
+    /// The number, where it is one alone.
+    #[inline]
+    pub fn only(&self) -> Option<i64>
+        requires kept { AreKept self.now }
+        ensures found { IfSome result (λ n. (x : ℤ) → (has self.now x ≡ true) ↔ (x ≡ n)) }
+        ensures none { IfNone result ((n : ℤ) → ((x : ℤ) → (has self.now x ≡ true) ↔ (x ≡ n)) → ⊥) }
+    {
+        match self {
+            Numbers::Low(bits) => bits::only(*bits),
+            Numbers::Ranges(storage) => ranges::only(storage.ranges()),
+        }
+    }
+
+    /// Whether each of them is among the others.
+    #[inline]
+    pub fn are_covered(&self, others: &Numbers) -> bool
+        requires kept { AreKept self.now }
+        requires others { AreKept others.now }
+        ensures { IsTrue result ↔ ((x : ℤ) → has self.now x ≡ true → has others.now x ≡ true) }
+    {
+        match (self, others) {
+            (Numbers::Low(a), Numbers::Low(b)) => bits::are_covered(*a, *b),
+            _ => self.ranges_are_covered(others),
+        }
+    }
+
+    fn ranges_are_covered(&self, others: &Numbers) -> bool
+        requires kept { AreKept self.now }
+        requires others { AreKept others.now }
+        ensures { IsTrue result ↔ ((x : ℤ) → has self.now x ≡ true → has others.now x ≡ true) }
+    {
+        let a = self.held();
+        let b = others.held();
+        ranges::are_covered(a.ranges(), b.ranges())
+    }
+
+    /// Whether both are the same numbers.
+    #[inline]
+    pub fn are_same(&self, others: &Numbers) -> bool
+        requires kept { AreKept self.now }
+        requires others { AreKept others.now }
+        ensures { IsTrue result ↔ ((x : ℤ) → has self.now x ≡ has others.now x) }
+    {
+        match (self, others) {
+            (Numbers::Low(a), Numbers::Low(b)) => bits::are_same(*a, *b),
+            _ => self.ranges_are_same(others),
+        }
+    }
+
+    fn ranges_are_same(&self, others: &Numbers) -> bool
+        requires kept { AreKept self.now }
+        requires others { AreKept others.now }
+        ensures { IsTrue result ↔ ((x : ℤ) → has self.now x ≡ has others.now x) }
+    {
+        let a = self.held();
+        let b = others.held();
+        ranges::are_same(a.ranges(), b.ranges())
+    }
+
+    /// Whether all of them lie between two numbers.
+    #[inline]
+    pub fn lie_within(&self, lo: i64, hi: i64) -> bool
+        requires kept { AreKept self.now }
+        ensures { IsTrue result ↔ ((x : ℤ) → has self.now x ≡ true → (lo ≤ℤ x) × (x ≤ℤ hi)) }
+    {
+        match self {
+            Numbers::Low(bits) => bits::lie_within(*bits, lo, hi),
+            Numbers::Ranges(storage) => ranges::lie_within(storage.ranges(), lo, hi),
+        }
+    }
+
+    /// Whether they are what the rule keeps of two others.
+    #[inline(always)]
+    pub fn are_kept(&self, a: &Numbers, b: &Numbers, rule: Rule) -> bool
+        requires kept { AreKept self.now }
+        requires a { AreKept a.now }
+        requires b { AreKept b.now }
+        ensures { IsTrue result ↔ ((x : ℤ) → has self.now x ≡ keeps rule (has a.now x) (has b.now x)) }
+    {
+        match (self, a, b) {
+            (Numbers::Low(c), Numbers::Low(a), Numbers::Low(b)) => {
+                bits::are_same(*c, bits::combine(*a, *b, rule))
+            }
+            _ => self.ranges_are_kept(a, b, rule),
+        }
+    }
+
+    fn ranges_are_kept(&self, a: &Numbers, b: &Numbers, rule: Rule) -> bool
+        requires kept { AreKept self.now }
+        requires a { AreKept a.now }
+        requires b { AreKept b.now }
+        ensures { IsTrue result ↔ ((x : ℤ) → has self.now x ≡ keeps rule (has a.now x) (has b.now x)) }
+    {
+        let a = a.held();
+        let b = b.held();
+        let c = self.held();
+        ranges::is_kept(a.ranges(), b.ranges(), c.ranges(), rule)
+    }
+
+    /// What the rule keeps of these and others.
+    #[inline]
+    pub fn combine(
+        &self,
+        alloc: Global,
+        others: &Numbers,
+        rule: Rule,
+    ) -> Result<Numbers, AllocError>
+        requires kept { AreKept self.now }
+        requires others { AreKept others.now }
+        ensures kept { IfOk result AreKept }
+        ensures same { IfOk result (λ n. (x : ℤ) → has n x ≡ keeps rule (has self.now x) (has others.now x)) }
+    {
+        match (self, others) {
+            (Numbers::Low(a), Numbers::Low(b)) => Ok(Numbers::Low(bits::combine(*a, *b, rule))),
+            _ => self.combine_ranges(alloc, others, rule),
+        }
+    }
+
+    fn combine_ranges(
+        &self,
+        alloc: Global,
+        others: &Numbers,
+        rule: Rule,
+    ) -> Result<Numbers, AllocError>
+        requires kept { AreKept self.now }
+        requires others { AreKept others.now }
+        ensures kept { IfOk result AreKept }
+        ensures same { IfOk result (λ n. (x : ℤ) → has n x ≡ keeps rule (has self.now x) (has others.now x)) }
+    {
+        let a = self.held();
+        let b = others.held();
+        of_ranges(alloc, ranges::combine(alloc, a.ranges(), b.ranges(), rule)?)
+    }
+
+    /// The same numbers once more.
+    pub fn copy(&self, alloc: Global) -> Result<Numbers, AllocError>
+        requires kept { AreKept self.now }
+        ensures kept { IfOk result AreKept }
+        ensures same { IfOk result (λ n. set_of n ≡ set_of self.now) }
+    {
+        match self {
+            Numbers::Low(bits) => Ok(Numbers::Low(*bits)),
+            Numbers::Ranges(storage) => {
+                Ok(Numbers::Ranges(Box::new(alloc, storage.copy(alloc)?)?))
+            }
+        }
+    }
+}
