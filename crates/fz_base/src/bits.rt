@@ -1,5 +1,5 @@
-// Sets of numbers from 0 to 63, each as the bits of a word: bit n is 1 where n is in the set. Whatever is asked of two such sets, or made of
-// them, takes no loop.
+// Sets of numbers from 0 to 63, each as the bits of a word: bit n is 1 where n is in the set. What is asked of such sets, or made of
+// two of them, takes a few instructions; only to gather a set from a list or from ranges, and to spread it out to ranges, takes a loop.
 ghost use Rattle.std.specs.Prelude.{◌≡◌, ◌<◌, ◌≤◌, ◌+◌, ℤ, ◌≤ℤ◌, ◌-ℤ◌, ◌↔◌, ◌&&◌, ◌||◌, true, pos, IsTrue, IfNone, IfSome};
 ghost use Rattle.std.specs.FinSet as set;
 ghost use Rattle.std.specs.List.{list_any};
@@ -144,7 +144,8 @@ pub fn combine(a: u64, b: u64, rule: Rule) -> u64
     }
 }
 
-/// Adds a number at the end of the ranges.
+/// Adds a number at the end of the ranges, for which there is room: as for a range at the end of a list that grows, but without memory
+/// to ask for.
 fn push_number(ranges: &mut ArrayVec<Range, PLACES>, number: i64)
     requires room { array_vec_len ranges.old < 64 }
     requires in_order { AreInOrder lowest ranges.old.items }

@@ -47,6 +47,7 @@ impl Model for IntSet {
 }
 
 /// The set of numbers that are kept.
+#[inline]
 fn set_of(numbers: Numbers) -> IntSet
     requires kept { AreKept numbers }
     ensures { result ≡ set_of numbers }
@@ -74,8 +75,7 @@ impl IntSet {
         Ok(set_of(kept::between(alloc, lo, hi)?))
     }
 
-    /// The listed numbers, which come in any order and may repeat. It sorts them once, unless all are from 0 to 63, and takes
-    /// time in proportion to their number where they are sorted.
+    /// The listed numbers, which come in any order and may repeat. Unless all are from 0 to 63 they are sorted, once.
     pub fn list(alloc: Global, numbers: &[i64]) -> Result<IntSet, SetError>
         ensures { IfOk result (λ s. s ≡ set.from_list numbers.now) }
     {
@@ -83,9 +83,11 @@ impl IntSet {
     }
 }
 
-/// Asking sets. These calls take no memory and always succeed.
+/// Asking sets. These calls take no memory and always succeed. Where the sets have numbers from 0 to 63 alone, each takes a few
+/// instructions; else a question about one set halves its ranges or looks at their ends, and a question about two goes over the
+/// ranges of both once.
 impl IntSet {
-    /// Whether the number is in the set, by halving.
+    /// Whether the number is in the set.
     #[inline]
     pub fn contains(&self, number: i64) -> bool
         ensures { result ≡ set.contains self.now number }
@@ -102,7 +104,7 @@ impl IntSet {
         self.kept().count()
     }
 
-    /// The number of the set, where it has exactly one, at once.
+    /// The number of the set, where it has exactly one.
     #[inline]
     pub fn only(&self) -> Option<i64>
         ensures found { IfSome result (λ n. IsOnly n self.now) }
@@ -111,7 +113,7 @@ impl IntSet {
         self.kept().only()
     }
 
-    /// Whether each number of this set is in the other, in one pass over both.
+    /// Whether each number of this set is in the other.
     #[inline]
     pub fn is_subset(&self, other: &IntSet) -> bool
         ensures { result ≡ set.is_subset self.now other.now }
@@ -119,7 +121,7 @@ impl IntSet {
         self.kept().are_covered(other.kept())
     }
 
-    /// Whether the two sets have the same numbers, in one pass over both.
+    /// Whether the two sets have the same numbers.
     #[inline]
     pub fn equals(&self, other: &IntSet) -> bool
         ensures { IsTrue result ↔ (self.now ≡ other.now) }
@@ -139,8 +141,8 @@ impl IntSet {
     }
 }
 
-/// Asking whether a set is what an operation makes of two others, in one pass over the three. These calls take no memory and
-/// always succeed.
+/// Asking whether a set is what an operation makes of two others: a few instructions, or one pass over the ranges of the three.
+/// These calls take no memory and always succeed.
 impl IntSet {
     /// Whether this set is what is in one of the two or in both.
     #[inline]
@@ -175,8 +177,8 @@ impl IntSet {
     }
 }
 
-/// Combining and copying sets, in one pass over the operands. Each of these calls refuses only where
-/// memory runs out.
+/// Combining and copying sets: a few instructions, or one pass over the ranges of the operands. Each of these calls refuses only
+/// where memory runs out.
 impl IntSet {
     /// What is in this set, in the other or in both.
     pub fn union(&self, alloc: Global, other: &IntSet) -> Result<IntSet, SetError>

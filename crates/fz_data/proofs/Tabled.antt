@@ -76,10 +76,6 @@ forgets_next K n h = rw add-one (next K n h)
     next (o ∷ K) zero h = refl
     next (o ∷ K) (suc n) h = ap (λ J. None ∷ J) (next K n (omega arith))
 
-pub is_none : {A : Type 0} (o : Option A) → is_some o ≡ false → o ≡ None
-is_none None e = refl
-is_none (Some x) e = cc
-
 pub forgets_all : (K : List (Option Value)) (n : ℕ) → n ≡ length K → forgotten n K ≡ map (λ v. None) K
 forgets_all K n e = ap (λ k. forgotten k K) e ∙ all K
   where
