@@ -16,20 +16,20 @@ pub struct Watch {
 }
 
 impl Watch {
-    pub fn start(clock: &impl CpuClock) -> io::Result<Watch> {
+    pub(crate) fn start(clock: &impl CpuClock) -> io::Result<Watch> {
         Ok(Watch {
             start: clock.process_cpu_time()?,
         })
     }
 
     /// The time that was used since the start.
-    pub fn stop(self, clock: &impl CpuClock) -> io::Result<Duration> {
+    pub(crate) fn stop(self, clock: &impl CpuClock) -> io::Result<Duration> {
         Ok(clock.process_cpu_time()?.saturating_sub(self.start))
     }
 }
 
 /// The quicker of two rounds of a phase, which went through the same.
-pub fn quicker(best: Option<Measured>, next: Measured) -> Result<Measured> {
+pub(crate) fn quicker(best: Option<Measured>, next: Measured) -> Result<Measured> {
     match best {
         None => Ok(next),
         Some(best) if best.count != next.count => bail!("two rounds counted differently"),

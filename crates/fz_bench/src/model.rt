@@ -8,7 +8,7 @@ use fz_stream::blocks;
 use fz_syntax::parse;
 
 /// Looks up the names of a model's tree, and counts its variables. Reading the tree isn't timed.
-pub fn run_load(rt: &HostRuntime, model: &[u8]) -> Result<Measured> {
+pub(crate) fn run_load(rt: &HostRuntime, model: &[u8]) -> Result<Measured> {
     let tree = parse(rt.alloc(), model)?;
     let watch = Watch::start(rt)?;
     let model = load(rt.alloc(), &tree)?;
@@ -20,7 +20,7 @@ pub fn run_load(rt: &HostRuntime, model: &[u8]) -> Result<Measured> {
 }
 
 /// Tells the state of each point under the filling of the first block, and counts the points. The filling isn't timed.
-pub fn run_states(rt: &HostRuntime, model: &[u8], stream: &[u8]) -> Result<Measured> {
+pub(crate) fn run_states(rt: &HostRuntime, model: &[u8], stream: &[u8]) -> Result<Measured> {
     let tree = parse(rt.alloc(), model)?;
     let model = load(rt.alloc(), &tree)?;
     let found = blocks(rt.alloc(), stream)?;
@@ -42,7 +42,7 @@ fn tell_states(rt: &HostRuntime, model: &Model<'_>, partial: &Partial) -> Result
 }
 
 /// From the bytes of a stream to its verdicts, and counts them. Loading the model isn't timed.
-pub fn run_judge(rt: &HostRuntime, model: &[u8], stream: &[u8]) -> Result<Measured> {
+pub(crate) fn run_judge(rt: &HostRuntime, model: &[u8], stream: &[u8]) -> Result<Measured> {
     let tree = parse(rt.alloc(), model)?;
     let model = load(rt.alloc(), &tree)?;
     let watch = Watch::start(rt)?;

@@ -23,7 +23,7 @@ struct Files<'a> {
 }
 
 /// Reads the files, measures what is asked for, and tells it.
-pub fn measure(rt: &HostRuntime, request: &Request<'_>) -> Result<()> {
+pub(crate) fn measure(rt: &HostRuntime, request: &Request<'_>) -> Result<()> {
     let model = fs::read(rt, request.model).context("reading the model")?;
     match request.stream {
         None => {

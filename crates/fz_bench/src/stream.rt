@@ -11,7 +11,7 @@ use fz_stream::{Part, Splitter, StreamError, blocks};
 const PIECE: usize = 4096;
 
 /// Reads a stream whole, and counts its blocks.
-pub fn run_blocks(rt: &HostRuntime, stream: &[u8]) -> Result<Measured> {
+pub(crate) fn run_blocks(rt: &HostRuntime, stream: &[u8]) -> Result<Measured> {
     let watch = Watch::start(rt)?;
     let found = blocks(rt.alloc(), stream)?;
     let took = watch.stop(rt)?;
@@ -22,7 +22,7 @@ pub fn run_blocks(rt: &HostRuntime, stream: &[u8]) -> Result<Measured> {
 }
 
 /// Feeds a splitter a stream in pieces, takes each part, and counts the blocks.
-pub fn run_splitter(rt: &HostRuntime, stream: &[u8]) -> Result<Measured> {
+pub(crate) fn run_splitter(rt: &HostRuntime, stream: &[u8]) -> Result<Measured> {
     let watch = Watch::start(rt)?;
     let mut splitter = Splitter::new(rt.alloc());
     let mut count = 0usize;

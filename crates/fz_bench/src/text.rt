@@ -6,7 +6,7 @@ use anyhow::Result;
 use fz_syntax::{lex, parse, to_text};
 
 /// Cuts a model into tokens, and counts them.
-pub fn run_lex(rt: &HostRuntime, model: &[u8]) -> Result<Measured> {
+pub(crate) fn run_lex(rt: &HostRuntime, model: &[u8]) -> Result<Measured> {
     let watch = Watch::start(rt)?;
     let tokens = lex(rt.alloc(), model)?;
     let took = watch.stop(rt)?;
@@ -17,7 +17,7 @@ pub fn run_lex(rt: &HostRuntime, model: &[u8]) -> Result<Measured> {
 }
 
 /// Reads the tree of a model, and counts its constraints.
-pub fn run_parse(rt: &HostRuntime, model: &[u8]) -> Result<Measured> {
+pub(crate) fn run_parse(rt: &HostRuntime, model: &[u8]) -> Result<Measured> {
     let watch = Watch::start(rt)?;
     let tree = parse(rt.alloc(), model)?;
     let took = watch.stop(rt)?;
@@ -28,7 +28,7 @@ pub fn run_parse(rt: &HostRuntime, model: &[u8]) -> Result<Measured> {
 }
 
 /// Writes the canonical text of a model's tree, and counts its bytes. Reading the tree isn't timed.
-pub fn run_to_text(rt: &HostRuntime, model: &[u8]) -> Result<Measured> {
+pub(crate) fn run_to_text(rt: &HostRuntime, model: &[u8]) -> Result<Measured> {
     let tree = parse(rt.alloc(), model)?;
     let watch = Watch::start(rt)?;
     let text = to_text(rt.alloc(), &tree)?;

@@ -5,7 +5,7 @@ use anyhow::Result;
 use fz_check::{check, report_text};
 
 /// Checks a stream against a model and writes the report, and counts its blocks.
-pub fn run_check(rt: &HostRuntime, model: &[u8], stream: &[u8]) -> Result<Measured> {
+pub(crate) fn run_check(rt: &HostRuntime, model: &[u8], stream: &[u8]) -> Result<Measured> {
     let watch = Watch::start(rt)?;
     let report = check(rt.alloc(), model, stream)?;
     let _text = report_text(rt.alloc(), &report)?;

@@ -14,7 +14,7 @@ pub struct Request<'a> {
 }
 
 /// What the words ask for, of which the first is the program's own name.
-pub fn read_words<'a>(words: &'a [String]) -> Result<Request<'a>> {
+pub(crate) fn read_words<'a>(words: &'a [String]) -> Result<Request<'a>> {
     let (phase, rounds, model, stream) = match words {
         [_, phase, rounds, model] => (phase, rounds, model, None),
         [_, phase, rounds, model, stream] => (phase, rounds, model, Some(stream.as_str())),

@@ -15,3 +15,4 @@ pub mod Loaded
 pub mod NameTable
 pub mod Sheets
 pub mod Grown
+pub mod Noted

@@ -1,5 +1,6 @@
 -- The table of names: what is looked up there, and what one more name leaves as it is.
-use Rattle.std.proofs.Common.{◌≡◌, ℕ, suc, zero, ◌+◌, ◌<◌, List, [], ◌∷◌, ◌++◌, map, length, Option, Some, option_map, slice_get, cond, if◌then◌else◌, ◌||◌, Bool, true, false, refl, sym, ap, ◌∙◌, subst, is_some, is_none, arith}
+use Rattle.std.proofs.Common.{◌≡◌, ℕ, suc, zero, ◌+◌, ◌<◌, List, [], ◌∷◌, ◌++◌, map, length, Option, Some, option_map, slice_get, cond, if◌then◌else◌, ◌||◌, Bool, true, false, refl, sym, ap, ◌∙◌, subst, is_some, is_none, arith, Result, Ok, Err}
+use Rattle.std.specs.Result.{OnOk, OnErr}
 use Rattle.std.specs.List.{AllByRecursion, IsDistinct, find, list_any}
 use Rattle.std.specs.Option.{option_map_or}
 use Rattle.std.specs.Str.{bytes_eq}
@@ -14,10 +15,7 @@ use Rattle.fz_data.specs.declared.names.Entry.{Entry}
 use Rattle.fz_data.specs.declared.names.Kept.{Kept}
 use Rattle.fz_data.specs.declared.names.Entry.TheVariants as entries
 use Rattle.fz_data.specs.Naming.{Declared, has_text, stands_for, IsAmongTerms, own_from, own_terms, no_term}
-use Rattle.fz_data.specs.Names.{entry_stands, is_among_terms}
-
-abbrev pub is_key : List ℕ → Kept → Bool
-is_key x k = bytes_eq x k.bytes.now
+use Rattle.fz_data.specs.Names.{entry_stands, is_among_terms, is_key}
 
 abbrev pub same_key : Kept → Kept → Bool
 same_key a b = bytes_eq a.bytes.now b.bytes.now
@@ -132,15 +130,26 @@ declared_there ts x (k ∷ ks) = ap (λ b. is_key x k || b) (declared_there ts x
     at_first true o = refl
     at_first false o = refl
 
-module _ (ts : List Term) (ks new : List Kept) (k : Kept) (grew : new ≡ insert_key same_key ks k) (absent : list_any (same_key k) ks ≡ false) where
-  last : new ≡ ks ++ k ∷ []
-  last = grew ∙ ap (λ b. if b then ks else ks ++ k ∷ []) absent
+-- a key that is new goes behind the others
+pub goes_last : (ks : List Kept) (k : Kept) → list_any (same_key k) ks ≡ false → insert_key same_key ks k ≡ ks ++ k ∷ []
+goes_last ks k absent = ap (λ b. if b then ks else ks ++ k ∷ []) absent
 
+module _ (ts : List Term) (ks new : List Kept) (k : Kept) (last : new ≡ ks ++ k ∷ []) where
   pub among_pushed : AllByRecursion (is_among_terms ts) ks → IsAmongTerms ts k.entry → AllByRecursion (is_among_terms ts) new
   among_pushed h here = subst (AllByRecursion (is_among_terms ts)) (sym last) (all_append (is_among_terms ts) ks (k ∷ []) h (here, tt))
 
   pub view_pushed : (n : List (List ℕ × Declared)) → map (entry_stands ts) ks ≡ n → map (entry_stands ts) new ≡ n ++ (k.bytes.now, stands_for ts k.entry) ∷ []
   view_pushed n is = ap (map (entry_stands ts)) last ∙ map-append (entry_stands ts) ks (k ∷ []) ∙ ap (λ zs. zs ++ (k.bytes.now, stands_for ts k.entry) ∷ []) is
+
+-- what holds of the keys whether the last one came or memory ran out
+pub among_put : {A E : Type 0} (r : Result A E) (ts : List Term) (ks new : List Kept) (k : Kept) → OnOk r (new ≡ ks ++ k ∷ []) → OnErr r (new ≡ ks)
+    → AllByRecursion (is_among_terms ts) ks → IsAmongTerms ts k.entry → AllByRecursion (is_among_terms ts) new
+among_put (Ok a) ts ks new k last same h here = among_pushed ts ks new k last h here
+among_put (Err e) ts ks new k last same h here = subst (AllByRecursion (is_among_terms ts)) (sym same) h
+
+pub on_ok : {A E : Type 0} {P Q : Type 0} (r : Result A E) → (P → Q) → OnOk r P → OnOk r Q
+on_ok (Ok a) f p = f p
+on_ok (Err e) f p = tt
 
 at_end : {A : Type 0} (xs : List A) (x : A) → slice_get (xs ++ x ∷ []) (length xs) ≡ Some x
 at_end [] x = refl

@@ -11,3 +11,4 @@ pub mod Names
 pub mod Readings
 pub mod Sheets
 pub mod Laying
+pub mod Numbered

@@ -1,10 +1,14 @@
 -- The table of names as the list that it stands for: each name with what it stands for, in source order (private functions only).
-use Rattle.std.specs.Prelude.{ℕ, List, map}
+use Rattle.std.specs.Prelude.{ℕ, Bool, List, bytes_eq, map}
 use Rattle.std.specs.List.{AllByRecursion}
 use Rattle.fz_meaning.specs.declared.term.Term.{Term}
 use Rattle.fz_data.specs.declared.names.Kept.{Kept}
 use Rattle.fz_data.specs.declared.names.Names.TheInside.{Inside}
 use Rattle.fz_data.specs.Naming.{Declared, stands_for, IsAmongTerms}
+
+-- the key has the text
+abbrev pub is_key : List ℕ → Kept → Bool
+is_key x k = bytes_eq x k.bytes.now
 
 abbrev pub entry_stands : List Term → Kept → (List ℕ × Declared)
 entry_stands ts k = (k.bytes.now, stands_for ts k.entry)

@@ -9,6 +9,7 @@ mod lines;
 mod loading;
 mod model;
 mod names;
+mod numbered;
 mod partial;
 mod parts;
 mod point;

@@ -31,7 +31,7 @@ fn empty<'a>(alloc: Global, names: usize) -> Result<Scope<'a>, ModelError>
         names: Names::with_capacity(alloc, names)?,
         variables: Vec::with_capacity(alloc, names)?,
         arrays: Vec::new(alloc),
-        points: Vec::new(alloc),
+        points: Vec::with_capacity(alloc, names)?,
     })
 }
 

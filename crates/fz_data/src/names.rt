@@ -1,15 +1,19 @@
 //! Declared names with what they stand for.
 
-ghost use Rattle.std.specs.Prelude.{◌≡◌, ◌++◌, ◌∷◌, [], IfOk, IfSome, OnOk, Some, is_none, is_some, option_map, true};
+ghost use Rattle.std.specs.Prelude.{◌≡◌, ◌++◌, ◌∷◌, [], IfOk, IfSome, OnErr, OnOk, Some, false, is_none, is_some, option_map, true};
 ghost use Rattle.std.proofs.Common.{ap, rules};
 ghost use Rattle.std.specs.Cmp.Lexicographic.{bytes_decides, nat_list_eq_equiv};
 ghost use Rattle.std.specs.Cmp.Rules.{comparing};
+ghost use Rattle.std.specs.List.{list_any};
 ghost use Rattle.std.specs.Str.{bytes_eq};
 ghost use Rattle.std.specs.Map.{lookup};
 ghost use Rattle.fz_meaning.specs.declared.term.Term.TheVariants.{Fixed, Var};
 ghost use Rattle.fz_data.specs.Naming.Declared.{Array as TheArray, Scalar};
+ghost use Rattle.fz_data.specs.Names.{is_key};
 ghost use Rattle.fz_data.specs.Naming.{has_text, standing_view, stands_for, IsAmongTerms};
+ghost use Rattle.fz_data.specs.Numbered.{IsNumbered};
 
+use crate::numbered::Numbered;
 use fz_base::Value;
 use fz_meaning::Term;
 use indexmap::{Equivalent, IndexSet};
@@ -112,6 +116,8 @@ pub(crate) struct Names<'a> {
     entries: IndexSet<Kept<'a>>,
     /// the values of parameters, by their numbers
     parameters: Vec<Term>,
+    /// short names once more, where they are found sooner
+    numbered: Numbered,
 }
 
 impl<'a> std::marker::Model for Names<'a> {
@@ -125,10 +131,11 @@ impl<'a> std::marker::Model for Names<'a> {
     ghost coded = { Prim.hlevel (codes, the_set.the_row.coded) };
 
     ghost use Rattle.fz_data.specs.Names.{names_view, AreAmongTerms};
+    ghost use Rattle.fz_data.specs.Numbered.{IsNumbered};
 
     ghost view = { names_view };
 
-    ghost invariant = { AreAmongTerms };
+    ghost invariant = { λ n. AreAmongTerms n × IsNumbered n.entries.keys n.numbered.places.items };
 }
 
 /// What an entry stands for, among these values of parameters.
@@ -144,6 +151,24 @@ fn standing_of(parameters: &[Term], entry: Entry) -> Standing<'_>
     }
 }
 
+/// Puts a name behind the others, and in the place of its number.
+fn put<'a>(
+    entries: &mut IndexSet<Kept<'a>>,
+    numbered: &mut Numbered,
+    name: &'a [u8],
+    entry: Entry,
+) -> Result<(), AllocError>
+    requires new { list_any (is_key name.now) entries.old.keys ≡ false }
+    requires numbered { IsNumbered entries.old.keys numbered.old.places.items }
+    ensures pushed { OnOk result (entries.new.keys ≡ entries.old.keys ++ record { bytes = name.entry; entry = entry } ∷ []) }
+    ensures unchanged { OnErr result (entries.new.keys ≡ entries.old.keys) }
+    ensures numbered { IsNumbered entries.new.keys numbered.new.places.items }
+{
+    let _ = entries.insert(Kept { bytes: name, entry })?;
+    numbered.note(name, entry);
+    Ok(())
+}
+
 impl<'a> Names<'a> {
     /// No names yet, with room for this many.
     pub(crate) fn with_capacity(alloc: Global, count: usize) -> Result<Names<'a>, AllocError>
@@ -152,6 +177,7 @@ impl<'a> Names<'a> {
         Ok(Names {
             entries: IndexSet::with_capacity(alloc, count)?,
             parameters: Vec::new(alloc),
+            numbered: Numbered::with_places(alloc, count)?,
         })
     }
 
@@ -160,7 +186,7 @@ impl<'a> Names<'a> {
     pub(crate) fn contains(&self, name: &[u8]) -> bool
         ensures declared { result ≡ is_some (lookup (has_text name.now) self.now) }
     {
-        self.entries.contains(Text { bytes: name })
+        !self.numbered.is_free(name) && self.entries.contains(Text { bytes: name })
     }
 
     /// What a name stands for, where it is declared.
@@ -168,6 +194,9 @@ impl<'a> Names<'a> {
     pub(crate) fn get(&self, name: &[u8]) -> Option<Standing<'_>>
         ensures stands { option_map standing_view result ≡ lookup (has_text name.now) self.now }
     {
+        if let Some(entry) = self.numbered.get(name) {
+            return Some(standing_of(&self.parameters, entry));
+        }
         match self.entries.get(Text { bytes: name }) {
             Some(kept) => Some(standing_of(&self.parameters, kept.entry)),
             None => None,
@@ -210,9 +239,12 @@ impl<'a> Names<'a> {
         requires new { is_none (lookup (has_text name.now) self.old) ≡ true }
         ensures pushed { OnOk result (self.new ≡ self.old ++ (name.now, Scalar (Var number)) ∷ []) }
     {
-        let entry = Entry::Variable(number);
-        let _ = self.entries.insert(Kept { bytes: name, entry })?;
-        Ok(())
+        put(
+            &mut self.entries,
+            &mut self.numbered,
+            name,
+            Entry::Variable(number),
+        )
     }
 
     /// Puts the name of an array behind the others.
@@ -220,9 +252,12 @@ impl<'a> Names<'a> {
         requires new { is_none (lookup (has_text name.now) self.old) ≡ true }
         ensures pushed { OnOk result (self.new ≡ self.old ++ (name.now, TheArray number) ∷ []) }
     {
-        let entry = Entry::Array(number);
-        let _ = self.entries.insert(Kept { bytes: name, entry })?;
-        Ok(())
+        put(
+            &mut self.entries,
+            &mut self.numbered,
+            name,
+            Entry::Array(number),
+        )
     }
 
     /// Puts the name of a parameter behind the others, with its value.
@@ -232,8 +267,11 @@ impl<'a> Names<'a> {
     {
         let number = self.parameters.len();
         self.parameters.push(Term::Fixed(value))?;
-        let entry = Entry::Parameter(number);
-        let _ = self.entries.insert(Kept { bytes: name, entry })?;
-        Ok(())
+        put(
+            &mut self.entries,
+            &mut self.numbered,
+            name,
+            Entry::Parameter(number),
+        )
     }
 }

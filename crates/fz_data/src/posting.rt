@@ -25,7 +25,7 @@ use crate::sheet::Sheets;
 use crate::values::{copied, literal_value};
 use fz_meaning::{Kind, ModelError, Term};
 use fz_syntax::{Basic, Constraint, Expr, Goal as TreeGoal, Name, Note, NoteArg, NoteBasic};
-use fz_table::Known;
+use fz_table::{Known, same_text};
 use std::alloc::Global;
 
 /// What a name stands for.
@@ -198,7 +198,7 @@ fn bare_name<'a>(note: &Note<'a>) -> Option<&'a [u8]>
 fn defined(scope: &Scope<'_>, note: &Note<'_>) -> Option<usize>
     ensures { result ≡ defined_in scope.now (bare_note note.now) }
 {
-    if note.name.text != b"defines_var".as_slice() {
+    if !same_text(note.name.text, b"defines_var") {
         return None;
     }
     let name = bare_name(inner(only(&note.args)?)?)?;
@@ -269,7 +269,7 @@ pub(crate) fn all_posted<'a>(
     };
     let mut found = Vec::with_capacity(alloc, constraints.len())?;
     let mut known = Vec::with_capacity(alloc, constraints.len())?;
-    let mut sheets = Sheets::new(alloc)?;
+    let mut sheets = Sheets::with_capacity(alloc, constraints.len())?;
     for constraint in constraints {
         let one = posted(alloc, scope, constraint)?;
         let row = row_of(&one, &cited);

@@ -52,7 +52,7 @@ pub struct Sheet {
 }
 
 /// The number, where it has 32 bits.
-fn small(number: usize) -> Option<u32>
+pub(crate) fn small(number: usize) -> Option<u32>
     ensures { IfSome result (λ k. k ≡ number) }
 {
     u32::try_from(number).ok()
@@ -158,16 +158,17 @@ fn lay_argument(
 const NOWHERE: u32 = u32::MAX;
 
 impl Sheet {
-    /// Nothing stands on it.
-    pub(crate) fn new(alloc: Global) -> Sheet
-        ensures empty { result.lines.items ≡ [] }
+    /// Nothing stands on it. It has room for this many constraints of three arguments.
+    pub(crate) fn with_capacity(alloc: Global, count: usize) -> Result<Sheet, AllocError>
+        ensures empty { IfOk result (λ s. s.lines.items ≡ []) }
     {
-        Sheet {
-            lines: Vec::new(alloc),
-            laid: Vec::new(alloc),
-            slots: Vec::new(alloc),
+        let scalars = count.saturating_mul(3);
+        Ok(Sheet {
+            lines: Vec::with_capacity(alloc, count)?,
+            laid: Vec::with_capacity(alloc, scalars)?,
+            slots: Vec::with_capacity(alloc, scalars)?,
             constants: Vec::new(alloc),
-        }
+        })
     }
 
     /// Puts arguments behind the others; not where one of them can't be laid.
@@ -226,15 +227,15 @@ pub(crate) struct Defining {
 }
 
 impl Defining {
-    /// No constraint stands there.
-    fn new(alloc: Global) -> Defining
-        ensures empty { result.sheet.lines.items ≡ [] }
-        ensures none { result.targets.items ≡ [] }
+    /// No constraint stands there. There is room for this many.
+    fn with_capacity(alloc: Global, count: usize) -> Result<Defining, AllocError>
+        ensures empty { IfOk result (λ d. d.sheet.lines.items ≡ []) }
+        ensures none { IfOk result (λ d. d.targets.items ≡ []) }
     {
-        Defining {
-            sheet: Sheet::new(alloc),
-            targets: Vec::new(alloc),
-        }
+        Ok(Defining {
+            sheet: Sheet::with_capacity(alloc, count)?,
+            targets: Vec::with_capacity(alloc, count)?,
+        })
     }
 
     /// Puts a constraint behind the others, where it defines a variable, has a row and can be laid. Tells the place of its line, or one
@@ -290,19 +291,21 @@ fn sheet_of(known: Known) -> usize {
 }
 
 impl Sheets {
-    /// Nothing stands on them.
-    pub(crate) fn new(alloc: Global) -> Result<Sheets, AllocError>
+    /// Nothing stands on them. The room is guessed for this many constraints, as if their rows were equally frequent and every fourth of them
+    /// defined a variable, so that sheets of a large model are seldom moved as they grow.
+    pub(crate) fn with_capacity(alloc: Global, count: usize) -> Result<Sheets, AllocError>
         ensures empty { IfOk result (λ s. (xs : List HeldArray) → AreSheetsOf xs [] [] s) }
     {
         let mut sheets = Vec::with_capacity(alloc, SHEETS)?;
         for _ in 0..SHEETS {
-            sheets.push(Sheet::new(alloc))?;
+            let sheet = Sheet::with_capacity(alloc, count / SHEETS)?;
+            sheets.push(sheet)?;
         }
         Ok(Sheets {
             sheets,
             rest: Vec::new(alloc),
-            defining: Defining::new(alloc),
-            places: Vec::new(alloc),
+            defining: Defining::with_capacity(alloc, count / 4)?,
+            places: Vec::with_capacity(alloc, count)?,
         })
     }
 

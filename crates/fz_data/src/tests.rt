@@ -1,6 +1,6 @@
 //! Worked cases on names: faults with their places, what is loaded, and values that are given.
 
-use crate::{Found, Model, Partial, Point, PointParts, What, load};
+use crate::{Found, Model, Partial, Point, PointParts, Variable, What, load};
 use fz_base::Value;
 use fz_meaning::{ModelError, Term};
 use fz_syntax::{Span, parse};
@@ -262,6 +262,44 @@ fn finds_names_from_any_place(rt: HostRuntime) -> Result<(), Fail> {
         assert_eq!(rt; found_at(&model, b"z", place), None);
         assert_eq!(rt; found_at(&model, b"", place), None);
     }
+    Ok(())
+}
+
+/// The number of the variable that a variable is defined as.
+fn defined_as(variable: &Variable<'_>) -> Option<usize> {
+    match variable.definition {
+        Some(Term::Var(number)) => Some(number),
+        _ => None,
+    }
+}
+
+/// Names whose digits come to one number, a name that has no room where they are kept, and one whose number has no place.
+const ALIKE: &[u8] =
+    b"var int: x1; var int: y1; int: n1 = 5; var int: X_INTRODUCED_1_; var int: longer_than_its_room_there_1; var int: x99999999; var int: a = x1; var int: b = y1; var int: c = n1; var int: d = X_INTRODUCED_1_; var int: e = longer_than_its_room_there_1; var int: f = x99999999; solve satisfy;";
+
+#[test]
+fn tells_names_of_one_number_apart(rt: HostRuntime) -> Result<(), Fail> {
+    let alloc = rt.alloc();
+    let model = loaded(alloc, ALIKE)?;
+    let wanted = [Some(0), Some(1), None, Some(2), Some(3), Some(4)];
+    assert_eq!(rt; model.variables().len(), 11);
+    for (variable, number) in model.variables().iter().skip(5).zip(wanted) {
+        assert_eq!(rt; defined_as(variable), number);
+    }
+    assert!(rt;
+        is_refused(
+            alloc,
+            b"var int: x1; var int: y1; var int: y1; solve satisfy;",
+            ModelError::DuplicateName(at(35, 37))
+        )?
+    );
+    assert!(rt;
+        is_refused(
+            alloc,
+            b"var int: x1; var int: y1 = z1; solve satisfy;",
+            ModelError::UnknownName(at(27, 29))
+        )?
+    );
     Ok(())
 }
 

@@ -4,6 +4,8 @@ ghost use Rattle.std.specs.List.{filter};
 ghost use Rattle.std.specs.Prelude.{◌≡◌, ◌==◌, bytes_eq, find, length};
 ghost use Rattle.fz_table.specs.Known.{builtins, name_of, row_at};
 
+use crate::text::same_text;
+
 /// A base row of the table of builtins.
 #[derive(Clone, Copy, Debug, PartialEq, Eq)]
 pub enum Builtin {
@@ -186,7 +188,7 @@ impl Builtin {
         ensures { result ≡ find (λ b. bytes_eq (name_of b) name.now) builtins }
     {
         for builtin in Builtin::of_length(name.len()) {
-            if builtin.name() == name {
+            if same_text(builtin.name(), name) {
                 return Some(*builtin);
             }
         }

@@ -10,7 +10,9 @@ mod known;
 mod row;
 #[cfg(test)]
 mod tests;
+mod text;
 
 pub use builtin::Builtin;
 pub use known::Known;
 pub use row::{Filled, Shape};
+pub use text::same_text;

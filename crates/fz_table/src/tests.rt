@@ -1,4 +1,6 @@
-use crate::{Builtin, Filled, Known, Shape};
+ghost use Rattle.std.specs.Prelude.{◌≤◌};
+
+use crate::{Builtin, Filled, Known, Shape, same_text};
 use fz_meaning::Kind;
 
 /// Whether the name means this row.
@@ -45,4 +47,27 @@ fn tells_what_a_row_asks(rt: HostRuntime) {
     assert_eq!(rt; base.filled(), Filled::UnitTerm);
     assert_eq!(rt; form.filled(), Filled::At(3));
     assert_eq!(rt; Builtin::SetCard.name(), b"set_card".as_slice());
+}
+
+/// Whether texts of this length are the same where they are, and are told apart wherever a byte differs.
+fn tells_texts_of(length: usize) -> bool
+    requires { length ≤ 24 }
+{
+    let text = [b'a'; 24];
+    let mut told = same_text(&text[..length], &[b'a'; 24][..length]);
+    for place in 0..length {
+        let mut other = [b'a'; 24];
+        other[place] = b'b';
+        told = told && !same_text(&text[..length], &other[..length]);
+    }
+    told
+}
+
+#[test]
+fn tells_texts_apart(rt: HostRuntime) {
+    for length in 0..25 {
+        assert!(rt; tells_texts_of(length));
+    }
+    assert!(rt; !same_text(b"int_lin_le", b"int_lin_le_reif"));
+    assert!(rt; !same_text(b"int_lin_le_reif", b"int_lin_le"));
 }

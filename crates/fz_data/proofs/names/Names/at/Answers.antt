@@ -3,7 +3,8 @@ use Rattle.std.proofs.lemmas.Option.{slice_get_read}
 use Rattle.std.specs.List.{find}
 use Rattle.std.specs.Map.{lookup}
 use Rattle.fz_data.specs.Naming.{has_text, stands_for}
-use Rattle.fz_data.proofs.NameTable.{found_there, is_key, looked_up}
+use Rattle.fz_data.specs.Names.{is_key}
+use Rattle.fz_data.proofs.NameTable.{found_there, looked_up}
 use Rattle.fz_data.proofs.names.Names.at.Goals as goal
 
 pub returns-clause-stands : goal.returns-clause-stands

@@ -13,7 +13,7 @@ returns-in_err-found-clause-stands c =
 pub standing_of-requires : goal.standing_of-requires
 standing_of-requires c = record {
   within = subst (λ ts. IsAmongTerms ts c.in_ok-found.kept.now.entry) (sym c.deref.ensures.value)
-      (found_among c.self.inside.parameters.items c.args.name.now c.self.inside.entries.keys c.in_ok-found.kept.now c.self.invariant c.in_ok-found.ensures.key);
+      (found_among c.self.inside.parameters.items c.args.name.now c.self.inside.entries.keys c.in_ok-found.kept.now c.self.invariant.0 c.in_ok-found.ensures.key);
 }
 
 pub returns-clause-stands : goal.returns-clause-stands

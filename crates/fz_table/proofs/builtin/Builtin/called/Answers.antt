@@ -4,12 +4,12 @@ use Rattle.fz_table.specs.declared.builtin.Builtin.TheVariants.{IntEq}
 use Rattle.fz_table.proofs.Found.{called, find_listed, found_here, not_here}
 use Rattle.fz_table.proofs.builtin.Builtin.called.Goals as goal
 
-pub returns-then-eq : goal.returns-then-eq
-returns-then-eq c =
+pub returns-then-same_text : goal.returns-then-same_text
+returns-then-same_text c =
     let x = c.args.name.now in
     let items = c.of_length-builtin-items.result.now in
     let i = c.loop-builtin.builtin-index in
-    let here : called x (get_or items i IntEq) ≡ true = ap (λ n. bytes_eq n x) (sym c.name.ensures) ∙ sym c.eq.ensures ∙ c.if-eq.true in
+    let here : called x (get_or items i IntEq) ≡ true = ap (λ n. bytes_eq n x) (sym c.name.ensures) ∙ sym c.same_text.ensures ∙ c.if-same_text.true in
     sym (found_here x items i IntEq c.loop-builtin-test.true here) ∙ c.loop-builtin.invariant ∙ find_listed x items c.of_length-builtin-items.ensures
 
 pub loop-builtin-preserved : goal.loop-builtin-preserved
@@ -17,7 +17,7 @@ loop-builtin-preserved c =
     let x = c.args.name.now in
     let items = c.of_length-builtin-items.result.now in
     let i = c.loop-builtin.builtin-index in
-    let here : called x (get_or items i IntEq) ≡ false = ap (λ n. bytes_eq n x) (sym c.name.ensures) ∙ sym c.eq.ensures ∙ c.if-eq.false in
+    let here : called x (get_or items i IntEq) ≡ false = ap (λ n. bytes_eq n x) (sym c.name.ensures) ∙ sym c.same_text.ensures ∙ c.if-same_text.false in
     not_here x items i IntEq c.loop-builtin-test.true here ∙ c.loop-builtin.invariant
 
 pub returns : goal.returns
