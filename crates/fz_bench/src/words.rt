@@ -13,17 +13,23 @@ pub struct Request<'a> {
     pub stream: Option<&'a str>,
 }
 
+const USAGE: &str = "usage: fz_bench PHASE ROUNDS MODEL [STREAM]";
+
+/// The word at a place of the command line.
+fn word<'a>(words: &'a [String], place: usize) -> Result<&'a str> {
+    Ok(words.get(place).context(USAGE)?.as_str())
+}
+
 /// What the words ask for, of which the first is the program's own name.
 pub(crate) fn read_words<'a>(words: &'a [String]) -> Result<Request<'a>> {
-    let (phase, rounds, model, stream) = match words {
-        [_, phase, rounds, model] => (phase, rounds, model, None),
-        [_, phase, rounds, model, stream] => (phase, rounds, model, Some(stream.as_str())),
-        _ => bail!("usage: fz_bench PHASE ROUNDS MODEL [STREAM]"),
-    };
+    if words.len() > 5 {
+        bail!("{USAGE}");
+    }
+    let rounds = word(words, 2)?;
     Ok(Request {
-        phase: phase.as_str(),
+        phase: word(words, 1)?,
         rounds: rounds.parse::<u32>().context("ROUNDS is no number")?,
-        model: model.as_str(),
-        stream,
+        model: word(words, 3)?,
+        stream: words.get(4).map(|word| word.as_str()),
     })
 }
