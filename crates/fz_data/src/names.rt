@@ -117,7 +117,7 @@ pub(crate) struct Names<'a> {
     /// the values of parameters, by their numbers
     parameters: Vec<Term>,
     /// short names once more, where they are found sooner
-    numbered: Numbered,
+    numbered: Numbered<'a>,
 }
 
 impl<'a> std::marker::Model for Names<'a> {
@@ -135,7 +135,7 @@ impl<'a> std::marker::Model for Names<'a> {
 
     ghost view = { names_view };
 
-    ghost invariant = { λ n. AreAmongTerms n × IsNumbered n.entries.keys n.numbered.places.items };
+    ghost invariant = { λ n. AreAmongTerms n × IsNumbered n.entries.keys n.numbered.shapes.items n.numbered.places.items };
 }
 
 /// What an entry stands for, among these values of parameters.
@@ -154,15 +154,15 @@ fn standing_of(parameters: &[Term], entry: Entry) -> Standing<'_>
 /// Puts a name behind the others, and in the place of its number.
 fn put<'a>(
     entries: &mut IndexSet<Kept<'a>>,
-    numbered: &mut Numbered,
+    numbered: &mut Numbered<'a>,
     name: &'a [u8],
     entry: Entry,
 ) -> Result<(), AllocError>
     requires new { list_any (is_key name.now) entries.old.keys ≡ false }
-    requires numbered { IsNumbered entries.old.keys numbered.old.places.items }
+    requires numbered { IsNumbered entries.old.keys numbered.old.shapes.items numbered.old.places.items }
     ensures pushed { OnOk result (entries.new.keys ≡ entries.old.keys ++ record { bytes = name.entry; entry = entry } ∷ []) }
     ensures unchanged { OnErr result (entries.new.keys ≡ entries.old.keys) }
-    ensures numbered { IsNumbered entries.new.keys numbered.new.places.items }
+    ensures numbered { IsNumbered entries.new.keys numbered.new.shapes.items numbered.new.places.items }
 {
     let _ = entries.insert(Kept { bytes: name, entry })?;
     numbered.note(name, entry);
@@ -190,13 +190,20 @@ impl<'a> Names<'a> {
     }
 
     /// What a name stands for, where it is declared.
-    #[inline]
+    #[inline(always)]
     pub(crate) fn get(&self, name: &[u8]) -> Option<Standing<'_>>
         ensures stands { option_map standing_view result ≡ lookup (has_text name.now) self.now }
     {
         if let Some(entry) = self.numbered.get(name) {
             return Some(standing_of(&self.parameters, entry));
         }
+        self.find(name)
+    }
+
+    /// What a name stands for, where it is declared, looked up in the table of all names.
+    fn find(&self, name: &[u8]) -> Option<Standing<'_>>
+        ensures stands { option_map standing_view result ≡ lookup (has_text name.now) self.now }
+    {
         match self.entries.get(Text { bytes: name }) {
             Some(kept) => Some(standing_of(&self.parameters, kept.entry)),
             None => None,

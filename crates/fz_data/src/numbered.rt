@@ -1,31 +1,24 @@
 //! Names by the number that their digits come to. The names that a compiler makes differ in that number, so who looks for one there finds it
 //! with its text at once, where the table of all names waits for memory three times: for a group, for a key and for its text in the source.
 
-ghost use Rattle.std.specs.Prelude.{◌≡◌, ◌≢◌, ℕ, bytes_eq, IfOk, IfSome, Some, replicate, slice_get};
+ghost use Rattle.std.specs.Prelude.{◌≡◌, ◌≢◌, ℕ, IfOk, IfSome, IsTrue, Some, length, map, replicate, slice_get, take};
 ghost use Rattle.fz_data.specs.declared.numbered.Place.{Place as ThePlace};
 ghost use Rattle.fz_data.specs.declared.numbered.Place.TheVariants.{Free};
-ghost use Rattle.fz_data.specs.Numbered.{entry_of, entry_there, is_free_there, label_text, number_of, with_byte, IsNoted, IsPlaceOf};
+ghost use Rattle.fz_data.specs.Numbered.{end_of, entry_of, head_of, is_digit, is_free_there, mark_of, number_of, with_byte, AreKept, IsNoted, IsOf, IsPlaceOf, IsShapeAt, IsThere};
 
 use crate::names::Entry;
 use crate::sheet::small;
 use fz_table::same_text;
 use std::alloc::{AllocError, Global};
 
-/// So many bytes of a name have room.
-const ROOM: usize = 23;
-
-/// So many bytes at the end of a name are looked through for digits.
+/// So many bytes at the end of a name are its end, which is looked through for digits; the others are its head.
 const LAST: usize = 8;
 
 /// A number that is greater takes in no more digits. Those of so few bytes never come to one; this bounds the number without a count of them.
 const MOST: usize = 100_000_000;
 
-/// The text of a short name.
-#[derive(Clone, Copy)]
-pub(crate) struct Label {
-    len: u8,
-    bytes: [u8; ROOM],
-}
+/// So many shapes are kept. A name of one more has no place here, so that none is compared with many.
+const SHAPES: usize = 64;
 
 /// What a number that a name is kept with counts.
 #[derive(Clone, Copy)]
@@ -35,16 +28,47 @@ pub(crate) enum Sort {
     Array,
 }
 
-/// What is known of the declared names whose digits come to a number. It takes half a line of a cache, and what is read of a short name the
-/// first bytes of it.
+/// What is known of the declared names whose digits come to a number. It takes eight bytes, so that the places of a large model stay in a
+/// near cache.
 #[derive(Clone, Copy)]
 pub(crate) enum Place {
     /// there are none
     Free,
-    /// what the first is kept with, where 32 bits count it, and its text
-    Taken(Sort, u32, Label),
+    /// what the first is kept with, where 32 bits count it, and the number of its shape
+    Taken(Sort, u8, u32),
     /// the first has no room here
     Crowded,
+}
+
+/// What names have in common that differ in the digits of their ends alone. A name of this shape is told by the number that these come to.
+#[derive(Clone, Copy)]
+pub(crate) struct Shape<'a> {
+    len: usize,
+    head: &'a [u8],
+    /// the bytes of the end, a digit as `0`
+    marks: [u8; LAST],
+}
+
+/// The end of a name as it is read: the number that its digits come to, and its bytes, a digit as `0`.
+#[derive(Clone, Copy)]
+struct Ending {
+    number: usize,
+    marks: [u8; LAST],
+}
+
+#[inline(always)]
+fn is_digit(byte: u8) -> bool
+    ensures { result ≡ is_digit byte }
+{
+    byte >= b'0' && byte <= b'9'
+}
+
+/// A byte, a digit as `0`.
+#[inline(always)]
+fn mark_of(byte: u8) -> u8
+    ensures { result ≡ mark_of byte }
+{
+    if is_digit(byte) { b'0' } else { byte }
 }
 
 /// The number with one more byte of a name taken into it.
@@ -52,37 +76,34 @@ pub(crate) enum Place {
 fn with_byte(number: usize, byte: u8) -> usize
     ensures { result ≡ with_byte number byte }
 {
-    if byte < b'0' || byte > b'9' || number > MOST {
+    if !is_digit(byte) || number > MOST {
         return number;
     }
     number * 10 + usize::from(byte - b'0')
 }
 
-/// The number that the digits among the last bytes of a name come to.
+/// The bytes of a name before its end.
 #[inline(always)]
-fn number_of(name: &[u8]) -> usize
-    ensures { result ≡ number_of name.now }
+fn head_of(name: &[u8]) -> &[u8]
+    ensures { result.now ≡ head_of name.now }
 {
-    let mut number = 0;
-    for byte in &name[name.len().saturating_sub(LAST)..] {
-        number = with_byte(number, *byte);
-    }
-    number
+    &name[..name.len().saturating_sub(LAST)]
 }
 
-/// The text of a name, where it is short.
-fn label_of(name: &[u8]) -> Option<Label>
-    ensures { IfSome result (λ l. label_text l ≡ name.now) }
+/// The end of a name, read.
+#[inline(always)]
+fn ending_of(name: &[u8]) -> Ending
+    ensures number { result.number ≡ number_of name.now }
+    ensures marks { take (length (end_of name.now)) result.marks ≡ map mark_of (end_of name.now) }
 {
-    let len = u8::try_from(name.len()).ok()?;
-    if name.len() > ROOM {
-        return None;
+    let mut number = 0;
+    let mut marks = [0; LAST];
+    let end = &name[name.len().saturating_sub(LAST)..];
+    for place in 0..end.len() {
+        number = with_byte(number, end[place]);
+        marks[place] = mark_of(end[place]);
     }
-    let mut bytes = [0; ROOM];
-    for place in 0..name.len() {
-        bytes[place] = name[place];
-    }
-    Some(Label { len, bytes })
+    Ending { number, marks }
 }
 
 /// The two parts of what a name is kept with.
@@ -108,57 +129,101 @@ fn entry_of(sort: Sort, number: usize) -> Entry
     }
 }
 
-/// The place of a number whose first name this is.
-fn place_of(name: &[u8], entry: Entry) -> Place
-    ensures { IsPlaceOf name.now entry result }
+impl<'a> Shape<'a> {
+    /// The shape of a name whose end was read.
+    fn of(name: &'a [u8], ending: &Ending) -> Shape<'a>
+        requires marks { take (length (end_of name.now)) ending.now.marks ≡ map mark_of (end_of name.now) }
+        ensures { IsOf result name.now }
+    {
+        Shape {
+            len: name.len(),
+            head: head_of(name),
+            marks: ending.marks,
+        }
+    }
+
+    /// Whether it is that of a name whose end was read. A yes is one; a no may also come of what stands behind the marks.
+    #[inline(always)]
+    fn is_of(&self, name: &[u8], ending: &Ending) -> bool
+        requires marks { take (length (end_of name.now)) ending.now.marks ≡ map mark_of (end_of name.now) }
+        ensures { IsTrue result → IsOf self.now name.now }
+    {
+        self.len == name.len()
+            && same_text(&self.marks, &ending.marks)
+            && same_text(self.head, head_of(name))
+    }
+}
+
+/// The number of the shape of a name whose end was read, which is put behind the others where it is a new one. The last is looked at first,
+/// since names that are declared one behind another mostly have the same.
+fn shape_number<'a>(shapes: &mut Vec<Shape<'a>>, name: &'a [u8], ending: &Ending) -> Option<u8>
+    requires marks { take (length (end_of name.now)) ending.now.marks ≡ map mark_of (end_of name.now) }
+    ensures kept { AreKept shapes.old.items shapes.new.items }
+    ensures shape { IfSome result (IsShapeAt shapes.new.items name.now) }
 {
-    let Some(label) = label_of(name) else {
-        return Place::Crowded;
-    };
+    for back in 1..=shapes.len() {
+        let number = shapes.len() - back;
+        if shapes[number].is_of(name, ending) {
+            return u8::try_from(number).ok();
+        }
+    }
+    let number = shapes.len();
+    if number >= SHAPES {
+        return None;
+    }
+    shapes.push(Shape::of(name, ending)).ok()?;
+    u8::try_from(number).ok()
+}
+
+/// The place of a number whose first name this is.
+fn place_of<'a>(shapes: &mut Vec<Shape<'a>>, name: &'a [u8], ending: &Ending, entry: Entry) -> Place
+    requires marks { take (length (end_of name.now)) ending.now.marks ≡ map mark_of (end_of name.now) }
+    ensures kept { AreKept shapes.old.items shapes.new.items }
+    ensures place { IsPlaceOf shapes.new.items name.now entry result }
+{
     let (sort, number) = parts_of(entry);
     let Some(number) = small(number) else {
         return Place::Crowded;
     };
-    Place::Taken(sort, number, label)
+    let Some(shape) = shape_number(shapes, name, ending) else {
+        return Place::Crowded;
+    };
+    Place::Taken(sort, shape, number)
 }
 
-impl Label {
-    /// Whether it is the name's.
-    #[inline(always)]
-    fn is_of(&self, name: &[u8]) -> bool
-        ensures { result ≡ bytes_eq (label_text self.now) name.now }
-    {
-        same_text(&self.bytes[..usize::from(self.len).min(ROOM)], name)
-    }
-}
-
-/// The places of the numbers from 0 on.
+/// The places of the numbers from 0 on, and the shapes of the names that stand there.
 #[derive(Drop)]
-pub(crate) struct Numbered {
+pub(crate) struct Numbered<'a> {
     pub(crate) places: Vec<Place>,
+    pub(crate) shapes: Vec<Shape<'a>>,
 }
 
-impl Numbered {
+impl<'a> Numbered<'a> {
     /// So many places, all free.
-    pub(crate) fn with_places(alloc: Global, count: usize) -> Result<Numbered, AllocError>
+    pub(crate) fn with_places(alloc: Global, count: usize) -> Result<Numbered<'a>, AllocError>
         ensures { IfOk result (λ n. n.places.items ≡ replicate count Free) }
     {
         let mut places = Vec::new(alloc);
         places.resize(count, Place::Free)?;
-        Ok(Numbered { places })
+        Ok(Numbered {
+            places,
+            shapes: Vec::new(alloc),
+        })
     }
 
     /// What a name is kept with, where it stands in the place of its number.
     #[inline(always)]
     pub(crate) fn get(&self, name: &[u8]) -> Option<Entry>
-        ensures { result ≡ entry_there self.now.places.items name.now }
+        ensures { IfSome result (IsThere self.now.shapes.items self.now.places.items name.now) }
     {
-        match self.places.get(number_of(name))? {
-            Place::Taken(sort, number, label) if label.is_of(name) => {
-                Some(entry_of(*sort, *number as usize))
-            }
-            _ => None,
+        let ending = ending_of(name);
+        let Place::Taken(sort, shape, number) = *self.places.get(ending.number)? else {
+            return None;
+        };
+        if !self.shapes.get(usize::from(shape))?.is_of(name, &ending) {
+            return None;
         }
+        Some(entry_of(sort, number as usize))
     }
 
     /// Whether the place of a name's number is there and free.
@@ -166,20 +231,22 @@ impl Numbered {
     pub(crate) fn is_free(&self, name: &[u8]) -> bool
         ensures { result ≡ is_free_there self.now.places.items name.now }
     {
-        matches!(self.places.get(number_of(name)), Some(Place::Free))
+        matches!(self.places.get(ending_of(name).number), Some(Place::Free))
     }
 
     /// Puts a name in the place of its number, where that is there and free.
-    pub(crate) fn note(&mut self, name: &[u8], entry: Entry)
+    pub(crate) fn note(&mut self, name: &'a [u8], entry: Entry)
         ensures others { (i : ℕ) → i ≢ number_of name.now → slice_get self.new.places.items i ≡ slice_get self.old.places.items i }
-        ensures noted { (p : ThePlace) → slice_get self.new.places.items (number_of name.now) ≡ Some p → IsNoted name.now entry (slice_get self.old.places.items (number_of name.now)) p }
+        ensures kept { AreKept self.old.shapes.items self.new.shapes.items }
+        ensures noted { (p : ThePlace) → slice_get self.new.places.items (number_of name.now) ≡ Some p → IsNoted self.new.shapes.items name.now entry (slice_get self.old.places.items (number_of name.now)) p }
     {
-        let number = number_of(name);
-        if number >= self.places.len() {
+        let ending = ending_of(name);
+        if ending.number >= self.places.len() {
             return;
         }
-        if let Place::Free = self.places[number] {
-            self.places[number] = place_of(name, entry);
+        if let Place::Free = self.places[ending.number] {
+            let place = place_of(&mut self.shapes, name, &ending, entry);
+            self.places[ending.number] = place;
         }
     }
 }

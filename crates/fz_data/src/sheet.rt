@@ -71,6 +71,7 @@ fn kept(constants: &mut Vec<Value>, value: Value) -> Result<Option<Slot>, AllocE
 }
 
 /// The slot of a whole number.
+#[inline(always)]
 fn number_slot(constants: &mut Vec<Value>, number: i64) -> Result<Option<Slot>, AllocError>
     ensures grown { OnOk result (IsGrown constants.old.items constants.new.items) }
     ensures slot { IfOk result (λ o. IfSome o (IsSlotOf constants.new.items (Fixed (Int number)))) }
@@ -81,7 +82,9 @@ fn number_slot(constants: &mut Vec<Value>, number: i64) -> Result<Option<Slot>, 
     }
 }
 
-/// The slot of a scalar; none where there are more variables or constants than 32 bits count.
+/// The slot of a scalar; none where there are more variables or constants than 32 bits count. It is inlined so that a slot isn't written to
+/// memory in parts and read there whole, for which the processor waits.
+#[inline(always)]
 fn slot_of(
     alloc: Global,
     constants: &mut Vec<Value>,
@@ -281,6 +284,9 @@ pub(crate) struct Sheets {
 /// So many sheets there are: two for each base row, the second for its form with a truth value.
 const SHEETS: usize = 128;
 
+/// One of so many constraints, or fewer, has the same row, where rows are nearly equally frequent.
+const USUAL: usize = 100;
+
 /// The sheet of a row.
 #[inline]
 fn sheet_of(known: Known) -> usize {
@@ -291,20 +297,20 @@ fn sheet_of(known: Known) -> usize {
 }
 
 impl Sheets {
-    /// Nothing stands on them. The room is guessed for this many constraints, as if their rows were equally frequent and every fourth of them
-    /// defined a variable, so that sheets of a large model are seldom moved as they grow.
+    /// Nothing stands on them. The room is guessed for this many constraints, as if their rows were nearly equally frequent and at most every
+    /// third of them defined a variable, so that sheets of a large model are seldom moved as they grow.
     pub(crate) fn with_capacity(alloc: Global, count: usize) -> Result<Sheets, AllocError>
         ensures empty { IfOk result (λ s. (xs : List HeldArray) → AreSheetsOf xs [] [] s) }
     {
         let mut sheets = Vec::with_capacity(alloc, SHEETS)?;
         for _ in 0..SHEETS {
-            let sheet = Sheet::with_capacity(alloc, count / SHEETS)?;
+            let sheet = Sheet::with_capacity(alloc, count / USUAL)?;
             sheets.push(sheet)?;
         }
         Ok(Sheets {
             sheets,
             rest: Vec::new(alloc),
-            defining: Defining::with_capacity(alloc, count / 4)?,
+            defining: Defining::with_capacity(alloc, count / 3)?,
             places: Vec::with_capacity(alloc, count)?,
         })
     }

@@ -11,5 +11,5 @@ returns c =
     record {
       pushed = grew;
       unchanged = tt;
-      numbered = noted_stands c.args.entries.now.keys kept c.insert.new.self.keys c.args.numbered.now.places.items c.note.new.self.places.items grew c.requires.new c.requires.numbered c.note.ensures.others c.note.ensures.noted;
+      numbered = noted_stands c.args.entries.now.keys kept c.args.numbered.now.shapes.items c.note.new.self.shapes.items c.note.ensures.kept c.insert.new.self.keys c.args.numbered.now.places.items c.note.new.self.places.items grew c.requires.new c.requires.numbered c.note.ensures.others c.note.ensures.noted;
     }
