@@ -168,10 +168,13 @@ module _ (ks : List Kept) (k : Kept) (ss ts : List Shape) (keep : AreKept ss ts)
   own i Free at absent h = absurd h
   own i Crowded at absent h = tt
   own i (Taken s n l) at absent h =
-      let shape = h.0.0 in
-      (shape, h.0.1, λ x of_number of_shape.
-          let same : k.bytes.now ≡ x = same_names shape k.bytes.now x h.0.2 of_shape (sym at ∙ sym of_number) in
-          ap (λ y. option_map (λ j. j.entry) (find (is_key y) (ks ++ k ∷ []))) (sym same) ∙ new_found absent ∙ ap Some (sym h.1))
+      let shape = h.0.0 in (
+        shape,
+        h.0.1,
+        λ x of_number of_shape.
+            let same : k.bytes.now ≡ x = same_names shape k.bytes.now x h.0.2 of_shape (sym at ∙ sym of_number) in
+            ap (λ y. option_map (λ j. j.entry) (find (is_key y) (ks ++ k ∷ []))) (sym same) ∙ new_found absent ∙ ap Some (sym h.1),
+      )
 
   in_place : (i : ℕ) (o : Option Place) (p : Place) → i ≡ number_of k.bytes.now → list_any (is_key k.bytes.now) ks ≡ false → ((q : Place) → o ≡ Some q → StandsThere ks ss i q) → IsNoted ts k.bytes.now k.entry o p → StandsThere (ks ++ k ∷ []) ts i p
   in_place i None p at absent was h = absurd h
