@@ -15,7 +15,7 @@ use Rattle.fz_data.specs.declared.numbered.Place.TheVariants.{Free, Taken, Crowd
 use Rattle.fz_data.specs.declared.numbered.Shape.{Shape}
 use Rattle.fz_data.specs.Naming.{has_text, stands_for, IsAmongTerms}
 use Rattle.fz_data.specs.Names.{entry_stands, is_among_terms, is_key}
-use Rattle.fz_data.specs.Numbered.{end_of, entry_of, head_of, is_digit, is_free, is_free_there, mark_of, number_of, with_byte, AreKept, IsNoted, IsNumbered, IsOf, IsPlaceOf, IsTakenBy, IsThere, StandsThere}
+use Rattle.fz_data.specs.Numbered.{end_of, entry_of, head_of, is_digit, is_free, is_free_there, mark_of, number_of, place_at, unpacked, with_byte, AreKept, IsNoted, IsNumbered, IsOf, IsPlaceOf, IsTakenBy, IsThere, StandsThere}
 use Rattle.fz_data.proofs.NameTable.{found_among, looked_up}
 
 -- ---- names of a shape are told by their number
@@ -108,14 +108,14 @@ same_names s x y ofx ofy number =
 
 -- ---- no names yet
 
-free_all : (n i : ℕ) (p : Place) → slice_get (replicate n Free) i ≡ Some p → p ≡ Free
+free_all : (n i : ℕ) (p : Place) → place_at (replicate n 0) i ≡ Some p → p ≡ Free
 free_all zero i p at = cc
 free_all (suc n) zero p at = cc
 free_all (suc n) (suc i) p at = free_all n i p at
 
-pub none_numbered : (ks : List Kept) (ss : List Shape) (ps : List Place) (n : ℕ) → ks ≡ [] → ps ≡ replicate n Free → IsNumbered ks ss ps
+pub none_numbered : (ks : List Kept) (ss : List Shape) (ps : List ℕ) (n : ℕ) → ks ≡ [] → ps ≡ replicate n 0 → IsNumbered ks ss ps
 none_numbered ks ss ps n empty all i p at =
-    let free : p ≡ Free = free_all n i p (ap (λ qs. slice_get qs i) (sym all) ∙ at) in
+    let free : p ≡ Free = free_all n i p (ap (λ qs. place_at qs i) (sym all) ∙ at) in
     subst (λ q. StandsThere ks ss i q) (sym free) (ap (list_any (λ k. number_of k.bytes.now == i)) empty)
 
 -- ---- one more name
@@ -182,29 +182,29 @@ module _ (ks : List Kept) (k : Kept) (ss ts : List Shape) (keep : AreKept ss ts)
   in_place i (Some (Taken s n l)) p at absent was h = subst (λ q. StandsThere (ks ++ k ∷ []) ts i q) (sym h) (stays_taken i (Taken s n l) (λ e. cc) (was (Taken s n l) refl))
   in_place i (Some Crowded) p at absent was h = subst (λ q. StandsThere (ks ++ k ∷ []) ts i q) (sym h) tt
 
-  pub noted_stands : (js : List Kept) (ps qs : List Place) → js ≡ ks ++ k ∷ [] → list_any (is_key k.bytes.now) ks ≡ false → IsNumbered ks ss ps
+  pub noted_stands : (js : List Kept) (ps qs : List ℕ) → js ≡ ks ++ k ∷ [] → list_any (is_key k.bytes.now) ks ≡ false → IsNumbered ks ss ps
       → ((i : ℕ) → (i ≢ number_of k.bytes.now) → slice_get qs i ≡ slice_get ps i)
-      → ((p : Place) → slice_get qs (number_of k.bytes.now) ≡ Some p → IsNoted ts k.bytes.now k.entry (slice_get ps (number_of k.bytes.now)) p)
+      → ((p : Place) → place_at qs (number_of k.bytes.now) ≡ Some p → IsNoted ts k.bytes.now k.entry (place_at ps (number_of k.bytes.now)) p)
       → IsNumbered js ts qs
   noted_stands js ps qs grew absent was others noted i p at = subst (λ zs. StandsThere zs ts i p) (sym grew) (by_place (i == number_of k.bytes.now) refl)
     where
       by_place : (b : Bool) → (i == number_of k.bytes.now) ≡ b → StandsThere (ks ++ k ∷ []) ts i p
       by_place true e =
           let same : i ≡ number_of k.bytes.now = eqb-true i (number_of k.bytes.now) e in
-          in_place i (slice_get ps (number_of k.bytes.now)) p same absent
-          (λ q there. was i q (ap (slice_get ps) same ∙ there))
-          (noted p (ap (slice_get qs) (sym same) ∙ at))
+          in_place i (place_at ps (number_of k.bytes.now)) p same absent
+          (λ q there. was i q (ap (place_at ps) same ∙ there))
+          (noted p (ap (place_at qs) (sym same) ∙ at))
       by_place false e =
           let apart : i ≢ number_of k.bytes.now = eqb-false i (number_of k.bytes.now) e in
-          stays i p apart (was i p (sym (others i apart) ∙ at))
+          stays i p apart (was i p (ap (option_map unpacked) (sym (others i apart)) ∙ at))
 
 -- ---- looked up
 
 -- no declared name is a name whose place is free
-pub free_absent : (x : List ℕ) (ks : List Kept) (ss : List Shape) (ps : List Place) → IsNumbered ks ss ps → is_free_there ps x ≡ true → list_any (is_key x) ks ≡ false
-free_absent x ks ss ps h free = none ks (at_place (slice_get ps (number_of x)) refl free)
+pub free_absent : (x : List ℕ) (ks : List Kept) (ss : List Shape) (ps : List ℕ) → IsNumbered ks ss ps → is_free_there ps x ≡ true → list_any (is_key x) ks ≡ false
+free_absent x ks ss ps h free = none ks (at_place (place_at ps (number_of x)) refl free)
   where
-    at_place : (o : Option Place) → slice_get ps (number_of x) ≡ o → is_free o ≡ true → list_any (λ k. number_of k.bytes.now == number_of x) ks ≡ false
+    at_place : (o : Option Place) → place_at ps (number_of x) ≡ o → is_free o ≡ true → list_any (λ k. number_of k.bytes.now == number_of x) ks ≡ false
     at_place None e is = cc
     at_place (Some Free) e is = h (number_of x) Free e
     at_place (Some (Taken s n l)) e is = cc
@@ -224,10 +224,10 @@ free_absent x ks ss ps h free = none ks (at_place (slice_get ps (number_of x)) r
     ]) refl e
 
 -- what a name's place says of it is found in the table
-pub there_found : (x : List ℕ) (ks : List Kept) (ss : List Shape) (ps : List Place) (e : Entry) → IsNumbered ks ss ps → IsThere ss ps x e → option_map (λ k. k.entry) (find (is_key x) ks) ≡ Some e
-there_found x ks ss ps e h there = at_place (slice_get ps (number_of x)) refl there
+pub there_found : (x : List ℕ) (ks : List Kept) (ss : List Shape) (ps : List ℕ) (e : Entry) → IsNumbered ks ss ps → IsThere ss ps x e → option_map (λ k. k.entry) (find (is_key x) ks) ≡ Some e
+there_found x ks ss ps e h there = at_place (place_at ps (number_of x)) refl there
   where
-    at_place : (o : Option Place) → slice_get ps (number_of x) ≡ o → IsTakenBy ss x e o → option_map (λ k. k.entry) (find (is_key x) ks) ≡ Some e
+    at_place : (o : Option Place) → place_at ps (number_of x) ≡ o → IsTakenBy ss x e o → option_map (λ k. k.entry) (find (is_key x) ks) ≡ Some e
     at_place None at is = absurd is
     at_place (Some Free) at is = absurd is
     at_place (Some Crowded) at is = absurd is

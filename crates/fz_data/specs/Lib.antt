@@ -11,4 +11,5 @@ pub mod Names
 pub mod Readings
 pub mod Sheets
 pub mod Laying
+pub mod Hashing
 pub mod Numbered

@@ -1,5 +1,5 @@
 -- Names by the number that their digits come to, and how they are kept there. A reader need not believe this file: no public clause speaks of it.
-use Rattle.std.specs.Prelude.{◌≡◌, ℕ, ◌-◌, ◌+◌, ◌*◌, ◌==◌, ltb, ◌||◌, ◌&&◌, not, if◌then◌else◌, Bool, true, false, List, Option, Some, None, take, slice_get, drop, length, map, option_map, ⊤}
+use Rattle.std.specs.Prelude.{◌≡◌, ℕ, ◌-◌, ◌+◌, ◌*◌, ◌/◌, ◌%◌, ◌==◌, ltb, ◌||◌, ◌&&◌, not, if◌then◌else◌, Bool, true, false, List, Option, Some, None, take, slice_get, drop, length, map, option_map, ⊤}
 use Rattle.std.specs.List.{find, fold, list_any}
 use Rattle.fz_data.specs.declared.names.Entry.{Entry}
 use Rattle.fz_data.specs.declared.names.Entry.TheVariants as entries
@@ -36,6 +36,29 @@ with_byte n b = if not (is_digit b) || ltb 100000000 n then n else n * 10 + (b -
 abbrev pub number_of : List ℕ → ℕ
 number_of x = fold with_byte 0 (end_of x)
 
+-- ---- a place as 32 bits have it
+
+-- a place taken by a sort, with what the bits have beside it
+abbrev pub taken_as : Sort → ℕ → Place
+taken_as s c = Taken s (c / 4 % 64) (c / 256)
+
+-- what the two lowest bits tell: the sort, or that there is none
+abbrev pub place_as : ℕ → ℕ → Place
+place_as r c = if r == 1 then taken_as sorts.Variable c else if r == 2 then taken_as sorts.Parameter c else if r == 3 then taken_as sorts.Array c else if c == 0 then Free else Crowded
+
+abbrev pub unpacked : ℕ → Place
+unpacked c = place_as (c % 4) c
+
+-- the place of a number
+abbrev pub place_at : List ℕ → ℕ → Option Place
+place_at ps i = option_map unpacked (slice_get ps i)
+
+-- the bits of a place are those of a sort, a shape and a number, or say that these have no room
+abbrev pub ArePackedOf : Sort → ℕ → ℕ → Place → Type 0
+ArePackedOf s k n Free = ⊥
+ArePackedOf s k n (Taken t l m) = Taken s k n ≡ Taken t l m
+ArePackedOf s k n Crowded = ⊤
+
 -- ---- what is kept in the place of a number
 
 -- a name is of a shape: of its length and head, and its end but for the digits
@@ -71,8 +94,8 @@ IsTakenBy ss x e (Some (Taken s k n)) = IsShapeAt ss x k × (entry_of s n ≡ e)
 IsTakenBy ss x e (Some Crowded) = ⊥
 
 -- the place of a name's number is taken with the name's shape and that entry
-abbrev pub IsThere : List Shape → List Place → List ℕ → Entry → Type 0
-IsThere ss ps x e = IsTakenBy ss x e (slice_get ps (number_of x))
+abbrev pub IsThere : List Shape → List ℕ → List ℕ → Entry → Type 0
+IsThere ss ps x e = IsTakenBy ss x e (place_at ps (number_of x))
 
 abbrev pub is_free : Option Place → Bool
 is_free None = false
@@ -81,8 +104,8 @@ is_free (Some (Taken s k n)) = false
 is_free (Some Crowded) = false
 
 -- the place of a name's number is there and free
-abbrev pub is_free_there : List Place → List ℕ → Bool
-is_free_there ps x = is_free (slice_get ps (number_of x))
+abbrev pub is_free_there : List ℕ → List ℕ → Bool
+is_free_there ps x = is_free (place_at ps (number_of x))
 
 -- the place after a name was noted: its own, where the place was free, and else the same
 abbrev pub IsNoted : List Shape → List ℕ → Entry → Option Place → Place → Type 0
@@ -102,5 +125,5 @@ StandsThere ks ss i (Taken s k n) = (t : Shape) × (slice_get ss k ≡ Some t) �
 StandsThere ks ss i Crowded = ⊤
 
 -- each place says what is so
-abbrev pub IsNumbered : List Kept → List Shape → List Place → Type 0
-IsNumbered ks ss ps = (i : ℕ) (p : Place) → slice_get ps i ≡ Some p → StandsThere ks ss i p
+abbrev pub IsNumbered : List Kept → List Shape → List ℕ → Type 0
+IsNumbered ks ss ps = (i : ℕ) (p : Place) → place_at ps i ≡ Some p → StandsThere ks ss i p

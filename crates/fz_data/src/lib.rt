@@ -4,6 +4,7 @@
 
 mod declaring;
 mod found;
+mod hashing;
 mod laying;
 mod lines;
 mod loading;

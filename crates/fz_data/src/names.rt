@@ -13,12 +13,13 @@ ghost use Rattle.fz_data.specs.Names.{is_key};
 ghost use Rattle.fz_data.specs.Naming.{has_text, standing_view, stands_for, IsAmongTerms};
 ghost use Rattle.fz_data.specs.Numbered.{IsNumbered};
 
+use crate::hashing::NameHasher;
 use crate::numbered::Numbered;
 use fz_base::Value;
 use fz_meaning::Term;
 use indexmap::{Equivalent, IndexSet};
 use std::alloc::{AllocError, Global};
-use std::hash::{Hash, Hasher};
+use std::hash::{BuildHasherDefault, Hash, Hasher};
 
 /// A name that is looked up. It is hashed in one piece, where a slice is hashed one byte after another.
 #[derive(Clone, Copy)]
@@ -110,10 +111,13 @@ pub(crate) enum Standing<'m> {
     Array(usize),
 }
 
+/// The table of all names.
+type Table<'a> = IndexSet<Kept<'a>, BuildHasherDefault<NameHasher>>;
+
 /// The declared names, in source order. A contract sees the list of them, each with what it stands for.
 #[derive(Drop)]
 pub(crate) struct Names<'a> {
-    entries: IndexSet<Kept<'a>>,
+    entries: Table<'a>,
     /// the values of parameters, by their numbers
     parameters: Vec<Term>,
     /// short names once more, where they are found sooner
@@ -153,7 +157,7 @@ fn standing_of(parameters: &[Term], entry: Entry) -> Standing<'_>
 
 /// Puts a name behind the others, and in the place of its number.
 fn put<'a>(
-    entries: &mut IndexSet<Kept<'a>>,
+    entries: &mut Table<'a>,
     numbered: &mut Numbered<'a>,
     name: &'a [u8],
     entry: Entry,
@@ -175,7 +179,7 @@ impl<'a> Names<'a> {
         ensures none { IfOk result (λ n. n ≡ []) }
     {
         Ok(Names {
-            entries: IndexSet::with_capacity(alloc, count)?,
+            entries: IndexSet::with_capacity_and_hasher(alloc, count, BuildHasherDefault::new())?,
             parameters: Vec::new(alloc),
             numbered: Numbered::with_places(alloc, count)?,
         })

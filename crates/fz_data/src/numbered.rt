@@ -3,8 +3,7 @@
 
 ghost use Rattle.std.specs.Prelude.{◌≡◌, ◌≢◌, ℕ, IfOk, IfSome, IsTrue, Some, length, map, replicate, slice_get, take};
 ghost use Rattle.fz_data.specs.declared.numbered.Place.{Place as ThePlace};
-ghost use Rattle.fz_data.specs.declared.numbered.Place.TheVariants.{Free};
-ghost use Rattle.fz_data.specs.Numbered.{end_of, entry_of, head_of, is_digit, is_free_there, mark_of, number_of, with_byte, AreKept, IsNoted, IsOf, IsPlaceOf, IsShapeAt, IsThere};
+ghost use Rattle.fz_data.specs.Numbered.{end_of, entry_of, head_of, is_digit, is_free_there, mark_of, number_of, place_at, unpacked, with_byte, AreKept, ArePackedOf, IsNoted, IsOf, IsPlaceOf, IsShapeAt, IsThere};
 
 use crate::names::Entry;
 use crate::sheet::small;
@@ -18,7 +17,7 @@ const LAST: usize = 8;
 const MOST: usize = 100_000_000;
 
 /// So many shapes are kept. A name of one more has no place here, so that none is compared with many.
-const SHAPES: usize = 64;
+const SHAPES: u32 = 64;
 
 /// What a number that a name is kept with counts.
 #[derive(Clone, Copy)]
@@ -28,14 +27,13 @@ pub(crate) enum Sort {
     Array,
 }
 
-/// What is known of the declared names whose digits come to a number. It takes eight bytes, so that the places of a large model stay in a
-/// near cache.
+/// What is known of the declared names whose digits come to a number.
 #[derive(Clone, Copy)]
 pub(crate) enum Place {
     /// there are none
     Free,
-    /// what the first is kept with, where 32 bits count it, and the number of its shape
-    Taken(Sort, u8, u32),
+    /// what the first is kept with, a sort and a number, and between them the number of its shape
+    Taken(Sort, u32, u32),
     /// the first has no room here
     Crowded,
 }
@@ -56,8 +54,9 @@ struct Ending {
     marks: [u8; LAST],
 }
 
+/// Whether a byte is a digit.
 #[inline(always)]
-fn is_digit(byte: u8) -> bool
+pub(crate) fn is_digit(byte: u8) -> bool
     ensures { result ≡ is_digit byte }
 {
     byte >= b'0' && byte <= b'9'
@@ -156,7 +155,7 @@ impl<'a> Shape<'a> {
 
 /// The number of the shape of a name whose end was read, which is put behind the others where it is a new one. The last is looked at first,
 /// since names that are declared one behind another mostly have the same.
-fn shape_number<'a>(shapes: &mut Vec<Shape<'a>>, name: &'a [u8], ending: &Ending) -> Option<u8>
+fn shape_number<'a>(shapes: &mut Vec<Shape<'a>>, name: &'a [u8], ending: &Ending) -> Option<u32>
     requires marks { take (length (end_of name.now)) ending.now.marks ≡ map mark_of (end_of name.now) }
     ensures kept { AreKept shapes.old.items shapes.new.items }
     ensures shape { IfSome result (IsShapeAt shapes.new.items name.now) }
@@ -164,47 +163,87 @@ fn shape_number<'a>(shapes: &mut Vec<Shape<'a>>, name: &'a [u8], ending: &Ending
     for back in 1..=shapes.len() {
         let number = shapes.len() - back;
         if shapes[number].is_of(name, ending) {
-            return u8::try_from(number).ok();
+            return small(number);
         }
     }
     let number = shapes.len();
-    if number >= SHAPES {
+    if number >= SHAPES as usize {
         return None;
     }
     shapes.push(Shape::of(name, ending)).ok()?;
-    u8::try_from(number).ok()
+    small(number)
+}
+
+/// A place that is free, and one whose name has no room there.
+const FREE: u32 = 0;
+
+const CROWDED: u32 = 4;
+
+/// A number of 24 bits or more has no room in a place.
+const NUMBERS: u32 = 1 << 24;
+
+/// A place in 32 bits, so that the places of a large model stay in a near cache: the number above, six bits for the shape, and two for the
+/// sort, which are 0 where the place isn't taken.
+fn packed(sort: Sort, shape: u32, number: u32) -> u32
+    ensures { ArePackedOf sort shape number (unpacked result) }
+{
+    if shape >= SHAPES || number >= NUMBERS {
+        return CROWDED;
+    }
+    let above = number * 256 + shape * 4;
+    match sort {
+        Sort::Variable => above + 1,
+        Sort::Parameter => above + 2,
+        Sort::Array => above + 3,
+    }
+}
+
+/// A place, read from its 32 bits.
+#[inline(always)]
+fn unpacked(bits: u32) -> Place
+    ensures { result ≡ unpacked bits }
+{
+    let shape = bits / 4 % SHAPES;
+    let number = bits / 256;
+    match bits % 4 {
+        1 => Place::Taken(Sort::Variable, shape, number),
+        2 => Place::Taken(Sort::Parameter, shape, number),
+        3 => Place::Taken(Sort::Array, shape, number),
+        _ if bits == FREE => Place::Free,
+        _ => Place::Crowded,
+    }
 }
 
 /// The place of a number whose first name this is.
-fn place_of<'a>(shapes: &mut Vec<Shape<'a>>, name: &'a [u8], ending: &Ending, entry: Entry) -> Place
+fn place_of<'a>(shapes: &mut Vec<Shape<'a>>, name: &'a [u8], ending: &Ending, entry: Entry) -> u32
     requires marks { take (length (end_of name.now)) ending.now.marks ≡ map mark_of (end_of name.now) }
     ensures kept { AreKept shapes.old.items shapes.new.items }
-    ensures place { IsPlaceOf shapes.new.items name.now entry result }
+    ensures place { IsPlaceOf shapes.new.items name.now entry (unpacked result) }
 {
     let (sort, number) = parts_of(entry);
     let Some(number) = small(number) else {
-        return Place::Crowded;
+        return CROWDED;
     };
     let Some(shape) = shape_number(shapes, name, ending) else {
-        return Place::Crowded;
+        return CROWDED;
     };
-    Place::Taken(sort, shape, number)
+    packed(sort, shape, number)
 }
 
 /// The places of the numbers from 0 on, and the shapes of the names that stand there.
 #[derive(Drop)]
 pub(crate) struct Numbered<'a> {
-    pub(crate) places: Vec<Place>,
+    pub(crate) places: Vec<u32>,
     pub(crate) shapes: Vec<Shape<'a>>,
 }
 
 impl<'a> Numbered<'a> {
     /// So many places, all free.
     pub(crate) fn with_places(alloc: Global, count: usize) -> Result<Numbered<'a>, AllocError>
-        ensures { IfOk result (λ n. n.places.items ≡ replicate count Free) }
+        ensures { IfOk result (λ n. n.places.items ≡ replicate count 0) }
     {
         let mut places = Vec::new(alloc);
-        places.resize(count, Place::Free)?;
+        places.resize(count, FREE)?;
         Ok(Numbered {
             places,
             shapes: Vec::new(alloc),
@@ -217,10 +256,10 @@ impl<'a> Numbered<'a> {
         ensures { IfSome result (IsThere self.now.shapes.items self.now.places.items name.now) }
     {
         let ending = ending_of(name);
-        let Place::Taken(sort, shape, number) = *self.places.get(ending.number)? else {
+        let Place::Taken(sort, shape, number) = unpacked(*self.places.get(ending.number)?) else {
             return None;
         };
-        if !self.shapes.get(usize::from(shape))?.is_of(name, &ending) {
+        if !self.shapes.get(shape as usize)?.is_of(name, &ending) {
             return None;
         }
         Some(entry_of(sort, number as usize))
@@ -231,20 +270,23 @@ impl<'a> Numbered<'a> {
     pub(crate) fn is_free(&self, name: &[u8]) -> bool
         ensures { result ≡ is_free_there self.now.places.items name.now }
     {
-        matches!(self.places.get(ending_of(name).number), Some(Place::Free))
+        let Some(place) = self.places.get(ending_of(name).number) else {
+            return false;
+        };
+        matches!(unpacked(*place), Place::Free)
     }
 
     /// Puts a name in the place of its number, where that is there and free.
     pub(crate) fn note(&mut self, name: &'a [u8], entry: Entry)
         ensures others { (i : ℕ) → i ≢ number_of name.now → slice_get self.new.places.items i ≡ slice_get self.old.places.items i }
         ensures kept { AreKept self.old.shapes.items self.new.shapes.items }
-        ensures noted { (p : ThePlace) → slice_get self.new.places.items (number_of name.now) ≡ Some p → IsNoted self.new.shapes.items name.now entry (slice_get self.old.places.items (number_of name.now)) p }
+        ensures noted { (p : ThePlace) → place_at self.new.places.items (number_of name.now) ≡ Some p → IsNoted self.new.shapes.items name.now entry (place_at self.old.places.items (number_of name.now)) p }
     {
         let ending = ending_of(name);
         if ending.number >= self.places.len() {
             return;
         }
-        if let Place::Free = self.places[ending.number] {
+        if let Place::Free = unpacked(self.places[ending.number]) {
             let place = place_of(&mut self.shapes, name, &ending, entry);
             self.places[ending.number] = place;
         }

@@ -1,16 +1,30 @@
 //! A builtin or its form with a truth value.
 
-ghost use Rattle.std.specs.Prelude.{◌≡◌, IfNone, IfSome, None, Some, map};
+ghost use Rattle.std.specs.Prelude.{◌≡◌, ◌-◌, IfNone, IfSome, MatchOption, None, Some, bytes_eq, codes, drop, false, length, map, take, true};
 ghost use Rattle.fz_table.specs.Known.{known_name, known_row, result_of, row_named, shape_of};
 
 use crate::builtin::Builtin;
 use crate::row::{BaseRow, Filled, Shape, Sum};
+use crate::text::same_text;
 
 /// A row of the table: a base row, or its form with a truth value behind, which is named with `_reif`.
 #[derive(Clone, Copy, Debug, PartialEq, Eq)]
 pub struct Known {
     pub builtin: Builtin,
     pub reified: bool,
+}
+
+/// What stands before `_reif` in a name that ends so. Five bytes are compared where they stand, with no call.
+#[inline]
+fn unreified(name: &[u8]) -> Option<&[u8]>
+    ensures cases { MatchOption result (bytes_eq (drop (length name.now - 5) name.now) (codes "_reif") ≡ false) (λ base. (bytes_eq (drop (length name.now - 5) name.now) (codes "_reif") ≡ true) × (base.now ≡ take (length name.now - 5) name.now)) }
+{
+    let (base, end) = name.split_last_chunk::<5>()?;
+    if same_text(end, b"_reif") {
+        Some(base)
+    } else {
+        None
+    }
 }
 
 impl Known {
@@ -20,7 +34,7 @@ impl Known {
         ensures has_row { IfSome result (λ k. row_named name.now ≡ Some (known_row k)) }
         ensures none { IfNone result (row_named name.now ≡ None) }
     {
-        let Some(base) = name.strip_suffix(b"_reif") else {
+        let Some(base) = unreified(name) else {
             let builtin = Builtin::called(name)?;
             return Some(Known {
                 builtin,

@@ -1,0 +1,76 @@
+//! How declared names are hashed: those that a compiler makes differ in their digits alone, and stand side by side in the table, one group
+//! after another, so that each finds its group near when it is put there. Nothing rests on which names collide.
+
+ghost use Rattle.std.specs.Prelude.{◌≡◌, ◌+◌, ◌*◌, ◌/◌, ◌%◌, ◌^◌};
+ghost use Rattle.std.specs.List.{fold};
+ghost use Rattle.fz_data.specs.Hashing.{group_of, mix_with, number_with, start_of, tag_of};
+
+use crate::numbered::is_digit;
+use std::hash::Hasher;
+
+/// A hasher of names: the number that their digits come to, and a mix of what stands around these. As with the usual one, whose seed is
+/// fixed too, whoever picks the names can make them collide.
+#[derive(Clone, Copy, Drop)]
+pub(crate) struct NameHasher {
+    number: u64,
+    mix: u64,
+}
+
+/// The digits' number with one more byte taken into it.
+#[inline(always)]
+fn number_with(number: u64, byte: u8) -> u64
+    ensures { result ≡ number_with number byte }
+{
+    if !is_digit(byte) {
+        return number;
+    }
+    number.wrapping_mul(10).wrapping_add(u64::from(byte - b'0'))
+}
+
+/// The mix with one more byte taken into it, where it is no digit.
+#[inline(always)]
+fn mix_with(mix: u64, byte: u8) -> u64
+    ensures { result ≡ mix_with mix byte }
+{
+    let around = if is_digit(byte) { 0 } else { byte };
+    mix.wrapping_mul(257).wrapping_add(u64::from(around))
+}
+
+/// Where names of a mix begin.
+fn start_of(mix: u64) -> u64
+    ensures { result ≡ start_of mix }
+{
+    mix.wrapping_mul(0x9e37_79b9_7f4a_7c15) >> 32
+}
+
+impl Default for NameHasher {
+    ghost is_default = { λ s. s ≡ record { number = 0; mix = 0 } };
+
+    fn default() -> NameHasher {
+        NameHasher { number: 0, mix: 0 }
+    }
+}
+
+impl Hasher for NameHasher {
+    ghost write = { λ s bytes. record { number = fold number_with s.number bytes; mix = fold mix_with s.mix bytes } };
+
+    ghost finish = { λ s. tag_of s.number s.mix * 2 ^ 24 + group_of s.number s.mix };
+
+    #[inline(always)]
+    fn finish(&self) -> u64 {
+        let start = start_of(self.mix);
+        // Numbers that lie a power of two apart don't all come to one group.
+        let far = self.number / 8192;
+        let group = start.wrapping_add(self.number).wrapping_add(far) % (1 << 24);
+        let tag = (start / (1 << 24)).wrapping_add(far) % (1 << 8);
+        tag * (1 << 24) + group
+    }
+
+    #[inline(always)]
+    fn write(&mut self, bytes: &[u8]) {
+        for byte in bytes {
+            self.number = number_with(self.number, *byte);
+            self.mix = mix_with(self.mix, *byte);
+        }
+    }
+}
