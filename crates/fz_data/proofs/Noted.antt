@@ -1,11 +1,11 @@
 -- The places of numbers beside the table of names: what they say stays so where one more name comes.
-use Rattle.std.proofs.Common.{◌≡◌, ◌≢◌, ◌≤◌, ℕ, zero, suc, ◌+◌, ◌*◌, ◌-◌, ◌==◌, ltb, not, ◌&&◌, List, [], ◌∷◌, ◌++◌, map, length, take, Option, None, Some, option_map, slice_get, replicate, cond, if◌then◌else◌, ◌||◌, Bool, true, false, refl, sym, ap, ◌∙◌, subst, arith, take-append-drop, length-drop}
+use Rattle.std.proofs.Common.{◌≡◌, ◌≢◌, ◌≤◌, ℕ, zero, suc, ◌+◌, ◌*◌, ◌-◌, ◌%◌, ◌^◌, ◌==◌, ltb, not, ◌&&◌, List, [], ◌∷◌, ◌++◌, map, length, take, Option, None, Some, option_map, slice_get, replicate, cond, if◌then◌else◌, ◌||◌, Bool, true, false, refl, sym, ap, ◌∙◌, subst, arith, take-append-drop, length-drop}
 use Rattle.std.specs.Bool.{⊤}
 use Rattle.std.specs.List.{AllByRecursion, find, fold, list_any}
 use Rattle.std.specs.Option.{option_or}
 use Rattle.std.specs.Map.{lookup}
 use Rattle.std.proofs.lemmas.List.Folds.{find-append, list_any-append}
-use Rattle.std.proofs.lemmas.Bool.{eqb-true, eqb-false, ltb-false, le-ltb}
+use Rattle.std.proofs.lemmas.Bool.{eqb-true, eqb-false, ltb-false}
 use Rattle.std.proofs.lemmas.Slice.Eq.{bytes_eq-Decides}
 use Rattle.fz_meaning.specs.declared.term.Term.{Term}
 use Rattle.fz_data.specs.declared.names.Entry.{Entry}
@@ -49,8 +49,8 @@ fits_from_0 (suc (suc (suc (suc (suc (suc (suc (suc (suc j))))))))) le = absurd 
 mark_if : Bool → ℕ → ℕ
 mark_if d b = if d then 48 else b
 
-with_if : Bool → Bool → ℕ → ℕ → ℕ
-with_if d full n b = if not d || full then n else n * 10 + (b - 48)
+with_if : Bool → ℕ → ℕ → ℕ
+with_if d n b = if d then n * 10 + (b - 48) else n
 
 in_range : (b : ℕ) (low high : Bool) → ltb b 48 ≡ low → ltb 57 b ≡ high → (not low && not high) ≡ true → (48 ≤ b) × (b ≤ 57)
 in_range b true high l h e = cc
@@ -60,10 +60,13 @@ in_range b false false l h e = let low = ltb-false b 48 l in let above = ltb-fal
 digit_range : (b : ℕ) → is_digit b ≡ true → (48 ≤ b) × (b ≤ 57)
 digit_range b e = in_range b (ltb b 48) (ltb 57 b) refl refl e
 
-not_full : (n : ℕ) → n ≤ 100000000 → ltb 100000000 n ≡ false
-not_full n le = le-ltb 100000000 n le
+-- a number that fits takes a byte in as it is
+in_64 : (d : Bool) (n b : ℕ) → is_digit b ≡ d → n ≤ 100000000 → (if d then (n * 10 % 2 ^ 64 + (b - 48)) % 2 ^ 64 else n) ≡ with_if d n b
+unfolding with_if
+in_64 true n b e le = let r = digit_range b e in omega (arith, r.0, r.1, le)
+in_64 false n b e le = refl
 
-one_byte : (x y n m : ℕ) (p q : Bool) → is_digit x ≡ p → is_digit y ≡ q → mark_if p x ≡ mark_if q y → with_if p false n x ≡ with_if q false m y → (n ≡ m) × (x ≡ y)
+one_byte : (x y n m : ℕ) (p q : Bool) → is_digit x ≡ p → is_digit y ≡ q → mark_if p x ≡ mark_if q y → with_if p n x ≡ with_if q m y → (n ≡ m) × (x ≡ y)
 unfolding with_if mark_if
 one_byte x y n m true true dx dy marks numbers =
     let rx = digit_range x dx in
@@ -73,7 +76,7 @@ one_byte x y n m false false dx dy marks numbers = (numbers, marks)
 one_byte x y n m true false dx dy marks numbers = let no : true ≡ false = ap is_digit marks ∙ dy in cc
 one_byte x y n m false true dx dy marks numbers = let no : false ≡ true = sym dx ∙ ap is_digit marks in cc
 
-grows : (d : Bool) (n b : ℕ) → is_digit b ≡ d → with_if d false n b ≤ n * 10 + 9
+grows : (d : Bool) (n b : ℕ) → is_digit b ≡ d → with_if d n b ≤ n * 10 + 9
 unfolding with_if
 grows true n b e = let r = digit_range b e in omega (arith, r.0, r.1)
 grows false n b e = omega arith
@@ -84,8 +87,8 @@ same_ends [] [] n m fn fm marks numbers = (numbers, refl)
 same_ends [] (y ∷ ys) n m fn fm marks numbers = cc
 same_ends (x ∷ xs) [] n m fn fm marks numbers = cc
 same_ends (x ∷ xs) (y ∷ ys) n m fn fm marks numbers =
-    let nx : with_byte n x ≡ with_if (is_digit x) false n x = ap (λ f. with_if (is_digit x) f n x) (not_full n fn.0) in
-    let my : with_byte m y ≡ with_if (is_digit y) false m y = ap (λ f. with_if (is_digit y) f m y) (not_full m fm.0) in
+    let nx : with_byte n x ≡ with_if (is_digit x) n x = in_64 (is_digit x) n x refl fn.0 in
+    let my : with_byte m y ≡ with_if (is_digit y) m y = in_64 (is_digit y) m y refl fm.0 in
     let fx = fits_less (length xs) (n * 10 + 9) (with_byte n x) (subst (λ k. k ≤ n * 10 + 9) (sym nx) (grows (is_digit x) n x refl)) fn.1 in
     let fy = fits_less (length ys) (m * 10 + 9) (with_byte m y) (subst (λ k. k ≤ m * 10 + 9) (sym my) (grows (is_digit y) m y refl)) fm.1 in
     let first : mark_of x ≡ mark_of y = cc in

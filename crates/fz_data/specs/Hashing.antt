@@ -1,10 +1,6 @@
 -- How declared names are hashed (private functions only; nothing rests on which names collide).
-use Rattle.std.specs.Prelude.{ℕ, ◌+◌, ◌-◌, ◌*◌, ◌/◌, ◌%◌, ◌^◌, if◌then◌else◌}
+use Rattle.std.specs.Prelude.{ℕ, ◌+◌, ◌*◌, ◌/◌, ◌%◌, ◌^◌, if◌then◌else◌}
 use Rattle.fz_data.specs.Numbered.{is_digit}
-
--- the number of the digits with one more byte, in 64 bits
-abbrev pub number_with : ℕ → ℕ → ℕ
-number_with n b = if is_digit b then (n * 10 % 2 ^ 64 + (b - 48)) % 2 ^ 64 else n
 
 -- the mix of the other bytes with one more byte, in 64 bits
 abbrev pub mix_with : ℕ → ℕ → ℕ

@@ -1,5 +1,5 @@
 -- Names by the number that their digits come to, and how they are kept there. A reader need not believe this file: no public clause speaks of it.
-use Rattle.std.specs.Prelude.{◌≡◌, ℕ, ◌-◌, ◌+◌, ◌*◌, ◌/◌, ◌%◌, ◌==◌, ltb, ◌||◌, ◌&&◌, not, if◌then◌else◌, Bool, true, false, List, Option, Some, None, take, slice_get, drop, length, map, option_map, ⊤}
+use Rattle.std.specs.Prelude.{◌≡◌, ℕ, ◌-◌, ◌+◌, ◌*◌, ◌/◌, ◌%◌, ◌^◌, ◌==◌, ltb, ◌&&◌, not, if◌then◌else◌, Bool, true, false, List, Option, Some, None, take, slice_get, drop, length, map, option_map, ⊤}
 use Rattle.std.specs.List.{find, fold, list_any}
 use Rattle.fz_data.specs.declared.names.Entry.{Entry}
 use Rattle.fz_data.specs.declared.names.Entry.TheVariants as entries
@@ -28,9 +28,9 @@ is_digit b = not (ltb b 48) && not (ltb 57 b)
 abbrev pub mark_of : ℕ → ℕ
 mark_of b = if is_digit b then 48 else b
 
--- a number with one more byte of a name taken into it, where that is a digit
+-- a number with one more byte of a name taken into it, where that is a digit, in 64 bits
 abbrev pub with_byte : ℕ → ℕ → ℕ
-with_byte n b = if not (is_digit b) || ltb 100000000 n then n else n * 10 + (b - 48)
+with_byte n b = if is_digit b then (n * 10 % 2 ^ 64 + (b - 48)) % 2 ^ 64 else n
 
 -- the number that the digits among the last eight bytes of a name come to
 abbrev pub number_of : List ℕ → ℕ

@@ -3,28 +3,18 @@
 
 ghost use Rattle.std.specs.Prelude.{◌≡◌, ◌+◌, ◌*◌, ◌/◌, ◌%◌, ◌^◌};
 ghost use Rattle.std.specs.List.{fold};
-ghost use Rattle.fz_data.specs.Hashing.{group_of, mix_with, number_with, start_of, tag_of};
+ghost use Rattle.fz_data.specs.Hashing.{group_of, mix_with, start_of, tag_of};
+ghost use Rattle.fz_data.specs.Numbered.{with_byte};
 
-use crate::numbered::is_digit;
+use crate::numbered::{is_digit, with_byte};
 use std::hash::Hasher;
 
 /// A hasher of names: the number that their digits come to, and a mix of what stands around these. As with the usual one, whose seed is
 /// fixed too, whoever picks the names can make them collide.
 #[derive(Clone, Copy, Drop)]
 pub(crate) struct NameHasher {
-    number: u64,
+    number: usize,
     mix: u64,
-}
-
-/// The digits' number with one more byte taken into it.
-#[inline(always)]
-fn number_with(number: u64, byte: u8) -> u64
-    ensures { result ≡ number_with number byte }
-{
-    if !is_digit(byte) {
-        return number;
-    }
-    number.wrapping_mul(10).wrapping_add(u64::from(byte - b'0'))
 }
 
 /// The mix with one more byte taken into it, where it is no digit.
@@ -52,16 +42,17 @@ impl Default for NameHasher {
 }
 
 impl Hasher for NameHasher {
-    ghost write = { λ s bytes. record { number = fold number_with s.number bytes; mix = fold mix_with s.mix bytes } };
+    ghost write = { λ s bytes. record { number = fold with_byte s.number bytes; mix = fold mix_with s.mix bytes } };
 
     ghost finish = { λ s. tag_of s.number s.mix * 2 ^ 24 + group_of s.number s.mix };
 
     #[inline(always)]
     fn finish(&self) -> u64 {
         let start = start_of(self.mix);
+        let number = self.number as u64;
         // Numbers that lie a power of two apart don't all come to one group.
-        let far = self.number / 8192;
-        let group = start.wrapping_add(self.number).wrapping_add(far) % (1 << 24);
+        let far = number / 8192;
+        let group = start.wrapping_add(number).wrapping_add(far) % (1 << 24);
         let tag = (start / (1 << 24)).wrapping_add(far) % (1 << 8);
         tag * (1 << 24) + group
     }
@@ -69,7 +60,7 @@ impl Hasher for NameHasher {
     #[inline(always)]
     fn write(&mut self, bytes: &[u8]) {
         for byte in bytes {
-            self.number = number_with(self.number, *byte);
+            self.number = with_byte(self.number, *byte);
             self.mix = mix_with(self.mix, *byte);
         }
     }

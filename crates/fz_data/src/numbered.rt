@@ -13,9 +13,6 @@ use std::alloc::{AllocError, Global};
 /// So many bytes at the end of a name are its end, which is looked through for digits; the others are its head.
 const LAST: usize = 8;
 
-/// A number that is greater takes in no more digits. Those of so few bytes never come to one; this bounds the number without a count of them.
-const MOST: usize = 100_000_000;
-
 /// So many shapes are kept. A name of one more has no place here, so that none is compared with many.
 const SHAPES: u32 = 64;
 
@@ -54,7 +51,6 @@ struct Ending {
     marks: [u8; LAST],
 }
 
-/// Whether a byte is a digit.
 #[inline(always)]
 pub(crate) fn is_digit(byte: u8) -> bool
     ensures { result ≡ is_digit byte }
@@ -70,15 +66,18 @@ fn mark_of(byte: u8) -> u8
     if is_digit(byte) { b'0' } else { byte }
 }
 
-/// The number with one more byte of a name taken into it.
+/// The number with one more byte of a name taken into it, in as many bits as it has. It takes no branch: where the digits of a name stand is
+/// no more to be guessed than which name comes next.
 #[inline(always)]
-fn with_byte(number: usize, byte: u8) -> usize
+pub(crate) fn with_byte(number: usize, byte: u8) -> usize
     ensures { result ≡ with_byte number byte }
 {
-    if !is_digit(byte) || number > MOST {
+    if !is_digit(byte) {
         return number;
     }
-    number * 10 + usize::from(byte - b'0')
+    number
+        .wrapping_mul(10)
+        .wrapping_add(usize::from(byte - b'0'))
 }
 
 /// The bytes of a name before its end.
