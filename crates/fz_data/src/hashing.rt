@@ -9,6 +9,10 @@ ghost use Rattle.fz_data.specs.Numbered.{with_byte};
 use crate::numbered::{is_digit, with_byte};
 use std::hash::Hasher;
 
+/// So many numbers that follow each other have groups that do. It is a page of the table; more would let names of two shapes lie over each
+/// other for so long that each further one had to go past all their groups.
+const TOGETHER: u64 = 64;
+
 /// A hasher of names: the number that their digits come to, and a mix of what stands around these. As with the usual one, whose seed is
 /// fixed too, whoever picks the names can make them collide.
 #[derive(Clone, Copy, Drop)]
@@ -26,11 +30,12 @@ fn mix_with(mix: u64, byte: u8) -> u64
     mix.wrapping_mul(257).wrapping_add(u64::from(around))
 }
 
-/// Where names of a mix begin.
-fn start_of(mix: u64) -> u64
-    ensures { result ≡ start_of mix }
+/// Where in the table names begin that have a mix, and a number but for its last so many.
+fn start_of(mix: u64, number: u64) -> u64
+    ensures { result ≡ start_of mix number }
 {
-    mix.wrapping_mul(0x9e37_79b9_7f4a_7c15) >> 32
+    let both = mix.wrapping_mul(31).wrapping_add(number / TOGETHER);
+    both.wrapping_mul(0x9e37_79b9_7f4a_7c15) >> 32
 }
 
 impl Default for NameHasher {
@@ -48,12 +53,10 @@ impl Hasher for NameHasher {
 
     #[inline(always)]
     fn finish(&self) -> u64 {
-        let start = start_of(self.mix);
         let number = self.number as u64;
-        // Numbers that lie a power of two apart don't all come to one group.
-        let far = number / 8192;
-        let group = start.wrapping_add(number).wrapping_add(far) % (1 << 24);
-        let tag = (start / (1 << 24)).wrapping_add(far) % (1 << 8);
+        let start = start_of(self.mix, number);
+        let group = start.wrapping_add(number % TOGETHER) % (1 << 24);
+        let tag = start / (1 << 24) % (1 << 8);
         tag * (1 << 24) + group
     }
 

@@ -1,5 +1,5 @@
-//! Names by the number that their digits come to. The names that a compiler makes differ in that number, so who looks for one there finds it
-//! with its text at once, where the table of all names waits for memory three times: for a group, for a key and for its text in the source.
+//! Names by the number that their digits come to. The names that a compiler makes differ in that number, so who looks for one there finds
+//! what it stands for at once, where the table of all names waits for memory three times: for a group, for a key and for its text in the source.
 
 ghost use Rattle.std.specs.Prelude.{◌≡◌, ◌≢◌, ℕ, IfOk, IfSome, IsTrue, Some, length, map, replicate, slice_get, take};
 ghost use Rattle.fz_data.specs.declared.numbered.Place.{Place as ThePlace};
@@ -173,9 +173,10 @@ fn shape_number<'a>(shapes: &mut Vec<Shape<'a>>, name: &'a [u8], ending: &Ending
     small(number)
 }
 
-/// A place that is free, and one whose name has no room there.
+/// The bits of a place that is free.
 const FREE: u32 = 0;
 
+/// Those of a place whose name has no room there: no sort, and not free.
 const CROWDED: u32 = 4;
 
 /// A number of 24 bits or more has no room in a place.
