@@ -22,9 +22,11 @@ impl Watch {
         })
     }
 
-    /// The time that was used since the start.
-    pub(crate) fn stop(self, clock: &impl CpuClock) -> io::Result<Duration> {
-        Ok(clock.process_cpu_time()?.saturating_sub(self.start))
+    /// What was counted, and the time that was used since the start. It is the last call of a phase, which
+    /// then has one way out behind its answer, and frees it there.
+    pub(crate) fn stop(self, clock: &impl CpuClock, count: usize) -> Result<Measured> {
+        let took = clock.process_cpu_time()?.saturating_sub(self.start);
+        Ok(Measured { count, took })
     }
 }
 

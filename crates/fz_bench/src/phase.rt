@@ -24,7 +24,7 @@ struct Files<'a> {
 
 /// Reads the files, measures what is asked for, and tells it.
 pub(crate) fn measure(rt: &HostRuntime, request: &Request<'_>) -> Result<()> {
-    let model = fs::read(rt, request.model).context("reading the model")?;
+    let model = read(rt, request.model, "reading the model")?;
     match request.stream {
         None => {
             let files = Files {
@@ -33,15 +33,27 @@ pub(crate) fn measure(rt: &HostRuntime, request: &Request<'_>) -> Result<()> {
             };
             measure_files(rt, request, files)
         }
-        Some(stream) => {
-            let stream = fs::read(rt, stream).context("reading the stream")?;
-            let files = Files {
-                model: &model,
-                stream: &stream,
-            };
-            measure_files(rt, request, files)
-        }
+        Some(stream) => measure_with_stream(rt, request, &model, stream),
     }
+}
+
+fn measure_with_stream(
+    rt: &HostRuntime,
+    request: &Request<'_>,
+    model: &[u8],
+    stream: &str,
+) -> Result<()> {
+    let stream = read(rt, stream, "reading the stream")?;
+    let files = Files {
+        model,
+        stream: &stream,
+    };
+    measure_files(rt, request, files)
+}
+
+/// The bytes of a file, or an error that says what was being done.
+fn read(rt: &HostRuntime, path: &str, doing: &'static str) -> Result<Vec<u8>> {
+    fs::read(rt, path).context(doing)
 }
 
 fn measure_files(rt: &HostRuntime, request: &Request<'_>, files: Files<'_>) -> Result<()> {

@@ -14,25 +14,39 @@ const PIECE: usize = 4096;
 pub(crate) fn run_blocks(rt: &HostRuntime, stream: &[u8]) -> Result<Measured> {
     let watch = Watch::start(rt)?;
     let found = blocks(rt.alloc(), stream)?;
-    let took = watch.stop(rt)?;
-    Ok(Measured {
-        count: found.blocks.len(),
-        took,
-    })
+    watch.stop(rt, found.blocks.len())
 }
 
 /// Feeds a splitter a stream in pieces, takes each part, and counts the blocks.
 pub(crate) fn run_splitter(rt: &HostRuntime, stream: &[u8]) -> Result<Measured> {
     let watch = Watch::start(rt)?;
     let mut splitter = Splitter::new(rt.alloc());
+    time_splitter(rt, watch, &mut splitter, stream)
+}
+
+fn time_splitter(
+    rt: &HostRuntime,
+    watch: Watch,
+    splitter: &mut Splitter,
+    stream: &[u8],
+) -> Result<Measured>
+    requires { splitter.old.stage ≢ Finished }
+{
+    let count = feed_stream(splitter, stream)?;
+    watch.stop(rt, count)
+}
+
+/// Feeds a splitter a whole stream, ends it, and counts the blocks.
+fn feed_stream(splitter: &mut Splitter, stream: &[u8]) -> Result<usize, StreamError>
+    requires { splitter.old.stage ≢ Finished }
+{
     let mut count = 0usize;
     for piece in stream.chunks(PIECE) {
-        count = count.wrapping_add(feed_all(&mut splitter, piece)?);
+        count = count.wrapping_add(feed_all(splitter, piece)?);
     }
     splitter.finish()?;
-    count = count.wrapping_add(waiting_blocks(&mut splitter)?);
-    let took = watch.stop(rt)?;
-    Ok(Measured { count, took })
+    count = count.wrapping_add(waiting_blocks(splitter)?);
+    Ok(count)
 }
 
 /// Feeds a splitter a whole piece, and counts the blocks that it completes.

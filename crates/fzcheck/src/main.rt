@@ -71,18 +71,29 @@ fn refuse(rt: &HostRuntime, error: &CheckError) -> u8 {
 
 /// Prints the canonical text of the model in a file.
 fn show_file(rt: &HostRuntime, model: &str) -> u8 {
-    let Ok(mut file) = fs::open(rt, model) else {
-        return refuse(rt, &CheckError::Read);
-    };
-    let model = match read_up_to(rt.alloc(), &mut file, MOST_BYTES) {
-        Ok(model) => model,
-        Err(error) => return refuse(rt, &error),
-    };
-    let text = match show(rt.alloc(), &model) {
-        Ok(text) => text,
-        Err(error) => return refuse(rt, &error),
-    };
-    match write_out(rt, &text) {
+    match read_model(rt, model) {
+        Ok(model) => show_bytes(rt, &model),
+        Err(error) => refuse(rt, &error),
+    }
+}
+
+/// The bytes of a model's file.
+fn read_model(rt: &HostRuntime, model: &str) -> Result<Vec<u8>, CheckError> {
+    match fs::open(rt, model) {
+        Ok(mut file) => read_up_to(rt.alloc(), &mut file, MOST_BYTES),
+        Err(_) => Err(CheckError::Read),
+    }
+}
+
+fn show_bytes(rt: &HostRuntime, model: &[u8]) -> u8 {
+    match show(rt.alloc(), model) {
+        Ok(text) => print_text(rt, &text),
+        Err(error) => refuse(rt, &error),
+    }
+}
+
+fn print_text(rt: &HostRuntime, text: &[u8]) -> u8 {
+    match write_out(rt, text) {
         Ok(()) => SHOWN,
         Err(_) => refuse(rt, &CheckError::Write),
     }
@@ -91,13 +102,17 @@ fn show_file(rt: &HostRuntime, model: &str) -> u8 {
 /// Checks the file of a stream, or standard input, against the file of a model. Both are opened before
 /// anything is read.
 fn check_files(rt: &HostRuntime, model: &str, stream: Option<&str>) -> u8 {
-    let Ok(mut model_file) = fs::open(rt, model) else {
-        return refuse(rt, &CheckError::Read);
-    };
+    match fs::open(rt, model) {
+        Ok(mut model) => check_against(rt, &mut model, stream),
+        Err(_) => refuse(rt, &CheckError::Read),
+    }
+}
+
+fn check_against<M: Read>(rt: &HostRuntime, model: &mut M, stream: Option<&str>) -> u8 {
     match stream {
-        None => check_readers(rt, &mut model_file, &mut rt.reader()),
+        None => check_readers(rt, model, &mut rt.reader()),
         Some(stream) => match fs::open(rt, stream) {
-            Ok(mut stream_file) => check_readers(rt, &mut model_file, &mut stream_file),
+            Ok(mut stream) => check_readers(rt, model, &mut stream),
             Err(_) => refuse(rt, &CheckError::Read),
         },
     }
@@ -105,11 +120,14 @@ fn check_files(rt: &HostRuntime, model: &str, stream: Option<&str>) -> u8 {
 
 /// Checks what one reader gives as a stream against what the other gives as a model, and writes each line when it is known.
 fn check_readers<M: Read, S: Read>(rt: &HostRuntime, model: &mut M, stream: &mut S) -> u8 {
-    let model = match read_up_to(rt.alloc(), model, MOST_BYTES) {
-        Ok(model) => model,
-        Err(error) => return refuse(rt, &error),
-    };
-    match check_stream(rt.alloc(), &model, stream, &mut rt.stdout()) {
+    match read_up_to(rt.alloc(), model, MOST_BYTES) {
+        Ok(model) => check_reader(rt, &model, stream),
+        Err(error) => refuse(rt, &error),
+    }
+}
+
+fn check_reader<S: Read>(rt: &HostRuntime, model: &[u8], stream: &mut S) -> u8 {
+    match check_stream(rt.alloc(), model, stream, &mut rt.stdout()) {
         Ok(answer) => status(&Ok(answer)),
         Err(error) => refuse(rt, &error),
     }

@@ -43,6 +43,11 @@ impl From<Error> for Refused {
 /// What the words ask for, of which the first is the program's own name.
 pub fn read_words<'a>(alloc: Global, words: &'a [String]) -> Result<Request<'a>, Refused> {
     let matches = command(alloc)?.try_get_matches_from(words)?;
+    request_of(&matches)
+}
+
+/// What the words that were read ask for.
+fn request_of<'a>(matches: &ArgMatches<'a>) -> Result<Request<'a>, Refused> {
     match matches.subcommand() {
         Some(("show", given)) => Ok(Request::Show {
             model: model_of(given)?,
@@ -60,20 +65,30 @@ fn model_of<'a>(given: &ArgMatches<'a>) -> Result<&'a str, Refused> {
     given.get_str("MODEL").ok_or(Refused::Usage)
 }
 
-fn model_word<'a>(alloc: Global) -> Arg<'a> {
-    Arg::new(alloc, "MODEL")
-        .required(true)
-        .action(ArgAction::Set)
+/// A word that names a file.
+fn file_word<'a>(alloc: Global, id: &'a str) -> Arg<'a> {
+    Arg::new(alloc, id).action(ArgAction::Set)
 }
 
-fn command<'a>(alloc: Global) -> Result<Command<'a>, AllocError> {
-    let stream = Arg::new(alloc, "STREAM").action(ArgAction::Set);
-    let show = Command::new(alloc, "show").arg(model_word(alloc))?;
-    let check = Command::new(alloc, "check")
-        .arg(model_word(alloc))?
-        .arg(stream)?;
+/// A command that wants the file of a model.
+fn over_model<'a>(alloc: Global, name: &'a str) -> Result<Command<'a>, AllocError> {
+    Command::new(alloc, name).arg(file_word(alloc, "MODEL").required(true))
+}
+
+fn check_command<'a>(alloc: Global) -> Result<Command<'a>, AllocError> {
+    over_model(alloc, "check")?.arg(file_word(alloc, "STREAM"))
+}
+
+/// The program with the first of its commands.
+fn program<'a>(alloc: Global) -> Result<Command<'a>, AllocError> {
+    let show = over_model(alloc, "show")?;
     Command::new(alloc, "fzcheck")
         .subcommand_required(true)
-        .subcommand(show)?
-        .subcommand(check)
+        .subcommand(show)
+}
+
+/// The program with both commands. Each function here holds one command where it may fail, since each that is held there is one more to free.
+fn command<'a>(alloc: Global) -> Result<Command<'a>, AllocError> {
+    let check = check_command(alloc)?;
+    program(alloc)?.subcommand(check)
 }
