@@ -20,7 +20,7 @@ use Rattle.fz_data.proofs.NameTable.{found_among, looked_up}
 
 -- ---- names of a shape are told by their number
 
--- a number, with so many more digits, stays below what takes in no more
+-- a number stays small enough for 64 bits while so many more digits come
 Fits : ℕ → ℕ → Type 0
 Fits zero n = ⊤
 Fits (suc j) n = (n ≤ 100000000) × Fits j (n * 10 + 9)

@@ -6,7 +6,7 @@ ghost use Rattle.std.specs.List.{fold};
 ghost use Rattle.fz_data.specs.Hashing.{group_of, mix_with, start_of, tag_of};
 ghost use Rattle.fz_data.specs.Numbered.{with_byte};
 
-use crate::numbered::{is_digit, with_byte};
+use crate::numbered::with_byte;
 use std::hash::Hasher;
 
 /// So many numbers that follow each other have groups that do. It is a page of the table; more would let names of two shapes lie over each
@@ -26,7 +26,7 @@ pub(crate) struct NameHasher {
 fn mix_with(mix: u64, byte: u8) -> u64
     ensures { result ≡ mix_with mix byte }
 {
-    let around = if is_digit(byte) { 0 } else { byte };
+    let around = if byte.is_ascii_digit() { 0 } else { byte };
     mix.wrapping_mul(257).wrapping_add(u64::from(around))
 }
 

@@ -3,7 +3,7 @@
 
 ghost use Rattle.std.specs.Prelude.{◌≡◌, ◌≢◌, ℕ, IfOk, IfSome, IsTrue, Some, length, map, replicate, slice_get, take};
 ghost use Rattle.fz_data.specs.declared.numbered.Place.{Place as ThePlace};
-ghost use Rattle.fz_data.specs.Numbered.{end_of, entry_of, head_of, is_digit, is_free_there, mark_of, number_of, place_at, unpacked, with_byte, AreKept, ArePackedOf, IsNoted, IsOf, IsPlaceOf, IsShapeAt, IsThere};
+ghost use Rattle.fz_data.specs.Numbered.{end_of, entry_of, head_of, is_free_there, mark_of, number_of, place_at, unpacked, with_byte, AreKept, ArePackedOf, IsNoted, IsOf, IsPlaceOf, IsShapeAt, IsThere};
 
 use crate::names::Entry;
 use crate::sheet::small;
@@ -51,28 +51,21 @@ struct Ending {
     marks: [u8; LAST],
 }
 
-#[inline(always)]
-pub(crate) fn is_digit(byte: u8) -> bool
-    ensures { result ≡ is_digit byte }
-{
-    byte >= b'0' && byte <= b'9'
-}
-
 /// A byte, a digit as `0`.
 #[inline(always)]
 fn mark_of(byte: u8) -> u8
     ensures { result ≡ mark_of byte }
 {
-    if is_digit(byte) { b'0' } else { byte }
+    if byte.is_ascii_digit() { b'0' } else { byte }
 }
 
-/// The number with one more byte of a name taken into it, in as many bits as it has. It takes no branch: where the digits of a name stand is
-/// no more to be guessed than which name comes next.
+/// The number with one more byte of a name taken into it, in as many bits as it has. It is arithmetic alone, so that the
+/// compiler needs no branch for it: where the digits of a name stand is no more to be guessed than which name comes next.
 #[inline(always)]
 pub(crate) fn with_byte(number: usize, byte: u8) -> usize
     ensures { result ≡ with_byte number byte }
 {
-    if !is_digit(byte) {
+    if !byte.is_ascii_digit() {
         return number;
     }
     number
