@@ -1,12 +1,13 @@
 -- The table of names: what is looked up there, and what one more name leaves as it is.
-use Rattle.std.proofs.Common.{◌≡◌, ℕ, suc, zero, ◌+◌, ◌<◌, List, [], ◌∷◌, ◌++◌, map, length, Option, Some, option_map, slice_get, cond, if◌then◌else◌, ◌||◌, Bool, true, false, refl, sym, ap, ◌∙◌, subst, is_some, is_none, arith, Result, Ok, Err}
+use Rattle.std.proofs.Common.{◌≡◌, ℕ, suc, zero, ◌+◌, ◌<◌, List, [], ◌∷◌, ◌++◌, map, length, Option, None, Some, IfSome, Bor, ltb, get_or, option_map, slice_get, cond, if◌then◌else◌, ◌||◌, Bool, true, false, refl, sym, ap, ◌∙◌, subst, is_some, is_none, arith, Result, Ok, Err}
 use Rattle.std.specs.Result.{OnOk, OnErr}
 use Rattle.std.specs.List.{AllByRecursion, IsDistinct, find, list_any}
 use Rattle.std.specs.Option.{option_map_or}
-use Rattle.std.specs.Str.{bytes_eq}
 use Rattle.std.specs.Map.{lookup}
 use Rattle.std.proofs.lemmas.List.{map-append, length-append}
 use Rattle.std.proofs.lemmas.Slice.Eq.{bytes_eq-Decides}
+use Rattle.std.proofs.lemmas.Bool.{ltb-false, ltb-true}
+use Rattle.std.proofs.lemmas.Option.{slice_get_past, slice_get_read}
 use Rattle.indexmap.specs.IndexSet.{insert_key}
 use Rattle.fz_meaning.proofs.Lists.{all_append}
 use Rattle.fz_meaning.specs.declared.term.Term.{Term}
@@ -15,10 +16,7 @@ use Rattle.fz_data.specs.declared.names.Entry.{Entry}
 use Rattle.fz_data.specs.declared.names.Kept.{Kept}
 use Rattle.fz_data.specs.declared.names.Entry.TheVariants as entries
 use Rattle.fz_data.specs.Naming.{Declared, has_text, stands_for, IsAmongTerms, own_from, own_terms, no_term}
-use Rattle.fz_data.specs.Names.{entry_stands, is_among_terms, is_key}
-
-abbrev pub same_key : Kept → Kept → Bool
-same_key a b = bytes_eq a.bytes.now b.bytes.now
+use Rattle.fz_data.specs.Names.{entry_stands, is_among_terms, is_key, same_key}
 
 -- a look-up in the list is one in the table
 pub looked_up : (ts : List Term) (x : List ℕ) (ks : List Kept) → lookup (has_text x) (map (entry_stands ts) ks) ≡ option_map (λ k. stands_for ts k.entry) (find (is_key x) ks)
@@ -122,13 +120,30 @@ own_more k =
 
 -- ---- one more name
 
-pub declared_there : (ts : List Term) (x : List ℕ) (ks : List Kept) → list_any (is_key x) ks ≡ is_some (lookup (has_text x) (map (entry_stands ts) ks))
-declared_there ts x [] = refl
-declared_there ts x (k ∷ ks) = ap (λ b. is_key x k || b) (declared_there ts x ks) ∙ at_first (is_key x k) (lookup (has_text x) (map (entry_stands ts) ks))
+-- what is read at a place
+pub got : (ks : List Kept) (i : ℕ) (r : Option (Bor Kept)) → is_some r ≡ ltb i (length ks) → IfSome r (λ x. x.now ≡ get_or ks i x.now) → option_map (λ x. x.now) r ≡ slice_get ks i
+got ks i None there is = sym (slice_get_past ks i (ltb-false i (length ks) (sym there)))
+got ks i (Some x) there is = sym (slice_get_read ks (length ks) i x.now refl (ltb-true i (length ks) (sym there)) is)
+
+-- keys stay apart where one comes that is new
+pub distinct_pushed : (ks : List Kept) (k : Kept) → IsDistinct same_key ks → list_any (is_key k.bytes.now) ks ≡ false → IsDistinct same_key (ks ++ k ∷ [])
+unfolding IsDistinct
+distinct_pushed [] k h absent = (tt, tt)
+distinct_pushed (y ∷ ks) k h absent = (all_append (λ z. same_key y z ≡ false) ks (k ∷ []) h.0 (apart (is_key k.bytes.now y) refl absent, tt), distinct_pushed ks k h.1 (later (is_key k.bytes.now y) absent))
   where
-    at_first : (b : Bool) (o : Option Declared) → (b || is_some o) ≡ is_some (cond b (Some (stands_for ts k.entry)) o)
-    at_first true o = refl
-    at_first false o = refl
+    later : (b : Bool) → (b || list_any (is_key k.bytes.now) ks) ≡ false → list_any (is_key k.bytes.now) ks ≡ false
+    later true e = cc
+    later false e = e
+
+    turned : (b : Bool) → same_key y k ≡ b → is_key k.bytes.now y ≡ false → b ≡ false
+    turned false e other = refl
+    turned true e other =
+        let text = (bytes_eq-Decides y.bytes.now k.bytes.now).0 e in
+        sym ((bytes_eq-Decides k.bytes.now y.bytes.now).1 (sym text)) ∙ other
+
+    apart : (b : Bool) → is_key k.bytes.now y ≡ b → (b || list_any (is_key k.bytes.now) ks) ≡ false → same_key y k ≡ false
+    apart true e absent = cc
+    apart false e absent = turned (same_key y k) refl e
 
 -- a key that is new goes behind the others
 pub goes_last : (ks : List Kept) (k : Kept) → list_any (same_key k) ks ≡ false → insert_key same_key ks k ≡ ks ++ k ∷ []

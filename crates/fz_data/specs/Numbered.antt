@@ -1,6 +1,6 @@
 -- Names by the number that their digits come to, and how they are kept there. A reader need not believe this file: no public clause speaks of it.
-use Rattle.std.specs.Prelude.{◌≡◌, ℕ, ◌-◌, ◌+◌, ◌*◌, ◌/◌, ◌%◌, ◌^◌, ◌==◌, ltb, ◌&&◌, not, if◌then◌else◌, Bool, true, false, List, Option, Some, None, take, slice_get, drop, length, map, option_map, ⊤}
-use Rattle.std.specs.List.{find, fold, list_any}
+use Rattle.std.specs.Prelude.{◌≡◌, ℕ, zero, suc, ◌-◌, ◌+◌, ◌*◌, ◌/◌, ◌%◌, ◌^◌, ◌==◌, ltb, ◌&&◌, not, if◌then◌else◌, Bool, true, false, List, [], ◌∷◌, Option, Some, None, bytes_eq, take, slice_get, drop, length, option_map, ⊤}
+use Rattle.std.specs.List.{find, fold}
 use Rattle.fz_data.specs.declared.names.Entry.{Entry}
 use Rattle.fz_data.specs.declared.names.Entry.TheVariants as entries
 use Rattle.fz_data.specs.declared.names.Kept.{Kept}
@@ -61,15 +61,23 @@ ArePackedOf s k n Crowded = ⊤
 
 -- ---- what is kept in the place of a number
 
--- a name is of a shape: of its length and head, and its end but for the digits
-pub record IsOf (s : Shape) (x : List ℕ) : Type 0 where
-  pub len : s.len ≡ length x
-  pub head : s.head.now ≡ head_of x
-  pub marks : take (length (end_of x)) s.marks ≡ map mark_of (end_of x)
+-- so many marks of bytes, 0 where there are no more
+abbrev pub marks_from : ℕ → List ℕ → List ℕ
+marks_from zero bs = []
+marks_from (suc n) [] = 0 ∷ marks_from n []
+marks_from (suc n) (b ∷ bs) = mark_of b ∷ marks_from n bs
+
+-- the marks of the end of a name
+abbrev pub marks_of : List ℕ → List ℕ
+marks_of x = marks_from 8 (end_of x)
+
+-- whether a name is of a shape: of its length and head, and its end but for the digits
+abbrev pub is_of : Shape → List ℕ → Bool
+is_of s x = (s.len == length x) && (bytes_eq s.marks (marks_of x) && bytes_eq s.head.now (head_of x))
 
 -- the shape of that number is a name's
 abbrev pub IsShapeAt : List Shape → List ℕ → ℕ → Type 0
-IsShapeAt ss x k = (s : Shape) × (slice_get ss k ≡ Some s) × IsOf s x
+IsShapeAt ss x k = (s : Shape) × (slice_get ss k ≡ Some s) × (is_of s x ≡ true)
 
 -- shapes keep their numbers
 abbrev pub AreKept : List Shape → List Shape → Type 0
@@ -87,15 +95,43 @@ IsPlaceOf ss x e Free = ⊥
 IsPlaceOf ss x e (Taken s k n) = IsShapeAt ss x k × (entry_of s n ≡ e)
 IsPlaceOf ss x e Crowded = ⊤
 
+-- the place is there and taken by a name with an entry
 abbrev pub IsTakenBy : List Shape → List ℕ → Entry → Option Place → Type 0
 IsTakenBy ss x e None = ⊥
 IsTakenBy ss x e (Some Free) = ⊥
 IsTakenBy ss x e (Some (Taken s k n)) = IsShapeAt ss x k × (entry_of s n ≡ e)
 IsTakenBy ss x e (Some Crowded) = ⊥
 
--- the place of a name's number is taken with the name's shape and that entry
-abbrev pub IsThere : List Shape → List ℕ → List ℕ → Entry → Type 0
-IsThere ss ps x e = IsTakenBy ss x e (place_at ps (number_of x))
+-- what a name that isn't put in a place leaves there: what stood there, or that there is no room
+abbrev pub IsLeft : Option Place → Option Place → Type 0
+IsLeft None q = q ≡ None
+IsLeft (Some Free) q = q ≡ Some Crowded
+IsLeft (Some (Taken s k n)) q = q ≡ Some (Taken s k n)
+IsLeft (Some Crowded) q = q ≡ Some Crowded
+
+-- what a name of the shape of that number is kept with
+abbrev pub entry_as : Option Shape → List ℕ → Entry → Option Entry
+entry_as None x e = None
+entry_as (Some s) x e = if is_of s x then Some e else None
+
+-- what a name whose place this is stands there with
+abbrev pub entry_at : List Shape → List ℕ → Option Place → Option Entry
+entry_at ss x None = None
+entry_at ss x (Some Free) = None
+entry_at ss x (Some (Taken s k n)) = entry_as (slice_get ss k) x (entry_of s n)
+entry_at ss x (Some Crowded) = None
+
+-- what a name is kept with, where it stands in the place of its number
+abbrev pub entry_there : List Shape → List ℕ → List ℕ → Option Entry
+entry_there ss ps x = entry_at ss x (place_at ps (number_of x))
+
+abbrev pub seat_if : Option Entry → Option ℕ → Option ℕ
+seat_if None j = None
+seat_if (Some e) j = j
+
+-- where it is listed then
+abbrev pub seat_there : List Shape → List ℕ → List ℕ → List ℕ → Option ℕ
+seat_there ss ps js x = seat_if (entry_there ss ps x) (slice_get js (number_of x))
 
 abbrev pub is_free : Option Place → Bool
 is_free None = false
@@ -107,23 +143,22 @@ is_free (Some Crowded) = false
 abbrev pub is_free_there : List ℕ → List ℕ → Bool
 is_free_there ps x = is_free (place_at ps (number_of x))
 
--- the place after a name was noted: its own, where the place was free, and else the same
-abbrev pub IsNoted : List Shape → List ℕ → Entry → Option Place → Place → Type 0
-IsNoted ss x e None p = ⊥
-IsNoted ss x e (Some Free) p = IsPlaceOf ss x e p
-IsNoted ss x e (Some (Taken s k n)) p = p ≡ Taken s k n
-IsNoted ss x e (Some Crowded) p = p ≡ Crowded
+-- a name is found in the list with that entry, at its seat
+abbrev pub IsListed : List Kept → List ℕ → List ℕ → Entry → Type 0
+IsListed ks js x e = (k : Kept) × (j : ℕ) × (find (is_key x) ks ≡ Some k) × (k.entry ≡ e) × (slice_get js (number_of x) ≡ Some j) × (slice_get ks j ≡ Some k)
 
--- each name of the number and the shape is kept with that entry
-abbrev pub AreFound : List Kept → ℕ → Shape → Entry → Type 0
-AreFound ks i s e = (x : List ℕ) → number_of x ≡ i → IsOf s x → option_map (λ k. k.entry) (find (is_key x) ks) ≡ Some e
+-- a name is found among the others as in the list
+abbrev pub IsAmongOthers : List Kept → List Kept → List ℕ → Type 0
+IsAmongOthers ks os x = find (is_key x) os ≡ find (is_key x) ks
 
--- what a place says of the table of names: that no name's digits come to its number, or what the name of that shape is kept with
-abbrev pub StandsThere : List Kept → List Shape → ℕ → Place → Type 0
-StandsThere ks ss i Free = list_any (λ k. number_of k.bytes.now == i) ks ≡ false
-StandsThere ks ss i (Taken s k n) = (t : Shape) × (slice_get ss k ≡ Some t) × AreFound ks i t (entry_of s n)
-StandsThere ks ss i Crowded = ⊤
+-- where a name is found, by the place of its number: where that is free, nowhere; where it is of the shape that the place is taken with, in
+-- the list; else among the others
+abbrev pub StandsAt : List Kept → List Kept → List Shape → List ℕ → List ℕ → Option Place → Type 0
+StandsAt ks os ss js x None = IsAmongOthers ks os x
+StandsAt ks os ss js x (Some Free) = (find (is_key x) ks ≡ None) × (find (is_key x) os ≡ None)
+StandsAt ks os ss js x (Some (Taken s k n)) = (t : Shape) × (slice_get ss k ≡ Some t) × (is_of t x ≡ true → IsListed ks js x (entry_of s n)) × (is_of t x ≡ false → IsAmongOthers ks os x)
+StandsAt ks os ss js x (Some Crowded) = IsAmongOthers ks os x
 
--- each place says what is so
-abbrev pub IsNumbered : List Kept → List Shape → List ℕ → Type 0
-IsNumbered ks ss ps = (i : ℕ) (p : Place) → place_at ps i ≡ Some p → StandsThere ks ss i p
+-- the listed names are found by the shapes, places and seats, or among the others
+abbrev pub IsNumbered : List Kept → List Kept → List Shape → List ℕ → List ℕ → Type 0
+IsNumbered ks os ss ps js = (x : List ℕ) → StandsAt ks os ss js x (place_at ps (number_of x))

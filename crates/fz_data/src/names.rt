@@ -1,15 +1,15 @@
 //! Declared names with what they stand for.
 
-ghost use Rattle.std.specs.Prelude.{◌≡◌, ◌++◌, ◌∷◌, [], IfOk, IfSome, OnErr, OnOk, Some, false, is_none, is_some, option_map, true};
+ghost use Rattle.std.specs.Prelude.{◌≡◌, ◌++◌, ◌∷◌, [], IfOk, IfSome, OnErr, OnOk, Some, false, is_none, is_some, length, option_map, true};
 ghost use Rattle.std.proofs.Common.{ap, rules};
 ghost use Rattle.std.specs.Cmp.Lexicographic.{bytes_decides, nat_list_eq_equiv};
 ghost use Rattle.std.specs.Cmp.Rules.{comparing};
-ghost use Rattle.std.specs.List.{list_any};
+ghost use Rattle.std.specs.List.{find, list_any, IsDistinct};
 ghost use Rattle.std.specs.Str.{bytes_eq};
 ghost use Rattle.std.specs.Map.{lookup};
 ghost use Rattle.fz_meaning.specs.declared.term.Term.TheVariants.{Fixed, Var};
 ghost use Rattle.fz_data.specs.Naming.Declared.{Array as TheArray, Scalar};
-ghost use Rattle.fz_data.specs.Names.{is_key};
+ghost use Rattle.fz_data.specs.Names.{is_key, same_key};
 ghost use Rattle.fz_data.specs.Naming.{has_text, standing_view, stands_for, IsAmongTerms};
 ghost use Rattle.fz_data.specs.Numbered.{IsNumbered};
 
@@ -65,6 +65,8 @@ pub(crate) enum Entry {
 pub(crate) struct Kept<'a> {
     bytes: &'a [u8],
     entry: Entry,
+    /// where it should stand in the list: who looks there sees whose name it is
+    seat: usize,
 }
 
 impl PartialEq for Kept<'_> {
@@ -111,17 +113,20 @@ pub(crate) enum Standing<'m> {
     Array(usize),
 }
 
-/// The table of all names.
+/// Names that stand in no place, by their text.
 type Table<'a> = IndexSet<Kept<'a>, BuildHasherDefault<NameHasher>>;
 
 /// The declared names, in source order. A contract sees the list of them, each with what it stands for.
 #[derive(Drop)]
 pub(crate) struct Names<'a> {
-    entries: Table<'a>,
+    /// all of them with what they are kept with, in source order
+    listed: Vec<Kept<'a>>,
+    /// those that stand in the place of their number
+    numbered: Numbered<'a>,
+    /// the others
+    others: Table<'a>,
     /// the values of parameters, by their numbers
     parameters: Vec<Term>,
-    /// short names once more, where they are found sooner
-    numbered: Numbered<'a>,
 }
 
 impl<'a> std::marker::Model for Names<'a> {
@@ -134,12 +139,13 @@ impl<'a> std::marker::Model for Names<'a> {
 
     ghost coded = { Prim.hlevel (codes, the_set.the_row.coded) };
 
-    ghost use Rattle.fz_data.specs.Names.{names_view, AreAmongTerms};
+    ghost use Rattle.std.specs.List.{IsDistinct};
+    ghost use Rattle.fz_data.specs.Names.{names_view, same_key, AreAmongTerms};
     ghost use Rattle.fz_data.specs.Numbered.{IsNumbered};
 
     ghost view = { names_view };
 
-    ghost invariant = { λ n. AreAmongTerms n × IsNumbered n.entries.keys n.numbered.shapes.items n.numbered.places.items };
+    ghost invariant = { λ n. AreAmongTerms n × IsDistinct same_key n.listed.items × IsNumbered n.listed.items n.others.keys n.numbered.shapes.items n.numbered.places.items n.numbered.seats.items };
 }
 
 /// What an entry stands for, among these values of parameters.
@@ -155,22 +161,58 @@ fn standing_of(parameters: &[Term], entry: Entry) -> Standing<'_>
     }
 }
 
-/// Puts a name behind the others, and in the place of its number.
+/// Puts a name behind the others: in the place of its number, or else in the table.
 fn put<'a>(
-    entries: &mut Table<'a>,
+    listed: &mut Vec<Kept<'a>>,
+    others: &mut Table<'a>,
     numbered: &mut Numbered<'a>,
     name: &'a [u8],
     entry: Entry,
 ) -> Result<(), AllocError>
-    requires new { list_any (is_key name.now) entries.old.keys ≡ false }
-    requires numbered { IsNumbered entries.old.keys numbered.old.shapes.items numbered.old.places.items }
-    ensures pushed { OnOk result (entries.new.keys ≡ entries.old.keys ++ record { bytes = name.entry; entry = entry } ∷ []) }
-    ensures unchanged { OnErr result (entries.new.keys ≡ entries.old.keys) }
-    ensures numbered { IsNumbered entries.new.keys numbered.new.shapes.items numbered.new.places.items }
+    requires new { list_any (is_key name.now) listed.old.items ≡ false }
+    requires distinct { IsDistinct same_key listed.old.items }
+    requires numbered { IsNumbered listed.old.items others.old.keys numbered.old.shapes.items numbered.old.places.items numbered.old.seats.items }
+    ensures pushed { OnOk result (listed.new.items ≡ listed.old.items ++ record { bytes = name.entry; entry = entry; seat = length listed.old.items } ∷ []) }
+    ensures unchanged { OnErr result (listed.new.items ≡ listed.old.items) }
+    ensures distinct { IsDistinct same_key listed.new.items }
+    ensures numbered { IsNumbered listed.new.items others.new.keys numbered.new.shapes.items numbered.new.places.items numbered.new.seats.items }
 {
-    let _ = entries.insert(Kept { bytes: name, entry })?;
-    numbered.note(name, entry);
+    listed.reserve(1)?;
+    let seat = listed.len();
+    let kept = Kept {
+        bytes: name,
+        entry,
+        seat,
+    };
+    if !numbered.note(name, entry, seat) {
+        let _ = others.insert(kept)?;
+    }
+    listed.push_reserved(kept);
     Ok(())
+}
+
+/// What a name is kept with, where it stands in the table.
+fn entry_among(others: &Table<'_>, name: &[u8]) -> Option<Entry>
+    ensures { result ≡ option_map (λ k. k.entry) (find (is_key name.now) others.now.keys) }
+{
+    let kept = others.get(Text { bytes: name })?;
+    Some(kept.entry)
+}
+
+/// A name with what it is kept with, where it is declared.
+fn found<'t, 'a>(
+    listed: &'t [Kept<'a>],
+    others: &'t Table<'a>,
+    numbered: &Numbered<'a>,
+    name: &[u8],
+) -> Option<&'t Kept<'a>>
+    requires numbered { IsNumbered listed.now others.now.keys numbered.now.shapes.items numbered.now.places.items numbered.now.seats.items }
+    ensures { option_map (λ k. k.now) result ≡ find (is_key name.now) listed.now }
+{
+    match numbered.seat(name) {
+        Some(seat) => listed.get(seat),
+        None => others.get(Text { bytes: name }),
+    }
 }
 
 impl<'a> Names<'a> {
@@ -179,9 +221,10 @@ impl<'a> Names<'a> {
         ensures none { IfOk result (λ n. n ≡ []) }
     {
         Ok(Names {
-            entries: IndexSet::with_capacity_and_hasher(alloc, count, BuildHasherDefault::new())?,
-            parameters: Vec::new(alloc),
+            listed: Vec::with_capacity(alloc, count)?,
             numbered: Numbered::with_places(alloc, count)?,
+            others: IndexSet::with_hasher(alloc, BuildHasherDefault::new()),
+            parameters: Vec::new(alloc),
         })
     }
 
@@ -190,7 +233,10 @@ impl<'a> Names<'a> {
     pub(crate) fn contains(&self, name: &[u8]) -> bool
         ensures declared { result ≡ is_some (lookup (has_text name.now) self.now) }
     {
-        !self.numbered.is_free(name) && self.entries.contains(Text { bytes: name })
+        if self.numbered.is_free(name) {
+            return false;
+        }
+        self.numbered.get(name).is_some() || self.others.contains(Text { bytes: name })
     }
 
     /// What a name stands for, where it is declared.
@@ -201,33 +247,24 @@ impl<'a> Names<'a> {
         if let Some(entry) = self.numbered.get(name) {
             return Some(standing_of(&self.parameters, entry));
         }
-        self.find(name)
+        let entry = entry_among(&self.others, name)?;
+        Some(standing_of(&self.parameters, entry))
     }
 
-    /// What a name stands for, where it is declared, looked up in the table of all names.
-    fn find(&self, name: &[u8]) -> Option<Standing<'_>>
-        ensures stands { option_map standing_view result ≡ lookup (has_text name.now) self.now }
-    {
-        match self.entries.get(Text { bytes: name }) {
-            Some(kept) => Some(standing_of(&self.parameters, kept.entry)),
-            None => None,
-        }
-    }
-
-    /// What stands at a place of the table, where its name is this one, with its text in the source.
+    /// What stands at a place of the list, where its name is this one, with its text in the source.
     #[inline]
     fn at(&self, name: &[u8], place: usize) -> Option<(&'a [u8], Standing<'_>)>
         ensures stands { IfSome result (λ f. Some (standing_view f.1) ≡ lookup (has_text name.now) self.now) }
         ensures text { IfSome result (λ f. f.0.now ≡ name.now) }
     {
-        let kept = self.entries.as_slice().get(place)?;
+        let kept = self.listed.get(place)?;
         if kept.bytes != name {
             return None;
         }
         Some((kept.bytes, standing_of(&self.parameters, kept.entry)))
     }
 
-    /// What a name stands for, where it is declared, with its text in the source and its place in the table. It is looked for at this
+    /// What a name stands for, where it is declared, with its text in the source and its place in the list. It is looked for at this
     /// place first, which may be any.
     #[inline]
     pub(crate) fn find_at(
@@ -241,8 +278,12 @@ impl<'a> Names<'a> {
         if let Some((text, standing)) = self.at(name, place) {
             return Some((text, standing, place));
         }
-        let (found, kept) = self.entries.get_full(Text { bytes: name })?;
-        Some((kept.bytes, standing_of(&self.parameters, kept.entry), found))
+        let kept = found(&self.listed, &self.others, &self.numbered, name)?;
+        Some((
+            kept.bytes,
+            standing_of(&self.parameters, kept.entry),
+            kept.seat,
+        ))
     }
 
     /// Puts the name of a variable behind the others.
@@ -251,7 +292,8 @@ impl<'a> Names<'a> {
         ensures pushed { OnOk result (self.new ≡ self.old ++ (name.now, Scalar (Var number)) ∷ []) }
     {
         put(
-            &mut self.entries,
+            &mut self.listed,
+            &mut self.others,
             &mut self.numbered,
             name,
             Entry::Variable(number),
@@ -264,7 +306,8 @@ impl<'a> Names<'a> {
         ensures pushed { OnOk result (self.new ≡ self.old ++ (name.now, TheArray number) ∷ []) }
     {
         put(
-            &mut self.entries,
+            &mut self.listed,
+            &mut self.others,
             &mut self.numbered,
             name,
             Entry::Array(number),
@@ -279,7 +322,8 @@ impl<'a> Names<'a> {
         let number = self.parameters.len();
         self.parameters.push(Term::Fixed(value))?;
         put(
-            &mut self.entries,
+            &mut self.listed,
+            &mut self.others,
             &mut self.numbered,
             name,
             Entry::Parameter(number),

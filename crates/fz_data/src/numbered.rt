@@ -1,9 +1,9 @@
 //! Names by the number that their digits come to. The names that a compiler makes differ in that number, so who looks for one there finds
-//! what it stands for at once, where the table of all names waits for memory three times: for a group, for a key and for its text in the source.
+//! what it stands for at once, where a table of names waits for memory three times: for a group, for a key and for its text in the source.
 
-ghost use Rattle.std.specs.Prelude.{◌≡◌, ◌≢◌, ℕ, IfOk, IfSome, IsTrue, Some, length, map, replicate, slice_get, take};
-ghost use Rattle.fz_data.specs.declared.numbered.Place.{Place as ThePlace};
-ghost use Rattle.fz_data.specs.Numbered.{end_of, entry_of, head_of, is_free_there, mark_of, number_of, place_at, unpacked, with_byte, AreKept, ArePackedOf, IsNoted, IsOf, IsPlaceOf, IsShapeAt, IsThere};
+ghost use Rattle.std.specs.Prelude.{◌≡◌, ◌≢◌, ℕ, IfOk, IfSome, IsFalse, IsTrue, Some, replicate, slice_get, true};
+ghost use Rattle.fz_data.specs.declared.numbered.Place.TheVariants.{Crowded, Free};
+ghost use Rattle.fz_data.specs.Numbered.{entry_of, entry_there, head_of, is_free, is_free_there, is_of, mark_of, marks_of, number_of, place_at, seat_there, unpacked, with_byte, AreKept, ArePackedOf, IsLeft, IsPlaceOf, IsShapeAt, IsTakenBy};
 
 use crate::names::Entry;
 use crate::sheet::small;
@@ -85,7 +85,7 @@ fn head_of(name: &[u8]) -> &[u8]
 #[inline(always)]
 fn ending_of(name: &[u8]) -> Ending
     ensures number { result.number ≡ number_of name.now }
-    ensures marks { take (length (end_of name.now)) result.marks ≡ map mark_of (end_of name.now) }
+    ensures marks { result.marks ≡ marks_of name.now }
 {
     let mut number = 0;
     let mut marks = [0; LAST];
@@ -123,8 +123,8 @@ fn entry_of(sort: Sort, number: usize) -> Entry
 impl<'a> Shape<'a> {
     /// The shape of a name whose end was read.
     fn of(name: &'a [u8], ending: &Ending) -> Shape<'a>
-        requires marks { take (length (end_of name.now)) ending.now.marks ≡ map mark_of (end_of name.now) }
-        ensures { IsOf result name.now }
+        requires marks { ending.now.marks ≡ marks_of name.now }
+        ensures { is_of result name.now ≡ true }
     {
         Shape {
             len: name.len(),
@@ -133,11 +133,11 @@ impl<'a> Shape<'a> {
         }
     }
 
-    /// Whether it is that of a name whose end was read. A yes is one; a no may also come of what stands behind the marks.
+    /// Whether it is that of a name whose end was read.
     #[inline(always)]
     fn is_of(&self, name: &[u8], ending: &Ending) -> bool
-        requires marks { take (length (end_of name.now)) ending.now.marks ≡ map mark_of (end_of name.now) }
-        ensures { IsTrue result → IsOf self.now name.now }
+        requires marks { ending.now.marks ≡ marks_of name.now }
+        ensures { result ≡ is_of self.now name.now }
     {
         self.len == name.len()
             && same_text(&self.marks, &ending.marks)
@@ -148,7 +148,7 @@ impl<'a> Shape<'a> {
 /// The number of the shape of a name whose end was read, which is put behind the others where it is a new one. The last is looked at first,
 /// since names that are declared one behind another mostly have the same.
 fn shape_number<'a>(shapes: &mut Vec<Shape<'a>>, name: &'a [u8], ending: &Ending) -> Option<u32>
-    requires marks { take (length (end_of name.now)) ending.now.marks ≡ map mark_of (end_of name.now) }
+    requires marks { ending.now.marks ≡ marks_of name.now }
     ensures kept { AreKept shapes.old.items shapes.new.items }
     ensures shape { IfSome result (IsShapeAt shapes.new.items name.now) }
 {
@@ -209,7 +209,7 @@ fn unpacked(bits: u32) -> Place
 
 /// The place of a number whose first name this is.
 fn place_of<'a>(shapes: &mut Vec<Shape<'a>>, name: &'a [u8], ending: &Ending, entry: Entry) -> u32
-    requires marks { take (length (end_of name.now)) ending.now.marks ≡ map mark_of (end_of name.now) }
+    requires marks { ending.now.marks ≡ marks_of name.now }
     ensures kept { AreKept shapes.old.items shapes.new.items }
     ensures place { IsPlaceOf shapes.new.items name.now entry (unpacked result) }
 {
@@ -223,11 +223,13 @@ fn place_of<'a>(shapes: &mut Vec<Shape<'a>>, name: &'a [u8], ending: &Ending, en
     packed(sort, shape, number)
 }
 
-/// The places of the numbers from 0 on, and the shapes of the names that stand there.
+/// The places of the numbers from 0 on, the shapes of the names that stand there, and their seats in the list of all names.
 #[derive(Drop)]
 pub(crate) struct Numbered<'a> {
     pub(crate) places: Vec<u32>,
     pub(crate) shapes: Vec<Shape<'a>>,
+    /// where the name that a place is taken by stands in the list of all names
+    pub(crate) seats: Vec<usize>,
 }
 
 impl<'a> Numbered<'a> {
@@ -237,16 +239,19 @@ impl<'a> Numbered<'a> {
     {
         let mut places = Vec::new(alloc);
         places.resize(count, FREE)?;
+        let mut seats = Vec::new(alloc);
+        seats.resize(count, 0)?;
         Ok(Numbered {
             places,
             shapes: Vec::new(alloc),
+            seats,
         })
     }
 
     /// What a name is kept with, where it stands in the place of its number.
     #[inline(always)]
     pub(crate) fn get(&self, name: &[u8]) -> Option<Entry>
-        ensures { IfSome result (IsThere self.now.shapes.items self.now.places.items name.now) }
+        ensures { result ≡ entry_there self.now.shapes.items self.now.places.items name.now }
     {
         let ending = ending_of(name);
         let Place::Taken(sort, shape, number) = unpacked(*self.places.get(ending.number)?) else {
@@ -258,30 +263,73 @@ impl<'a> Numbered<'a> {
         Some(entry_of(sort, number as usize))
     }
 
+    /// Where a name is listed, where it stands in the place of its number.
+    pub(crate) fn seat(&self, name: &[u8]) -> Option<usize>
+        ensures { result ≡ seat_there self.now.shapes.items self.now.places.items self.now.seats.items name.now }
+    {
+        let _ = self.get(name)?;
+        self.seats.get(ending_of(name).number).copied()
+    }
+
     /// Whether the place of a name's number is there and free.
     #[inline(always)]
     pub(crate) fn is_free(&self, name: &[u8]) -> bool
         ensures { result ≡ is_free_there self.now.places.items name.now }
     {
-        let Some(place) = self.places.get(ending_of(name).number) else {
+        self.is_free_at(ending_of(name).number)
+    }
+
+    /// Whether a place is there and free.
+    #[inline(always)]
+    fn is_free_at(&self, number: usize) -> bool
+        ensures { result ≡ is_free (place_at self.now.places.items number) }
+    {
+        let Some(place) = self.places.get(number) else {
             return false;
         };
         matches!(unpacked(*place), Place::Free)
     }
 
-    /// Puts a name in the place of its number, where that is there and free.
-    pub(crate) fn note(&mut self, name: &'a [u8], entry: Entry)
-        ensures others { (i : ℕ) → i ≢ number_of name.now → slice_get self.new.places.items i ≡ slice_get self.old.places.items i }
+    /// Puts a name in the place of its number, which is free, and tells whether it has room there.
+    fn take(&mut self, name: &'a [u8], ending: &Ending, entry: Entry, seat: usize) -> bool
+        requires marks { ending.now.marks ≡ marks_of name.now }
+        requires free { place_at self.old.places.items ending.now.number ≡ Some Free }
+        ensures places { (i : ℕ) → i ≢ ending.now.number → slice_get self.new.places.items i ≡ slice_get self.old.places.items i }
+        ensures seats { (i : ℕ) → i ≢ ending.now.number → slice_get self.new.seats.items i ≡ slice_get self.old.seats.items i }
         ensures kept { AreKept self.old.shapes.items self.new.shapes.items }
-        ensures noted { (p : ThePlace) → place_at self.new.places.items (number_of name.now) ≡ Some p → IsNoted self.new.shapes.items name.now entry (place_at self.old.places.items (number_of name.now)) p }
+        ensures taken { IsTrue result → IsTakenBy self.new.shapes.items name.now entry (place_at self.new.places.items ending.now.number) }
+        ensures seat { IsTrue result → slice_get self.new.seats.items ending.now.number ≡ Some seat }
+        ensures crowded { IsFalse result → place_at self.new.places.items ending.now.number ≡ Some Crowded }
+        ensures no_seat { IsFalse result → self.new.seats.items ≡ self.old.seats.items }
+    {
+        let place = if ending.number < self.seats.len() {
+            place_of(&mut self.shapes, name, ending, entry)
+        } else {
+            CROWDED
+        };
+        self.places[ending.number] = place;
+        let Place::Taken(..) = unpacked(place) else {
+            return false;
+        };
+        self.seats[ending.number] = seat;
+        true
+    }
+
+    /// Puts a name in the place of its number, where that is there and free, and tells whether it stands there now. It is listed at this seat.
+    pub(crate) fn note(&mut self, name: &'a [u8], entry: Entry, seat: usize) -> bool
+        ensures others { (i : ℕ) → i ≢ number_of name.now → slice_get self.new.places.items i ≡ slice_get self.old.places.items i }
+        ensures other_seats { (i : ℕ) → i ≢ number_of name.now → slice_get self.new.seats.items i ≡ slice_get self.old.seats.items i }
+        ensures kept { AreKept self.old.shapes.items self.new.shapes.items }
+        ensures free { IsTrue result → place_at self.old.places.items (number_of name.now) ≡ Some Free }
+        ensures taken { IsTrue result → IsTakenBy self.new.shapes.items name.now entry (place_at self.new.places.items (number_of name.now)) }
+        ensures seat { IsTrue result → slice_get self.new.seats.items (number_of name.now) ≡ Some seat }
+        ensures left { IsFalse result → IsLeft (place_at self.old.places.items (number_of name.now)) (place_at self.new.places.items (number_of name.now)) }
+        ensures no_seat { IsFalse result → self.new.seats.items ≡ self.old.seats.items }
     {
         let ending = ending_of(name);
-        if ending.number >= self.places.len() {
-            return;
+        if !self.is_free_at(ending.number) {
+            return false;
         }
-        if let Place::Free = unpacked(self.places[ending.number]) {
-            let place = place_of(&mut self.shapes, name, &ending, entry);
-            self.places[ending.number] = place;
-        }
+        self.take(name, &ending, entry, seat)
     }
 }

@@ -3,7 +3,7 @@
 //! that are forced go over them so.
 
 ghost use Rattle.std.specs.Prelude.{◌≡◌, ◌++◌, ◌∷◌, [], IfOk, IfSome, IsFalse, IsTrue, List, OnOk, Option, Some, ℕ, length, slice_get};
-ghost use Rattle.fz_base.specs.declared.value.Value.TheVariants.{Int};
+ghost use Rattle.fz_base.specs.declared.value.Value.TheVariants.{Int, Set};
 ghost use Rattle.fz_meaning.specs.declared.term.Term.TheVariants.{Fixed};
 ghost use Rattle.fz_table.specs.declared.known.Known.{Known as Row};
 ghost use Rattle.fz_data.specs.declared.parts.Array.{Array as HeldArray};
@@ -11,7 +11,7 @@ ghost use Rattle.fz_data.specs.declared.parts.Posted.{Posted as HeldPosted};
 ghost use Rattle.fz_data.specs.Sheets.{AreLaidBy, AreSheetsOf, AreSlotsOf, IsAdded, IsDefiningOf, IsGrown, IsLaidBy, IsLonger, IsSlotOf};
 
 use crate::parts::{Argument, Place, Posted};
-use fz_base::Value;
+use fz_base::{IntSet, Value};
 use fz_meaning::Term;
 use fz_table::Known;
 use std::alloc::{AllocError, Global};
@@ -70,6 +70,27 @@ fn kept(constants: &mut Vec<Value>, value: Value) -> Result<Option<Slot>, AllocE
     Ok(Some(Slot::Constant(place)))
 }
 
+/// The slot of a whole number that is kept among the constants.
+fn long_slot(constants: &mut Vec<Value>, number: i64) -> Result<Option<Slot>, AllocError>
+    ensures grown { OnOk result (IsGrown constants.old.items constants.new.items) }
+    ensures slot { IfOk result (λ o. IfSome o (IsSlotOf constants.new.items (Fixed (Int number)))) }
+{
+    kept(constants, Value::Int(number))
+}
+
+/// The slot of a set, which is kept among the constants.
+fn set_slot(
+    alloc: Global,
+    constants: &mut Vec<Value>,
+    set: &IntSet,
+) -> Result<Option<Slot>, AllocError>
+    ensures grown { OnOk result (IsGrown constants.old.items constants.new.items) }
+    ensures slot { IfOk result (λ o. IfSome o (IsSlotOf constants.new.items (Fixed (Set set.now)))) }
+{
+    let copy = set.copy(alloc).map_err(|_| AllocError)?;
+    kept(constants, Value::Set(copy))
+}
+
 /// The slot of a whole number.
 #[inline(always)]
 fn number_slot(constants: &mut Vec<Value>, number: i64) -> Result<Option<Slot>, AllocError>
@@ -78,12 +99,13 @@ fn number_slot(constants: &mut Vec<Value>, number: i64) -> Result<Option<Slot>, 
 {
     match i32::try_from(number) {
         Ok(short) => Ok(Some(Slot::Number(short))),
-        Err(_) => kept(constants, Value::Int(number)),
+        Err(_) => long_slot(constants, number),
     }
 }
 
 /// The slot of a scalar; none where there are more variables or constants than 32 bits count. It is inlined so that a slot isn't written to
-/// memory in parts and read there whole, for which the processor waits.
+/// memory in parts and read there whole, for which the processor waits; what makes a value has a function of its own, so that no room for
+/// one is cleared where none is made.
 #[inline(always)]
 fn slot_of(
     alloc: Global,
@@ -97,10 +119,7 @@ fn slot_of(
         Term::Var(number) => Ok(small(*number).map(Slot::Variable)),
         Term::Fixed(Value::Int(number)) => number_slot(constants, *number),
         Term::Fixed(Value::Bool(truth)) => Ok(Some(Slot::Truth(*truth))),
-        Term::Fixed(Value::Set(set)) => {
-            let copy = set.copy(alloc).map_err(|_| AllocError)?;
-            kept(constants, Value::Set(copy))
-        }
+        Term::Fixed(Value::Set(set)) => set_slot(alloc, constants, set),
     }
 }
 
@@ -285,7 +304,7 @@ pub(crate) struct Sheets {
 const SHEETS: usize = 128;
 
 /// One of so many constraints, or fewer, has the same row, where rows are nearly equally frequent.
-const USUAL: usize = 100;
+const USUAL: usize = 50;
 
 /// The sheet of a row.
 #[inline]
