@@ -4,7 +4,10 @@ use Rattle.std.specs.Bool.{⊤}
 use Rattle.std.specs.List.{AllByRecursion, find, fold, list_any}
 use Rattle.std.specs.Option.{option_or}
 use Rattle.std.specs.Map.{lookup}
+use Rattle.std.proofs.lemmas.List.{take_all}
 use Rattle.std.proofs.lemmas.List.Folds.{find-append}
+use Rattle.std.proofs.lemmas.List.Sums.{fold_more}
+use Rattle.std.proofs.lemmas.Option.{slice_get-get_or, slice_get_within}
 use Rattle.std.proofs.lemmas.Bool.{eqb-true, eqb-false, ltb-false}
 use Rattle.std.proofs.lemmas.Slice.Eq.{bytes_eq-Decides}
 use Rattle.fz_meaning.specs.declared.term.Term.{Term}
@@ -16,7 +19,7 @@ use Rattle.fz_data.specs.declared.numbered.Shape.{Shape}
 use Rattle.fz_data.specs.Naming.{has_text, stands_for, IsAmongTerms}
 use Rattle.fz_data.specs.Names.{entry_stands, is_among_terms, is_key}
 use Rattle.fz_data.specs.Numbered.{end_of, entry_as, entry_at, entry_of, entry_there, head_of, is_digit, is_free, is_free_there, is_of, mark_of, marks_from, marks_of, number_of, place_at, seat_if, seat_there, unpacked, with_byte, AreKept, IsAmongOthers, IsLeft, IsListed, IsNumbered, IsTakenBy, StandsAt}
-use Rattle.fz_data.proofs.NameTable.{found_among, looked_up}
+use Rattle.fz_data.proofs.NameTable.{at_end, found_among, get_front, looked_up}
 
 -- ---- names of a shape are told by their number
 
@@ -120,27 +123,11 @@ marks_more (suc n) zero b (c ∷ bs) lt at = let same : b ≡ c = cc in ap (λ d
 marks_more (suc n) (suc p) b (c ∷ bs) lt at = ap (λ ms. mark_of c ∷ ms) (marks_more n p b bs (omega (arith, lt)) at)
 
 -- one more byte of the end is read
-byte_there : (bs : List ℕ) (p : ℕ) → p < length bs → slice_get bs p ≡ Some (get_or bs p 0)
-byte_there [] p lt = absurd (omega (arith, lt))
-byte_there (b ∷ bs) zero lt = refl
-byte_there (b ∷ bs) (suc p) lt = byte_there bs p (omega (arith, lt))
-
-number_more : (n p : ℕ) (bs : List ℕ) → p < length bs → fold with_byte n (take (suc p) bs) ≡ with_byte (fold with_byte n (take p bs)) (get_or bs p 0)
-number_more n p [] lt = absurd (omega (arith, lt))
-number_more n zero (b ∷ bs) lt = refl
-number_more n (suc p) (b ∷ bs) lt = number_more (with_byte n b) p bs (omega (arith, lt))
-
-take_all : (bs : List ℕ) (n : ℕ) → n ≡ length bs → take n bs ≡ bs
-take_all [] zero e = refl
-take_all [] (suc n) e = cc
-take_all (b ∷ bs) zero e = cc
-take_all (b ∷ bs) (suc n) e = ap (λ cs. b ∷ cs) (take_all bs n (omega (arith, e)))
-
 module _ (x : List ℕ) (s : ℕ) (before : s ≡ length x - 8) where
   end_read : take (length x - s) (drop s x) ≡ end_of x
   end_read =
-      let long : length x - s ≡ length (drop s x) = sym (length-drop s x) in
-      take_all (drop s x) (length x - s) long ∙ ap (λ i. drop i x) before
+      let long = length-drop s x in
+      take_all (length x - s) (drop s x) (omega (arith, long)) ∙ ap (λ i. drop i x) before
 
   pub one_read : (p n r m : ℕ) (ms : List ℕ) → p < length (take (length x - s) (drop s x)) → n ≡ fold with_byte 0 (take p (end_of x)) → ms ≡ marks_from 8 (take p (end_of x))
       → r ≡ with_byte n (get_or (take (length x - s) (drop s x)) p 0) → m ≡ mark_of (get_or (take (length x - s) (drop s x)) p 0)
@@ -150,8 +137,8 @@ module _ (x : List ℕ) (s : ℕ) (before : s ≡ length x - 8) where
       let within : p < length (end_of x) = subst (λ bs. p < length bs) end_read lt in
       let short : p < 8 = let is = end_short x in omega (arith, within, is) in
       let byte : get_or (take (length x - s) (drop s x)) p 0 ≡ get_or (end_of x) p 0 = ap (λ bs. get_or bs p 0) end_read in (
-        took ∙ (λ i. with_byte (number i) (byte i)) ∙ sym (number_more 0 p (end_of x) within) ∙ ap (λ q. fold with_byte 0 (take q (end_of x))) (sym next),
-        (λ i. slice_set (marks i) p ((mark ∙ ap mark_of byte) i)) ∙ marks_more 8 p (get_or (end_of x) p 0) (end_of x) short (byte_there (end_of x) p within) ∙ ap (λ q. marks_from 8 (take q (end_of x))) (sym next),
+        took ∙ (λ i. with_byte (number i) (byte i)) ∙ sym (fold_more with_byte 0 (end_of x) p 0 within),
+        (λ i. slice_set (marks i) p ((mark ∙ ap mark_of byte) i)) ∙ marks_more 8 p (get_or (end_of x) p 0) (end_of x) short (slice_get-get_or (end_of x) p 0 within) ∙ ap (λ q. marks_from 8 (take q (end_of x))) (sym next),
       )
 
 -- a name of a shape has its length, head and marks
@@ -208,19 +195,19 @@ none_numbered ks os ss ps js n empty none all x = by_place (place_at ps (number_
 
 -- ---- one more name
 
-pub not_found : (x : List ℕ) (ks : List Kept) → list_any (is_key x) ks ≡ false → find (is_key x) ks ≡ None
-not_found x [] e = refl
-not_found x (k ∷ ks) e = (elim (is_key x k) as (λ b. (b || list_any (is_key x) ks) ≡ false → cond b (Some k) (find (is_key x) ks) ≡ None) [
-  | true ↦ λ e. cc
-  | false ↦ λ later. not_found x ks later
-]) e
-
 pub any_found : (x : List ℕ) (ks : List Kept) → list_any (is_key x) ks ≡ is_some (find (is_key x) ks)
 any_found x [] = refl
 any_found x (k ∷ ks) = elim (is_key x k) as (λ b. (b || list_any (is_key x) ks) ≡ is_some (cond b (Some k) (find (is_key x) ks))) [
   | true ↦ refl
   | false ↦ any_found x ks
 ]
+
+pub not_found : (x : List ℕ) (ks : List Kept) → list_any (is_key x) ks ≡ false → find (is_key x) ks ≡ None
+not_found x ks absent = by_kept (find (is_key x) ks) (sym (any_found x ks) ∙ absent)
+  where
+    by_kept : (o : Option Kept) → is_some o ≡ false → o ≡ None
+    by_kept None is = refl
+    by_kept (Some k) is = cc
 
 -- a list of names with one more behind
 module _ (k : Kept) where
@@ -250,13 +237,7 @@ module _ (k : Kept) where
       ∙ ap (λ b. cond b (Some k) None) ((bytes_eq-Decides k.bytes.now k.bytes.now).1 refl)
 
   front : (ks : List Kept) (i : ℕ) (j : Kept) → slice_get ks i ≡ Some j → slice_get (ks ++ k ∷ []) i ≡ Some j
-  front [] i j at = cc
-  front (y ∷ ks) zero j at = at
-  front (y ∷ ks) (suc i) j at = front ks i j at
-
-  behind : (ks : List Kept) → slice_get (ks ++ k ∷ []) (length ks) ≡ Some k
-  behind [] = refl
-  behind (y ∷ ks) = behind ks
+  front ks i j at = get_front ks (k ∷ []) i (slice_get_within ks i j at) ∙ at
 
   still_listed : (x : List ℕ) (ks : List Kept) (js : List ℕ) (e : Entry) → IsListed ks js x e → IsListed (ks ++ k ∷ []) js x e
   still_listed x ks js e h = (h.0, h.1, still x ks h.0 h.2, h.3, h.4, front ks h.1 h.0 h.5)
@@ -300,7 +281,7 @@ module _ (ks os : List Kept) (k : Kept) (ts : List Shape) (is : List ℕ) where
       here : is_of h.0.0 x ≡ true → IsListed (ks ++ k ∷ []) is x (entry_of s l)
       here of_shape =
           let same : x ≡ k.bytes.now = same_names h.0.0 x k.bytes.now of_shape h.0.2 number in
-          (k, length ks, ap (λ y. find (is_key y) (ks ++ k ∷ [])) same ∙ new_found k ks absent, sym h.1, ap (slice_get is) number ∙ seat, behind k ks)
+          (k, length ks, ap (λ y. find (is_key y) (ks ++ k ∷ [])) same ∙ new_found k ks absent, sym h.1, ap (slice_get is) number ∙ seat, at_end ks k)
 
       elsewhere : is_of h.0.0 x ≡ false → IsAmongOthers (ks ++ k ∷ []) os x
       elsewhere other =
