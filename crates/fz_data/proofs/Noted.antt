@@ -7,7 +7,7 @@ use Rattle.std.specs.Map.{lookup}
 use Rattle.std.proofs.lemmas.List.{take_all}
 use Rattle.std.proofs.lemmas.List.Folds.{find-append}
 use Rattle.std.proofs.lemmas.List.Sums.{fold_more}
-use Rattle.std.proofs.lemmas.Option.{slice_get_read, slice_get_within}
+use Rattle.std.proofs.lemmas.Option.{slice_get-get_or, slice_get_within}
 use Rattle.std.proofs.lemmas.Bool.{eqb-true, eqb-false, ltb-false}
 use Rattle.std.proofs.lemmas.Slice.Eq.{bytes_eq-Decides}
 use Rattle.fz_meaning.specs.declared.term.Term.{Term}
@@ -129,17 +129,16 @@ module _ (x : List ℕ) (s : ℕ) (before : s ≡ length x - 8) where
       let long = length-drop s x in
       take_all (length x - s) (drop s x) (omega (arith, long)) ∙ ap (λ i. drop i x) before
 
-  pub one_read : (p n r m b : ℕ) (ms : List ℕ) → p < length (take (length x - s) (drop s x)) → b ≡ get_or (take (length x - s) (drop s x)) p b
-      → n ≡ fold with_byte 0 (take p (end_of x)) → ms ≡ marks_from 8 (take p (end_of x)) → r ≡ with_byte n b → m ≡ mark_of b
+  pub one_read : (p n r m : ℕ) (ms : List ℕ) → p < length (take (length x - s) (drop s x)) → n ≡ fold with_byte 0 (take p (end_of x)) → ms ≡ marks_from 8 (take p (end_of x))
+      → r ≡ with_byte n (get_or (take (length x - s) (drop s x)) p 0) → m ≡ mark_of (get_or (take (length x - s) (drop s x)) p 0)
       → (r ≡ fold with_byte 0 (take (p + 1) (end_of x))) × (slice_set ms p m ≡ marks_from 8 (take (p + 1) (end_of x)))
-  one_read p n r m b ms lt is number marks took mark =
+  one_read p n r m ms lt number marks took mark =
       let next : p + 1 ≡ suc p = omega arith in
       let within : p < length (end_of x) = subst (λ bs. p < length bs) end_read lt in
-      let short : p < 8 = let few = end_short x in omega (arith, within, few) in
-      let byte : b ≡ get_or (end_of x) p b = is ∙ ap (λ bs. get_or bs p b) end_read in
-      let there : slice_get (end_of x) p ≡ Some b = slice_get_read (end_of x) (length (end_of x)) p b refl within byte in (
-        took ∙ (λ i. with_byte (number i) (byte i)) ∙ sym (fold_more with_byte 0 (end_of x) p b within),
-        (λ i. slice_set (marks i) p (mark i)) ∙ marks_more 8 p b (end_of x) short there ∙ ap (λ q. marks_from 8 (take q (end_of x))) (sym next),
+      let short : p < 8 = let is = end_short x in omega (arith, within, is) in
+      let byte : get_or (take (length x - s) (drop s x)) p 0 ≡ get_or (end_of x) p 0 = ap (λ bs. get_or bs p 0) end_read in (
+        took ∙ (λ i. with_byte (number i) (byte i)) ∙ sym (fold_more with_byte 0 (end_of x) p 0 within),
+        (λ i. slice_set (marks i) p ((mark ∙ ap mark_of byte) i)) ∙ marks_more 8 p (get_or (end_of x) p 0) (end_of x) short (slice_get-get_or (end_of x) p 0 within) ∙ ap (λ q. marks_from 8 (take q (end_of x))) (sym next),
       )
 
 -- a name of a shape has its length, head and marks

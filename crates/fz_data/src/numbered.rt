@@ -90,13 +90,9 @@ fn ending_of(name: &[u8]) -> Ending
     let mut number = 0;
     let mut marks = [0; LAST];
     let end = &name[name.len().saturating_sub(LAST)..];
-    // Eight steps at most, which the compiler sees so and lays out one by one, with the marks in a register.
-    for place in 0..LAST {
-        let Some(byte) = end.get(place) else {
-            break;
-        };
-        number = with_byte(number, *byte);
-        marks[place] = mark_of(*byte);
+    for place in 0..end.len() {
+        number = with_byte(number, end[place]);
+        marks[place] = mark_of(end[place]);
     }
     Ending { number, marks }
 }
