@@ -19,6 +19,7 @@ use Rattle.fz_syntax.specs.Tree.NoteArg.{OneBasic}
 use Rattle.fz_syntax.specs.Tree.NoteBasic.{Inner}
 use Rattle.std.specs.List.{AllByRecursion}
 use Rattle.fz_data.specs.Layout.{IsKeptAs}
+use Rattle.fz_data.specs.Fitting.{kinds_among}
 use Rattle.fz_meaning.specs.Located.Basic.{Lit, Named}
 use Rattle.fz_meaning.specs.Located.Expr.{One, Several}
 use Rattle.fz_meaning.specs.Meaning.{Place, Argument, Posted, Aim, first_some, is_term_of, admits_all}
@@ -143,10 +144,15 @@ new_points s (items.Parameter v) = []
 new_points s (items.Variable v) = points.Domain (length s.variables.items) ∷ cond (is_some v.definition) (points.Definition (length s.variables.items) ∷ []) []
 new_points s (items.Array x) = cond (has_elements_point x) (points.Elements (length s.arrays.items) ∷ []) []
 
+-- the kinds of the variables stand side by side
+abbrev pub HasKinds : Scope → Type 0
+HasKinds s = s.kinds.items ≡ kinds_among s.variables.items
+
 -- the scope with what the name declares
 pub record IsAdded (old : Scope) (name : List ℕ) (item : Item) (new : Scope) : Type 0 where
   pub names : new.names ≡ old.names ++ (name, kept_with old item) ∷ []
   pub variables : new.variables.items ≡ old.variables.items ++ new_variables item
+  pub kinds : new.kinds.items ≡ old.kinds.items ++ kinds_among (new_variables item)
   pub arrays : new.arrays.items ≡ old.arrays.items ++ new_arrays item
   pub points : new.points.items ≡ old.points.items ++ new_points old item
 

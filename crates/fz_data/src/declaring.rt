@@ -6,7 +6,7 @@ ghost use Rattle.fz_meaning.specs.Names.{differs_in_length, kind_of_base, litera
 ghost use Rattle.fz_meaning.specs.Located.Expr.{One};
 ghost use Rattle.fz_data.specs.Parts.{variable_view};
 ghost use Rattle.fz_meaning.specs.View.{located_basic, located_decl, located_expr, located_value};
-ghost use Rattle.fz_data.specs.Scope.{IsArrayOf, IsItem, Tells, decl_fault_in, definition_in, fault_in, faults_in, name_fault_in};
+ghost use Rattle.fz_data.specs.Scope.{HasKinds, IsArrayOf, IsItem, Tells, decl_fault_in, definition_in, fault_in, faults_in, name_fault_in};
 ghost use Rattle.fz_data.specs.declared.scope.Scope.{Scope};
 
 use crate::parts::{Array, Variable};
@@ -69,6 +69,7 @@ fn definition_of(
     kind: Kind,
     value: &Option<Expr<'_>>,
 ) -> Result<Option<Term>, ModelError>
+    requires kinds { HasKinds scope.now }
     ensures clean { IfOk result (λ _. faults_in scope.now (Some kind) (parts (located_value value.now)) ≡ None) }
     ensures term { IfOk result (λ t. t ≡ definition_in scope.now (located_value value.now)) }
     ensures tells { IfErr result (λ e. Tells e (faults_in scope.now (Some kind) (parts (located_value value.now)))) }
@@ -86,6 +87,7 @@ fn expression_definition(
     kind: Kind,
     expression: &Expr<'_>,
 ) -> Result<Option<Term>, ModelError>
+    requires kinds { HasKinds scope.now }
     ensures clean { IfOk result (λ _. faults_in scope.now (Some kind) (parts (Some (located_expr expression.now))) ≡ None) }
     ensures term { IfOk result (λ t. t ≡ definition_in scope.now (Some (located_expr expression.now))) }
     ensures tells { IfErr result (λ e. Tells e (faults_in scope.now (Some kind) (parts (Some (located_expr expression.now))))) }
@@ -151,6 +153,7 @@ fn expression_value(alloc: Global, kind: Kind, expression: &Expr<'_>) -> Result<
 
 /// A declared array.
 fn array_of<'a>(alloc: Global, scope: &Scope<'a>, decl: &Decl<'a>) -> Result<Array<'a>, ModelError>
+    requires kinds { HasKinds scope.now }
     ensures clean { IfOk result (λ _. faults_in scope.now (Some (kind_of_base (located_decl decl.now).base)) (parts (located_decl decl.now).value) ≡ None) }
     ensures array { IfOk result (λ x. IsArrayOf scope.now (located_decl decl.now) x) }
     ensures tells { IfErr result (λ e. Tells e (faults_in scope.now (Some (kind_of_base (located_decl decl.now).base)) (parts (located_decl decl.now).value))) }
@@ -173,6 +176,7 @@ fn variable_of<'a>(
     scope: &Scope<'a>,
     decl: &Decl<'a>,
 ) -> Result<Variable<'a>, ModelError>
+    requires kinds { HasKinds scope.now }
     ensures clean { IfOk result (λ _. faults_in scope.now (Some (kind_of_base (located_decl decl.now).base)) (parts (located_decl decl.now).value) ≡ None) }
     ensures variable { IfOk result (λ v. variable_view v ≡ variable_declared (located_decl decl.now)) }
     ensures definition { IfOk result (λ v. v.definition ≡ definition_in scope.now (located_decl decl.now).value) }
@@ -195,6 +199,7 @@ fn unnamed_item<'a>(
     scope: &Scope<'a>,
     decl: &Decl<'a>,
 ) -> Result<Item<'a>, ModelError>
+    requires kinds { HasKinds scope.now }
     ensures clean { IfOk result (λ _. faults_in scope.now (Some (kind_of_base (located_decl decl.now).base)) (parts (located_decl decl.now).value) ≡ None) }
     ensures item { IfOk result (λ x. IsItem scope.now (located_decl decl.now) x) }
     ensures tells { IfErr result (λ e. Tells e (faults_in scope.now (Some (kind_of_base (located_decl decl.now).base)) (parts (located_decl decl.now).value))) }
@@ -217,6 +222,7 @@ pub(crate) fn item_of<'a>(
     scope: &Scope<'a>,
     decl: &Decl<'a>,
 ) -> Result<Item<'a>, ModelError>
+    requires kinds { HasKinds scope.now }
     ensures clean { IfOk result (λ _. decl_fault_in scope.now (located_decl decl.now) ≡ None) }
     ensures item { IfOk result (λ x. IsItem scope.now (located_decl decl.now) x) }
     ensures tells { IfErr result (λ e. Tells e (decl_fault_in scope.now (located_decl decl.now))) }

@@ -6,14 +6,13 @@ ghost use Rattle.fz_meaning.specs.Names.{HasNoFault, IsInReadingOrder, model_of}
 ghost use Rattle.fz_meaning.specs.View.{TellsFirstFault, located, located_decl};
 ghost use Rattle.fz_scope.specs.FirstFault.{decls_fault, first_fault};
 ghost use Rattle.fz_data.specs.Naming.{own_terms};
-ghost use Rattle.fz_data.specs.Scope.{Tells};
+ghost use Rattle.fz_data.specs.Scope.{HasKinds, Tells};
 ghost use Rattle.fz_data.specs.Stands.{StandsFor};
 
 use crate::declaring::item_of;
 use crate::model::Model;
 use crate::names::Names;
 use crate::posting::{all_posted, goal_of};
-use crate::rows::kinds_of;
 use crate::scope::{Scope, add};
 use fz_meaning::{ModelError, Term};
 use fz_syntax::{Ast, Decl};
@@ -23,6 +22,7 @@ use std::alloc::{AllocError, Global};
 fn empty<'a>(alloc: Global, names: usize) -> Result<Scope<'a>, ModelError>
     ensures names { IfOk result (λ s. s.names ≡ []) }
     ensures variables { IfOk result (λ s. s.variables.items ≡ []) }
+    ensures kinds { IfOk result HasKinds }
     ensures arrays { IfOk result (λ s. s.arrays.items ≡ []) }
     ensures points { IfOk result (λ s. s.points.items ≡ []) }
     ensures memory { IfErr result (λ e. e ≡ Memory) }
@@ -30,6 +30,7 @@ fn empty<'a>(alloc: Global, names: usize) -> Result<Scope<'a>, ModelError>
     Ok(Scope {
         names: Names::with_capacity(alloc, names)?,
         variables: Vec::with_capacity(alloc, names)?,
+        kinds: Vec::with_capacity(alloc, names)?,
         arrays: Vec::new(alloc),
         points: Vec::with_capacity(alloc, names)?,
     })
@@ -39,6 +40,7 @@ fn empty<'a>(alloc: Global, names: usize) -> Result<Scope<'a>, ModelError>
 fn declared<'a>(alloc: Global, decls: &[Decl<'a>]) -> Result<Scope<'a>, ModelError>
     ensures clean { IfOk result (λ _. decls_fault [] (map located_decl decls.now) ≡ None) }
     ensures stands { IfOk result (λ s. StandsFor (map located_decl decls.now) (map located_decl decls.now) s) }
+    ensures kinds { IfOk result HasKinds }
     ensures tells { IfErr result (λ e. Tells e (decls_fault [] (map located_decl decls.now))) }
 {
     let mut scope = empty(alloc, decls.len())?;
@@ -67,8 +69,7 @@ fn read<'a>(alloc: Global, ast: &Ast<'a>) -> Result<Model<'a>, ModelError>
     ensures tells { IfErr result (λ e. Tells e (first_fault (located ast.now))) }
 {
     let scope = declared(alloc, &ast.decls)?;
-    let kinds = kinds_of(alloc, &scope.variables)?;
-    let constraints = all_posted(alloc, &scope, &kinds, &ast.constraints)?;
+    let constraints = all_posted(alloc, &scope, &ast.constraints)?;
     let goal = goal_of(alloc, &scope, &ast.solve.goal)?;
     let terms = variable_terms(alloc, scope.variables.len())?;
     Ok(Model::assembled(

@@ -204,6 +204,7 @@ impl<'a> Model<'a> {
         let Scope {
             names,
             variables,
+            kinds: _,
             arrays,
             points,
         } = scope;

@@ -9,17 +9,16 @@ ghost use Rattle.fz_meaning.specs.View.{located_basic, located_constraint, locat
 ghost use Rattle.fz_syntax.specs.View.{bare_basic, bare_note, bare_notes};
 ghost use Rattle.fz_syntax.specs.Tree.NoteArg.{OneBasic};
 ghost use Rattle.fz_table.specs.Known.{known_row};
-ghost use Rattle.fz_data.specs.Fitting.{kinds_among};
 ghost use Rattle.fz_data.specs.Layout.{AreCited, CitesArrays, IsCited};
 ghost use Rattle.fz_data.specs.Parts.{argument_view, goal_view, place_view, posted_view};
 ghost use Rattle.fz_data.specs.Sheets.{AreSheetsOf};
-ghost use Rattle.fz_data.specs.Scope.{AreKept, Tells, aim_in, argument_fault, argument_in, constraint_fault_in, defined_in, bare_name_of, fault_in, faults_in, inner_of, only_arg, place_in, place_of_part, posted_in, variable_at_term, variable_by_place};
+ghost use Rattle.fz_data.specs.Scope.{AreKept, HasKinds, Tells, aim_in, argument_fault, argument_in, constraint_fault_in, defined_in, bare_name_of, fault_in, faults_in, inner_of, only_arg, place_in, place_of_part, posted_in, variable_at_term, variable_by_place};
 ghost use Rattle.fz_meaning.specs.Located.Basic.{Named};
 ghost use Rattle.fz_syntax.specs.View.{arg_list, bare_arg};
 
 use crate::names::Standing;
 use crate::parts::{Argument, ArrayName, Goal, Place, Posted};
-use crate::rows::{Cited, row_of};
+use crate::rows::row_of;
 use crate::scope::{Scope, term_of};
 use crate::sheet::Sheets;
 use crate::values::{copied, literal_value};
@@ -250,11 +249,10 @@ pub(crate) struct Constraints<'a> {
 pub(crate) fn all_posted<'a>(
     alloc: Global,
     scope: &Scope<'a>,
-    kinds: &[Kind],
     constraints: &[Constraint<'a>],
 ) -> Result<Constraints<'a>, ModelError>
     requires kept { AreKept scope.now }
-    requires kinds { kinds.now ≡ kinds_among scope.now.variables.items }
+    requires kinds { HasKinds scope.now }
     ensures known { IfOk result (λ _. first_some (constraint_fault_in scope.now) (map located_constraint constraints.now) ≡ None) }
     ensures posted { IfOk result (λ cs. map (posted_view scope.now.variables.items scope.now.arrays.items) cs.posted.items ≡ map (posted_in scope.now) (map located_constraint constraints.now)) }
     ensures rows { IfOk result (λ cs. map (option_map known_row) cs.known.items ≡ map row_of (map (posted_view scope.now.variables.items scope.now.arrays.items) cs.posted.items)) }
@@ -262,11 +260,7 @@ pub(crate) fn all_posted<'a>(
     ensures sheets { IfOk result (λ cs. AreSheetsOf scope.now.arrays.items cs.posted.items cs.known.items cs.sheets) }
     ensures tells { IfErr result (λ e. Tells e (first_some (constraint_fault_in scope.now) (map located_constraint constraints.now))) }
 {
-    let cited = Cited {
-        variables: &scope.variables,
-        kinds,
-        arrays: &scope.arrays,
-    };
+    let cited = scope.cited();
     let mut found = Vec::with_capacity(alloc, constraints.len())?;
     let mut known = Vec::with_capacity(alloc, constraints.len())?;
     let mut sheets = Sheets::with_capacity(alloc, constraints.len())?;
@@ -290,6 +284,7 @@ pub(crate) fn goal_of(
     scope: &Scope<'_>,
     goal: &TreeGoal<'_>,
 ) -> Result<Goal, ModelError>
+    requires kinds { HasKinds scope.now }
     ensures clean { IfOk result (λ _. faults_in scope.now (Some IntKind) (goal_parts (located_goal goal.now)) ≡ None) }
     ensures aim { IfOk result (λ g. goal_view g ≡ aim_in scope.now (located_goal goal.now)) }
     ensures tells { IfErr result (λ e. Tells e (faults_in scope.now (Some IntKind) (goal_parts (located_goal goal.now)))) }

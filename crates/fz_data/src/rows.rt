@@ -1,7 +1,8 @@
 //! The row of the table of builtins that a constraint fits.
 
-ghost use Rattle.std.specs.Prelude.{◌≡◌, IfOk, map, option_map};
+ghost use Rattle.std.specs.Prelude.{◌≡◌, map, option_map};
 ghost use Rattle.std.specs.List.{list_all};
+ghost use Rattle.fz_meaning.specs.declared.term.Term.TheVariants.{Var};
 ghost use Rattle.fz_meaning.specs.Meaning.{fits, has_shape, have_shapes, row_of};
 ghost use Rattle.fz_table.specs.Known.{known_row, shape_of};
 ghost use Rattle.fz_data.specs.Parts.{argument_view, kind_of_term, posted_view};
@@ -11,7 +12,6 @@ use crate::parts::{Argument, Array, Place, Posted, Variable};
 use crate::values::{kind_of, same_kind};
 use fz_meaning::{Kind, Term};
 use fz_table::{Known, Shape};
-use std::alloc::{AllocError, Global};
 
 /// What constraints cite: the variables, their kinds, and the arrays. The kinds stand side by side, a byte each, so that the look-ups of
 /// all constraints find them near.
@@ -21,17 +21,6 @@ pub(crate) struct Cited<'m, 'a> {
     pub(crate) kinds: &'m [Kind],
     pub(crate) arrays: &'m [Array<'a>],
     ghost kinds_are: { kinds.now ≡ kinds_among variables.now },
-}
-
-/// The kinds of the variables, in their order. It refuses only where memory runs out.
-pub(crate) fn kinds_of(alloc: Global, variables: &[Variable<'_>]) -> Result<Vec<Kind>, AllocError>
-    ensures { IfOk result (λ ks. ks.items ≡ kinds_among variables.now) }
-{
-    let mut kinds = Vec::with_capacity(alloc, variables.len())?;
-    for variable in variables {
-        kinds.push(variable.kind)?;
-    }
-    Ok(kinds)
 }
 
 /// The row of the table that a constraint fits, by its name, the kinds of its arguments and, where the row adds up products, the lengths
@@ -145,15 +134,24 @@ fn array_kind(number: usize, arrays: &[Array<'_>]) -> Kind
     }
 }
 
+/// The kind of the variable of a number.
 #[inline]
-fn term_kind(term: &Term, cited: &Cited<'_, '_>) -> Kind
+pub(crate) fn variable_kind(number: usize, cited: &Cited<'_, '_>) -> Kind
+    ensures { result ≡ kind_of_term cited.now.variables.now (Var number) }
+{
+    match cited.kinds.get(number) {
+        Some(kind) => *kind,
+        None => Kind::Int,
+    }
+}
+
+/// The kind of a scalar.
+#[inline]
+pub(crate) fn term_kind(term: &Term, cited: &Cited<'_, '_>) -> Kind
     ensures { result ≡ kind_of_term cited.now.variables.now term.now }
 {
     match term {
-        Term::Var(number) => match cited.kinds.get(*number) {
-            Some(kind) => *kind,
-            None => Kind::Int,
-        },
+        Term::Var(number) => variable_kind(*number, cited),
         Term::Fixed(value) => kind_of(value),
     }
 }

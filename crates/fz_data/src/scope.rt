@@ -10,21 +10,24 @@ ghost use Rattle.fz_syntax.specs.View.{bare_literal_kind};
 ghost use Rattle.fz_data.specs.Parts.{kind_of_term};
 ghost use Rattle.fz_data.specs.declared.scope.Item.TheVariants.{Parameter, Variable as item_variable, Array as item_array};
 ghost use Rattle.fz_meaning.specs.declared.error.ModelError.TheVariants.{Memory};
-ghost use Rattle.fz_data.specs.Scope.{IsAdded, Tells, fault_in, faults_in, has_elements_point, IsNewName, place_fault, place_in, term_at, term_in};
+ghost use Rattle.fz_data.specs.Scope.{HasKinds, IsAdded, Tells, fault_in, faults_in, has_elements_point, IsNewName, place_fault, place_in, term_at, term_in};
 
 use crate::names::{Names, Standing};
 use crate::parts::{Array, DeclaredPoint, Variable};
-use crate::values::{copied, kind_of, literal_kind, literal_value, same_kind};
+use crate::rows::{Cited, term_kind, variable_kind};
+use crate::values::{copied, literal_kind, literal_value, same_kind};
 use fz_base::Value;
 use fz_meaning::{Domain, Kind, ModelError, Term};
 use fz_syntax::{Basic, Literal, Name};
 use std::alloc::{AllocError, Global};
 
-/// What was declared so far: the names in source order, the variables and arrays by their numbers, and the points.
+/// What was declared so far: the names in source order, the variables and arrays by their numbers, and the points. The kinds of the
+/// variables stand side by side besides, a byte each, so that who looks one up finds it near.
 #[derive(Drop)]
 pub(crate) struct Scope<'a> {
     pub(crate) names: Names<'a>,
     pub(crate) variables: Vec<Variable<'a>>,
+    pub(crate) kinds: Vec<Kind>,
     pub(crate) arrays: Vec<Array<'a>>,
     pub(crate) points: Vec<DeclaredPoint>,
 }
@@ -37,24 +40,19 @@ pub(crate) enum Item<'a> {
     Array(Array<'a>),
 }
 
-/// The kind of the variable of a number.
-#[inline]
-fn variable_kind(variables: &[Variable<'_>], number: usize) -> Kind
-    ensures { result ≡ kind_of_term variables.now (Var number) }
-{
-    match variables.get(number) {
-        Some(variable) => variable.kind,
-        None => Kind::Int,
-    }
-}
-
-/// The kind of a scalar among these variables.
-fn scalar_kind(variables: &[Variable<'_>], term: &Term) -> Kind
-    ensures { result ≡ kind_of_term variables.now term.now }
-{
-    match term {
-        Term::Var(number) => variable_kind(variables, *number),
-        Term::Fixed(value) => kind_of(value),
+impl<'a> Scope<'a> {
+    /// What constraints and definitions cite.
+    #[inline(always)]
+    pub(crate) fn cited(&self) -> Cited<'_, 'a>
+        requires kinds { HasKinds self.now }
+        ensures variables { result.variables.now ≡ self.now.variables.items }
+        ensures arrays { result.arrays.now ≡ self.now.arrays.items }
+    {
+        Cited {
+            variables: &self.variables,
+            kinds: &self.kinds,
+            arrays: &self.arrays,
+        }
     }
 }
 
@@ -78,6 +76,7 @@ fn named_term(
     wanted: Kind,
     name: &Name<'_>,
 ) -> Result<Term, ModelError>
+    requires kinds { HasKinds scope.now }
     ensures of_kind { IfOk result (λ _. place_fault (Some wanted) (place_in scope.now name.now.text.now) name.now.span ≡ None) }
     ensures term { IfOk result (λ t. t ≡ term_at (place_in scope.now name.now.text.now)) }
     ensures tells { IfErr result (λ e. Tells e (place_fault (Some wanted) (place_in scope.now name.now.text.now) name.now.span)) }
@@ -86,13 +85,13 @@ fn named_term(
         None => Err(ModelError::UnknownName(name.span)),
         Some(Standing::Array(_)) => Err(ModelError::Kind(name.span)),
         Some(Standing::Variable(number)) => {
-            if !same_kind(variable_kind(&scope.variables, number), wanted) {
+            if !same_kind(variable_kind(number, &scope.cited()), wanted) {
                 return Err(ModelError::Kind(name.span));
             }
             Ok(Term::Var(number))
         }
         Some(Standing::Parameter(term)) => {
-            if !same_kind(scalar_kind(&scope.variables, term), wanted) {
+            if !same_kind(term_kind(term, &scope.cited()), wanted) {
                 return Err(ModelError::Kind(name.span));
             }
             Ok(copied(alloc, term)?)
@@ -108,6 +107,7 @@ pub(crate) fn term_of(
     wanted: Kind,
     part: &Basic<'_>,
 ) -> Result<Term, ModelError>
+    requires kinds { HasKinds scope.now }
     ensures of_kind { IfOk result (λ _. fault_in scope.now (Some wanted) (located_basic part.now) ≡ None) }
     ensures term { IfOk result (λ t. t ≡ term_in scope.now (located_basic part.now)) }
     ensures tells { IfErr result (λ e. Tells e (fault_in scope.now (Some wanted) (located_basic part.now))) }
@@ -125,6 +125,7 @@ pub(crate) fn terms_of(
     wanted: Kind,
     parts: &[Basic<'_>],
 ) -> Result<Vec<Term>, ModelError>
+    requires kinds { HasKinds scope.now }
     ensures of_kind { IfOk result (λ _. faults_in scope.now (Some wanted) (map located_basic parts.now) ≡ None) }
     ensures terms { IfOk result (λ ts. ts.items ≡ map (term_in scope.now) (map located_basic parts.now)) }
     ensures tells { IfErr result (λ e. Tells e (faults_in scope.now (Some wanted) (map located_basic parts.now))) }
@@ -179,6 +180,7 @@ fn add_variable<'a>(
         has_definition,
         DeclaredPoint::Definition(number),
     )?;
+    scope.kinds.push(variable.kind)?;
     scope.variables.push(variable)?;
     scope.names.push_variable(name, number)?;
     Ok(())

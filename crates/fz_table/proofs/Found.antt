@@ -7,7 +7,7 @@ use Rattle.fz_meaning.specs.Meaning.{Posted, fits, row_of}
 use Rattle.fz_table.specs.declared.builtin.Builtin.{Builtin}
 use Rattle.fz_table.specs.declared.builtin.Builtin.TheVariants.{IntEq, IntNe, IntLe, IntLt, IntLinEq, IntLinNe, IntLinLe, IntPlus, IntTimes, IntMin, IntMax, IntAbs, IntDiv, IntMod, ArrayIntElement, ArrayVarIntElement, ArrayIntMaximum, ArrayIntMinimum, FznAllDifferentInt, BoolEq, BoolLe, BoolLt, BoolNot, BoolAnd, BoolOr, BoolXor, ArrayBoolAnd, ArrayBoolOr, ArrayBoolXor, ArrayBoolElement, ArrayVarBoolElement, BoolClause, Bool2Int, BoolLinEq, BoolLinLe, SetIn, SetEq, SetNe, SetSubset, SetSuperset, SetUnion, SetIntersect, SetDiff, SetSymdiff, SetCard, ArraySetElement, ArrayVarSetElement}
 use Rattle.fz_table.specs.declared.known.Known.{Known}
-use Rattle.fz_table.specs.Known.{name_of, builtins, row_named, row_at, known_name, known_row}
+use Rattle.fz_table.specs.Known.{name_of, key_of, builtins, row_named, row_at, known_name, known_row}
 use Rattle.fz_table.proofs.Named.{named, suffix, same_name, find_filter, row_named_reified, row_named_base, row_of_is}
 
 -- the base rows are those of the builtins, in their order
@@ -189,27 +189,27 @@ found_called x (d ∷ bs) b e =
       | false ↦ λ t e. found_called x bs b e
     ]) refl e
 
--- ---- the builtins of a name's length
+-- ---- the builtins of a name's key
 
--- those whose names have this many bytes
-abbrev pub as_long : ℕ → Builtin → Bool
-as_long n b = length (name_of b) == n
+-- those whose names have this key
+abbrev pub has_key : ℕ → Builtin → Bool
+has_key k b = key_of (name_of b) == k
 
-has_length : (x : List ℕ) (bs : List Builtin) → find (λ b. called x b && as_long (length x) b) bs ≡ find (called x) bs
-has_length x [] = refl
-has_length x (b ∷ bs) =
-    (elim (called x b) as (λ c. called x b ≡ c → cond (c && as_long (length x) b) (Some b) (find (λ d. called x d && as_long (length x) d) bs) ≡ cond c (Some b) (find (called x) bs)) [
-      | true ↦ λ e. let here : as_long (length x) b ≡ true = eq-eqb (length (name_of b)) (length x) (ap length (same_name (name_of b) x e)) in
-          ap (λ c. cond c (Some b) (find (λ d. called x d && as_long (length x) d) bs)) here
-      | false ↦ λ e. has_length x bs
+called_by_key : (x : List ℕ) (bs : List Builtin) → find (λ b. called x b && has_key (key_of x) b) bs ≡ find (called x) bs
+called_by_key x [] = refl
+called_by_key x (b ∷ bs) =
+    (elim (called x b) as (λ c. called x b ≡ c → cond (c && has_key (key_of x) b) (Some b) (find (λ d. called x d && has_key (key_of x) d) bs) ≡ cond c (Some b) (find (called x) bs)) [
+      | true ↦ λ e. let here : has_key (key_of x) b ≡ true = eq-eqb (key_of (name_of b)) (key_of x) (ap key_of (same_name (name_of b) x e)) in
+          ap (λ c. cond c (Some b) (find (λ d. called x d && has_key (key_of x) d) bs)) here
+      | false ↦ λ e. called_by_key x bs
     ]) refl
 
 -- a name is looked for among those only
-pub find_as_long : (x : List ℕ) → find (called x) (filter (as_long (length x)) builtins) ≡ find (called x) builtins
-find_as_long x = find_filter (called x) (as_long (length x)) builtins ∙ has_length x builtins
+find_by_key : (x : List ℕ) → find (called x) (filter (has_key (key_of x)) builtins) ≡ find (called x) builtins
+find_by_key x = find_filter (called x) (has_key (key_of x)) builtins ∙ called_by_key x builtins
 
-pub find_listed : (x : List ℕ) (bs : List Builtin) → bs ≡ filter (as_long (length x)) builtins → find (called x) bs ≡ find (called x) builtins
-find_listed x bs e = ap (find (called x)) e ∙ find_as_long x
+pub find_listed : (x : List ℕ) (bs : List Builtin) → bs ≡ filter (has_key (key_of x)) builtins → find (called x) bs ≡ find (called x) builtins
+find_listed x bs e = ap (find (called x)) e ∙ find_by_key x
 
 -- ---- the row of what is found
 

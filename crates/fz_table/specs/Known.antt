@@ -1,5 +1,5 @@
 -- The builtins as the code names them, and the rows of the table that they stand for.
-use Rattle.std.specs.Prelude.{Bool, cond, ℕ, List, [], ◌∷◌, ◌++◌, Option, codes, bytes_eq, find}
+use Rattle.std.specs.Prelude.{Bool, cond, if◌then◌else◌, ℕ, ◌+◌, ◌-◌, ◌*◌, ◌%◌, ltb, List, [], ◌∷◌, ◌++◌, drop, get_or, length, Option, codes, bytes_eq, find}
 use Rattle.std.specs.Option.{option_map_or}
 use Rattle.fz_meaning.specs.Builtins.{Row, Shape as Kinds, Result, base_rows, rows, row, reified}
 use Rattle.fz_meaning.specs.Builtins.Shape.{ScalarOf, ArrayOf}
@@ -65,6 +65,13 @@ name_of ArrayVarSetElement = codes "array_var_set_element"
 -- all of them, in the order of the table
 unfoldable pub builtins : List Builtin
 builtins = IntEq ∷ IntNe ∷ IntLe ∷ IntLt ∷ IntLinEq ∷ IntLinNe ∷ IntLinLe ∷ IntPlus ∷ IntTimes ∷ IntMin ∷ IntMax ∷ IntAbs ∷ IntDiv ∷ IntMod ∷ ArrayIntElement ∷ ArrayVarIntElement ∷ ArrayIntMaximum ∷ ArrayIntMinimum ∷ FznAllDifferentInt ∷ BoolEq ∷ BoolLe ∷ BoolLt ∷ BoolNot ∷ BoolAnd ∷ BoolOr ∷ BoolXor ∷ ArrayBoolAnd ∷ ArrayBoolOr ∷ ArrayBoolXor ∷ ArrayBoolElement ∷ ArrayVarBoolElement ∷ BoolClause ∷ Bool2Int ∷ BoolLinEq ∷ BoolLinLe ∷ SetIn ∷ SetEq ∷ SetNe ∷ SetSubset ∷ SetSuperset ∷ SetUnion ∷ SetIntersect ∷ SetDiff ∷ SetSymdiff ∷ SetCard ∷ ArraySetElement ∷ ArrayVarSetElement ∷ []
+
+-- a number that few names share, from the length and the last two bytes; only private functions use it
+abbrev pub key_from : ℕ → List ℕ → ℕ
+key_from n end = (n % 64 * 23 + get_or end 0 0 * 20 + get_or end 1 0 * 11) % 64
+
+abbrev pub key_of : List ℕ → ℕ
+key_of x = if ltb (length x) 2 then 64 else key_from (length x) (drop (length x - 2) x)
 
 -- the row of a name
 unfoldable pub row_named : List ℕ → Option Row

@@ -1,8 +1,8 @@
 //! The builtins by name.
 
 ghost use Rattle.std.specs.List.{filter};
-ghost use Rattle.std.specs.Prelude.{◌≡◌, ◌==◌, bytes_eq, find, length};
-ghost use Rattle.fz_table.specs.Known.{builtins, name_of, row_at};
+ghost use Rattle.std.specs.Prelude.{◌≡◌, ◌==◌, bytes_eq, find};
+ghost use Rattle.fz_table.specs.Known.{builtins, key_of, name_of, row_at};
 
 use crate::text::same_text;
 
@@ -56,6 +56,21 @@ pub enum Builtin {
     SetCard,
     ArraySetElement,
     ArrayVarSetElement,
+}
+
+/// So many keys there are, from 0.
+const KEYS: usize = 64;
+
+// A number of a name that few builtins share, from its length and its last two bytes, so that a name is compared with one builtin, or
+// with three at most. A name of less than two bytes is no builtin's.
+#[inline]
+fn key_of(name: &[u8]) -> usize
+    ensures { result ≡ key_of name.now }
+{
+    let Some((_, end)) = name.split_last_chunk::<2>() else {
+        return KEYS;
+    };
+    (name.len() % KEYS * 23 + usize::from(end[0]) * 20 + usize::from(end[1]) * 11) % KEYS
 }
 
 impl Builtin {
@@ -115,70 +130,55 @@ impl Builtin {
         }
     }
 
-    // The builtins whose names have this many bytes, so that a name is compared with few others.
+    // The builtins whose names have this key.
     #[tactic(auto, unfolding(crate::specs::Known::builtins, crate::specs::Known::name_of))]
-    fn of_length(bytes: usize) -> &'static [Builtin]
-        ensures { result.now ≡ filter (λ b. length (name_of b) == bytes) builtins }
+    fn of_key(key: usize) -> &'static [Builtin]
+        ensures { result.now ≡ filter (λ b. key_of (name_of b) == key) builtins }
     {
-        match bytes {
-            6 => &[
-                Builtin::IntEq,
-                Builtin::IntNe,
-                Builtin::IntLe,
-                Builtin::IntLt,
-                Builtin::SetIn,
-                Builtin::SetEq,
-                Builtin::SetNe,
-            ],
-            7 => &[
-                Builtin::IntMin,
-                Builtin::IntMax,
-                Builtin::IntAbs,
-                Builtin::IntDiv,
-                Builtin::IntMod,
-                Builtin::BoolEq,
-                Builtin::BoolLe,
-                Builtin::BoolLt,
-                Builtin::BoolOr,
-            ],
-            8 => &[
-                Builtin::IntPlus,
-                Builtin::BoolNot,
-                Builtin::BoolAnd,
-                Builtin::BoolXor,
-                Builtin::Bool2Int,
-                Builtin::SetDiff,
-                Builtin::SetCard,
-            ],
-            9 => &[Builtin::IntTimes, Builtin::SetUnion],
-            10 => &[
-                Builtin::IntLinEq,
-                Builtin::IntLinNe,
-                Builtin::IntLinLe,
-                Builtin::SetSubset,
-            ],
-            11 => &[
-                Builtin::BoolClause,
-                Builtin::BoolLinEq,
-                Builtin::BoolLinLe,
-                Builtin::SetSymdiff,
-            ],
-            12 => &[Builtin::SetSuperset],
-            13 => &[Builtin::ArrayBoolOr, Builtin::SetIntersect],
-            14 => &[Builtin::ArrayBoolAnd, Builtin::ArrayBoolXor],
-            17 => &[
-                Builtin::ArrayIntElement,
-                Builtin::ArrayIntMaximum,
-                Builtin::ArrayIntMinimum,
-                Builtin::ArraySetElement,
-            ],
-            18 => &[Builtin::ArrayBoolElement],
-            21 => &[
+        match key {
+            4 => &[Builtin::BoolLinLe],
+            6 => &[Builtin::SetSubset],
+            9 => &[Builtin::IntEq, Builtin::SetEq],
+            10 => &[Builtin::BoolXor],
+            12 => &[Builtin::Bool2Int],
+            13 => &[Builtin::IntPlus, Builtin::BoolLt],
+            14 => &[Builtin::ArrayVarBoolElement],
+            15 => &[Builtin::IntMin],
+            16 => &[Builtin::BoolClause],
+            17 => &[Builtin::IntLe],
+            18 => &[Builtin::SetDiff],
+            20 => &[Builtin::ArrayBoolXor],
+            21 => &[Builtin::IntLinNe],
+            23 => &[Builtin::SetSymdiff],
+            25 => &[Builtin::IntMod],
+            26 => &[Builtin::ArrayIntMaximum, Builtin::ArrayIntMinimum],
+            27 => &[Builtin::ArrayIntElement, Builtin::ArraySetElement],
+            28 => &[Builtin::BoolAnd],
+            29 => &[Builtin::IntMax],
+            32 => &[Builtin::BoolEq, Builtin::BoolNot],
+            35 => &[Builtin::SetIntersect],
+            36 => &[Builtin::IntTimes],
+            37 => &[Builtin::IntLinEq],
+            38 => &[Builtin::ArrayBoolAnd],
+            39 => &[Builtin::IntDiv],
+            40 => &[Builtin::BoolLe],
+            44 => &[Builtin::SetCard],
+            45 => &[Builtin::IntLinLe],
+            50 => &[Builtin::ArrayBoolElement],
+            51 => &[Builtin::BoolOr],
+            52 => &[Builtin::SetSuperset],
+            53 => &[Builtin::SetUnion],
+            54 => &[Builtin::IntLt],
+            55 => &[
                 Builtin::ArrayVarIntElement,
                 Builtin::FznAllDifferentInt,
                 Builtin::ArrayVarSetElement,
             ],
-            22 => &[Builtin::ArrayVarBoolElement],
+            56 => &[Builtin::SetIn],
+            57 => &[Builtin::IntNe, Builtin::SetNe],
+            58 => &[Builtin::IntAbs],
+            60 => &[Builtin::BoolLinEq],
+            61 => &[Builtin::ArrayBoolOr],
             _ => &[],
         }
     }
@@ -187,7 +187,7 @@ impl Builtin {
     pub(crate) fn called(name: &[u8]) -> Option<Builtin>
         ensures { result ≡ find (λ b. bytes_eq (name_of b) name.now) builtins }
     {
-        for builtin in Builtin::of_length(name.len()) {
+        for builtin in Builtin::of_key(key_of(name)) {
             if same_text(builtin.name(), name) {
                 return Some(*builtin);
             }

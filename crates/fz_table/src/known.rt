@@ -28,7 +28,7 @@ fn unreified(name: &[u8]) -> Option<&[u8]>
 }
 
 impl Known {
-    /// What a constraint's name means, if the table has a row of that name. It is compared only with names of its length.
+    /// What a constraint's name means, if the table has a row of that name. It is compared with few names.
     pub fn find(name: &[u8]) -> Option<Known>
         ensures found { IfSome result (λ k. known_name k ≡ name.now) }
         ensures has_row { IfSome result (λ k. row_named name.now ≡ Some (known_row k)) }

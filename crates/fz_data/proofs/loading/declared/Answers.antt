@@ -4,7 +4,7 @@ use Rattle.fz_meaning.specs.View.{located_decl}
 use Rattle.fz_scope.proofs.Steps.{whole_at, take_one_more, decls_more, decls_stops}
 use Rattle.fz_data.specs.Stands.{StandsFor}
 use Rattle.fz_data.proofs.Knows.{decl_same}
-use Rattle.fz_data.proofs.Next.{new_name, stands_next}
+use Rattle.fz_data.proofs.Next.{kinds_next, new_name, stands_next}
 use Rattle.fz_data.proofs.Tells.{tells_further}
 use Rattle.fz_data.proofs.loading.declared.Goals as goal
 
@@ -31,4 +31,5 @@ loop-decl-preserved c =
       stands = subst (λ ds. StandsFor all ds c.add.new.scope) (sym (take_one_more located_decl c.args.decls.now c.loop-decl.decl-index c.decl-item.result c.loop-decl-test.true c.decl-item.is))
           (stands_next all known rest (located_decl c.decl-item.result) split c.loop-decl.scope c.loop-decl.invariant.stands c.in_ok-item.ensures.clean c.decl-item.result.name.text.now refl
           c.in_ok-item.item c.add.new.scope c.in_ok-item.ensures.item c.in_ok-add.ensures.added);
+      kinds = kinds_next c.in_ok-item.item c.loop-decl.scope c.decl-item.result.name.text.now c.add.new.scope c.loop-decl.invariant.kinds c.in_ok-add.ensures.added;
     }

@@ -5,7 +5,6 @@ use Rattle.fz_meaning.specs.View.{located, located_decl, located_constraint}
 use Rattle.fz_scope.specs.FirstFault.{decls_fault}
 use Rattle.fz_data.specs.Parts.{posted_view}
 use Rattle.fz_data.specs.Scope.{Tells, posted_in, constraint_fault_in}
-use Rattle.fz_data.specs.Fitting.{kinds_among}
 use Rattle.fz_data.specs.Naming.{own_terms}
 use Rattle.fz_data.specs.Stands.{StandsFor}
 use Rattle.fz_data.proofs.Loaded.{kept_now, laid_out, model_is, told_in_constraints, told_in_goal, none_anywhere}
@@ -14,7 +13,7 @@ use Rattle.fz_data.proofs.loading.read.Goals as goal
 pub all_posted-requires : goal.all_posted-requires
 all_posted-requires c = record {
   kept = kept_now (map located_decl c.deref.result.now) c.in_ok-scope.scope c.in_ok-scope.ensures.stands;
-  kinds = c.deref-3.ensures.value ∙ c.in_ok-kinds.ensures ∙ ap kinds_among c.deref-2.ensures.value;
+  kinds = c.in_ok-scope.ensures.kinds;
 }
 
 pub returns-in_err-constraints-clause-tells : goal.returns-in_err-constraints-clause-tells
@@ -24,7 +23,7 @@ returns-in_err-constraints-clause-tells c =
     let p = err_from_is_err_and c.from_residual-in_err-constraints.result c.from_residual-in_err-constraints.ensures.1 in
     let stands = subst (λ ds. StandsFor (map located_decl ds) (map located_decl ds) s) c.deref.ensures.value c.in_ok-scope.ensures.stands in
     let clean = subst (λ ds. decls_fault [] (map located_decl ds) ≡ None) c.deref.ensures.value c.in_ok-scope.ensures.clean in
-    rw (p.1, p.2) (told_in_constraints t s stands clean _ (subst (λ cs. Tells c.in_err-constraints.field-0.0 (first_some (constraint_fault_in s) (map located_constraint cs))) c.deref-4.ensures.value c.in_err-constraints.ensures.tells))
+    rw (p.1, p.2) (told_in_constraints t s stands clean _ (subst (λ cs. Tells c.in_err-constraints.field-0.0 (first_some (constraint_fault_in s) (map located_constraint cs))) c.deref-2.ensures.value c.in_err-constraints.ensures.tells))
 
 pub returns-in_err-goal-clause-tells : goal.returns-in_err-goal-clause-tells
 returns-in_err-goal-clause-tells c =
@@ -33,7 +32,7 @@ returns-in_err-goal-clause-tells c =
     let p = err_from_is_err_and c.from_residual-in_err-goal.result c.from_residual-in_err-goal.ensures.1 in
     let stands = subst (λ ds. StandsFor (map located_decl ds) (map located_decl ds) s) c.deref.ensures.value c.in_ok-scope.ensures.stands in
     let clean = subst (λ ds. decls_fault [] (map located_decl ds) ≡ None) c.deref.ensures.value c.in_ok-scope.ensures.clean in
-    let known = subst (λ cs. first_some (constraint_fault_in s) (map located_constraint cs) ≡ None) c.deref-4.ensures.value c.in_ok-constraints.ensures.known in
+    let known = subst (λ cs. first_some (constraint_fault_in s) (map located_constraint cs) ≡ None) c.deref-2.ensures.value c.in_ok-constraints.ensures.known in
     rw (p.1, p.2) (told_in_goal t s stands clean known _ c.in_err-goal.ensures.tells)
 
 pub assembled-requires : goal.assembled-requires
@@ -42,7 +41,7 @@ assembled-requires c =
     let s = c.in_ok-scope.scope in
     let stands = subst (λ ds. StandsFor (map located_decl ds) (map located_decl ds) s) c.deref.ensures.value c.in_ok-scope.ensures.stands in
     let clean = subst (λ ds. decls_fault [] (map located_decl ds) ≡ None) c.deref.ensures.value c.in_ok-scope.ensures.clean in
-    let posted = subst (λ cs. map (posted_view s.variables.items s.arrays.items) c.in_ok-constraints.constraints.posted.items ≡ map (posted_in s) (map located_constraint cs)) c.deref-4.ensures.value c.in_ok-constraints.ensures.posted in
+    let posted = subst (λ cs. map (posted_view s.variables.items s.arrays.items) c.in_ok-constraints.constraints.posted.items ≡ map (posted_in s) (map located_constraint cs)) c.deref-2.ensures.value c.in_ok-constraints.ensures.posted in
     let counted : c.len.result ≡ length s.variables.items = omega arith in
     record {
       laid_out = laid_out t s c.in_ok-terms.terms c.in_ok-constraints.constraints.posted c.in_ok-constraints.constraints.known c.in_ok-goal.goal c.in_ok-constraints.constraints.sheets stands clean posted c.in_ok-constraints.ensures.cited c.in_ok-goal.ensures.clean c.in_ok-goal.ensures.aim
@@ -57,7 +56,7 @@ returns-clause-clean c =
     let s = c.in_ok-scope.scope in
     let stands = subst (λ ds. StandsFor (map located_decl ds) (map located_decl ds) s) c.deref.ensures.value c.in_ok-scope.ensures.stands in
     let clean = subst (λ ds. decls_fault [] (map located_decl ds) ≡ None) c.deref.ensures.value c.in_ok-scope.ensures.clean in
-    let known = subst (λ cs. first_some (constraint_fault_in s) (map located_constraint cs) ≡ None) c.deref-4.ensures.value c.in_ok-constraints.ensures.known in
+    let known = subst (λ cs. first_some (constraint_fault_in s) (map located_constraint cs) ≡ None) c.deref-2.ensures.value c.in_ok-constraints.ensures.known in
     none_anywhere t s stands clean known c.in_ok-goal.ensures.clean
 
 pub returns-clause-model : goal.returns-clause-model
@@ -66,5 +65,5 @@ returns-clause-model c =
     let s = c.in_ok-scope.scope in
     let stands = subst (λ ds. StandsFor (map located_decl ds) (map located_decl ds) s) c.deref.ensures.value c.in_ok-scope.ensures.stands in
     let clean = subst (λ ds. decls_fault [] (map located_decl ds) ≡ None) c.deref.ensures.value c.in_ok-scope.ensures.clean in
-    let posted = subst (λ cs. map (posted_view s.variables.items s.arrays.items) c.in_ok-constraints.constraints.posted.items ≡ map (posted_in s) (map located_constraint cs)) c.deref-4.ensures.value c.in_ok-constraints.ensures.posted in
+    let posted = subst (λ cs. map (posted_view s.variables.items s.arrays.items) c.in_ok-constraints.constraints.posted.items ≡ map (posted_in s) (map located_constraint cs)) c.deref-2.ensures.value c.in_ok-constraints.ensures.posted in
     c.assembled.ensures.view ∙ model_is t s c.in_ok-terms.terms c.in_ok-constraints.constraints.posted c.in_ok-constraints.constraints.known c.in_ok-goal.goal c.in_ok-constraints.constraints.sheets stands clean posted c.in_ok-constraints.ensures.cited c.in_ok-goal.ensures.clean c.in_ok-goal.ensures.aim

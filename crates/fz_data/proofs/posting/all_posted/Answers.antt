@@ -36,7 +36,7 @@ loop-constraint-preserved c = record {
   clean = first_more (constraint_fault_in c.args.scope.now) located_constraint c.args.constraints.now c.loop-constraint.constraint-index c.constraint-item.result c.loop-constraint-test.true c.constraint-item.is c.loop-constraint.invariant.clean c.in_ok-one.ensures.known;
   views = one_found located_constraint (posted_in c.args.scope.now) (posted_view c.args.scope.now.variables.items c.args.scope.now.arrays.items) c.args.constraints.now c.loop-constraint.constraint-index c.constraint-item.result c.loop-constraint.found.items c.push-in-loop-constraint.new.self.items c.in_ok-one.one
       c.loop-constraint-test.true c.constraint-item.is c.loop-constraint.invariant.views c.in_ok-one.ensures.posted c.in_ok-push-2.ensures.items;
-  rows = row_found (posted_view c.args.scope.now.variables.items c.args.scope.now.arrays.items) row_of (option_map known_row) c.loop-constraint.found.items c.push-in-loop-constraint.new.self.items c.in_ok-one.one c.loop-constraint.known.items c.push.new.self.items c.row_of-row.result c.loop-constraint.invariant.rows (c.row_of-row.ensures ∙ (λ i. row_of (posted_view (c.deref.ensures.value i) (c.deref-2.ensures.value i) c.in_ok-one.one))) c.in_ok-push-2.ensures.items c.in_ok-push.ensures.items;
+  rows = row_found (posted_view c.args.scope.now.variables.items c.args.scope.now.arrays.items) row_of (option_map known_row) c.loop-constraint.found.items c.push-in-loop-constraint.new.self.items c.in_ok-one.one c.loop-constraint.known.items c.push.new.self.items c.row_of-row.result c.loop-constraint.invariant.rows (c.row_of-row.ensures ∙ (λ i. row_of (posted_view (c.cited-cited.ensures.variables i) (c.cited-cited.ensures.arrays i) c.in_ok-one.one))) c.in_ok-push-2.ensures.items c.in_ok-push.ensures.items;
   sheets = grown_too c.args.scope.now.arrays.items c.add.new.self (c.loop-constraint.found.items ++ c.in_ok-one.one ∷ []) c.push-in-loop-constraint.new.self.items (c.loop-constraint.known.items ++ c.row_of-row.result ∷ []) c.push.new.self.items
       (c.in_ok-add.ensures.added c.args.scope.now.arrays.items c.loop-constraint.found.items c.loop-constraint.known.items
       (omega (arith, c.len.ensures, c.loop-constraint.found.ok.0)) (omega (arith, c.len.ensures, c.loop-constraint.found.ok.0, c.loop-constraint.invariant.even)) c.loop-constraint.invariant.sheets)
