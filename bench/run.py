@@ -4,9 +4,10 @@
     run.py OURS PLAIN FOLDER [MEGABYTES..]
 
 OURS is the built fz_bench, PLAIN the plain program of bench/plain, FOLDER where the files are made (kept
-for the next run), MEGABYTES the sizes, 1 4 16 where none is given. Each phase is run by both programs in
-turn, three times over; the least processor time of a round counts, as another load on the machine only
-ever adds to it."""
+for the next run), MEGABYTES the sizes, 1 4 16 where none is given. Each phase is run by both programs, all
+phases one after another, and all of that five times over, so that lines can be compared where the machine
+changes its speed; the least processor time of a round counts, as another load on the machine only ever
+adds to it."""
 import os
 import platform
 import re
@@ -16,7 +17,7 @@ import tempfile
 import time
 
 HERE = os.path.dirname(os.path.abspath(__file__))
-TURNS = 3
+TURNS = 5
 MOST_SECONDS = 120  # a run that takes longer is given up
 
 # phase, sort of the files, what it reads (m: the model, s: the stream, ms: both), which bytes count, what it counts
@@ -78,16 +79,19 @@ def rounds_for(size):
     return max(5, min(20, int(16 / size)))
 
 
-def measure(phase, files, size, ours, plain):
-    """The best runs of both programs, taken in turn."""
-    rounds = str(rounds_for(size))
-    both = Best(), Best()
-    commands = [ours, phase, rounds, *files], [plain, "time", phase, rounds, *files]
-    for _ in range(TURNS):
-        for best, command in zip(both, commands):
+class Pair:
+    """The best runs of both programs, of a phase over files of a size."""
+
+    def __init__(self, phase, files, size, ours, plain):
+        rounds = str(rounds_for(size))
+        self.bests = Best(), Best()
+        self.commands = [ours, phase, rounds, *files], [plain, "time", phase, rounds, *files]
+
+    def turn(self):
+        """One run of each."""
+        for best, command in zip(self.bests, self.commands):
             if best.why is None:
                 best.add(command)
-    return both
 
 
 def floor(path):
@@ -146,6 +150,17 @@ def machine():
     return f"{cpu}, {os.cpu_count()} cores, load {load:.1f} at the start, {platform.system()}; {compiler}; {time.strftime('%Y-%m-%d')}"
 
 
+def pairs_of(line, sizes, folder, ours, plain):
+    """For each size, the bytes that count, and what is measured of a line."""
+    phase, sort, reads, counts, _ = line
+    pairs = {}
+    for size in sizes:
+        paths = paths_of(folder, sort, size)
+        length = sum(os.path.getsize(paths[which]) for which in counts)
+        pairs[size] = length, Pair(phase, [paths[which] for which in reads], size, ours, plain)
+    return pairs
+
+
 def main():
     ours, plain, folder = map(os.path.abspath, sys.argv[1:4])
     sizes = [int(w) for w in sys.argv[4:]] or [1, 4, 16]
@@ -155,13 +170,14 @@ def main():
     names = " | ".join(f"{size} MB" for size in sizes)
     print(f"| phase | file | {names} | a second | plain | ratio | peak | plain's | growth |")
     print("|---|---|" + "---|" * (len(sizes) + 6))
-    for phase, sort, reads, counts, unit in PHASES:
-        measured = {}
-        for size in sizes:
-            paths = paths_of(folder, sort, size)
-            length = sum(os.path.getsize(paths[which]) for which in counts)
-            best, other = measure(phase, [paths[which] for which in reads], size, ours, plain)
-            measured[size] = length, best, other
+    lines = [(line, pairs_of(line, sizes, folder, ours, plain)) for line in PHASES]
+    for _ in range(TURNS):
+        for _, pairs in lines:
+            for _, pair in pairs.values():
+                pair.turn()
+    for (phase, sort, _, _, unit), pairs in lines:
+        measured = {size: (length, *pair.bests) for size, (length, pair) in pairs.items()}
+        for size, (_, best, other) in measured.items():
             if best.why is None and other.why is None and best.count != other.count:
                 print(f"{phase} {sort}-{size}: {best.count} here, {other.count} there", file=sys.stderr)
         print(row(phase, sort, unit, sizes, measured, wide), flush=True)
