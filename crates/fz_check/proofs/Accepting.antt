@@ -17,8 +17,8 @@ use Rattle.fz_verdict.specs.View.{located_block}
 use Rattle.fz_verdict.proofs.Accepted.{accepted_solves, judged_lengths, judged_weaker}
 use Rattle.fz_verdict.proofs.Places.{blocks_are_bare}
 use Rattle.fz_verdict.proofs.Start.{filling_proposed}
-use Rattle.fz_judge.specs.declared.verdict.Verdict as the_verdict
-use Rattle.fz_judge.specs.View.{verdict_view}
+use Rattle.fz_live.specs.of_judge.declared.verdict.Verdict as the_verdict
+use Rattle.fz_live.specs.of_judge.View.{verdict_view}
 use Rattle.fz_live.specs.declared.line.Answer as the_answer
 use Rattle.fz_live.specs.declared.line.Answer.TheVariants as answers
 use Rattle.fz_check.specs.Headline.{HasSolutions, IsOfStream}

@@ -19,7 +19,7 @@ use Rattle.fz_verdict.specs.View.{located_block}
 use Rattle.fz_verdict.proofs.Accepted.{accepted_solves, judged_weaker}
 use Rattle.fz_verdict.proofs.Each.{each_violated, each_not_better}
 use Rattle.fz_verdict.proofs.Start.{filling_proposed}
-use Rattle.fz_judge.specs.declared.error.BlockError.{BlockError}
+use Rattle.fz_live.specs.of_judge.declared.error.BlockError.{BlockError}
 use Rattle.fz_live.specs.declared.error.LiveError.{LiveError}
 use Rattle.fz_live.specs.declared.error.LiveError.TheVariants as live
 use Rattle.fz_live.specs.declared.line.Answer as the_answer

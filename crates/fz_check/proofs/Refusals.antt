@@ -22,7 +22,7 @@ use Rattle.fz_model.specs.Meaning.{Model}
 use Rattle.fz_model.specs.Names.{HasNoFault, IsInReadingOrder, model_of}
 use Rattle.fz_model.specs.View.{TellsFirstFault, located}
 use Rattle.fz_model.proofs.Reading.{in_reading_order}
-use Rattle.fz_judge.specs.declared.error.BlockError.{BlockError}
+use Rattle.fz_live.specs.of_judge.declared.error.BlockError.{BlockError}
 use Rattle.fz_check.proofs.Reporting.{checked}
 use Rattle.fz_check.specs.Refused.{HasBlockFault, HasNameFault, HasStreamFault, IsFirstFault}
 use Rattle.fz_check.specs.declared.error.CheckError.{CheckError}

@@ -16,8 +16,8 @@ use Rattle.fz_verdict.specs.Verdict.Verdict.{Violated}
 use Rattle.fz_verdict.specs.View.{located_block}
 use Rattle.fz_verdict.proofs.Each.{each_violated, each_not_better}
 use Rattle.fz_verdict.proofs.Places.{blocks_are_bare}
-use Rattle.fz_judge.specs.declared.verdict.Verdict as the_verdict
-use Rattle.fz_judge.specs.View.{verdict_view}
+use Rattle.fz_live.specs.of_judge.declared.verdict.Verdict as the_verdict
+use Rattle.fz_live.specs.of_judge.View.{verdict_view}
 use Rattle.fz_live.specs.declared.line.Answer as the_answer
 use Rattle.fz_check.specs.Reported.{Checked, HasReport, HasNoneWhereViolated}
 use Rattle.fz_live.specs.View.{answer_view}

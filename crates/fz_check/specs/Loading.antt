@@ -6,8 +6,8 @@ use Rattle.fz_model.specs.declared.ModelError.{ModelError}
 use Rattle.fz_model.specs.declared.ModelError.TheVariants as names
 use Rattle.fz_stream.specs.declared.error.StreamError.{StreamError}
 use Rattle.fz_stream.specs.declared.error.StreamError.TheVariants as stream
-use Rattle.fz_judge.specs.declared.error.BlockError.{BlockError}
-use Rattle.fz_judge.specs.declared.error.BlockError.TheVariants as block
+use Rattle.fz_live.specs.of_judge.declared.error.BlockError.{BlockError}
+use Rattle.fz_live.specs.of_judge.declared.error.BlockError.TheVariants as block
 use Rattle.fz_live.specs.declared.error.LiveError.{LiveError}
 use Rattle.fz_live.specs.declared.error.LiveError.TheVariants as live
 use Rattle.fz_check.specs.declared.error.CheckError.{CheckError}

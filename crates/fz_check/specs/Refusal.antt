@@ -7,8 +7,8 @@ use Rattle.fz_model.specs.declared.ModelError.{ModelError}
 use Rattle.fz_model.specs.declared.ModelError.TheVariants as model
 use Rattle.fz_stream.specs.declared.error.StreamError.{StreamError}
 use Rattle.fz_stream.specs.declared.error.StreamError.TheVariants as stream
-use Rattle.fz_judge.specs.declared.error.BlockError.{BlockError}
-use Rattle.fz_judge.specs.declared.error.BlockError.TheVariants as block
+use Rattle.fz_live.specs.of_judge.declared.error.BlockError.{BlockError}
+use Rattle.fz_live.specs.of_judge.declared.error.BlockError.TheVariants as block
 use Rattle.fz_check.specs.declared.error.CheckError.{CheckError}
 use Rattle.fz_check.specs.declared.error.CheckError.TheVariants as errors
 use Rattle.fz_live.specs.declared.line.Answer.{Answer}

@@ -18,9 +18,9 @@ use Rattle.fz_model.specs.declared.ModelError.{ModelError}
 use Rattle.fz_model.specs.declared.ModelError.TheVariants.{Memory as NameMemory}
 use Rattle.fz_verdict.specs.Blocks.{block_fault}
 use Rattle.fz_verdict.specs.View.{located_block}
-use Rattle.fz_judge.specs.Judged.{IsBlockRefusal}
-use Rattle.fz_judge.specs.declared.error.BlockError.{BlockError}
-use Rattle.fz_judge.specs.declared.error.BlockError.TheVariants.{Memory as BlockMemory}
+use Rattle.fz_live.specs.of_judge.Judged.{IsBlockRefusal}
+use Rattle.fz_live.specs.of_judge.declared.error.BlockError.{BlockError}
+use Rattle.fz_live.specs.of_judge.declared.error.BlockError.TheVariants.{Memory as BlockMemory}
 use Rattle.fz_check.specs.Reported.{Checked}
 
 -- The model's bytes are a text of a tree whose names and literals stand there, and this is its leftmost fault.

@@ -1,7 +1,7 @@
 -- What the values of this crate's types stand for: plain reports.
 use Rattle.std.specs.Prelude.{map}
 use Rattle.fz_verdict.specs.Report as report
-use Rattle.fz_judge.specs.View.{verdict_view}
+use Rattle.fz_live.specs.of_judge.View.{verdict_view}
 use Rattle.fz_check.specs.declared.report.Report.{Report}
 use Rattle.fz_live.specs.View.{answer_view}
 

@@ -17,8 +17,8 @@ ghost use Rattle.fz_stream.specs.declared.error.StreamError.{StreamError as Stre
 ghost use Rattle.fz_stream.specs.Found.{AreInOrder, EndsWithin, HasPlaces, IsReadAs, block_of};
 ghost use Rattle.fz_verdict.specs.Verdict.{AreVerdicts};
 ghost use Rattle.fz_verdict.specs.View.{located_block};
-ghost use Rattle.fz_judge.specs.declared.error.BlockError.{BlockError as BlockFault};
-ghost use Rattle.fz_judge.specs.View.{verdict_view};
+ghost use Rattle.fz_live.specs.of_judge.declared.error.BlockError.{BlockError as BlockFault};
+ghost use Rattle.fz_live.specs.of_judge.View.{verdict_view};
 ghost use Rattle.fz_check.specs.Headline.{HasSolutions, IsOfStream};
 ghost use Rattle.fz_check.specs.Refused.{HasBlockFault, HasNameFault, HasStreamFault, IsFirstFault};
 ghost use Rattle.fz_check.specs.Reported.{HasNoneWhereViolated, HasReport};
@@ -39,7 +39,7 @@ ghost use Rattle.fz_check.specs.View.{report_view};
 
 use crate::error::CheckError;
 use crate::report::{Report, answer_to};
-use fz_judge::{BlockError, Judge, Verdict};
+use fz_live::fz_judge::{BlockError, Judge, Verdict};
 use fz_live::Answer;
 use fz_model::{Model, ModelError, load};
 use fz_stream::{Block, Stream, StreamError, blocks};

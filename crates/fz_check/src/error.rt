@@ -1,4 +1,4 @@
-use fz_judge::BlockError;
+use fz_live::fz_judge::BlockError;
 use fz_model::ModelError;
 use fz_stream::StreamError;
 use fz_syntax::SyntaxError;

@@ -9,7 +9,7 @@ ghost use Rattle.fz_stream.specs.declared.error.StreamError.{StreamError as Stre
 ghost use Rattle.fz_stream.specs.declared.error.StreamError.TheVariants.{Memory as OfMemory};
 ghost use Rattle.fz_stream.specs.Faults.{IsStreamFault};
 ghost use Rattle.fz_stream.specs.Parts.{StreamPart};
-ghost use Rattle.fz_judge.specs.declared.error.BlockError.{BlockError as BlockFault};
+ghost use Rattle.fz_live.specs.of_judge.declared.error.BlockError.{BlockError as BlockFault};
 ghost use Rattle.fz_live.specs.Live.{BlockIsRefused, StopsAfterLines, WritesFrontOfLines};
 ghost use Rattle.fz_live.specs.Reading.{HasNoMore, IsRefusedAfter};
 ghost use Rattle.fz_live.specs.View.{answer_view};

@@ -6,7 +6,7 @@ ghost use Rattle.fz_check.specs.Telling.{named};
 
 use crate::error::CheckError;
 use fz_base::Span;
-use fz_judge::BlockError;
+use fz_live::fz_judge::BlockError;
 use fz_live::{Answer, push_bytes, push_count};
 use fz_model::ModelError;
 use fz_stream::StreamError;

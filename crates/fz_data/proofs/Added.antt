@@ -17,7 +17,7 @@ use Rattle.fz_meaning.specs.Meaning.Declared.{Parameter, ScalarVariable, ArrayOf
 use Rattle.fz_meaning.specs.Meaning.Point.{DomainPoint, ArrayPoint}
 use Rattle.fz_meaning.specs.Names.{parts, kind_of_base, domain_of, is_scalar, is_scalar_variable, number_of, literal_of, term_of, place_of_declared, definition_of, declared_of, variable_declared, declares}
 use Rattle.fz_meaning.proofs.Scope.{same_kind_is}
-use Rattle.fz_scope.proofs.Known.{next_number, number_here}
+use Rattle.fz_meaning.proofs.KnownNames.{next_number, number_here}
 use Rattle.fz_data.specs.declared.parts.Array as the_array
 use Rattle.fz_data.specs.Naming.{Declared as declarations}
 use Rattle.fz_data.specs.declared.parts.DeclaredPoint.TheVariants as points

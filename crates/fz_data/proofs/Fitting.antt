@@ -11,8 +11,8 @@ use Rattle.fz_meaning.specs.Values.{same_kind}
 use Rattle.fz_meaning.specs.Meaning as meaning
 use Rattle.fz_meaning.specs.declared.kind.Kind.{Kind}
 use Rattle.fz_meaning.specs.declared.kind.Kind.TheVariants.{Int as IntKind}
-use Rattle.fz_table.specs.declared.row.Shape.{Shape}
-use Rattle.fz_table.specs.Known.{shape_of}
+use Rattle.fz_meaning.specs.declared.row.Shape.{Shape}
+use Rattle.fz_meaning.specs.Known.{shape_of}
 use Rattle.fz_data.specs.declared.parts.Variable.{Variable}
 use Rattle.fz_data.specs.declared.parts.Array.{Array}
 use Rattle.fz_data.specs.declared.parts.Place.{Place}

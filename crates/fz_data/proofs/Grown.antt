@@ -11,8 +11,8 @@ use Rattle.std.proofs.Math.Seq.{take-append_seam, drop-append_seam}
 use Rattle.fz_base.specs.declared.value.Value.{Value}
 use Rattle.fz_meaning.specs.declared.term.Term.{Term}
 use Rattle.fz_meaning.proofs.Values.{and_first, and_second}
-use Rattle.fz_scope.proofs.Steps.{take_one_more}
-use Rattle.fz_table.specs.declared.known.Known.{Known}
+use Rattle.fz_meaning.proofs.ScanSteps.{take_one_more}
+use Rattle.fz_meaning.specs.declared.known.Known.{Known}
 use Rattle.fz_data.specs.declared.parts.Array.{Array}
 use Rattle.fz_data.specs.declared.parts.Place.{Place}
 use Rattle.fz_data.specs.declared.parts.Argument.{Argument}

@@ -24,11 +24,11 @@ use Rattle.fz_syntax.specs.Tree.Note.{Called}
 use Rattle.fz_syntax.specs.Tree.NoteArgs.{NoMoreArgs, MoreArgs}
 use Rattle.fz_syntax.specs.Tree.NoteArg.{OneBasic, ListOf}
 use Rattle.fz_syntax.specs.Tree.NoteBasic.{NoteLiteral, NoteFloat, NoteString, Inner}
-use Rattle.fz_scope.specs.FirstFault.{named_fault, part_fault, parts_fault, decl_fault, constraint_fault, goal_fault}
-use Rattle.fz_scope.proofs.Known.{clean_name, found_stays, term_found}
-use Rattle.fz_scope.proofs.Names.{AreNew, variable_number, number_by_name}
-use Rattle.fz_scope.proofs.Steps.{first_none, second_none, constraint_by_arguments}
-use Rattle.fz_scope.proofs.Table.{term_or_array}
+use Rattle.fz_meaning.specs.FirstFault.{named_fault, part_fault, parts_fault, decl_fault, constraint_fault, goal_fault}
+use Rattle.fz_meaning.proofs.KnownNames.{clean_name, found_stays, term_found}
+use Rattle.fz_meaning.proofs.Names.{AreNew, variable_number, number_by_name}
+use Rattle.fz_meaning.proofs.ScanSteps.{first_none, second_none, constraint_by_arguments}
+use Rattle.fz_meaning.proofs.Table.{term_or_array}
 use Rattle.fz_data.specs.declared.scope.Scope.{Scope}
 use Rattle.fz_data.specs.Parts.{declared_place}
 use Rattle.fz_data.specs.Naming.{has_text}

@@ -10,12 +10,12 @@ use Rattle.fz_meaning.specs.Meaning.{declared_points, numbered_from, name_of, pl
 use Rattle.fz_meaning.specs.Meaning.Declared.{Parameter, ScalarVariable, ArrayOfVariables}
 use Rattle.fz_meaning.specs.Names.{IsInReadingOrder, goal_parts, parts, kind_of_base, domain_of, is_scalar, number_of, variable_declared, definition_of, term_of, place_of_declared, declared_of, posted_of, aim_of, model_of}
 use Rattle.fz_meaning.specs.View.{TellsFirstFault}
-use Rattle.fz_table.specs.declared.known.Known.{Known}
-use Rattle.fz_table.specs.Known.{known_row}
+use Rattle.fz_meaning.specs.declared.known.Known.{Known}
+use Rattle.fz_meaning.specs.Known.{known_row}
 use Rattle.fz_data.specs.Kinds.{PlaceFits, PostedFits}
-use Rattle.fz_scope.specs.FirstFault.{FirstFaultIsLeftmost, decls_fault, constraint_fault, constraints_fault, goal_fault, first_fault}
-use Rattle.fz_scope.proofs.Known.{next_number, number_here}
-use Rattle.fz_scope.proofs.Names.{AreNew, are_new, numbered_after, numbered_is, place_named_is}
+use Rattle.fz_meaning.specs.FirstFault.{FirstFaultIsLeftmost, decls_fault, constraint_fault, constraints_fault, goal_fault, first_fault}
+use Rattle.fz_meaning.proofs.KnownNames.{next_number, number_here}
+use Rattle.fz_meaning.proofs.Names.{AreNew, are_new, numbered_after, numbered_is, place_named_is}
 use Rattle.fz_data.specs.declared.model.Model.TheInside.{Inside}
 use Rattle.fz_data.specs.declared.parts.Goal as the_goal
 use Rattle.fz_data.specs.declared.parts.Posted as the_posted
@@ -28,7 +28,7 @@ use Rattle.fz_data.specs.Parts.{posted_view, goal_view, declared_point}
 use Rattle.fz_data.specs.Layout.{model_view, named_place, IsLaidOut, IsPlaced, CitesArrays}
 use Rattle.fz_data.specs.Scope.{AreKept, Tells, posted_in, aim_in, faults_in, constraint_fault_in}
 use Rattle.fz_data.specs.Stands.{StandsFor, entry_view, entry_place, is_kept, declared_pair}
-use Rattle.fz_scope.proofs.Steps.{in_constraints, in_goal, nowhere}
+use Rattle.fz_meaning.proofs.ScanSteps.{in_constraints, in_goal, nowhere}
 use Rattle.fz_data.proofs.Finds.{first_some-same}
 use Rattle.fz_data.proofs.OwnKinds.{HasOwnKind, name_fits, own_kinds, posted_fit}
 use Rattle.fz_data.proofs.Tells.{tells_further}

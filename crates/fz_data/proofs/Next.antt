@@ -5,9 +5,9 @@ use Rattle.std.proofs.lemmas.List.{length-map, map-append}
 use Rattle.fz_meaning.specs.Located.{Decl}
 use Rattle.fz_meaning.specs.Names.{parts, kind_of_base, differs_in_length, variable_declared, scalar_variables}
 use Rattle.fz_meaning.specs.Names.FaultKind.{DuplicateName, WrongLength}
-use Rattle.fz_scope.specs.FirstFault.{Fault, decl_fault}
-use Rattle.fz_scope.proofs.Known.{parts_clean, next_number}
-use Rattle.fz_scope.proofs.Steps.{is_new, first_none}
+use Rattle.fz_meaning.specs.FirstFault.{Fault, decl_fault}
+use Rattle.fz_meaning.proofs.KnownNames.{parts_clean, next_number}
+use Rattle.fz_meaning.proofs.ScanSteps.{is_new, first_none}
 use Rattle.fz_data.specs.declared.scope.Item.{Item}
 use Rattle.fz_data.specs.declared.scope.Item.TheVariants as items
 use Rattle.fz_data.specs.declared.scope.Scope.{Scope}

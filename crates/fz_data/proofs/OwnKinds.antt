@@ -17,12 +17,12 @@ use Rattle.fz_meaning.specs.Steps.{kind_at}
 use Rattle.fz_meaning.proofs.Determined.{at_found}
 use Rattle.fz_meaning.proofs.Scope.{kind_of_number, same_kind_is}
 use Rattle.fz_meaning.proofs.Values.{no, and_first, and_second}
-use Rattle.fz_scope.specs.FirstFault.{decl_fault, decls_fault, part_fault, parts_fault}
-use Rattle.fz_scope.proofs.Known.{clean_name, found_stays, has_name, parts_clean, term_found}
-use Rattle.fz_scope.proofs.Laid.{literal_is_of}
-use Rattle.fz_scope.proofs.Names.{are_new, find_declared}
-use Rattle.fz_scope.proofs.Steps.{first_none, second_none}
-use Rattle.fz_scope.proofs.Table.{array_by_place, scalar_by_place}
+use Rattle.fz_meaning.specs.FirstFault.{decl_fault, decls_fault, part_fault, parts_fault}
+use Rattle.fz_meaning.proofs.KnownNames.{clean_name, found_stays, has_name, parts_clean, term_found}
+use Rattle.fz_meaning.proofs.Laid.{literal_is_of}
+use Rattle.fz_meaning.proofs.Names.{are_new, find_declared}
+use Rattle.fz_meaning.proofs.ScanSteps.{first_none, second_none}
+use Rattle.fz_meaning.proofs.Table.{array_by_place, scalar_by_place}
 use Rattle.fz_data.specs.declared.parts.Array as the_array
 use Rattle.fz_data.specs.declared.parts.Variable.{Variable}
 use Rattle.fz_data.specs.Kinds.{ArgumentFits, PlaceFits, PostedFits, TermFits}

@@ -10,8 +10,8 @@ use Rattle.fz_meaning.proofs.Lists.{at_place}
 use Rattle.fz_meaning.specs.declared.term.Term.{Term}
 use Rattle.fz_meaning.specs.declared.term.Domain.TheVariants.{All}
 use Rattle.std.proofs.lemmas.Bool.{false≢true}
-use Rattle.fz_table.specs.Known.{known_row}
-use Rattle.fz_table.specs.declared.known.Known.{Known}
+use Rattle.fz_meaning.specs.Known.{known_row}
+use Rattle.fz_meaning.specs.declared.known.Known.{Known}
 use Rattle.fz_data.specs.declared.model.Model.TheInside.{Inside}
 use Rattle.fz_data.specs.declared.parts.DeclaredPoint.{DeclaredPoint}
 use Rattle.fz_data.specs.declared.parts.DeclaredPoint.TheVariants as points

@@ -9,7 +9,7 @@ use Rattle.std.proofs.lemmas.List.Folds.{list_all-append}
 use Rattle.std.proofs.lemmas.Option.{slice_get-map, same_Some}
 use Rattle.fz_meaning.proofs.Lists.{all_append}
 use Rattle.fz_meaning.proofs.Values.{and_first, and_second}
-use Rattle.fz_table.specs.declared.known.Known.{Known}
+use Rattle.fz_meaning.specs.declared.known.Known.{Known}
 use Rattle.fz_data.specs.declared.parts.Array.{Array}
 use Rattle.fz_data.specs.declared.parts.Posted.{Posted}
 use Rattle.fz_data.specs.declared.point.LaidParts.{LaidParts}

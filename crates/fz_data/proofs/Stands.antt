@@ -11,8 +11,8 @@ use Rattle.fz_meaning.specs.Meaning.Declared.{Parameter, ScalarVariable, ArrayOf
 use Rattle.fz_meaning.specs.Meaning.Point.{DomainPoint, DefinitionPoint, ArrayPoint}
 use Rattle.fz_meaning.specs.Names.{parts, kind_of_base, domain_of, is_scalar, is_scalar_variable, scalar_variables, term_of, place_of_declared, definition_of, declared_of, variable_declared}
 use Rattle.fz_meaning.proofs.Lists.{all_append}
-use Rattle.fz_scope.proofs.Known.{next_number, scalars_more}
-use Rattle.fz_scope.proofs.Names.{numbered_decl}
+use Rattle.fz_meaning.proofs.KnownNames.{next_number, scalars_more}
+use Rattle.fz_meaning.proofs.Names.{numbered_decl}
 use Rattle.fz_data.specs.declared.parts.Array as the_array
 use Rattle.fz_data.specs.declared.parts.DeclaredPoint.{DeclaredPoint}
 use Rattle.fz_data.specs.declared.parts.Variable.{Variable}

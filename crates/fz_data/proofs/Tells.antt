@@ -3,8 +3,8 @@ use Rattle.std.proofs.Common.{◌≡◌, ℕ, ◌<◌, List, map, length, take, 
 use Rattle.fz_meaning.specs.declared.error.ModelError.{ModelError}
 use Rattle.fz_meaning.specs.declared.error.ModelError.TheVariants as errors
 use Rattle.fz_meaning.specs.Meaning.{first_some}
-use Rattle.fz_scope.specs.FirstFault.{Fault}
-use Rattle.fz_scope.proofs.Steps.{first_stops}
+use Rattle.fz_meaning.specs.FirstFault.{Fault}
+use Rattle.fz_meaning.proofs.ScanSteps.{first_stops}
 use Rattle.fz_data.specs.Scope.{Tells}
 
 -- where the second has the fault that the first has

@@ -28,7 +28,7 @@ use Rattle.std.specs.Option.{option_or}
 use Rattle.fz_meaning.specs.Meaning.Place.{Scalar, Array}
 use Rattle.fz_meaning.specs.Names.{literal_value, literal_of, parts, kind_of_base, domain_of, is_scalar, differs_in_length, variable_declared}
 use Rattle.fz_meaning.specs.Names.FaultKind.{DuplicateName, UnknownName, WrongKind, WrongLength}
-use Rattle.fz_scope.specs.FirstFault.{Fault, literal_fault}
+use Rattle.fz_meaning.specs.FirstFault.{Fault, literal_fault}
 use Rattle.fz_data.specs.declared.scope.Scope.{Scope}
 use Rattle.fz_data.specs.declared.scope.Item.{Item}
 use Rattle.fz_data.specs.declared.scope.Item.TheVariants as items

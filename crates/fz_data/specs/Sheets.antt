@@ -4,7 +4,7 @@ use Rattle.std.specs.List.{list_all, AllByRecursion}
 use Rattle.std.specs.Option.{option_map_or}
 use Rattle.fz_base.specs.declared.value.Value.{Value}
 use Rattle.fz_meaning.specs.declared.term.Term.{Term}
-use Rattle.fz_table.specs.declared.known.Known.{Known}
+use Rattle.fz_meaning.specs.declared.known.Known.{Known}
 use Rattle.fz_data.specs.declared.parts.Array.{Array}
 use Rattle.fz_data.specs.declared.parts.Place.{Place}
 use Rattle.fz_data.specs.declared.parts.Argument.{Argument}

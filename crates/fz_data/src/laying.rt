@@ -7,7 +7,7 @@ ghost use Rattle.fz_data.specs.Sheets.{kept_lines, laid_lines};
 
 use crate::parts::{Array, Posted, Variable};
 use crate::sheet::Sheet;
-use fz_table::Known;
+use fz_meaning::Known;
 
 /// A model's constraints and its sheets, with the numbers, from 0, of the constraints that stand on none.
 #[derive(Clone, Copy)]

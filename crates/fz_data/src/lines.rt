@@ -1,7 +1,7 @@
 //! Constraints as they are looked up on sheets.
 
 ghost use Rattle.std.specs.Prelude.{◌≡◌, ◌<◌, IfSome, List, Option, Some, drop, length, option_map, pred, slice_get, suc, take};
-ghost use Rattle.fz_table.specs.declared.known.Known.{Known as Row};
+ghost use Rattle.fz_meaning.specs.declared.known.Known.{Known as Row};
 ghost use Rattle.fz_data.specs.declared.parts.Array.{Array as HeldArray};
 ghost use Rattle.fz_data.specs.declared.parts.Posted.{Posted as HeldPosted};
 ghost use Rattle.fz_data.specs.Laying.{IsPartsOf};
@@ -11,7 +11,7 @@ ghost use Rattle.fz_data.specs.Sheets.{AreSheetsOf, known_at, lines_of};
 use crate::laying::Laying;
 use crate::point::{ConstraintParts, LaidParts};
 use crate::sheet::Sheets;
-use fz_table::Known;
+use fz_meaning::Known;
 
 /// So many items from a place on, as far as there are.
 #[inline]

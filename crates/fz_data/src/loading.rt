@@ -4,7 +4,7 @@ ghost use Rattle.std.specs.Prelude.{◌≡◌, [], IfErr, IfOk, None, map};
 ghost use Rattle.fz_meaning.specs.declared.error.ModelError.TheVariants.{Memory};
 ghost use Rattle.fz_meaning.specs.Names.{HasNoFault, IsInReadingOrder, model_of};
 ghost use Rattle.fz_meaning.specs.View.{TellsFirstFault, located, located_decl};
-ghost use Rattle.fz_scope.specs.FirstFault.{decls_fault, first_fault};
+ghost use Rattle.fz_meaning.specs.FirstFault.{decls_fault, first_fault};
 ghost use Rattle.fz_data.specs.Naming.{own_terms};
 ghost use Rattle.fz_data.specs.Scope.{HasKinds, Tells};
 ghost use Rattle.fz_data.specs.Stands.{StandsFor};

@@ -2,7 +2,7 @@
 
 ghost use Rattle.std.specs.Prelude.{◌≡◌, ◌<◌, ◌++◌, IfSome, Some, length, map, option_map, slice_get};
 ghost use Rattle.fz_meaning.specs.Meaning.{constraint_points, find_name, points, row_of, shown_point, shown_posted as shown, variables_of};
-ghost use Rattle.fz_table.specs.Known.{known_row};
+ghost use Rattle.fz_meaning.specs.Known.{known_row};
 ghost use Rattle.fz_data.specs.Kinds.{PlaceFits, PostedFits};
 ghost use Rattle.fz_data.specs.Parts.{goal_view, posted_view, variable_view};
 ghost use Rattle.std.specs.List.{AllByRecursion};
@@ -16,8 +16,7 @@ use crate::parts::{Array, DeclaredPoint, Goal, Posted, Variable};
 use crate::point::{ConstraintParts, Point, PointParts};
 use crate::scope::Scope;
 use crate::sheet::Sheets;
-use fz_meaning::Term;
-use fz_table::Known;
+use fz_meaning::{Known, Term};
 
 /// A model with its names looked up. A contract sees it as the model of the tree that it was loaded from.
 #[derive(Drop)]

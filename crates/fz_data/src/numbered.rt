@@ -7,7 +7,7 @@ ghost use Rattle.fz_data.specs.Numbered.{entry_of, entry_there, head_of, is_free
 
 use crate::names::Entry;
 use crate::sheet::small;
-use fz_table::same_text;
+use fz_meaning::same_text;
 use std::alloc::{AllocError, Global};
 
 /// So many bytes at the end of a name are its end, which is looked through for digits; the others are its head.

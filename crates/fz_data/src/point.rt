@@ -8,8 +8,7 @@ ghost use Rattle.fz_data.specs.Readings.{kept_readings, readings_or, target_or};
 use crate::parts::{Array, Posted, Variable};
 use crate::sheet::{Laid, Slot};
 use fz_base::Value;
-use fz_meaning::{Domain, Term};
-use fz_table::Known;
+use fz_meaning::{Domain, Known, Term};
 
 /// A point by what it is told by: a declared name, or a constraint's number, from 1, and its predicate's name. Names are slices of the
 /// source.

@@ -8,7 +8,7 @@ ghost use Rattle.fz_meaning.specs.Names.{goal_parts};
 ghost use Rattle.fz_meaning.specs.View.{located_basic, located_constraint, located_expr, located_goal, located_name};
 ghost use Rattle.fz_syntax.specs.View.{bare_basic, bare_note, bare_notes};
 ghost use Rattle.fz_syntax.specs.Tree.NoteArg.{OneBasic};
-ghost use Rattle.fz_table.specs.Known.{known_row};
+ghost use Rattle.fz_meaning.specs.Known.{known_row};
 ghost use Rattle.fz_data.specs.Layout.{AreCited, CitesArrays, IsCited};
 ghost use Rattle.fz_data.specs.Parts.{argument_view, goal_view, place_view, posted_view};
 ghost use Rattle.fz_data.specs.Sheets.{AreSheetsOf};
@@ -22,9 +22,8 @@ use crate::rows::row_of;
 use crate::scope::{Scope, term_of};
 use crate::sheet::Sheets;
 use crate::values::{copied, literal_value};
-use fz_meaning::{Kind, ModelError, Term};
+use fz_meaning::{Kind, Known, ModelError, Term, same_text};
 use fz_syntax::{Basic, Constraint, Expr, Goal as TreeGoal, Name, Note, NoteArg, NoteBasic};
-use fz_table::{Known, same_text};
 use std::alloc::Global;
 
 /// What a name stands for.

@@ -4,14 +4,13 @@ ghost use Rattle.std.specs.Prelude.{◌≡◌, map, option_map};
 ghost use Rattle.std.specs.List.{list_all};
 ghost use Rattle.fz_meaning.specs.declared.term.Term.TheVariants.{Var};
 ghost use Rattle.fz_meaning.specs.Meaning.{fits, has_shape, have_shapes, row_of};
-ghost use Rattle.fz_table.specs.Known.{known_row, shape_of};
+ghost use Rattle.fz_meaning.specs.Known.{known_row, shape_of};
 ghost use Rattle.fz_data.specs.Parts.{argument_view, kind_of_term, posted_view};
 ghost use Rattle.fz_data.specs.Fitting.{are_equally_long, array_kind, is_array_of, is_scalar_of, is_term_among, kinds_among, length_of};
 
 use crate::parts::{Argument, Array, Place, Posted, Variable};
 use crate::values::{kind_of, same_kind};
-use fz_meaning::{Kind, Term};
-use fz_table::{Known, Shape};
+use fz_meaning::{Kind, Known, Shape, Term};
 
 /// What constraints cite: the variables, their kinds, and the arrays. The kinds stand side by side, a byte each, so that the look-ups of
 /// all constraints find them near.

@@ -3,7 +3,7 @@
 ghost use Rattle.std.specs.Prelude.{◌≡◌, ◌++◌, ◌∷◌, [], IfErr, IfOk, OnOk, None, Some, cond, is_none, length, map, true};
 ghost use Rattle.fz_meaning.specs.View.{located_basic};
 ghost use Rattle.fz_meaning.specs.declared.term.Term.TheVariants.{Fixed, Var};
-ghost use Rattle.fz_scope.specs.FirstFault.{literal_fault};
+ghost use Rattle.fz_meaning.specs.FirstFault.{literal_fault};
 ghost use Rattle.fz_meaning.specs.Names.{literal_value};
 ghost use Rattle.fz_meaning.specs.Values.{kind_of};
 ghost use Rattle.fz_syntax.specs.View.{bare_literal_kind};

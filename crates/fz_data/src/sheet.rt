@@ -5,15 +5,14 @@
 ghost use Rattle.std.specs.Prelude.{◌≡◌, ◌++◌, ◌∷◌, [], IfOk, IfSome, IsFalse, IsTrue, List, OnOk, Option, Some, ℕ, length, slice_get};
 ghost use Rattle.fz_base.specs.declared.value.Value.TheVariants.{Int, Set};
 ghost use Rattle.fz_meaning.specs.declared.term.Term.TheVariants.{Fixed};
-ghost use Rattle.fz_table.specs.declared.known.Known.{Known as Row};
+ghost use Rattle.fz_meaning.specs.declared.known.Known.{Known as Row};
 ghost use Rattle.fz_data.specs.declared.parts.Array.{Array as HeldArray};
 ghost use Rattle.fz_data.specs.declared.parts.Posted.{Posted as HeldPosted};
 ghost use Rattle.fz_data.specs.Sheets.{AreLaidBy, AreSheetsOf, AreSlotsOf, IsAdded, IsDefiningOf, IsGrown, IsLaidBy, IsLonger, IsSlotOf};
 
 use crate::parts::{Argument, Place, Posted};
 use fz_base::{IntSet, Value};
-use fz_meaning::Term;
-use fz_table::Known;
+use fz_meaning::{Known, Term};
 use std::alloc::{AllocError, Global};
 
 /// A scalar of a constraint: a variable's number, a number, a truth value, or the place of a value among the sheet's constants.

@@ -8,8 +8,8 @@ use Rattle.fz_meaning.specs.Builtins.{Shape, Row, reified, with_bool, read, leav
 use Rattle.fz_meaning.specs.Builtins.Shape.{ScalarOf, ArrayOf}
 use Rattle.fz_meaning.specs.Builtins.ArgValue.{OneValue}
 use Rattle.fz_meaning.specs.Meaning.{Argument, Partial, row_holds}
-use Rattle.fz_table.proofs.Rows.{AreRead, reified_holds, plain_ints, plain_bools, plain_sets}
-use Rattle.fz_scene.specs.Given.{given, given_from, given_values, bool_at, ints_at, bools_at, sets_at}
+use Rattle.fz_meaning.proofs.TableRows.{AreRead, reified_holds, plain_ints, plain_bools, plain_sets}
+use Rattle.fz_kernel.specs.of_scene.Given.{given, given_from, given_values, bool_at, ints_at, bools_at, sets_at}
 use Rattle.fz_eval.specs.Outcomes.{row_outcome, sum_outcome, compared}
 
 -- the values that are given are read as they are

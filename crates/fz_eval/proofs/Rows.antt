@@ -8,10 +8,10 @@ use Rattle.fz_base.specs.declared.value.Value.TheVariants.{Int, Bool as BoolValu
 use Rattle.fz_meaning.specs.Values.{◌=ℤ◌, ◌=ᴮ◌, ◌=ˢ◌}
 use Rattle.fz_meaning.specs.Builtins.{total, products, where_true, is_element, is_among, is_odd, as_number, all_different, leaves_128}
 use Rattle.fz_meaning.specs.Meaning.{Argument, Partial}
-use Rattle.fz_table.specs.declared.builtin.Builtin.TheVariants.{IntEq, IntNe, IntLe, IntLt, IntPlus, IntTimes, IntMin, IntMax, IntAbs, IntDiv, IntMod, BoolEq, BoolLe, BoolLt, BoolNot, BoolAnd, BoolOr, BoolXor, Bool2Int, SetIn, SetEq, SetNe, SetSubset, SetSuperset, SetUnion, SetIntersect, SetDiff, SetSymdiff, SetCard, IntLinEq, IntLinNe, IntLinLe, ArrayIntElement, ArrayVarIntElement, ArrayIntMaximum, ArrayIntMinimum, FznAllDifferentInt, ArrayBoolAnd, ArrayBoolOr, ArrayBoolXor, ArrayBoolElement, ArrayVarBoolElement, BoolClause, BoolLinEq, BoolLinLe, ArraySetElement, ArrayVarSetElement}
-use Rattle.fz_table.specs.Known.{name_of, row_at}
-use Rattle.fz_table.proofs.Rows.{plain_ints, plain_bools, plain_sets, int_eq_holds, int_ne_holds, int_le_holds, int_lt_holds, int_plus_holds, int_times_holds, int_min_holds, int_max_holds, int_abs_holds, int_div_holds, int_mod_holds, bool_eq_holds, bool_le_holds, bool_lt_holds, bool_not_holds, bool_and_holds, bool_or_holds, bool_xor_holds, bool2int_holds, set_in_holds, set_eq_holds, set_ne_holds, set_subset_holds, set_superset_holds, set_union_holds, set_intersect_holds, set_diff_holds, set_symdiff_holds, set_card_holds, int_lin_eq_holds, int_lin_ne_holds, int_lin_le_holds, array_int_element_holds, array_var_int_element_holds, array_int_maximum_holds, array_int_minimum_holds, fzn_all_different_int_holds, array_bool_and_holds, array_bool_or_holds, array_bool_xor_holds, array_bool_element_holds, array_var_bool_element_holds, bool_clause_holds, bool_lin_eq_holds, bool_lin_le_holds, array_set_element_holds, array_var_set_element_holds}
-use Rattle.fz_scene.specs.Given.{int_at, bool_at, set_at, ints_at, bools_at, sets_at}
+use Rattle.fz_meaning.specs.declared.builtin.Builtin.TheVariants.{IntEq, IntNe, IntLe, IntLt, IntPlus, IntTimes, IntMin, IntMax, IntAbs, IntDiv, IntMod, BoolEq, BoolLe, BoolLt, BoolNot, BoolAnd, BoolOr, BoolXor, Bool2Int, SetIn, SetEq, SetNe, SetSubset, SetSuperset, SetUnion, SetIntersect, SetDiff, SetSymdiff, SetCard, IntLinEq, IntLinNe, IntLinLe, ArrayIntElement, ArrayVarIntElement, ArrayIntMaximum, ArrayIntMinimum, FznAllDifferentInt, ArrayBoolAnd, ArrayBoolOr, ArrayBoolXor, ArrayBoolElement, ArrayVarBoolElement, BoolClause, BoolLinEq, BoolLinLe, ArraySetElement, ArrayVarSetElement}
+use Rattle.fz_meaning.specs.Known.{name_of, row_at}
+use Rattle.fz_meaning.proofs.TableRows.{plain_ints, plain_bools, plain_sets, int_eq_holds, int_ne_holds, int_le_holds, int_lt_holds, int_plus_holds, int_times_holds, int_min_holds, int_max_holds, int_abs_holds, int_div_holds, int_mod_holds, bool_eq_holds, bool_le_holds, bool_lt_holds, bool_not_holds, bool_and_holds, bool_or_holds, bool_xor_holds, bool2int_holds, set_in_holds, set_eq_holds, set_ne_holds, set_subset_holds, set_superset_holds, set_union_holds, set_intersect_holds, set_diff_holds, set_symdiff_holds, set_card_holds, int_lin_eq_holds, int_lin_ne_holds, int_lin_le_holds, array_int_element_holds, array_var_int_element_holds, array_int_maximum_holds, array_int_minimum_holds, fzn_all_different_int_holds, array_bool_and_holds, array_bool_or_holds, array_bool_xor_holds, array_bool_element_holds, array_var_bool_element_holds, bool_clause_holds, bool_lin_eq_holds, bool_lin_le_holds, array_set_element_holds, array_var_set_element_holds}
+use Rattle.fz_kernel.specs.of_scene.Given.{int_at, bool_at, set_at, ints_at, bools_at, sets_at}
 use Rattle.fz_eval.specs.declared.outcome.Outcome.TheVariants.{Truth}
 use Rattle.fz_eval.specs.Outcomes.{row_outcome, sum_outcome}
 

@@ -8,13 +8,13 @@ use Rattle.fz_meaning.specs.declared.state.State.TheVariants.{Holds, Fails, NoVa
 use Rattle.fz_meaning.specs.Builtins.{Shape, Row, ArgValue, [I], I, B, rows, reified, leaves_128, products}
 use Rattle.fz_meaning.specs.Meaning.{Argument, Partial, Posted, argument_values, fits, have_shapes, judged, judged_by, row_holds, row_of, state_of_row, state_of_values, sums_leave, values}
 use Rattle.fz_meaning.proofs.Values.{no, no', and_first, and_second}
-use Rattle.fz_table.specs.declared.builtin.Builtin.{Builtin}
-use Rattle.fz_table.specs.declared.builtin.Builtin.TheVariants.{IntEq, IntNe, IntLe, IntLt, IntLinEq, IntLinNe, IntLinLe, IntPlus, IntTimes, IntMin, IntMax, IntAbs, IntDiv, IntMod, ArrayIntElement, ArrayVarIntElement, ArrayIntMaximum, ArrayIntMinimum, FznAllDifferentInt, BoolEq, BoolLe, BoolLt, BoolNot, BoolAnd, BoolOr, BoolXor, ArrayBoolAnd, ArrayBoolOr, ArrayBoolXor, ArrayBoolElement, ArrayVarBoolElement, BoolClause, Bool2Int, BoolLinEq, BoolLinLe, SetIn, SetEq, SetNe, SetSubset, SetSuperset, SetUnion, SetIntersect, SetDiff, SetSymdiff, SetCard, ArraySetElement, ArrayVarSetElement}
-use Rattle.fz_table.specs.declared.known.Known.{Known}
-use Rattle.fz_table.specs.Known.{name_of, row_at, known_row}
-use Rattle.fz_scene.specs.Given.{are_read, are_given, has_value, given_values, ints_at}
-use Rattle.fz_scene.proofs.Ready.{ready_values, values_given, values_some, wrong_kind}
-use Rattle.fz_scene.proofs.Sums.{sums_leave_is}
+use Rattle.fz_meaning.specs.declared.builtin.Builtin.{Builtin}
+use Rattle.fz_meaning.specs.declared.builtin.Builtin.TheVariants.{IntEq, IntNe, IntLe, IntLt, IntLinEq, IntLinNe, IntLinLe, IntPlus, IntTimes, IntMin, IntMax, IntAbs, IntDiv, IntMod, ArrayIntElement, ArrayVarIntElement, ArrayIntMaximum, ArrayIntMinimum, FznAllDifferentInt, BoolEq, BoolLe, BoolLt, BoolNot, BoolAnd, BoolOr, BoolXor, ArrayBoolAnd, ArrayBoolOr, ArrayBoolXor, ArrayBoolElement, ArrayVarBoolElement, BoolClause, Bool2Int, BoolLinEq, BoolLinLe, SetIn, SetEq, SetNe, SetSubset, SetSuperset, SetUnion, SetIntersect, SetDiff, SetSymdiff, SetCard, ArraySetElement, ArrayVarSetElement}
+use Rattle.fz_meaning.specs.declared.known.Known.{Known}
+use Rattle.fz_meaning.specs.Known.{name_of, row_at, known_row}
+use Rattle.fz_kernel.specs.of_scene.Given.{are_read, are_given, has_value, given_values, ints_at}
+use Rattle.fz_kernel.proofs.of_scene.Ready.{ready_values, values_given, values_some, wrong_kind}
+use Rattle.fz_kernel.proofs.of_scene.Sums.{sums_leave_is}
 use Rattle.fz_eval.specs.Outcomes.{row_outcome, sum_outcome, told}
 
 -- ---- a row whose sum is added in 128 bits begins with two arrays of numbers

@@ -14,8 +14,8 @@ use Rattle.fz_meaning.proofs.Values.{and_first, and_second}
 use Rattle.fz_data.specs.declared.sheet.Sheet.{Sheet}
 use Rattle.fz_data.specs.declared.sheet.Line.{Line}
 use Rattle.fz_data.specs.Sheets.{Covers, known_at}
-use Rattle.fz_table.specs.declared.known.Known.{Known}
-use Rattle.fz_table.specs.Known.{known_row}
+use Rattle.fz_meaning.specs.declared.known.Known.{Known}
+use Rattle.fz_meaning.specs.Known.{known_row}
 use Rattle.fz_eval.specs.Holding.{is_held, point_holds, posted_holds, number_holds}
 
 -- ---- one after another

@@ -26,7 +26,7 @@ use Rattle.fz_meaning.proofs.Values.{no, and_first, and_second}
 use Rattle.fz_data.specs.declared.parts.Variable.{Variable}
 use Rattle.fz_data.specs.Kinds.{TermFits, PlaceFits, ArgumentFits, PostedFits}
 use Rattle.fz_data.specs.Parts.{variable_view}
-use Rattle.fz_scene.specs.Given.{slot_of, is_read, argument_is_read, are_read}
+use Rattle.fz_kernel.specs.of_scene.Given.{slot_of, is_read, argument_is_read, are_read}
 use Rattle.fz_eval.specs.Holding.{is_held, point_holds}
 use Rattle.fz_eval.specs.Whole.{AreReady, is_domain, lies_inside, lie_inside}
 use Rattle.fz_eval.proofs.States.{row_fits}

@@ -5,7 +5,7 @@ use Rattle.fz_meaning.specs.declared.state.State.TheVariants.{TooLarge as TooLar
 use Rattle.fz_meaning.specs.Values.{◌=ᴮ◌}
 use Rattle.fz_meaning.specs.Builtins.{Row, leaves_128, products}
 use Rattle.fz_meaning.specs.Meaning.{Argument, Partial, judged, row_holds}
-use Rattle.fz_scene.specs.Given.{given_values, ints_at}
+use Rattle.fz_kernel.specs.of_scene.Given.{given_values, ints_at}
 use Rattle.fz_eval.specs.declared.outcome.Outcome.{Outcome}
 use Rattle.fz_eval.specs.declared.outcome.Outcome.TheVariants.{Truth, TooLarge}
 

@@ -1,9 +1,9 @@
 -- The arguments of a scene by their places, counted from 0.
 use Rattle.std.specs.Prelude.{ℕ, ℤ, Bool, List}
 use Rattle.fz_base.specs.Sets.{NumberSet}
-use Rattle.fz_scene.specs.declared.scene.Scene.{Scene}
-use Rattle.fz_scene.specs.Views.{arguments_of, assigned}
-use Rattle.fz_scene.specs.Given.{int_at, bool_at, set_at, ints_at, bools_at, sets_at}
+use Rattle.fz_kernel.specs.of_scene.declared.scene.Scene.{Scene}
+use Rattle.fz_kernel.specs.of_scene.Views.{arguments_of, assigned}
+use Rattle.fz_kernel.specs.of_scene.Given.{int_at, bool_at, set_at, ints_at, bools_at, sets_at}
 
 abbrev pub int : Scene → ℕ → ℤ
 int s i = int_at (assigned s) (arguments_of s) i

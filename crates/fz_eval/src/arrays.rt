@@ -10,7 +10,7 @@ use fz_kernel::arrays::{
     all_elements_different, all_true, any_true, clause_holds, is_bool_element, is_int_element,
     is_maximum, is_minimum, is_set_element, odd_number_true, sum_where_true,
 };
-use fz_scene::Scene;
+use fz_kernel::fz_scene::Scene;
 use std::alloc::{AllocError, Global};
 
 /// Whether the element at the index is the third argument.

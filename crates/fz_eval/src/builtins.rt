@@ -1,14 +1,14 @@
 //! The rows of the table.
 
 ghost use Rattle.std.specs.Prelude.{◌≡◌, IfOk};
-ghost use Rattle.fz_table.specs.Known.{row_at};
-ghost use Rattle.fz_scene.specs.Views.{arguments_of, assigned};
+ghost use Rattle.fz_meaning.specs.Known.{row_at};
+ghost use Rattle.fz_kernel.specs.of_scene.Views.{arguments_of, assigned};
 ghost use Rattle.fz_eval.specs.Outcomes.{row_outcome};
 
 use crate::outcome::Outcome;
 use crate::{arrays, numbers, sets, sums, truths};
-use fz_scene::Scene;
-use fz_table::Builtin;
+use fz_kernel::fz_scene::Scene;
+use fz_meaning::Builtin;
 use std::alloc::{AllocError, Global};
 
 /// What the row of a builtin comes to at the values that the scene gives. It refuses only where memory runs out.

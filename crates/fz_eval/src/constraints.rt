@@ -3,10 +3,10 @@
 ghost use Rattle.std.specs.Prelude.{◌≡◌, IfOk, IsTrue, Some, ◌&&◌, true, map, option_map};
 ghost use Rattle.fz_meaning.specs.Builtins.{leaves_128, products};
 ghost use Rattle.fz_meaning.specs.Meaning.{have_shapes, row_of, state_of_row};
-ghost use Rattle.fz_table.specs.Known.{known_row};
+ghost use Rattle.fz_meaning.specs.Known.{known_row};
 ghost use Rattle.fz_data.specs.Parts.{posted_view};
-ghost use Rattle.fz_scene.specs.Given.{are_read};
-ghost use Rattle.fz_scene.specs.Views.{arguments_of, assigned};
+ghost use Rattle.fz_kernel.specs.of_scene.Given.{are_read};
+ghost use Rattle.fz_kernel.specs.of_scene.Views.{arguments_of, assigned};
 ghost use Rattle.fz_eval.specs.Outcomes.{row_outcome};
 ghost use Rattle.fz_eval.specs.Readings.{ints};
 ghost use Rattle.fz_eval.specs.Whole.{IsReady};
@@ -15,9 +15,8 @@ use crate::builtins::of_builtin;
 use crate::outcome::Outcome;
 use crate::sums::sums_leave;
 use fz_data::{ConstraintParts, Partial};
-use fz_meaning::State;
-use fz_scene::{Readiness, Scene};
-use fz_table::Known;
+use fz_meaning::{Known, State};
+use fz_kernel::fz_scene::{Readiness, Scene};
 use std::alloc::{AllocError, Global};
 
 /// The state of a constraint: unknown without a row, whatever its values are; then without a value; then too large; then by its row.

@@ -6,7 +6,7 @@ ghost use Rattle.std.specs.FinSet as sets;
 ghost use Rattle.fz_meaning.specs.declared.state.State.TheVariants.{Fails};
 ghost use Rattle.fz_meaning.specs.Values.{same_value};
 ghost use Rattle.fz_meaning.specs.Meaning.{admits, both, inside, is_outside, judged, judged_by, values};
-ghost use Rattle.fz_scene.specs.Given.{has_value};
+ghost use Rattle.fz_kernel.specs.of_scene.Given.{has_value};
 
 use fz_base::{IntSet, Value};
 use fz_data::Partial;

@@ -4,7 +4,7 @@
 ghost use Rattle.std.specs.Prelude.{◌≡◌, ◌≤◌, ◌<◌, ◌+◌, IfOk, IsTrue, Some, length, map, option_map, slice_get, take, true};
 ghost use Rattle.std.specs.List.{AllByRecursion, list_all};
 ghost use Rattle.fz_meaning.specs.Meaning.{points, row_of, variables_of};
-ghost use Rattle.fz_table.specs.Known.{known_row};
+ghost use Rattle.fz_meaning.specs.Known.{known_row};
 ghost use Rattle.fz_data.specs.Parts.{posted_view};
 ghost use Rattle.fz_data.specs.Sheets.{lines_of};
 ghost use Rattle.fz_data.specs.declared.sheet.Line.{Line};

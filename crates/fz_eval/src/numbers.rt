@@ -8,7 +8,7 @@ ghost use Rattle.fz_eval.specs.Readings.{int};
 use fz_kernel::numbers::{
     is_absolute, is_greatest, is_least, is_product, is_quotient, is_remainder, is_sum,
 };
-use fz_scene::Scene;
+use fz_kernel::fz_scene::Scene;
 
 /// Whether the numbers are equal.
 pub(crate) fn int_eq(scene: &Scene<'_, '_>) -> bool

@@ -4,7 +4,7 @@ use Rattle.fz_base.specs.declared.value.Value.{Value}
 use Rattle.fz_meaning.specs.declared.kind.Kind.{Kind}
 use Rattle.fz_meaning.specs.Builtins.{Row}
 use Rattle.fz_meaning.specs.Meaning.{Argument, Partial, sums_leave}
-use Rattle.fz_solve.specs.Left.{IsLeft, IsOfKind, IsPlaceOf, holds_with, is_too_large}
+use Rattle.fz_force.specs.Left.{IsLeft, IsOfKind, IsPlaceOf, holds_with, is_too_large}
 use Rattle.fz_force.specs.declared.only.Spot.{Spot}
 use Rattle.fz_force.specs.Forced.{IsOnlyValue, IsReady}
 use Rattle.fz_force.proofs.Held.{scalar_left, too_large}

@@ -19,8 +19,8 @@ use Rattle.fz_meaning.proofs.Lists.{all_append, all_map, at_place}
 use Rattle.fz_meaning.proofs.Scope.{same_kind_is}
 use Rattle.fz_meaning.proofs.Steps.{is_open, only_open_none}
 use Rattle.fz_meaning.proofs.Values.{no, and_first, and_second, and_both}
-use Rattle.fz_table.specs.declared.known.Known.{Known}
-use Rattle.fz_table.specs.Known.{known_row}
+use Rattle.fz_meaning.specs.declared.known.Known.{Known}
+use Rattle.fz_meaning.specs.Known.{known_row}
 use Rattle.fz_data.specs.Kinds.{ArgumentFits, PlaceFits, PostedFits, TermFits}
 use Rattle.fz_force.specs.Forced.{Fills}
 use Rattle.fz_force.specs.Kinds.{each_fits, kind_fits, kind_in}

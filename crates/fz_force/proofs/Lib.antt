@@ -1,3 +1,9 @@
+pub mod Lefts
+pub mod Plain
+pub mod RowLemmas
+pub mod Reified
+pub mod RowKinds
+pub mod LeftReadings
 pub mod Opens
 pub mod Spots
 pub mod Gaps

@@ -9,12 +9,12 @@ use Rattle.fz_meaning.specs.Builtins.Shape.{ScalarOf, ArrayOf}
 use Rattle.fz_meaning.specs.Builtins.Result.{NoResult, Places, UnitTerm}
 use Rattle.fz_meaning.specs.Meaning.{Argument, Partial, fits, have_shapes, sums_leave}
 use Rattle.fz_meaning.proofs.Values.{no, and_first, and_second}
-use Rattle.fz_table.specs.declared.builtin.Builtin.{Builtin}
-use Rattle.fz_table.specs.declared.builtin.Builtin.TheVariants.{IntLinEq}
-use Rattle.fz_table.specs.declared.known.Known.{Known}
-use Rattle.fz_table.specs.Known.{name_of, row_at, known_row}
-use Rattle.fz_scene.proofs.Sums.{sums_leave_is}
-use Rattle.fz_solve.specs.Left.{IsOfKind, IsPlaceOf, is_too_large, products_leave}
+use Rattle.fz_meaning.specs.declared.builtin.Builtin.{Builtin}
+use Rattle.fz_meaning.specs.declared.builtin.Builtin.TheVariants.{IntLinEq}
+use Rattle.fz_meaning.specs.declared.known.Known.{Known}
+use Rattle.fz_meaning.specs.Known.{name_of, row_at, known_row}
+use Rattle.fz_eval.proofs.of_scene.Sums.{sums_leave_is}
+use Rattle.fz_force.specs.Left.{IsOfKind, IsPlaceOf, is_too_large, products_leave}
 use Rattle.fz_force.specs.Forced.{IsRow}
 
 -- what is asked of each row holds of the one that is found

@@ -16,11 +16,11 @@ use Rattle.fz_meaning.specs.Steps.{IsResult, open_terms, terms_at_argument}
 use Rattle.fz_meaning.proofs.Values.{no, and_first, and_second}
 use Rattle.fz_meaning.proofs.States.{intro}
 use Rattle.fz_meaning.proofs.Steps.{is_open, term_keeps, variable_open, some_of, as_number_of}
-use Rattle.fz_table.specs.declared.builtin.Builtin.TheVariants.{IntLinEq}
-use Rattle.fz_table.specs.Known.{row_at}
-use Rattle.fz_scene.specs.Given.{slots_at, int_in, ints_of, ints_at, given, given_values}
-use Rattle.fz_scene.proofs.Ready.{slots_are_terms}
-use Rattle.fz_solve.specs.Left.{HasUnit, IsLeft, IsReadAsNone, IsUnit, holds_with_element, is_too_large, products_leave}
+use Rattle.fz_meaning.specs.declared.builtin.Builtin.TheVariants.{IntLinEq}
+use Rattle.fz_meaning.specs.Known.{row_at}
+use Rattle.fz_eval.specs.of_scene.Given.{slots_at, int_in, ints_of, ints_at, given, given_values}
+use Rattle.fz_eval.proofs.of_scene.Ready.{slots_are_terms}
+use Rattle.fz_force.specs.Left.{HasUnit, IsLeft, IsReadAsNone, IsUnit, holds_with_element, is_too_large, products_leave}
 use Rattle.fz_force.specs.declared.only.Spot.{Spot}
 use Rattle.fz_force.specs.Forced.{IsOnlyValue, IsReady}
 use Rattle.fz_force.proofs.Fits.{changes, new_value, open_first, open_behind, values_stay}

@@ -1,3 +1,6 @@
+pub mod Left
 pub mod Forced
 pub mod Kinds
 pub mod Only
+pub use Rattle.fz_eval.specs as of_eval
+pub use Rattle.fz_data.specs as of_data

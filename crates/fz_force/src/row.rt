@@ -6,22 +6,23 @@ ghost use Rattle.fz_base.specs.declared.value.Value.TheVariants.{Int};
 ghost use Rattle.fz_meaning.specs.Builtins.Result.{UnitTerm};
 ghost use Rattle.fz_meaning.specs.Meaning.{IsPartial, Model as Meaning, row_of};
 ghost use Rattle.fz_meaning.specs.Meaning.Point.{ConstraintPoint};
-ghost use Rattle.fz_table.specs.Known.{known_row, result_of};
+ghost use Rattle.fz_meaning.specs.Known.{known_row, result_of};
 ghost use Rattle.fz_data.specs.Kinds.{PostedFits};
 ghost use Rattle.fz_data.specs.Parts.{posted_view};
-ghost use Rattle.fz_scene.specs.Views.{arguments_of, assigned};
-ghost use Rattle.fz_solve.specs.Left.{HasUnit, IsPlaceOf};
+ghost use Rattle.fz_eval.specs.of_scene.Views.{arguments_of, assigned};
+ghost use Rattle.fz_force.specs.Left.{HasUnit, IsPlaceOf};
 ghost use Rattle.fz_force.specs.Forced.{IsForced, IsOnlyValue, IsReady, IsRow};
 ghost use Rattle.fz_force.specs.Kinds.{each_fits};
 ghost use Rattle.fz_force.specs.Only.{IsFlat, IsOnlyOpen, terms_given};
 
 use crate::laid::only_open_laid;
 use crate::only::{Spot, only_open};
+use crate::unit::unit_value;
+use crate::value::left_value;
 use fz_base::Value;
 use fz_data::{ConstraintParts, Partial};
-use fz_scene::Scene;
-use fz_solve::{left_value, unit_value};
-use fz_table::{Filled, Known};
+use fz_eval::fz_scene::Scene;
+use fz_meaning::{Filled, Known};
 use std::alloc::{AllocError, Global};
 
 /// What a constraint forces: the value that its row leaves to its target, where that stands in a result place and is the only scalar

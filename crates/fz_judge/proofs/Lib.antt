@@ -4,3 +4,4 @@ pub mod Starting
 pub mod Agreeing
 pub mod Verdicts
 pub mod Refusing
+pub use Rattle.fz_verdict.proofs as of_verdict

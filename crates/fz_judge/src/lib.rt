@@ -14,6 +14,8 @@ mod tests;
 mod values;
 mod verdict;
 
+pub use fz_model;
+pub use fz_verdict;
 pub use error::BlockError;
 pub use filling::fill;
 pub use judge::Judge;

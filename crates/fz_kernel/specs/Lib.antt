@@ -1,0 +1,1 @@
+pub use Rattle.fz_scene.specs as of_scene

@@ -12,3 +12,5 @@ pub mod numbers;
 pub mod sets;
 #[cfg(test)]
 mod tests;
+
+pub use fz_scene;

@@ -7,3 +7,4 @@ pub mod Scan
 pub mod Found
 pub mod Ahead
 pub mod Left
+pub use Rattle.fz_base.specs as of_base

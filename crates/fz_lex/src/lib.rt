@@ -8,6 +8,7 @@ mod scanner;
 mod token;
 mod word;
 
+pub use fz_base;
 pub use ahead::{Listed, Tokens, check_tokens};
 pub use error::SyntaxError;
 pub use lexer::{MOST_BYTES, lex};

@@ -3,17 +3,17 @@ use Rattle.std.proofs.Common.{◌≡◌, ◌≢◌, ℕ, ◌<◌, List, [], ◌�
 use Rattle.std.specs.Prelude.{⊤}
 use Rattle.std.proofs.KnownBytes.{Appends-nil, Appends-trans, Consumes-nil, Consumes-trans}
 use Rattle.std.specs.Io.KnownBytes.{Appends, Consumes, IsAtEnd}
-use Rattle.fz_model.specs.Meaning.{Model}
+use Rattle.fz_judge.specs.of_model.Meaning.{Model}
 use Rattle.fz_stream.specs.declared.splitter.Stage.TheVariants.{Finished}
 use Rattle.fz_stream.specs.Found.{claims_in}
 use Rattle.fz_stream.specs.Parts.{StreamPart, IsStreamText}
 use Rattle.fz_stream.specs.Splitting.{most_taken}
-use Rattle.fz_verdict.specs.Report.{answer_line, part_lines, text_of_lines}
-use Rattle.fz_verdict.specs.Verdict.{Verdict, Answer, AreJudged, IsFilled, answer_by, answer_of, first_number, is_undecided, is_violated}
-use Rattle.fz_verdict.proofs.Loops.{goes_on_judged}
-use Rattle.fz_verdict.proofs.Reports.{lines_of_report}
-use Rattle.fz_verdict.proofs.Places.{blocks_are_bare}
-use Rattle.fz_verdict.specs.View.{located_block}
+use Rattle.fz_judge.specs.of_verdict.Report.{answer_line, part_lines, text_of_lines}
+use Rattle.fz_judge.specs.of_verdict.Verdict.{Verdict, Answer, AreJudged, IsFilled, answer_by, answer_of, first_number, is_undecided, is_violated}
+use Rattle.fz_judge.proofs.of_verdict.Loops.{goes_on_judged}
+use Rattle.fz_judge.proofs.of_verdict.Reports.{lines_of_report}
+use Rattle.fz_judge.proofs.of_verdict.Places.{blocks_are_bare}
+use Rattle.fz_judge.specs.of_verdict.View.{located_block}
 use Rattle.fz_judge.specs.declared.error.BlockError.{BlockError}
 use Rattle.fz_judge.specs.Judged.{JudgeState}
 use Rattle.fz_stream.specs.declared.error.StreamError.{StreamError}

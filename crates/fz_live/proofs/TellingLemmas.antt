@@ -1,16 +1,16 @@
 -- One more part of a stream is told.
 use Rattle.std.proofs.Common.{◌≡◌, ◌≢◌, ℕ, suc, ◌+◌, List, [], ◌∷◌, ◌++◌, length, map, Some, None, cond, refl, sym, ap, ◌∙◌, subst, subst₂, Result, Ok, Err, OnOk, append_assoc, arith, length-append}
 use Rattle.std.specs.Option.{option_or}
-use Rattle.fz_model.specs.Meaning.{Model}
+use Rattle.fz_judge.specs.of_model.Meaning.{Model}
 use Rattle.fz_stream.specs.declared.block.Block as the_block
 use Rattle.fz_stream.specs.declared.line.ClaimKind.{ClaimKind}
 use Rattle.fz_stream.specs.Found.{HasPlaces, block_of, blocks_in}
 use Rattle.fz_stream.proofs.PartLemmas.{every_append}
 use Rattle.fz_stream.specs.Parts.{StreamPart, BlockPart, ClaimPart}
-use Rattle.fz_verdict.specs.View.{located_block}
-use Rattle.fz_verdict.specs.Report.{block_line, claim_line, part_lines, text_of_lines}
-use Rattle.fz_verdict.specs.Verdict.{Verdict, IsFilled, is_violated, is_undecided, first_number}
-use Rattle.fz_verdict.proofs.Loops.{GoesOn, goes_on_after, blocks_with_block, blocks_with_claim, lines_with_block, lines_with_claim, first_number_more}
+use Rattle.fz_judge.specs.of_verdict.View.{located_block}
+use Rattle.fz_judge.specs.of_verdict.Report.{block_line, claim_line, part_lines, text_of_lines}
+use Rattle.fz_judge.specs.of_verdict.Verdict.{Verdict, IsFilled, is_violated, is_undecided, first_number}
+use Rattle.fz_judge.proofs.of_verdict.Loops.{GoesOn, goes_on_after, blocks_with_block, blocks_with_claim, lines_with_block, lines_with_claim, first_number_more}
 use Rattle.fz_judge.specs.declared.error.BlockError.{BlockError}
 use Rattle.fz_judge.specs.declared.error.BlockError.TheVariants.{Memory}
 use Rattle.fz_judge.specs.Judged.{JudgeState, IsJudged, IsBlockRefusal}

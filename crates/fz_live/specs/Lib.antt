@@ -5,3 +5,4 @@ pub mod Inside
 pub mod View
 pub mod Live
 pub mod Telling
+pub use Rattle.fz_judge.specs as of_judge

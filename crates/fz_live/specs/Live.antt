@@ -3,13 +3,13 @@
 use Rattle.std.specs.Prelude.{◌≡◌, ◌≢◌, ℕ, suc, List, [], ◌∷◌, ◌++◌, ◌⊎◌, length, map, Option}
 use Rattle.std.specs.List.{AllByRecursion}
 use Rattle.std.specs.Io.KnownBytes.{Appends, Consumes, IsAtEnd}
-use Rattle.fz_model.specs.Meaning.{Model}
+use Rattle.fz_judge.specs.of_model.Meaning.{Model}
 use Rattle.fz_stream.specs.declared.block.Block as the_block
 use Rattle.fz_stream.specs.Found.{HasPlaces, block_of, blocks_in}
 use Rattle.fz_stream.specs.Parts.{StreamPart, BlockPart, IsStreamText}
-use Rattle.fz_verdict.specs.View.{located_block}
-use Rattle.fz_verdict.specs.Report.{Report, IsReport, answer_line, part_lines, report_bytes, text_of_lines}
-use Rattle.fz_verdict.specs.Verdict.{Verdict, Answer, AreVerdicts, answer_of}
+use Rattle.fz_judge.specs.of_verdict.View.{located_block}
+use Rattle.fz_judge.specs.of_verdict.Report.{Report, IsReport, answer_line, part_lines, report_bytes, text_of_lines}
+use Rattle.fz_judge.specs.of_verdict.Verdict.{Verdict, Answer, AreVerdicts, answer_of}
 use Rattle.fz_judge.specs.declared.error.BlockError.{BlockError}
 use Rattle.fz_judge.specs.declared.error.BlockError.TheVariants.{Memory}
 use Rattle.fz_judge.specs.Judged.{IsBlockRefusal}

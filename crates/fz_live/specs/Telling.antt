@@ -2,13 +2,13 @@
 use Rattle.std.specs.Prelude.{◌≡◌, ◌≢◌, ℕ, suc, ◌+◌, cond, List, [], ◌∷◌, ◌++◌, length, map, Option, Some, None, ⊤}
 use Rattle.std.specs.List.{AllByRecursion}
 use Rattle.std.specs.Option.{option_or}
-use Rattle.fz_model.specs.Meaning.{Model}
+use Rattle.fz_judge.specs.of_model.Meaning.{Model}
 use Rattle.fz_stream.specs.declared.block.Block as the_block
 use Rattle.fz_stream.specs.Found.{HasPlaces, block_of, blocks_in}
 use Rattle.fz_stream.specs.Parts.{StreamPart, BlockPart}
-use Rattle.fz_verdict.specs.Blocks.{Block}
-use Rattle.fz_verdict.specs.View.{located_block}
-use Rattle.fz_verdict.specs.Verdict.{Verdict, AreJudged, IsFilled, first_number, is_undecided, is_violated}
+use Rattle.fz_judge.specs.of_verdict.Blocks.{Block}
+use Rattle.fz_judge.specs.of_verdict.View.{located_block}
+use Rattle.fz_judge.specs.of_verdict.Verdict.{Verdict, AreJudged, IsFilled, first_number, is_undecided, is_violated}
 use Rattle.fz_judge.specs.declared.error.BlockError.{BlockError}
 use Rattle.fz_judge.specs.declared.error.BlockError.TheVariants.{Memory}
 use Rattle.fz_judge.specs.Judged.{JudgeState, IsJudged, IsBlockRefusal}

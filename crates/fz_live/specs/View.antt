@@ -1,5 +1,5 @@
 -- What the answer of the code stands for.
-use Rattle.fz_verdict.specs.Verdict as plain
+use Rattle.fz_judge.specs.of_verdict.Verdict as plain
 use Rattle.fz_live.specs.declared.line.Answer.{Answer}
 use Rattle.fz_live.specs.declared.line.Answer.TheVariants as answers
 

@@ -1,7 +1,7 @@
 //! The lines of a report, one at a time, and the answer.
 
 ghost use Rattle.std.specs.Prelude.{◌≡◌, ◌++◌, ◌∷◌, [], OnOk, decimal};
-ghost use Rattle.fz_verdict.specs.Report.{answer_line, block_line, claim_line, claim_text, text_of_lines, verdict_text};
+ghost use Rattle.fz_judge.specs.of_verdict.Report.{answer_line, block_line, claim_line, claim_text, text_of_lines, verdict_text};
 ghost use Rattle.fz_judge.specs.View.{verdict_view};
 ghost use Rattle.fz_live.specs.View.{answer_view};
 

@@ -16,7 +16,7 @@ use crate::tally::Tally;
 use crate::telling::{tell_answer, tell_next};
 use crate::writing::{WriteFailed, write_whole};
 use fz_judge::Judge;
-use fz_model::Model;
+use fz_judge::fz_model::Model;
 use std::alloc::Global;
 use std::io::{Read, Write};
 

@@ -1,13 +1,13 @@
 ghost use Rattle.std.specs.Prelude.{◌≡◌, ◌≢◌, ℕ, suc, ◌<◌, ◌+◌, List, [], ◌∷◌, ◌++◌, Err, IfErr, OnOk, OnErr, IsSome, cond, Some, None};
 ghost use Rattle.std.specs.Option.{option_or};
-ghost use Rattle.fz_model.specs.Meaning.{Model};
+ghost use Rattle.fz_judge.specs.of_model.Meaning.{Model};
 ghost use Rattle.fz_stream.specs.Found.{EndsWithin, HasPlaces};
 ghost use Rattle.fz_stream.specs.Parts.{StreamPart};
 ghost use Rattle.fz_stream.specs.Splitting.{most_taken};
 ghost use Rattle.fz_stream.specs.Lending.{part_of, HasPlacesOfItems, PartEndsWithin};
-ghost use Rattle.fz_verdict.specs.Report.{answer_line, block_line, text_of_lines};
-ghost use Rattle.fz_verdict.specs.Verdict.{Verdict as PlainVerdict};
-ghost use Rattle.fz_verdict.specs.View.{located_block};
+ghost use Rattle.fz_judge.specs.of_verdict.Report.{answer_line, block_line, text_of_lines};
+ghost use Rattle.fz_judge.specs.of_verdict.Verdict.{Verdict as PlainVerdict};
+ghost use Rattle.fz_judge.specs.of_verdict.View.{located_block};
 ghost use Rattle.fz_judge.specs.declared.error.BlockError.{BlockError as Refusal};
 ghost use Rattle.fz_judge.specs.Judged.{IsBlockRefusal};
 ghost use Rattle.fz_live.specs.Telling.{CountsOne, HasTold, IsRefused, IsTellingRefusal, IsTold, IsWritingRefusal, JudgesBlock, RefusesPart, TellsOneMore};

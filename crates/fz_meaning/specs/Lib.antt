@@ -6,3 +6,7 @@ pub mod Names
 pub mod View
 pub mod Steps
 pub mod Laws
+pub mod Known
+pub mod TableData
+pub mod FirstFault
+pub mod ReadingOrder

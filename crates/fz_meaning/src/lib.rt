@@ -1,18 +1,34 @@
-//! What a FlatZinc model means: names, the table of builtins, points and their states, forced steps. The inner crate below `fz_model`,
-//! which offers all of it.
+//! What a FlatZinc model means: names, the table of builtins, points and their states, forced steps, and the leftmost fault of names.
+//! The inner crate below `fz_model`, which offers all of it.
+//!
+//! The table of builtins stands here as data too. [`Known::find`] says what a constraint's name means: a [`Builtin`], or its form with a
+//! truth value behind. A [`Known`] tells what its row asks: the kinds of its arguments, whether two arrays have to be of equal lengths,
+//! whether its sum is added in 128 bits, and which arguments may be filled. What the row holds of is the definition's: `Builtins`.
+//!
+//! A later row is a variant and one line in each of `name`, `of_key` and `base_row`.
 #![tactic(auto)]
 
+mod builtin;
 mod error;
 mod kind;
+mod known;
+mod row;
 mod state;
 mod term;
+mod text;
 
+ghost use Rattle.fz_meaning.specs.FirstFault.{FirstFaultIsLeftmost, NoneIsFirst, NoneIsFound};
 ghost use Rattle.fz_meaning.specs.Laws.{LocatedIsBare, NumbersAgree, StepsAreForced, UnknownIsNotKnown};
+ghost use Rattle.fz_meaning.specs.ReadingOrder.{SourcesAreInReadingOrder};
 
+pub use builtin::Builtin;
 pub use error::ModelError;
 pub use kind::Kind;
+pub use known::Known;
+pub use row::{Filled, Shape};
 pub use state::State;
 pub use term::{Domain, Term};
+pub use text::same_text;
 
 /// A forced step has one value only.
 pub fn steps_are_forced()
@@ -32,4 +48,24 @@ pub fn unknown_is_not_known()
 /// The tree with its places, its places left out, is the parser's plain tree.
 pub fn located_is_bare()
     ensures { LocatedIsBare }
+{}
+
+// Where the tree is read in source order and no fault is met, it has none.
+fn none_is_found()
+    ensures { NoneIsFound }
+{}
+
+// In a tree without faults none is met.
+fn none_is_first()
+    ensures { NoneIsFirst }
+{}
+
+// The fault that is met first is the leftmost one.
+fn first_fault_is_leftmost()
+    ensures { FirstFaultIsLeftmost }
+{}
+
+/// A tree whose names and literals stand in a source one behind the other is in reading order.
+pub fn sources_are_in_reading_order()
+    ensures { SourcesAreInReadingOrder }
 {}

@@ -9,4 +9,4 @@ pub use Rattle.fz_meaning.proofs.States
 pub use Rattle.fz_meaning.proofs.Places
 pub use Rattle.fz_meaning.proofs.NamedKinds
 pub use Rattle.fz_meaning.proofs.Writing
-pub use Rattle.fz_scope.proofs.Reading
+pub use Rattle.fz_meaning.proofs.Reading

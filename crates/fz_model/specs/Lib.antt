@@ -6,9 +6,9 @@ pub use Rattle.fz_meaning.specs.Names
 pub use Rattle.fz_meaning.specs.View
 pub use Rattle.fz_meaning.specs.Steps
 pub use Rattle.fz_meaning.specs.Laws
-pub use Rattle.fz_data.specs.Parts
-pub use Rattle.fz_data.specs.Shown
-pub use Rattle.fz_data.specs.Partial
-pub use Rattle.fz_data.specs.Kinds
-pub use Rattle.fz_eval.specs.Holding
-pub use Rattle.fz_eval.specs.Overviews
+pub use Rattle.fz_force.specs.of_data.Parts
+pub use Rattle.fz_force.specs.of_data.Shown
+pub use Rattle.fz_force.specs.of_data.Partial
+pub use Rattle.fz_force.specs.of_data.Kinds
+pub use Rattle.fz_force.specs.of_eval.Holding
+pub use Rattle.fz_force.specs.of_eval.Overviews

@@ -2,8 +2,8 @@
 use Rattle.std.proofs.Common.{◌≡◌, ◌≢◌, ◌<◌, ◌+◌, min, get_or, drop, ℕ, suc, Bool, true, false, ◌&&◌, List, [], ◌∷◌, map, length, refl, sym, ap, ◌∙◌, arith}
 use Rattle.std.proofs.lemmas.List.{at_drop_more, at_drop_all}
 use Rattle.fz_meaning.specs.Meaning.{Partial}
-use Rattle.fz_table.specs.declared.row.Shape.{Shape}
-use Rattle.fz_table.specs.Known.{shape_of}
+use Rattle.fz_meaning.specs.declared.row.Shape.{Shape}
+use Rattle.fz_meaning.specs.Known.{shape_of}
 use Rattle.fz_data.specs.Readings.{Reading}
 use Rattle.fz_scene.specs.Laid.{reading_is_read, readings_are_read}
 

@@ -6,7 +6,7 @@ use crate::laid::{scalar_at_laid, scalar_laid, slot_int, slot_is_read, slot_set,
 use crate::reading::{Readiness, bool_in, int_in, is_of, set_in, value_at};
 use fz_base::{IntSet, Value};
 use fz_data::{Argument, ConstraintParts, Laid, LaidParts, Partial, Place, part};
-use fz_table::Shape;
+use fz_meaning::Shape;
 
 /// A constraint's arguments under a partial assignment.
 #[derive(Clone, Copy)]
@@ -18,7 +18,7 @@ pub struct Scene<'s, 'a> {
 impl<'s, 'a> Scene<'s, 'a> {
     ghost use Rattle.std.specs.Prelude.{◌≡◌, map, option_map};
     ghost use Rattle.fz_meaning.specs.Meaning as meaning;
-    ghost use Rattle.fz_table.specs.Known.{shape_of};
+    ghost use Rattle.fz_meaning.specs.Known.{shape_of};
     ghost use Rattle.fz_data.specs.Parts.{posted_view};
     ghost use Rattle.fz_data.specs.Readings.{kept_reading, kept_readings, laid_reading, laid_readings};
     ghost use Rattle.fz_scene.specs.Given.{are_given, are_read, bool_at, int_at, set_at, slots_at, value_of};

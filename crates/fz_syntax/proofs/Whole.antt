@@ -9,7 +9,7 @@ use Rattle.fz_syntax.specs.declared.parser.refusal.Refusal.TheVariants as refusa
 use Rattle.fz_lex.specs.Token.{TokenValue}
 use Rattle.fz_syntax.specs.Reading.{Fault, FaultKind, Read, Syntax, Float, TooDeep, TooMany, Reader, ended, whole}
 use Rattle.fz_syntax.specs.Outcome.{IsFault, IsWhole, IsRefusal, IsErrorOf, Fails, unexpected_kind}
-use Rattle.fz_base.specs.declared.span.Span.{Span}
+use Rattle.fz_lex.specs.of_base.declared.span.Span.{Span}
 use Rattle.fz_lex.specs.Lexing.{SpannedToken}
 use Rattle.fz_lex.specs.Limits.{LexesWithinLimits}
 use Rattle.fz_lex.specs.View.{IsLexicalFault}

@@ -15,9 +15,9 @@ pub use Rattle.fz_lex.specs.Token
 pub use Rattle.fz_lex.specs.Lexing
 pub use Rattle.fz_lex.specs.Limits
 pub use Rattle.fz_lex.specs.View as Places
-pub use Rattle.fz_base.specs.Sets
-pub use Rattle.fz_base.specs.Ranges
+pub use Rattle.fz_lex.specs.of_base.Sets
+pub use Rattle.fz_lex.specs.of_base.Ranges
 pub use Rattle.fz_lex.specs.declared.error.SyntaxError
 pub use Rattle.fz_lex.specs.declared.token.Mark
 pub use Rattle.fz_lex.specs.declared.token.TokenKind
-pub use Rattle.fz_base.specs.declared.span.Span
+pub use Rattle.fz_lex.specs.of_base.declared.span.Span

@@ -1,7 +1,7 @@
 -- Of the code; a reader of the contracts need not believe this file. What the parser has left to read, and from where to where a method went.
 use Rattle.std.specs.Prelude.{◌≡◌, ◌≤◌, ◌<◌, ℕ, List, [], ◌∷◌, length, map, None}
 use Rattle.std.specs.List.{AllByRecursion}
-use Rattle.fz_base.specs.declared.span.Span.{Span}
+use Rattle.fz_lex.specs.of_base.declared.span.Span.{Span}
 use Rattle.fz_lex.specs.Token.{TokenValue}
 use Rattle.fz_lex.specs.Lexing.{SpannedToken, AreInOrder}
 use Rattle.fz_lex.specs.View.{IsSpelledAtSpan}

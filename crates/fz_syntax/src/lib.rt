@@ -5,7 +5,7 @@ mod parser;
 mod printer;
 mod tree;
 
-pub use fz_base::Span;
+pub use fz_lex::fz_base::Span;
 pub use fz_lex::{Mark, SyntaxError, Token, TokenKind, lex};
 pub use parser::{parse, read_items};
 pub use printer::to_text;

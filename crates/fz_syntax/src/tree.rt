@@ -1,6 +1,6 @@
 //! The syntax tree. Its parts hold slices of the source.
 
-use fz_base::Span;
+use fz_lex::fz_base::Span;
 
 /// A name: its bytes, a slice of the source, and where they stand there.
 #[derive(Clone, Copy)]

@@ -12,7 +12,7 @@ ghost use Rattle.fz_syntax.specs.Reading.{next_is, next_word, next_passes, is_fl
 use crate::parser::kinds::{begins_decl, begins_literal, is_float, is_name, is_quoted};
 use crate::parser::refusal::Refusal;
 use crate::tree::Name;
-use fz_base::Span;
+use fz_lex::fz_base::Span;
 use fz_lex::{Mark, SyntaxError, TokenKind, Tokens};
 use std::alloc::Global;
 

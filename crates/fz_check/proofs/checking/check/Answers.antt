@@ -1,7 +1,7 @@
 use Rattle.std.proofs.Common.{map, subst, ap, ◌∙◌, vec_len, Err}
 use Rattle.fz_verdict.specs.Verdict.{answer_of, AreVerdicts}
 use Rattle.fz_verdict.specs.View.{located_block}
-use Rattle.fz_judge.specs.View.{verdict_view}
+use Rattle.fz_live.specs.of_judge.View.{verdict_view}
 use Rattle.fz_check.specs.declared.error.CheckError.TheVariants as errors
 use Rattle.fz_check.proofs.Accepting.{accepted_solved, of_stream, in_order}
 use Rattle.fz_check.proofs.Reporting.{reported, none_where_violated}

@@ -1,7 +1,7 @@
 use Rattle.std.proofs.Common.{◌+◌, refl, sym, ◌∙◌, subst, map, take, drop}
 use Rattle.std.proofs.lemmas.Result.{err_from_is_err_and}
 use Rattle.fz_meaning.specs.View.{located_decl}
-use Rattle.fz_scope.proofs.Steps.{whole_at, take_one_more, decls_more, decls_stops}
+use Rattle.fz_meaning.proofs.ScanSteps.{whole_at, take_one_more, decls_more, decls_stops}
 use Rattle.fz_data.specs.Stands.{StandsFor}
 use Rattle.fz_data.proofs.Knows.{decl_same}
 use Rattle.fz_data.proofs.Next.{kinds_next, new_name, stands_next}

@@ -1,6 +1,6 @@
 use Rattle.std.proofs.Common.{◌≡◌, [], None, map, take}
 use Rattle.fz_meaning.specs.View.{located_decl}
-use Rattle.fz_scope.specs.FirstFault.{decls_fault}
+use Rattle.fz_meaning.specs.FirstFault.{decls_fault}
 use Rattle.fz_data.specs.Scope.{HasKinds}
 use Rattle.fz_data.specs.Stands.{StandsFor}
 use Rattle.fz_data.proofs.loading.declared.Given as goal

@@ -1,6 +1,6 @@
 use Rattle.std.proofs.lemmas.Result.{IfOk-weaker, IfErr-weaker}
 use Rattle.fz_meaning.specs.View.{located}
-use Rattle.fz_scope.proofs.Found.{no_fault, is_first}
+use Rattle.fz_meaning.proofs.FoundFaults.{no_fault, is_first}
 use Rattle.fz_data.proofs.Loaded.{tells_first}
 use Rattle.fz_data.proofs.loading.load.Goals as goal
 

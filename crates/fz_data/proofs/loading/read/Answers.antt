@@ -2,7 +2,7 @@ use Rattle.std.proofs.Common.{◌≡◌, [], None, map, length, arith, subst, ap
 use Rattle.std.proofs.lemmas.Result.{err_from_is_err_and}
 use Rattle.fz_meaning.specs.Meaning.{first_some}
 use Rattle.fz_meaning.specs.View.{located, located_decl, located_constraint}
-use Rattle.fz_scope.specs.FirstFault.{decls_fault}
+use Rattle.fz_meaning.specs.FirstFault.{decls_fault}
 use Rattle.fz_data.specs.Parts.{posted_view}
 use Rattle.fz_data.specs.Scope.{Tells, posted_in, constraint_fault_in}
 use Rattle.fz_data.specs.Naming.{own_terms}

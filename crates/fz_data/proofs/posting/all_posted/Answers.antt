@@ -1,10 +1,10 @@
 use Rattle.std.proofs.lemmas.Result.{err_from_is_err_and}
 use Rattle.fz_meaning.specs.View.{located_constraint}
-use Rattle.fz_scope.proofs.Steps.{first_more}
+use Rattle.fz_meaning.proofs.ScanSteps.{first_more}
 use Rattle.std.proofs.Common.{option_map, ◌++◌, ◌∷◌, [], arith, map, length, refl, sym, ap, subst, ◌∙◌}
 use Rattle.std.specs.List.{AllByRecursion}
 use Rattle.fz_meaning.specs.Meaning.{row_of}
-use Rattle.fz_table.specs.Known.{known_row}
+use Rattle.fz_meaning.specs.Known.{known_row}
 use Rattle.fz_data.specs.Layout.{CitesArrays}
 use Rattle.fz_data.specs.Parts.{posted_view}
 use Rattle.fz_data.specs.Scope.{constraint_fault_in, posted_in}

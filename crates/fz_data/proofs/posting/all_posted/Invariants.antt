@@ -2,7 +2,7 @@ use Rattle.std.proofs.Common.{◌≡◌, None, length, map, take, option_map}
 use Rattle.std.specs.List.{AllByRecursion}
 use Rattle.fz_meaning.specs.Meaning.{first_some, row_of}
 use Rattle.fz_meaning.specs.View.{located_constraint}
-use Rattle.fz_table.specs.Known.{known_row}
+use Rattle.fz_meaning.specs.Known.{known_row}
 use Rattle.fz_data.specs.Layout.{CitesArrays}
 use Rattle.fz_data.specs.Parts.{posted_view}
 use Rattle.fz_data.specs.Sheets.{AreSheetsOf}

@@ -1,6 +1,6 @@
 use Rattle.std.proofs.lemmas.Result.{err_from_is_err_and}
 use Rattle.fz_meaning.specs.View.{located_expr}
-use Rattle.fz_scope.proofs.Steps.{first_more}
+use Rattle.fz_meaning.proofs.ScanSteps.{first_more}
 use Rattle.fz_data.specs.Layout.{AreCited}
 use Rattle.fz_data.specs.Parts.{argument_view}
 use Rattle.fz_data.specs.Scope.{argument_fault, argument_in}

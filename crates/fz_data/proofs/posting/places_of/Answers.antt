@@ -1,6 +1,6 @@
 use Rattle.std.proofs.lemmas.Result.{err_from_is_err_and}
 use Rattle.fz_meaning.specs.View.{located_basic}
-use Rattle.fz_scope.proofs.Steps.{first_more}
+use Rattle.fz_meaning.proofs.ScanSteps.{first_more}
 use Rattle.fz_data.specs.Layout.{IsCited}
 use Rattle.fz_data.specs.Parts.{place_view}
 use Rattle.fz_data.specs.Scope.{fault_in, place_of_part}

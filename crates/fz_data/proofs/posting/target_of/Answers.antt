@@ -1,6 +1,6 @@
 use Rattle.std.proofs.Common.{sym, ◌∙◌}
 use Rattle.fz_syntax.specs.View.{bare_note}
-use Rattle.fz_scope.proofs.Steps.{first_more}
+use Rattle.fz_meaning.proofs.ScanSteps.{first_more}
 use Rattle.fz_data.specs.Scope.{defined_in}
 use Rattle.fz_data.proofs.Loops.{no_answer, answer_found}
 use Rattle.fz_data.proofs.posting.target_of.Goals as goal

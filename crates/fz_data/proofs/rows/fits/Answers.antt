@@ -1,6 +1,6 @@
 use Rattle.std.proofs.Common.{map, sym, ap, ◌∙◌}
 use Rattle.fz_meaning.specs.Meaning as meaning
-use Rattle.fz_table.specs.Known.{known_row}
+use Rattle.fz_meaning.specs.Known.{known_row}
 use Rattle.fz_data.specs.Parts.{argument_view}
 use Rattle.fz_data.proofs.Fitting.{fits_if_long}
 use Rattle.fz_data.proofs.rows.fits.Goals as goal

@@ -1,7 +1,7 @@
 use Rattle.std.proofs.Common.{sym, ap, ◌∙◌}
 use Rattle.fz_meaning.specs.Meaning as meaning
 use Rattle.fz_data.specs.Parts.{argument_view}
-use Rattle.fz_table.specs.Known.{shape_of}
+use Rattle.fz_meaning.specs.Known.{shape_of}
 use Rattle.fz_data.proofs.Fitting.{scalar_of, array_of}
 use Rattle.fz_data.proofs.rows.has_shape.Goals as goal
 

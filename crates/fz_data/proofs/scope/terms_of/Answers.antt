@@ -2,7 +2,7 @@ use Rattle.std.proofs.Common.{◌++◌, ◌∷◌, [], Some, map, take, sym, ap,
 use Rattle.std.proofs.lemmas.List.{map-append}
 use Rattle.std.proofs.lemmas.Result.{err_from_is_err_and}
 use Rattle.fz_meaning.specs.View.{located_basic}
-use Rattle.fz_scope.proofs.Steps.{first_more, take_one_more}
+use Rattle.fz_meaning.proofs.ScanSteps.{first_more, take_one_more}
 use Rattle.fz_data.specs.Scope.{fault_in, term_in}
 use Rattle.fz_data.proofs.Tells.{tells_stop}
 use Rattle.fz_data.proofs.scope.terms_of.Goals as goal

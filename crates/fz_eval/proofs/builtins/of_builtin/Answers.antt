@@ -1,6 +1,6 @@
 use Rattle.std.proofs.Common.{sym, ap, ◌∙◌}
-use Rattle.fz_table.specs.Known.{row_at}
-use Rattle.fz_scene.specs.Views.{arguments_of, assigned}
+use Rattle.fz_meaning.specs.Known.{row_at}
+use Rattle.fz_kernel.specs.of_scene.Views.{arguments_of, assigned}
 use Rattle.fz_eval.specs.declared.outcome.Outcome.TheVariants.{Truth}
 use Rattle.fz_eval.specs.Outcomes.{row_outcome}
 use Rattle.fz_eval.proofs.Rows.{int_eq_is, int_ne_is, int_le_is, int_lt_is, int_lin_eq_is, int_lin_ne_is, int_lin_le_is, int_plus_is, int_times_is, int_min_is, int_max_is, int_abs_is, int_div_is, int_mod_is, array_int_element_is, array_var_int_element_is, array_int_maximum_is, array_int_minimum_is, fzn_all_different_int_is, bool_eq_is, bool_le_is, bool_lt_is, bool_not_is, bool_and_is, bool_or_is, bool_xor_is, array_bool_and_is, array_bool_or_is, array_bool_xor_is, array_bool_element_is, array_var_bool_element_is, bool_clause_is, bool2int_is, bool_lin_eq_is, bool_lin_le_is, set_in_is, set_eq_is, set_ne_is, set_subset_is, set_superset_is, set_union_is, set_intersect_is, set_diff_is, set_symdiff_is, set_card_is, array_set_element_is, array_var_set_element_is}

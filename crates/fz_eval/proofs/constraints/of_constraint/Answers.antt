@@ -1,10 +1,10 @@
 use Rattle.std.proofs.Common.{◌≡◌, Some, option_map, sym, ap, ◌∙◌, subst}
 use Rattle.std.specs.Prelude.{IfOk}
 use Rattle.fz_meaning.specs.Meaning.{have_shapes, row_of}
-use Rattle.fz_table.specs.Known.{known_row}
+use Rattle.fz_meaning.specs.Known.{known_row}
 use Rattle.fz_data.specs.Parts.{posted_view}
-use Rattle.fz_scene.specs.Given.{are_read}
-use Rattle.fz_scene.specs.Views.{arguments_of, assigned}
+use Rattle.fz_kernel.specs.of_scene.Given.{are_read}
+use Rattle.fz_kernel.specs.of_scene.Views.{arguments_of, assigned}
 use Rattle.fz_eval.proofs.States.{row_fits, same_state}
 use Rattle.fz_eval.proofs.constraints.of_constraint.Goals as goal
 

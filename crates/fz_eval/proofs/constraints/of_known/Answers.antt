@@ -1,9 +1,9 @@
 use Rattle.std.proofs.Common.{◌≡◌, ◌-◌, cond, length, sym, ap, ◌∙◌, arith}
 use Rattle.fz_meaning.specs.Builtins.{reified}
-use Rattle.fz_table.specs.Known.{row_at, known_row}
-use Rattle.fz_table.proofs.WithTruth.{one_more, last_place}
-use Rattle.fz_scene.specs.Given.{bool_at}
-use Rattle.fz_scene.specs.Views.{arguments_of, assigned}
+use Rattle.fz_meaning.specs.Known.{row_at, known_row}
+use Rattle.fz_meaning.proofs.WithTruth.{one_more, last_place}
+use Rattle.fz_kernel.specs.of_scene.Given.{bool_at}
+use Rattle.fz_kernel.specs.of_scene.Views.{arguments_of, assigned}
 use Rattle.fz_eval.specs.Outcomes.{row_outcome, compared}
 use Rattle.fz_eval.proofs.Known.{form_outcome}
 use Rattle.fz_eval.proofs.constraints.of_known.Goals as goal

@@ -1,5 +1,5 @@
 use Rattle.std.proofs.Common.{ap, ◌∙◌}
-use Rattle.fz_scene.specs.Views.{arguments_of, assigned}
+use Rattle.fz_kernel.specs.of_scene.Views.{arguments_of, assigned}
 use Rattle.fz_eval.specs.Outcomes.{told}
 use Rattle.fz_eval.proofs.States.{of_ready}
 use Rattle.fz_eval.proofs.constraints.of_ready.Goals as goal

@@ -1,7 +1,7 @@
 use Rattle.std.proofs.Common.{cond, sym, ap, ◌∙◌}
 use Rattle.fz_meaning.specs.declared.state.State.TheVariants.{Fails, TooLarge}
-use Rattle.fz_scene.specs.Given.{are_read}
-use Rattle.fz_scene.specs.Views.{arguments_of, assigned}
+use Rattle.fz_kernel.specs.of_scene.Given.{are_read}
+use Rattle.fz_kernel.specs.of_scene.Views.{arguments_of, assigned}
 use Rattle.fz_eval.proofs.States.{missing, of_wrong_kind}
 use Rattle.fz_eval.proofs.constraints.of_scene.Goals as goal
 

@@ -1,6 +1,6 @@
 use Rattle.std.proofs.Common.{map, pred, option_map, sym, ap, ◌∙◌, suc}
 use Rattle.fz_meaning.proofs.Lists.{at_place}
-use Rattle.fz_table.specs.Known.{known_row}
+use Rattle.fz_meaning.specs.Known.{known_row}
 use Rattle.fz_data.specs.Parts.{posted_view}
 use Rattle.fz_eval.specs.Whole.{IsReady}
 use Rattle.fz_eval.proofs.Together.{row_at, line_held}

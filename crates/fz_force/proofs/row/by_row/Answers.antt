@@ -1,5 +1,5 @@
 use Rattle.std.proofs.Common.{◌≡◌, true, IfSome, option_map, sym, ap, subst, ◌∙◌}
-use Rattle.fz_table.specs.Known.{known_row}
+use Rattle.fz_meaning.specs.Known.{known_row}
 use Rattle.fz_data.specs.Parts.{posted_view}
 use Rattle.fz_force.specs.Kinds.{each_fits}
 use Rattle.fz_force.proofs.Placed.{forces_nothing, forces_value}

@@ -1,7 +1,7 @@
 use Rattle.std.proofs.Common.{refl, ap, ◌∙◌}
 use Rattle.fz_meaning.proofs.Values.{no}
-use Rattle.fz_table.specs.Known.{known_row}
-use Rattle.fz_scene.specs.Views.{arguments_of, assigned}
+use Rattle.fz_meaning.specs.Known.{known_row}
+use Rattle.fz_eval.specs.of_scene.Views.{arguments_of, assigned}
 use Rattle.fz_force.proofs.Tables.{same_sums, unit_row, unit_shapes, unit_sums}
 use Rattle.fz_force.proofs.Units.{element_left, elsewhere, read_as_none}
 use Rattle.fz_force.proofs.row.element_left.Goals as goal

@@ -1,7 +1,7 @@
 use Rattle.std.proofs.Common.{map, sym, subst, ◌∙◌}
-use Rattle.fz_table.specs.Known.{known_row}
+use Rattle.fz_meaning.specs.Known.{known_row}
 use Rattle.fz_data.specs.Parts.{argument_view, posted_view}
-use Rattle.fz_scene.specs.Views.{arguments_of}
+use Rattle.fz_eval.specs.of_scene.Views.{arguments_of}
 use Rattle.fz_force.specs.Forced.{IsReady}
 use Rattle.fz_force.proofs.Held.{row_shapes}
 use Rattle.fz_force.proofs.Placed.{flat_arguments, has_value, not_only, ready}

@@ -1,8 +1,8 @@
 use Rattle.std.proofs.Common.{refl, sym, ◌∙◌, subst}
 use Rattle.fz_meaning.proofs.Values.{no}
-use Rattle.fz_table.specs.Known.{known_row}
-use Rattle.fz_scene.specs.Views.{arguments_of, assigned}
-use Rattle.fz_solve.specs.Left.{IsPlaceOf}
+use Rattle.fz_meaning.specs.Known.{known_row}
+use Rattle.fz_eval.specs.of_scene.Views.{arguments_of, assigned}
+use Rattle.fz_force.specs.Left.{IsPlaceOf}
 use Rattle.fz_force.proofs.Held.{nothing_placed}
 use Rattle.fz_force.proofs.Tables.{place_is_scalar, same_sums}
 use Rattle.fz_force.proofs.Chosen.{scalar_chosen}

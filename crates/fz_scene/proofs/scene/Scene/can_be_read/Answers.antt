@@ -1,5 +1,5 @@
 use Rattle.std.proofs.Common.{map, ap, ◌∙◌}
-use Rattle.fz_table.specs.Known.{shape_of}
+use Rattle.fz_meaning.specs.Known.{shape_of}
 use Rattle.fz_data.specs.Readings.{kept_reading}
 use Rattle.fz_scene.specs.Laid.{readings_are_read}
 use Rattle.fz_scene.specs.Views.{assigned}

@@ -1,0 +1,88 @@
+-- The truth value that a form with a truth value leaves: whether the row before it holds.
+use Rattle.std.proofs.Common.{◌≡◌, ℕ, suc, Bool, true, false, cond, ◌&&◌, List, [], ◌∷◌, ◌++◌, length, Option, Some, Result, IfOk, refl, sym, ap, subst, subst₂, ◌∙◌, slice_get, slice_set}
+use Rattle.std.specs.Prelude.{IsSome}
+use Rattle.fz_base.specs.declared.value.Value.{Value}
+use Rattle.fz_base.specs.declared.value.Value.TheVariants.{Bool as Truth}
+use Rattle.fz_meaning.specs.declared.kind.Kind.{Kind}
+use Rattle.fz_meaning.specs.declared.kind.Kind.TheVariants.{Int as IntKind, Bool as BoolKind, Set as SetKind}
+use Rattle.fz_meaning.specs.Values.{◌=ᴮ◌}
+use Rattle.fz_meaning.specs.Builtins.{Shape, Row, read, reified, with_bool}
+use Rattle.fz_meaning.specs.Builtins.Shape.{ScalarOf, ArrayOf}
+use Rattle.fz_meaning.specs.Builtins.ArgValue.{OneValue}
+use Rattle.fz_meaning.specs.Meaning.{Argument, Partial, row_holds}
+use Rattle.fz_meaning.proofs.Values.{no, bool_itself}
+use Rattle.fz_meaning.specs.Known.{known_row, row_at}
+use Rattle.fz_meaning.specs.declared.known.Known.{Known}
+use Rattle.fz_meaning.proofs.TableRows.{plain_ints, plain_bools, plain_sets, AreRead, reified_holds}
+use Rattle.fz_eval.specs.of_scene.Given.{given, given_from, given_values, ints_at, bools_at, sets_at}
+use Rattle.fz_eval.specs.Outcomes.{row_outcome, sum_outcome}
+use Rattle.fz_eval.specs.declared.outcome.Outcome.TheVariants.{Truth as TruthOutcome, TooLarge}
+use Rattle.fz_force.specs.Left.{IsLeft, IsOfKind, IsPlaceOf, holds_with, is_too_large, products_leave}
+use Rattle.fz_force.proofs.RowLemmas.{only_place}
+use Rattle.fz_force.proofs.RowKinds.{adds_nothing}
+
+module _ (K : Partial) (xs : List Argument) where
+  one_is_read : (s : Shape) (j : ℕ) → IsSome (read s (given K xs j s))
+  one_is_read (ScalarOf IntKind) j = refl
+  one_is_read (ScalarOf BoolKind) j = refl
+  one_is_read (ScalarOf SetKind) j = refl
+  one_is_read (ArrayOf IntKind) j = rw (plain_ints (ints_at K xs j)) refl
+  one_is_read (ArrayOf BoolKind) j = rw (plain_bools (bools_at K xs j)) refl
+  one_is_read (ArrayOf SetKind) j = rw (plain_sets (sets_at K xs j)) refl
+
+  all_are_read : (ss : List Shape) (j : ℕ) → AreRead ss (given_from K xs j ss)
+  all_are_read [] j = tt
+  all_are_read (s ∷ ss) j = (one_is_read s j, all_are_read ss (suc j))
+
+  with_truth : (ss : List Shape) (j : ℕ) (v : Value) → slice_set (given_from K xs j (with_bool ss)) (length ss) (OneValue v) ≡ given_from K xs j ss ++ OneValue v ∷ []
+  with_truth [] j v = refl
+  with_truth (s ∷ ss) j v = ap (λ vs. given K xs j s ∷ vs) (with_truth ss (suc j) v)
+
+  reified_with : (r : Row) (t : Bool) → holds_with (reified r) K xs (length r.shapes) (Truth t) ≡ (t =ᴮ row_holds r (given_values K r.shapes xs))
+  reified_with r t = ap (row_holds (reified r)) (with_truth r.shapes 0 (Truth t)) ∙ reified_holds r (given_values K r.shapes xs) t (all_are_read r.shapes 0)
+
+  pub reified_row : (r : Row) (i : ℕ) (t : Bool) → i ≡ length r.shapes → t ≡ row_holds r (given_values K r.shapes xs) → IsLeft BoolKind (holds_with (reified r) K xs i) (Some (Truth t))
+  reified_row r i t here e = rw here (refl, tt, reified_with r t ∙ ap (λ b. t =ᴮ b) (sym e) ∙ bool_itself t)
+
+-- ---- what a row comes to
+
+told : (leaves holds t : Bool) → sum_outcome leaves holds ≡ TruthOutcome t → (leaves ≡ false) × (t ≡ holds)
+told true holds t e = cc
+told false holds t e = (refl, let same : holds ≡ t = cc in sym same)
+
+large : (leaves holds : Bool) → sum_outcome leaves holds ≡ TooLarge → leaves ≡ true
+large true holds e = refl
+large false holds e = cc
+
+module _ (r : Row) (K : Partial) (xs : List Argument) where
+  pub told_truth : (t : Bool) → row_outcome r K xs ≡ TruthOutcome t → (is_too_large r K xs ≡ false) × (t ≡ row_holds r (given_values K r.shapes xs))
+  unfolding row_outcome
+  told_truth t e = told (is_too_large r K xs) (row_holds r (given_values K r.shapes xs)) t e
+
+  pub told_large : row_outcome r K xs ≡ TooLarge → is_too_large r K xs ≡ true
+  unfolding row_outcome
+  told_large e = large (is_too_large r K xs) (row_holds r (given_values K r.shapes xs)) e
+
+-- ---- a known row that is a form with a truth value
+
+last_kind : (ss : List Shape) (k : Kind) → slice_get (with_bool ss) (length ss) ≡ Some (ScalarOf k) → BoolKind ≡ k
+last_kind [] k e = cc
+last_kind (s ∷ ss) k e = last_kind ss k e
+
+pub form_left : (known : Known) (K : Partial) (xs : List Argument) (i : ℕ) {E : Type 0} (result : Result (Option Value) E) → known.reified ≡ true → IsPlaceOf (known_row known).result i
+    → (is_too_large (row_at known.builtin) K xs ≡ false → IfOk result (λ left. IsLeft BoolKind (holds_with (reified (row_at known.builtin)) K xs i) left))
+    → (k : Kind) → IsOfKind (known_row known).shapes i k → is_too_large (known_row known) K xs ≡ false → IfOk result (λ left. IsLeft k (holds_with (known_row known) K xs i) left)
+form_left known K xs i result form place h k kind fits =
+    let r : Row = row_at known.builtin in
+    let is : known_row known ≡ reified r = ap (λ t. cond t (reified r) r) form in
+    let here : i ≡ length r.shapes = only_place (length r.shapes) i (subst (λ s. IsPlaceOf s.result i) is place) in
+    let bool : BoolKind ≡ k = last_kind r.shapes k (subst (λ j. slice_get (with_bool r.shapes) j ≡ Some (ScalarOf k)) here (subst (λ s. IsOfKind s.shapes i k) is kind)) in
+    let left : IfOk result (λ left. IsLeft BoolKind (holds_with (reified r) K xs i) left) = h (subst (λ s. is_too_large s K xs ≡ false) is fits) in
+    subst₂ (λ s j. IfOk result (λ left. IsLeft j (holds_with s K xs i) left)) (sym is) bool left
+
+pub base_fits : (known : Known) (K : Partial) (xs : List Argument) (i : ℕ) → known.reified ≡ false → IsPlaceOf (known_row known).result i → is_too_large (known_row known) K xs ≡ true → ⊥
+base_fits known K xs i base place large =
+    let r : Row = row_at known.builtin in
+    let is : known_row known ≡ r = ap (λ t. cond t (reified r) r) base in
+    let none : r.sums_in_128 ≡ false = adds_nothing known.builtin i (subst (λ s. IsPlaceOf s.result i) is place) in
+    no (ap (λ b. b && products_leave K xs) (sym none) ∙ ap (λ s. is_too_large s K xs) (sym is) ∙ large)

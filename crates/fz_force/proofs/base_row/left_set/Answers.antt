@@ -1,0 +1,100 @@
+use Rattle.std.proofs.Common.{rules, ◌≡◌, Some, option_map, ◌∙◌, FitsSigned, w64, to_z, of_z}
+use Rattle.std.specs.FinSet as finite
+use Rattle.fz_base.specs.Sets.{symmetric_difference}
+use Rattle.fz_base.specs.declared.value.Value.TheVariants.{Set}
+use Rattle.fz_meaning.specs.declared.kind.Kind.TheVariants.{Set as SetKind}
+use Rattle.fz_meaning.specs.Values.{◌=ˢ◌}
+use Rattle.fz_meaning.specs.Builtins.{element_at}
+use Rattle.fz_meaning.proofs.Values.{set_itself}
+use Rattle.fz_eval.specs.of_scene.Given.{int_at}
+use Rattle.fz_eval.specs.of_scene.Views.{arguments_of, assigned, sets}
+use Rattle.fz_meaning.specs.Known.{row_at}
+use Rattle.fz_meaning.specs.declared.builtin.Builtin.TheVariants.{SetEq, SetUnion, SetIntersect, SetDiff, SetSymdiff, ArraySetElement, ArrayVarSetElement}
+use Rattle.fz_force.specs.Left.{IsLeft, holds_with}
+use Rattle.fz_force.proofs.Plain.{element_of}
+use Rattle.fz_force.proofs.LeftReadings.{sets_are}
+use Rattle.fz_force.proofs.RowLemmas.{from_row, passed, ok_then, set_eq_place, set_eq_row, set_union_row, set_intersect_row, set_diff_row, set_symdiff_row, array_set_element_row, array_var_set_element_row}
+use Rattle.fz_force.proofs.RowKinds.{leaves_set, set_rows, not_both}
+use Rattle.fz_force.proofs.base_row.left_set.Goals as goal
+
+pub overflow_sub-place : goal.overflow_sub-place
+overflow_sub-place c = set_eq_place c.args.builtin c.args.place c.in-SetEq.is c.requires.result
+
+pub returns-in_ok-copy-in-SetEq : goal.returns-in_ok-copy-in-SetEq
+returns-in_ok-copy-in-SetEq c =
+    let K = assigned c.args.scene.now in
+    let xs = arguments_of c.args.scene.now in
+    let i = c.args.place in
+    let s = c.in_ok-copy-in-SetEq.field-0 in
+    from_row K xs i SetKind (Some (Set s)) c.args.builtin SetEq c.in-SetEq.is c.requires.result (λ place. set_eq_row K xs i s place (c.in_ok-copy-in-SetEq.ensures ∙ c.set.ensures.read))
+
+pub returns-in_ok-union-in-SetUnion : goal.returns-in_ok-union-in-SetUnion
+returns-in_ok-union-in-SetUnion c =
+    let K = assigned c.args.scene.now in
+    let xs = arguments_of c.args.scene.now in
+    let i = c.args.place in
+    let s = c.in_ok-union-in-SetUnion.field-0 in
+    from_row K xs i SetKind (Some (Set s)) c.args.builtin SetUnion c.in-SetUnion.is c.requires.result
+    (λ place. set_union_row K xs i s place (c.in_ok-union-in-SetUnion.ensures ∙ (λ j. finite.union (c.set-in-SetUnion.ensures.read j) (c.set-in-SetUnion-2.ensures.read j))))
+
+pub returns-in_ok-intersect-in-SetIntersect : goal.returns-in_ok-intersect-in-SetIntersect
+returns-in_ok-intersect-in-SetIntersect c =
+    let K = assigned c.args.scene.now in
+    let xs = arguments_of c.args.scene.now in
+    let i = c.args.place in
+    let s = c.in_ok-intersect-in-SetIntersect.field-0 in
+    from_row K xs i SetKind (Some (Set s)) c.args.builtin SetIntersect c.in-SetIntersect.is c.requires.result
+    (λ place. set_intersect_row K xs i s place (c.in_ok-intersect-in-SetIntersect.ensures ∙ (λ j. finite.intersection (c.set-in-SetIntersect.ensures.read j) (c.set-in-SetIntersect-2.ensures.read j))))
+
+pub returns-in_ok-minus-in-SetDiff : goal.returns-in_ok-minus-in-SetDiff
+returns-in_ok-minus-in-SetDiff c =
+    let K = assigned c.args.scene.now in
+    let xs = arguments_of c.args.scene.now in
+    let i = c.args.place in
+    let s = c.in_ok-minus-in-SetDiff.field-0 in
+    from_row K xs i SetKind (Some (Set s)) c.args.builtin SetDiff c.in-SetDiff.is c.requires.result
+    (λ place. set_diff_row K xs i s place (c.in_ok-minus-in-SetDiff.ensures ∙ (λ j. finite.difference (c.set-in-SetDiff.ensures.read j) (c.set-in-SetDiff-2.ensures.read j))))
+
+pub returns-in_ok-symdiff-in-SetSymdiff : goal.returns-in_ok-symdiff-in-SetSymdiff
+returns-in_ok-symdiff-in-SetSymdiff c =
+    let K = assigned c.args.scene.now in
+    let xs = arguments_of c.args.scene.now in
+    let i = c.args.place in
+    let s = c.in_ok-symdiff-in-SetSymdiff.field-0 in
+    from_row K xs i SetKind (Some (Set s)) c.args.builtin SetSymdiff c.in-SetSymdiff.is c.requires.result
+    (λ place. set_symdiff_row K xs i s place (c.in_ok-symdiff-in-SetSymdiff.ensures ∙ (λ j. symmetric_difference (c.set-in-SetSymdiff.ensures.read j) (c.set-in-SetSymdiff-2.ensures.read j))))
+
+pub returns-in-ArraySetElement : goal.returns-in-ArraySetElement
+returns-in-ArraySetElement c =
+    let K = assigned c.args.scene.now in
+    let xs = arguments_of c.args.scene.now in
+    let i = c.args.place in
+    let a = c.int.result in
+    let a_fits : FitsSigned w64 a = search rules in
+    let n = to_z w64 (of_z w64 a) in
+    let b = sets c.elements.result in
+    ok_then c.element_copy.result (λ o. o ≡ element_at b n) (λ o. IsLeft SetKind (holds_with (row_at c.args.builtin) K xs i) (option_map Set o))
+    (λ o is. from_row K xs i SetKind (option_map Set o) c.args.builtin ArraySetElement c.in-ArraySetElement.is c.requires.result
+    (λ place. array_set_element_row K xs i n b o place (passed a (int_at K xs 0) a_fits c.int.ensures.read)
+    (sets_are c.elements.result K xs 1 c.elements.ensures.slots c.elements.ensures.under) (element_of ◌=ˢ◌ set_itself n b o is)))
+    c.element_copy.ensures
+
+pub returns-in-ArrayVarSetElement : goal.returns-in-ArrayVarSetElement
+returns-in-ArrayVarSetElement c =
+    let K = assigned c.args.scene.now in
+    let xs = arguments_of c.args.scene.now in
+    let i = c.args.place in
+    let a = c.int-in-ArrayVarSetElement.result in
+    let a_fits : FitsSigned w64 a = search rules in
+    let n = to_z w64 (of_z w64 a) in
+    let b = sets c.elements-in-ArrayVarSetElement.result in
+    ok_then c.element_copy-in-ArrayVarSetElement.result (λ o. o ≡ element_at b n) (λ o. IsLeft SetKind (holds_with (row_at c.args.builtin) K xs i) (option_map Set o))
+    (λ o is. from_row K xs i SetKind (option_map Set o) c.args.builtin ArrayVarSetElement c.in-ArrayVarSetElement.is c.requires.result
+    (λ place. array_var_set_element_row K xs i n b o place (passed a (int_at K xs 0) a_fits c.int-in-ArrayVarSetElement.ensures.read)
+    (sets_are c.elements-in-ArrayVarSetElement.result K xs 1 c.elements-in-ArrayVarSetElement.ensures.slots c.elements-in-ArrayVarSetElement.ensures.under) (element_of ◌=ˢ◌ set_itself n b o is)))
+    c.element_copy-in-ArrayVarSetElement.ensures
+
+pub returns-in_default : goal.returns-in_default
+returns-in_default c =
+    absurd (not_both c.args.builtin set_rows (leaves_set c.args.builtin c.args.place c.requires.result c.requires.set)
+    (c.in_default.not-SetEq, (c.in_default.not-SetUnion, (c.in_default.not-SetIntersect, (c.in_default.not-SetDiff, (c.in_default.not-SetSymdiff, (c.in_default.not-ArraySetElement, (c.in_default.not-ArrayVarSetElement, tt))))))))

@@ -1,0 +1,92 @@
+//! The value that a row leaves, whatever its kind.
+
+ghost use Rattle.std.specs.Prelude.{◌≡◌, ℕ, length, None, IfNone, IfOk, IfSome, IsFalse, IsTrue, option_map};
+ghost use Rattle.fz_base.specs.declared.value.Value.TheVariants.{Bool as Truth};
+ghost use Rattle.fz_meaning.specs.declared.kind.Kind.{Kind};
+ghost use Rattle.fz_meaning.specs.Builtins.{reified};
+ghost use Rattle.fz_meaning.specs.declared.kind.Kind.TheVariants.{Bool as BoolKind};
+ghost use Rattle.fz_eval.specs.of_scene.Views.{arguments_of, assigned};
+ghost use Rattle.fz_meaning.specs.Known.{known_row, row_at};
+ghost use Rattle.fz_force.specs.Left.{IsLeft, IsOfKind, IsPlaceOf, holds_with, is_too_large};
+
+use crate::base_row::{left_number, left_set, left_truth};
+use fz_base::{SetError, Value};
+use fz_eval::{Outcome, of_builtin};
+use fz_meaning::{Builtin, Kind, Known, Shape};
+use fz_eval::fz_scene::Scene;
+use std::alloc::{AllocError, Global};
+
+/// The value that a row leaves to the argument at a place that `defines_var` may fill, of the other arguments' values. None where a sum
+/// of the row leaves 128 bits on the way. It refuses only where memory runs out.
+pub(crate) fn left_value(
+    alloc: Global,
+    known: Known,
+    place: usize,
+    scene: &Scene<'_, '_>,
+) -> Result<Option<Value>, AllocError>
+    requires result { IsPlaceOf (known_row known).result place }
+    ensures left { (k : Kind) → IsOfKind (known_row known).shapes place k → IsFalse (is_too_large (known_row known) (assigned scene.now) (arguments_of scene.now)) → IfOk result (λ left. IsLeft k (holds_with (known_row known) (assigned scene.now) (arguments_of scene.now) place) left) }
+    ensures too_large { IsTrue (is_too_large (known_row known) (assigned scene.now) (arguments_of scene.now)) → IfOk result (λ left. left ≡ None) }
+{
+    if known.reified {
+        left_form(alloc, known.builtin, place, scene)
+    } else {
+        left_base(alloc, known.builtin, place, scene)
+    }
+}
+
+// What a form with a truth value leaves: whether the row before it holds.
+fn left_form(
+    alloc: Global,
+    builtin: Builtin,
+    place: usize,
+    scene: &Scene<'_, '_>,
+) -> Result<Option<Value>, AllocError>
+    requires { place ≡ length (row_at builtin).shapes }
+    ensures left { IsFalse (is_too_large (row_at builtin) (assigned scene.now) (arguments_of scene.now)) → IfOk result (λ left. IsLeft BoolKind (holds_with (reified (row_at builtin)) (assigned scene.now) (arguments_of scene.now) place) left) }
+    ensures too_large { IsTrue (is_too_large (row_at builtin) (assigned scene.now) (arguments_of scene.now)) → IfOk result (λ left. left ≡ None) }
+{
+    match of_builtin(alloc, builtin, scene)? {
+        Outcome::Truth(truth) => Ok(Some(Value::Bool(truth))),
+        Outcome::TooLarge => Ok(None),
+    }
+}
+
+// What a base row leaves.
+#[inline(always)]
+fn left_base(
+    alloc: Global,
+    builtin: Builtin,
+    place: usize,
+    scene: &Scene<'_, '_>,
+) -> Result<Option<Value>, AllocError>
+    requires { IsPlaceOf (row_at builtin).result place }
+    ensures { (k : Kind) → IsOfKind (row_at builtin).shapes place k → IfOk result (λ left. IsLeft k (holds_with (row_at builtin) (assigned scene.now) (arguments_of scene.now) place) left) }
+{
+    let Some(kind) = kind_at(builtin, place) else {
+        return Ok(None);
+    };
+    match kind {
+        Kind::Int => Ok(left_number(builtin, place, scene).map(Value::Int)),
+        Kind::Bool => Ok(left_truth(builtin, place, scene).map(Value::Bool)),
+        Kind::Set => match left_set(alloc, builtin, place, scene) {
+            Ok(set) => Ok(set.map(Value::Set)),
+            Err(SetError::Memory) => Err(AllocError),
+        },
+    }
+}
+
+// The kind of the scalar that stands at a place of a base row.
+fn kind_at(builtin: Builtin, place: usize) -> Option<Kind>
+    ensures found { IfSome result (λ k. IsOfKind (row_at builtin).shapes place k) }
+    ensures none { IfNone result ((k : Kind) → IsOfKind (row_at builtin).shapes place k → ⊥) }
+{
+    let base = Known {
+        builtin,
+        reified: false,
+    };
+    match base.shapes().get(place)? {
+        Shape::Scalar(kind) => Some(*kind),
+        Shape::Array(_) => None,
+    }
+}

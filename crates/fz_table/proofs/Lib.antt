@@ -1,5 +1,0 @@
-pub mod Named
-pub mod Found
-pub mod Rows
-pub mod WithTruth
-pub mod Ends

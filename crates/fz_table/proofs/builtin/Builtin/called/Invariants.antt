@@ -1,6 +1,0 @@
-use Rattle.std.proofs.Common.{◌≡◌, find, drop}
-use Rattle.fz_table.proofs.Found.{called}
-use Rattle.fz_table.proofs.builtin.Builtin.called.Given as goal
-
-abbrev pub invariant-loop-builtin : goal.invariant-loop-builtin
-invariant-loop-builtin l = find (called l.name) (drop l.builtin-index l.builtin-items) ≡ find (called l.name) l.builtin-items
