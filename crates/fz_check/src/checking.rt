@@ -39,8 +39,8 @@ ghost use Rattle.fz_check.specs.View.{report_view};
 
 use crate::error::CheckError;
 use crate::report::{Report, answer_to};
-use fz_live::fz_judge::{BlockError, Judge, Verdict};
 use fz_live::Answer;
+use fz_live::fz_judge::{BlockError, Judge, Verdict};
 use fz_model::{Model, ModelError, load};
 use fz_stream::{Block, Stream, StreamError, blocks};
 use fz_syntax::{Ast, SyntaxError, parse, to_text};

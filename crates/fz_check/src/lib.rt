@@ -9,8 +9,8 @@ mod report;
 
 pub use checking::{check, show};
 pub use error::CheckError;
-pub use fz_live::fz_judge::{BlockError, Fault, Judge, Reason, Verdict, fill};
 pub use fz_live::Answer;
+pub use fz_live::fz_judge::{BlockError, Fault, Judge, Reason, Verdict, fill};
 pub use live::{check_stream, check_stream_up_to};
 pub use refusal::{refusal_text, status};
 pub use report::{Report, report_text};

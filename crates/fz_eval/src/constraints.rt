@@ -15,8 +15,8 @@ use crate::builtins::of_builtin;
 use crate::outcome::Outcome;
 use crate::sums::sums_leave;
 use fz_data::{ConstraintParts, Partial};
-use fz_meaning::{Known, State};
 use fz_kernel::fz_scene::{Readiness, Scene};
+use fz_meaning::{Known, State};
 use std::alloc::{AllocError, Global};
 
 /// The state of a constraint: unknown without a row, whatever its values are; then without a value; then too large; then by its row.

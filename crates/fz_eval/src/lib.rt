@@ -15,9 +15,9 @@ mod sums;
 mod truths;
 mod whole;
 
+pub use builtins::of_builtin;
 pub use fz_kernel;
 pub use fz_kernel::fz_scene;
-pub use builtins::of_builtin;
 pub use holding::all_hold;
 pub use outcome::Outcome;
 pub use overview::Overview;

@@ -5,10 +5,10 @@ ghost use Rattle.std.specs.Int.{int_min, int_max};
 ghost use Rattle.fz_meaning.specs.Values.{◌=ℤ◌};
 ghost use Rattle.fz_eval.specs.Readings.{int};
 
+use fz_kernel::fz_scene::Scene;
 use fz_kernel::numbers::{
     is_absolute, is_greatest, is_least, is_product, is_quotient, is_remainder, is_sum,
 };
-use fz_kernel::fz_scene::Scene;
 
 /// Whether the numbers are equal.
 pub(crate) fn int_eq(scene: &Scene<'_, '_>) -> bool

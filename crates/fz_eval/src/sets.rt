@@ -6,10 +6,10 @@ ghost use Rattle.fz_base.specs.Sets.{symmetric_difference};
 ghost use Rattle.fz_meaning.specs.Values.{◌=ℤ◌, ◌=ˢ◌};
 ghost use Rattle.fz_eval.specs.Readings.{int, numbers};
 
+use fz_kernel::fz_scene::Scene;
 use fz_kernel::sets::{
     has_cardinality, is_difference, is_intersection, is_symmetric_difference, is_union, same_set,
 };
-use fz_kernel::fz_scene::Scene;
 
 /// Whether the number is in the set.
 pub(crate) fn set_in(scene: &Scene<'_, '_>) -> bool

@@ -5,8 +5,8 @@ ghost use Rattle.fz_meaning.specs.Values.{◌=ℤ◌, ◌=ᴮ◌};
 ghost use Rattle.fz_meaning.specs.Builtins.{as_number};
 ghost use Rattle.fz_eval.specs.Readings.{int, truth};
 
-use fz_kernel::numbers::number_of_truth;
 use fz_kernel::fz_scene::Scene;
+use fz_kernel::numbers::number_of_truth;
 
 /// Whether the truth values are equal.
 pub(crate) fn bool_eq(scene: &Scene<'_, '_>) -> bool

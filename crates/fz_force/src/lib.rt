@@ -13,6 +13,6 @@ mod step;
 mod unit;
 mod value;
 
-pub use fz_eval;
 pub use fz_data;
+pub use fz_eval;
 pub use step::{forced, only_number};

@@ -11,9 +11,9 @@ ghost use Rattle.fz_force.specs.Left.{IsLeft, IsOfKind, IsPlaceOf, holds_with, i
 
 use crate::base_row::{left_number, left_set, left_truth};
 use fz_base::{SetError, Value};
+use fz_eval::fz_scene::Scene;
 use fz_eval::{Outcome, of_builtin};
 use fz_meaning::{Builtin, Kind, Known, Shape};
-use fz_eval::fz_scene::Scene;
 use std::alloc::{AllocError, Global};
 
 /// The value that a row leaves to the argument at a place that `defines_var` may fill, of the other arguments' values. None where a sum

@@ -14,9 +14,9 @@ mod tests;
 mod values;
 mod verdict;
 
-pub use fz_model;
-pub use fz_verdict;
 pub use error::BlockError;
 pub use filling::fill;
+pub use fz_model;
+pub use fz_verdict;
 pub use judge::Judge;
 pub use verdict::{Fault, Reason, Verdict};

@@ -8,9 +8,9 @@ mod scanner;
 mod token;
 mod word;
 
-pub use fz_base;
 pub use ahead::{Listed, Tokens, check_tokens};
 pub use error::SyntaxError;
+pub use fz_base;
 pub use lexer::{MOST_BYTES, lex};
 pub use token::{Mark, Token, TokenKind};
 

@@ -13,8 +13,8 @@ mod telling;
 mod text;
 mod writing;
 
-pub use fz_judge;
 pub use error::{LiveError, PartError};
+pub use fz_judge;
 pub use line::{Answer, push_answer, push_block, push_claim};
 pub use live::check_parts;
 pub use reader::PartReader;
