@@ -1,8 +1,10 @@
-# make             proves the program with all that it stands on, builds it and leaves it at build/fzcheck
-# make test        the gate: every proof from nothing, the must-fail edits, the tests, the built program
-# make corpus      runs the built program over tests/corpus and examples, and beside a second checker on random ones
-# make bench       measures the phases of a check beside a plain program, and a long stream through a pipe (some minutes)
-# make quick       runs the program on the first example with NO proof: for a first look while editing
+# make             proves the program with all that it stands on, builds it: build/fzcheck
+# make test        the gate: every proof from nothing, the must-fail edits, the tests, the program
+# make corpus      runs the built program over tests/corpus and examples, and beside a second
+#                  checker on random models
+# make bench       measures the built program beside a plain program (some minutes)
+# make quick       judges examples/first.fzn with NO proof, or MODEL=FILE [STREAM=FILE]; with a
+#                  MODEL and no STREAM it reads standard input; it tells the program's status
 # make install     puts the program and its manual page in place, below PREFIX (/usr/local)
 # make fmt         lays out the sources
 # make clean       drops what was built
@@ -35,20 +37,19 @@ corpus: build/fzcheck
 	tests/corpus/run.py build/fzcheck tests/corpus examples
 	tests/corpus/differ.py build/fzcheck - 300
 
-# Cargo builds the plain program, from its own sources alone; the files that are measured are made into build/bench.
-bench: build/fz_bench build/fzcheck
-	cargo build --release --offline --quiet --manifest-path bench/plain/Cargo.toml --target-dir build/plain
-	bench/run.py build/fz_bench build/plain/release/plain build/bench
-	bench/pipe.py build/fzcheck build/plain/release/plain build/bench
+# Cargo builds the plain program, from its own sources alone; build/bench has the files to measure.
+bench: build/fzcheck
+	cargo build --release --offline --quiet --manifest-path bench/plain/Cargo.toml \
+	  --target-dir build/plain
+	bench/run.py build/fzcheck build/plain/release/plain build/bench
 
-build/fz_bench: $(SOURCES)
-	@mkdir -p build
-	cd crates/fz_bench && rt run -- each 1 data/model.fzn data/stream.out >/dev/null
-	cp crates/fz_bench/out/fz_bench build/fz_bench
+ifndef MODEL
+quick: MODEL := examples/first.fzn
+quick: STREAM := examples/first.out
+endif
 
 quick:
-	@echo "no proof is made: this only runs"
-	cd crates/fzcheck && rt try -- check data/first.fzn <stdin
+	@tests/quick.sh "$(MODEL)" "$(STREAM)"
 
 install: build/fzcheck
 	install -D build/fzcheck $(DESTDIR)$(PREFIX)/bin/fzcheck

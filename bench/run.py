@@ -1,108 +1,75 @@
 #!/usr/bin/env python3
-"""Measures the phases of a check beside a plain program on the same files, and prints one table.
+"""Measures whole runs of the built fzcheck beside a plain program, and prints one table.
 
-    run.py OURS PLAIN FOLDER [MEGABYTES..]
+    run.py FZCHECK PLAIN FOLDER [MEGABYTES..]
 
-OURS is the built fz_bench, PLAIN the plain program of bench/plain, FOLDER where the files are made (kept
-for the next run), MEGABYTES the sizes, 1 4 16 where none is given. Each phase is run by both programs, all
-phases one after another, and all of that five times over, so that lines can be compared where the machine
-changes its speed; the least processor time of a round counts, as another load on the machine only ever
-adds to it."""
+FZCHECK is the built program, PLAIN the plain program of bench/plain, FOLDER where the files are
+made and unpacked, MEGABYTES the sizes of the made files, 1 4 16 where none is given. Both programs
+are run in turn, all rows one after another, and all of that five times over, so that rows can be
+compared where the machine changes its speed. The least processor time of a row counts, as another
+load on the machine only ever adds to it, and the most memory. Where a program doesn't give the
+status that a row wants, or the two don't print the same, the bench stops and says so."""
 import os
 import platform
 import re
 import subprocess
 import sys
-import tempfile
 import time
 
 HERE = os.path.dirname(os.path.abspath(__file__))
 TURNS = 5
-MOST_SECONDS = 120  # a run that takes longer is given up
-
-# phase, sort of the files, what it reads (m: the model, s: the stream, ms: both), which bytes count, what it counts
-PHASES = [
-    ("lex", "model", "m", "m", "tokens"),
-    ("parse", "model", "m", "m", "constraints"),
-    ("to_text", "model", "m", "m", "bytes"),
-    ("load", "model", "m", "m", "variables"),
-    ("states", "model", "ms", "m", "points"),
-    ("judge", "model", "ms", "m", "blocks"),
-    ("check", "model", "ms", "ms", "blocks"),
-    ("blocks", "stream", "s", "s", "blocks"),
-    ("splitter", "stream", "s", "s", "blocks"),
-    ("judge", "stream", "ms", "s", "blocks"),
-    ("check", "stream", "ms", "ms", "blocks"),
-    ("judge", "chain", "ms", "m", "blocks"),
-    ("check", "chain", "ms", "ms", "blocks"),
-]
+SORTS = ["model", "stream", "chain"]
+REAL = ["clauses", "queens", "reified", "recurrence"]
+LONG = "90"  # megabytes of the stream that comes through a pipe
+NO_BLOCKS = 3
 
 
-class Best:
-    """The least time of some runs, what they counted, and the most memory they held."""
+class Row:
+    """A line of the table: what both programs are run on, and the best that each of them did."""
 
-    def __init__(self):
-        self.seconds = None
-        self.count = None
-        self.kilobytes = 0
-        self.why = None
+    def __init__(self, name, word, model, stream=None, piped=False):
+        self.name = name
+        self.words = [word, model]
+        if stream and not piped:
+            self.words.append(stream)
+        self.input = stream if piped else os.devnull
+        self.status = NO_BLOCKS if stream == os.devnull else 0
+        self.size = sum(os.path.getsize(path) for path in (model, stream) if path)
+        self.seconds = [float("inf")] * 2
+        self.kilobytes = [0] * 2
 
-    def add(self, command):
-        """One run; false where the program doesn't give a time."""
-        with tempfile.NamedTemporaryFile("r") as peak:
-            timed = ["/usr/bin/time", "-q", "-f", "%M", "-o", peak.name] + command
-            try:
-                ran = subprocess.run(timed, capture_output=True, text=True, timeout=MOST_SECONDS)
-            except subprocess.TimeoutExpired:
-                self.why = f"over {MOST_SECONDS} s"
-                return False
-            told = re.search(r"(\d+) ns", ran.stderr)
-            if ran.returncode != 0 or told is None:
-                self.why = why_not(ran.stderr)
-                return False
-            seconds = int(told[1]) / 1e9
-            self.seconds = seconds if self.seconds is None else min(self.seconds, seconds)
-            self.count = int(ran.stdout.split()[1])
-            self.kilobytes = max(self.kilobytes, int(peak.read().split()[-1]))
-            return True
+    def turn(self, programs, reports):
+        """One run of each program."""
+        for which, program in enumerate(programs):
+            used, status = run([program, *self.words], self.input, reports[which])
+            if status != self.status:
+                sys.exit(f"{self.name}: {program} ends with status {status}, not {self.status}")
+            seconds = used.ru_utime + used.ru_stime
+            self.seconds[which] = min(self.seconds[which], seconds)
+            self.kilobytes[which] = max(self.kilobytes[which], used.ru_maxrss)
+        if subprocess.run(["cmp", *reports]).returncode != 0:
+            sys.exit(f"{self.name}: the programs don't print the same")
 
-
-def why_not(told):
-    """What the table says where a program gave no time."""
-    if "no phase has this name" in told:
-        return "not there"
-    words = told.split("\n")[0].removeprefix("Error: ")
-    return "refused: " + words[:40]
-
-
-def rounds_for(size):
-    return max(5, min(20, int(16 / size)))
+    def text(self, floor):
+        """The line, where no less memory than the floor can be told."""
+        cells = [self.name, f"{self.size / 1e6:.1f}"]
+        cells += [number(seconds * 1e3) for seconds in self.seconds]
+        cells.append(f"{self.seconds[1] / self.seconds[0]:.2f}")
+        for kilobytes in self.kilobytes:
+            below = "under " if kilobytes <= floor else ""
+            cells.append(below + number(max(kilobytes, floor) / 1e3))
+        return "| " + " | ".join(cells) + " |"
 
 
-class Pair:
-    """The best runs of both programs, of a phase over files of a size."""
-
-    def __init__(self, phase, files, size, ours, plain):
-        rounds = str(rounds_for(size))
-        self.bests = Best(), Best()
-        self.commands = [ours, phase, rounds, *files], [plain, "time", phase, rounds, *files]
-
-    def turn(self):
-        """One run of each."""
-        for best, command in zip(self.bests, self.commands):
-            if best.why is None:
-                best.add(command)
-
-
-def floor(path):
-    """The least processor time of `wc -l`, the start of the process in it."""
-    took = []
-    for _ in range(7):
-        quiet = [(os.POSIX_SPAWN_OPEN, 1, os.devnull, os.O_WRONLY, 0)]
-        child = os.posix_spawnp("wc", ["wc", "-l", path], os.environ, file_actions=quiet)
-        _, _, used = os.wait4(child, 0)
-        took.append(used.ru_utime + used.ru_stime)
-    return min(took)
+def run(command, given, report):
+    """Runs a command on what `cat` reads from a file: what it used, and its status."""
+    with subprocess.Popen(["cat", given], stdout=subprocess.PIPE) as source:
+        with open(report, "wb") as output:
+            child = subprocess.Popen(command, stdin=source.stdout, stdout=output)
+        source.stdout.close()  # so that `cat` ends where the command reads no further
+        _, status, used = os.wait4(child.pid, 0)
+        child.returncode = os.waitstatus_to_exitcode(status)
+    return used, child.returncode
 
 
 def number(x):
@@ -110,83 +77,60 @@ def number(x):
     return f"{x:,.0f}" if x >= 100 else f"{x:.1f}" if x >= 10 else f"{x:.2f}"
 
 
-def paths_of(folder, sort, size):
-    base = os.path.join(folder, f"{sort}-{size}")
-    if not os.path.exists(base + ".out"):
-        subprocess.run([os.path.join(HERE, "generate.py"), sort, str(size), folder], check=True)
-    return {"m": base + ".fzn", "s": base + ".out"}
+def made(folder, sort, size):
+    """The model and the stream that bench/generate.py makes. They are kept for the next run."""
+    model, stream = (os.path.join(folder, f"{sort}-{size}{ending}") for ending in (".fzn", ".out"))
+    if not os.path.exists(stream):
+        subprocess.run([os.path.join(HERE, "generate.py"), sort, size, folder], check=True)
+    return model, stream
 
 
-def row(phase, sort, unit, sizes, measured, wide):
-    """A line of the table; `measured` has the bytes and both best runs by size."""
-    cells = [f"`{phase}`", sort]
-    ours = {size: best for size, (_, best, _) in measured.items()}
-    for size in sizes:
-        best = ours[size]
-        cells.append(best.why or number(measured[size][0] / best.seconds / 1e6))
-    length, best, plain = measured[wide]
-    done = best.why is None
-    cells.append(f"{number(best.count / best.seconds)} {unit}" if done else "")
-    cells.append(plain.why or number(length / plain.seconds / 1e6))
-    both = done and plain.why is None
-    cells.append(f"{plain.seconds / best.seconds:.2f}" if both else "")
-    cells.append(f"{number(best.kilobytes / 1e3)} ({best.kilobytes * 1000 / length:.1f})" if done else "")
-    cells.append(f"{number(plain.kilobytes / 1e3)} ({plain.kilobytes * 1000 / length:.1f})" if plain.why is None else "")
-    small = sizes[0]
-    if done and ours[small].why is None:
-        grown = (best.seconds / length) / (ours[small].seconds / measured[small][0])
-        cells.append(f"{grown:.2f}")
-    else:
-        cells.append("")
-    return "| " + " | ".join(cells) + " |"
+def real(folder, name):
+    """Two rows for a real model: the first block of its stream, and all of it."""
+    base = os.path.join(folder, name)
+    yield Row(f"`check` {name}, one block", "check", base + ".fzn", base + "-first.out")
+    yield Row(f"`check` {name}, all blocks", "check", base + ".fzn", base + ".out")
+
+
+def rows_of(folder, sizes):
+    models = [made(folder, "model", size)[0] for size in sizes]
+    rows = [Row("`show` model", "show", model) for model in models]
+    rows += [Row("`check` model, no block", "check", model, os.devnull) for model in models]
+    for sort in SORTS:
+        rows += [Row(f"`check` {sort}", "check", *made(folder, sort, size)) for size in sizes]
+    # By a program of its own, since what this one once held counts as its children's memory.
+    subprocess.run([os.path.join(HERE, "real", "unpack.py"), folder], check=True)
+    for name in REAL:
+        rows += real(folder, name)
+    return rows + [Row("`check` long, piped", "check", *made(folder, "long", LONG), piped=True)]
 
 
 def machine():
     with open("/proc/cpuinfo") as f:
-        name = re.search(r"model name\s*: (.*)", f.read())
-    compiler = subprocess.run(["rustc", "--version"], capture_output=True, text=True).stdout.strip()
-    load = os.getloadavg()[0]
-    cpu = name[1] if name else platform.machine()
-    return f"{cpu}, {os.cpu_count()} cores, load {load:.1f} at the start, {platform.system()}; {compiler}; {time.strftime('%Y-%m-%d')}"
-
-
-def pairs_of(line, sizes, folder, ours, plain):
-    """For each size, the bytes that count, and what is measured of a line."""
-    phase, sort, reads, counts, _ = line
-    pairs = {}
-    for size in sizes:
-        paths = paths_of(folder, sort, size)
-        length = sum(os.path.getsize(paths[which]) for which in counts)
-        pairs[size] = length, Pair(phase, [paths[which] for which in reads], size, ours, plain)
-    return pairs
+        found = re.search(r"model name\s*: (.*)", f.read())
+    words = ["rustc", "--version"]
+    compiler = subprocess.run(words, capture_output=True, text=True).stdout.strip()
+    cpu = found[1] if found else platform.machine()
+    load = f"load {os.getloadavg()[0]:.1f} at the start"
+    where = f"{cpu}, {os.cpu_count()} cores, {load}, {platform.system()}"
+    return f"{where}; {compiler}; {time.strftime('%Y-%m-%d')}"
 
 
 def main():
-    ours, plain, folder = map(os.path.abspath, sys.argv[1:4])
-    sizes = [int(w) for w in sys.argv[4:]] or [1, 4, 16]
-    wide = sizes[-1]
-    print(machine())
-    print()
-    names = " | ".join(f"{size} MB" for size in sizes)
-    print(f"| phase | file | {names} | a second | plain | ratio | peak | plain's | growth |")
-    print("|---|---|" + "---|" * (len(sizes) + 6))
-    lines = [(line, pairs_of(line, sizes, folder, ours, plain)) for line in PHASES]
+    fzcheck, plain, folder = map(os.path.abspath, sys.argv[1:4])
+    rows = rows_of(folder, sys.argv[4:] or ["1", "4", "16"])
+    reports = [os.path.join(folder, f"{name}.txt") for name in ("fzcheck", "plain")]
+    print(machine(), flush=True)
     for _ in range(TURNS):
-        for _, pairs in lines:
-            for _, pair in pairs.values():
-                pair.turn()
-    for (phase, sort, _, _, unit), pairs in lines:
-        measured = {size: (length, *pair.bests) for size, (length, pair) in pairs.items()}
-        for size, (_, best, other) in measured.items():
-            if best.why is None and other.why is None and best.count != other.count:
-                print(f"{phase} {sort}-{size}: {best.count} here, {other.count} there", file=sys.stderr)
-        print(row(phase, sort, unit, sizes, measured, wide), flush=True)
-    for sort, which in (("model", "m"), ("stream", "s")):
-        cells = []
-        for size in sizes:
-            path = paths_of(folder, sort, size)[which]
-            cells.append(number(os.path.getsize(path) / floor(path) / 1e6))
-        print(f"| `wc -l` | {sort} | " + " | ".join(cells) + " | | | | | | |")
+        for row in rows:
+            row.turn((fzcheck, plain), reports)
+    # A process is counted with what this program holds, which it has until its own program starts.
+    floor = run(["true"], os.devnull, os.devnull)[0].ru_maxrss
+    print()
+    print("| row | MB | fzcheck ms | plain ms | ratio | fzcheck's memory, MB | plain's, MB |")
+    print("|---|---|---|---|---|---|---|")
+    for row in rows:
+        print(row.text(floor))
 
 
 main()

@@ -401,22 +401,6 @@ impl<'a> Checker<'a> {
         Ok(self.verdict(printed))
     }
 
-    /// Evaluates all points again under the values of the block before, and tells whether all hold.
-    pub fn all_hold(&mut self) -> bool {
-        self.before = None;
-        self.verdict(NONE) == Verdict::Satisfied
-    }
-
-    /// How many points the model has.
-    pub fn points(&self) -> usize {
-        let m = &self.m;
-        let others = m
-            .specials
-            .iter()
-            .filter(|s| matches!(s.what, SpecialWhat::Def { .. } | SpecialWhat::Array { .. }));
-        m.nvars + others.count() + m.cons.len()
-    }
-
     // ---- printed values ----
 
     fn items(&mut self, buf: &[u8], from: usize, to: usize) -> Result<u32, BlockFault> {
@@ -1205,7 +1189,7 @@ struct Items<'b> {
 
 /// N where the current token is the word `arrayNd`, else 0.
 #[inline(always)]
-pub fn dimension(core: &Core) -> usize {
+fn dimension(core: &Core) -> usize {
     let l = &core.lex;
     if l.tok != T::Name || l.pos - l.start != 7 {
         return 0;

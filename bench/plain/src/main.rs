@@ -5,9 +5,8 @@ mod lex;
 mod model;
 mod names;
 mod parse;
-mod phases;
-mod printed;
 mod sets;
+mod show;
 mod stream;
 mod text;
 mod tree;
@@ -20,8 +19,7 @@ use std::io::{Read, Write};
 use std::process::exit;
 use stream::{load, pad, Answer, CheckError, Run};
 
-const USAGE: &str =
-    "usage: plain show MODEL | check MODEL [STREAM] | time PHASE ROUNDS FILE [STREAM]";
+const USAGE: &str = "usage: plain show MODEL | check MODEL [STREAM]";
 
 fn usage() -> ! {
     eprintln!("{USAGE}");
@@ -65,17 +63,9 @@ fn read_model(mut f: File) -> Result<Vec<u8>, CheckError> {
 
 fn show(name: &OsString) -> Result<u8, CheckError> {
     let (src, end) = pad(read_model(open(name)?)?);
-    if end > MAX_BYTES {
-        return Err(CheckError::Model(Fault {
-            name: FaultName::TooLong,
-            start: 0,
-            end: 0,
-        }));
-    }
-    let tree = phases::tree_of(&src, end).map_err(CheckError::Model)?;
-    phases::model_of(&tree, &src, end).map_err(CheckError::Model)?;
+    let text = show::canonical(&src, end).map_err(CheckError::Model)?;
     std::io::stdout()
-        .write_all(&phases::text_of(&tree, &src))
+        .write_all(&text)
         .map_err(|_| CheckError::Write)?;
     Ok(0)
 }
@@ -98,28 +88,6 @@ fn check(model: &OsString, stream: Option<&OsString>) -> Result<u8, CheckError> 
     })
 }
 
-/// Runs a phase some times; its count on standard output, its least time on standard error.
-fn time(words: &[OsString]) -> Result<u8, CheckError> {
-    let [phase, rounds, files @ ..] = words else {
-        usage()
-    };
-    let (Some(phase), Some(Ok(rounds))) = (phase.to_str(), rounds.to_str().map(str::parse)) else {
-        usage()
-    };
-    let read = |f: &OsString| std::fs::read(f).map_err(|_| CheckError::Read);
-    let (file, stream) = match files {
-        [file] => (read(file)?, Vec::new()),
-        [file, stream] => (read(file)?, read(stream)?),
-        _ => usage(),
-    };
-    let Some((count, took)) = phases::measure(phase, rounds, file, stream)? else {
-        usage()
-    };
-    println!("{phase}: {count}");
-    eprintln!("{phase}: {} ns", took.as_nanos());
-    Ok(0)
-}
-
 fn main() {
     let args: Vec<OsString> = std::env::args_os().skip(1).collect();
     let Some(word) = args.first() else { usage() };
@@ -127,7 +95,6 @@ fn main() {
         (b"show", [model]) => show(model),
         (b"check", [model]) => check(model, None),
         (b"check", [model, stream]) => check(model, Some(stream)),
-        (b"time", rest) => time(rest),
         _ => usage(),
     };
     match r {

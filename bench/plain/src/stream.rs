@@ -8,7 +8,7 @@ use crate::text::push_num;
 use std::io::{Read, Write};
 
 /// Bytes asked for at a time.
-pub const READ: usize = 65_536;
+const READ: usize = 65_536;
 const MAX_FED: u64 = 1_099_511_627_776;
 const MAX_READS: u64 = 4_294_967_296;
 
@@ -57,7 +57,7 @@ fn blank(c: u8) -> bool {
     matches!(c, b' ' | b'\t' | b'\r' | b'\n')
 }
 
-pub fn trim(mut s: &[u8]) -> &[u8] {
+fn trim(mut s: &[u8]) -> &[u8] {
     while let [c, r @ ..] = s {
         if !blank(*c) {
             break;
@@ -73,7 +73,7 @@ pub fn trim(mut s: &[u8]) -> &[u8] {
     s
 }
 
-pub enum Line {
+enum Line {
     Nothing,
     Marker,
     Claim,
@@ -81,7 +81,7 @@ pub enum Line {
 }
 
 #[inline(always)]
-pub fn line_kind(line: &[u8]) -> Line {
+fn line_kind(line: &[u8]) -> Line {
     // Most lines tell their kind by their first byte.
     let s = match line.first() {
         Some(c) if !blank(*c) && !matches!(c, b'-' | b'=' | b'%') => return Line::Item,
@@ -104,10 +104,10 @@ pub fn line_kind(line: &[u8]) -> Line {
 }
 
 pub struct Run<'a, 'w, W: Write> {
-    pub c: Checker<'a>,
+    c: Checker<'a>,
     writer: &'w mut W,
     out: Vec<u8>,
-    pub blocks: u64,
+    blocks: u64,
     rejected: Option<u64>,
     undecided: Option<u64>,
 }

@@ -95,7 +95,7 @@ pub struct TreeSink {
     at: Where,
 }
 
-pub fn lit(w: What) -> Literal {
+fn lit(w: What) -> Literal {
     match w {
         What::Whole(v) => Literal::Whole(v),
         What::Truth(b) => Literal::Truth(b),
