@@ -13,8 +13,6 @@ mod ranges;
 mod sets;
 mod span;
 mod storage;
-#[cfg(test)]
-mod tests;
 mod value;
 
 pub use sets::{IntSet, SetError};

@@ -14,6 +14,3 @@ pub use fz_live::fz_judge::{BlockError, Fault, Judge, Reason, Verdict, fill};
 pub use live::{check_stream, check_stream_up_to};
 pub use refusal::{refusal_text, status};
 pub use report::{Report, report_text};
-
-#[cfg(test)]
-mod tests;

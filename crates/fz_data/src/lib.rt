@@ -18,8 +18,6 @@ mod posting;
 mod rows;
 mod scope;
 mod sheet;
-#[cfg(test)]
-mod tests;
 mod values;
 
 pub use found::{Found, What};

@@ -9,8 +9,6 @@ mod judge;
 mod points;
 mod printed;
 mod start;
-#[cfg(test)]
-mod tests;
 mod values;
 mod verdict;
 

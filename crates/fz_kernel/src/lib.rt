@@ -10,7 +10,5 @@ pub mod arrays;
 pub mod distinct;
 pub mod numbers;
 pub mod sets;
-#[cfg(test)]
-mod tests;
 
 pub use fz_scene;

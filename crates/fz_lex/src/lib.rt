@@ -13,6 +13,3 @@ pub use error::SyntaxError;
 pub use fz_base;
 pub use lexer::{MOST_BYTES, lex};
 pub use token::{Mark, Token, TokenKind};
-
-#[cfg(test)]
-mod tests;

@@ -10,8 +10,6 @@ mod line;
 mod reading;
 mod splitter;
 mod step;
-#[cfg(test)]
-mod tests;
 
 pub use block::Block;
 pub use error::{StreamError, moved_span};
