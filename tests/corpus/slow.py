@@ -3,7 +3,7 @@
 
 It follows docs/LANGUAGE.md, BUILTINS.md, STREAM.md, FILLING.md and REPORT.md in the plainest way, shares
 nothing with the checker, and serves to work out reports. It leaves out the limits on the lengths of texts
-and lists and on depths. Sets are listed number by number, and large ones are not for it (TooLargeToList)."""
+and lists. Sets are listed number by number, and large ones are not for it (TooLargeToList)."""
 import io
 import re
 import sys
@@ -19,7 +19,7 @@ RESERVED = set(
 )
 CLAIMS = {"=" * 10} | {"=====" + w + "=====" for w in "UNSATISFIABLE UNKNOWN UNBOUNDED UNSATorUNBOUNDED ERROR".split()}
 LEAST, MOST = -(2**63), 2**63 - 1
-MOST_SIZE = 1_048_576
+MOST_SIZE, MOST_LEVELS = 1_048_576, 32
 MOST_LISTED = 1_000_000
 
 
@@ -194,21 +194,25 @@ class Reader:
             found.append(self.note())
         return found
 
-    def note(self):
+    def note(self, level=1):
         """The name and the arguments."""
+        if level > MOST_LEVELS and self.next.sort == "name":
+            raise Refused(self.what, "TooDeep", self.next.start, self.next.end)
         name, args = self.take("name").text, []
         if self.has("("):
             if self.next.sort == ")":
                 self.fail()
-            args = self.some(self.note_arg, ")")
+            args = self.some(lambda: self.note_arg(level + 1), ")")
         return name, args
 
-    def note_arg(self):
-        return self.some(self.note_basic, "]") if self.has("[") else self.note_basic()
+    def note_arg(self, level):
+        if self.has("["):
+            return self.some(lambda: self.note_basic(level), "]")
+        return self.note_basic(level)
 
-    def note_basic(self):
+    def note_basic(self, level):
         if self.next.sort == "name":
-            return self.note()
+            return self.note(level)
         return self.take("float", "string") if self.next.sort in ("float", "string") else self.literal()
 
     def declaration(self):
