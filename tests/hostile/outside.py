@@ -1,7 +1,6 @@
 """What stands around the program: its descriptors, its files, its stack and its memory."""
 import os
 import shutil
-import signal
 import tempfile
 
 from beside import FIRST_MODEL, FIRST_STREAM, content, examples
@@ -56,18 +55,14 @@ def full(program):
 
 
 def no_reader(program):
-    """A pipe that nobody reads: the signal ends the program, or is ignored, and then the write fails."""
+    """A pipe that nobody reads is a write that fails: the program isn't ended by the signal of it."""
     tally = Tally()
-    words = [program, "check", FIRST_MODEL, FIRST_STREAM]
-    for name, script, want in (
-        ("by default", 'exec "$@"', (-signal.SIGPIPE, b"")),
-        ("the signal ignored", 'trap "" PIPE; exec "$@"', (6, b"refused: write\n")),
-    ):
+    for words in ("check", FIRST_MODEL, FIRST_STREAM), ("show", FIRST_MODEL):
         source, to = os.pipe()
         os.close(source)
-        ran = in_shell(script, *words, stdout=to)
+        ran = run([program, *words], stdout=to)
         os.close(to)
-        tally.expect(f"a pipe without reader, {name}", (ran.status, ran.err), want)
+        tally.expect(f"a pipe without reader, {words[0]}", ran.answer, WRITE)
     return tally
 
 

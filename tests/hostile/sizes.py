@@ -1,6 +1,9 @@
 """Texts at the limits and of the greatest length: the answer, within two seconds and ten times the bytes.
 
-The seconds are the processor's, so that what else the machine does doesn't count."""
+The seconds are the processor's, so that what else the machine does doesn't count. Where every second or
+third byte of a text is an element or a name of its own, more memory is taken, since an element takes some
+30 bytes in the tree and as many once more in the loaded model: such texts have a bound of their own, a
+little above what was measured."""
 import os
 import resource
 import subprocess
@@ -13,7 +16,6 @@ from running import FOLDER, Tally
 MOST_SECONDS = 2
 GIVE_UP = 30  # seconds of the processor
 TIMES = 10  # bytes of memory to each byte of the text
-LISTED = 32  # the same where the text is lists of numbers of one digit, which are loaded to 16 bytes each
 LEAST_BYTES = 48_000_000  # what a run may take whatever it reads: Python, which starts it, counts too
 MOST_BYTES = 16_777_216  # of a text
 MOST_ELEMENTS = 1_048_576
@@ -73,7 +75,7 @@ def models():
     yield "one open string", to_length(b'solve :: a("', b"x", b""), refused("model", "BadByte", 11, 12)
     yield "one constraint's name", to_length(b"constraint ", b"x", b"();\n" + SOLVE), NOTHING
     yield "colons", to_length(b"solve ", b"::", b""), refused("model", "Syntax", 8, 10)
-    yield "annotations", to_length(b"solve ", b"::a", b" satisfy;\n"), NOTHING, LISTED
+    yield "annotations", to_length(b"solve ", b"::a", b" satisfy;\n"), NOTHING, 21
     deep = 9 + 2 * 32
     deep = refused("model", "TooDeep", deep, deep + 1)
     yield "open parentheses", Filled(b"solve :: ", b"a(", 8_000_000), deep
@@ -84,14 +86,14 @@ def models():
     yield "a hundred nines", Filled(b"int: a = ", b"9", 100, b";\n"), refused("model", "TooLarge", 9, 109)
     yield "points", to_length(b"", b".", b""), refused("model", "Syntax", 0, 2)
     listed = Filled(b"constraint p([", b"1,", most - 1, b"1]);\n" + SOLVE)
-    yield "a list", listed, NOTHING, LISTED
+    yield "a list", listed, NOTHING, 52
     one_more = 14 + too_many
     one_more = refused("model", "TooMany", one_more, one_more + 1)
-    yield "an element too many", Filled(b"constraint p([", b"1,", most, b"1]);\n" + SOLVE), one_more
+    yield "an element too many", Filled(b"constraint p([", b"1,", most, b"1]);\n" + SOLVE), one_more, 32
     yield "a number too many", Filled(b"constraint p({", b"1,", most, b"1});\n" + SOLVE), one_more
-    yield "a set", Filled(b"constraint p({", b"1,", most - 1, b"1});\n" + SOLVE), NOTHING, LISTED
-    yield "lists", to_length(b"", b"constraint p([1,2,3,4,5,6,7,8,9]);\n", SOLVE), NOTHING, LISTED
-    yield "truths", to_length(b"", b"constraint p(true,false);\n", SOLVE), NOTHING
+    yield "a set", Filled(b"constraint p({", b"1,", most - 1, b"1});\n" + SOLVE), NOTHING
+    yield "lists", to_length(b"", b"constraint p([1,2,3,4,5,6,7,8,9]);\n", SOLVE), NOTHING, 36
+    yield "truths", to_length(b"", b"constraint p(true,false);\n", SOLVE), NOTHING, 18
     yield "bytes of no text", to_length(b"", b"\0", b""), refused("model", "BadByte", 0, 1)
     yield "bytes past ASCII", to_length(b"%", b"\xff", b"\n" + SOLVE), NOTHING
 
@@ -112,7 +114,7 @@ def streams():
     most, at = MOST_ELEMENTS, 18 + 2 * MOST_ELEMENTS
     one_more = refused("stream", "TooMany", at, at + 1)
     listed = Filled(b"x = array1d(1..9,[", b"1,", most, b"1]);\n----------\n")
-    yield "an element too many", listed, one_more
+    yield "an element too many", listed, one_more, 28
     listed = Filled(b"x =".ljust(17) + b"{", b"1,", most, b"1};\n----------\n")
     yield "a number too many", listed, one_more
     yield "a hundred nines", Filled(b"x = ", b"9", 100, b";\n----------\n"), refused("stream", "TooLarge", 4, 104)

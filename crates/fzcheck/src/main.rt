@@ -120,7 +120,7 @@ fn has_input(rt: &HostRuntime) -> bool {
 
 fn check_against<M: Read>(rt: &HostRuntime, model: &mut M, stream: Option<&str>) -> u8 {
     match stream {
-        None => check_readers(rt, model, &mut rt.reader()),
+        None => check_readers(rt, model, &mut rt.stdin()),
         Some(stream) => match fs::open(rt, stream) {
             Ok(mut stream) => check_readers(rt, model, &mut stream),
             Err(_) => refuse(rt, &CheckError::Read),
