@@ -277,6 +277,7 @@ def main():
     program, seconds = os.path.abspath(sys.argv[1]), float(sys.argv[2])
     seed = sys.argv[3] if len(sys.argv) > 3 else "1"
     os.makedirs(FOLDER, exist_ok=True)
+    print(f"seed {seed}", flush=True)
     end, cores, tally = time.monotonic() + seconds, os.cpu_count(), Tally()
     with Pool(cores) as pool:
         for part in pool.starmap(until, [(program, seed, at, cores, end) for at in range(cores)]):

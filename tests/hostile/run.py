@@ -32,7 +32,7 @@ def job(test, args):
 
 def main():
     program = os.path.abspath(sys.argv[1])
-    shared = running.build()
+    running.build()
     tally = running.Tally()
     with Pool() as pool:
         for name, jobs in (
@@ -51,7 +51,7 @@ def main():
     if len(sys.argv) > 2:
         import calls
 
-        tally.add(calls.run(os.path.abspath(sys.argv[2]), shared))
+        tally.add(calls.run(os.path.abspath(sys.argv[2])))
     return tally.end()
 
 
