@@ -98,15 +98,15 @@ fn feeds_all(rt: &HostRuntime, splitter: &mut Splitter, stream: &[u8], piece: us
 {
     let mut rest = stream;
     for _ in 0..stream.len() {
+        if rest.is_empty() {
+            return true;
+        }
         let end = rest.len().min(piece);
         let Some(count) = fed(rt, splitter, &rest[..end]) else {
             return false;
         };
         tell_taken(rt, splitter);
         rest = &rest[count..];
-        if rest.is_empty() {
-            break;
-        }
     }
     true
 }
@@ -128,7 +128,10 @@ fn tell_split(rt: &HostRuntime, stream: &[u8], piece: usize) {
         return;
     }
     match splitter.finish() {
-        Ok(()) => tell_taken(rt, &splitter),
+        Ok(()) => {
+            let _ = println!(rt; "finished");
+            tell_taken(rt, &splitter);
+        }
         Err(error) => {
             let _ = println!(rt; "Err({error:?})");
             tell_failed(rt, &mut splitter);
