@@ -1,7 +1,8 @@
 //! Whole checks, and the texts of reports and refusals.
 
-use crate::outside::{file, tell, tell_text};
+use crate::outside::{file, tell, tell_error, tell_text};
 use fz_check::{CheckError, Report, check, refusal_text, report_text, show, status};
+use std::alloc::AllocError;
 
 /// Makes a call on the text of a model and, where it wants one, on a stream.
 pub fn make_call(rt: &HostRuntime, call: &str, operands: &[String]) -> Option<()> {
@@ -18,22 +19,43 @@ pub fn make_call(rt: &HostRuntime, call: &str, operands: &[String]) -> Option<()
     call_on_answer(rt, &model, &stream)
 }
 
+fn show_lacks_memory(rt: &HostRuntime, model: &[u8]) -> bool {
+    match show(rt.alloc(), model) {
+        Ok(text) => {
+            tell_text(rt, &text);
+            false
+        }
+        Err(error) => {
+            tell_error(rt, &error);
+            matches!(error, CheckError::Memory)
+        }
+    }
+}
+
 fn tell_shown(rt: &HostRuntime, model: &[u8]) {
     for _ in 0..2 {
-        let text = show(rt.alloc(), model);
-        let is_refused = matches!(text, Err(CheckError::Memory));
-        tell_text(rt, text);
-        if !is_refused {
+        if !show_lacks_memory(rt, model) {
             break;
+        }
+    }
+}
+
+fn check_lacks_memory(rt: &HostRuntime, model: &[u8], stream: &[u8]) -> bool {
+    match check(rt.alloc(), model, stream) {
+        Ok(report) => {
+            tell(rt, &report);
+            false
+        }
+        Err(error) => {
+            tell_error(rt, &error);
+            matches!(error, CheckError::Memory)
         }
     }
 }
 
 fn tell_checked(rt: &HostRuntime, model: &[u8], stream: &[u8]) {
     for _ in 0..2 {
-        let report = check(rt.alloc(), model, stream);
-        tell(rt, &report);
-        if !matches!(report, Err(CheckError::Memory)) {
+        if !check_lacks_memory(rt, model, stream) {
             break;
         }
     }
@@ -44,24 +66,38 @@ fn call_on_answer(rt: &HostRuntime, model: &[u8], stream: &[u8]) -> Option<()> {
     match check(rt.alloc(), model, stream) {
         Ok(report) => tell_report(rt, &report),
         Err(CheckError::Memory) => return None,
-        Err(error) => tell_refusal(rt, &error),
+        Err(error) => tell_refusal(rt, error),
     }
     Some(())
+}
+
+/// Tells a text, or that there was no memory for it, and says whether there is one.
+fn is_given(rt: &HostRuntime, text: Result<Vec<u8>, AllocError>) -> bool {
+    match text {
+        Ok(text) => {
+            tell_text(rt, &text);
+            true
+        }
+        Err(error) => {
+            tell_error(rt, &error);
+            false
+        }
+    }
 }
 
 fn tell_report(rt: &HostRuntime, report: &Report<'_>) {
     tell(rt, &status(&Ok(report.answer)));
     for _ in 0..2 {
-        if tell_text(rt, report_text(rt.alloc(), report)) {
+        if is_given(rt, report_text(rt.alloc(), report)) {
             break;
         }
     }
 }
 
-fn tell_refusal(rt: &HostRuntime, error: &CheckError) {
-    tell(rt, &status(&Err(*error)));
+fn tell_refusal(rt: &HostRuntime, error: CheckError) {
+    tell(rt, &status(&Err(error)));
     for _ in 0..2 {
-        if tell_text(rt, refusal_text(rt.alloc(), error)) {
+        if is_given(rt, refusal_text(rt.alloc(), &error)) {
             break;
         }
     }

@@ -1,81 +1,89 @@
 //! Blocks against a model: they are filled and judged.
 
 use crate::loading::tell_points;
-use crate::outside::{file, tell};
+use crate::outside::{file, tell, tell_error};
 use fz_check::{BlockError, Judge, fill};
 use fz_model::{Model, load};
 use fz_stream::{Block, blocks};
-use fz_syntax::parse;
+use fz_syntax::{Ast, parse};
 
 /// Makes a call on the model of the first text and on each block of the second.
 pub fn make_call(rt: &HostRuntime, call: &str, operands: &[String]) -> Option<()> {
     let source = file(rt, operands, 0)?;
-    let Ok(tree) = parse(rt.alloc(), &source) else {
-        return None;
-    };
-    let Ok(model) = load(rt.alloc(), &tree) else {
-        return None;
-    };
-    let text = file(rt, operands, 1)?;
-    call_on_stream(rt, call, &model, &text)
+    let stream = file(rt, operands, 1)?;
+    match parse(rt.alloc(), &source) {
+        Ok(tree) => call_on_tree(rt, call, &tree, &stream),
+        Err(_) => None,
+    }
 }
 
-fn call_on_stream(rt: &HostRuntime, call: &str, model: &Model<'_>, text: &[u8]) -> Option<()> {
-    let Ok(stream) = blocks(rt.alloc(), text) else {
-        return None;
-    };
+fn call_on_tree(rt: &HostRuntime, call: &str, tree: &Ast<'_>, stream: &[u8]) -> Option<()> {
+    match load(rt.alloc(), tree) {
+        Ok(model) => call_on_model(rt, call, &model, stream),
+        Err(_) => None,
+    }
+}
+
+fn call_on_model(rt: &HostRuntime, call: &str, model: &Model<'_>, stream: &[u8]) -> Option<()> {
+    match blocks(rt.alloc(), stream) {
+        Ok(found) => call_on_blocks(rt, call, model, &found.blocks),
+        Err(_) => None,
+    }
+}
+
+fn call_on_blocks(
+    rt: &HostRuntime,
+    call: &str,
+    model: &Model<'_>,
+    given: &[Block<'_>],
+) -> Option<()> {
     match call {
-        "judge" => tell_judged(rt, model, &stream.blocks),
-        "fill" => {
-            for block in &stream.blocks {
-                tell_filled(rt, model, block);
-            }
+        "judge" => tell_verdicts(rt, model, given),
+        "fill" => tell_fillings(rt, model, given),
+        _ => tell_filled_points(rt, model, given),
+    }
+}
+
+fn fill_lacks_memory(rt: &HostRuntime, model: &Model<'_>, block: &Block<'_>) -> bool {
+    match fill(rt.alloc(), model, block) {
+        Ok(partial) => {
+            tell(rt, &partial.values());
+            false
         }
-        _ => {
-            for block in &stream.blocks {
-                tell_points_of(rt, model, block)?;
-            }
+        Err(error) => {
+            tell_error(rt, &error);
+            matches!(error, BlockError::Memory)
+        }
+    }
+}
+
+fn tell_filling(rt: &HostRuntime, model: &Model<'_>, block: &Block<'_>) {
+    for _ in 0..2 {
+        if !fill_lacks_memory(rt, model, block) {
+            break;
+        }
+    }
+}
+
+fn tell_fillings(rt: &HostRuntime, model: &Model<'_>, given: &[Block<'_>]) -> Option<()> {
+    for block in given {
+        tell_filling(rt, model, block);
+    }
+    Some(())
+}
+
+/// Tells the points under the values that fill each block.
+fn tell_filled_points(rt: &HostRuntime, model: &Model<'_>, given: &[Block<'_>]) -> Option<()> {
+    for block in given {
+        match fill(rt.alloc(), model, block) {
+            Ok(partial) => tell_points(rt, model, &partial),
+            Err(_) => return None,
         }
     }
     Some(())
 }
 
-fn tell_filled(rt: &HostRuntime, model: &Model<'_>, block: &Block<'_>) {
-    for _ in 0..2 {
-        match fill(rt.alloc(), model, block) {
-            Ok(partial) => {
-                tell(rt, &partial.values());
-                break;
-            }
-            Err(error) => {
-                let _ = println!(rt; "Err({error:?})");
-                if !matches!(error, BlockError::Memory) {
-                    break;
-                }
-            }
-        }
-    }
-}
-
-/// Tells the points under the values that fill a block.
-fn tell_points_of(rt: &HostRuntime, model: &Model<'_>, block: &Block<'_>) -> Option<()> {
-    match fill(rt.alloc(), model, block) {
-        Ok(partial) => {
-            tell_points(rt, model, &partial);
-            Some(())
-        }
-        Err(_) => None,
-    }
-}
-
-/// Tells the verdicts of one judge, which judges a block again where it found no memory for it.
-fn tell_judged(rt: &HostRuntime, model: &Model<'_>, blocks: &[Block<'_>]) {
-    let mut judge = Judge::new(model);
-    for block in blocks {
-        tell_verdict(rt, &mut judge, block);
-    }
-}
-
+/// Tells a verdict. Where the judge finds no memory for a block, it judges that one again.
 fn tell_verdict(rt: &HostRuntime, judge: &mut Judge<'_, '_>, block: &Block<'_>) {
     for _ in 0..2 {
         let verdict = judge.judge(rt.alloc(), block);
@@ -84,4 +92,13 @@ fn tell_verdict(rt: &HostRuntime, judge: &mut Judge<'_, '_>, block: &Block<'_>) 
             break;
         }
     }
+}
+
+/// Tells the verdicts of one judge.
+fn tell_verdicts(rt: &HostRuntime, model: &Model<'_>, given: &[Block<'_>]) -> Option<()> {
+    let mut judge = Judge::new(model);
+    for block in given {
+        tell_verdict(rt, &mut judge, block);
+    }
+    Some(())
 }

@@ -3,7 +3,7 @@
 ghost use Rattle.std.specs.Prelude.{◌<◌, length};
 ghost use Rattle.fz_model.specs.Meaning.{IsPartial, points};
 
-use crate::outside::{file, tell};
+use crate::outside::{file, tell, tell_error};
 use fz_base::Value;
 use fz_model::{Model, ModelError, Partial, forced, load, state};
 use fz_syntax::{Ast, parse};
@@ -11,21 +11,35 @@ use fz_syntax::{Ast, parse};
 /// Makes a call on a model.
 pub fn make_call(rt: &HostRuntime, call: &str, operands: &[String]) -> Option<()> {
     let source = file(rt, operands, 0)?;
-    let Ok(tree) = parse(rt.alloc(), &source) else {
-        return None;
-    };
+    match parse(rt.alloc(), &source) {
+        Ok(tree) => call_on_tree(rt, call, &tree),
+        Err(_) => None,
+    }
+}
+
+fn call_on_tree(rt: &HostRuntime, call: &str, tree: &Ast<'_>) -> Option<()> {
     if call == "load" {
-        tell_loaded(rt, &tree);
+        tell_loaded(rt, tree);
         return Some(());
     }
-    let Ok(model) = load(rt.alloc(), &tree) else {
-        return None;
-    };
+    match load(rt.alloc(), tree) {
+        Ok(model) => call_on_model(rt, call, &model),
+        Err(_) => None,
+    }
+}
+
+fn call_on_model(rt: &HostRuntime, call: &str, model: &Model<'_>) -> Option<()> {
     if call == "new_partial" {
-        tell_new_partial(rt, &model);
+        tell_new_partial(rt, model);
         return Some(());
     }
-    call_on_nothing(rt, call, &model)
+    match Partial::new(rt.alloc(), model) {
+        Ok(partial) => {
+            call_on_nothing(rt, call, model, partial);
+            Some(())
+        }
+        Err(_) => None,
+    }
 }
 
 fn tell_model(rt: &HostRuntime, model: &Model<'_>) {
@@ -35,54 +49,62 @@ fn tell_model(rt: &HostRuntime, model: &Model<'_>) {
     tell(rt, &model.points());
 }
 
+fn load_lacks_memory(rt: &HostRuntime, tree: &Ast<'_>) -> bool {
+    match load(rt.alloc(), tree) {
+        Ok(model) => {
+            tell_model(rt, &model);
+            false
+        }
+        Err(error) => {
+            tell_error(rt, &error);
+            matches!(error, ModelError::Memory)
+        }
+    }
+}
+
 fn tell_loaded(rt: &HostRuntime, tree: &Ast<'_>) {
     for _ in 0..2 {
-        match load(rt.alloc(), tree) {
-            Ok(model) => {
-                tell_model(rt, &model);
-                break;
-            }
-            Err(error) => {
-                let _ = println!(rt; "Err({error:?})");
-                if !matches!(error, ModelError::Memory) {
-                    break;
-                }
-            }
+        if !load_lacks_memory(rt, tree) {
+            break;
+        }
+    }
+}
+
+fn has_room(rt: &HostRuntime, model: &Model<'_>) -> bool {
+    match Partial::new(rt.alloc(), model) {
+        Ok(partial) => {
+            tell(rt, &partial.values());
+            true
+        }
+        Err(error) => {
+            tell_error(rt, &error);
+            false
         }
     }
 }
 
 fn tell_new_partial(rt: &HostRuntime, model: &Model<'_>) {
     for _ in 0..2 {
-        match Partial::new(rt.alloc(), model) {
-            Ok(partial) => {
-                tell(rt, &partial.values());
-                break;
-            }
-            Err(error) => {
-                let _ = println!(rt; "Err({error:?})");
-            }
+        if has_room(rt, model) {
+            break;
         }
     }
 }
 
-/// Makes a call on a model where no variable has a value.
-fn call_on_nothing(rt: &HostRuntime, call: &str, model: &Model<'_>) -> Option<()> {
-    let Ok(partial) = Partial::new(rt.alloc(), model) else {
-        return None;
-    };
+/// Makes a call on a model and on values of which no variable has one.
+fn call_on_nothing(rt: &HostRuntime, call: &str, model: &Model<'_>, partial: Partial)
+    requires fits { IsPartial model.now partial }
+{
     if call == "ask" {
-        tell_asked(rt, model, partial);
+        ask(rt, model, partial);
     } else {
         tell_points(rt, model, &partial);
     }
-    Some(())
 }
 
 /// Tells what the calls answer that ask something of a model or of values, and gives the first variable
 /// a value.
-fn tell_asked(rt: &HostRuntime, model: &Model<'_>, values: Partial) {
-    let mut partial = values;
+fn ask(rt: &HostRuntime, model: &Model<'_>, mut partial: Partial) {
     tell_model(rt, model);
     for variable in model.variables() {
         tell(rt, &model.find(variable.name).is_some());
@@ -90,7 +112,7 @@ fn tell_asked(rt: &HostRuntime, model: &Model<'_>, values: Partial) {
     for number in 0..model.points() {
         tell(rt, &model.point(number));
     }
-    if partial.values().len() > 0 && partial.get(0).is_none() {
+    if !partial.values().is_empty() && partial.get(0).is_none() {
         partial.set(0, Value::Int(4));
     }
     tell(rt, &(partial.get(0), partial.number(0), partial.truth(0), partial.has(0)));
@@ -100,9 +122,9 @@ fn tell_state(rt: &HostRuntime, model: &Model<'_>, number: usize, partial: &Part
     requires in_range { number < length (points model.now) }
 {
     for _ in 0..2 {
-        let state = state(rt.alloc(), model, number, partial);
-        tell(rt, &state);
-        if state.is_ok() {
+        let found = state(rt.alloc(), model, number, partial);
+        tell(rt, &found);
+        if found.is_ok() {
             break;
         }
     }

@@ -14,19 +14,27 @@ mod streaming;
 use std::env;
 use std::process::ExitCode;
 
+/// The status where the call is made, whatever it answers.
+const MADE: u8 = 0;
+
 /// The status where the call isn't made, since its words or its operands can't be had.
 const NOT_MADE: u8 = 7;
 
 fn main(rt: HostRuntime) -> ExitCode {
     match run(&rt) {
-        Some(()) => ExitCode::SUCCESS,
+        Some(()) => ExitCode::from(MADE),
         None => ExitCode::from(NOT_MADE),
     }
 }
 
 fn run(rt: &HostRuntime) -> Option<()> {
-    let args = env::args(rt).ok()?;
-    let words: Vec<String> = args.collect(rt.alloc()).ok()?;
+    let Ok(args) = env::args(rt) else {
+        return None;
+    };
+    let words: Vec<String> = match args.collect(rt.alloc()) {
+        Ok(words) => words,
+        Err(_) => return None,
+    };
     match words.as_slice() {
         [_, kind, call, operands @ ..] => make_call(rt, kind.as_str(), call.as_str(), operands),
         _ => None,

@@ -12,7 +12,8 @@ pub fn file(rt: &HostRuntime, words: &[String], place: usize) -> Option<Vec<u8>>
 
 /// The number that the word at a place is.
 pub fn number(words: &[String], place: usize) -> Option<usize> {
-    words.get(place)?.as_str().parse().ok()
+    let word = words.get(place)?;
+    word.as_str().parse::<usize>().ok()
 }
 
 /// Tells an answer, on a line. Telling takes no memory.
@@ -20,16 +21,12 @@ pub fn tell<T: Debug>(rt: &HostRuntime, answer: &T) {
     let _ = println!(rt; "{answer:?}");
 }
 
-/// Tells a text as it stands, or why there is none, and says whether there is one.
-pub fn tell_text<E: Debug + Drop>(rt: &HostRuntime, text: Result<Vec<u8>, E>) -> bool {
-    match text {
-        Ok(text) => {
-            let _ = rt.stdout().write_all(&text);
-            true
-        }
-        Err(error) => {
-            let _ = println!(rt; "Err({error:?})");
-            false
-        }
-    }
+/// Tells an error as the answer that it is.
+pub fn tell_error<E: Debug>(rt: &HostRuntime, error: &E) {
+    let _ = println!(rt; "Err({error:?})");
+}
+
+/// Tells a text as it stands.
+pub fn tell_text(rt: &HostRuntime, text: &[u8]) {
+    let _ = rt.stdout().write_all(text);
 }

@@ -1,6 +1,6 @@
 //! Texts: their tokens, the trees and printed items that they are texts of, and the texts of trees.
 
-use crate::outside::{file, tell, tell_text};
+use crate::outside::{file, tell, tell_error, tell_text};
 use fz_stream::Block;
 use fz_syntax::{
     Ast, Literal, LiteralKind, Printed, PrintedValue, SyntaxError, lex, parse, read_items, to_text,
@@ -9,73 +9,89 @@ use fz_syntax::{
 /// Makes a call on a text.
 pub fn make_call(rt: &HostRuntime, call: &str, operands: &[String]) -> Option<()> {
     let source = file(rt, operands, 0)?;
-    match call {
-        "lex" => tell_lexed(rt, &source),
-        "parse" => tell_parsed(rt, &source),
-        "read_items" => tell_read(rt, &source),
-        _ => {
-            let Ok(tree) = parse(rt.alloc(), &source) else {
-                return None;
-            };
-            tell_tree(rt, &tree);
+    if call == "to_text" {
+        return print(rt, &source);
+    }
+    for _ in 0..2 {
+        if !lacks_memory(rt, call, &source) {
+            break;
         }
     }
     Some(())
 }
 
-fn tell_lexed(rt: &HostRuntime, source: &[u8]) {
-    for _ in 0..2 {
-        let tokens = lex(rt.alloc(), source);
-        tell(rt, &tokens);
-        if !matches!(tokens, Err(SyntaxError::Memory)) {
-            break;
-        }
+/// Makes the call, tells its answer, and says whether that is want of memory.
+fn lacks_memory(rt: &HostRuntime, call: &str, source: &[u8]) -> bool {
+    match call {
+        "lex" => lex_lacks_memory(rt, source),
+        "parse" => parse_lacks_memory(rt, source),
+        _ => read_items_lacks_memory(rt, source),
     }
 }
 
-/// Tells a refusal, and says whether it is want of memory.
 fn is_memory(rt: &HostRuntime, error: SyntaxError) -> bool {
-    let _ = println!(rt; "Err({error:?})");
+    tell_error(rt, &error);
     matches!(error, SyntaxError::Memory)
 }
 
-/// Tells a tree by its text.
-fn tell_parsed(rt: &HostRuntime, source: &[u8]) {
-    for _ in 0..2 {
-        match parse(rt.alloc(), source) {
-            Ok(tree) => {
-                tell_tree(rt, &tree);
-                break;
-            }
-            Err(error) => {
-                if !is_memory(rt, error) {
-                    break;
-                }
-            }
+fn lex_lacks_memory(rt: &HostRuntime, source: &[u8]) -> bool {
+    match lex(rt.alloc(), source) {
+        Ok(tokens) => {
+            tell(rt, &tokens);
+            false
         }
+        Err(error) => is_memory(rt, error),
+    }
+}
+
+/// The tree is told by its text.
+fn parse_lacks_memory(rt: &HostRuntime, source: &[u8]) -> bool {
+    match parse(rt.alloc(), source) {
+        Ok(tree) => {
+            tell_tree(rt, &tree);
+            false
+        }
+        Err(error) => is_memory(rt, error),
+    }
+}
+
+fn read_items_lacks_memory(rt: &HostRuntime, source: &[u8]) -> bool {
+    match read_items(rt.alloc(), source) {
+        Ok(items) => {
+            tell_items(rt, &items);
+            false
+        }
+        Err(error) => is_memory(rt, error),
+    }
+}
+
+fn print(rt: &HostRuntime, source: &[u8]) -> Option<()> {
+    match parse(rt.alloc(), source) {
+        Ok(tree) => {
+            tell_tree(rt, &tree);
+            Some(())
+        }
+        Err(_) => None,
     }
 }
 
 fn tell_tree(rt: &HostRuntime, tree: &Ast<'_>) {
     for _ in 0..2 {
-        if tell_text(rt, to_text(rt.alloc(), tree)) {
+        if is_printed(rt, tree) {
             break;
         }
     }
 }
 
-fn tell_read(rt: &HostRuntime, source: &[u8]) {
-    for _ in 0..2 {
-        match read_items(rt.alloc(), source) {
-            Ok(items) => {
-                tell_items(rt, &items);
-                break;
-            }
-            Err(error) => {
-                if !is_memory(rt, error) {
-                    break;
-                }
-            }
+fn is_printed(rt: &HostRuntime, tree: &Ast<'_>) -> bool {
+    match to_text(rt.alloc(), tree) {
+        Ok(text) => {
+            tell_text(rt, &text);
+            true
+        }
+        Err(error) => {
+            tell_error(rt, &error);
+            false
         }
     }
 }
@@ -90,17 +106,9 @@ fn tell_literal(rt: &HostRuntime, literal: &Literal) {
     tell(rt, &literal.span);
 }
 
-fn tell_value(rt: &HostRuntime, value: &PrintedValue) {
-    match value {
-        PrintedValue::One(literal) => tell_literal(rt, literal),
-        PrintedValue::Array { indexes, elements } => {
-            for literal in indexes {
-                tell_literal(rt, literal);
-            }
-            for literal in elements {
-                tell_literal(rt, literal);
-            }
-        }
+fn tell_literals(rt: &HostRuntime, literals: &[Literal]) {
+    for literal in literals {
+        tell_literal(rt, literal);
     }
 }
 
@@ -108,7 +116,13 @@ fn tell_items(rt: &HostRuntime, items: &[Printed<'_>]) {
     tell(rt, &items.len());
     for item in items {
         tell(rt, &(item.name.text, item.name.span));
-        tell_value(rt, &item.value);
+        match &item.value {
+            PrintedValue::One(literal) => tell_literal(rt, literal),
+            PrintedValue::Array { indexes, elements } => {
+                tell_literals(rt, indexes);
+                tell_literals(rt, elements);
+            }
+        }
     }
 }
 

@@ -12,17 +12,19 @@ pub fn make_call(rt: &HostRuntime, call: &str, operands: &[String]) -> Option<()
         return None;
     };
     let first = literal(&items, 0)?;
-    if call == "make" {
-        tell_made(rt, first);
-        return Some(());
-    }
     let second = literal(&items, 1)?;
-    call_on_two(rt, call, first, second)
+    match call {
+        "make" => tell_made(rt, first),
+        "copy_value" => copy_value(rt, first),
+        "ask" => ask(rt, first, second),
+        _ => combine(rt, call, first, second),
+    }
 }
 
 /// The literal that the item of a place prints.
 fn literal<'a>(items: &'a [Printed<'_>], place: usize) -> Option<&'a LiteralKind> {
-    match &items.get(place)?.value {
+    let item = items.get(place)?;
+    match &item.value {
         PrintedValue::One(literal) => Some(&literal.what),
         PrintedValue::Array { .. } => None,
     }
@@ -37,7 +39,7 @@ fn made(alloc: Global, literal: &LiteralKind) -> Result<IntSet, SetError> {
     }
 }
 
-fn tell_made(rt: &HostRuntime, literal: &LiteralKind) {
+fn tell_made(rt: &HostRuntime, literal: &LiteralKind) -> Option<()> {
     for _ in 0..2 {
         let set = made(rt.alloc(), literal);
         tell(rt, &set);
@@ -45,25 +47,23 @@ fn tell_made(rt: &HostRuntime, literal: &LiteralKind) {
             break;
         }
     }
+    Some(())
 }
 
-fn call_on_two(
-    rt: &HostRuntime,
-    call: &str,
-    first: &LiteralKind,
-    second: &LiteralKind,
-) -> Option<()> {
-    let Ok(a) = made(rt.alloc(), first) else {
+/// Tells copies of a value, and then the value.
+fn copy_value(rt: &HostRuntime, literal: &LiteralKind) -> Option<()> {
+    let Ok(set) = made(rt.alloc(), literal) else {
         return None;
     };
-    let Ok(b) = made(rt.alloc(), second) else {
-        return None;
-    };
-    match call {
-        "ask" => tell_asked(rt, a, b),
-        "copy_value" => tell_copied(rt, &Value::Set(a)),
-        _ => tell_combined(rt, call, &a, &b),
+    let value = Value::Set(set);
+    for _ in 0..2 {
+        let copy = value.copy(rt.alloc());
+        tell(rt, &copy);
+        if copy.is_ok() {
+            break;
+        }
     }
+    tell(rt, &value);
     Some(())
 }
 
@@ -78,34 +78,43 @@ fn combined(alloc: Global, call: &str, a: &IntSet, b: &IntSet) -> Result<IntSet,
 }
 
 /// Tells what an operation makes of two sets, and then the two.
-fn tell_combined(rt: &HostRuntime, call: &str, a: &IntSet, b: &IntSet) {
+fn combine(
+    rt: &HostRuntime,
+    call: &str,
+    first: &LiteralKind,
+    second: &LiteralKind,
+) -> Option<()> {
+    let Ok(a) = made(rt.alloc(), first) else {
+        return None;
+    };
+    let Ok(b) = made(rt.alloc(), second) else {
+        return None;
+    };
     for _ in 0..2 {
-        let set = combined(rt.alloc(), call, a, b);
+        let set = combined(rt.alloc(), call, &a, &b);
         tell(rt, &set);
         if set.is_ok() {
             break;
         }
     }
-    tell(rt, a);
-    tell(rt, b);
-}
-
-/// Tells a copy of a value, and then the value.
-fn tell_copied(rt: &HostRuntime, value: &Value) {
-    for _ in 0..2 {
-        let copy = value.copy(rt.alloc());
-        tell(rt, &copy);
-        if copy.is_ok() {
-            break;
-        }
-    }
-    tell(rt, value);
+    tell(rt, &a);
+    tell(rt, &b);
+    Some(())
 }
 
 /// Tells what the calls answer that ask something of sets and values.
-fn tell_asked(rt: &HostRuntime, a: IntSet, b: IntSet) {
+fn ask(rt: &HostRuntime, first: &LiteralKind, second: &LiteralKind) -> Option<()> {
+    let Ok(a) = made(rt.alloc(), first) else {
+        return None;
+    };
+    let Ok(b) = made(rt.alloc(), second) else {
+        return None;
+    };
     tell(rt, &(a.contains(3), a.len(), a.only(), a.within(-9, 9)));
     tell(rt, &(a.is_subset(&b), a.equals(&b), a.is_union(&a, &b), b.is_intersection(&a, &b)));
     tell(rt, &(a.is_difference(&a, &b), b.is_symmetric_difference(&a, &b)));
-    tell(rt, &Value::Set(a).equals(&Value::Set(b)));
+    let one = Value::Set(a);
+    let other = Value::Set(b);
+    tell(rt, &one.equals(&other));
+    Some(())
 }

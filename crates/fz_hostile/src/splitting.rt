@@ -3,18 +3,37 @@
 ghost use Rattle.std.specs.Prelude.{◌≢◌, ◌≤◌, length, IfSome};
 ghost use Rattle.fz_stream.specs.declared.splitter.Stage.TheVariants.{Finished};
 
-use crate::outside::{file, number, tell};
+use crate::outside::{file, number, tell, tell_error};
 use crate::reading::tell_block;
 use fz_stream::{Part, Splitter, Stream, StreamError, blocks};
 
 /// Makes a call on a stream. To a splitter the stream is fed in pieces of so many bytes.
 pub fn make_call(rt: &HostRuntime, call: &str, operands: &[String]) -> Option<()> {
     let stream = file(rt, operands, 0)?;
-    match call {
-        "blocks" => tell_blocks(rt, &stream),
-        _ => tell_split(rt, &stream, number(operands, 1)?),
+    if call == "split" {
+        split(rt, &stream, number(operands, 1)?);
+        return Some(());
+    }
+    for _ in 0..2 {
+        if !lacks_memory(rt, &stream) {
+            break;
+        }
     }
     Some(())
+}
+
+/// Reads a stream whole, tells its parts or the refusal, and says whether that is want of memory.
+fn lacks_memory(rt: &HostRuntime, stream: &[u8]) -> bool {
+    match blocks(rt.alloc(), stream) {
+        Ok(found) => {
+            tell_stream(rt, &found);
+            false
+        }
+        Err(error) => {
+            tell_error(rt, &error);
+            matches!(error, StreamError::Memory)
+        }
+    }
 }
 
 fn tell_stream(rt: &HostRuntime, stream: &Stream<'_>) {
@@ -22,23 +41,6 @@ fn tell_stream(rt: &HostRuntime, stream: &Stream<'_>) {
         tell_block(rt, block);
     }
     tell(rt, &stream.claims);
-}
-
-fn tell_blocks(rt: &HostRuntime, stream: &[u8]) {
-    for _ in 0..2 {
-        match blocks(rt.alloc(), stream) {
-            Ok(found) => {
-                tell_stream(rt, &found);
-                break;
-            }
-            Err(error) => {
-                let _ = println!(rt; "Err({error:?})");
-                if !matches!(error, StreamError::Memory) {
-                    break;
-                }
-            }
-        }
-    }
 }
 
 fn tell_part(rt: &HostRuntime, part: &Option<Part<'_>>) {
@@ -57,7 +59,7 @@ fn is_lent(rt: &HostRuntime, splitter: &Splitter) -> bool {
             true
         }
         Err(error) => {
-            let _ = println!(rt; "Err({error:?})");
+            tell_error(rt, &error);
             false
         }
     }
@@ -84,14 +86,14 @@ fn fed(rt: &HostRuntime, splitter: &mut Splitter, piece: &[u8]) -> Option<usize>
             Some(count)
         }
         Err(error) => {
-            let _ = println!(rt; "Err({error:?})");
+            tell_error(rt, &error);
             None
         }
     }
 }
 
-/// Feeds a stream in pieces, tells each part, and says whether all was taken. A piece that isn't empty
-/// gives a byte at least.
+/// Feeds a stream in pieces, tells each part, and says whether all was taken. Of a piece that isn't
+/// empty a byte is taken at least, so there are no more pieces than bytes.
 fn feeds_all(rt: &HostRuntime, splitter: &mut Splitter, stream: &[u8], piece: usize) -> bool
     requires { splitter.old.stage ≢ Finished }
     ensures { splitter.new.stage ≢ Finished }
@@ -118,10 +120,11 @@ fn tell_failed(rt: &HostRuntime, splitter: &mut Splitter)
     fed(rt, splitter, b"x");
     tell(rt, &splitter.waiting());
     is_lent(rt, splitter);
-    tell(rt, &splitter.finish());
+    let finished = splitter.finish();
+    tell(rt, &finished);
 }
 
-fn tell_split(rt: &HostRuntime, stream: &[u8], piece: usize) {
+fn split(rt: &HostRuntime, stream: &[u8], piece: usize) {
     let mut splitter = Splitter::new(rt.alloc());
     if !feeds_all(rt, &mut splitter, stream, piece) {
         tell_failed(rt, &mut splitter);
@@ -129,11 +132,11 @@ fn tell_split(rt: &HostRuntime, stream: &[u8], piece: usize) {
     }
     match splitter.finish() {
         Ok(()) => {
-            let _ = println!(rt; "finished");
+            tell(rt, &"finished");
             tell_taken(rt, &splitter);
         }
         Err(error) => {
-            let _ = println!(rt; "Err({error:?})");
+            tell_error(rt, &error);
             tell_failed(rt, &mut splitter);
         }
     }

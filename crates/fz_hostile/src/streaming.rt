@@ -44,7 +44,7 @@ impl Write for Narrow {
         }
         let count = buf.len().min(self.room).min(3);
         let taken = self.out.write(&buf[..count])?;
-        self.room -= taken;
+        self.room = self.room.saturating_sub(taken);
         Ok(taken)
     }
 
