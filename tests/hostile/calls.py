@@ -74,7 +74,7 @@ class Call:
         front, rest = parts
         behind = ample.removeprefix(front)
         if self.name == "split" and rest == FAILED and ample.startswith(front):
-            return "finish" if behind.startswith(b"finished") else "feed"
+            return "finish" if behind.startswith(b'"finished"') else "feed"
         if self.kind == "live":  # all is written again
             return self.name if rest == ample and ample.startswith(front) else None
         return self.name_before(rest) if front + rest == ample else None

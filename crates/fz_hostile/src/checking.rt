@@ -1,8 +1,7 @@
 //! Whole checks, and the texts of reports and refusals.
 
-use crate::outside::{file, tell, tell_error, tell_text};
+use crate::outside::{file, is_given, tell, tell_error, tell_text};
 use fz_check::{CheckError, Report, check, refusal_text, report_text, show, status};
-use std::alloc::AllocError;
 
 /// Makes a call on the text of a model and, where it wants one, on a stream.
 pub fn make_call(rt: &HostRuntime, call: &str, operands: &[String]) -> Option<()> {
@@ -69,20 +68,6 @@ fn call_on_answer(rt: &HostRuntime, model: &[u8], stream: &[u8]) -> Option<()> {
         Err(error) => tell_refusal(rt, error),
     }
     Some(())
-}
-
-/// Tells a text, or that there was no memory for it, and says whether there is one.
-fn is_given(rt: &HostRuntime, text: Result<Vec<u8>, AllocError>) -> bool {
-    match text {
-        Ok(text) => {
-            tell_text(rt, &text);
-            true
-        }
-        Err(error) => {
-            tell_error(rt, &error);
-            false
-        }
-    }
 }
 
 fn tell_report(rt: &HostRuntime, report: &Report<'_>) {

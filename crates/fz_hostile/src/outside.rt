@@ -1,5 +1,6 @@
 //! The words and files that a call's operands come from, and how its answer is told.
 
+use std::alloc::AllocError;
 use std::fmt::Debug;
 use std::fs;
 use std::io::Write;
@@ -29,4 +30,18 @@ pub fn tell_error<E: Debug>(rt: &HostRuntime, error: &E) {
 /// Tells a text as it stands.
 pub fn tell_text(rt: &HostRuntime, text: &[u8]) {
     let _ = rt.stdout().write_all(text);
+}
+
+/// Tells a text, or that there was no memory for it, and says whether there is one.
+pub fn is_given(rt: &HostRuntime, text: Result<Vec<u8>, AllocError>) -> bool {
+    match text {
+        Ok(text) => {
+            tell_text(rt, &text);
+            true
+        }
+        Err(error) => {
+            tell_error(rt, &error);
+            false
+        }
+    }
 }

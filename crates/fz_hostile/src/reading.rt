@@ -1,6 +1,6 @@
 //! Texts: their tokens, the trees and printed items that they are texts of, and the texts of trees.
 
-use crate::outside::{file, tell, tell_error, tell_text};
+use crate::outside::{file, is_given, tell, tell_error};
 use fz_stream::Block;
 use fz_syntax::{
     Ast, Literal, LiteralKind, Printed, PrintedValue, SyntaxError, lex, parse, read_items, to_text,
@@ -77,21 +77,8 @@ fn print(rt: &HostRuntime, source: &[u8]) -> Option<()> {
 
 fn tell_tree(rt: &HostRuntime, tree: &Ast<'_>) {
     for _ in 0..2 {
-        if is_printed(rt, tree) {
+        if is_given(rt, to_text(rt.alloc(), tree)) {
             break;
-        }
-    }
-}
-
-fn is_printed(rt: &HostRuntime, tree: &Ast<'_>) -> bool {
-    match to_text(rt.alloc(), tree) {
-        Ok(text) => {
-            tell_text(rt, &text);
-            true
-        }
-        Err(error) => {
-            tell_error(rt, &error);
-            false
         }
     }
 }
