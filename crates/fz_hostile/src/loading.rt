@@ -92,11 +92,11 @@ fn tell_new_partial(rt: &HostRuntime, model: &Model<'_>) {
 }
 
 /// Makes a call on a model and on values of which no variable has one.
-fn call_on_nothing(rt: &HostRuntime, call: &str, model: &Model<'_>, partial: Partial)
+fn call_on_nothing(rt: &HostRuntime, call: &str, model: &Model<'_>, mut partial: Partial)
     requires fits { IsPartial model.now partial }
 {
     if call == "ask" {
-        ask(rt, model, partial);
+        ask(rt, model, &mut partial);
     } else {
         tell_points(rt, model, &partial);
     }
@@ -104,7 +104,7 @@ fn call_on_nothing(rt: &HostRuntime, call: &str, model: &Model<'_>, partial: Par
 
 /// Tells what the calls answer that ask something of a model or of values, and gives the first variable
 /// a value.
-fn ask(rt: &HostRuntime, model: &Model<'_>, mut partial: Partial) {
+fn ask(rt: &HostRuntime, model: &Model<'_>, partial: &mut Partial) {
     tell_model(rt, model);
     for variable in model.variables() {
         tell(rt, &model.find(variable.name).is_some());

@@ -117,7 +117,7 @@ fn feeds_all(rt: &HostRuntime, splitter: &mut Splitter, stream: &[u8], piece: us
 fn tell_failed(rt: &HostRuntime, splitter: &mut Splitter)
     requires { splitter.old.stage ≢ Finished }
 {
-    fed(rt, splitter, b"x");
+    let _ = fed(rt, splitter, b"x");
     tell(rt, &splitter.waiting());
     is_lent(rt, splitter);
     let finished = splitter.finish();

@@ -59,15 +59,19 @@ impl Write for Narrow {
 pub fn make_call(rt: &HostRuntime, operands: &[String]) -> Option<()> {
     let model = file(rt, operands, 0)?;
     let stream = file(rt, operands, 1)?;
+    let piece = number(operands, 2)?;
+    let reads = number(operands, 3)?;
+    let room = number(operands, 4)?;
+    let fails = number(operands, 5)? == 1;
     let source = Source {
-        rest: &stream,
-        piece: number(operands, 2)?,
-        reads: number(operands, 3)?,
+        rest: stream.as_slice(),
+        piece,
+        reads,
     };
     let writer = Narrow {
         out: rt.stdout(),
-        room: number(operands, 4)?,
-        fails: number(operands, 5)? == 1,
+        room,
+        fails,
     };
     tell_answer(rt, &model, source, writer, number(operands, 6));
     Some(())
