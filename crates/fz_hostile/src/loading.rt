@@ -115,7 +115,15 @@ fn ask(rt: &HostRuntime, model: &Model<'_>, partial: &mut Partial) {
     if !partial.values().is_empty() && partial.get(0).is_none() {
         partial.set(0, Value::Int(4));
     }
-    tell(rt, &(partial.get(0), partial.number(0), partial.truth(0), partial.has(0)));
+    tell(
+        rt,
+        &(
+            partial.get(0),
+            partial.number(0),
+            partial.truth(0),
+            partial.has(0),
+        ),
+    );
 }
 
 fn tell_state(rt: &HostRuntime, model: &Model<'_>, number: usize, partial: &Partial)

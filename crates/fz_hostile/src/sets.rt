@@ -78,12 +78,7 @@ fn combined(alloc: Global, call: &str, a: &IntSet, b: &IntSet) -> Result<IntSet,
 }
 
 /// Tells what an operation makes of two sets, and then the two.
-fn combine(
-    rt: &HostRuntime,
-    call: &str,
-    first: &LiteralKind,
-    second: &LiteralKind,
-) -> Option<()> {
+fn combine(rt: &HostRuntime, call: &str, first: &LiteralKind, second: &LiteralKind) -> Option<()> {
     let Ok(a) = made(rt.alloc(), first) else {
         return None;
     };
@@ -111,8 +106,19 @@ fn ask(rt: &HostRuntime, first: &LiteralKind, second: &LiteralKind) -> Option<()
         return None;
     };
     tell(rt, &(a.contains(3), a.len(), a.only(), a.within(-9, 9)));
-    tell(rt, &(a.is_subset(&b), a.equals(&b), a.is_union(&a, &b), b.is_intersection(&a, &b)));
-    tell(rt, &(a.is_difference(&a, &b), b.is_symmetric_difference(&a, &b)));
+    tell(
+        rt,
+        &(
+            a.is_subset(&b),
+            a.equals(&b),
+            a.is_union(&a, &b),
+            b.is_intersection(&a, &b),
+        ),
+    );
+    tell(
+        rt,
+        &(a.is_difference(&a, &b), b.is_symmetric_difference(&a, &b)),
+    );
     let one = Value::Set(a);
     let other = Value::Set(b);
     tell(rt, &one.equals(&other));
