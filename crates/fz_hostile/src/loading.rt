@@ -3,7 +3,7 @@
 ghost use Rattle.std.specs.Prelude.{◌<◌, length};
 ghost use Rattle.fz_model.specs.Meaning.{IsPartial, points};
 
-use crate::outside::{file, tell, tell_error};
+use crate::outside::{file, tell, tell_all, tell_error};
 use fz_base::Value;
 use fz_model::{Model, ModelError, Partial, forced, load, state};
 use fz_syntax::{Ast, parse};
@@ -43,8 +43,8 @@ fn call_on_model(rt: &HostRuntime, call: &str, model: &Model<'_>) -> Option<()> 
 }
 
 fn tell_model(rt: &HostRuntime, model: &Model<'_>) {
-    tell(rt, &model.variables());
-    tell(rt, &model.constraints());
+    tell_all(rt, model.variables());
+    tell_all(rt, model.constraints());
     tell(rt, model.goal());
     tell(rt, &model.points());
 }
@@ -107,10 +107,12 @@ fn call_on_nothing(rt: &HostRuntime, call: &str, model: &Model<'_>, mut partial:
 fn ask(rt: &HostRuntime, model: &Model<'_>, partial: &mut Partial) {
     tell_model(rt, model);
     for variable in model.variables() {
-        tell(rt, &model.find(variable.name).is_some());
+        let found = model.find(variable.name).is_some();
+        tell(rt, &found);
     }
     for number in 0..model.points() {
-        tell(rt, &model.point(number));
+        let point = model.point(number);
+        tell(rt, &point);
     }
     if !partial.values().is_empty() && partial.get(0).is_none() {
         partial.set(0, Value::Int(4));

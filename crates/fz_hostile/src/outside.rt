@@ -22,6 +22,11 @@ pub fn tell<T: Debug>(rt: &HostRuntime, answer: &T) {
     let _ = println!(rt; "{answer:?}");
 }
 
+/// Tells answers in a row, on a line.
+pub fn tell_all<T: Debug>(rt: &HostRuntime, answers: &[T]) {
+    let _ = println!(rt; "{answers:?}");
+}
+
 /// Tells an error as the answer that it is.
 pub fn tell_error<E: Debug>(rt: &HostRuntime, error: &E) {
     let _ = println!(rt; "Err({error:?})");
