@@ -10,5 +10,5 @@ none_fit (x ∷ xs) = (tt, none_fit xs)
 nothing_fits : (m : Model) → IsPartial m (nothing_for m)
 nothing_fits m = none_fit (variables_of m)
 
-pub call_on_nothing-requires-clause-fits : goal.call_on_nothing-requires-clause-fits
-call_on_nothing-requires-clause-fits c = subst (IsPartial c.args.model.now) (sym c.in-Ok.ensures.empty) (nothing_fits c.args.model.now)
+pub call_on_nothing-requires : goal.call_on_nothing-requires
+call_on_nothing-requires c = record { fits = subst (IsPartial c.args.model.now) (sym c.in-Ok.ensures.empty) (nothing_fits c.args.model.now) }
