@@ -35,7 +35,7 @@ test:
 	tests/program.sh build/fzcheck
 	tests/broken/run.py build/fzcheck
 	tests/corpus/run.py build/fzcheck tests/corpus examples
-	tests/hostile/run.py build/fzcheck
+	tests/hostile/run.py build/fzcheck crates/fz_hostile/out/fz_hostile
 
 corpus: build/fzcheck
 	tests/corpus/run.py build/fzcheck tests/corpus examples
