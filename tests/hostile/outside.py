@@ -14,7 +14,7 @@ NOBODY = 65_534
 
 STACK = 64  # KB
 LEAST_MEMORY, MOST_MEMORY = 4_096, 131_072  # KB of address space
-DEEP = b"solve :: " + b"a(" * 31 + b"a" + b")" * 31 + b" satisfy;\n"
+DEEP = b"solve :: " + b"a([" * 31 + b"a" + b"])" * 31 + b" satisfy;\n"
 
 
 def in_shell(script, *words, **more):

@@ -112,8 +112,8 @@ fn check_files(rt: &HostRuntime, model: &str, stream: Option<&str>) -> u8 {
     }
 }
 
-/// Whether standard input is open. This is asked before a file is opened, since a file that is opened
-/// takes the number of a standard stream that is closed, and would be read in its place.
+/// Whether standard input is open. This is asked before a file is opened, since a file takes the
+/// number of a standard stream that is closed, and would be read in its place.
 fn has_input(rt: &HostRuntime) -> bool {
     rt.stdin().as_fd().try_clone_to_owned().is_ok()
 }
