@@ -21,7 +21,7 @@ from beside import IMPROVING_MODEL, IMPROVING_REPORT, IMPROVING_STREAM, content,
 from running import FOLDER, HERE, Tally
 
 CASES = os.path.join(HERE, "cases.txt")
-NOT_MADE = 7, b"", b""  # the operands found no memory, or there is no such call on them
+NOT_MADE = 7, b"", b""  # the operands found no memory, or can't be had at all: the call wasn't made
 MEMORY = re.compile(rb"^Err\((?:Memory|AllocError)\)\n", re.MULTILINE)
 FAILED = b"Err(Failed)\nfalse\nErr(Failed)\nErr(Failed)\n"  # a splitter's `feed`, `waiting`, `take`, `finish`
 ANY = "1000000"  # as many bytes or reads as there are
@@ -51,7 +51,7 @@ NAMES = (
     "state forced blocks feed take finish fill judge check report_text show refusal_text check_stream "
     "check_stream_up_to"
 ).split()
-ENOUGH = "none: they did without"
+ENOUGH = "none"  # what wanted it did without
 IN_MODELS = ("load", "new_partial", "points")
 OVER_BLOCKS = ("fill", "judge", "points")
 
@@ -82,7 +82,9 @@ class Call:
     def name_before(self, rest):
         """The name of the call that gives the next line, where calls stand behind one name."""
         if self.name == "points":
-            return "forced" if rest.startswith((b"Ok(None)", b"Ok(Some(")) else "state"
+            if rest.startswith((b"Ok(None)", b"Ok(Some(")):
+                return "forced"
+            return "state" if rest.startswith(b"Ok(") else "fill"
         if self.name == "text":
             return "refusal_text" if rest.startswith(b"refused: ") else "report_text"
         if self.name == "make":
@@ -163,12 +165,12 @@ def words_of(program, folder, call):
     return words + list(call.more)
 
 
-def refused(words, number, more=()):
-    return running.run(words, env={"REFUSE_GROWTH": str(number), **dict(more)})
+def refused(words, number, more={}):
+    return running.run(words, env={"REFUSE_GROWTH": str(number)} | more)
 
 
-def first_behind_operands(words):
-    """The number of the first growth that is refused once the operands are made."""
+def begun(words):
+    """The number of a growth, behind which no call is missed: the one before is for the operands."""
     before, behind = 0, 1
     while refused(words, behind).answer == NOT_MADE:
         before, behind = behind, behind * 2
@@ -191,11 +193,13 @@ def each_growth(program, call):
             return tally, names
         told = f"{call.kind} {call.name} {call.texts}"
         tally.check(told, ample.status == 0 and not MEMORY.search(ample.out), ample)
-        for number in itertools.count(first_behind_operands(words)):
+        for number in itertools.count(begun(words)):
             ran = refused(words, number)
             if not ran.met:
                 tally.expect(f"{told}, no refusal", ran.answer, ample.answer)
                 return tally, names
+            if ran.answer == NOT_MADE:
+                continue
             name = call.refused(ample.out, ran.out)
             fits = name is not None and ran.status == 0 and not ran.err
             tally.check(f"{told}, growth {number}", fits, (ran.answer, ample.out))
@@ -203,17 +207,18 @@ def each_growth(program, call):
 
 
 def no_growth(program, call):
-    """Refuses every growth behind the operands: none is met, and all is told."""
+    """Refuses every growth once the operands are made: all is told as before."""
     tally = Tally()
     with tempfile.TemporaryDirectory(dir=FOLDER) as folder:
         words = words_of(program, folder, call)
         ample = running.run(words)
-        if ample.answer != NOT_MADE:
-            number = first_behind_operands(words)
-            ran = refused(words, number, {"REFUSE_ONWARD": "1"}.items())
-            name = f"{call.kind} {call.name} {call.texts}, every growth"
-            tally.expect(name, (ran.met, ran.answer), (0, ample.answer))
-    return tally, Counter()
+        if ample.answer == NOT_MADE:
+            return tally, Counter()
+        for number in itertools.count(begun(words)):
+            ran = refused(words, number, {"REFUSE_ONWARD": "1"})
+            if ran.answer != NOT_MADE:
+                tally.expect(f"{call.kind} {call.name} {call.texts}, every growth", ran.answer, ample.answer)
+                return tally, Counter()
 
 
 LINES = IMPROVING_REPORT.splitlines(True)
