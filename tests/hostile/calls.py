@@ -1,12 +1,13 @@
 #!/usr/bin/env python3
 """Each public call, with each growth of memory refused in turn: calls.py PROGRAM
 
-The program makes one call on what files hold, and makes it once more on the same operands where it found
-no memory. So with one growth refused it tells want of memory at most once, and around that what it tells
-with ample memory. The calls are made on the cases of cases.txt, on the examples and on pairs of sets.
+The program makes one call on what files hold, and makes it once more on the same operands where it
+found no memory. So with one growth refused it tells want of memory at most once, and around that what
+it tells with ample memory. The calls are made on the cases of cases.txt, on the examples and on pairs
+of sets.
 
-A reader that gives single bytes or fails, a writer that fails and a splitter that is full follow. The
-last line is 'N passed, M failed'."""
+A reader that gives single bytes or fails, a writer that fails and a splitter that is full follow.
+The last line is 'N passed, M failed'."""
 import itertools
 import os
 import re
@@ -23,7 +24,7 @@ from running import FOLDER, HERE, Tally
 CASES = os.path.join(HERE, "cases.txt")
 NOT_MADE = 7, b"", b""  # the operands found no memory, or can't be had at all: the call wasn't made
 MEMORY = re.compile(rb"^Err\((?:Memory|AllocError)\)\n", re.MULTILINE)
-FAILED = b"Err(Failed)\nfalse\nErr(Failed)\nErr(Failed)\n"  # a splitter's `feed`, `waiting`, `take`, `finish`
+FAILED = b"Err(Failed)\nfalse\nErr(Failed)\nErr(Failed)\n"  # `feed`, `waiting`, `take`, `finish`
 ANY = "1000000"  # as many bytes or reads as there are
 MOST_BYTES = 16_777_216  # that a splitter holds
 
@@ -45,13 +46,14 @@ LEXED = (
     b"0" * 100 + b"3",
     b"a \"b\" 1.5 :: [(x)] # y",
 )
-ITEMS = (b"x = 3;", b"x = 3", b"x = 1.5;", b"x = array2d(1..2,{1,2},[1,{3,1},true,1..4]); y = -1..2;" * 9)
+ARRAY = b"x = array2d(1..2,{1,2},[1,{3,1},true,1..4]); y = -1..2;"
+ITEMS = (b"x = 3;", b"x = 3", b"x = 1.5;", ARRAY * 9)
 NAMES = (
-    "range list union intersect minus symdiff copy copy_value lex parse to_text read_items load new_partial "
-    "state forced blocks feed take finish fill judge check report_text show refusal_text check_stream "
-    "check_stream_up_to"
+    "range list union intersect minus symdiff copy copy_value lex parse to_text read_items load "
+    "new_partial state forced blocks feed take finish fill judge check report_text show "
+    "refusal_text check_stream check_stream_up_to"
 ).split()
-ENOUGH = "none"  # what wanted it did without
+ENOUGH = "none"  # it was wanted once more, and given
 IN_MODELS = ("load", "new_partial", "points")
 OVER_BLOCKS = ("fill", "judge", "points")
 
@@ -66,8 +68,9 @@ class Call:
     more: tuple = ()
 
     def refused(self, ample, given):
-        """The name of the call that found no memory, where this may be told with one growth refused and
-        `ample` is told with ample memory; ENOUGH where the call did without, and none where it may not."""
+        """The name of the call that found no memory, where this may be told with one growth refused
+        and `ample` is told with ample memory. ENOUGH where all is told, and none where this may not be
+        told."""
         parts = MEMORY.split(given)
         if len(parts) != 2:
             return ENOUGH if given == ample else None
@@ -217,7 +220,8 @@ def no_growth(program, call):
         for number in itertools.count(begun(words)):
             ran = refused(words, number, {"REFUSE_ONWARD": "1"})
             if ran.answer != NOT_MADE:
-                tally.expect(f"{call.kind} {call.name} {call.texts}, every growth", ran.answer, ample.answer)
+                told = f"{call.kind} {call.name} {call.texts}, every growth"
+                tally.expect(told, ran.answer, ample.answer)
                 return tally, Counter()
 
 
@@ -276,9 +280,10 @@ def job(test, args):
     return test(*args)
 
 
-def run(program):
+def run(program, shared=running.SHARED):
     """Runs all, and tells how many growths were refused to each call: to each was at least one."""
     tally, refusals = Tally(), Counter()
+    tally.check("what is preloaded was built", os.path.isfile(shared))
     with Pool() as pool:
         for part, names in pool.starmap(job, list(jobs(program)), chunksize=4):
             tally.add(part)
