@@ -1,10 +1,10 @@
 #!/usr/bin/env python3
 """Each public call, with each growth of memory refused in turn: calls.py PROGRAM
 
-The program makes one call on what files hold, and makes it once more on the same operands where it
-found no memory. So with one growth refused it tells want of memory at most once, and around that what
-it tells with ample memory. The calls are made on the cases of cases.txt, on the examples and on pairs
-of sets.
+The program makes one call on what files hold, and makes it once more on the same operands where
+it found no memory. So with one growth refused it tells want of memory at most once, and around that
+what it tells with ample memory. The calls are made on the cases of cases.txt, on the examples and
+on pairs of sets.
 
 A reader that gives single bytes or fails, a writer that fails and a splitter that is full follow.
 The last line is 'N passed, M failed'."""
@@ -68,9 +68,8 @@ class Call:
     more: tuple = ()
 
     def refused(self, ample, given):
-        """The name of the call that found no memory, where this may be told with one growth refused
-        and `ample` is told with ample memory. ENOUGH where all is told, and none where this may not be
-        told."""
+        """The name of the call that found no memory, where this may be told with one growth
+        refused and `ample` with ample memory: ENOUGH where all is told, and none where it may not."""
         parts = MEMORY.split(given)
         if len(parts) != 2:
             return ENOUGH if given == ample else None
@@ -173,7 +172,7 @@ def refused(words, number, more={}):
 
 
 def begun(words):
-    """The number of a growth, behind which no call is missed: the one before is for the operands."""
+    """The number of a growth; the one before it is for the operands, so no call is missed."""
     before, behind = 0, 1
     while refused(words, behind).answer == NOT_MADE:
         before, behind = behind, behind * 2
