@@ -2,6 +2,7 @@
 # make test        the gate: every proof from nothing, the must-fail edits, the tests, the program
 # make corpus      runs the built program over tests/corpus and examples, and beside a second
 #                  checker on random models
+# make fuzz        runs it on random broken texts beside that checker, for SECONDS (600), by SEED
 # make bench       measures the built program beside a plain program (some minutes)
 # make quick       judges examples/first.fzn with NO proof, or MODEL=FILE [STREAM=FILE]; with a
 #                  MODEL and no STREAM it reads standard input; it tells the program's status
@@ -12,8 +13,10 @@
 CRATES := $(notdir $(wildcard crates/*))
 SOURCES := crates.txt $(shell find crates -type d -name out -prune -o -type f -print)
 PREFIX ?= /usr/local
+SECONDS ?= 600
+SEED ?= $(shell date +%s)
 
-.PHONY: all test corpus bench quick install fmt clean
+.PHONY: all test corpus fuzz bench quick install fmt clean
 
 all: build/fzcheck
 
@@ -32,10 +35,14 @@ test:
 	tests/program.sh build/fzcheck
 	tests/broken/run.py build/fzcheck
 	tests/corpus/run.py build/fzcheck tests/corpus examples
+	tests/hostile/run.py build/fzcheck crates/fz_hostile/out/fz_hostile
 
 corpus: build/fzcheck
 	tests/corpus/run.py build/fzcheck tests/corpus examples
 	tests/corpus/differ.py build/fzcheck - 300
+
+fuzz: build/fzcheck
+	tests/hostile/fuzz.py build/fzcheck $(SECONDS) $(SEED)
 
 # Cargo builds the plain program, from its own sources alone; build/bench has the files to measure.
 bench: build/fzcheck

@@ -2,8 +2,9 @@
 """A second reader of the rules: slow.py MODEL STREAM prints the report that docs/REPORT.md asks for.
 
 It follows docs/LANGUAGE.md, BUILTINS.md, STREAM.md, FILLING.md and REPORT.md in the plainest way, shares
-nothing with the checker, and serves to work out reports. It leaves out the limits on lengths and depths,
-and sets are listed number by number, so large ones are slow."""
+nothing with the checker, and serves to work out reports. It leaves out the limits on the lengths of texts
+and lists. Sets are listed number by number, and large ones are not for it (TooLargeToList)."""
+import io
 import re
 import sys
 
@@ -18,6 +19,8 @@ RESERVED = set(
 )
 CLAIMS = {"=" * 10} | {"=====" + w + "=====" for w in "UNSATISFIABLE UNKNOWN UNBOUNDED UNSATorUNBOUNDED ERROR".split()}
 LEAST, MOST = -(2**63), 2**63 - 1
+MOST_SIZE, MOST_LEVELS = 1_048_576, 32
+MOST_LISTED = 1_000_000
 
 
 class Refused(Exception):
@@ -26,6 +29,10 @@ class Refused(Exception):
     def __init__(self, what, name, start, end):
         super().__init__(f"refused: {what}: {name} at {start}..{end}")
         self.what, self.name, self.start, self.end = what, name, start, end
+
+
+class TooLargeToList(Exception):
+    """A set has more numbers than are listed here."""
 
 
 class Token:
@@ -66,7 +73,11 @@ class Literal:
 
     @property
     def value(self):
-        return frozenset(self.raw) if isinstance(self.raw, range) else self.raw
+        if not isinstance(self.raw, range):
+            return self.raw
+        if self.raw.stop - self.raw.start > MOST_LISTED:
+            raise TooLargeToList
+        return frozenset(self.raw)
 
 
 class Reader:
@@ -155,6 +166,8 @@ class Reader:
         self.take("..")
         if self.next.sort != "whole" or self.next.value < 0:
             self.fail()
+        if self.next.value > MOST_SIZE:
+            raise Refused(self.what, "TooMany", self.next.start, self.next.end)
         return self.take("whole").value
 
     def predicate(self):
@@ -181,21 +194,25 @@ class Reader:
             found.append(self.note())
         return found
 
-    def note(self):
+    def note(self, level=1):
         """The name and the arguments."""
+        if level > MOST_LEVELS and self.next.sort == "name":
+            raise Refused(self.what, "TooDeep", self.next.start, self.next.end)
         name, args = self.take("name").text, []
         if self.has("("):
             if self.next.sort == ")":
                 self.fail()
-            args = self.some(self.note_arg, ")")
+            args = self.some(lambda: self.note_arg(level + 1), ")")
         return name, args
 
-    def note_arg(self):
-        return self.some(self.note_basic, "]") if self.has("[") else self.note_basic()
+    def note_arg(self, level):
+        if self.has("["):
+            return self.some(lambda: self.note_basic(level), "]")
+        return self.note_basic(level)
 
-    def note_basic(self):
+    def note_basic(self, level):
         if self.next.sort == "name":
-            return self.note()
+            return self.note(level)
         return self.take("float", "string") if self.next.sort in ("float", "string") else self.literal()
 
     def declaration(self):
@@ -632,7 +649,7 @@ def verdict_on(model, items, values, before):
 def parts_of(stream):
     """Claims as text, and blocks as their offset and items."""
     at, opened = 0, None
-    for line in stream.splitlines(True) if stream else []:
+    for line in io.BytesIO(stream):
         bare = line.strip(b" \t\r\n")
         if bare == b"-" * 10:
             offset = at if opened is None else opened

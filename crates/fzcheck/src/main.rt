@@ -7,6 +7,7 @@ mod words;
 use files::read_up_to;
 use fz_check::{CheckError, check_stream, refusal_text, show, status};
 use std::io::{Read, Write};
+use std::os::fd::AsFd;
 use std::process::ExitCode;
 use std::{env, fs, io};
 use words::{Refused, Request, read_words};
@@ -102,15 +103,24 @@ fn print_text(rt: &HostRuntime, text: &[u8]) -> u8 {
 /// Checks the file of a stream, or standard input, against the file of a model. Both are opened before
 /// anything is read.
 fn check_files(rt: &HostRuntime, model: &str, stream: Option<&str>) -> u8 {
+    if stream.is_none() && !has_input(rt) {
+        return refuse(rt, &CheckError::Read);
+    }
     match fs::open(rt, model) {
         Ok(mut model) => check_against(rt, &mut model, stream),
         Err(_) => refuse(rt, &CheckError::Read),
     }
 }
 
+/// Whether standard input is open. This is asked before a file is opened, since a file takes the
+/// number of a standard stream that is closed, and would be read in its place.
+fn has_input(rt: &HostRuntime) -> bool {
+    rt.stdin().as_fd().try_clone_to_owned().is_ok()
+}
+
 fn check_against<M: Read>(rt: &HostRuntime, model: &mut M, stream: Option<&str>) -> u8 {
     match stream {
-        None => check_readers(rt, model, &mut rt.reader()),
+        None => check_readers(rt, model, &mut rt.stdin()),
         Some(stream) => match fs::open(rt, stream) {
             Ok(mut stream) => check_readers(rt, model, &mut stream),
             Err(_) => refuse(rt, &CheckError::Read),

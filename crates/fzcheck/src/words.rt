@@ -40,7 +40,9 @@ impl From<Error> for Refused {
     }
 }
 
-/// What the words ask for, of which the first is the program's own name.
+/// What the words ask for, of which the first is the program's own name. It isn't inlined, so that
+/// its large frame is gone from the stack once the words are read.
+#[inline(never)]
 pub fn read_words<'a>(alloc: Global, words: &'a [String]) -> Result<Request<'a>, Refused> {
     let matches = command(alloc)?.try_get_matches_from(words)?;
     request_of(&matches)

@@ -1,0 +1,89 @@
+//! Whole checks, and the texts of reports and refusals.
+
+use crate::outside::{file, is_given, tell, tell_error, tell_text};
+use fz_check::{CheckError, Report, check, refusal_text, report_text, show, status};
+
+/// Makes a call on the text of a model and, where it wants one, on a stream.
+pub fn make_call(rt: &HostRuntime, call: &str, operands: &[String]) -> Option<()> {
+    let model = file(rt, operands, 0)?;
+    if call == "show" {
+        tell_shown(rt, &model);
+        return Some(());
+    }
+    let stream = file(rt, operands, 1)?;
+    if call == "check" {
+        tell_checked(rt, &model, &stream);
+        return Some(());
+    }
+    call_on_answer(rt, &model, &stream)
+}
+
+fn show_lacks_memory(rt: &HostRuntime, model: &[u8]) -> bool {
+    match show(rt.alloc(), model) {
+        Ok(text) => {
+            tell_text(rt, &text);
+            false
+        }
+        Err(error) => {
+            tell_error(rt, &error);
+            matches!(error, CheckError::Memory)
+        }
+    }
+}
+
+fn tell_shown(rt: &HostRuntime, model: &[u8]) {
+    for _ in 0..2 {
+        if !show_lacks_memory(rt, model) {
+            break;
+        }
+    }
+}
+
+fn check_lacks_memory(rt: &HostRuntime, model: &[u8], stream: &[u8]) -> bool {
+    match check(rt.alloc(), model, stream) {
+        Ok(report) => {
+            tell(rt, &report);
+            false
+        }
+        Err(error) => {
+            tell_error(rt, &error);
+            matches!(error, CheckError::Memory)
+        }
+    }
+}
+
+fn tell_checked(rt: &HostRuntime, model: &[u8], stream: &[u8]) {
+    for _ in 0..2 {
+        if !check_lacks_memory(rt, model, stream) {
+            break;
+        }
+    }
+}
+
+/// Tells the text of a report, or the line of a refusal.
+fn call_on_answer(rt: &HostRuntime, model: &[u8], stream: &[u8]) -> Option<()> {
+    match check(rt.alloc(), model, stream) {
+        Ok(report) => tell_report(rt, &report),
+        Err(CheckError::Memory) => return None,
+        Err(error) => tell_refusal(rt, error),
+    }
+    Some(())
+}
+
+fn tell_report(rt: &HostRuntime, report: &Report<'_>) {
+    tell(rt, &status(&Ok(report.answer)));
+    for _ in 0..2 {
+        if is_given(rt, report_text(rt.alloc(), report)) {
+            break;
+        }
+    }
+}
+
+fn tell_refusal(rt: &HostRuntime, error: CheckError) {
+    tell(rt, &status(&Err(error)));
+    for _ in 0..2 {
+        if is_given(rt, refusal_text(rt.alloc(), &error)) {
+            break;
+        }
+    }
+}

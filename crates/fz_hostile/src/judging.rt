@@ -1,0 +1,104 @@
+//! Blocks against a model: they are filled and judged.
+
+use crate::loading::tell_points;
+use crate::outside::{file, tell, tell_error};
+use fz_check::{BlockError, Judge, fill};
+use fz_model::{Model, load};
+use fz_stream::{Block, blocks};
+use fz_syntax::{Ast, parse};
+
+/// Makes a call on the model of the first text and on each block of the second.
+pub fn make_call(rt: &HostRuntime, call: &str, operands: &[String]) -> Option<()> {
+    let source = file(rt, operands, 0)?;
+    let stream = file(rt, operands, 1)?;
+    match parse(rt.alloc(), &source) {
+        Ok(tree) => call_on_tree(rt, call, &tree, &stream),
+        Err(_) => None,
+    }
+}
+
+fn call_on_tree(rt: &HostRuntime, call: &str, tree: &Ast<'_>, stream: &[u8]) -> Option<()> {
+    match load(rt.alloc(), tree) {
+        Ok(model) => call_on_model(rt, call, &model, stream),
+        Err(_) => None,
+    }
+}
+
+fn call_on_model(rt: &HostRuntime, call: &str, model: &Model<'_>, stream: &[u8]) -> Option<()> {
+    match blocks(rt.alloc(), stream) {
+        Ok(found) => call_on_blocks(rt, call, model, &found.blocks),
+        Err(_) => None,
+    }
+}
+
+fn call_on_blocks(
+    rt: &HostRuntime,
+    call: &str,
+    model: &Model<'_>,
+    given: &[Block<'_>],
+) -> Option<()> {
+    match call {
+        "judge" => tell_verdicts(rt, model, given),
+        "fill" => tell_fillings(rt, model, given),
+        _ => tell_filled_points(rt, model, given),
+    }
+}
+
+fn fill_lacks_memory(rt: &HostRuntime, model: &Model<'_>, block: &Block<'_>) -> bool {
+    match fill(rt.alloc(), model, block) {
+        Ok(partial) => {
+            tell(rt, &partial.values());
+            false
+        }
+        Err(error) => {
+            tell_error(rt, &error);
+            matches!(error, BlockError::Memory)
+        }
+    }
+}
+
+fn tell_filling(rt: &HostRuntime, model: &Model<'_>, block: &Block<'_>) {
+    for _ in 0..2 {
+        if !fill_lacks_memory(rt, model, block) {
+            break;
+        }
+    }
+}
+
+fn tell_fillings(rt: &HostRuntime, model: &Model<'_>, given: &[Block<'_>]) -> Option<()> {
+    for block in given {
+        tell_filling(rt, model, block);
+    }
+    Some(())
+}
+
+/// Tells the points under the values that fill each block.
+fn tell_filled_points(rt: &HostRuntime, model: &Model<'_>, given: &[Block<'_>]) -> Option<()> {
+    for block in given {
+        match fill(rt.alloc(), model, block) {
+            Ok(partial) => tell_points(rt, model, &partial),
+            Err(_) => return None,
+        }
+    }
+    Some(())
+}
+
+/// Tells a verdict. Where the judge finds no memory for a block, it judges that one again.
+fn tell_verdict(rt: &HostRuntime, judge: &mut Judge<'_, '_>, block: &Block<'_>) {
+    for _ in 0..2 {
+        let verdict = judge.judge(rt.alloc(), block);
+        tell(rt, &verdict);
+        if !matches!(verdict, Err(BlockError::Memory)) {
+            break;
+        }
+    }
+}
+
+/// Tells the verdicts of one judge.
+fn tell_verdicts(rt: &HostRuntime, model: &Model<'_>, given: &[Block<'_>]) -> Option<()> {
+    let mut judge = Judge::new(model);
+    for block in given {
+        tell_verdict(rt, &mut judge, block);
+    }
+    Some(())
+}

@@ -1,0 +1,126 @@
+//! Sets and values: they are made, combined, copied and asked.
+
+use crate::outside::{file, tell};
+use fz_base::{IntSet, SetError, Value};
+use fz_syntax::{LiteralKind, Printed, PrintedValue, read_items};
+use std::alloc::Global;
+
+/// Makes a call on the sets that the first two items of a text print.
+pub fn make_call(rt: &HostRuntime, call: &str, operands: &[String]) -> Option<()> {
+    let text = file(rt, operands, 0)?;
+    let Ok(items) = read_items(rt.alloc(), &text) else {
+        return None;
+    };
+    let first = literal(&items, 0)?;
+    let second = literal(&items, 1)?;
+    match call {
+        "make" => tell_made(rt, first),
+        "copy_value" => copy_value(rt, first),
+        "ask" => ask(rt, first, second),
+        _ => combine(rt, call, first, second),
+    }
+}
+
+/// The literal that the item of a place prints.
+fn literal<'a>(items: &'a [Printed<'_>], place: usize) -> Option<&'a LiteralKind> {
+    let item = items.get(place)?;
+    match &item.value {
+        PrintedValue::One(literal) => Some(&literal.what),
+        PrintedValue::Array { .. } => None,
+    }
+}
+
+/// The set that a literal stands for: `range` makes that of a range, `list` that of numbers in braces.
+fn made(alloc: Global, literal: &LiteralKind) -> Result<IntSet, SetError> {
+    match literal {
+        LiteralKind::Range(lo, hi) => IntSet::range(alloc, *lo, *hi),
+        LiteralKind::Braces(numbers) => IntSet::list(alloc, numbers),
+        _ => IntSet::list(alloc, &[]),
+    }
+}
+
+fn tell_made(rt: &HostRuntime, literal: &LiteralKind) -> Option<()> {
+    for _ in 0..2 {
+        let set = made(rt.alloc(), literal);
+        tell(rt, &set);
+        if set.is_ok() {
+            break;
+        }
+    }
+    Some(())
+}
+
+/// Tells copies of a value, and then the value.
+fn copy_value(rt: &HostRuntime, literal: &LiteralKind) -> Option<()> {
+    let Ok(set) = made(rt.alloc(), literal) else {
+        return None;
+    };
+    let value = Value::Set(set);
+    for _ in 0..2 {
+        let copy = value.copy(rt.alloc());
+        tell(rt, &copy);
+        if copy.is_ok() {
+            break;
+        }
+    }
+    tell(rt, &value);
+    Some(())
+}
+
+fn combined(alloc: Global, call: &str, a: &IntSet, b: &IntSet) -> Result<IntSet, SetError> {
+    match call {
+        "union" => a.union(alloc, b),
+        "intersect" => a.intersect(alloc, b),
+        "minus" => a.minus(alloc, b),
+        "symdiff" => a.symdiff(alloc, b),
+        _ => Ok(a.copy(alloc)?),
+    }
+}
+
+/// Tells what an operation makes of two sets, and then the two.
+fn combine(rt: &HostRuntime, call: &str, first: &LiteralKind, second: &LiteralKind) -> Option<()> {
+    let Ok(a) = made(rt.alloc(), first) else {
+        return None;
+    };
+    let Ok(b) = made(rt.alloc(), second) else {
+        return None;
+    };
+    for _ in 0..2 {
+        let set = combined(rt.alloc(), call, &a, &b);
+        tell(rt, &set);
+        if set.is_ok() {
+            break;
+        }
+    }
+    tell(rt, &a);
+    tell(rt, &b);
+    Some(())
+}
+
+/// Tells what the calls answer that ask something of sets and values.
+fn ask(rt: &HostRuntime, first: &LiteralKind, second: &LiteralKind) -> Option<()> {
+    let Ok(a) = made(rt.alloc(), first) else {
+        return None;
+    };
+    let Ok(b) = made(rt.alloc(), second) else {
+        return None;
+    };
+    tell(rt, &(a.contains(3), a.len(), a.only(), a.within(-9, 9)));
+    tell(
+        rt,
+        &(
+            a.is_subset(&b),
+            a.equals(&b),
+            a.is_union(&a, &b),
+            b.is_intersection(&a, &b),
+        ),
+    );
+    tell(
+        rt,
+        &(a.is_difference(&a, &b), b.is_symmetric_difference(&a, &b)),
+    );
+    let one = Value::Set(a);
+    let other = Value::Set(b);
+    tell(rt, &one.equals(&other));
+    Some(())
+}

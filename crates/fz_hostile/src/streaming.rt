@@ -1,0 +1,107 @@
+//! Checks over a reader and a writer, either of which may fail.
+
+use crate::outside::{file, number, tell};
+use fz_check::{Answer, CheckError, check_stream, check_stream_up_to};
+use std::alloc::Global;
+use std::io::{self, ErrorKind, Read, Stdout, Write};
+
+/// What is left of a stream.
+#[derive(Clone, Copy)]
+struct Source<'a> {
+    rest: &'a [u8],
+    /// the most bytes that a read gives
+    piece: usize,
+    /// how many reads there are before one fails
+    reads: usize,
+}
+
+impl Read for Source<'_> {
+    fn read(&mut self, buf: &mut [u8]) -> io::Result<usize> {
+        if self.reads == 0 {
+            return Err(io::Error::from(ErrorKind::ConnectionReset));
+        }
+        self.reads -= 1;
+        let count = self.piece.min(self.rest.len()).min(buf.len());
+        buf[..count].copy_from_slice(&self.rest[..count]);
+        self.rest = &self.rest[count..];
+        Ok(count)
+    }
+}
+
+/// Standard output, which takes so many bytes in all.
+#[derive(Clone, Copy)]
+struct Narrow {
+    out: Stdout,
+    room: usize,
+    /// whether a write fails where there is no room, or else takes nothing
+    fails: bool,
+}
+
+impl Write for Narrow {
+    fn write(&mut self, buf: &[u8]) -> io::Result<usize> {
+        if self.room == 0 && self.fails {
+            return Err(io::Error::from(ErrorKind::StorageFull));
+        }
+        let count = buf.len().min(self.room).min(3);
+        let taken = self.out.write(&buf[..count])?;
+        self.room = self.room.saturating_sub(taken);
+        Ok(taken)
+    }
+
+    fn flush(&mut self) -> io::Result<()> {
+        Ok(())
+    }
+}
+
+/// Checks a stream against a model. The words behind their files are the most bytes of a read, how many
+/// reads there are before one fails, how many bytes the writer takes, whether it fails then (1) or takes
+/// nothing (0), and the bound on the reads, where there is one.
+pub fn make_call(rt: &HostRuntime, operands: &[String]) -> Option<()> {
+    let model = file(rt, operands, 0)?;
+    let stream = file(rt, operands, 1)?;
+    let piece = number(operands, 2)?;
+    let reads = number(operands, 3)?;
+    let room = number(operands, 4)?;
+    let fails = number(operands, 5)? == 1;
+    let source = Source {
+        rest: stream.as_slice(),
+        piece,
+        reads,
+    };
+    let writer = Narrow {
+        out: rt.stdout(),
+        room,
+        fails,
+    };
+    tell_answer(rt, &model, source, writer, number(operands, 6));
+    Some(())
+}
+
+fn answer(
+    alloc: Global,
+    model: &[u8],
+    mut reader: Source<'_>,
+    mut writer: Narrow,
+    most: Option<usize>,
+) -> Result<Answer, CheckError> {
+    match most {
+        Some(most) => check_stream_up_to(alloc, model, &mut reader, &mut writer, most as u64),
+        None => check_stream(alloc, model, &mut reader, &mut writer),
+    }
+}
+
+fn tell_answer(
+    rt: &HostRuntime,
+    model: &[u8],
+    source: Source<'_>,
+    writer: Narrow,
+    most: Option<usize>,
+) {
+    for _ in 0..2 {
+        let answer = answer(rt.alloc(), model, source, writer, most);
+        tell(rt, &answer);
+        if !matches!(answer, Err(CheckError::Memory)) {
+            break;
+        }
+    }
+}

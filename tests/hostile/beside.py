@@ -1,0 +1,58 @@
+"""The models and streams that the runs begin with, and what the second checker says of a pair."""
+import os
+import sys
+
+from running import ROOT
+
+sys.path.insert(0, os.path.join(ROOT, "tests", "corpus"))
+import slow
+
+EXAMPLES = os.path.join(ROOT, "examples")
+CORPUS = os.path.join(ROOT, "tests", "corpus")
+FIRST_MODEL = os.path.join(EXAMPLES, "first.fzn")
+FIRST_STREAM = os.path.join(EXAMPLES, "first.out")
+
+# A model with an objective, and a stream of two blocks that get better and a claim: 47 bytes.
+IMPROVING_MODEL = b"var 0..9: c :: output_var;\nsolve minimize c;\n"
+IMPROVING_STREAM = b"c = 7;\n----------\nc = 5;\n----------\n==========\n"
+IMPROVING_REPORT = (
+    b"block 1: satisfied\nblock 2: satisfied\nclaim: ========== not judged\naccepted: blocks 2\n"
+)
+
+STATUSES = {"accepted": 0, "rejected": 1, "undecided": 2, "no blocks": 3}
+REFUSED = 4
+
+
+def content(path):
+    with open(path, "rb") as f:
+        return f.read()
+
+
+def pairs(folder):
+    """The name, the model's path and the stream's path of each case below a folder."""
+    for place, _, names in sorted(os.walk(folder)):
+        for name in sorted(n for n in names if n.endswith("stream.txt")):
+            stream = os.path.join(place, name)
+            yield os.path.relpath(stream, folder), os.path.join(place, "model.fzn"), stream
+
+
+def examples():
+    return [("first", FIRST_MODEL, FIRST_STREAM), *pairs(EXAMPLES)]
+
+
+def second(model, stream):
+    """The status, standard output and standard error that the second checker gives for two texts, or
+    none where a set is too large for it."""
+    lines = []
+    try:
+        for line in slow.report(model, stream):
+            lines.append(line)
+    except slow.Refused as refused:
+        return REFUSED, text_of(lines), text_of([str(refused)])
+    except slow.TooLargeToList:
+        return None
+    return STATUSES[lines[-1].split(":")[0]], text_of(lines), b""
+
+
+def text_of(lines):
+    return "".join(line + "\n" for line in lines).encode("latin-1")

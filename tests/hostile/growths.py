@@ -1,0 +1,47 @@
+"""Each growth of the program's memory refused in turn, by itself and with all that follow.
+
+Every run answers want of memory, or what it answers with ample memory; what it wrote before is a front of
+what it writes then."""
+import itertools
+
+from beside import CORPUS, FIRST_MODEL, FIRST_STREAM, content, examples, pairs
+from running import Tally, run
+
+WANT = 7, b"refused: memory\n"
+MOST_BYTES = 4_000  # of a model: those of the corpus that are longer have the same growths, more of them
+
+
+def words_of_runs():
+    """A name, the words behind the program's name, and standard input, of each run."""
+    small = [c for c in pairs(CORPUS) if len(content(c[1])) <= MOST_BYTES]
+    cases = examples() + small
+    for name, model, stream in cases:
+        yield name, ["check", model, stream], b""
+    for name, model in sorted({c[1]: c[0] for c in cases}.items()):
+        yield f"{name} shown", ["show", model], b""
+    yield "standard input", ["check", FIRST_MODEL], content(FIRST_STREAM)
+    yield "a cut stream", ["check", FIRST_MODEL], content(FIRST_STREAM) + b"x = 4;\n"
+    yield "a broken model", ["show", FIRST_STREAM], b""
+    yield "no such file", ["check", FIRST_MODEL + ".none"], b""
+    yield "wrong words", ["check", "--fast"], b""
+    yield "no words", [], b""
+
+
+def each_refused(name, words, stdin, onward):
+    """Refuses the first growth, the second and so on, until a run meets no refusal."""
+    tally = Tally()
+    ample = run(words, stdin).answer
+    more = {"REFUSE_ONWARD": "1"} if onward else {}
+    for number in itertools.count(1):
+        ran = run(words, stdin, {"REFUSE_GROWTH": str(number)} | more)
+        if not ran.met:
+            tally.expect(f"{name}: no growth {number}", ran.answer, ample)
+            return tally
+        wants = (ran.status, ran.err) == WANT and ample[1].startswith(ran.out)
+        tally.check(f"{name}: growth {number}", wants or ran.answer == ample, ran)
+
+
+def jobs(program):
+    for name, words, stdin in words_of_runs():
+        for onward in (False, True):
+            yield each_refused, (name, [program, *words], stdin, onward)

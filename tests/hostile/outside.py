@@ -1,0 +1,160 @@
+"""What stands around the program: its descriptors, its files, its stack and its memory."""
+import os
+import shutil
+import tempfile
+
+from beside import FIRST_MODEL, FIRST_STREAM, content, examples
+from running import FOLDER, Tally, run
+
+ACCEPTED = 0, b"block 1: satisfied\naccepted: blocks 1\n", b""
+READ = 6, b"", b"refused: read\n"
+WRITE = 6, b"", b"refused: write\n"
+MEMORY = 7, b"refused: memory\n"
+NOBODY = 65_534
+
+STACK = 64  # KB
+LEAST_MEMORY, MOST_MEMORY = 4_096, 131_072  # KB of address space
+DEEP = b"solve :: " + b"a([" * 31 + b"a" + b"])" * 31 + b" satisfy;\n"
+
+
+def in_shell(script, *words, **more):
+    """Runs words by a shell that first does what the script says."""
+    return run(["sh", "-c", script, "sh", *words], **more)
+
+
+def closed(program):
+    """A standard stream that is closed. Files that are opened must not take its place."""
+    tally = Tally()
+    both = [program, "check", FIRST_MODEL, FIRST_STREAM]
+    alone = [program, "check", FIRST_MODEL]
+    missing = [program, "check", FIRST_MODEL + ".none"]
+    show = [program, "show", FIRST_MODEL]
+    for name, script, words, want in (
+        ("standard input, which is wanted", '"$@" <&-', alone, READ),
+        ("standard input, which isn't wanted", '"$@" <&-', both, ACCEPTED),
+        ("standard input, and show", '"$@" <&-', show, (0, content(FIRST_MODEL), b"")),
+        ("standard output", '"$@" >&-', both, WRITE),
+        ("standard output, and show", '"$@" >&-', show, WRITE),
+        ("standard output and input", '"$@" >&- <&-', both, WRITE),
+        ("standard error", '"$@" 2>&-', missing, (6, b"", b"")),
+        ("all three", '"$@" <&- >&- 2>&-', both, (6, b"", b"")),
+    ):
+        tally.expect(f"closed: {name}", in_shell(script, *words).answer, want)
+    return tally
+
+
+def full(program):
+    tally = Tally()
+    words = [program, "check", FIRST_MODEL, FIRST_STREAM]
+    tally.expect("/dev/full", in_shell('"$@" >/dev/full', *words).answer, WRITE)
+    shown = in_shell('"$@" >/dev/full', program, "show", FIRST_MODEL)
+    tally.expect("/dev/full, and show", shown.answer, WRITE)
+    refused = in_shell('"$@" 2>/dev/full', program, "check", FIRST_MODEL + ".none")
+    tally.expect("/dev/full as standard error", refused.answer, (6, b"", b""))
+    return tally
+
+
+def no_reader(program):
+    """A pipe that nobody reads is a write that fails: the program isn't ended by the signal of it."""
+    tally = Tally()
+    for words in ("check", FIRST_MODEL, FIRST_STREAM), ("show", FIRST_MODEL):
+        source, to = os.pipe()
+        os.close(source)
+        ran = run([program, *words], stdout=to)
+        os.close(to)
+        tally.expect(f"a pipe without reader, {words[0]}", ran.answer, WRITE)
+    return tally
+
+
+def files(program):
+    """A folder, a missing file, one without leave to read, an endless one."""
+    tally = Tally()
+    with tempfile.TemporaryDirectory(dir=FOLDER) as folder:
+        missing = os.path.join(folder, "none")
+        for name, model, stream in (
+            ("a folder for a model", folder, FIRST_STREAM),
+            ("a folder for a stream", FIRST_MODEL, folder),
+            ("no model", missing, FIRST_STREAM),
+            ("no stream", FIRST_MODEL, missing),
+            ("a model below a file", FIRST_MODEL + "/x", FIRST_STREAM),
+            ("an empty name", "", FIRST_STREAM),
+        ):
+            tally.expect(name, run([program, "check", model, stream]).answer, READ)
+        with open(os.path.join(folder, "x"), "wb"):
+            pass
+        here = os.open(folder, os.O_RDONLY)
+        ran = run([program, "check", FIRST_MODEL], stdin=here)
+        os.close(here)
+        tally.expect("a folder on standard input", ran.answer, READ)
+    endless = run([program, "check", "/dev/zero", FIRST_STREAM]).answer
+    tally.expect("an endless model", endless, (4, b"", b"refused: model: TooLong\n"))
+    endless = run([program, "check", FIRST_MODEL, "/dev/zero"]).answer
+    tally.expect("an endless stream", endless, (4, b"", b"refused: stream: TooLong\n"))
+    return tally
+
+
+def no_leave(program):
+    """Files that the user may not read; the superuser may read all, so it runs this as another."""
+    tally = Tally()
+    with tempfile.TemporaryDirectory() as folder:
+        os.chmod(folder, 0o755)
+        copies = [shutil.copy(path, folder) for path in (program, FIRST_MODEL, FIRST_STREAM)]
+        more = {"user": NOBODY, "group": NOBODY, "extra_groups": []} if os.getuid() == 0 else {}
+        for at in (1, 2):
+            os.chmod(copies[at], 0)
+            ran = run([copies[0], "check", *copies[1:]], **more)
+            tally.expect(f"no leave to read {copies[at]}", ran.answer, READ)
+            os.chmod(copies[at], 0o644)
+        tally.expect("leave to read", run([copies[0], "check", *copies[1:]], **more).answer, ACCEPTED)
+    return tally
+
+
+def little_stack(program):
+    """A stack of 64 KB gives what an ample one gives."""
+    tally = Tally()
+    limited = f'ulimit -s {STACK}; exec env -i "$@"'
+    for name, model, stream in examples():
+        for words in ([program, "check", model, stream], [program, "show", model]):
+            ran = in_shell(limited, *words)
+            tally.expect(f"{STACK} KB of stack: {name}", ran.answer, run(words).answer)
+    for words in ([program, "check", "/dev/stdin", FIRST_STREAM], [program, "show", "/dev/stdin"]):
+        ran = in_shell(limited, *words, stdin=DEEP)
+        tally.expect(f"{STACK} KB of stack: 32 levels", ran.answer, run(words, DEEP).answer)
+    return tally
+
+
+def large_pair(folder):
+    """A model and a stream of some hundred KB, whose memory a limit can cut anywhere."""
+    model, stream = os.path.join(folder, "model.fzn"), os.path.join(folder, "stream.txt")
+    count = 10_000
+    with open(model, "w") as f:
+        f.writelines(f"var 0..9: x{i} :: output_var;\n" for i in range(count))
+        f.writelines(f"constraint int_le(x{i},x{i + 1});\n" for i in range(count - 1))
+        f.write("solve satisfy;\n")
+    with open(stream, "w") as f:
+        f.writelines(f"x{i} = {9 * i // count};\n" for i in range(count))
+        f.write("----------\n")
+    return model, stream
+
+
+def little_memory(program):
+    """Limits of memory from 4 MB up: want of memory, or the full answer."""
+    tally = Tally()
+    with tempfile.TemporaryDirectory(dir=FOLDER) as folder:
+        for name, model, stream in [*examples()[:2], ("large", *large_pair(folder))]:
+            words = [program, "check", model, stream]
+            ample = run(words).answer
+            limit, whole = LEAST_MEMORY, False
+            while limit <= MOST_MEMORY:
+                ran = in_shell(f'ulimit -v {limit}; exec "$@"', *words)
+                whole = ran.answer == ample
+                wants = (ran.status, ran.err) == MEMORY and ample[1].startswith(ran.out)
+                tally.check(f"{limit} KB of memory: {name}", whole or wants, ran)
+                limit += limit // 16
+            tally.check(f"{MOST_MEMORY} KB of memory suffice: {name}", whole)
+    return tally
+
+
+def jobs(program):
+    tests = closed, full, no_reader, files, no_leave, little_stack, little_memory
+    return [(test, (program,)) for test in tests]

@@ -1,0 +1,93 @@
+"""How the runs in this folder start a program, with memory, reads and writes refused or not, and count."""
+import os
+import signal
+import subprocess
+from dataclasses import dataclass, field
+
+HERE = os.path.dirname(os.path.abspath(__file__))
+ROOT = os.path.dirname(os.path.dirname(HERE))
+FOLDER = os.path.join(ROOT, "build", "hostile")
+SHARED = os.path.join(FOLDER, "refuse.so")
+MOST_SECONDS = 60
+READ_SIZE = 65_536
+
+
+def build():
+    """Compiles what is preloaded, and gives its path."""
+    os.makedirs(FOLDER, exist_ok=True)
+    source = os.path.join(HERE, "refuse.c")
+    words = ["cc", "-shared", "-fPIC", "-O1", "-Wall", "-Wextra", "-o", SHARED, source]
+    subprocess.run(words, check=True)
+    return SHARED
+
+
+@dataclass
+class Ran:
+    """What a run gave: a status below 0 is a signal's number, None is a run that took too long."""
+
+    status: int | None
+    out: bytes
+    err: bytes
+    met: int = 0  # how many refusals it met
+
+    @property
+    def answer(self):
+        return self.status, self.out, self.err
+
+
+def run(words, stdin=b"", env=None, limit=MOST_SECONDS, shared=SHARED, **more):
+    """Runs a program. `env` has what refuse.c reads, and only where it has something is that preloaded.
+    `stdin` is bytes, or a file or descriptor; `more` goes to subprocess."""
+    if not env:
+        return Ran(*given(words, stdin, None, limit, more))
+    log, to = os.pipe()
+    preload = {"LD_PRELOAD": shared, "REFUSE_LOG": str(to)}
+    try:
+        ran = given(words, stdin, os.environ | preload | env, limit, more | {"pass_fds": (to,)})
+    finally:
+        os.close(to)
+    with os.fdopen(log, "rb") as log:
+        return Ran(*ran, len(log.read(READ_SIZE)))
+
+
+def given(words, stdin, env, limit, more):
+    """The status, standard output and standard error."""
+    more = {"stdout": subprocess.PIPE, "stderr": subprocess.PIPE} | more
+    text = stdin if isinstance(stdin, bytes) and stdin else None
+    source = subprocess.PIPE if text else subprocess.DEVNULL if stdin == b"" else stdin
+    with subprocess.Popen(words, stdin=source, env=env, **more) as process:
+        try:
+            out, err = process.communicate(text, timeout=limit)
+        except subprocess.TimeoutExpired:
+            process.send_signal(signal.SIGKILL)
+            out, err = process.communicate()
+            return None, out or b"", err or b""
+    return process.returncode, out or b"", err or b""
+
+
+@dataclass
+class Tally:
+    """Counts passes and failures, and keeps what is to be told of failures."""
+
+    passed: int = 0
+    told: list = field(default_factory=list)
+
+    def check(self, name, holds, said=""):
+        if holds:
+            self.passed += 1
+        else:
+            self.told.append(f"failed: {name}: {said}")
+        return holds
+
+    def expect(self, name, got, want):
+        return self.check(name, got == want, f"gave {got!r}, wanted {want!r}")
+
+    def add(self, other):
+        self.passed += other.passed
+        self.told += other.told
+
+    def end(self):
+        """Prints the failures and the count, and gives the status to end with."""
+        print("".join(line + "\n" for line in self.told), end="")
+        print(f"{self.passed} passed, {len(self.told)} failed")
+        return 1 if self.told else 0
