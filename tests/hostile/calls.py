@@ -1,12 +1,13 @@
 #!/usr/bin/env python3
 """Each public call, with each growth of memory refused in turn: calls.py PROGRAM
 
-The program makes one call on what files hold, and makes it once more on the same operands where it found
-no memory. So with one growth refused it tells want of memory at most once, and around that what it tells
-with ample memory. The calls are made on the cases of cases.txt, on the examples and on pairs of sets.
+The program makes one call on what files hold, and makes it once more on the same operands where
+it found no memory. So with one growth refused it tells want of memory at most once, and around that
+what it tells with ample memory. The calls are made on the cases of cases.txt, on the examples and
+on pairs of sets.
 
-A reader that gives single bytes or fails, a writer that fails and a splitter that is full follow. The
-last line is 'N passed, M failed'."""
+A reader that gives single bytes or fails, a writer that fails and a splitter that is full follow.
+The last line is 'N passed, M failed'."""
 import itertools
 import os
 import re
@@ -21,9 +22,9 @@ from beside import IMPROVING_MODEL, IMPROVING_REPORT, IMPROVING_STREAM, content,
 from running import FOLDER, HERE, Tally
 
 CASES = os.path.join(HERE, "cases.txt")
-NOT_MADE = 7, b"", b""  # the operands found no memory, or there is no such call on them
+NOT_MADE = 7, b"", b""  # the operands found no memory, or can't be had at all: the call wasn't made
 MEMORY = re.compile(rb"^Err\((?:Memory|AllocError)\)\n", re.MULTILINE)
-FAILED = b"Err(Failed)\nfalse\nErr(Failed)\nErr(Failed)\n"  # a splitter's `feed`, `waiting`, `take`, `finish`
+FAILED = b"Err(Failed)\nfalse\nErr(Failed)\nErr(Failed)\n"  # `feed`, `waiting`, `take`, `finish`
 ANY = "1000000"  # as many bytes or reads as there are
 MOST_BYTES = 16_777_216  # that a splitter holds
 
@@ -45,13 +46,14 @@ LEXED = (
     b"0" * 100 + b"3",
     b"a \"b\" 1.5 :: [(x)] # y",
 )
-ITEMS = (b"x = 3;", b"x = 3", b"x = 1.5;", b"x = array2d(1..2,{1,2},[1,{3,1},true,1..4]); y = -1..2;" * 9)
+ARRAY = b"x = array2d(1..2,{1,2},[1,{3,1},true,1..4]); y = -1..2;"
+ITEMS = (b"x = 3;", b"x = 3", b"x = 1.5;", ARRAY * 9)
 NAMES = (
-    "range list union intersect minus symdiff copy copy_value lex parse to_text read_items load new_partial "
-    "state forced blocks feed take finish fill judge check report_text show refusal_text check_stream "
-    "check_stream_up_to"
+    "range list union intersect minus symdiff copy copy_value lex parse to_text read_items load "
+    "new_partial state forced blocks feed take finish fill judge check report_text show "
+    "refusal_text check_stream check_stream_up_to"
 ).split()
-ENOUGH = "none: they did without"
+ENOUGH = "none"  # it was wanted once more, and given
 IN_MODELS = ("load", "new_partial", "points")
 OVER_BLOCKS = ("fill", "judge", "points")
 
@@ -66,8 +68,8 @@ class Call:
     more: tuple = ()
 
     def refused(self, ample, given):
-        """The name of the call that found no memory, where this may be told with one growth refused and
-        `ample` is told with ample memory; ENOUGH where the call did without, and none where it may not."""
+        """The name of the call that found no memory, where this may be told with one growth
+        refused and `ample` with ample memory. ENOUGH where all is told; none where it may not be."""
         parts = MEMORY.split(given)
         if len(parts) != 2:
             return ENOUGH if given == ample else None
@@ -82,7 +84,9 @@ class Call:
     def name_before(self, rest):
         """The name of the call that gives the next line, where calls stand behind one name."""
         if self.name == "points":
-            return "forced" if rest.startswith((b"Ok(None)", b"Ok(Some(")) else "state"
+            if rest.startswith((b"Ok(None)", b"Ok(Some(")):
+                return "forced"
+            return "state" if rest.startswith(b"Ok(") else "fill"
         if self.name == "text":
             return "refusal_text" if rest.startswith(b"refused: ") else "report_text"
         if self.name == "make":
@@ -163,12 +167,12 @@ def words_of(program, folder, call):
     return words + list(call.more)
 
 
-def refused(words, number, more=()):
-    return running.run(words, env={"REFUSE_GROWTH": str(number), **dict(more)})
+def refused(words, number, more={}):
+    return running.run(words, env={"REFUSE_GROWTH": str(number)} | more)
 
 
-def first_behind_operands(words):
-    """The number of the first growth that is refused once the operands are made."""
+def begun(words):
+    """The number of a growth; the one before it is for the operands, so no call is missed."""
     before, behind = 0, 1
     while refused(words, behind).answer == NOT_MADE:
         before, behind = behind, behind * 2
@@ -191,11 +195,13 @@ def each_growth(program, call):
             return tally, names
         told = f"{call.kind} {call.name} {call.texts}"
         tally.check(told, ample.status == 0 and not MEMORY.search(ample.out), ample)
-        for number in itertools.count(first_behind_operands(words)):
+        for number in itertools.count(begun(words)):
             ran = refused(words, number)
             if not ran.met:
                 tally.expect(f"{told}, no refusal", ran.answer, ample.answer)
                 return tally, names
+            if ran.answer == NOT_MADE:
+                continue
             name = call.refused(ample.out, ran.out)
             fits = name is not None and ran.status == 0 and not ran.err
             tally.check(f"{told}, growth {number}", fits, (ran.answer, ample.out))
@@ -203,17 +209,19 @@ def each_growth(program, call):
 
 
 def no_growth(program, call):
-    """Refuses every growth behind the operands: none is met, and all is told."""
+    """Refuses every growth once the operands are made: all is told as before."""
     tally = Tally()
     with tempfile.TemporaryDirectory(dir=FOLDER) as folder:
         words = words_of(program, folder, call)
         ample = running.run(words)
-        if ample.answer != NOT_MADE:
-            number = first_behind_operands(words)
-            ran = refused(words, number, {"REFUSE_ONWARD": "1"}.items())
-            name = f"{call.kind} {call.name} {call.texts}, every growth"
-            tally.expect(name, (ran.met, ran.answer), (0, ample.answer))
-    return tally, Counter()
+        if ample.answer == NOT_MADE:
+            return tally, Counter()
+        for number in itertools.count(begun(words)):
+            ran = refused(words, number, {"REFUSE_ONWARD": "1"})
+            if ran.answer != NOT_MADE:
+                told = f"{call.kind} {call.name} {call.texts}, every growth"
+                tally.expect(told, ran.answer, ample.answer)
+                return tally, Counter()
 
 
 LINES = IMPROVING_REPORT.splitlines(True)
@@ -271,9 +279,10 @@ def job(test, args):
     return test(*args)
 
 
-def run(program):
+def run(program, shared=running.SHARED):
     """Runs all, and tells how many growths were refused to each call: to each was at least one."""
     tally, refusals = Tally(), Counter()
+    tally.check("what is preloaded was built", os.path.isfile(shared))
     with Pool() as pool:
         for part, names in pool.starmap(job, list(jobs(program)), chunksize=4):
             tally.add(part)

@@ -39,15 +39,20 @@ fn call_on_blocks(
 ) -> Option<()> {
     match call {
         "judge" => tell_verdicts(rt, model, given),
-        "fill" => tell_fillings(rt, model, given),
-        _ => tell_filled_points(rt, model, given),
+        _ => tell_fillings(rt, call, model, given),
     }
 }
 
-fn fill_lacks_memory(rt: &HostRuntime, model: &Model<'_>, block: &Block<'_>) -> bool {
+/// Fills a block and tells its values, or the points under them, or the refusal; says whether that is
+/// want of memory.
+fn fill_lacks_memory(rt: &HostRuntime, call: &str, model: &Model<'_>, block: &Block<'_>) -> bool {
     match fill(rt.alloc(), model, block) {
         Ok(partial) => {
-            tell(rt, &partial.values());
+            if call == "fill" {
+                tell(rt, &partial.values());
+            } else {
+                tell_points(rt, model, &partial);
+            }
             false
         }
         Err(error) => {
@@ -57,28 +62,22 @@ fn fill_lacks_memory(rt: &HostRuntime, model: &Model<'_>, block: &Block<'_>) -> 
     }
 }
 
-fn tell_filling(rt: &HostRuntime, model: &Model<'_>, block: &Block<'_>) {
+fn tell_filling(rt: &HostRuntime, call: &str, model: &Model<'_>, block: &Block<'_>) {
     for _ in 0..2 {
-        if !fill_lacks_memory(rt, model, block) {
+        if !fill_lacks_memory(rt, call, model, block) {
             break;
         }
     }
 }
 
-fn tell_fillings(rt: &HostRuntime, model: &Model<'_>, given: &[Block<'_>]) -> Option<()> {
+fn tell_fillings(
+    rt: &HostRuntime,
+    call: &str,
+    model: &Model<'_>,
+    given: &[Block<'_>],
+) -> Option<()> {
     for block in given {
-        tell_filling(rt, model, block);
-    }
-    Some(())
-}
-
-/// Tells the points under the values that fill each block.
-fn tell_filled_points(rt: &HostRuntime, model: &Model<'_>, given: &[Block<'_>]) -> Option<()> {
-    for block in given {
-        match fill(rt.alloc(), model, block) {
-            Ok(partial) => tell_points(rt, model, &partial),
-            Err(_) => return None,
-        }
+        tell_filling(rt, call, model, block);
     }
     Some(())
 }

@@ -102,8 +102,8 @@ fn call_on_nothing(rt: &HostRuntime, call: &str, model: &Model<'_>, mut partial:
     }
 }
 
-/// Tells what the calls answer that ask something of a model or of values, and gives the first variable
-/// a value.
+/// Tells what the calls answer that ask something of a model or of values, and gives the first
+/// variable a value.
 fn ask(rt: &HostRuntime, model: &Model<'_>, partial: &mut Partial) {
     tell_model(rt, model);
     for variable in model.variables() {

@@ -1,5 +1,5 @@
-//! The program `fz_hostile`: one public call on what some files hold, told on standard output. Where
-//! the call finds no memory it is made once more on the same operands. It is a part of the tests alone.
+//! The program `fz_hostile`, a part of the tests alone: one public call on what some files hold,
+//! told on standard output. Where it finds no memory it is made once more on the same operands.
 #![tactic(auto)]
 
 mod checking;

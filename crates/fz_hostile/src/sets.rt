@@ -30,7 +30,7 @@ fn literal<'a>(items: &'a [Printed<'_>], place: usize) -> Option<&'a LiteralKind
     }
 }
 
-/// The set that a literal stands for: `range` makes that of a range, `list` that of numbers in braces.
+/// The set that a literal stands for: `range` makes that of a range, `list` that of listed numbers.
 fn made(alloc: Global, literal: &LiteralKind) -> Result<IntSet, SetError> {
     match literal {
         LiteralKind::Range(lo, hi) => IntSet::range(alloc, *lo, *hi),
