@@ -5,9 +5,7 @@ use crate::given::are_given;
 use crate::laid::{scalar_at_laid, scalar_laid, slot_int, slot_is_read, slot_set, slot_truth};
 use crate::reading::{Readiness, bool_in, int_in, is_of, set_in, value_at};
 use fz_base::{IntSet, Value};
-use fz_data::{
-    Argument, ConstraintParts, Laid, LaidParts, Partial, Place, array_elements, part,
-};
+use fz_data::{Argument, ConstraintParts, Laid, LaidParts, Partial, Place, array_elements, part};
 use fz_meaning::Shape;
 
 /// A constraint's arguments under a partial assignment.
