@@ -12,6 +12,10 @@ use Rattle.fz_check.specs.declared.error.CheckError.{CheckError}
 use Rattle.fz_check.specs.declared.error.CheckError.TheVariants as errors
 use Rattle.fz_check.specs.Reported.{HasReport, HasNoneWhereViolated}
 
+-- the most reads of a stream
+abbrev pub most_reads : ℕ
+most_reads = 4294967296
+
 -- The reader gave these bytes up to its end, and this holds of them.
 pub record HoldsOfStream (left left' : Option (List ℕ)) (Holds : List ℕ → Type 0) : Type 0 where
   pub given : List ℕ

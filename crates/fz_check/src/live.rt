@@ -11,11 +11,11 @@ ghost use Rattle.fz_stream.specs.Faults.{IsStreamFault};
 ghost use Rattle.fz_stream.specs.Parts.{StreamPart};
 ghost use Rattle.fz_live.specs.of_judge.declared.error.BlockError.{BlockError as BlockFault};
 ghost use Rattle.fz_live.specs.Live.{BlockIsRefused, StopsAfterLines, WritesFrontOfLines};
-ghost use Rattle.fz_live.specs.Reading.{HasNoMore, IsRefusedAfter};
+ghost use Rattle.fz_live.specs.Reading.{HasNoMore, IsRefusedAfter, SpendsReads};
 ghost use Rattle.fz_live.specs.View.{answer_view};
 ghost use Rattle.fz_check.specs.Headline.{HasSolutions};
 ghost use Rattle.fz_check.specs.Loading.{live_refusal};
-ghost use Rattle.fz_check.specs.Over.{HoldsOfModel, HoldsOfStream, IsOfModel, IsReportedTo, IsUntouched};
+ghost use Rattle.fz_check.specs.Over.{HoldsOfModel, HoldsOfStream, IsOfModel, IsReportedTo, IsUntouched, most_reads};
 ghost use Rattle.fz_check.specs.Refused.{HasNameFault};
 
 use crate::checking::{load_tree, read_text};
@@ -67,6 +67,9 @@ pub fn check_stream_up_to<R: Read, W: Write>(
     ensures write { result ≡ Err CheckError.Write → HoldsOfModel model.now (λ m. WritesFrontOfLines m (R.remaining reader.old) (R.remaining reader.new) (W.contents writer.old) (W.contents writer.new)) }
     ensures memory { result ≡ Err CheckError.Memory → IsUntouched (R.remaining reader.old) (R.remaining reader.new) (W.contents writer.old) (W.contents writer.new)
         ⊎ HoldsOfModel model.now (λ m. WritesFrontOfLines m (R.remaining reader.old) (R.remaining reader.new) (W.contents writer.old) (W.contents writer.new)) }
+    // It reads at most so often, 4,096 bytes at most at a time, and before there is an answer one read finds the end.
+    ensures reads { SpendsReads reads 0 (R.remaining reader.old) (R.remaining reader.new) }
+    ensures end_read { IfOk result (λ _. SpendsReads reads 1 (R.remaining reader.old) (R.remaining reader.new)) }
 {
     let ast = match read_text(alloc, model) {
         Ok(ast) => ast,
@@ -111,6 +114,8 @@ pub fn check_stream<R: Read, W: Write>(
     ensures write { result ≡ Err CheckError.Write → HoldsOfModel model.now (λ m. WritesFrontOfLines m (R.remaining reader.old) (R.remaining reader.new) (W.contents writer.old) (W.contents writer.new)) }
     ensures memory { result ≡ Err CheckError.Memory → IsUntouched (R.remaining reader.old) (R.remaining reader.new) (W.contents writer.old) (W.contents writer.new)
         ⊎ HoldsOfModel model.now (λ m. WritesFrontOfLines m (R.remaining reader.old) (R.remaining reader.new) (W.contents writer.old) (W.contents writer.new)) }
+    ensures reads { SpendsReads most_reads 0 (R.remaining reader.old) (R.remaining reader.new) }
+    ensures end_read { IfOk result (λ _. SpendsReads most_reads 1 (R.remaining reader.old) (R.remaining reader.new)) }
 {
     check_stream_up_to(alloc, model, reader, writer, MOST_READS)
 }
