@@ -17,7 +17,7 @@ use Rattle.fz_stream.specs.declared.error.StreamError.TheVariants as stream
 use Rattle.fz_stream.specs.declared.reading.Claim.{Claim}
 use Rattle.fz_stream.specs.Found.{EndsWithin, HasPlaces, IsReadAs, block_of}
 use Rattle.fz_stream.specs.Parts.{StreamPart, IsStreamText}
-use Rattle.fz_stream.specs.Telling.{StopsAfter}
+use Rattle.fz_stream.specs.Broken.{StopsAfter}
 use Rattle.fz_model.specs.Meaning.{Model}
 use Rattle.fz_model.specs.Names.{HasNoFault, IsInReadingOrder, model_of}
 use Rattle.fz_model.specs.View.{TellsFirstFault, located}

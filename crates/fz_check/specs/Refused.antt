@@ -7,7 +7,7 @@ use Rattle.fz_syntax.specs.Text.{IsTextOfTree}
 use Rattle.fz_syntax.specs.View.{bare}
 use Rattle.fz_syntax.specs.declared.tree.Ast.{Ast}
 use Rattle.fz_stream.specs.Parts.{StreamPart, IsStreamText}
-use Rattle.fz_stream.specs.Telling.{StopsAfter}
+use Rattle.fz_stream.specs.Broken.{StopsAfter}
 use Rattle.fz_stream.specs.declared.block.Block as the_block
 use Rattle.fz_stream.specs.declared.error.StreamError.{StreamError}
 use Rattle.fz_stream.specs.declared.error.StreamError.TheVariants as stream
