@@ -79,15 +79,6 @@ module _ (source : List ℕ) (p : Parser) (all : ahead p ≡ tokens_ahead source
   items_only result read items text =
       only_of (λ (x : Vec Item Global). bare_items x.items) itoks (AllByRecursion (IsPrinted the_limits)) (items_at the_limits) (items_of_toks the_limits) result (lexemes p) read items text.of_grammar (ap values all ∙ tokens_are source (itoks items) text.lexes)
 
-same_items : (items others : List Printed) → items_of the_limits (itoks items) ≡ Ok items → items_of the_limits (itoks items) ≡ Ok others → items ≡ others
-same_items items others e f = (let same : Ok items ≡ Ok others = sym e ∙ f in cc)
-
--- a text is one of one list of items
-pub items_once : (source : List ℕ) (items others : List Printed) → IsTextOfItems source items → IsTextOfItems source others → items ≡ others
-items_once source items others t u =
-    let tokens : itoks items ≡ itoks others = sym (tokens_are source (itoks items) t.lexes) ∙ tokens_are source (itoks others) u.lexes in
-    same_items items others (items_of_toks the_limits items t.of_grammar) (ap (items_of the_limits) tokens ∙ items_of_toks the_limits others u.of_grammar)
-
 -- the empty text is one of no items
 pub none_text : IsTextOfItems [] []
 none_text = record { lexes = ([], record { short = omega arith; lexes = nothing 0; numbers = tt }, refl); of_grammar = tt }
