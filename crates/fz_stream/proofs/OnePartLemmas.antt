@@ -56,7 +56,7 @@ one_list start lines (BlockPart block ∷ parts) others h g =
     let own : EndAfter (start + length (joined (k.gap ++ (k.body ++ k.marker ∷ [])))) (p.1 ++ h.tail) parts =
     record { covered = p.1; tail = h.tail; whole = refl; of_parts = subst (λ o. AreLinesOf (start + length (joined o)) p.1 parts) k.whole p.4; fillers = h.fillers } in
     n.parts_are ∙ ap (λ q. q ∷ n.more) (same_block start k.gap k.body k.marker block k.closes k.offset k.text k.items n.part n.is)
-    ∙ ap (λ ps. BlockPart block ∷ ps) (one_list _ (p.1 ++ h.tail) parts n.more own n.others)
+    ∙ ap (λ ps. BlockPart block ∷ ps) (one_list (start + length (joined (k.gap ++ (k.body ++ k.marker ∷ [])))) (p.1 ++ h.tail) parts n.more own n.others)
 one_list start lines (ClaimPart kind ∷ parts) others h g =
     let p = h.of_parts in
     let k = p.3 in
@@ -65,7 +65,7 @@ one_list start lines (ClaimPart kind ∷ parts) others h g =
     let own : EndAfter (start + length (joined (k.gap ++ k.line ∷ []))) (p.1 ++ h.tail) parts =
     record { covered = p.1; tail = h.tail; whole = refl; of_parts = subst (λ o. AreLinesOf (start + length (joined o)) p.1 parts) k.whole p.4; fillers = h.fillers } in
     n.parts_are ∙ ap (λ q. q ∷ n.more) (same_claim start k.gap [] k.line kind k.claims n.part n.is)
-    ∙ ap (λ ps. ClaimPart kind ∷ ps) (one_list _ (p.1 ++ h.tail) parts n.more own n.others)
+    ∙ ap (λ ps. ClaimPart kind ∷ ps) (one_list (start + length (joined (k.gap ++ k.line ∷ []))) (p.1 ++ h.tail) parts n.more own n.others)
 
 -- a stream's bytes are a text of one list of parts
 pub parts_once : (bytes : List ℕ) (parts others : List StreamPart) → IsStreamText bytes parts → IsStreamText bytes others → others ≡ parts
