@@ -2,8 +2,6 @@
 
 ghost use Rattle.std.specs.Prelude.{◌≡◌, ◌≢◌, ℕ, List, ◌⊎◌, Err, IfOk, IfErr};
 ghost use Rattle.fz_syntax.specs.SyntaxError.{SyntaxError as SyntaxFault};
-ghost use Rattle.fz_syntax.specs.Tree.{Tree};
-ghost use Rattle.fz_syntax.specs.Text.{IsTextOfTree};
 ghost use Rattle.fz_model.specs.declared.ModelError.{ModelError as NameFault};
 ghost use Rattle.fz_stream.specs.declared.error.StreamError.{StreamError as StreamFault};
 ghost use Rattle.fz_stream.specs.declared.error.StreamError.TheVariants.{Memory as OfMemory};
@@ -16,7 +14,7 @@ ghost use Rattle.fz_live.specs.View.{answer_view};
 ghost use Rattle.fz_check.specs.Headline.{HasSolutions};
 ghost use Rattle.fz_check.specs.Loading.{live_refusal};
 ghost use Rattle.fz_check.specs.Over.{HoldsOfModel, HoldsOfStream, IsOfModel, IsReportedTo, IsUntouched, most_reads};
-ghost use Rattle.fz_check.specs.Refused.{HasNameFault};
+ghost use Rattle.fz_check.specs.Refused.{HasNameFault, HasTextFault};
 
 use crate::checking::{load_tree, read_text};
 use crate::error::CheckError;
@@ -54,7 +52,7 @@ pub fn check_stream_up_to<R: Read, W: Write>(
     // The writer got the report on all that the reader gave up to its end, and nothing else.
     ensures report { IfOk result (λ a. HoldsOfStream (R.remaining reader.old) (R.remaining reader.new) (λ given. IsReportedTo model.now given (W.contents writer.old) (W.contents writer.new) (answer_view a))) }
     // The model is refused only where its bytes are a text of no tree, or with the leftmost fault of its names.
-    ensures no_tree { (e : SyntaxFault) → result ≡ Err (CheckError.Model e) → (t : Tree) → IsTextOfTree model.now t → ⊥ }
+    ensures model { (e : SyntaxFault) → result ≡ Err (CheckError.Model e) → HasTextFault model.now e }
     ensures names { (e : NameFault) → result ≡ Err (CheckError.Names e) → HasNameFault model.now e }
     // Then nothing is read, and nothing is written.
     ensures model_first { IfErr result (λ e. IsOfModel e → IsUntouched (R.remaining reader.old) (R.remaining reader.new) (W.contents writer.old) (W.contents writer.new)) }
@@ -104,7 +102,7 @@ pub fn check_stream<R: Read, W: Write>(
 ) -> Result<Answer, CheckError>
     ensures accepted { IfOk result (λ a. (count : ℕ) → a ≡ Answer.Accepted count → HoldsOfStream (R.remaining reader.old) (R.remaining reader.new) (λ given. HasSolutions model.now given count)) }
     ensures report { IfOk result (λ a. HoldsOfStream (R.remaining reader.old) (R.remaining reader.new) (λ given. IsReportedTo model.now given (W.contents writer.old) (W.contents writer.new) (answer_view a))) }
-    ensures no_tree { (e : SyntaxFault) → result ≡ Err (CheckError.Model e) → (t : Tree) → IsTextOfTree model.now t → ⊥ }
+    ensures model { (e : SyntaxFault) → result ≡ Err (CheckError.Model e) → HasTextFault model.now e }
     ensures names { (e : NameFault) → result ≡ Err (CheckError.Names e) → HasNameFault model.now e }
     ensures model_first { IfErr result (λ e. IsOfModel e → IsUntouched (R.remaining reader.old) (R.remaining reader.new) (W.contents writer.old) (W.contents writer.new)) }
     ensures fault { (e : StreamFault) → result ≡ Err (CheckError.Stream e) → IsStreamFault e × (e ≢ OfMemory) }

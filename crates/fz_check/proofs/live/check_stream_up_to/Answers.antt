@@ -19,8 +19,8 @@ pub returns-in-Ok-check_parts-clause-report : goal.returns-in-Ok-check_parts-cla
 returns-in-Ok-check_parts-clause-report g c =
     reported_over c.args.model.now c.in-Ok.ast c.in-Ok-load_tree.loaded c.in-Ok.ensures.found c.in-Ok-load_tree.ensures.loaded.0 c.in-Ok-load_tree.ensures.loaded.1 _ _ _ _ c.in-Ok-check_parts.answer c.in-Ok-check_parts.ensures.answered
 
-pub returns-clause-no_tree : goal.returns-clause-no_tree
-returns-clause-no_tree g c = λ e same t text.
+pub returns-clause-model : goal.returns-clause-model
+returns-clause-model g c = λ e same.
     (let told = told_model c.in-Err-check_parts.error e (sym c.live_refusal.ensures ∙ cc) in absurd told)
 
 pub returns-clause-names : goal.returns-clause-names
