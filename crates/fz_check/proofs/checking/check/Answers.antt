@@ -31,6 +31,10 @@ returns-clause-in_order c =
     (subst (λ l. AreVerdicts c.in_ok-loaded.loaded (map located_block l) (map verdict_view c.in_ok-verdicts.verdicts.items)) c.deref.ensures.value c.in_ok-verdicts.ensures.judged)
     c.in_ok-found.found.blocks.ok.0 c.in_ok-verdicts.verdicts.ok.0 c.in_ok-found.ensures.in_order
 
+pub returns-in_err-ast-clause-model : goal.returns-in_err-ast-clause-model
+returns-in_err-ast-clause-model c = λ e same.
+    c.read_text.ensures.model e (c.in_err-ast.was ∙ ap Err (residual_is c.from_residual.result c.in_err-ast.field-0.0 (errors.Model e) c.from_residual.ensures.1 same))
+
 pub returns-in_err-loaded-clause-names : goal.returns-in_err-loaded-clause-names
 returns-in_err-loaded-clause-names c = λ e same.
     name_fault_on c.args.model.now c.in_ok-ast.ast e c.in_ok-ast.ensures.found c.in_ok-ast.ensures.stands
