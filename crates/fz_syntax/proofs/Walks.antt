@@ -14,16 +14,16 @@ use Rattle.fz_lex.specs.Left.{listed_comma, source_of}
 use Rattle.fz_lex.specs.declared.ahead.Listed.{Listed}
 use Rattle.fz_lex.specs.View.{token_value, spanned}
 use Rattle.fz_lex.specs.declared.token.Mark.{Mark}
-use Rattle.fz_lex.specs.declared.token.Mark.TheVariants.{Comma, OpenParen, CloseParen}
+use Rattle.fz_lex.specs.declared.token.Mark.TheVariants.{OpenParen, CloseParen, OpenBracket, CloseBracket, Comma}
 use Rattle.fz_lex.specs.declared.token.TokenKind.{TokenKind}
 use Rattle.fz_lex.specs.declared.token.TokenKind.TheVariants as kinds
 use Rattle.fz_lex.specs.declared.token.Token.{Token}
 use Rattle.fz_syntax.specs.Tree as tree
 use Rattle.fz_syntax.specs.Tokens.{mark, word, literal_toks, var_toks, array_word}
-use Rattle.fz_syntax.specs.View.{lexeme, bare_literal}
+use Rattle.fz_syntax.specs.View.{lexeme, bare_literal, bare_literal_kind}
 use Rattle.fz_syntax.specs.Reading.{Reader, is_name, next_is, next_word, mark_at, word_at}
 use Rattle.fz_syntax.specs.ReadingItems.{next_dimensions}
-use Rattle.fz_syntax.specs.Outcome.{Gives, plain_token, plain_kind}
+use Rattle.fz_syntax.specs.Outcome.{Gives, IsListed, plain_token, plain_kind}
 use Rattle.fz_syntax.specs.declared.parser.refusal.Refusal.{Refusal}
 use Rattle.fz_syntax.specs.declared.parser.kinds.Plain.{Plain}
 use Rattle.fz_syntax.specs.declared.parser.kinds.Plain.TheVariants as plains
@@ -32,8 +32,9 @@ use Rattle.fz_syntax.specs.declared.tree.LiteralKind.{LiteralKind}
 use Rattle.fz_syntax.specs.declared.tree.Literal.{Literal}
 use Rattle.fz_syntax.specs.declared.tree.Name.{Name}
 use Rattle.fz_syntax.specs.declared.tree.NoteArg.{NoteArg}
+use Rattle.fz_syntax.specs.declared.tree.NoteBasic.{NoteBasic}
 use Rattle.fz_syntax.specs.declared.tree.PrintedValue.{PrintedValue}
-use Rattle.fz_syntax.specs.Placed.{PlacedToken, AgreeWith, unplaced, plain, placed_mark, placed_word, placed_separated, placed_between, placed_name, starting_at, ending_at, placed_literal, placed_parts, placed_args, placed_arg, placed_printed_value}
+use Rattle.fz_syntax.specs.Placed.{PlacedToken, AgreeWith, unplaced, plain, placed_mark, placed_word, placed_separated, placed_between, placed_name, starting_at, ending_at, placed_literal, placed_parts, placed_args, placed_arg, placed_note_basic, placed_printed_value}
 use Rattle.fz_syntax.specs.Walk.{ahead, lexemes, start_of, end_of, Consumed, Passed, Walk, placed_listed}
 use Rattle.fz_syntax.proofs.ListLaws.{Takes, marked_tokens, worded_tokens, mark_takes, word_takes}
 use Rattle.fz_syntax.proofs.PrintedLaws.{array_tokens}
@@ -95,11 +96,27 @@ pub walk_none : {p : Parser} → Walk p p []
 walk_none {p} = record { taken = []; on = consumed_none p p refl refl refl; agree = tt }
 
 -- the parser is where it was
-pub walk_still : {p q : Parser} → q ≡ p → Walk p q []
-walk_still {p} {q} same = subst (λ (r : Parser). Walk p r []) (sym same) walk_none
+pub walk_same : {p q : Parser} → q ≡ p → Walk p q []
+walk_same {p} {q} same = subst (λ (r : Parser). Walk p r []) (sym same) walk_none
+
+-- it took no token
+pub walk_still : (p q : Parser) → ahead q ≡ ahead p → q.reached ≡ p.reached → source_of q.tokens ≡ source_of p.tokens → Walk p q []
+walk_still p q left upto same = record { taken = []; on = consumed_none p q left upto same; agree = tt }
+
+-- the parser was where it is now
+pub walk_from : {p q r : Parser} {s : List PlacedToken} → q ≡ p → Walk q r s → Walk p r s
+walk_from {p} {q} {r} {s} same w = subst (λ (x : Parser). Walk x r s) same w
+
+-- a mark that was looked for and not found
+pub walk_kept : {p q r : Parser} {s : List PlacedToken} (b : Bool) → b ≡ false → OnFalse b (r ≡ q) → Walk p q s → Walk p r s
+walk_kept true none kept w = absurd cc
+walk_kept {p} {q} {r} {s} false none kept w = subst (λ (x : Parser). Walk p x s) (sym kept) w
 
 pub walk_then : {p q r : Parser} {s t : List PlacedToken} → Walk p q s → Walk q r t → Walk p r (s ++ t)
 walk_then {p} {q} {r} {s} {t} w v = record { taken = w.taken ++ v.taken; on = consumed_then w.on v.on; agree = agree_then s t w.taken v.taken w.agree v.agree }
+
+pub walk_end : {p q r : Parser} {s : List PlacedToken} → Walk p q s → Walk q r [] → Walk p r s
+walk_end {p} {q} {r} {s} w v = subst (λ (t : List PlacedToken). Walk p r t) (append-nil s) (walk_then w v)
 
 -- ---- tokens of which no place is told
 
@@ -161,7 +178,7 @@ var_word = codes "var"
 
 pub var_walk : {p q : Parser} (b : Bool) → b ≡ next_word var_word (lexemes p) → lexemes q ≡ (if next_word var_word (lexemes p) then drop 1 (lexemes p) else lexemes p) → Passed p q → OnFalse b (q ≡ p) → Walk p q (plain (var_toks b))
 var_walk true found left w kept = ate_word var_word true refl found left w
-var_walk false found left w kept = walk_still kept
+var_walk false found left w kept = walk_same kept
 
 -- the word that begins an array
 fewer : (n : ℕ) (ts us vs : List TokenValue) → 0 < n → vs ≡ (if n == 0 then ts else us) → vs ≡ us
@@ -252,6 +269,16 @@ listed_walk {p} {q} k first t rest others what before is kind read w =
     let literal : Walk p q (placed_literal (record { span = t.span; what = plain_kind k }) ++ placed_mark Comma) = subst (λ (s : List PlacedToken). Walk p q s) (listed_is k t.span) plain_one in
     subst (λ (m : LiteralKind). Walk p q (placed_literal (record { span = t.span; what = m }) ++ placed_mark Comma)) (sym kind) literal
 
+kind_listed : (k : Plain) (before after : List TokenValue) → before ≡ plain_token k ∷ (Marked Comma ∷ after) → IsListed (bare_literal_kind (plain_kind k)) before after
+kind_listed (plains.Whole z) before after e = e
+kind_listed (plains.Truth b) before after e = e
+
+pub listed_read : {p q : Parser} (k : Plain) (first t : Token) (rest : List SpannedToken) (what : LiteralKind) → ahead p ≡ spanned first ∷ rest → lexeme first ≡ plain_token k → what ≡ plain_kind k
+    → lexemes p ≡ lexeme t ∷ (Marked Comma ∷ lexemes q) → IsListed (bare_literal_kind what) (lexemes p) (lexemes q)
+listed_read {p} {q} k first t rest what before is kind read =
+    let token : lexeme t ≡ plain_token k = same_first (ahead p) (spanned first) rest (lexeme t) (Marked Comma ∷ lexemes q) before read ∙ is in
+    subst (λ (m : LiteralKind). IsListed (bare_literal_kind m) (lexemes p) (lexemes q)) (sym kind) (kind_listed k (lexemes p) (lexemes q) (read ∙ ap (λ (u : TokenValue). u ∷ (Marked Comma ∷ lexemes q)) token))
+
 -- ---- lists
 
 flat_map_grown : {A : Type 0} (f : A → List PlacedToken) (front : List A) (x : A) → flat_map f (front ++ x ∷ []) ≡ flat_map f front ++ f x
@@ -265,6 +292,12 @@ walk_zero f {p} items none = subst (λ xs. Walk p p (flat_map f xs)) (sym none) 
 pub walk_more : {A : Type 0} (f : A → List PlacedToken) {p q r : Parser} (front items : List A) (x : A) → items ≡ front ++ x ∷ [] → Walk p q (flat_map f front) → Walk q r (f x) → Walk p r (flat_map f items)
 walk_more f {p} {q} {r} front items x grew w v =
     subst (λ s. Walk p r s) (sym (ap (flat_map f) grew ∙ flat_map_grown f front x)) (walk_then w v)
+
+pub some_pushed : {A : Type 0} (front items : List A) (x : A) → items ≡ front ++ x ∷ [] → 0 < length items
+some_pushed {A} front items x grew =
+    let longer : length items ≡ length (front ++ x ∷ []) = ap length grew in
+    let both = length-append front (x ∷ []) in
+    omega (arith, longer, both)
 
 -- the first part of parts with commas between them
 pub separated_first : {A : Type 0} (f : A → List PlacedToken) {p q : Parser} (made items : List A) (x : A) → made ≡ [] → items ≡ made ++ x ∷ [] → Walk p q (f x) → Walk p q (placed_separated f items)
@@ -329,4 +362,8 @@ pub args_walk : {p q r s : Parser} (args : List NoteArg) → 0 < length args →
 args_walk {p} {q} {r} {s} args some opened w closed = subst (λ t. Walk p s t) (sym (args_are args some)) (walk_then opened (walk_then w closed))
 
 pub no_args_walk : {p q : Parser} (args : List NoteArg) → args ≡ [] → q ≡ p → Walk p q (placed_args (map placed_arg args))
-no_args_walk {p} {q} args none same = subst (λ (xs : List NoteArg). Walk p q (placed_args (map placed_arg xs))) (sym none) (walk_still same)
+no_args_walk {p} {q} args none same = subst (λ (xs : List NoteArg). Walk p q (placed_args (map placed_arg xs))) (sym none) (walk_same same)
+
+-- a list among them
+pub note_list_walk : {p q r : Parser} (bs : List NoteBasic) → Walk p q (placed_mark OpenBracket) → Walk q r (placed_separated placed_note_basic bs ++ placed_mark CloseBracket) → Walk p r (placed_between OpenBracket CloseBracket (placed_parts (map placed_note_basic bs)))
+note_list_walk {p} {q} {r} bs opened w = subst (λ s. Walk p r (placed_between OpenBracket CloseBracket s)) (sym (parts_are placed_note_basic bs)) (walk_then opened w)

@@ -157,7 +157,7 @@ impl<'a> Parser<'a> {
     }
 
     #[inline(always)]
-    #[tactic(auto, unfolding(crate::specs::Reading::mark_at), using(crate::proofs::Walks::passed_then, crate::proofs::Walks::passed_none, crate::proofs::Walks::passed, crate::proofs::Errors::fails_unexpected))]
+    #[tactic(auto, unfolding(crate::specs::Reading::mark_at), using(crate::proofs::Walks::passed_then, crate::proofs::Walks::passed_none, crate::proofs::Walks::passed, crate::proofs::Walks::walk_none, crate::proofs::Errors::fails_unexpected))]
     pub(crate) fn expect(&mut self, mark: Mark) -> Result<(), Refusal>
         ensures read { Gives (λ _. tt) result (mark_at mark (lexemes self.old)) (lexemes self.new) }
         ensures shorter { length (lexemes self.new) ≤ length (lexemes self.old) }
@@ -171,7 +171,7 @@ impl<'a> Parser<'a> {
         }
     }
 
-    #[tactic(auto, unfolding(crate::specs::Reading::word_at), using(crate::proofs::Walks::passed_then, crate::proofs::Walks::passed_none, crate::proofs::Walks::passed, crate::proofs::Errors::fails_unexpected))]
+    #[tactic(auto, unfolding(crate::specs::Reading::word_at), using(crate::proofs::Walks::passed_then, crate::proofs::Walks::passed_none, crate::proofs::Walks::passed, crate::proofs::Walks::walk_none, crate::proofs::Errors::fails_unexpected))]
     pub(crate) fn expect_word(&mut self, word: &[u8]) -> Result<(), Refusal>
         ensures read { Gives (λ _. tt) result (word_at word.now (lexemes self.old)) (lexemes self.new) }
         ensures shorter { length (lexemes self.new) ≤ length (lexemes self.old) }
@@ -202,7 +202,7 @@ impl<'a> Parser<'a> {
     }
 
     #[inline(always)]
-    #[tactic(auto, unfolding(crate::specs::Reading::name_at), using(crate::proofs::Walks::passed_then, crate::proofs::Walks::passed_none, crate::proofs::Walks::passed, crate::proofs::Errors::fails_unexpected))]
+    #[tactic(auto, unfolding(crate::specs::Reading::name_at), using(crate::proofs::Walks::passed_then, crate::proofs::Walks::passed_none, crate::proofs::Walks::passed, crate::proofs::Walks::walk_none, crate::proofs::Errors::fails_unexpected))]
     pub(crate) fn name(&mut self) -> Result<Name<'a>, Refusal>
         ensures read { Gives bare_name result (name_at (lexemes self.old)) (lexemes self.new) }
         ensures shorter { length (lexemes self.new) ≤ length (lexemes self.old) }
@@ -222,7 +222,7 @@ impl<'a> Parser<'a> {
     }
 
     #[inline(always)]
-    #[tactic(auto, unfolding(crate::specs::Reading::whole_at), using(crate::proofs::Walks::passed_then, crate::proofs::Walks::passed_none, crate::proofs::Walks::passed, crate::proofs::Errors::fails_unexpected))]
+    #[tactic(auto, unfolding(crate::specs::Reading::whole_at), using(crate::proofs::Walks::passed_then, crate::proofs::Walks::passed_none, crate::proofs::Walks::passed, crate::proofs::Walks::walk_none, crate::proofs::Errors::fails_unexpected))]
     pub(crate) fn whole(&mut self) -> Result<i64, Refusal>
         ensures read { Gives (λ n. n) result (whole_at (lexemes self.old)) (lexemes self.new) }
         ensures shorter { length (lexemes self.new) ≤ length (lexemes self.old) }

@@ -1,6 +1,6 @@
 //! Literals, names and lists of them.
 
-ghost use Rattle.std.specs.Prelude.{◌≡◌, ◌<◌, ◌≤◌, ◌∷◌, ◌++◌, length, IfOk, IfSome, IfNone};
+ghost use Rattle.std.specs.Prelude.{◌≡◌, ◌<◌, ◌≤◌, ◌∷◌, ◌++◌, length, IfOk, IfSome, IfNone, []};
 ghost use Rattle.fz_syntax.specs.View.{lexeme, bare_literal, bare_expression, bare_expressions, bare_expr};
 ghost use Rattle.fz_syntax.specs.Outcome.{Gives, IsListed};
 ghost use Rattle.fz_syntax.specs.Reading.{mark_at, whole_at, is_whole, begins_literal, begins_basic, at_most, separated_at, braces_at, from_whole, literal_at, basic_at, expr_list_at, expr_at, list_at, literal_basic_at};
@@ -25,7 +25,7 @@ impl<'a> Parser<'a> {
         ensures end { self.new.end ≡ self.old.end }
         ensures walked { IfSome result (λ t. Walk self.old self.new (placed_listed (lexeme t) t.span)) }
         ensures kept { IfNone result (lexemes self.new ≡ lexemes self.old) }
-        ensures stays { IfNone result (Passed self.old self.new) }
+        ensures stays { IfNone result (Walk self.old self.new []) }
     {
         match self.tokens.take_listed() {
             Some(listed) => {
@@ -45,7 +45,7 @@ impl<'a> Parser<'a> {
         ensures end { self.new.end ≡ self.old.end }
         ensures walked { IfSome result (λ l. Walk self.old self.new (placed_literal l ++ placed_mark Comma)) }
         ensures kept { IfNone result (lexemes self.new ≡ lexemes self.old) }
-        ensures stays { IfNone result (Passed self.old self.new) }
+        ensures stays { IfNone result (Walk self.old self.new []) }
     {
         let first = self.tokens.first()?;
         let plain = plain_of(&first)?;
@@ -111,7 +111,7 @@ impl<'a> Parser<'a> {
     }
 
     /// Numbers behind the brace that opened at `start`.
-    #[tactic(auto, unfolding(crate::specs::Reading::braces_at, crate::specs::Reading::list_at, crate::specs::Reading::mark_at), using(crate::proofs::Walks::passed_then, crate::proofs::Walks::passed_none, crate::proofs::Walks::passed, crate::proofs::Errors::fails_unexpected, crate::proofs::Separated::fails_bind))]
+    #[tactic(auto, unfolding(crate::specs::Reading::braces_at, crate::specs::Reading::list_at, crate::specs::Reading::mark_at), using(crate::proofs::Walks::passed_then, crate::proofs::Walks::passed_none, crate::proofs::Walks::passed, crate::proofs::Walks::walk_none, crate::proofs::Errors::fails_unexpected, crate::proofs::Separated::fails_bind))]
     pub(crate) fn braces(&mut self, start: usize) -> Result<Literal, Refusal>
         ensures read { Gives (bare_literal) result (braces_at the_limits (lexemes self.old)) (lexemes self.new) }
         ensures shorter { length (lexemes self.new) ≤ length (lexemes self.old) }
@@ -134,7 +134,7 @@ impl<'a> Parser<'a> {
     }
 
     #[inline(always)]
-    #[tactic(auto, unfolding(crate::specs::Reading::from_whole), using(crate::proofs::Walks::passed_then, crate::proofs::Walks::passed_none, crate::proofs::Walks::passed, crate::proofs::Errors::fails_unexpected, crate::proofs::Separated::fails_bind))]
+    #[tactic(auto, unfolding(crate::specs::Reading::from_whole), using(crate::proofs::Walks::passed_then, crate::proofs::Walks::passed_none, crate::proofs::Walks::passed, crate::proofs::Walks::walk_none, crate::proofs::Errors::fails_unexpected, crate::proofs::Separated::fails_bind))]
     pub(crate) fn from_whole(&mut self, low: i64, start: usize) -> Result<Literal, Refusal>
         ensures read { Gives (bare_literal) result (from_whole low (lexemes self.old)) (lexemes self.new) }
         ensures shorter { length (lexemes self.new) ≤ length (lexemes self.old) }
@@ -157,7 +157,7 @@ impl<'a> Parser<'a> {
 
     /// A literal whose first token starts at `start`.
     #[inline(always)]
-    #[tactic(auto, unfolding(crate::specs::Reading::literal_at), using(crate::proofs::Walks::passed_then, crate::proofs::Walks::passed_none, crate::proofs::Walks::passed, crate::proofs::Errors::fails_unexpected, crate::proofs::Separated::fails_bind))]
+    #[tactic(auto, unfolding(crate::specs::Reading::literal_at), using(crate::proofs::Walks::passed_then, crate::proofs::Walks::passed_none, crate::proofs::Walks::passed, crate::proofs::Walks::walk_none, crate::proofs::Errors::fails_unexpected, crate::proofs::Separated::fails_bind))]
     fn literal_from(&mut self, start: usize) -> Result<Literal, Refusal>
         ensures read { Gives (bare_literal) result (literal_at the_limits (lexemes self.old)) (lexemes self.new) }
         ensures shorter { length (lexemes self.new) ≤ length (lexemes self.old) }
@@ -197,7 +197,7 @@ impl<'a> Parser<'a> {
     }
 
     #[inline(always)]
-    #[tactic(auto, unfolding(crate::specs::Reading::basic_at), using(crate::proofs::Walks::passed_then, crate::proofs::Walks::passed_none, crate::proofs::Walks::passed, crate::proofs::Errors::fails_unexpected, crate::proofs::Separated::fails_bind))]
+    #[tactic(auto, unfolding(crate::specs::Reading::basic_at), using(crate::proofs::Walks::passed_then, crate::proofs::Walks::passed_none, crate::proofs::Walks::passed, crate::proofs::Walks::walk_none, crate::proofs::Errors::fails_unexpected, crate::proofs::Separated::fails_bind))]
     pub(crate) fn basic(&mut self) -> Result<Basic<'a>, Refusal>
         ensures read { Gives (bare_expression) result (basic_at the_limits (lexemes self.old)) (lexemes self.new) }
         ensures shorter { length (lexemes self.new) ≤ length (lexemes self.old) }
@@ -242,7 +242,7 @@ impl<'a> Parser<'a> {
     }
 
     /// A list's elements behind the bracket that opens it.
-    #[tactic(auto, unfolding(crate::specs::Reading::expr_list_at, crate::specs::Reading::list_at, crate::specs::Reading::mark_at), using(crate::proofs::Walks::passed_then, crate::proofs::Walks::passed_none, crate::proofs::Walks::passed, crate::proofs::Errors::fails_unexpected, crate::proofs::Separated::fails_bind))]
+    #[tactic(auto, unfolding(crate::specs::Reading::expr_list_at, crate::specs::Reading::list_at, crate::specs::Reading::mark_at), using(crate::proofs::Walks::passed_then, crate::proofs::Walks::passed_none, crate::proofs::Walks::passed, crate::proofs::Walks::walk_none, crate::proofs::Errors::fails_unexpected, crate::proofs::Separated::fails_bind))]
     pub(crate) fn expr_list(&mut self) -> Result<Vec<Basic<'a>>, Refusal>
         ensures read { Gives (λ v. bare_expressions v.items) result (expr_list_at the_limits (lexemes self.old)) (lexemes self.new) }
         ensures shorter { length (lexemes self.new) ≤ length (lexemes self.old) }
@@ -258,7 +258,7 @@ impl<'a> Parser<'a> {
     }
 
     #[inline(always)]
-    #[tactic(auto, unfolding(crate::specs::Reading::expr_at), using(crate::proofs::Walks::passed_then, crate::proofs::Walks::passed_none, crate::proofs::Walks::passed, crate::proofs::Errors::fails_unexpected, crate::proofs::Separated::fails_bind))]
+    #[tactic(auto, unfolding(crate::specs::Reading::expr_at), using(crate::proofs::Walks::passed_then, crate::proofs::Walks::passed_none, crate::proofs::Walks::passed, crate::proofs::Walks::walk_none, crate::proofs::Errors::fails_unexpected, crate::proofs::Separated::fails_bind))]
     pub(crate) fn expr(&mut self) -> Result<Expr<'a>, Refusal>
         ensures read { Gives (bare_expr) result (expr_at the_limits (lexemes self.old)) (lexemes self.new) }
         ensures shorter { length (lexemes self.new) ≤ length (lexemes self.old) }
@@ -272,7 +272,7 @@ impl<'a> Parser<'a> {
         }
     }
 
-    #[tactic(auto, unfolding(crate::specs::Reading::literal_basic_at), using(crate::proofs::Walks::passed_then, crate::proofs::Walks::passed_none, crate::proofs::Walks::passed, crate::proofs::Errors::fails_unexpected, crate::proofs::Separated::fails_bind))]
+    #[tactic(auto, unfolding(crate::specs::Reading::literal_basic_at), using(crate::proofs::Walks::passed_then, crate::proofs::Walks::passed_none, crate::proofs::Walks::passed, crate::proofs::Walks::walk_none, crate::proofs::Errors::fails_unexpected, crate::proofs::Separated::fails_bind))]
     pub(crate) fn literal_basic(&mut self) -> Result<Basic<'a>, Refusal>
         ensures read { Gives (bare_expression) result (literal_basic_at the_limits (lexemes self.old)) (lexemes self.new) }
         ensures shorter { length (lexemes self.new) ≤ length (lexemes self.old) }
@@ -311,7 +311,7 @@ impl<'a> Parser<'a> {
     }
 
     /// A list's literals behind the bracket that opens it.
-    #[tactic(auto, unfolding(crate::specs::Reading::list_at, crate::specs::Reading::mark_at), using(crate::proofs::Walks::passed_then, crate::proofs::Walks::passed_none, crate::proofs::Walks::passed, crate::proofs::Errors::fails_unexpected, crate::proofs::Separated::fails_bind))]
+    #[tactic(auto, unfolding(crate::specs::Reading::list_at, crate::specs::Reading::mark_at), using(crate::proofs::Walks::passed_then, crate::proofs::Walks::passed_none, crate::proofs::Walks::passed, crate::proofs::Walks::walk_none, crate::proofs::Errors::fails_unexpected, crate::proofs::Separated::fails_bind))]
     pub(crate) fn literal_list(&mut self) -> Result<Vec<Basic<'a>>, Refusal>
         ensures read { Gives (λ v. bare_expressions v.items) result (list_at CloseBracket (at_most the_limits.elements begins_literal (literal_basic_at the_limits)) (lexemes self.old)) (lexemes self.new) }
         ensures shorter { length (lexemes self.new) ≤ length (lexemes self.old) }

@@ -39,7 +39,7 @@ impl<'a> Parser<'a> {
         }
     }
 
-    #[tactic(auto, unfolding(crate::specs::ReadingItems::index_set_at), using(crate::proofs::Walks::passed_then, crate::proofs::Walks::passed_none, crate::proofs::Walks::passed, crate::proofs::Errors::fails_unexpected, crate::proofs::Separated::fails_bind))]
+    #[tactic(auto, unfolding(crate::specs::ReadingItems::index_set_at), using(crate::proofs::Walks::passed_then, crate::proofs::Walks::passed_none, crate::proofs::Walks::passed, crate::proofs::Walks::walk_none, crate::proofs::Errors::fails_unexpected, crate::proofs::Separated::fails_bind))]
     fn index_set(&mut self) -> Result<Literal, Refusal>
         ensures read { Gives bare_literal result (index_set_at the_limits (lexemes self.old)) (lexemes self.new) }
         ensures shorter { length (lexemes self.new) ≤ length (lexemes self.old) }
@@ -102,7 +102,7 @@ impl<'a> Parser<'a> {
     }
 
     /// An array's elements behind the bracket that opens them.
-    #[tactic(auto, unfolding(crate::specs::ReadingItems::elements_at, crate::specs::Reading::list_at, crate::specs::Reading::mark_at), using(crate::proofs::Walks::passed_then, crate::proofs::Walks::passed_none, crate::proofs::Walks::passed, crate::proofs::Errors::fails_unexpected, crate::proofs::Separated::fails_bind))]
+    #[tactic(auto, unfolding(crate::specs::ReadingItems::elements_at, crate::specs::Reading::list_at, crate::specs::Reading::mark_at), using(crate::proofs::Walks::passed_then, crate::proofs::Walks::passed_none, crate::proofs::Walks::passed, crate::proofs::Walks::walk_none, crate::proofs::Errors::fails_unexpected, crate::proofs::Separated::fails_bind))]
     fn elements(&mut self) -> Result<Vec<Literal>, Refusal>
         ensures read { Gives (λ v. map bare_literal v.items) result (elements_at the_limits (lexemes self.old)) (lexemes self.new) }
         ensures shorter { length (lexemes self.new) ≤ length (lexemes self.old) }
@@ -118,7 +118,7 @@ impl<'a> Parser<'a> {
     }
 
     /// An array behind its word, which says how many index sets it has.
-    #[tactic(auto, unfolding(crate::specs::ReadingItems::printed_array_at), using(crate::proofs::Walks::passed_then, crate::proofs::Walks::passed_none, crate::proofs::Walks::passed, crate::proofs::Errors::fails_unexpected, crate::proofs::Separated::fails_bind))]
+    #[tactic(auto, unfolding(crate::specs::ReadingItems::printed_array_at), using(crate::proofs::Walks::passed_then, crate::proofs::Walks::passed_none, crate::proofs::Walks::passed, crate::proofs::Walks::walk_none, crate::proofs::Errors::fails_unexpected, crate::proofs::Separated::fails_bind))]
     fn printed_array(&mut self, dimensions: usize) -> Result<PrintedValue, Refusal>
         ensures read { Gives bare_printed_value result (printed_array_at the_limits dimensions (lexemes self.old)) (lexemes self.new) }
         ensures shorter { length (lexemes self.new) ≤ length (lexemes self.old) }
@@ -134,7 +134,7 @@ impl<'a> Parser<'a> {
         Ok(PrintedValue::Array { indexes, elements })
     }
 
-    #[tactic(auto, unfolding(crate::specs::ReadingItems::printed_value_at), using(crate::proofs::Walks::passed_then, crate::proofs::Walks::passed_none, crate::proofs::Walks::passed, crate::proofs::Errors::fails_unexpected, crate::proofs::Separated::fails_bind))]
+    #[tactic(auto, unfolding(crate::specs::ReadingItems::printed_value_at), using(crate::proofs::Walks::passed_then, crate::proofs::Walks::passed_none, crate::proofs::Walks::passed, crate::proofs::Walks::walk_none, crate::proofs::Errors::fails_unexpected, crate::proofs::Separated::fails_bind))]
     fn printed_value(&mut self) -> Result<PrintedValue, Refusal>
         ensures read { Gives bare_printed_value result (printed_value_at the_limits (lexemes self.old)) (lexemes self.new) }
         ensures shorter { length (lexemes self.new) ≤ length (lexemes self.old) }
@@ -149,7 +149,7 @@ impl<'a> Parser<'a> {
         }
     }
 
-    #[tactic(auto, unfolding(crate::specs::ReadingItems::printed_at), using(crate::proofs::Walks::passed_then, crate::proofs::Walks::passed_none, crate::proofs::Walks::passed, crate::proofs::Errors::fails_unexpected, crate::proofs::Separated::fails_bind))]
+    #[tactic(auto, unfolding(crate::specs::ReadingItems::printed_at), using(crate::proofs::Walks::passed_then, crate::proofs::Walks::passed_none, crate::proofs::Walks::passed, crate::proofs::Walks::walk_none, crate::proofs::Errors::fails_unexpected, crate::proofs::Separated::fails_bind))]
     fn printed(&mut self) -> Result<Printed<'a>, Refusal>
         ensures read { Gives bare_printed result (printed_at the_limits (lexemes self.old)) (lexemes self.new) }
         ensures shorter { length (lexemes self.new) ≤ length (lexemes self.old) }

@@ -58,7 +58,7 @@ impl<'a> Parser<'a> {
         Ok(trimmed(self.alloc, items))
     }
 
-    #[tactic(auto, unfolding(crate::specs::Reading::tree_at), using(crate::proofs::Walks::passed_then, crate::proofs::Walks::passed_none, crate::proofs::Walks::passed, crate::proofs::Errors::fails_unexpected, crate::proofs::Separated::fails_bind))]
+    #[tactic(auto, unfolding(crate::specs::Reading::tree_at), using(crate::proofs::Walks::passed_then, crate::proofs::Walks::passed_none, crate::proofs::Walks::passed, crate::proofs::Walks::walk_none, crate::proofs::Errors::fails_unexpected, crate::proofs::Separated::fails_bind))]
     pub(crate) fn tree(&mut self) -> Result<Ast<'a>, Refusal>
         ensures read { Gives (bare) result (tree_at the_limits (lexemes self.old)) (lexemes self.new) }
         ensures shorter { length (lexemes self.new) ≤ length (lexemes self.old) }
