@@ -80,8 +80,8 @@ fits_skip s g = fits_then (fits_plain s) g
 pub fits_end : {s : List PlacedToken} {a : List Spot} → Fits s a → (t : List PlacedToken) → Fits (s ++ t) a
 fits_end {s} {a} f t = subst (λ (x : List Spot). Fits (s ++ t) x) (append-nil a) (fits_then f (fits_plain t))
 
-pub fits_between : {s : List PlacedToken} {a : List Spot} (open close : Mark) → Fits s a → Fits (placed_between open close s) a
-fits_between open close f = fits_skip (placed_mark open) (fits_end f (placed_mark close))
+pub fits_between : {s : List PlacedToken} {a : List Spot} (opening closing : Mark) → Fits s a → Fits (placed_between opening closing s) a
+fits_between opening closing f = fits_skip (placed_mark opening) (fits_end f (placed_mark closing))
 
 pub fits_each : {A : Type 0} (f : A → List PlacedToken) (g : A → List Spot) → ((x : A) → Fits (f x) (g x)) → (xs : List A) → Fits (flat_map f xs) (flat_map g xs)
 fits_each f g each [] = fits_plain []

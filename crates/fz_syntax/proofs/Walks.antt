@@ -80,9 +80,9 @@ pub passed_still : (p q : Parser) → ahead q ≡ ahead p → q.reached ≡ p.re
 passed_still p q left upto same = record { taken = []; on = consumed_none p q left upto same }
 
 -- the same of what a method gave
-pub passed_on : {X : Type 0} {p q r : Parser} (result : Result X Refusal) → Passed p q → IfOk result (λ x. Passed q r) → IfOk result (λ x. Passed p r)
-passed_on (Ok x) a b = passed_then a b
-passed_on (Err e) a b = tt
+pub passed_on : {X : Type 0} (p q r : Parser) (result : Result X Refusal) → Passed p q → IfOk result (λ x. Passed q r) → IfOk result (λ x. Passed p r)
+passed_on p q r (Ok x) a b = passed_then a b
+passed_on p q r (Err e) a b = tt
 
 -- ---- and their places
 
@@ -192,10 +192,10 @@ array_word_walk {p} {q} n some found left w =
     let before : lexemes p ≡ word (array_word (next_dimensions (lexemes p))) ++ lexemes q = (array_tokens (lexemes p) there).0 ∙ ap (λ (ts : List TokenValue). Word (array_word (next_dimensions (lexemes p))) ∷ ts) (sym behind) in
     subst (λ (k : ℕ). Walk p q (placed_word (array_word k))) (sym found) (plain_walk (word (array_word (next_dimensions (lexemes p)))) w before)
 
-pub array_walk : {p q r : Parser} (n : ℕ) (result : Result PrintedValue Refusal) → Walk p q (placed_word (array_word n)) → IfOk result (λ v. placed_printed_value v ≡ placed_word (array_word n) ++ drop 1 (placed_printed_value v))
+pub array_walk : {p q : Parser} (r : Parser) (n : ℕ) (result : Result PrintedValue Refusal) → Walk p q (placed_word (array_word n)) → IfOk result (λ v. placed_printed_value v ≡ placed_word (array_word n) ++ drop 1 (placed_printed_value v))
     → IfOk result (λ v. Walk q r (drop 1 (placed_printed_value v))) → IfOk result (λ v. Walk p r (placed_printed_value v))
-array_walk {p} {q} {r} n (Ok v) w worded behind = subst (λ (s : List PlacedToken). Walk p r s) (sym worded) (walk_then w behind)
-array_walk n (Err e) w worded behind = tt
+array_walk {p} {q} r n (Ok v) w worded behind = subst (λ (s : List PlacedToken). Walk p r s) (sym worded) (walk_then w behind)
+array_walk r n (Err e) w worded behind = tt
 
 -- ---- names
 
@@ -241,10 +241,10 @@ literal_walk {p} {q} l w tokens at upto =
       agree = starts l.span.start p.end (ending_at l.span.end s) v.taken (ahead q) (at ∙ ap (λ (ts : List SpannedToken). start_of ts p.end) v.on.split) (ends l.span.end p.reached s v.taken (upto ∙ v.on.upto) v.agree);
     }
 
-pub read_literal : {p q : Parser} (Is : tree.Literal → Type 0) (read : Reader tree.Literal) → Takes literal_toks Is read → (result : Result Literal Refusal) (start : ℕ) → Gives bare_literal result (read (lexemes p)) (lexemes q) → start ≡ start_of (ahead p) p.end
+pub read_literal : (p q : Parser) (Is : tree.Literal → Type 0) (read : Reader tree.Literal) → Takes literal_toks Is read → (result : Result Literal Refusal) (start : ℕ) → Gives bare_literal result (read (lexemes p)) (lexemes q) → start ≡ start_of (ahead p) p.end
     → IfOk result (λ l. Passed p q) → IfOk result (λ l. (l.span.start ≡ start) × (l.span.end ≡ q.reached)) → IfOk result (λ l. Walk p q (placed_literal l))
-read_literal {p} {q} Is read takes (Ok l) start given at w span = literal_walk l w (takes (lexemes p) (bare_literal l, lexemes q) given).parts (span.0 ∙ at) span.1
-read_literal Is read takes (Err e) start given at w span = tt
+read_literal p q Is read takes (Ok l) start given at w span = literal_walk l w (takes (lexemes p) (bare_literal l, lexemes q) given).parts (span.0 ∙ at) span.1
+read_literal p q Is read takes (Err e) start given at w span = tt
 
 -- the first two tokens are taken, a literal of one token and the comma behind it
 pub listed_pair : (p q : Parser) (l : Listed) → ahead p ≡ spanned l.token ∷ (listed_comma l ∷ ahead q) → q.reached ≡ l.comma.end → source_of q.tokens ≡ source_of p.tokens → Walk p q (placed_listed (lexeme l.token) l.token.span)
@@ -273,9 +273,9 @@ kind_listed : (k : Plain) (before after : List TokenValue) → before ≡ plain_
 kind_listed (plains.Whole z) before after e = e
 kind_listed (plains.Truth b) before after e = e
 
-pub listed_read : {p q : Parser} (k : Plain) (first t : Token) (rest : List SpannedToken) (what : LiteralKind) → ahead p ≡ spanned first ∷ rest → lexeme first ≡ plain_token k → what ≡ plain_kind k
+pub listed_read : (p q : Parser) (k : Plain) (first t : Token) (rest : List SpannedToken) (what : LiteralKind) → ahead p ≡ spanned first ∷ rest → lexeme first ≡ plain_token k → what ≡ plain_kind k
     → lexemes p ≡ lexeme t ∷ (Marked Comma ∷ lexemes q) → IsListed (bare_literal_kind what) (lexemes p) (lexemes q)
-listed_read {p} {q} k first t rest what before is kind read =
+listed_read p q k first t rest what before is kind read =
     let token : lexeme t ≡ plain_token k = same_first (ahead p) (spanned first) rest (lexeme t) (Marked Comma ∷ lexemes q) before read ∙ is in
     subst (λ (m : LiteralKind). IsListed (bare_literal_kind m) (lexemes p) (lexemes q)) (sym kind) (kind_listed k (lexemes p) (lexemes q) (read ∙ ap (λ (u : TokenValue). u ∷ (Marked Comma ∷ lexemes q)) token))
 

@@ -80,7 +80,7 @@ placed_separated placed [] = []
 placed_separated placed (x ∷ xs) = placed x ++ flat_map (λ y. unplaced (Marked Comma) ∷ placed y) xs
 
 abbrev pub placed_between : Mark → Mark → List PlacedToken → List PlacedToken
-placed_between open close inside = unplaced (Marked open) ∷ (inside ++ placed_mark close)
+placed_between opening closing inside = unplaced (Marked opening) ∷ (inside ++ placed_mark closing)
 
 -- ---- expressions
 

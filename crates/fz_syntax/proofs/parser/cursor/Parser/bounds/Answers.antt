@@ -6,4 +6,4 @@ use Rattle.fz_syntax.proofs.parser.cursor.Parser.bounds.Goals as goal
 
 pub returns-clause-walked : goal.returns-clause-walked
 returns-clause-walked c =
-    read_literal (IsBounds the_limits) (bounds_at the_limits) (bounds_takes the_limits) c.bounds_from.result c.place-start.result.start c.bounds_from.ensures.read c.place-start.ensures.start c.bounds_from.ensures.walked c.bounds_from.ensures.span
+    read_literal _ _ (IsBounds the_limits) (bounds_at the_limits) (bounds_takes the_limits) c.bounds_from.result c.place-start.result.start c.bounds_from.ensures.read c.place-start.ensures.start c.bounds_from.ensures.walked c.bounds_from.ensures.span

@@ -6,4 +6,4 @@ use Rattle.fz_syntax.proofs.parser.cursor.Parser.literal.Goals as goal
 
 pub returns-clause-walked : goal.returns-clause-walked
 returns-clause-walked c =
-    read_literal (IsLiteral the_limits) (literal_at the_limits) (literal_takes the_limits) c.literal_from.result c.place-start.result.start c.literal_from.ensures.read c.place-start.ensures.start c.literal_from.ensures.walked c.literal_from.ensures.span
+    read_literal _ _ (IsLiteral the_limits) (literal_at the_limits) (literal_takes the_limits) c.literal_from.result c.place-start.result.start c.literal_from.ensures.read c.place-start.ensures.start c.literal_from.ensures.walked c.literal_from.ensures.span

@@ -54,3 +54,8 @@ numbers-preserved c =
       same_end = c.eat.ensures.end ∙ c.in_ok-number.ensures.end ∙ end ∙ c.listed.invariant.same_end;
       walked = passed_then (passed_then (passed_then c.listed.invariant.walked stays) c.in_ok-number.ensures.walked) c.eat.ensures.walked;
     }
+
+pub returns-then-not-eat-clause-walked : goal.returns-then-not-eat-clause-walked
+returns-then-not-eat-clause-walked c =
+    let stays : Passed c.listed.self c.listed-test.self = elim c.listed-test.branch [ else-listed-test w ↦ subst (λ p. Passed c.listed.self p) (sym w.self-is) passed_none | then-listed-test+in_default w ↦ subst (λ p. Passed c.listed.self p) (sym w.self-is) w.in_default.ensures.walked ] in
+    passed_then (passed_then (passed_then c.listed.invariant.walked stays) c.in_ok-number.ensures.walked) c.eat.ensures.walked
