@@ -13,7 +13,6 @@ use Rattle.fz_syntax.specs.Spots.{Spot, note_spots, arg_spots, note_basic_spots,
 use Rattle.fz_syntax.specs.Placed.{PlacedToken, unplaced, placed_mark, placed_parts, placed_args, placed_arg, placed_note_basic, placed_note, placed_arg_layer, placed_note_basic_layer, placed_note_layer}
 use Rattle.fz_syntax.proofs.Fits.{Fits, fits_plain, fits_then, fits_skip, fits_between, fits_name, fits_literal}
 
-
 commas_fit : {A : Type 0} (f : A → List PlacedToken) (g : A → List Spot) (es : List ((x : A) × Fits (f x) (g x))) → Fits (flat_map (λ part. unplaced (Marked Comma) ∷ part) (map f (map (λ e. e.0) es))) (flat_map (λ part. part) (map g (map (λ e. e.0) es)))
 commas_fit f g [] = fits_plain []
 commas_fit f g (e ∷ es) = fits_then (fits_skip (placed_mark Comma) e.1) (commas_fit f g es)
