@@ -1,16 +1,8 @@
 -- Lines are those of one list of parts.
 use Rattle.std.proofs.Common.{◌≡◌, ℕ, ◌+◌, List, [], ◌∷◌, ◌++◌, length, map, Ok, refl, sym, ap, ◌∙◌, subst, append_assoc}
 use Rattle.std.specs.List.{AllByRecursion}
-use Rattle.fz_lex.specs.Lexing.{SpannedToken}
-use Rattle.fz_lex.specs.Limits.{IsTextOfTokens}
-use Rattle.fz_lex.specs.Token.{TokenValue}
-use Rattle.fz_lex.proofs.Cuts.{cut_once}
-use Rattle.fz_syntax.specs.ReadingItems.{items_of}
-use Rattle.fz_syntax.specs.Shape.{the_limits}
 use Rattle.fz_syntax.specs.Text.{IsTextOfItems}
-use Rattle.fz_syntax.specs.Tokens.{itoks}
-use Rattle.fz_syntax.specs.Tree.{Printed}
-use Rattle.fz_syntax.proofs.PrintedLaws.{items_of_toks}
+use Rattle.fz_syntax.proofs.More.{one_list_of_items}
 use Rattle.fz_stream.specs.declared.line.ClaimKind.{ClaimKind}
 use Rattle.fz_stream.specs.declared.line.LineKind.TheVariants.{Marker, Claim}
 use Rattle.fz_stream.specs.Lines.{Line, joined, kind_of, lines_of, IsFiller}
@@ -18,25 +10,12 @@ use Rattle.fz_stream.specs.Parts.{SolutionBlock, StreamPart, BlockPart, ClaimPar
 use Rattle.fz_stream.proofs.PartLemmas.{EndAfter, end_after, IsPartOf, next_part, no_part, inner_from_filler, marker_closes, claim_closes}
 use Rattle.fz_stream.proofs.ReadingLemmas.{three}
 
--- a text is one of one list of tokens
-tokens_once : (text : List ℕ) (ts us : List TokenValue) → IsTextOfTokens text ts → IsTextOfTokens text us → ts ≡ us
-tokens_once text ts us (spanned, lexes, e) (others, lexes', f) = sym e ∙ ap (map (λ (t : SpannedToken). t.token)) (cut_once lexes.lexes lexes'.lexes) ∙ f
-
-same_items : (ts : List TokenValue) (items others : List Printed) → items_of the_limits ts ≡ Ok items → items_of the_limits ts ≡ Ok others → items ≡ others
-same_items ts items others e f = (let same : Ok items ≡ Ok others = sym e ∙ f in cc)
-
--- and of one list of items
-items_once : (text : List ℕ) (items others : List Printed) → IsTextOfItems text items → IsTextOfItems text others → items ≡ others
-items_once text items others t u =
-    let tokens : itoks items ≡ itoks others = tokens_once text (itoks items) (itoks others) t.lexes u.lexes in
-    same_items (itoks items) items others (items_of_toks the_limits items t.of_grammar) (ap (items_of the_limits) tokens ∙ items_of_toks the_limits others u.of_grammar)
-
 -- the part that these lines make is the block
 same_block : (start : ℕ) (gap body : List Line) (line : Line) (block : SolutionBlock) → kind_of line ≡ Marker → block.offset ≡ start + length (joined gap) → block.text ≡ joined body → IsBlockText block.text block.items
     → (other : StreamPart) → IsPartOf start gap body line other → other ≡ BlockPart block
 same_block start gap body line block marker offset text items (BlockPart b) is =
     let texts : b.text ≡ block.text = is.2 ∙ sym text in
-    ap BlockPart (three (is.1 ∙ sym offset) texts (items_once block.text b.items block.items (subst (λ t. IsTextOfItems t b.items) texts is.3.0) items.0))
+    ap BlockPart (three (is.1 ∙ sym offset) texts (one_list_of_items block.text b.items block.items (subst (λ t. IsTextOfItems t b.items) texts is.3.0) items.0))
 same_block start gap body line block marker offset text items (ClaimPart kind) is = absurd (let no : Marker ≡ Claim kind = sym marker ∙ is.0 in cc)
 
 -- or the claim
