@@ -93,19 +93,27 @@ def files(program):
     return tally
 
 
+def as_another():
+    """How to run a program as a user that may not read all, as the superuser may."""
+    return {"user": NOBODY, "group": NOBODY, "extra_groups": []} if os.getuid() == 0 else {}
+
+
 def no_leave(program):
-    """Files that the user may not read; the superuser may read all, so it runs this as another."""
+    """Files that the user may not read. Where no program can be run as another, nothing is tried."""
     tally = Tally()
     with tempfile.TemporaryDirectory() as folder:
         os.chmod(folder, 0o755)
         copies = [shutil.copy(path, folder) for path in (program, FIRST_MODEL, FIRST_STREAM)]
-        more = {"user": NOBODY, "group": NOBODY, "extra_groups": []} if os.getuid() == 0 else {}
+        words, more = [copies[0], "check", *copies[1:]], as_another()
+        try:
+            tally.expect("leave to read", run(words, **more).answer, ACCEPTED)
+        except PermissionError:
+            print("outside: files without leave to read were not tried: nothing runs as another here")
+            return tally
         for at in (1, 2):
             os.chmod(copies[at], 0)
-            ran = run([copies[0], "check", *copies[1:]], **more)
-            tally.expect(f"no leave to read {copies[at]}", ran.answer, READ)
+            tally.expect(f"no leave to read {copies[at]}", run(words, **more).answer, READ)
             os.chmod(copies[at], 0o644)
-        tally.expect("leave to read", run([copies[0], "check", *copies[1:]], **more).answer, ACCEPTED)
     return tally
 
 

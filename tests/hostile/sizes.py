@@ -14,6 +14,7 @@ from beside import FIRST_MODEL, content
 from running import FOLDER, Tally
 
 MOST_SECONDS = 2
+TRIES = 3  # of which the fastest counts, since another load on the machine only ever adds
 GIVE_UP = 30  # seconds of the processor
 TIMES = 10  # bytes of memory to each byte of the text
 LEAST_BYTES = 48_000_000  # what a run may take whatever it reads: Python, which starts it, counts too
@@ -152,6 +153,10 @@ def judged(program, sort, name, text, want, times=TIMES):
             "show": ["show", path],
         }
         answer, seconds, taken = measured(program, words[sort], text, path)
+        for _ in range(1, TRIES):
+            if seconds > MOST_SECONDS:
+                _, again, _ = measured(program, words[sort], text, path)
+                seconds = min(seconds, again)
         if want is None:
             want = 0, content(path), b""
     name = f"{sort}: {name}"
