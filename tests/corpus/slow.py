@@ -1,9 +1,11 @@
 #!/usr/bin/env python3
-"""A second reader of the rules: slow.py MODEL STREAM prints the report that docs/REPORT.md asks for.
+"""A second reader of the rules: slow.py MODEL STREAM prints the report that docs/REPORT.md asks
+for.
 
-It follows docs/LANGUAGE.md, BUILTINS.md, STREAM.md, FILLING.md and REPORT.md in the plainest way, shares
-nothing with the checker, and serves to work out reports. It leaves out the limits on the lengths of texts
-and lists. Sets are listed number by number, and large ones are not for it (TooLargeToList)."""
+It follows docs/LANGUAGE.md, BUILTINS.md, STREAM.md, FILLING.md and REPORT.md in the plainest way,
+shares nothing with the checker, and serves to work out reports. It leaves out the limits on the
+lengths of texts and lists. Sets are listed number by number, and large ones are not for it
+(TooLargeToList)."""
 import io
 import re
 import sys
@@ -283,7 +285,8 @@ class Reader:
         return elements
 
 
-# The table: kinds, the result's place (none: -1) and, from the other arguments, the result or whether it holds.
+# The table: kinds, the result's place (none: -1) and, from the other arguments, the result or
+# whether it holds.
 
 
 def quotient(a, b):
@@ -372,7 +375,8 @@ def same(a, b):
 
 
 class Row:
-    """A row: the kinds, the places that may be filled, whether it holds, and the value of a place."""
+    """A row: the kinds, the places that may be filled, whether it holds, and the value of a
+    place."""
 
     def __init__(self, name):
         base = name.removesuffix("_reif")

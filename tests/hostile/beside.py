@@ -41,8 +41,8 @@ def examples():
 
 
 def second(model, stream):
-    """The status, standard output and standard error that the second checker gives for two texts, or
-    none where a set is too large for it."""
+    """The status, standard output and standard error that the second checker gives for two texts,
+    or none where a set is too large for it."""
     lines = []
     try:
         for line in slow.report(model, stream):

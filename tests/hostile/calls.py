@@ -69,7 +69,8 @@ class Call:
 
     def refused(self, ample, given):
         """The name of the call that found no memory, where this may be told with one growth
-        refused and `ample` with ample memory. ENOUGH where all is told; none where it may not be."""
+        refused and `ample` with ample memory. ENOUGH where all is told; none where it may not
+        be."""
         parts = MEMORY.split(given)
         if len(parts) != 2:
             return ENOUGH if given == ample else None

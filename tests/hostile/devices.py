@@ -1,7 +1,8 @@
 """Reads and writes that fail, each in turn and after each number of bytes.
 
-A failed read is `refused: read`, with the lines of all parts that ended before it; a failed write, or one
-that takes nothing, is `refused: write`, with what was taken before. Both end with status 6."""
+A failed read is `refused: read`, with the lines of all parts that ended before it; a failed write,
+or one that takes nothing, is `refused: write`, with what was taken before. Both end with status
+6."""
 import itertools
 import tempfile
 
@@ -35,7 +36,8 @@ def improving(program, test):
 
 
 def failing_reads(words):
-    """One byte a read, and the kth read of the stream fails; then the same after k bytes in one read."""
+    """One byte a read, and the kth read of the stream fails; then the same after k bytes in one
+    read."""
     tally = Tally()
     before = len(IMPROVING_MODEL) + 1  # reads of the model, of which the last gives nothing
     pieces = {"REFUSE_PIECE": "1"}
@@ -61,7 +63,8 @@ def failing_writes(words):
         for more in ({}, {"REFUSE_NOTHING": "1"}, {"REFUSE_PIECE": "1"}):
             limits = {"REFUSE_WRITE": "1", "REFUSE_BYTES": str(k)} | more
             ran = run(words, IMPROVING_STREAM, limits)
-            want = (WRITE[0], IMPROVING_REPORT[:k], WRITE[1]) if k < size else (0, IMPROVING_REPORT, b"")
+            refused = WRITE[0], IMPROVING_REPORT[:k], WRITE[1]
+            want = refused if k < size else (0, IMPROVING_REPORT, b"")
             tally.expect(f"a writer of {k} bytes, {more}", ran.answer, want)
     return tally
 

@@ -1,4 +1,5 @@
-"""Every front of a stream and of a model: what a cut leaves is refused, or answered as it stands."""
+"""Every front of a stream and of a model: what a cut leaves is refused, or answered as it
+stands."""
 import os
 import tempfile
 
@@ -18,8 +19,8 @@ from running import FOLDER, Tally, run
 LINES = IMPROVING_REPORT.splitlines(True)
 PIECE = 400  # fronts that one job runs
 
-# What the first n bytes of the improving stream give: the last n of which it is true, the lines of parts
-# that are written, where the open block begins, or how many blocks are accepted.
+# What the first n bytes of the improving stream give: the last n of which it is true, the lines of
+# parts that are written, where the open block begins, or how many blocks are accepted.
 CUTS = (
     (0, 0, None, 0),
     (16, 0, 0, None),
@@ -32,7 +33,8 @@ CUTS = (
 
 
 def of_improving(n):
-    """The status, standard output and standard error on the first n bytes of the improving stream."""
+    """The status, standard output and standard error on the first n bytes of the improving
+    stream."""
     lines, opened, accepted = next(cut[1:] for cut in CUTS if n <= cut[0])
     written = b"".join(LINES[:lines])
     if opened is not None:

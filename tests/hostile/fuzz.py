@@ -3,8 +3,8 @@
 
     fuzz.py PROGRAM SECONDS [SEED]
 
-runs for so many seconds on all cores, prints each pair that differs and keeps its files. The same seed
-gives the same pairs."""
+runs for so many seconds on all cores, prints each pair that differs and keeps its files. The same
+seed gives the same pairs."""
 import itertools
 import json
 import os
@@ -26,21 +26,31 @@ CASES = os.path.join(ROOT, "tests", "broken", "cases.txt")
 SOLVE, MARKER = b"solve satisfy;\n", b"----------\n"
 TOKEN = re.compile(rb"[A-Za-z_0-9]+|-?[0-9]+|::|\.\.|\s+|.", re.DOTALL)
 SPICE = [
-    b"0", b"-1", b"1", b"2", b"3", b"true", b"false", b"{}", b"{1,2}", b"1..2", b"2..1", b"[", b"]", b"(", b")",
-    b"{", b"}", b",", b";", b":", b"::", b"..", b"=", b"-", b"%", b'"', b"\\", b"\0", b"\xff", b"\r", b"\n", b"\r\n",
-    b"----------\n", b"==========\n", b"=====UNKNOWN=====\n", b"% c\n", b"1.5", b"1e3", b"0x1F", b"-0o7", b"007",
-    b"9223372036854775807", b"-9223372036854775808", b"9223372036854775808", b"4611686018427387904", b"array1d(1..1,[1])",
-    b"x0", b"x1", b"x2", b"var", b"int", b"float", b"array", b"[1..2]", b"of", b" :: defines_var(x1)",
+    b"0", b"-1", b"1", b"2", b"3", b"true", b"false", b"{}", b"{1,2}", b"1..2", b"2..1", b"[",
+    b"]", b"(", b")",
+    b"{", b"}", b",", b";", b":", b"::", b"..", b"=", b"-", b"%", b'"', b"\\", b"\0", b"\xff",
+    b"\r", b"\n", b"\r\n",
+    b"----------\n", b"==========\n", b"=====UNKNOWN=====\n", b"% c\n", b"1.5", b"1e3", b"0x1F",
+    b"-0o7", b"007",
+    b"9223372036854775807", b"-9223372036854775808", b"9223372036854775808",
+    b"4611686018427387904", b"array1d(1..1,[1])",
+    b"x0", b"x1", b"x2", b"var", b"int", b"float", b"array", b"[1..2]", b"of",
+    b" :: defines_var(x1)",
 ]  # fmt: skip
 SCALARS = {"I": "int", "B": "bool", "S": "set of int"}
 WORTH = {  # literals, with their values
-    "I": {"0": 0, "1": 1, "2": 2, "3": 3, "-1": -1, "5": 5, "0x2": 2, "40": 40, "-9223372036854775808": -(2**63)},
+    "I": {"0": 0, "1": 1, "2": 2, "3": 3, "-1": -1, "5": 5, "0x2": 2, "40": 40,
+          "-9223372036854775808": -(2**63)},
     "B": {"true": True, "false": False},
-    "S": {"{}": (), "{1}": (1,), "{1,3}": (1, 3), "1..3": (1, 2, 3), "2..1": (), "{2,2,1}": (1, 2), "60..66": range(60, 67)},
+    "S": {"{}": (), "{1}": (1,), "{1,3}": (1, 3), "1..3": (1, 2, 3), "2..1": (),
+          "{2,2,1}": (1, 2), "60..66": range(60, 67)},
 }  # fmt: skip
 OFTEN = {"I": ["0", "1", "2", "3"], "B": ["true", "false"], "S": ["{1}", "{1,3}", "1..3"]}
-DOMAINS = {"0..3": range(4), "0..5": range(6), "{1,2,3}": range(1, 4), "2..2": [2], "int": range(-9, 99)}
-ROWS = {name: row[0].split() for name, row in (slow.RESULTS | slow.TESTS | slow.OTHER_TESTS | slow.EITHER).items()}
+DOMAINS = {
+    "0..3": range(4), "0..5": range(6), "{1,2,3}": range(1, 4), "2..2": [2], "int": range(-9, 99)
+}
+TABLE = slow.RESULTS | slow.TESTS | slow.OTHER_TESTS | slow.EITHER
+ROWS = {name: row[0].split() for name, row in TABLE.items()}
 
 
 def sources():
@@ -59,8 +69,8 @@ def sources():
 
 
 class Small:
-    """A small random model over the whole table, and blocks for it. A term is a text and its value; most
-    constraints hold under the values of the names."""
+    """A small random model over the whole table, and blocks for it. A term is a text and its
+    value; most constraints hold under the values of the names."""
 
     def __init__(self, rand):
         self.rand = rand
@@ -82,7 +92,8 @@ class Small:
 
     def scalar(self, kind):
         names = self.names[kind]
-        return self.rand.choice(names) if names and self.rand.random() < 0.75 else self.literal(kind)
+        is_name = names and self.rand.random() < 0.75
+        return self.rand.choice(names) if is_name else self.literal(kind)
 
     def list_of(self, one, kind, length):
         terms = [one(kind) for _ in range(length)]
@@ -128,7 +139,8 @@ class Small:
             return
         texts = ",".join(text for text, _ in args)
         targets = re.findall("x[0-9]", texts)
-        notes = f" :: defines_var({rand.choice(targets)})" if targets and rand.random() < 0.7 else ""
+        defines = targets and rand.random() < 0.7
+        notes = f" :: defines_var({rand.choice(targets)})" if defines else ""
         if rand.random() < 0.02:
             name = "other"
         self.items.append(f"constraint {name}({texts}){notes};")
@@ -176,7 +188,8 @@ def in_lines(text):
 
 
 def mutated(text, other, rand):
-    """The text with one change: bytes, tokens or lines dropped, doubled, exchanged, put in or cut off."""
+    """The text with one change: bytes, tokens or lines dropped, doubled, exchanged, put in or cut
+    off."""
     parts = rand.choice([TOKEN.findall, TOKEN.findall, in_lines, in_bytes])(text)
     at = rand.randint(0, len(parts))
     to = min(len(parts), at + rand.choice([1, 1, 1, 2, 5]))
@@ -221,7 +234,8 @@ def pair(rand, whole, broken):
 
 
 def in_pieces(words, stream, rand):
-    """Runs a program with a stream that comes in pieces of random sizes, each of which is one read."""
+    """Runs a program with a stream that comes in pieces of random sizes, each of which is one
+    read."""
     cuts = sorted(rand.randint(0, len(stream)) for _ in range(rand.randint(0, MOST_PIECES - 1)))
     source, to = os.pipe2(os.O_DIRECT | os.O_CLOEXEC)  # what is written at once is read at once
     for start, end in itertools.pairwise([0, *cuts, len(stream)]):

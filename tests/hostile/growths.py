@@ -1,14 +1,14 @@
 """Each growth of the program's memory refused in turn, by itself and with all that follow.
 
-Every run answers want of memory, or what it answers with ample memory; what it wrote before is a front of
-what it writes then."""
+Every run answers want of memory, or what it answers with ample memory; what it wrote before is a
+front of what it writes then."""
 import itertools
 
 from beside import CORPUS, FIRST_MODEL, FIRST_STREAM, content, examples, pairs
 from running import Tally, run
 
 WANT = 7, b"refused: memory\n"
-MOST_BYTES = 4_000  # of a model: those of the corpus that are longer have the same growths, more of them
+MOST_BYTES = 4_000  # of a model: longer ones of the corpus have the same growths, more of them
 
 
 def words_of_runs():

@@ -55,7 +55,8 @@ def full(program):
 
 
 def no_reader(program):
-    """A pipe that nobody reads is a write that fails: the program isn't ended by the signal of it."""
+    """A pipe that nobody reads is a write that fails: the program isn't ended by the signal of
+    it."""
     tally = Tally()
     for words in ("check", FIRST_MODEL, FIRST_STREAM), ("show", FIRST_MODEL):
         source, to = os.pipe()
@@ -99,7 +100,8 @@ def as_another():
 
 
 def no_leave(program):
-    """Files that the user may not read. Where no program can be run as another, nothing is tried."""
+    """Files that the user may not read. Where no program can be run as another, nothing is
+    tried."""
     tally = Tally()
     with tempfile.TemporaryDirectory() as folder:
         os.chmod(folder, 0o755)
@@ -108,7 +110,7 @@ def no_leave(program):
         try:
             tally.expect("leave to read", run(words, **more).answer, ACCEPTED)
         except PermissionError:
-            print("outside: files without leave to read were not tried: nothing runs as another here")
+            print("outside: files without leave to read weren't tried: nothing runs as another")
             return tally
         for at in (1, 2):
             os.chmod(copies[at], 0)

@@ -1,9 +1,9 @@
 #!/usr/bin/env python3
 """Runs a built program where it is used badly: run.py PROGRAM [CALLS]
 
-Memory that is refused, reads and writes that fail, cuts, texts at the limits, closed and full descriptors,
-little stack and memory, and random texts beside the second checker. CALLS is the program over the public
-calls, which calls.py runs. The last line is 'N passed, M failed'."""
+Memory that is refused, reads and writes that fail, cuts, texts at the limits, closed and full
+descriptors, little stack and memory, and random texts beside the second checker. CALLS is the
+program over the public calls, which calls.py runs. The last line is 'N passed, M failed'."""
 import os
 import sys
 import time
@@ -47,7 +47,8 @@ def main():
             for part in pool.starmap(job, list(jobs), chunksize=1):
                 tally.add(part)
             seconds = time.monotonic() - began
-            print(f"{name}: {tally.passed - before:,} checks passed, {seconds:.0f} seconds", flush=True)
+            passed = tally.passed - before
+            print(f"{name}: {passed:,} checks passed, {seconds:.0f} seconds", flush=True)
     if len(sys.argv) > 2:
         import calls
 

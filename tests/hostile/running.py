@@ -1,4 +1,5 @@
-"""How the runs in this folder start a program, with memory, reads and writes refused or not, and count."""
+"""How the runs in this folder start a program, with memory, reads and writes refused or not, and
+count."""
 import os
 import signal
 import subprocess
@@ -36,8 +37,8 @@ class Ran:
 
 
 def run(words, stdin=b"", env=None, limit=MOST_SECONDS, shared=SHARED, **more):
-    """Runs a program. `env` has what refuse.c reads, and only where it has something is that preloaded.
-    `stdin` is bytes, or a file or descriptor; `more` goes to subprocess."""
+    """Runs a program. `env` has what refuse.c reads, and only where it has something is that
+    preloaded. `stdin` is bytes, or a file or descriptor; `more` goes to subprocess."""
     if not env:
         return Ran(*given(words, stdin, None, limit, more))
     log, to = os.pipe()

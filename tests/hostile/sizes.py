@@ -1,9 +1,10 @@
-"""Texts at the limits and of the greatest length: the answer, within two seconds and ten times the bytes.
+"""Texts at the limits and of the greatest length: the answer, within two seconds and ten times the
+bytes.
 
-The seconds are the processor's, so that what else the machine does doesn't count. Where every second or
-third byte of a text is an element or a name of its own, more memory is taken, since an element takes some
-30 bytes in the tree and as many once more in the loaded model: such texts have a bound of their own, a
-little above what was measured."""
+The seconds are the processor's, so that what else the machine does doesn't count. Where every
+second or third byte of a text is an element or a name of its own, more memory is taken, since an
+element takes some 30 bytes in the tree and as many once more in the loaded model: such texts have
+a bound of their own, a little above what was measured."""
 import os
 import resource
 import subprocess
@@ -17,7 +18,7 @@ MOST_SECONDS = 2
 TRIES = 3  # of which the fastest counts, since another load on the machine only ever adds
 GIVE_UP = 30  # seconds of the processor
 TIMES = 10  # bytes of memory to each byte of the text
-LEAST_BYTES = 48_000_000  # what a run may take whatever it reads: Python, which starts it, counts too
+LEAST_BYTES = 48_000_000  # what any run may take: Python, which starts it, counts too
 MOST_BYTES = 16_777_216  # of a text
 MOST_ELEMENTS = 1_048_576
 MANY = 100_000  # parts of a stream
@@ -64,33 +65,40 @@ ACCEPTED = 0, SATISFIED, b""
 
 
 def models():
-    """A name, a text, what `check` gives on an empty stream, and how many times the bytes it may take."""
+    """A name, a text, what `check` gives on an empty stream, and how many times the bytes it may
+    take."""
     most, too_many = MOST_ELEMENTS, 2 * MOST_ELEMENTS
     yield "blanks", to_length(b"", b" ", SOLVE), NOTHING
-    yield "a byte too many", to_length(b"", b" ", SOLVE, MOST_BYTES + 1), refused("model", "TooLong")
+    too_long = to_length(b"", b" ", SOLVE, MOST_BYTES + 1)
+    yield "a byte too many", too_long, refused("model", "TooLong")
     yield "empty lines", to_length(b"", b"\n", SOLVE), NOTHING
     yield "one comment", to_length(b"%", b"x", b"\n" + SOLVE), NOTHING
     yield "many comments", to_length(b"", b"%\n", SOLVE), NOTHING
     yield "one name", to_length(b"var int: ", b"x", b";\n" + SOLVE), NOTHING
     yield "one string", to_length(b'solve :: a("', b"x", b'") satisfy;\n'), NOTHING
-    yield "one open string", to_length(b'solve :: a("', b"x", b""), refused("model", "BadByte", 11, 12)
+    open_string = to_length(b'solve :: a("', b"x", b"")
+    yield "one open string", open_string, refused("model", "BadByte", 11, 12)
     yield "one constraint's name", to_length(b"constraint ", b"x", b"();\n" + SOLVE), NOTHING
     yield "colons", to_length(b"solve ", b"::", b""), refused("model", "Syntax", 8, 10)
     yield "annotations", to_length(b"solve ", b"::a", b" satisfy;\n"), NOTHING, 21
     deep = 9 + 2 * 32
     deep = refused("model", "TooDeep", deep, deep + 1)
     yield "open parentheses", Filled(b"solve :: ", b"a(", 8_000_000), deep
-    yield "bare parentheses", to_length(b"solve :: a", b"(", b""), refused("model", "Syntax", 11, 12)
+    bare = to_length(b"solve :: a", b"(", b"")
+    yield "bare parentheses", bare, refused("model", "Syntax", 11, 12)
     yield "brackets", to_length(b"", b"[", b""), refused("model", "Syntax", 0, 1)
-    yield "nines", to_length(b"int: a = ", b"9", b";\n"), refused("model", "TooLarge", 9, MOST_BYTES - 2)
+    nines = to_length(b"int: a = ", b"9", b";\n")
+    yield "nines", nines, refused("model", "TooLarge", 9, MOST_BYTES - 2)
     yield "zeros", to_length(b"int: a = ", b"0", b"3;\n" + SOLVE), NOTHING
-    yield "a hundred nines", Filled(b"int: a = ", b"9", 100, b";\n"), refused("model", "TooLarge", 9, 109)
+    nines = Filled(b"int: a = ", b"9", 100, b";\n")
+    yield "a hundred nines", nines, refused("model", "TooLarge", 9, 109)
     yield "points", to_length(b"", b".", b""), refused("model", "Syntax", 0, 2)
     listed = Filled(b"constraint p([", b"1,", most - 1, b"1]);\n" + SOLVE)
     yield "a list", listed, NOTHING, 52
     one_more = 14 + too_many
     one_more = refused("model", "TooMany", one_more, one_more + 1)
-    yield "an element too many", Filled(b"constraint p([", b"1,", most, b"1]);\n" + SOLVE), one_more, 32
+    listed = Filled(b"constraint p([", b"1,", most, b"1]);\n" + SOLVE)
+    yield "an element too many", listed, one_more, 32
     yield "a number too many", Filled(b"constraint p({", b"1,", most, b"1});\n" + SOLVE), one_more
     yield "a set", Filled(b"constraint p({", b"1,", most - 1, b"1});\n" + SOLVE), NOTHING
     yield "lists", to_length(b"", b"constraint p([1,2,3,4,5,6,7,8,9]);\n", SOLVE), NOTHING, 36
@@ -101,7 +109,8 @@ def models():
 
 def streams():
     """A name, a text, what `check` gives on it against a model with one number x from 1 to 5."""
-    yield "a line that is held", Filled(b"", b"x", MOST_BYTES), refused("stream", "Unfinished", 0, MOST_BYTES)
+    held = Filled(b"", b"x", MOST_BYTES)
+    yield "a line that is held", held, refused("stream", "Unfinished", 0, MOST_BYTES)
     yield "a byte too many", Filled(b"", b"x", MOST_BYTES + 1), refused("stream", "TooLong")
     block = b"x = 3;\n----------\n"
     yield "a comment in a block", to_length(b"x = 3;%", b"x", b"\n----------\n"), ACCEPTED
@@ -118,7 +127,8 @@ def streams():
     yield "an element too many", listed, one_more, 28
     listed = Filled(b"x =".ljust(17) + b"{", b"1,", most, b"1};\n----------\n")
     yield "a number too many", listed, one_more
-    yield "a hundred nines", Filled(b"x = ", b"9", 100, b";\n----------\n"), refused("stream", "TooLarge", 4, 104)
+    nines = Filled(b"x = ", b"9", 100, b";\n----------\n")
+    yield "a hundred nines", nines, refused("stream", "TooLarge", 4, 104)
     yield "a hundred zeros", Filled(b"x = ", b"0", 100, b"3;\n----------\n"), ACCEPTED
     yield "zeros", to_length(b"x = ", b"0", b"3;\n----------\n"), ACCEPTED
     yield "a float", Filled(b"x = 1.5;\n", b"-", 10, b"\n"), refused("stream", "Float", 4, 7)
@@ -130,7 +140,8 @@ def streams():
 
 
 def measured(program, words, text, path):
-    """Runs the program; its status, standard output and standard error, its seconds and its bytes."""
+    """Runs the program; its status, standard output and standard error, its seconds and its
+    bytes."""
     text.write(path)
     out, err = path + ".out", path + ".err"
     with open(out, "wb") as to, open(err, "wb") as told:

@@ -54,8 +54,8 @@ impl Write for Narrow {
 }
 
 /// Checks a stream against a model. The words behind their files are the most bytes of a read, how
-/// many reads there are before one fails, how many bytes the writer takes, whether it fails then (1)
-/// or takes nothing (0), and the bound on the reads, where there is one.
+/// many reads there are before one fails, how many bytes the writer takes, whether it fails then
+/// (1) or takes nothing (0), and the bound on the reads, where there is one.
 pub fn make_call(rt: &HostRuntime, operands: &[String]) -> Option<()> {
     let model = file(rt, operands, 0)?;
     let stream = file(rt, operands, 1)?;
