@@ -21,7 +21,7 @@ use Rattle.fz_live.specs.of_judge.declared.verdict.Verdict as the_verdict
 use Rattle.fz_live.specs.of_judge.View.{verdict_view}
 use Rattle.fz_live.specs.declared.line.Answer as the_answer
 use Rattle.fz_live.specs.declared.line.Answer.TheVariants as answers
-use Rattle.fz_check.specs.Headline.{HasSolutions, IsOfStream}
+use Rattle.fz_check.specs.Headline.{HasSolutions}
 use Rattle.fz_live.specs.View.{answer_view}
 
 -- an accepted stream has solutions
@@ -50,18 +50,6 @@ accepted_solved model stream a m text sound is bs cs read rs judged answer answe
 -- there is one verdict for each block that was read
 one_each : (m : Model) (bs : List the_block.Block) (rs : List the_verdict.Verdict) → AreVerdicts m (map located_block bs) (map verdict_view rs) → length rs ≡ length bs
 one_each m bs rs judged = sym (length-map rs verdict_view) ∙ sym (judged_lengths m (IsFilled m) judged) ∙ length-map bs located_block
-
--- the verdicts are those of the stream
-pub of_stream : (m : Model) (stream : List ℕ) (bs : List the_block.Block) (cs : List Claim) → IsReadAs stream (map block_of bs) cs
-    → (rs : List the_verdict.Verdict) → AreVerdicts m (map located_block bs) (map verdict_view rs) → (answer : the_answer.Answer) → answer_view answer ≡ answer_of (map verdict_view rs)
-    → IsOfStream stream (map verdict_view rs) cs (answer_view answer)
-of_stream m stream bs cs read rs judged answer answers_to = record {
-  parts = read.parts;
-  text_of_stream = read.text;
-  one_each = length-map rs verdict_view ∙ one_each m bs rs judged ∙ sym (length-map bs block_of) ∙ ap length read.blocks_are;
-  claims_are = read.claims_are;
-  answer_is = answers_to;
-}
 
 -- claims in the order of the blocks are in the order of the verdicts
 pub in_order : (m : Model) (bs : List the_block.Block) (rs : List the_verdict.Verdict) (cs : List Claim) (n k : ℕ) → AreVerdicts m (map located_block bs) (map verdict_view rs) → n ≡ length bs → k ≡ length rs

@@ -5,3 +5,4 @@ pub mod Reporting
 pub mod ReportLines
 pub mod Refusals
 pub mod OverLemmas
+pub mod Showing

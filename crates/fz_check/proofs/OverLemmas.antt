@@ -13,11 +13,9 @@ use Rattle.fz_model.specs.declared.ModelError.{ModelError}
 use Rattle.fz_model.proofs.Places.{located_is_bare}
 use Rattle.fz_model.proofs.Scope.{sound_aims}
 use Rattle.fz_verdict.specs.Verdict.{IsFilled, AreVerdicts}
-use Rattle.fz_verdict.specs.Verdict.Verdict.{Violated}
 use Rattle.fz_verdict.specs.Report.{IsReport}
 use Rattle.fz_verdict.specs.View.{located_block}
 use Rattle.fz_verdict.proofs.Accepted.{accepted_solves, judged_weaker}
-use Rattle.fz_verdict.proofs.Each.{each_violated, each_not_better}
 use Rattle.fz_verdict.proofs.Start.{filling_proposed}
 use Rattle.fz_live.specs.of_judge.declared.error.BlockError.{BlockError}
 use Rattle.fz_live.specs.declared.error.LiveError.{LiveError}
@@ -31,6 +29,7 @@ use Rattle.fz_check.specs.Headline.{HasSolutions}
 use Rattle.fz_check.specs.Loading.{live_refusal}
 use Rattle.fz_check.specs.Over.{HoldsOfModel, HoldsOfStream, IsOfModel, IsReportedTo}
 use Rattle.fz_check.specs.Reported.{Checked}
+use Rattle.fz_check.proofs.Reporting.{borne_out}
 
 module _ (model : List ℕ) (a : the_ast.Ast) (m : Model) (text : IsTextOfTree model (bare a)) (sound : HasNoFault (located a)) (is : m ≡ model_of (located a)) where
   -- what holds of the model holds of the model of the text
@@ -85,12 +84,10 @@ module _ (model : List ℕ) (a : the_ast.Ast) (m : Model) (text : IsTextOfTree m
       end = w.end;
       holds = record {
         report = w.report;
-        has_report = record { checked = checked_over; is_report = subst (λ n. IsReport n (map located_block w.blocks) w.parts w.report) is w.is_report };
-        violated = record {
+        has_report = record {
           checked = checked_over;
-          violated = λ i block f at found other. each_violated (model_of (located a)) (map located_block w.blocks) w.report.verdicts i block f here at found (λ now earlier e. other (now, earlier, e));
-          not_better = λ i block f at found (now, before, e).
-              each_not_better (model_of (located a)) (map located_block w.blocks) w.report.verdicts i block now before here at (found ∙ ap (λ g. Some (Violated g)) e);
+          is_report = subst (λ n. IsReport n (map located_block w.blocks) w.parts w.report) is w.is_report;
+          borne_out = borne_out (located a) (map located_block w.blocks) w.report.verdicts sound here;
         };
         writes = w.writes;
         answer_is = w.answer_is;

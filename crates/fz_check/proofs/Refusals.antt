@@ -1,5 +1,6 @@
 -- Of which step a refusal tells.
-use Rattle.std.proofs.Common.{◌≡◌, ◌≢◌, ◌∙◌, ℕ, ◌≤◌, ◌<◌, List, [], ◌∷◌, length, map, refl, sym, subst, arith, Result, Ok, Err}
+use Rattle.std.proofs.Common.{◌≡◌, ◌≢◌, ◌∙◌, ℕ, ◌≤◌, ◌<◌, List, [], ◌∷◌, length, map, refl, sym, subst, arith, ⊎_elim, Result, Ok, Err}
+use Rattle.std.proofs.lemmas.Bool.{cases_lt}
 use Rattle.std.specs.List.{AllByRecursion}
 use Rattle.std.specs.Result.{IsErrAnd}
 use Rattle.fz_syntax.specs.SyntaxError.{SyntaxError}
@@ -8,23 +9,26 @@ use Rattle.fz_model.specs.declared.ModelError.{ModelError}
 use Rattle.fz_model.specs.declared.ModelError.TheVariants as names
 use Rattle.fz_syntax.specs.Limits.{most_bytes}
 use Rattle.fz_syntax.specs.Spots.{Stand, spots}
-use Rattle.fz_syntax.specs.Text.{IsTextOfTree}
+use Rattle.fz_syntax.specs.Places.{IsPlacedWithin}
+use Rattle.fz_syntax.specs.Text.{IsTextOfTree, IsRefusalOf, IsValue}
+use Rattle.fz_syntax.specs.Tree.{Tree}
 use Rattle.fz_syntax.specs.View.{bare}
 use Rattle.fz_syntax.specs.declared.tree.Ast as the_ast
 use Rattle.fz_stream.specs.declared.block.Block as the_block
 use Rattle.fz_stream.specs.declared.error.StreamError.{StreamError}
 use Rattle.fz_stream.specs.declared.error.StreamError.TheVariants as stream
 use Rattle.fz_stream.specs.declared.reading.Claim.{Claim}
+use Rattle.fz_stream.specs.Faults.{IsStreamFault}
 use Rattle.fz_stream.specs.Found.{EndsWithin, HasPlaces, IsReadAs, block_of}
 use Rattle.fz_stream.specs.Parts.{StreamPart, IsStreamText}
-use Rattle.fz_stream.specs.Telling.{StopsAfter}
+use Rattle.fz_stream.specs.Broken.{StopsAfter}
 use Rattle.fz_model.specs.Meaning.{Model}
 use Rattle.fz_model.specs.Names.{HasNoFault, IsInReadingOrder, model_of}
 use Rattle.fz_model.specs.View.{TellsFirstFault, located}
 use Rattle.fz_model.proofs.Reading.{in_reading_order}
 use Rattle.fz_live.specs.of_judge.declared.error.BlockError.{BlockError}
 use Rattle.fz_check.proofs.Reporting.{checked}
-use Rattle.fz_check.specs.Refused.{HasBlockFault, HasNameFault, HasStreamFault, IsFirstFault}
+use Rattle.fz_check.specs.Refused.{HasBlockFault, HasNameFault, HasStreamFault, HasTextFault, IsBroken, IsFirstFault}
 use Rattle.fz_check.specs.declared.error.CheckError.{CheckError}
 use Rattle.fz_check.specs.declared.error.CheckError.TheVariants as errors
 use Rattle.std.specs.Prelude.{IfErr}
@@ -84,6 +88,26 @@ told_stream (stream.Unfinished s) f h = let same : stream.Unfinished s ≡ f = c
 told_stream stream.Failed f h = let same : stream.Failed ≡ f = cc in (same, λ m. cc)
 told_stream stream.Memory f h = cc
 
+-- ---- texts
+
+-- a fault but want of memory is told only where there is no tree
+no_tree_where : (e : SyntaxError) (t : Tree) → (e ≡ syntax.Memory → ⊥) → IsValue {X = the_ast.Ast} bare (Err e) t → ⊥
+no_tree_where syntax.TooLong t known h = h
+no_tree_where (syntax.BadByte s) t known h = h
+no_tree_where (syntax.TooLarge s) t known h = h
+no_tree_where (syntax.Float s) t known h = h
+no_tree_where (syntax.Syntax s) t known h = h
+no_tree_where (syntax.TooDeep s) t known h = h
+no_tree_where (syntax.TooMany s) t known h = h
+no_tree_where syntax.Memory t known h = known refl
+
+pub text_fault_on : (model : List ℕ) (e f : SyntaxError) → ((t : Tree) → IsTextOfTree model t → IsValue {X = the_ast.Ast} bare (Err e) t) → (e ≡ syntax.TooLong → most_bytes < length model) → (most_bytes < length model → e ≡ syntax.TooLong)
+    → IsRefusalOf model e → IsPlacedWithin (length model) e → text_refusal e ≡ errors.Model f → HasTextFault model f
+text_fault_on model e f only long too_long order place same =
+    let told = told_text e f same in
+    let known : e ≡ syntax.Memory → ⊥ = λ m. told.1 (sym told.0 ∙ m) in
+    subst (HasTextFault model) told.0 (record { no_tree = λ t text. no_tree_where e t known (only t text); too_long = (long, too_long); order = order; place = place; not_memory = known })
+
 -- ---- names
 
 pub name_fault_on : (model : List ℕ) (a : the_ast.Ast) (e : ModelError) → IsTextOfTree model (bare a) → Stand model 0 (length model) (spots a)
@@ -98,23 +122,39 @@ name_fault_on model a e text stands told = record {
 
 -- ---- streams
 
--- what a fault of a stream is, by the clauses that tell of it
-stream_fault_is : (bytes : List ℕ) (e : StreamError) → (e ≡ stream.TooLong → most_bytes < length bytes)
+broken_by : (bytes : List ℕ) (e : StreamError) → e ≢ stream.Memory → e ≢ stream.TooLong → (e ≢ stream.TooLong → length bytes ≤ most_bytes)
     → (e ≢ stream.Memory → e ≢ stream.TooLong → (parts : List StreamPart) → IsStreamText bytes parts → ⊥)
-    → (e ≢ stream.Memory → e ≢ stream.TooLong → (parts : List StreamPart) × StopsAfter bytes parts e) → (e ≡ stream.Memory → ⊥) → HasStreamFault bytes e
-stream_fault_is bytes stream.TooLong long none stops other = long refl
-stream_fault_is bytes stream.Memory long none stops other = other refl
-stream_fault_is bytes (stream.Item s) long none stops other = let (before, stopped) = stops (λ m. cc) (λ m. cc) in record { no_parts = none (λ m. cc) (λ m. cc); before = before; stops = stopped }
-stream_fault_is bytes (stream.DuplicateName s) long none stops other = let (before, stopped) = stops (λ m. cc) (λ m. cc) in record { no_parts = none (λ m. cc) (λ m. cc); before = before; stops = stopped }
-stream_fault_is bytes (stream.Unfinished s) long none stops other = let (before, stopped) = stops (λ m. cc) (λ m. cc) in record { no_parts = none (λ m. cc) (λ m. cc); before = before; stops = stopped }
-stream_fault_is bytes stream.Failed long none stops other = let (before, stopped) = stops (λ m. cc) (λ m. cc) in record { no_parts = none (λ m. cc) (λ m. cc); before = before; stops = stopped }
+    → (e ≢ stream.Memory → e ≢ stream.TooLong → (parts : List StreamPart) × StopsAfter bytes parts e) → IsStreamFault e → IsBroken bytes e
+broken_by bytes e memory long short none stops fault =
+    let (before, stopped) = stops memory long in
+    record { short = short long; no_parts = none memory long; before = before; stops = stopped; fault = fault }
 
-pub stream_fault_on : (bytes : List ℕ) (e f : StreamError) → (e ≡ stream.TooLong → most_bytes < length bytes)
+-- what a fault of a stream is, by the clauses that tell of it
+stream_fault_is : (bytes : List ℕ) (e : StreamError) → (e ≡ stream.TooLong → most_bytes < length bytes) → (e ≢ stream.TooLong → length bytes ≤ most_bytes)
     → (e ≢ stream.Memory → e ≢ stream.TooLong → (parts : List StreamPart) → IsStreamText bytes parts → ⊥)
-    → (e ≢ stream.Memory → e ≢ stream.TooLong → (parts : List StreamPart) × StopsAfter bytes parts e) → stream_refusal e ≡ errors.Stream f → HasStreamFault bytes f
-stream_fault_on bytes e f long none stops same =
+    → (e ≢ stream.Memory → e ≢ stream.TooLong → (parts : List StreamPart) × StopsAfter bytes parts e) → IsStreamFault e → (e ≡ stream.Memory → ⊥) → HasStreamFault bytes e
+stream_fault_is bytes stream.TooLong long short none stops fault other = long refl
+stream_fault_is bytes stream.Memory long short none stops fault other = other refl
+stream_fault_is bytes (stream.Item s) long short none stops fault other = broken_by bytes (stream.Item s) (λ m. cc) (λ m. cc) short none stops fault
+stream_fault_is bytes (stream.DuplicateName s) long short none stops fault other = broken_by bytes (stream.DuplicateName s) (λ m. cc) (λ m. cc) short none stops fault
+stream_fault_is bytes (stream.Unfinished s) long short none stops fault other = broken_by bytes (stream.Unfinished s) (λ m. cc) (λ m. cc) short none stops fault
+stream_fault_is bytes stream.Failed long short none stops fault other = absurd fault
+
+-- bytes that aren't refused as too many are not
+short_of : (n most : ℕ) → (most < n → ⊥) → n ≤ most
+short_of n most long = ⊎_elim (λ l. absurd (long l)) (λ h. omega (arith, h)) (cases_lt most n)
+
+pub stream_fault_on : (bytes : List ℕ) (e f : StreamError) → (e ≡ stream.TooLong → most_bytes < length bytes) → (most_bytes < length bytes → e ≡ stream.TooLong)
+    → (e ≢ stream.Memory → e ≢ stream.TooLong → (parts : List StreamPart) → IsStreamText bytes parts → ⊥)
+    → (e ≢ stream.Memory → e ≢ stream.TooLong → (parts : List StreamPart) × StopsAfter bytes parts e) → IsStreamFault e → stream_refusal e ≡ errors.Stream f → HasStreamFault bytes f
+stream_fault_on bytes e f long too_long none stops fault same =
     let told = told_stream e f same in
-    subst (HasStreamFault bytes) told.0 (stream_fault_is bytes e long none stops (λ m. told.1 (sym told.0 ∙ m)))
+    subst (HasStreamFault bytes) told.0
+    (stream_fault_is bytes e long (λ other. short_of (length bytes) most_bytes (λ l. other (too_long l))) none stops fault (λ m. told.1 (sym told.0 ∙ m)))
+
+-- what is read is not too long
+pub short_read : {A : Type 0} (n : ℕ) (found : A) → (most_bytes < n → Ok found ≡ Err stream.TooLong) → n ≤ most_bytes
+short_read n found long = short_of n most_bytes (λ l. let no : Ok found ≡ Err stream.TooLong = long l in cc)
 
 -- what ends within so many bytes ends within more
 pub ends_within : (n most : ℕ) → n ≤ most → (bs : List the_block.Block) → AllByRecursion (EndsWithin n) bs → AllByRecursion (EndsWithin most) bs
@@ -124,8 +164,9 @@ ends_within n most less (b ∷ bs) h = (omega (arith, h.0, less), ends_within n 
 -- ---- blocks
 
 pub block_fault_on : (model bytes : List ℕ) (a : the_ast.Ast) (m : Model) (text : IsTextOfTree model (bare a)) (sound : HasNoFault (located a)) → m ≡ model_of (located a)
-    → (bs : List the_block.Block) (cs : List Claim) (read : IsReadAs bytes (map block_of bs) cs) (places : AllByRecursion HasPlaces bs) (n : ℕ) (e : BlockError) → IsFirstFault m bs n e → HasBlockFault model bytes n e
-block_fault_on model bytes a m text sound is bs cs read places n e first = record {
+    → (bs : List the_block.Block) (cs : List Claim) (read : IsReadAs bytes (map block_of bs) cs) (places : AllByRecursion HasPlaces bs) → length bytes ≤ most_bytes → (n : ℕ) (e : BlockError) → IsFirstFault m bs n e → HasBlockFault model bytes n e
+block_fault_on model bytes a m text sound is bs cs read places short n e first = record {
+  short = short;
   checked = checked model bytes a text sound bs cs read places;
   first = subst (λ k. IsFirstFault k bs n e) is first;
 }

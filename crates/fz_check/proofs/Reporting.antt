@@ -1,4 +1,4 @@
--- What the report of a stream is, and that what it calls violated has no solution.
+-- What the report of a stream is, and that its verdicts are borne out.
 use Rattle.std.proofs.Common.{◌≡◌, ℕ, List, map, Some, sym, ap, ◌∙◌, subst}
 use Rattle.std.specs.List.{AllByRecursion}
 use Rattle.fz_syntax.specs.Text.{IsTextOfTree}
@@ -7,19 +7,21 @@ use Rattle.fz_syntax.specs.declared.tree.Ast as the_ast
 use Rattle.fz_stream.specs.declared.block.Block as the_block
 use Rattle.fz_stream.specs.declared.reading.Claim.{Claim}
 use Rattle.fz_stream.specs.Found.{HasPlaces, IsReadAs, block_of}
+use Rattle.fz_model.specs.Located.{LocatedTree}
 use Rattle.fz_model.specs.Meaning.{Model}
 use Rattle.fz_model.specs.Names.{HasNoFault, model_of}
 use Rattle.fz_model.specs.View.{located}
 use Rattle.fz_model.proofs.Places.{located_is_bare}
-use Rattle.fz_verdict.specs.Verdict.{AreVerdicts, answer_of}
+use Rattle.fz_verdict.specs.Blocks.{Block}
+use Rattle.fz_verdict.specs.Verdict.{Verdict, AreVerdicts, answer_of}
 use Rattle.fz_verdict.specs.Verdict.Verdict.{Violated}
 use Rattle.fz_verdict.specs.View.{located_block}
-use Rattle.fz_verdict.proofs.Each.{each_violated, each_not_better}
+use Rattle.fz_verdict.proofs.Each.{each_satisfied, each_violated, each_not_better}
 use Rattle.fz_verdict.proofs.Places.{blocks_are_bare}
 use Rattle.fz_live.specs.of_judge.declared.verdict.Verdict as the_verdict
 use Rattle.fz_live.specs.of_judge.View.{verdict_view}
 use Rattle.fz_live.specs.declared.line.Answer as the_answer
-use Rattle.fz_check.specs.Reported.{Checked, HasReport, HasNoneWhereViolated}
+use Rattle.fz_check.specs.Reported.{Checked, HasReport, AreBorneOut}
 use Rattle.fz_live.specs.View.{answer_view}
 
 abbrev pub checked : (model stream : List ℕ) (a : the_ast.Ast) → IsTextOfTree model (bare a) → HasNoFault (located a)
@@ -35,6 +37,14 @@ checked model stream a text sound bs cs read places = record {
   places = places;
 }
 
+-- what the verdicts say of solutions is so
+pub borne_out : (t : LocatedTree) (blocks : List Block) (vs : List Verdict) → HasNoFault t → AreVerdicts (model_of t) blocks vs → AreBorneOut (model_of t) blocks vs
+borne_out t blocks vs sound are = record {
+  satisfied = λ i block at found. each_satisfied t blocks vs i block sound are at found;
+  violated = λ i block f at found other. each_violated (model_of t) blocks vs i block f are at found (λ now earlier e. other (now, earlier, e));
+  not_better = λ i block f at found (now, before, e). each_not_better (model_of t) blocks vs i block now before are at (found ∙ ap (λ g. Some (Violated g)) e);
+}
+
 module _ (model stream : List ℕ) (a : the_ast.Ast) (m : Model) (text : IsTextOfTree model (bare a)) (sound : HasNoFault (located a)) (is : m ≡ model_of (located a)) (bs : List the_block.Block) (cs : List Claim) (read : IsReadAs stream (map block_of bs) cs) (places : AllByRecursion HasPlaces bs) (rs : List the_verdict.Verdict) (judged : AreVerdicts m (map located_block bs) (map verdict_view rs)) where
   are : AreVerdicts (model_of (located a)) (map located_block bs) (map verdict_view rs)
   are = subst (λ n. AreVerdicts n (map located_block bs) (map verdict_view rs)) is judged
@@ -44,13 +54,5 @@ module _ (model stream : List ℕ) (a : the_ast.Ast) (m : Model) (text : IsTextO
   reported answer answers_to = record {
     checked = checked model stream a text sound bs cs read places;
     is_report = record { of_parts = blocks_are_bare bs ∙ read.blocks_are; are_verdicts = are; claims = read.claims_are; answers = answers_to };
-  }
-
-  -- what is violated has no solution
-  pub none_where_violated : HasNoneWhereViolated model stream (map verdict_view rs)
-  none_where_violated = record {
-    checked = checked model stream a text sound bs cs read places;
-    violated = λ i block f at found other. each_violated (model_of (located a)) (map located_block bs) (map verdict_view rs) i block f are at found (λ now earlier e. other (now, earlier, e));
-    not_better = λ i block f at found (now, before, e).
-        each_not_better (model_of (located a)) (map located_block bs) (map verdict_view rs) i block now before are at (found ∙ ap (λ g. Some (Violated g)) e);
+    borne_out = borne_out (located a) (map located_block bs) (map verdict_view rs) sound are;
   }

@@ -2,12 +2,10 @@
 use Rattle.std.specs.Prelude.{◌≡◌, ℕ, ◌≤◌, List, length, map}
 use Rattle.fz_syntax.specs.Text.{IsTextOfTree}
 use Rattle.fz_stream.specs.Parts.{StreamPart, IsStreamText}
-use Rattle.fz_stream.specs.Found.{blocks_in, claims_in}
+use Rattle.fz_stream.specs.Found.{blocks_in}
 use Rattle.fz_model.specs.Located.{LocatedTree, bare_of}
 use Rattle.fz_model.specs.Names.{HasNoFault}
 use Rattle.fz_verdict.specs.Blocks.{Block, bare_of_block}
-use Rattle.fz_stream.specs.declared.reading.Claim.{Claim}
-use Rattle.fz_verdict.specs.Verdict.{Verdict, Answer, answer_of}
 use Rattle.fz_verdict.specs.Headline.{HaveSolutions}
 
 -- The model's bytes are a text of a tree without faults; the stream's bytes are a text of parts, of which so many are blocks, at least
@@ -24,12 +22,3 @@ pub record HasSolutions (model stream : List ℕ) (count : ℕ) : Type 0 where
   pub counted : length blocks ≡ count
   pub at_least_one : 1 ≤ count
   pub solutions : HaveSolutions tree blocks
-
--- The verdicts and claims are those of the stream: its bytes are a text of parts, with one verdict for each block, these claims, and the
--- answer that follows from the verdicts.
-pub record IsOfStream (stream : List ℕ) (verdicts : List Verdict) (claims : List Claim) (answer : Answer) : Type 0 where
-  pub parts : List StreamPart
-  pub text_of_stream : IsStreamText stream parts
-  pub one_each : length verdicts ≡ length (blocks_in parts)
-  pub claims_are : claims ≡ claims_in 0 parts
-  pub answer_is : answer ≡ answer_of verdicts

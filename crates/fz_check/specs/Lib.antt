@@ -5,6 +5,7 @@ pub mod Loading
 pub mod Headline
 pub mod Refused
 pub mod Reported
+pub mod Shown
 pub mod Sought
 pub mod Lines
 pub mod Over

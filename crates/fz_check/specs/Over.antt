@@ -10,7 +10,11 @@ use Rattle.fz_verdict.specs.Report.{Report, report_bytes}
 use Rattle.fz_verdict.specs.Verdict.{Answer}
 use Rattle.fz_check.specs.declared.error.CheckError.{CheckError}
 use Rattle.fz_check.specs.declared.error.CheckError.TheVariants as errors
-use Rattle.fz_check.specs.Reported.{HasReport, HasNoneWhereViolated}
+use Rattle.fz_check.specs.Reported.{HasReport}
+
+-- the most reads of a stream
+abbrev pub most_reads : ℕ
+most_reads = 4294967296
 
 -- The reader gave these bytes up to its end, and this holds of them.
 pub record HoldsOfStream (left left' : Option (List ℕ)) (Holds : List ℕ → Type 0) : Type 0 where
@@ -19,12 +23,10 @@ pub record HoldsOfStream (left left' : Option (List ℕ)) (Holds : List ℕ → 
   pub end : IsAtEnd left'
   pub holds : Holds given
 
--- The writer got the text of the report on these bytes, and nothing else; where it says violated there is no solution; and the answer is
--- the report's.
+-- The writer got the text of the report on these bytes, and nothing else, and the answer is the report's.
 pub record IsReportedTo (model given : List ℕ) (written written' : Option (List ℕ)) (answer : Answer) : Type 0 where
   pub report : Report
   pub has_report : HasReport model given report
-  pub violated : HasNoneWhereViolated model given report.verdicts
   pub writes : Appends written written' (report_bytes report)
   pub answer_is : answer ≡ report.answer
 

@@ -1,13 +1,18 @@
 -- What a refusal says (this project's profile).
-use Rattle.std.specs.Prelude.{◌≡◌, ◌≢◌, ℕ, ◌+◌, ◌<◌, List, ◌∷◌, ◌++◌, length, None}
+use Rattle.std.specs.Prelude.{◌≡◌, ◌≢◌, ◌↔◌, ℕ, ◌+◌, ◌<◌, ◌≤◌, List, ◌∷◌, ◌++◌, length, None}
 use Rattle.std.specs.List.{AllByRecursion}
 use Rattle.fz_syntax.specs.Limits.{most_bytes}
+use Rattle.fz_syntax.specs.Places.{IsPlacedWithin}
 use Rattle.fz_syntax.specs.Spots.{Stand, spots}
-use Rattle.fz_syntax.specs.Text.{IsTextOfTree}
+use Rattle.fz_syntax.specs.SyntaxError.{SyntaxError}
+use Rattle.fz_syntax.specs.SyntaxError.TheVariants.{TooLong as TextTooLong, Memory as TextMemory}
+use Rattle.fz_syntax.specs.Text.{IsTextOfTree, IsRefusalOf}
+use Rattle.fz_syntax.specs.Tree.{Tree}
 use Rattle.fz_syntax.specs.View.{bare}
 use Rattle.fz_syntax.specs.declared.tree.Ast.{Ast}
+use Rattle.fz_stream.specs.Broken.{StopsAfter}
+use Rattle.fz_stream.specs.Faults.{IsStreamFault}
 use Rattle.fz_stream.specs.Parts.{StreamPart, IsStreamText}
-use Rattle.fz_stream.specs.Telling.{StopsAfter}
 use Rattle.fz_stream.specs.declared.block.Block as the_block
 use Rattle.fz_stream.specs.declared.error.StreamError.{StreamError}
 use Rattle.fz_stream.specs.declared.error.StreamError.TheVariants as stream
@@ -23,6 +28,15 @@ use Rattle.fz_live.specs.of_judge.declared.error.BlockError.{BlockError}
 use Rattle.fz_live.specs.of_judge.declared.error.BlockError.TheVariants.{Memory as BlockMemory}
 use Rattle.fz_check.specs.Reported.{Checked}
 
+-- The model's bytes are a text of no tree, and the fault tells of them: it is that they are too many just where they are, else it comes
+-- in the order of faults, and its place lies within them.
+pub record HasTextFault (model : List ℕ) (e : SyntaxError) : Type 0 where
+  pub no_tree : (t : Tree) → IsTextOfTree model t → ⊥
+  pub too_long : (e ≡ TextTooLong) ↔ (most_bytes < length model)
+  pub order : IsRefusalOf model e
+  pub place : IsPlacedWithin (length model) e
+  pub not_memory : e ≢ TextMemory
+
 -- The model's bytes are a text of a tree whose names and literals stand there, and this is its leftmost fault.
 pub record HasNameFault (model : List ℕ) (e : ModelError) : Type 0 where
   pub tree : Ast
@@ -31,11 +45,13 @@ pub record HasNameFault (model : List ℕ) (e : ModelError) : Type 0 where
   pub tells : TellsFirstFault (located tree) e
   pub not_memory : e ≢ NameMemory
 
--- The stream's bytes are a text of no parts, and the fault is that of the first block that is broken.
+-- The stream's bytes are not too many and a text of no parts, and the fault is that of the first block that is broken.
 pub record IsBroken (bytes : List ℕ) (e : StreamError) : Type 0 where
+  pub short : length bytes ≤ most_bytes
   pub no_parts : (parts : List StreamPart) → IsStreamText bytes parts → ⊥
   pub before : List StreamPart
   pub stops : StopsAfter bytes before e
+  pub fault : IsStreamFault e
 
 -- the stream's bytes are too many, or a text of no parts
 abbrev pub HasStreamFault : List ℕ → StreamError → Type 0
@@ -54,7 +70,9 @@ pub record IsFirstFault (m : Model) (blocks : List the_block.Block) (number : �
   pub tells : IsBlockRefusal m (located_block block) e
   pub not_memory : e ≢ BlockMemory
 
--- Of the blocks that are checked, the one with this number is the first that has a fault against the tree's model, and it is told.
+-- The stream's bytes are not too many; of the blocks that are checked, the one with this number is the first that has a fault against the
+-- tree's model, and it is told.
 pub record HasBlockFault (model stream : List ℕ) (number : ℕ) (e : BlockError) : Type 0 where
+  pub short : length stream ≤ most_bytes
   pub checked : Checked model stream
   pub first : IsFirstFault (model_of checked.tree) checked.blocks number e

@@ -6,14 +6,14 @@ use Rattle.fz_stream.specs.Parts.{StreamPart, IsStreamText}
 use Rattle.fz_stream.specs.Found.{HasPlaces, block_of, blocks_in}
 use Rattle.fz_stream.specs.declared.block.Block as the_block
 use Rattle.fz_model.specs.Located.{LocatedTree, bare_of}
-use Rattle.fz_model.specs.Meaning.{Model, Assignment, IsKnownSolution}
+use Rattle.fz_model.specs.Meaning.{Model, Assignment, IsSolution, IsKnownSolution}
 use Rattle.fz_model.specs.Names.{HasNoFault, model_of}
 use Rattle.fz_verdict.specs.Blocks.{Block, Extends}
 use Rattle.fz_verdict.specs.Headline.{Improves}
 use Rattle.fz_verdict.specs.Report.{Report, IsReport}
 use Rattle.fz_verdict.specs.Verdict.{Verdict, Fault}
 use Rattle.fz_verdict.specs.View.{located_block}
-use Rattle.fz_verdict.specs.Verdict.Verdict.{Violated}
+use Rattle.fz_verdict.specs.Verdict.Verdict.{Satisfied, Violated}
 use Rattle.fz_verdict.specs.Verdict.Fault.{NotBetter}
 
 -- What is checked against what: the model's bytes are a text of a tree without faults, and the stream's bytes are a text of parts, of
@@ -28,12 +28,11 @@ pub record Checked (model stream : List ℕ) : Type 0 where
   pub blocks_are : map block_of blocks ≡ blocks_in parts
   pub places : AllByRecursion HasPlaces blocks
 
--- the report is that of the tree's model on the parts
-pub record HasReport (model stream : List ℕ) (r : Report) : Type 0 where
-  pub checked : Checked model stream
-  pub is_report : IsReport (model_of checked.tree) (map located_block checked.blocks) checked.parts r
+-- ---- a yes is a yes, and a no is a no
 
--- ---- a no is a no
+-- an assignment that is a solution extends the block
+abbrev pub HasOne : Model → Block → Type 0
+HasOne m block = (A : Assignment) × Extends m A block × IsSolution m A
 
 -- no assignment that is a known-solution extends the block
 abbrev pub HasNone : Model → Block → Type 0
@@ -46,10 +45,17 @@ NoneImproves m earlier block = (A B : Assignment) → IsKnownSolution m A → Ex
 abbrev pub IsObjective : Fault → Type 0
 IsObjective f = (now before : ℤ) × (f ≡ NotBetter now before)
 
--- Block number i, counted from 0, that is violated by anything but its objective has no known-solution that extends it; and where it
--- is violated by its objective, there is a block before it, and none that extends this one improves on one that extends that one.
-pub record HasNoneWhereViolated (model stream : List ℕ) (verdicts : List Verdict) : Type 0 where
+-- Block number i, counted from 0, that is satisfied has a solution that extends it, whatever the other blocks are. One that is violated by
+-- anything but its objective has no known-solution that extends it; and where it is violated by its objective, there is a block before
+-- it, and none that extends this one improves on one that extends that one.
+pub record AreBorneOut (m : Model) (blocks : List Block) (verdicts : List Verdict) : Type 0 where
+  pub satisfied : (i : ℕ) (block : Block) → slice_get blocks i ≡ Some block → slice_get verdicts i ≡ Some Satisfied → HasOne m block
+  pub violated : (i : ℕ) (block : Block) (f : Fault) → slice_get blocks i ≡ Some block → slice_get verdicts i ≡ Some (Violated f) → (IsObjective f → ⊥) → HasNone m block
+  pub not_better : (i : ℕ) (block : Block) (f : Fault) → slice_get blocks i ≡ Some block → slice_get verdicts i ≡ Some (Violated f) → IsObjective f
+      → (j : ℕ) × (earlier : Block) × (i ≡ suc j) × (slice_get blocks j ≡ Some earlier) × NoneImproves m earlier block
+
+-- The report is that of the tree's model on the parts, and its verdicts are borne out.
+pub record HasReport (model stream : List ℕ) (r : Report) : Type 0 where
   pub checked : Checked model stream
-  pub violated : (i : ℕ) (block : Block) (f : Fault) → slice_get (map located_block checked.blocks) i ≡ Some block → slice_get verdicts i ≡ Some (Violated f) → (IsObjective f → ⊥) → HasNone (model_of checked.tree) block
-  pub not_better : (i : ℕ) (block : Block) (f : Fault) → slice_get (map located_block checked.blocks) i ≡ Some block → slice_get verdicts i ≡ Some (Violated f) → IsObjective f
-      → (j : ℕ) × (earlier : Block) × (i ≡ suc j) × (slice_get (map located_block checked.blocks) j ≡ Some earlier) × NoneImproves (model_of checked.tree) earlier block
+  pub is_report : IsReport (model_of checked.tree) (map located_block checked.blocks) checked.parts r
+  pub borne_out : AreBorneOut (model_of checked.tree) (map located_block checked.blocks) r.verdicts

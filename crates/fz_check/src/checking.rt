@@ -1,14 +1,13 @@
 //! The check of a stream against a model.
 
-ghost use Rattle.std.specs.Prelude.{◌≡◌, ◌≢◌, ℕ, length, map, vec_len, IfOk, IfErr, Err};
+ghost use Rattle.std.specs.Prelude.{◌≡◌, ◌≢◌, ◌≤◌, ℕ, length, map, vec_len, IfOk, IfErr, Err};
 ghost use Rattle.std.specs.List.{AllByRecursion};
 ghost use Rattle.fz_syntax.specs.SyntaxError.{SyntaxError as SyntaxFault};
 ghost use Rattle.fz_syntax.specs.Tree.{Tree};
 ghost use Rattle.fz_syntax.specs.Text.{IsTextOfTree};
-ghost use Rattle.fz_syntax.specs.Tokens.{toks};
 ghost use Rattle.fz_syntax.specs.View.{bare};
 ghost use Rattle.fz_syntax.specs.Spots.{Stand, spots};
-ghost use Rattle.fz_syntax.specs.Limits.{LexesWithNumbersInLimit};
+ghost use Rattle.fz_syntax.specs.Limits.{most_bytes};
 ghost use Rattle.fz_model.specs.declared.ModelError.{ModelError as NameFault};
 ghost use Rattle.fz_model.specs.declared.ModelError.TheVariants.{Memory as NameMemory};
 ghost use Rattle.fz_model.specs.Names.{HasNoFault, IsInReadingOrder, model_of};
@@ -19,9 +18,11 @@ ghost use Rattle.fz_verdict.specs.Verdict.{AreVerdicts};
 ghost use Rattle.fz_verdict.specs.View.{located_block};
 ghost use Rattle.fz_live.specs.of_judge.declared.error.BlockError.{BlockError as BlockFault};
 ghost use Rattle.fz_live.specs.of_judge.View.{verdict_view};
-ghost use Rattle.fz_check.specs.Headline.{HasSolutions, IsOfStream};
-ghost use Rattle.fz_check.specs.Refused.{HasBlockFault, HasNameFault, HasStreamFault, IsFirstFault};
-ghost use Rattle.fz_check.specs.Reported.{HasNoneWhereViolated, HasReport};
+ghost use Rattle.fz_check.specs.Headline.{HasSolutions};
+ghost use Rattle.fz_check.specs.Over.{HoldsOfModel};
+ghost use Rattle.fz_check.specs.Refused.{HasBlockFault, HasNameFault, HasStreamFault, HasTextFault, IsFirstFault};
+ghost use Rattle.fz_check.specs.Reported.{HasReport};
+ghost use Rattle.fz_check.specs.Shown.{IsShown};
 ghost use Rattle.fz_check.specs.Loading.{
   IsCheckRefusal,
   IsJudgingRefusal,
@@ -34,7 +35,6 @@ ghost use Rattle.fz_check.specs.Loading.{
   stream_refusal,
   text_refusal,
 };
-ghost use Rattle.fz_live.specs.View.{answer_view};
 ghost use Rattle.fz_check.specs.View.{report_view};
 
 use crate::error::CheckError;
@@ -91,7 +91,7 @@ pub(crate) fn read_text<'a>(alloc: Global, source: &'a [u8]) -> Result<Ast<'a>, 
     ensures found { IfOk result (λ a. IsTextOfTree source.now (bare a)) }
     ensures only { IfOk result (λ a. (t : Tree) → IsTextOfTree source.now t → t ≡ bare a) }
     ensures stands { IfOk result (λ a. Stand source.now 0 (length source.now) (spots a)) }
-    ensures no_tree { (e : SyntaxFault) → result ≡ Err (CheckError.Model e) → (t : Tree) → IsTextOfTree source.now t → ⊥ }
+    ensures model { (e : SyntaxFault) → result ≡ Err (CheckError.Model e) → HasTextFault source.now e }
     ensures kinds { IfErr result IsTextRefusal }
 {
     match parse(alloc, source) {
@@ -118,6 +118,7 @@ fn read_stream<'s>(alloc: Global, stream: &'s [u8]) -> Result<Stream<'s>, CheckE
     ensures places { IfOk result (λ s. AllByRecursion HasPlaces s.blocks.items) }
     ensures within { IfOk result (λ s. AllByRecursion (EndsWithin usize.MAX) s.blocks.items) }
     ensures in_order { IfOk result (λ s. AreInOrder 0 (vec_len s.blocks) s.claims.items) }
+    ensures short { IfOk result (λ _. length stream.now ≤ most_bytes) }
     ensures stream { (e : StreamFault) → result ≡ Err (CheckError.Stream e) → HasStreamFault stream.now e }
     ensures kinds { IfErr result IsStreamRefusal }
 {
@@ -156,22 +157,21 @@ fn judge_blocks<'a>(
 /// # Errors
 ///
 /// `Model` where the model's bytes are a text of no tree, `Names` with the leftmost fault of its names, `Stream` where the
-/// stream's bytes are a text of no blocks and claims, `Block` with the first fault of the first block that has one, and
+/// stream's bytes are too many or a text of no blocks and claims, `Block` with the first fault of the first block that has one, and
 /// want of memory.
 pub fn check<'a>(alloc: Global, model: &'a [u8], stream: &[u8]) -> Result<Report<'a>, CheckError>
     // A yes is a yes: what is accepted has solutions.
     ensures accepted { IfOk result (λ r. (count : ℕ) → r.answer ≡ Answer.Accepted count → HasSolutions model.now stream.now count) }
-    // A no is a no: what is violated has none.
-    ensures violated { IfOk result (λ r. HasNoneWhereViolated model.now stream.now (map verdict_view r.verdicts.items)) }
-    // The report is the one as defined, with one verdict for each block, the stream's claims and the answer that follows.
+    // The report is the one as defined, with one verdict for each block, the stream's claims and the answer that follows. What it
+    // tells satisfied has a solution. A no is a no: what it tells violated has none.
     ensures report { IfOk result (λ r. HasReport model.now stream.now (report_view r)) }
-    ensures whole { IfOk result (λ r. IsOfStream stream.now (map verdict_view r.verdicts.items) r.claims.items (answer_view r.answer)) }
     ensures in_order { IfOk result (λ r. AreInOrder 0 (vec_len r.verdicts) r.claims.items) }
+    ensures short { IfOk result (λ _. length stream.now ≤ most_bytes) }
     // The model is refused only where its bytes are a text of no tree, or with the leftmost fault of its names.
-    ensures no_tree { (e : SyntaxFault) → result ≡ Err (CheckError.Model e) → (t : Tree) → IsTextOfTree model.now t → ⊥ }
+    ensures model { (e : SyntaxFault) → result ≡ Err (CheckError.Model e) → HasTextFault model.now e }
     ensures names { (e : NameFault) → result ≡ Err (CheckError.Names e) → HasNameFault model.now e }
-    // The stream is refused only where its bytes are too many or a text of no parts, a block with the first fault.
-    ensures stream { (e : StreamFault) → result ≡ Err (CheckError.Stream e) → HasStreamFault stream.now e }
+    // The stream is refused only where the model is good and its bytes are too many or a text of no parts, a block with the first fault.
+    ensures stream { (e : StreamFault) → result ≡ Err (CheckError.Stream e) → HoldsOfModel model.now (λ _. HasStreamFault stream.now e) }
     ensures block { (n : ℕ) (e : BlockFault) → result ≡ Err (CheckError.Block n e) → HasBlockFault model.now stream.now n e }
     ensures kinds { IfErr result IsCheckRefusal }
 {
@@ -193,10 +193,10 @@ pub fn check<'a>(alloc: Global, model: &'a [u8], stream: &[u8]) -> Result<Report
 ///
 /// `Model` where the bytes are a text of no tree, `Names` with the leftmost fault of its names, and want of memory.
 pub fn show(alloc: Global, model: &[u8]) -> Result<Vec<u8>, CheckError>
-    // The text lexes to the tokens of the tree of which the bytes are a text.
-    ensures reads_back { IfOk result (λ text. (t : Tree) → IsTextOfTree model.now t → LexesWithNumbersInLimit text.items (toks t)) }
+    // The bytes are a text of a tree without faults, and the text is that tree's.
+    ensures shown { IfOk result (λ text. IsShown model.now text.items) }
     // It is refused only where the bytes are a text of no tree, or with the leftmost fault of its names.
-    ensures no_tree { (e : SyntaxFault) → result ≡ Err (CheckError.Model e) → (t : Tree) → IsTextOfTree model.now t → ⊥ }
+    ensures model { (e : SyntaxFault) → result ≡ Err (CheckError.Model e) → HasTextFault model.now e }
     ensures names { (e : NameFault) → result ≡ Err (CheckError.Names e) → HasNameFault model.now e }
     ensures kinds { IfErr result IsModelRefusal }
 {

@@ -2,8 +2,6 @@
 
 ghost use Rattle.std.specs.Prelude.{◌≡◌, ◌≢◌, ℕ, List, ◌⊎◌, Err, IfOk, IfErr};
 ghost use Rattle.fz_syntax.specs.SyntaxError.{SyntaxError as SyntaxFault};
-ghost use Rattle.fz_syntax.specs.Tree.{Tree};
-ghost use Rattle.fz_syntax.specs.Text.{IsTextOfTree};
 ghost use Rattle.fz_model.specs.declared.ModelError.{ModelError as NameFault};
 ghost use Rattle.fz_stream.specs.declared.error.StreamError.{StreamError as StreamFault};
 ghost use Rattle.fz_stream.specs.declared.error.StreamError.TheVariants.{Memory as OfMemory};
@@ -11,12 +9,12 @@ ghost use Rattle.fz_stream.specs.Faults.{IsStreamFault};
 ghost use Rattle.fz_stream.specs.Parts.{StreamPart};
 ghost use Rattle.fz_live.specs.of_judge.declared.error.BlockError.{BlockError as BlockFault};
 ghost use Rattle.fz_live.specs.Live.{BlockIsRefused, StopsAfterLines, WritesFrontOfLines};
-ghost use Rattle.fz_live.specs.Reading.{HasNoMore, IsRefusedAfter};
+ghost use Rattle.fz_live.specs.Reading.{HasNoMore, IsRefusedAfter, SpendsReads};
 ghost use Rattle.fz_live.specs.View.{answer_view};
 ghost use Rattle.fz_check.specs.Headline.{HasSolutions};
 ghost use Rattle.fz_check.specs.Loading.{live_refusal};
-ghost use Rattle.fz_check.specs.Over.{HoldsOfModel, HoldsOfStream, IsOfModel, IsReportedTo, IsUntouched};
-ghost use Rattle.fz_check.specs.Refused.{HasNameFault};
+ghost use Rattle.fz_check.specs.Over.{HoldsOfModel, HoldsOfStream, IsOfModel, IsReportedTo, IsUntouched, most_reads};
+ghost use Rattle.fz_check.specs.Refused.{HasNameFault, HasTextFault};
 
 use crate::checking::{load_tree, read_text};
 use crate::error::CheckError;
@@ -54,7 +52,7 @@ pub fn check_stream_up_to<R: Read, W: Write>(
     // The writer got the report on all that the reader gave up to its end, and nothing else.
     ensures report { IfOk result (λ a. HoldsOfStream (R.remaining reader.old) (R.remaining reader.new) (λ given. IsReportedTo model.now given (W.contents writer.old) (W.contents writer.new) (answer_view a))) }
     // The model is refused only where its bytes are a text of no tree, or with the leftmost fault of its names.
-    ensures no_tree { (e : SyntaxFault) → result ≡ Err (CheckError.Model e) → (t : Tree) → IsTextOfTree model.now t → ⊥ }
+    ensures model { (e : SyntaxFault) → result ≡ Err (CheckError.Model e) → HasTextFault model.now e }
     ensures names { (e : NameFault) → result ≡ Err (CheckError.Names e) → HasNameFault model.now e }
     // Then nothing is read, and nothing is written.
     ensures model_first { IfErr result (λ e. IsOfModel e → IsUntouched (R.remaining reader.old) (R.remaining reader.new) (W.contents writer.old) (W.contents writer.new)) }
@@ -67,6 +65,9 @@ pub fn check_stream_up_to<R: Read, W: Write>(
     ensures write { result ≡ Err CheckError.Write → HoldsOfModel model.now (λ m. WritesFrontOfLines m (R.remaining reader.old) (R.remaining reader.new) (W.contents writer.old) (W.contents writer.new)) }
     ensures memory { result ≡ Err CheckError.Memory → IsUntouched (R.remaining reader.old) (R.remaining reader.new) (W.contents writer.old) (W.contents writer.new)
         ⊎ HoldsOfModel model.now (λ m. WritesFrontOfLines m (R.remaining reader.old) (R.remaining reader.new) (W.contents writer.old) (W.contents writer.new)) }
+    // It reads at most so often, 4,096 bytes at most at a time, and before there is an answer one read finds the end.
+    ensures reads { SpendsReads reads 0 (R.remaining reader.old) (R.remaining reader.new) }
+    ensures end_read { IfOk result (λ _. SpendsReads reads 1 (R.remaining reader.old) (R.remaining reader.new)) }
 {
     let ast = match read_text(alloc, model) {
         Ok(ast) => ast,
@@ -101,7 +102,7 @@ pub fn check_stream<R: Read, W: Write>(
 ) -> Result<Answer, CheckError>
     ensures accepted { IfOk result (λ a. (count : ℕ) → a ≡ Answer.Accepted count → HoldsOfStream (R.remaining reader.old) (R.remaining reader.new) (λ given. HasSolutions model.now given count)) }
     ensures report { IfOk result (λ a. HoldsOfStream (R.remaining reader.old) (R.remaining reader.new) (λ given. IsReportedTo model.now given (W.contents writer.old) (W.contents writer.new) (answer_view a))) }
-    ensures no_tree { (e : SyntaxFault) → result ≡ Err (CheckError.Model e) → (t : Tree) → IsTextOfTree model.now t → ⊥ }
+    ensures model { (e : SyntaxFault) → result ≡ Err (CheckError.Model e) → HasTextFault model.now e }
     ensures names { (e : NameFault) → result ≡ Err (CheckError.Names e) → HasNameFault model.now e }
     ensures model_first { IfErr result (λ e. IsOfModel e → IsUntouched (R.remaining reader.old) (R.remaining reader.new) (W.contents writer.old) (W.contents writer.new)) }
     ensures fault { (e : StreamFault) → result ≡ Err (CheckError.Stream e) → IsStreamFault e × (e ≢ OfMemory) }
@@ -111,6 +112,8 @@ pub fn check_stream<R: Read, W: Write>(
     ensures write { result ≡ Err CheckError.Write → HoldsOfModel model.now (λ m. WritesFrontOfLines m (R.remaining reader.old) (R.remaining reader.new) (W.contents writer.old) (W.contents writer.new)) }
     ensures memory { result ≡ Err CheckError.Memory → IsUntouched (R.remaining reader.old) (R.remaining reader.new) (W.contents writer.old) (W.contents writer.new)
         ⊎ HoldsOfModel model.now (λ m. WritesFrontOfLines m (R.remaining reader.old) (R.remaining reader.new) (W.contents writer.old) (W.contents writer.new)) }
+    ensures reads { SpendsReads most_reads 0 (R.remaining reader.old) (R.remaining reader.new) }
+    ensures end_read { IfOk result (λ _. SpendsReads most_reads 1 (R.remaining reader.old) (R.remaining reader.new)) }
 {
     check_stream_up_to(alloc, model, reader, writer, MOST_READS)
 }

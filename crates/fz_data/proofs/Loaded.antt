@@ -9,11 +9,12 @@ use Rattle.fz_meaning.specs.Located.{Decl, LocatedTree}
 use Rattle.fz_meaning.specs.Meaning.{declared_points, numbered_from, name_of, place_named, variable_of, first_some, find_name, row_of}
 use Rattle.fz_meaning.specs.Meaning.Declared.{Parameter, ScalarVariable, ArrayOfVariables}
 use Rattle.fz_meaning.specs.Names.{IsInReadingOrder, goal_parts, parts, kind_of_base, domain_of, is_scalar, number_of, variable_declared, definition_of, term_of, place_of_declared, declared_of, posted_of, aim_of, model_of}
-use Rattle.fz_meaning.specs.View.{TellsFirstFault}
+use Rattle.fz_meaning.specs.View.{TellsFault, TellsFirstFault}
 use Rattle.fz_meaning.specs.declared.known.Known.{Known}
 use Rattle.fz_meaning.specs.Known.{known_row}
 use Rattle.fz_data.specs.Kinds.{PlaceFits, PostedFits}
 use Rattle.fz_meaning.specs.FirstFault.{FirstFaultIsLeftmost, decls_fault, constraint_fault, constraints_fault, goal_fault, first_fault}
+use Rattle.fz_meaning.proofs.FoundFaults.{scanned}
 use Rattle.fz_meaning.proofs.KnownNames.{next_number, number_here}
 use Rattle.fz_meaning.proofs.Names.{AreNew, are_new, numbered_after, numbered_is, place_named_is}
 use Rattle.fz_data.specs.declared.model.Model.TheInside.{Inside}
@@ -111,6 +112,13 @@ module _ (t : LocatedTree) (s : Scope) (ts : Vec Term Global) (cs : Vec the_post
   }
 
 -- ---- what an error tells
+
+pub tells_fault : (t : LocatedTree) (e : ModelError) → Tells e (first_fault t) → TellsFault t e
+tells_fault t (errors.DuplicateName at) h = (scanned t).tells _ at h
+tells_fault t (errors.UnknownName at) h = (scanned t).tells _ at h
+tells_fault t (errors.Kind at) h = (scanned t).tells _ at h
+tells_fault t (errors.Length at) h = (scanned t).tells _ at h
+tells_fault t errors.Memory h = tt
 
 pub tells_first : (t : LocatedTree) (e : ModelError) → FirstFaultIsLeftmost → IsInReadingOrder t → Tells e (first_fault t) → TellsFirstFault t e
 tells_first t (errors.DuplicateName at) law order h = law t order _ at h

@@ -22,8 +22,11 @@ abbrev pub Reading : Type 0
 Reading = Option Term × List (Option Term)
 
 -- the elements of the array of a number
+abbrev pub array_elements : List Array → ℕ → List Term
+array_elements xs i = option_map_or (λ x. x.elements.items) (slice_get xs i) []
+
 abbrev pub elements_at : List Array → ℕ → List (Option Term)
-elements_at xs i = map Some (option_map_or (λ x. x.elements.items) (slice_get xs i) [])
+elements_at xs i = map Some (array_elements xs i)
 
 abbrev pub place_term : Place → Option Term
 place_term (places.Scalar t) = Some t

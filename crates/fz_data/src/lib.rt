@@ -26,7 +26,7 @@ pub use lines::part;
 pub use loading::load;
 pub use model::Model;
 pub use partial::{Partial, number_of, truth_of};
-pub use parts::{Argument, Array, ArrayName, Goal, Place, Posted, Variable};
+pub use parts::{Argument, Array, ArrayName, Goal, Place, Posted, Variable, array_elements};
 pub use point::{ConstraintParts, LaidParts, Point, PointParts};
 pub use sheet::{Laid, Line, Sheet, Slot};
 pub use values::{kind_of, literal_kind, literal_value, same_kind};

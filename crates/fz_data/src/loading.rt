@@ -3,7 +3,7 @@
 ghost use Rattle.std.specs.Prelude.{◌≡◌, [], IfErr, IfOk, None, map};
 ghost use Rattle.fz_meaning.specs.declared.error.ModelError.TheVariants.{Memory};
 ghost use Rattle.fz_meaning.specs.Names.{HasNoFault, IsInReadingOrder, model_of};
-ghost use Rattle.fz_meaning.specs.View.{TellsFirstFault, located, located_decl};
+ghost use Rattle.fz_meaning.specs.View.{TellsFault, TellsFirstFault, located, located_decl};
 ghost use Rattle.fz_meaning.specs.FirstFault.{decls_fault, first_fault};
 ghost use Rattle.fz_data.specs.Naming.{own_terms};
 ghost use Rattle.fz_data.specs.Scope.{HasKinds, Tells};
@@ -86,6 +86,8 @@ fn read<'a>(alloc: Global, ast: &Ast<'a>) -> Result<Model<'a>, ModelError>
 pub fn load<'a>(alloc: Global, ast: &Ast<'a>) -> Result<Model<'a>, ModelError>
     ensures no_fault { IfOk result (λ _. HasNoFault (located ast.now)) }
     ensures model { IfOk result (λ m. m ≡ model_of (located ast.now)) }
+    // Of any tree, wherever its names stand: the fault that is told is there.
+    ensures only { IfErr result (TellsFault (located ast.now)) }
     ensures first { IsInReadingOrder (located ast.now) → IfErr result (TellsFirstFault (located ast.now)) }
 {
     read(alloc, ast)

@@ -1,5 +1,8 @@
 //! The parts of a model. Names are slices of the source.
 
+ghost use Rattle.std.specs.Prelude.{◌≡◌};
+ghost use Rattle.fz_data.specs.Readings.{array_elements};
+
 use fz_meaning::{Domain, Kind, Term};
 
 /// A scalar variable: its name, its kind, and the values that its declaration admits.
@@ -9,7 +12,7 @@ pub struct Variable<'a> {
     pub kind: Kind,
     pub domain: Domain,
     /// the right side of its definition, where it has one
-    pub definition: Option<Term>,
+    pub(crate) definition: Option<Term>,
 }
 
 /// A declared array, of variables or of parameters, with its elements.
@@ -26,7 +29,26 @@ pub struct Array<'a> {
 #[derive(Clone, Copy, Debug)]
 pub struct ArrayName<'a> {
     pub text: &'a [u8],
-    pub number: usize,
+    pub(crate) number: usize,
+}
+
+impl ArrayName<'_> {
+    /// The elements of the array, which is one of these; else none.
+    pub fn elements<'m>(&self, arrays: &'m [Array<'_>]) -> &'m [Term]
+        ensures { result.now ≡ array_elements arrays.now self.now.number }
+    {
+        array_elements(arrays, self.number)
+    }
+}
+
+/// The elements of the array of a number; none where the number is no array's.
+pub fn array_elements<'m>(arrays: &'m [Array<'_>], number: usize) -> &'m [Term]
+    ensures { result.now ≡ array_elements arrays.now number }
+{
+    match arrays.get(number) {
+        Some(array) => &array.elements,
+        None => &[],
+    }
 }
 
 /// What a literal or a name in a constraint stands for.

@@ -140,10 +140,7 @@ fn first_at<'a>(
 {
     match place {
         Place::Scalar(term) => open_other(term, target, partial),
-        Place::Array(name) => match arrays.get(name.number) {
-            Some(array) => first_of(&array.elements, target, partial),
-            None => None,
-        },
+        Place::Array(name) => first_of(name.elements(arrays), target, partial),
     }
 }
 

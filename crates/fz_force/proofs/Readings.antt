@@ -17,11 +17,11 @@ use Rattle.fz_data.specs.declared.point.ConstraintParts.{ConstraintParts}
 use Rattle.fz_data.specs.declared.point.LaidParts.{LaidParts}
 use Rattle.fz_data.specs.declared.sheet.Laid.TheVariants as laids
 use Rattle.fz_data.specs.declared.sheet.Slot.{Slot}
-use Rattle.fz_data.specs.Readings.{elements_at, kept_reading, kept_readings, laid_reading, laid_readings, place_term, readings_or, slot_term}
+use Rattle.fz_data.specs.Readings.{array_elements, elements_at, kept_reading, kept_readings, laid_reading, laid_readings, place_term, readings_or, slot_term}
 use Rattle.fz_force.specs.declared.only.Open.{Open}
 use Rattle.fz_force.specs.declared.only.Open.TheVariants.{Nothing, Target, More}
 use Rattle.fz_force.specs.declared.only.Spot.{Spot}
-use Rattle.fz_force.specs.Only.{AreOpen, IsFlat, IsOnlyOpen, IsScalar, slot_or, term_or, terms_given, terms_kept, terms_laid, terms_of_array, terms_read}
+use Rattle.fz_force.specs.Only.{AreOpen, IsFlat, IsOnlyOpen, IsScalar, slot_or, term_or, terms_given, terms_kept, terms_laid, terms_read}
 
 -- ---- a list that is mapped
 
@@ -42,8 +42,8 @@ none_missing : (ts : List Term) → map term_or (map Some ts) ≡ ts
 none_missing [] = refl
 none_missing (t ∷ ts) = ap (λ zs. t ∷ zs) (none_missing ts)
 
-of_elements : (xs : List Array) (i : ℕ) → map term_or (elements_at xs i) ≡ terms_of_array xs i
-of_elements xs i = none_missing (terms_of_array xs i)
+of_elements : (xs : List Array) (i : ℕ) → map term_or (elements_at xs i) ≡ array_elements xs i
+of_elements xs i = none_missing (array_elements xs i)
 
 -- ---- a slot that is an argument
 
@@ -57,7 +57,7 @@ module _ (K : Partial) (n : ℕ) (xs : List Array) (cs : List Value) (ss : List 
   pub one_laid : (s : Slot) → AreOpen K n (slot_or cs s ∷ []) o → AreOpen K n (terms_laid xs cs ss (laids.One s)) o
   one_laid s h = as_argument K n (slot_term cs s) o h
 
-  pub array_laid : (i : ℕ) → AreOpen K n (terms_of_array xs i) o → AreOpen K n (terms_laid xs cs ss (laids.Array i)) o
+  pub array_laid : (i : ℕ) → AreOpen K n (array_elements xs i) o → AreOpen K n (terms_laid xs cs ss (laids.Array i)) o
   array_laid i h = subst (λ ts. AreOpen K n ts o) (sym (of_elements xs i)) h
 
   pub list_laid : (f k : ℕ) (us : List Slot) → us ≡ take k (drop f ss) → AreOpen K n (map (slot_or cs) us) o → AreOpen K n (terms_laid xs cs ss (laids.Many f k)) o

@@ -15,7 +15,7 @@ use Rattle.fz_data.specs.declared.parts.Argument.{Argument}
 use Rattle.fz_data.specs.declared.parts.Argument.TheVariants as arguments
 use Rattle.fz_data.specs.declared.sheet.Laid.{Laid}
 use Rattle.fz_data.specs.declared.sheet.Slot.{Slot}
-use Rattle.fz_data.specs.Readings.{Reading, laid_reading, slot_term}
+use Rattle.fz_data.specs.Readings.{Reading, array_elements, laid_reading, slot_term}
 use Rattle.fz_force.specs.declared.only.Open.{Open}
 use Rattle.fz_force.specs.declared.only.Open.TheVariants.{Nothing, Target, More}
 use Rattle.fz_force.specs.declared.only.Spot.{Spot}
@@ -35,13 +35,9 @@ abbrev pub scalar_kept : Place → Option Term
 scalar_kept (places.Scalar t) = Some t
 scalar_kept (places.Array x) = None
 
--- the elements of the array of a number
-abbrev pub terms_of_array : List Array → ℕ → List Term
-terms_of_array xs i = option_map_or (λ a. a.elements.items) (slice_get xs i) []
-
 abbrev pub terms_kept : List Array → Place → List Term
 terms_kept xs (places.Scalar t) = t ∷ []
-terms_kept xs (places.Array x) = terms_of_array xs x.number
+terms_kept xs (places.Array x) = array_elements xs x.number
 
 abbrev pub terms_given : List Array → Argument → List Term
 terms_given xs (arguments.One p) = terms_kept xs p

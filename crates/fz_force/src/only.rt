@@ -5,9 +5,10 @@ ghost use Rattle.std.specs.List.{AllByRecursion};
 ghost use Rattle.fz_force.specs.declared.only.Open.TheVariants.{Nothing};
 ghost use Rattle.fz_meaning.specs.Meaning.{value};
 ghost use Rattle.fz_data.specs.declared.parts.Array.{Array as Held};
-ghost use Rattle.fz_force.specs.Only.{AreOpen, IsFlat, IsOnlyOpen, IsScalar, scalar_kept, terms_given, terms_kept, terms_of_array};
+ghost use Rattle.fz_force.specs.Only.{AreOpen, IsFlat, IsOnlyOpen, IsScalar, scalar_kept, terms_given, terms_kept};
+ghost use Rattle.fz_data.specs.Readings.{array_elements as elements_in};
 
-use fz_data::{Argument, Array, Partial, Place};
+use fz_data::{Argument, Array, Partial, Place, array_elements};
 use fz_meaning::Term;
 
 /// Which scalars have no value: none; the target alone, once, at a place counted from 0; or others.
@@ -91,12 +92,9 @@ pub(crate) fn open_elements(
     target: usize,
     partial: &Partial,
 ) -> Open
-    ensures { AreOpen partial.now target (terms_of_array arrays.now number) result }
+    ensures { AreOpen partial.now target (elements_in arrays.now number) result }
 {
-    match arrays.get(number) {
-        Some(array) => open_of(&array.elements, target, partial),
-        None => Open::Nothing,
-    }
+    open_of(array_elements(arrays, number), target, partial)
 }
 
 // Which scalars of a list have no value.
@@ -135,7 +133,7 @@ fn open_in<'m, 'a>(
 {
     match argument {
         Argument::One(Place::Scalar(term)) => open_term(term, target, partial),
-        Argument::One(Place::Array(name)) => open_elements(arrays, name.number, target, partial),
+        Argument::One(Place::Array(name)) => open_of(name.elements(arrays), target, partial),
         Argument::List(places) => open_among(places, target, partial),
     }
 }

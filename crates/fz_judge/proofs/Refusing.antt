@@ -1,5 +1,5 @@
 -- A block's refusal: it tells the fault of the first item that has one, and the fault's place lies in the block's text.
-use Rattle.std.proofs.Common.{◌≡◌, ℕ, ◌+◌, ◌≤◌, ◌<◌, true, false, not, ◌==◌, List, [], ◌∷◌, ◌++◌, map, flat_map, length, get_or, take, drop, Option, Some, None, option_map, refl, ap, subst, ◌∙◌, arith, append_assoc}
+use Rattle.std.proofs.Common.{◌≡◌, ℕ, ◌+◌, ◌≤◌, ◌<◌, true, false, not, ◌==◌, List, [], ◌∷◌, ◌++◌, map, flat_map, length, get_or, take, drop, Option, Some, None, IsSomeAnd, option_map, refl, sym, ap, subst, ◌∙◌, arith, append_assoc}
 use Rattle.std.specs.Option.{option_or}
 use Rattle.fz_base.specs.declared.span.Span.{Span}
 use Rattle.fz_model.specs.declared.Kind.{Kind}
@@ -20,7 +20,7 @@ use Rattle.fz_verdict.specs.Blocks.BlockFaultKind.{UnknownName, WrongKind, Wrong
 use Rattle.fz_verdict.specs.View.{located_printed_value, located_printed, located_items}
 use Rattle.fz_judge.specs.declared.error.BlockError.{BlockError}
 use Rattle.fz_judge.specs.declared.error.BlockError.TheVariants as errors
-use Rattle.fz_judge.specs.Judged.{TellsFault}
+use Rattle.fz_judge.specs.Judged.{TellsFault, TellsKind}
 use Rattle.fz_judge.specs.Working.{IsPlacedWithin, moved_error}
 use Rattle.fz_judge.proofs.Lists.{whole_at, first_append}
 
@@ -111,6 +111,13 @@ moved_tells m b (errors.UnknownName at) h = ap (option_map (at_place b.offset)) 
 moved_tells m b (errors.Kind at) h = ap (option_map (at_place b.offset)) h
 moved_tells m b (errors.Length at) h = ap (option_map (at_place b.offset)) h
 moved_tells m b errors.Memory h = tt
+
+-- of whatever places they are, the block has a fault of that kind
+pub kind_tells : (m : Model) (b : Block) (e : BlockError) → TellsFault e (items_fault m b.items) → TellsKind e (block_fault m b)
+kind_tells m b (errors.UnknownName at) h = subst (λ o. IsSomeAnd (option_map (at_place b.offset) o) (λ x. x.kind ≡ UnknownName)) (sym h) refl
+kind_tells m b (errors.Kind at) h = subst (λ o. IsSomeAnd (option_map (at_place b.offset) o) (λ x. x.kind ≡ WrongKind)) (sym h) refl
+kind_tells m b (errors.Length at) h = subst (λ o. IsSomeAnd (option_map (at_place b.offset) o) (λ x. x.kind ≡ WrongLength)) (sym h) refl
+kind_tells m b errors.Memory h = tt
 
 span_within : (n upto : ℕ) (s : Span) → upto ≤ n → IsSpanWithin upto s → IsSpanWithin n s
 span_within n upto s le h = (h.0, omega (arith, h.1, le))

@@ -1,5 +1,5 @@
 -- What is judged of a block, and why a block is refused (this project's profile).
-use Rattle.std.specs.Prelude.{◌≡◌, ℤ, Option, Some, ⊤}
+use Rattle.std.specs.Prelude.{◌≡◌, ℤ, IfSome, IsSomeAnd, None, Option, Some, ⊤}
 use Rattle.fz_base.specs.declared.span.Span.{Span}
 use Rattle.fz_model.specs.Meaning.{Model, Partial, objective}
 use Rattle.fz_verdict.specs.Blocks.{Block, BlockFault, BlockFaultKind, block_fault}
@@ -26,6 +26,17 @@ TellsFault (errors.UnknownName at) f = f ≡ Some (record { kind = UnknownName; 
 TellsFault (errors.Kind at) f = f ≡ Some (record { kind = WrongKind; at = at })
 TellsFault (errors.Length at) f = f ≡ Some (record { kind = WrongLength; at = at })
 TellsFault errors.Memory f = ⊤
+
+-- the kind of fault that an error tells, where it is not for want of memory
+abbrev pub kind_told : BlockError → Option BlockFaultKind
+kind_told (errors.UnknownName at) = Some UnknownName
+kind_told (errors.Kind at) = Some WrongKind
+kind_told (errors.Length at) = Some WrongLength
+kind_told errors.Memory = None
+
+-- there is a fault of the kind that the error tells
+abbrev pub TellsKind : BlockError → Option BlockFault → Type 0
+TellsKind e f = IfSome (kind_told e) (λ k. IsSomeAnd f (λ x. x.kind ≡ k))
 
 -- a block is refused for its fault, at its place in the stream, or for want of memory
 abbrev pub IsBlockRefusal : Model → Block → BlockError → Type 0

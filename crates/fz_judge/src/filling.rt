@@ -5,10 +5,10 @@ ghost use Rattle.fz_filling.specs.Courses.{IsCourse};
 ghost use Rattle.fz_model.specs.Meaning.{IsPartial, first_some};
 ghost use Rattle.fz_stream.specs.Found.{EndsWithin, HasPlaces};
 ghost use Rattle.fz_syntax.specs.Places.{IsSpanWithin};
-ghost use Rattle.fz_verdict.specs.Blocks.{moved};
+ghost use Rattle.fz_verdict.specs.Blocks.{block_fault, moved};
 ghost use Rattle.fz_verdict.specs.Verdict.{IsFilled, printed_fails};
 ghost use Rattle.fz_verdict.specs.View.{located_block, located_items};
-ghost use Rattle.fz_judge.specs.Judged.{IsBlockRefusal};
+ghost use Rattle.fz_judge.specs.Judged.{IsBlockRefusal, TellsKind, kind_told};
 ghost use Rattle.fz_judge.specs.Working.{HasRoom, IsPlacedWithin, moved_error};
 
 use crate::error::BlockError;
@@ -32,7 +32,8 @@ fn moved_span(span: Span, offset: usize) -> Span
 
 /// A fault of a block, at its place in the stream.
 fn moved_error(error: BlockError, offset: usize) -> BlockError
-    ensures { IsPlacedWithin (usize.MAX - offset) error → result ≡ moved_error offset error }
+    ensures moved { IsPlacedWithin (usize.MAX - offset) error → result ≡ moved_error offset error }
+    ensures kind { kind_told result ≡ kind_told error }
 {
     match error {
         BlockError::UnknownName(span) => BlockError::UnknownName(moved_span(span, offset)),
@@ -56,6 +57,7 @@ pub(crate) fn filled(
     ensures filled { IfOk result (λ f. IsFilled model.now (located_block block.now) f.partial) }
     ensures kinds { IfOk result (λ f. IsPartial model.now f.partial) }
     ensures agrees { IfOk result (λ f. IsTrue f.agrees → first_some (printed_fails model.now f.partial) (located_items block.now.items.items) ≡ None) }
+    ensures only { IfErr result (λ e. TellsKind e (block_fault model.now (located_block block.now))) }
     ensures refused { IfErr result (λ e. HasPlaces block.now → EndsWithin usize.MAX block.now → IsBlockRefusal model.now (located_block block.now) e) }
     ensures course { IfSome course.new (IsCourse model.now) }
 {
@@ -84,6 +86,8 @@ pub(crate) fn filled(
 pub fn fill(alloc: Global, model: &Model<'_>, block: &Block<'_>) -> Result<Partial, BlockError>
     ensures filled { IfOk result (λ F. IsFilled model.now (located_block block.now) F) }
     ensures kinds { IfOk result (λ F. IsPartial model.now F) }
+    // Of any block: it has a fault, and its first is of the kind that is told.
+    ensures only { IfErr result (λ e. TellsKind e (block_fault model.now (located_block block.now))) }
     // Of a block as `fz_stream` reads it: its places lie in its text, and its text ends within the numbers.
     ensures refused { IfErr result (λ e. HasPlaces block.now → EndsWithin usize.MAX block.now → IsBlockRefusal model.now (located_block block.now) e) }
 {

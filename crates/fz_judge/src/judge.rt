@@ -4,10 +4,10 @@ ghost use Rattle.std.specs.Prelude.{◌≡◌, IfErr, IfOk, IfSome, IsTrue, None
 ghost use Rattle.fz_model.specs.Meaning.{first_some};
 ghost use Rattle.fz_model.specs.Overviews.{IsOverview};
 ghost use Rattle.fz_stream.specs.Found.{EndsWithin, HasPlaces};
-ghost use Rattle.fz_verdict.specs.Blocks.{items_fault};
+ghost use Rattle.fz_verdict.specs.Blocks.{block_fault, items_fault};
 ghost use Rattle.fz_verdict.specs.Verdict.{printed_fails, verdict, verdict_by};
 ghost use Rattle.fz_verdict.specs.View.{located_block, located_items};
-ghost use Rattle.fz_judge.specs.Judged.{IsBlockRefusal, IsJudged};
+ghost use Rattle.fz_judge.specs.Judged.{IsBlockRefusal, IsJudged, TellsKind};
 ghost use Rattle.fz_judge.specs.View.{fault_view, verdict_view};
 ghost use Rattle.fz_judge.specs.Working.{with_objective};
 
@@ -172,6 +172,8 @@ impl<'m, 'a> Judge<'m, 'a> {
         ensures judged { IfOk result (λ v. IsJudged self.old.model (located_block block.now) self.old.before (verdict_view v) self.new.before) }
         ensures same_model { self.new.model ≡ self.old.model }
         ensures unchanged { IfErr result (λ _. self.new ≡ self.old) }
+        // Of any block: it has a fault, and its first is of the kind that is told.
+        ensures only { IfErr result (λ e. TellsKind e (block_fault self.old.model (located_block block.now))) }
         // Of a block as `fz_stream` reads it: its places lie in its text, and its text ends within the numbers.
         ensures refused { IfErr result (λ e. HasPlaces block.now → EndsWithin usize.MAX block.now → IsBlockRefusal self.old.model (located_block block.now) e) }
     {

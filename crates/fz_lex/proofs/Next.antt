@@ -100,6 +100,16 @@ fault_is_no_memory source place (TooDeep span) f m = absurd f
 fault_is_no_memory source place (TooMany span) f m = absurd f
 fault_is_no_memory source place Memory f m = absurd f
 
+pub fault_is_no_length : (source : List ℕ) (place : ℕ) (e : SyntaxError) → FaultFrom source place e → e ≢ TooLong
+fault_is_no_length source place TooLong f m = absurd f
+fault_is_no_length source place (BadByte span) f m = cc m
+fault_is_no_length source place (TooLarge span) f m = cc m
+fault_is_no_length source place (Float span) f m = absurd f
+fault_is_no_length source place (Syntax span) f m = absurd f
+fault_is_no_length source place (TooDeep span) f m = absurd f
+fault_is_no_length source place (TooMany span) f m = absurd f
+fault_is_no_length source place Memory f m = absurd f
+
 pub all_push : {X : Type 0} (P : X → Type 0) (xs : List X) (x : X) → AllByRecursion P xs → P x → AllByRecursion P (xs ++ x ∷ [])
 all_push P [] x h p = (p, tt)
 all_push P (y ∷ ys) x h p = (h.0, all_push P ys x h.1 p)

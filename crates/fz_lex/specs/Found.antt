@@ -55,4 +55,4 @@ IsScanned source = (tokens : List SpannedToken) × LexesToSpanned source tokens 
 
 -- A fault of the source, other than its length and want of memory.
 abbrev pub IsScanFault : List ℕ → SyntaxError → Type 0
-IsScanFault source e = IsLexicalFault source e × (e ≢ Memory)
+IsScanFault source e = IsLexicalFault source e × (e ≢ Memory) × (e ≢ TooLong)

@@ -1,6 +1,6 @@
 //! Reads the tokens of a source one by one, with no list of them.
 
-ghost use Rattle.std.specs.Prelude.{◌≡◌, ◌<◌, ◌∷◌, [], List, length, drop, IsOk, IfErr, IfSome, IfNone, OnOk};
+ghost use Rattle.std.specs.Prelude.{◌≡◌, ◌≢◌, ◌<◌, ◌∷◌, [], List, length, drop, IsOk, IfErr, IfSome, IfNone, OnOk};
 ghost use Rattle.std.specs.List.{AllByRecursion};
 ghost use Rattle.fz_lex.specs.Limits.{most_bytes, AreWithinLimit, LexesWithinLimits};
 ghost use Rattle.fz_lex.specs.Lexing.{SpannedToken, AreInOrder, LexesToSpanned};
@@ -24,6 +24,7 @@ pub fn check_tokens(source: &[u8]) -> Result<(), SyntaxError>
     ensures only { (tokens : List SpannedToken) → LexesWithinLimits source.now tokens → IsOk result }
     ensures too_long { most_bytes < length source.now → result ≡ Err SyntaxError.TooLong }
     ensures refused { IfErr result (IsLexicalFault source.now) }
+    ensures no_memory { IfErr result (λ e. e ≢ SyntaxError.Memory) }
     ensures placed { IfErr result (IsPlacedWithin (length source.now)) }
 {
     if source.len() > MOST_BYTES {
@@ -116,6 +117,9 @@ impl<'a> Tokens<'a> {
         ensures numbers { OnOk result (AreWithinLimit (tokens_ahead (source_of self.entry) 0)) }
         ensures only { (tokens : List SpannedToken) → LexesWithinLimits (source_of self.entry) tokens → IsOk result }
         ensures refused { IfErr result (IsLexicalFault (source_of self.entry)) }
+        ensures no_memory { IfErr result (λ e. e ≢ SyntaxError.Memory) }
+        // It doesn't look at the length of the text.
+        ensures any_length { IfErr result (λ e. e ≢ SyntaxError.TooLong) }
         ensures placed { IfErr result (IsPlacedWithin (length (source_of self.entry))) }
     {
         scan(self.lexer)

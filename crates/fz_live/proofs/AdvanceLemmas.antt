@@ -11,8 +11,9 @@ use Rattle.fz_stream.specs.Faults.{IsStreamFault}
 use Rattle.fz_stream.specs.Parts.{StreamPart, IsStreamText}
 use Rattle.fz_stream.specs.Splitting.{SplitterState, Holds, Fits, EndsWith, parts_of}
 use Rattle.fz_live.specs.declared.error.PartError.TheVariants.{Stream}
-use Rattle.fz_live.specs.Reading.{ReaderState, HasRead, HasEnded, StandsAt, ReadsOn, HasOneMore, HasNoMore, IsRefusedInside, IsRefusedAfter, piece_size, steps_left}
+use Rattle.fz_live.specs.Reading.{ReaderState, HasRead, HasEnded, StandsAt, ReadsOn, HasOneMore, HasNoMore, IsRefusedInside, IsRefusedAfter, SpendsReads, piece_size, steps_left, without_bytes}
 use Rattle.fz_live.specs.Refusing.{part_refusal}
+use Rattle.fz_live.proofs.SpendingLemmas.{still_made}
 
 -- which fault of the splitter was met
 pub told_fault : (e told : StreamError) → part_refusal e ≡ Stream told → (e ≢ Memory) × (e ≡ told)
@@ -32,6 +33,7 @@ pub record Advancing (old now : ReaderState) (left left' : Option (List ℕ)) : 
   pub consumes : Consumes left left' more
   pub read : (given : List ℕ) (parts : List StreamPart) → HasRead old given parts → HasRead now (given ++ more) parts
   pub fewer : steps_left now ≤ steps_left old
+  pub few : length more + now.reads * piece_size ≤ old.reads * piece_size
 
 pub advance_starts : (old : ReaderState) (left : Option (List ℕ)) → old.splitter.stage ≢ Finished → Advancing old old left left
 advance_starts old left going = record {
@@ -42,6 +44,7 @@ advance_starts old left going = record {
   consumes = Consumes-nil left;
   read = λ given parts h. subst (λ g. HasRead old g parts) (sym (append-nil given)) h;
   fewer = omega arith;
+  few = omega arith;
 }
 
 -- a reader that has not ended stands where it has read
@@ -79,6 +82,7 @@ module _ (old now next : ReaderState) (left left' : Option (List ℕ)) (a : Adva
     consumes = a.consumes;
     read = λ given parts h. kept (given ++ a.more) parts (a.read given parts h);
     fewer = omega (arith, a.fewer, ap (λ n. n * 4097) reads, ap length none);
+    few = omega (arith, a.few, ap (λ n. n * 4096) reads);
   }
 
   -- what was read now follows
@@ -102,6 +106,7 @@ module _ (old now next : ReaderState) (left left' : Option (List ℕ)) (a : Adva
       consumes = Consumes-trans left left' left'' a.more next.pending a.consumes consumes;
       read = λ given parts h. subst (λ g. HasRead next g parts) (append_assoc given a.more next.pending) (reads_more (given ++ a.more) parts (a.read given parts h));
       fewer = omega (arith, a.fewer, ap (λ n. n * 4097) reads, size);
+      few = omega (arith, a.few, ap (λ n. n * 4096) reads, size, length-append a.more next.pending);
     }
 
     pub read_fewer : next.reads + 1 ≡ now.reads → steps_left next < steps_left old
@@ -117,6 +122,14 @@ module _ (old now next : ReaderState) (left left' : Option (List ℕ)) (a : Adva
           let k = subst (λ g. HasRead next g parts) (append_assoc given a.more next.pending) (reads_more (given ++ a.more) parts h) in
           (k, none_pending next _ parts still k));
     }
+
+  -- and then nothing more, and no more reads are left than before
+  pub advance_spends : (left'' : Option (List ℕ)) (last : List ℕ) → Consumes left' left'' last → last ≡ [] → without_bytes next ≤ now.reads → SpendsReads (without_bytes old) (without_bytes next) left left''
+  advance_spends left'' last consumes none fewer = record {
+    given = a.more ++ last;
+    consumes = Consumes-trans left left' left'' a.more last a.consumes consumes;
+    few = omega (arith, a.few, fewer, ap length none, length-append a.more last, ap (λ n. n * 4096) (still_made old.splitter.stage old.reads a.started));
+  }
 
   -- what holds of all that was read
   pub advance_then : (Then : List ℕ → List StreamPart → Type 0) → ((given : List ℕ) (parts : List StreamPart) → HasRead now given parts → Then given parts) → ReadsOn old left left' Then

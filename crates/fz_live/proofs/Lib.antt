@@ -6,3 +6,4 @@ pub mod Appending
 pub mod TellingLemmas
 pub mod CountLemmas
 pub mod LiveLemmas
+pub mod SpendingLemmas

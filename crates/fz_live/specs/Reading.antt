@@ -1,10 +1,11 @@
 -- What is known of a stream while a reader gives its bytes (this project's profile). What a reader still has to give is known or not, as
 -- `Consumes` and `IsAtEnd` have it: of a reader that tells nothing, as a file, they say nothing.
-use Rattle.std.specs.Prelude.{◌≡◌, ℕ, ◌+◌, ◌*◌, ◌≤◌, List, [], ◌∷◌, ◌++◌, length, Option, ◌⊎◌}
+use Rattle.std.specs.Prelude.{◌≡◌, ℕ, suc, ◌+◌, ◌*◌, ◌≤◌, List, [], ◌∷◌, ◌++◌, length, Option, ◌⊎◌}
 use Rattle.std.specs.Io.KnownBytes.{Consumes, IsAtEnd}
 use Rattle.fz_stream.specs.declared.error.StreamError.{StreamError}
 use Rattle.fz_stream.specs.declared.error.StreamError.TheVariants.{TooLong}
-use Rattle.fz_stream.specs.declared.splitter.Stage.TheVariants.{Finished}
+use Rattle.fz_stream.specs.declared.splitter.Stage.{Stage}
+use Rattle.fz_stream.specs.declared.splitter.Stage.TheVariants.{Running, Finished, Failed}
 use Rattle.fz_stream.specs.Broken.{IsBrokenAfter, IsBrokenAtEndAfter}
 use Rattle.fz_stream.specs.Parts.{StreamPart}
 use Rattle.fz_stream.specs.Splitting.{SplitterState, Holds, Fits, EndsWith, PassesLimit, most_taken}
@@ -71,9 +72,25 @@ IsRefusedInside given parts e = ((e ≡ TooLong) × PassesLimitIn given parts) �
 abbrev pub IsRefusedAfter : Option (List ℕ) → List ℕ → List StreamPart → StreamError → Type 0
 IsRefusedAfter left given parts e = IsRefusedInside given parts e ⊎ (IsAtEnd left × IsBrokenAtEndAfter given parts e)
 
--- the size of a piece that is read, and a number that falls with each part that is given
+-- the most bytes of one read
 abbrev pub piece_size : ℕ
 piece_size = 4096
 
+-- Of so many reads that may be made, these bring nothing or are not made at all: the reader gives no more bytes than the others can bring.
+pub record SpendsReads (reads without : ℕ) (left left' : Option (List ℕ)) : Type 0 where
+  pub given : List ℕ
+  pub consumes : Consumes left left' given
+  pub few : length given + without * piece_size ≤ reads * piece_size
+
+-- The reads that bring nothing: those that may still be made, and where the stream has ended the one that found its end.
+abbrev pub reads_without : Stage → ℕ → ℕ
+reads_without Finished still = suc still
+reads_without Running still = still
+reads_without Failed still = still
+
+abbrev pub without_bytes : ReaderState → ℕ
+without_bytes s = reads_without s.splitter.stage s.reads
+
+-- a number that falls with each part that is given
 abbrev pub steps_left : ReaderState → ℕ
 steps_left s = s.reads * 4097 + length s.pending

@@ -6,7 +6,7 @@ ghost use Rattle.fz_stream.specs.Faults.{IsStreamFault};
 ghost use Rattle.fz_stream.specs.Parts.{StreamPart};
 ghost use Rattle.fz_judge.specs.declared.error.BlockError.{BlockError};
 ghost use Rattle.fz_live.specs.Live.{BlockIsRefused, IsAnswered, StopsAfterLines, WritesFrontOfLines};
-ghost use Rattle.fz_live.specs.Reading.{HasNoMore, IsRefusedAfter};
+ghost use Rattle.fz_live.specs.Reading.{HasNoMore, IsRefusedAfter, SpendsReads};
 ghost use Rattle.fz_live.specs.View.{answer_view};
 
 use crate::error::{LiveError, live_refusal};
@@ -34,6 +34,9 @@ pub fn check_parts<R: Read, W: Write>(
     writer: &mut W,
     reads: u64,
 ) -> Result<Answer, LiveError>
+    // It reads at most so often, and before there is an answer one read finds the end.
+    ensures reads { SpendsReads reads 0 (R.remaining reader.old) (R.remaining reader.new) }
+    ensures end_read { IfOk result (λ _. SpendsReads reads 1 (R.remaining reader.old) (R.remaining reader.new)) }
     // The writer got the report on all that the reader gave up to its end, and nothing else.
     ensures answered { IfOk result (λ a. IsAnswered model.now (R.remaining reader.old) (R.remaining reader.new) (W.contents writer.old) (W.contents writer.new) (answer_view a)) }
     // After a refusal the lines of all parts that ended before the fault were written, and nothing else.

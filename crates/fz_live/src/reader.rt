@@ -5,7 +5,7 @@ ghost use Rattle.fz_stream.specs.Faults.{IsStreamFault};
 ghost use Rattle.fz_stream.specs.Parts.{StreamPart, IsStreamText};
 ghost use Rattle.fz_stream.specs.Releasing.{AreOfWaiting};
 ghost use Rattle.fz_stream.specs.Splitting.{Fits, Lends, IsPartOfItems, most_taken};
-ghost use Rattle.fz_live.specs.Reading.{StandsAt, HasRead, HasEnded, ReadsOn, HasOneMore, HasNoMore, IsRefusedInside, IsRefusedAfter, piece_size, steps_left};
+ghost use Rattle.fz_live.specs.Reading.{StandsAt, HasRead, HasEnded, ReadsOn, HasOneMore, HasNoMore, IsRefusedInside, IsRefusedAfter, SpendsReads, piece_size, steps_left, without_bytes};
 
 use crate::error::{PartError, part_refusal};
 use crate::pieces::{Pieces, ReadFailed};
@@ -85,6 +85,7 @@ impl PartReader {
         ensures given { Consumes (R.remaining reader.old) (R.remaining reader.new) self.new.pending }
         ensures size { length self.new.pending ≤ piece_size }
         ensures reads { OnOk result (self.new.reads + 1 ≡ self.old.reads) }
+        ensures fewer { self.new.reads ≤ self.old.reads }
         ensures end { result ≡ Ok false → (self.new.pending ≡ []) × IsAtEnd (R.remaining reader.new) }
         ensures none_given { OnErr result (self.new.pending ≡ []) }
     {
@@ -97,6 +98,7 @@ impl PartReader {
         requires going { self.old.splitter.stage ≢ Finished }
         ensures reads { self.new.reads ≡ self.old.reads }
         ensures pending { self.new.pending ≡ [] }
+        ensures ended { OnOk result (self.new.splitter.stage ≡ Finished) }
         ensures waits { result ≡ Ok true → IsSome self.new.splitter.waits }
         ensures more { result ≡ Ok true → (given : List ℕ) (parts : List StreamPart) → HasRead self.old given parts → (part : StreamPart) × HasEnded self.new given (parts ++ part ∷ []) }
         ensures none { result ≡ Ok false → (given : List ℕ) (parts : List StreamPart) → HasRead self.old given parts → IsStreamText given parts }
@@ -126,6 +128,9 @@ impl PartReader {
         ensures more { result ≡ Ok true → ReadsOn self.old (R.remaining reader.old) (R.remaining reader.new) (HasOneMore self.new (R.remaining reader.new)) }
         ensures waits { result ≡ Ok true → IsSome self.new.splitter.waits }
         ensures fewer { result ≡ Ok true → steps_left self.new < steps_left self.old }
+        // Each read that is made brings 4,096 bytes at most, and the one that finds the end brings none.
+        ensures spends { SpendsReads (without_bytes self.old) (without_bytes self.new) (R.remaining reader.old) (R.remaining reader.new) }
+        ensures at_end { result ≡ Ok false → self.new.splitter.stage ≡ Finished }
         // The bytes have ended, and are a text of the parts so far.
         ensures end { result ≡ Ok false → ReadsOn self.old (R.remaining reader.old) (R.remaining reader.new) (λ given parts. IsAtEnd (R.remaining reader.new) × IsStreamText given parts) }
         // No further part has ended in what was read.

@@ -17,8 +17,7 @@ use Rattle.fz_syntax.specs.Tree.NoteArgs.{NoMoreArgs, MoreArgs}
 use Rattle.fz_syntax.specs.Tree.NoteArg.{OneBasic}
 use Rattle.fz_syntax.specs.Tree.NoteBasic.{Inner}
 use Rattle.fz_syntax.specs.Tree.Base.{BoolBase, IntBase, SetBase}
-use Rattle.fz_syntax.specs.Shape.{IsTree, the_limits}
-use Rattle.fz_meaning.specs.Located.{Basic, Expr, Decl, Constraint, Goal, LocatedTree, bare_of}
+use Rattle.fz_meaning.specs.Located.{Basic, Expr, Decl, Constraint, Goal, LocatedTree}
 use Rattle.fz_meaning.specs.Located.Basic.{Lit, Named}
 use Rattle.fz_meaning.specs.Located.Expr.{One, Several}
 use Rattle.fz_meaning.specs.Located.Goal.{Satisfy, Minimize, Maximize}
@@ -151,11 +150,6 @@ HasFault t WrongLength at = Some_of (λ d. IsTrue (differs_in_length d) × (at �
 
 abbrev pub HasNoFault : LocatedTree → Type 0
 HasNoFault t = (k : FaultKind) (at : Span) → HasFault t k at → ⊥
-
--- a model is a tree with the shapes of the grammar, within the limits, and without faults
-pub record IsModelTree (t : LocatedTree) : Type 0 where
-  pub of_grammar : IsTree the_limits (bare_of t)
-  pub no_fault : HasNoFault t
 
 -- which is told of two faults at one place: at a name that it is declared twice
 abbrev pub rank : FaultKind → ℕ

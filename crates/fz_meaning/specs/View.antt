@@ -19,7 +19,7 @@ use Rattle.fz_meaning.specs.Located.{Name, Literal, Basic, Expr, Decl, Constrain
 use Rattle.fz_meaning.specs.Located.Basic.{Lit, Named}
 use Rattle.fz_meaning.specs.Located.Expr.{One, Several}
 use Rattle.fz_meaning.specs.Located.Goal.{Satisfy, Minimize, Maximize}
-use Rattle.fz_meaning.specs.Names.{IsFirstFault, DuplicateName, UnknownName, WrongKind, WrongLength}
+use Rattle.fz_meaning.specs.Names.{HasFault, IsFirstFault, DuplicateName, UnknownName, WrongKind, WrongLength}
 
 -- ---- trees
 
@@ -60,7 +60,15 @@ located a = record { predicates = map bare_predicate a.predicates.items; decls =
 
 -- ---- refusals
 
--- what a refusal tells of the tree: its leftmost fault, or nothing where memory ran out
+-- what a refusal tells of the tree: a fault that it has, at the place told, or nothing where memory ran out
+abbrev pub TellsFault : LocatedTree → ModelError → Type 0
+TellsFault t (errors.DuplicateName at) = HasFault t DuplicateName at
+TellsFault t (errors.UnknownName at) = HasFault t UnknownName at
+TellsFault t (errors.Kind at) = HasFault t WrongKind at
+TellsFault t (errors.Length at) = HasFault t WrongLength at
+TellsFault t errors.Memory = ⊤
+
+-- the same, where the fault is the leftmost one
 abbrev pub TellsFirstFault : LocatedTree → ModelError → Type 0
 TellsFirstFault t (errors.DuplicateName at) = IsFirstFault t DuplicateName at
 TellsFirstFault t (errors.UnknownName at) = IsFirstFault t UnknownName at

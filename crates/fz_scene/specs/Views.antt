@@ -1,7 +1,6 @@
 -- What the code's views of a constraint stand for.
-use Rattle.std.specs.Prelude.{◌≡◌, ℕ, ℤ, Bool, true, false, List, [], map, slice_get, Option, Some}
+use Rattle.std.specs.Prelude.{◌≡◌, ℕ, ℤ, Bool, true, false, List, map, Option, Some}
 use Rattle.std.specs.List.{list_all}
-use Rattle.std.specs.Option.{option_map_or}
 use Rattle.fz_base.specs.Sets.{NumberSet}
 use Rattle.fz_meaning.specs.declared.kind.Kind.{Kind}
 use Rattle.fz_meaning.specs.declared.term.Term.{Term}
@@ -13,7 +12,7 @@ use Rattle.fz_data.specs.declared.parts.Argument.{Argument}
 use Rattle.fz_data.specs.declared.parts.Argument.TheVariants as arguments
 use Rattle.fz_data.specs.declared.parts.Array.{Array}
 use Rattle.fz_data.specs.Parts.{argument_view}
-use Rattle.fz_data.specs.Readings.{place_term, slot_term}
+use Rattle.fz_data.specs.Readings.{array_elements, place_term, slot_term}
 use Rattle.fz_scene.specs.declared.elements.Elements.{Elements}
 use Rattle.fz_scene.specs.declared.elements.Kept.{Kept}
 use Rattle.fz_scene.specs.declared.elements.Kept.TheVariants as kept
@@ -59,13 +58,9 @@ place_is_read K k p = is_read K k (slot_kept p)
 
 -- ---- whether scalars have values, as the code keeps them (private functions only)
 
--- the elements of the array of a number
-abbrev pub elements_kept : List Array → ℕ → List Term
-elements_kept xs i = option_map_or (λ x. x.elements.items) (slice_get xs i) []
-
 abbrev pub place_is_given : meaning.Partial → List Array → Place → Bool
 place_is_given K xs (places.Scalar t) = has_value K t
-place_is_given K xs (places.Array x) = list_all (has_value K) (elements_kept xs x.number)
+place_is_given K xs (places.Array x) = list_all (has_value K) (array_elements xs x.number)
 
 abbrev pub kept_is_given : meaning.Partial → List Array → Argument → Bool
 kept_is_given K xs (arguments.One p) = place_is_given K xs p

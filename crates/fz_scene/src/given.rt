@@ -3,20 +3,10 @@
 ghost use Rattle.std.specs.Prelude.{◌≡◌};
 ghost use Rattle.std.specs.List.{list_all};
 ghost use Rattle.fz_scene.specs.Given.{has_value};
-ghost use Rattle.fz_scene.specs.Views.{elements_kept, kept_is_given, place_is_given};
+ghost use Rattle.fz_scene.specs.Views.{kept_is_given, place_is_given};
 
 use fz_data::{Argument, Array, Partial, Place};
 use fz_meaning::Term;
-
-/// The elements of the array of a number; none where the number is no array's.
-pub(crate) fn elements<'s>(arrays: &'s [Array<'_>], number: usize) -> &'s [Term]
-    ensures { result.now ≡ elements_kept arrays.now number }
-{
-    match arrays.get(number) {
-        Some(array) => &array.elements,
-        None => &[],
-    }
-}
 
 /// Whether each scalar of an argument has a value.
 pub(crate) fn is_given(partial: &Partial, arrays: &[Array<'_>], argument: &Argument<'_>) -> bool
@@ -42,7 +32,7 @@ fn place_is_given(partial: &Partial, arrays: &[Array<'_>], place: &Place<'_>) ->
 {
     match place {
         Place::Scalar(term) => has_value(partial, term),
-        Place::Array(name) => have_values(partial, elements(arrays, name.number)),
+        Place::Array(name) => have_values(partial, name.elements(arrays)),
     }
 }
 

@@ -1,11 +1,11 @@
 //! A constraint under a partial assignment.
 
 use crate::elements::{Elements, Kept};
-use crate::given::{are_given, elements};
+use crate::given::are_given;
 use crate::laid::{scalar_at_laid, scalar_laid, slot_int, slot_is_read, slot_set, slot_truth};
 use crate::reading::{Readiness, bool_in, int_in, is_of, set_in, value_at};
 use fz_base::{IntSet, Value};
-use fz_data::{Argument, ConstraintParts, Laid, LaidParts, Partial, Place, part};
+use fz_data::{Argument, ConstraintParts, Laid, LaidParts, Partial, Place, array_elements, part};
 use fz_meaning::Shape;
 
 /// A constraint's arguments under a partial assignment.
@@ -125,7 +125,9 @@ impl<'s, 'a> Scene<'s, 'a> {
                 part(laid.slots, *first as usize, *count as usize),
                 laid.constants,
             ),
-            Laid::Array(number) => Kept::Terms(elements(self.parts.arrays, *number as usize)),
+            Laid::Array(number) => {
+                Kept::Terms(array_elements(self.parts.arrays, *number as usize))
+            }
         }
     }
 
@@ -167,9 +169,7 @@ impl<'s, 'a> Scene<'s, 'a> {
     {
         match argument {
             Argument::One(Place::Scalar(_)) => Kept::Terms(&[]),
-            Argument::One(Place::Array(name)) => {
-                Kept::Terms(elements(self.parts.arrays, name.number))
-            }
+            Argument::One(Place::Array(name)) => Kept::Terms(name.elements(self.parts.arrays)),
             Argument::List(places) => Kept::Places(places),
         }
     }

@@ -4,14 +4,14 @@ use Rattle.fz_syntax.specs.declared.tree.Printed.{Printed}
 use Rattle.fz_syntax.specs.Places.{IsPlacedWithin}
 use Rattle.fz_syntax.specs.SyntaxError.{SyntaxError}
 use Rattle.fz_syntax.specs.SyntaxError.TheVariants.{TooLong as TextTooLong, BadByte, TooLarge, Float, Syntax, TooDeep, TooMany, Memory as TextMemory}
-use Rattle.fz_syntax.specs.Text.{IsValue}
+use Rattle.fz_syntax.specs.Text.{IsValue, IsTextOfItems, IsRefusalOf}
 use Rattle.fz_syntax.specs.Tree.{Printed as Plain}
 use Rattle.fz_syntax.specs.View.{bare_items}
 use Rattle.fz_stream.specs.declared.error.StreamError.{StreamError}
 use Rattle.fz_stream.specs.declared.error.StreamError.TheVariants.{TooLong, Item, DuplicateName, Unfinished, Memory, Failed}
 use Rattle.fz_stream.specs.Faults.{IsStreamFault, IsFaultWithin}
 use Rattle.fz_stream.specs.Moving.{item_fault}
-use Rattle.fz_stream.specs.Telling.{TellsOfText, TellsOf}
+use Rattle.fz_stream.specs.Telling.{IsFaultOfText, TellsOfText, TellsOf}
 use Rattle.fz_stream.specs.declared.line.LineKind.{LineKind}
 use Rattle.fz_stream.specs.declared.line.LineKind.TheVariants.{Marker}
 use Rattle.fz_stream.specs.Step.{IsBlockFault, IsLineFault}
@@ -67,16 +67,22 @@ placed_fault offset n (TooDeep span) h = (omega (arith, h.0), omega (arith, h.1)
 placed_fault offset n (TooMany span) h = (omega (arith, h.0), omega (arith, h.1))
 placed_fault offset n TextMemory h = tt
 
+fault_of_text : (text : List ℕ) (e : SyntaxError) → ((items : List Plain) → IsTextOfItems text items → ⊥) → IsRefusalOf text e → e ≢ TextMemory → e ≢ TextTooLong → IsPlacedWithin (length text) e
+    → IsFaultOfText text e
+fault_of_text text e none order memory long place = record { no_items = none; order = order; kind = (memory, long); place = place }
+
 -- what a refusal of a text tells of it
-pub tells_text : (offset : ℕ) (text : List ℕ) (e : SyntaxError) → IsPlacedWithin (length text) e → TellsOfText offset text (item_fault offset e)
-tells_text offset text TextTooLong h = (TextTooLong, h, refl)
-tells_text offset text (BadByte span) h = (BadByte span, h, refl)
-tells_text offset text (TooLarge span) h = (TooLarge span, h, refl)
-tells_text offset text (Float span) h = (Float span, h, refl)
-tells_text offset text (Syntax span) h = (Syntax span, h, refl)
-tells_text offset text (TooDeep span) h = (TooDeep span, h, refl)
-tells_text offset text (TooMany span) h = (TooMany span, h, refl)
-tells_text offset text TextMemory h = tt
+pub tells_text : (offset : ℕ) (text : List ℕ) (e : SyntaxError) → e ≢ TextTooLong
+    → ((items : List Plain) → IsTextOfItems text items → IsValue {X = Vec Printed Global} (λ given. bare_items given.items) (Err e) items)
+    → IsRefusalOf text e → IsPlacedWithin (length text) e → TellsOfText offset text (item_fault offset e)
+tells_text offset text TextTooLong short only order h = absurd (short (let same : TextTooLong ≡ TextTooLong = cc in same))
+tells_text offset text (BadByte span) short only order h = (BadByte span, fault_of_text text (BadByte span) only order (λ q. let no : BadByte span ≡ TextMemory = q in cc) short h, refl)
+tells_text offset text (TooLarge span) short only order h = (TooLarge span, fault_of_text text (TooLarge span) only order (λ q. let no : TooLarge span ≡ TextMemory = q in cc) short h, refl)
+tells_text offset text (Float span) short only order h = (Float span, fault_of_text text (Float span) only order (λ q. let no : Float span ≡ TextMemory = q in cc) short h, refl)
+tells_text offset text (Syntax span) short only order h = (Syntax span, fault_of_text text (Syntax span) only order (λ q. let no : Syntax span ≡ TextMemory = q in cc) short h, refl)
+tells_text offset text (TooDeep span) short only order h = (TooDeep span, fault_of_text text (TooDeep span) only order (λ q. let no : TooDeep span ≡ TextMemory = q in cc) short h, refl)
+tells_text offset text (TooMany span) short only order h = (TooMany span, fault_of_text text (TooMany span) only order (λ q. let no : TooMany span ≡ TextMemory = q in cc) short h, refl)
+tells_text offset text TextMemory short only order h = tt
 
 -- what it tells where a marker stands behind the text
 pub tells_before_marker : (offset : ℕ) (text : List ℕ) (behind : Option LineKind) (e : StreamError) → behind ≡ Some Marker → TellsOfText offset text e → TellsOf offset text behind e

@@ -2,6 +2,7 @@ pub mod LineLemmas
 pub mod KindLemmas
 pub mod NameLemmas
 pub mod PartLemmas
+pub mod OnePartLemmas
 pub mod ReadingLemmas
 pub mod StopLemmas
 pub mod SoFar

@@ -12,7 +12,8 @@ use Rattle.fz_stream.specs.Lines.{Line, lines_of, kind_of}
 use Rattle.fz_stream.specs.Parts.{SolutionBlock, StreamPart, BlockPart, ClaimPart, IsBlockText, IsStreamText}
 use Rattle.fz_stream.specs.Found.{blocks_in, claims_in, IsReadAs}
 use Rattle.fz_stream.specs.Step.{step_of}
-use Rattle.fz_stream.specs.Telling.{TellsOfText, StopsAfter}
+use Rattle.fz_stream.specs.Broken.{StopsAfter}
+use Rattle.fz_stream.specs.Telling.{TellsOfText}
 use Rattle.fz_stream.proofs.PartLemmas.{stream_text, end_after}
 use Rattle.fz_stream.proofs.StopLemmas.{stops_at_marker, text_within, stops_at_claim, stops_at_end}
 use Rattle.fz_stream.proofs.LineLemmas.{joined-lines_of}

@@ -1,5 +1,6 @@
 -- What the loop of a splitter's `take_bytes` keeps.
 use Rattle.std.proofs.Common.{◌≡◌, ◌≢◌, ℕ, ◌+◌, ◌-◌, ◌<◌, ◌≤◌, ◌^◌, Some, List, [], ◌∷◌, ◌++◌, length, take, drop, get_or, sym, ap, ◌∙◌, subst, ◌⊎◌, inl, inr, ⊎_elim, append_assoc, append-nil, length-append, length-take, length-drop, arith, take-append-drop}
+use Rattle.std.proofs.lemmas.Bool.{cases_lt}
 use Rattle.std.proofs.lemmas.List.{take_all, take-take}
 use Rattle.std.proofs.Math.Seq.{take-add}
 use Rattle.fz_stream.specs.declared.held.Ended.{Ended}
@@ -8,7 +9,7 @@ use Rattle.fz_stream.specs.declared.error.StreamError.{StreamError}
 use Rattle.fz_stream.specs.Lines.{lines_of, joined, kind_of, HasNoFeed, EndsWithFeed}
 use Rattle.fz_stream.specs.Parts.{StreamPart, Covers}
 use Rattle.fz_stream.specs.Broken.{IsBrokenAfter}
-use Rattle.fz_stream.specs.Splitting.{PassesLimit}
+use Rattle.fz_stream.specs.Splitting.{Holds, HasRoomAt, HasRoomFor, PassesLimit}
 use Rattle.fz_stream.specs.Telling.{TellsOf}
 use Rattle.fz_stream.specs.Keeping.{Keeps, DropsLine, JoinsLine, HasLine, IsHeld, GoesOnHolding, EndsPart, BreaksBlock, KeepsAll, TakesPart}
 use Rattle.fz_stream.proofs.PartLemmas.{every_append, joined-append, joined_one}
@@ -22,6 +23,7 @@ pub record Taking (old now : Held) (piece : List ℕ) (at : ℕ) : Type 0 where
   pub most_taken : now.before + length now.buffer.items ≤ 2 ^ 40
   pub held : IsHeld now
   pub keeps : (bytes : List ℕ) (parts : List StreamPart) → Keeps bytes parts old.buffer.items → Keeps (bytes ++ take at piece) parts now.buffer.items
+  pub room : (bytes : List ℕ) (parts : List StreamPart) → Keeps bytes parts old.buffer.items → old.before + length old.buffer.items ≡ length bytes → HasRoomFor bytes piece parts at
 
 pub start_taking : (old : Held) (piece : List ℕ) → old.line ≤ length old.buffer.items → length old.buffer.items ≤ 2 ^ 24 → old.before + length old.buffer.items ≤ 2 ^ 40 → IsHeld old → Taking old old piece 0
 start_taking old piece l r m h = record {
@@ -32,6 +34,7 @@ start_taking old piece l r m h = record {
   count = omega arith;
   held = h;
   keeps = λ bytes parts k. subst (λ b. Keeps b parts old.buffer.items) (sym (append-nil bytes)) k;
+  room = λ bytes parts k size i l. absurd (omega (arith, l));
 }
 
 pub all_taken : (old now : Held) (piece : List ℕ) (at : ℕ) → Taking old now piece at → length piece ≤ at → KeepsAll old now piece at
@@ -57,21 +60,41 @@ module _ (old now : Held) (piece : List ℕ) (at : ℕ) (t : Taking old now piec
   front_next : (n : ℕ) → n < length part → take (at + n) piece ≡ take at piece ++ take n part
   front_next n l = take-add at n piece ∙ ap (λ m. take at piece ++ m) (ap (take n) (sym left) ∙ sym (take-take n (length part) rest (omega arith)) ∙ sym (ap (take n) front))
 
+  -- what is held with so many bytes of the line, but not all
+  holds_front : (n : ℕ) → n < length part → (bytes : List ℕ) (parts : List StreamPart) → Keeps bytes parts old.buffer.items → Holds (bytes ++ take (at + n) piece) parts (now.buffer.items ++ take n part)
+  holds_front n l bytes parts k =
+      let begun : HasNoFeed (t.held.current ++ take n part) = every_append (λ b. b ≢ 10) t.held.current (take n part) t.held.begun (no_feed_before part n either l) in
+      let kept : Keeps (bytes ++ take (at + n) piece) parts (now.buffer.items ++ take n part) =
+      subst (λ b. Keeps b parts (now.buffer.items ++ take n part)) (append_assoc bytes (take at piece) (take n part) ∙ ap (λ m. bytes ++ m) (sym (front_next n l)))
+      (keeps_more (bytes ++ take at piece) parts now.buffer.items (t.keeps bytes parts k) (take n part)) in
+      holds_current _ _ _ kept t.held.body t.held.lines.whole t.held.lines.own (t.held.current ++ take n part)
+      (ap (λ m. m ++ take n part) t.held.lines.bytes ∙ append_assoc (joined t.held.body) t.held.current (take n part)) begun
+
+  -- the line fits: there is room for each of its bytes
+  pub room_next : length now.buffer.items + length part ≤ 2 ^ 24 → now.before + length now.buffer.items + length part ≤ 2 ^ 40
+      → (bytes : List ℕ) (parts : List StreamPart) → Keeps bytes parts old.buffer.items → old.before + length old.buffer.items ≡ length bytes → HasRoomFor bytes piece parts (at + length part)
+  room_next fits over bytes parts k size i l =
+      ⊎_elim (λ before. t.room bytes parts k size i before)
+      (λ behind. (let place : at + (i - at) ≡ i = omega (arith, behind) in subst (HasRoomAt bytes piece parts) place (in_line (i - at) (omega (arith, behind, l))))) (cases_lt i at)
+    where
+      in_line : (n : ℕ) → n < length part → HasRoomAt bytes piece parts (at + n)
+      in_line n less = (
+        now.buffer.items ++ take n part,
+        holds_front n less bytes parts k,
+        omega (arith, fits, less, length-append now.buffer.items (take n part), length-take n part),
+        omega (arith, over, less, size, t.count, inside, length-append bytes (take (at + n) piece), length-take (at + n) piece),
+      )
+
   -- the line doesn't fit: of its bytes n could be taken
   pub passes_limit : (n : ℕ) → n < length part → (bytes : List ℕ) (parts : List StreamPart) → Keeps bytes parts old.buffer.items → old.before + length old.buffer.items ≡ length bytes
       → (length now.buffer.items + n ≡ 2 ^ 24) ⊎ (now.before + length now.buffer.items + n ≡ 2 ^ 40) → PassesLimit bytes piece parts
   passes_limit n l bytes parts k size full =
-      let begun : HasNoFeed (t.held.current ++ take n part) = every_append (λ b. b ≢ 10) t.held.current (take n part) t.held.begun (no_feed_before part n either l) in
       let some : length (take n part) ≡ n = omega (arith, length-take n part, l) in
-      let kept : Keeps (bytes ++ take (at + n) piece) parts (now.buffer.items ++ take n part) =
-      subst (λ b. Keeps b parts (now.buffer.items ++ take n part)) (append_assoc bytes (take at piece) (take n part) ∙ ap (λ m. bytes ++ m) (sym (front_next n l)))
-      (keeps_more (bytes ++ take at piece) parts now.buffer.items (t.keeps bytes parts k) (take n part)) in
       record {
         n = at + n;
         within = omega (arith, l, inside);
         held = now.buffer.items ++ take n part;
-        holds = holds_current _ _ _ kept t.held.body t.held.lines.whole t.held.lines.own (t.held.current ++ take n part)
-            (ap (λ m. m ++ take n part) t.held.lines.bytes ∙ append_assoc (joined t.held.body) t.held.current (take n part)) begun;
+        holds = holds_front n l bytes parts k;
         full = ⊎_elim (λ e. inl (omega (arith, e, some, length-append now.buffer.items (take n part))))
             (λ e. inr (omega (arith, e, some, size, t.count, l, inside, length-append bytes (take (at + n) piece), length-take (at + n) piece))) full;
       }
@@ -105,6 +128,7 @@ module _ (old now : Held) (piece : List ℕ) (at : ℕ) (t : Taking old now piec
       most_taken = omega (arith, left_over, sizes, same_before);
       held = record { body = t.held.body; current = t.held.current ++ part; lines = lines_mid; begun = every_append (λ b. b ≢ 10) t.held.current part t.held.begun (begun_from_last part either unended) };
       keeps = keeps_mid;
+      room = room_next room left_over;
     }
 
     module _ (closed : get_or part (length part - 1) 0 ≡ 10) where
@@ -122,6 +146,7 @@ module _ (old now : Held) (piece : List ℕ) (at : ℕ) (t : Taking old now piec
         most_taken = omega (arith, count, left_over, sizes, same_before);
         held = ⊎_elim dropped joined_to g;
         keeps = λ bytes parts k. ⊎_elim (dropped_keeps bytes parts k) (λ (j : JoinsLine mid new t.held.body (t.held.current ++ part)). subst (Keeps (bytes ++ take (at + length part) piece) parts) (sym j.same) (keeps_mid bytes parts k)) g;
+        room = room_next room left_over;
       }
         where
           body_next : joined t.held.body ++ (t.held.current ++ part) ≡ joined (t.held.body ++ (t.held.current ++ part) ∷ []) ++ []

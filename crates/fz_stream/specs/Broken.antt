@@ -1,4 +1,4 @@
--- Streams that no further bytes can mend (this project's profile).
+-- Where a stream is broken, as a whole or so that no further bytes can mend it (this project's profile).
 use Rattle.std.specs.Prelude.{◌≢◌, ℕ, ◌+◌, List, [], ◌∷◌, length, Some}
 use Rattle.fz_syntax.specs.Tree.{Printed}
 use Rattle.fz_stream.specs.declared.error.StreamError.{StreamError}
@@ -44,4 +44,19 @@ pub record IsBrokenAtEndAfter (bytes : List ℕ) (parts : List StreamPart) (faul
   pub stands : GoesOnAfter bytes parts gap body rest
   pub begun : body ≢ []
   pub breaks : CannotEnd (joined body) rest
+  pub tells : TellsOf (length (joined stands.covers.covered) + length (joined gap)) (joined body) (first_kind rest) fault
+
+-- what stands behind an open block of this text breaks it: nothing, as the stream ends there, or a line that can't follow it
+abbrev pub BreaksText : List ℕ → List Line → Type 0
+BreaksText text [] = Unit {0}
+BreaksText text (line ∷ lines) = CannotFollow text (kind_of line)
+
+-- The whole stream stops after the parts: a block is open, which is broken by what stands behind it. The fault tells of both.
+pub record StopsAfter (bytes : List ℕ) (parts : List StreamPart) (fault : StreamError) : Type 0 where
+  pub gap : List Line
+  pub body : List Line
+  pub rest : List Line
+  pub stands : GoesOnAfter bytes parts gap body rest
+  pub begun : body ≢ []
+  pub breaks : BreaksText (joined body) rest
   pub tells : TellsOf (length (joined stands.covers.covered) + length (joined gap)) (joined body) (first_kind rest) fault

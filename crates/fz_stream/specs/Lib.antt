@@ -13,3 +13,4 @@ pub mod Kept
 pub mod Releasing
 pub mod Keeping
 pub mod Inside
+pub mod Laws

@@ -92,6 +92,15 @@ pub record PassesLimit (bytes piece : List ℕ) (parts : List StreamPart) : Type
   pub holds : Holds (bytes ++ take n piece) parts held
   pub full : (length held ≡ most_held) ⊎ (length (bytes ++ take n piece) ≡ most_taken)
 
+-- After the bytes and the first k of the piece no part has ended but these, and there is room for one more byte: fewer are
+-- held, and fewer were taken in all, than may be.
+abbrev pub HasRoomAt : List ℕ → List ℕ → List StreamPart → ℕ → Type 0
+HasRoomAt bytes piece parts k = (held : List ℕ) × Holds (bytes ++ take k piece) parts held × (length held < most_held) × (length (bytes ++ take k piece) < most_taken)
+
+-- there is room for each of the first n bytes of the piece
+abbrev pub HasRoomFor : List ℕ → List ℕ → List StreamPart → ℕ → Type 0
+HasRoomFor bytes piece parts n = (k : ℕ) → k < n → HasRoomAt bytes piece parts k
+
 -- The stream has ended: the bytes are a text of the parts and no part waits, or of the parts and one more, which waits.
 pub record EndsWith (s : SplitterState) (bytes : List ℕ) (parts more : List StreamPart) : Type 0 where
   pub text : IsStreamText bytes (parts ++ more)

@@ -1,20 +1,22 @@
 -- What a refusal tells of the open block at which a stream stops (this project's profile).
-use Rattle.std.specs.Prelude.{◌≡◌, ◌≢◌, ℕ, ◌+◌, List, [], ◌∷◌, ◌++◌, length, Any, Option, Some, None}
+use Rattle.std.specs.Prelude.{◌≡◌, ℕ, ◌+◌, List, [], ◌∷◌, ◌++◌, length, Any, Option, Some, None}
 use Rattle.fz_syntax.specs.declared.tree.Printed.{Printed}
 use Rattle.fz_syntax.specs.Places.{IsPlacedWithin}
 use Rattle.fz_syntax.specs.Span.{Span}
 use Rattle.fz_syntax.specs.Spots.{Stand, item_spots}
 use Rattle.fz_syntax.specs.SyntaxError.{SyntaxError}
-use Rattle.fz_syntax.specs.Text.{IsTextOfItems}
+use Rattle.fz_syntax.specs.Text.{IsTextOfItems, IsRefusalOf}
+use Rattle.fz_syntax.specs.Tree.{Printed as PlainPrinted}
 use Rattle.fz_syntax.specs.View.{bare_items}
 use Rattle.fz_stream.specs.declared.error.StreamError.{StreamError}
 use Rattle.fz_stream.specs.declared.error.StreamError.TheVariants.{TooLong, Item, DuplicateName, Unfinished, Memory, Failed}
 use Rattle.fz_stream.specs.declared.line.ClaimKind.{ClaimKind}
 use Rattle.fz_stream.specs.declared.line.LineKind.{LineKind}
 use Rattle.fz_stream.specs.declared.line.LineKind.TheVariants.{Marker, Claim}
-use Rattle.fz_stream.specs.Lines.{Line, joined, kind_of}
+use Rattle.fz_stream.specs.Faults.{IsItemFault}
+use Rattle.fz_stream.specs.Lines.{Line, kind_of}
 use Rattle.fz_stream.specs.Moving.{moved_span, item_fault}
-use Rattle.fz_stream.specs.Parts.{StreamPart, HasDistinctNames, GoesOnAfter}
+use Rattle.fz_stream.specs.Parts.{HasDistinctNames}
 
 -- The item is the first that prints a name again: the names of the items before it are distinct, and its own is one of them.
 pub record PrintsAgain (items : List Printed) (again : Printed) : Type 0 where
@@ -33,9 +35,17 @@ pub record IsSecondPrinting (offset : ℕ) (text : List ℕ) (span : Span) : Typ
   pub prints : PrintsAgain items again
   pub span_is : span ≡ moved_span offset again.name.span
 
+-- The text is one of no items, and the fault tells of it: it comes in the order of faults, neither want of memory nor too
+-- many bytes, and its place lies in the text.
+pub record IsFaultOfText (text : List ℕ) (fault : SyntaxError) : Type 0 where
+  pub no_items : (items : List PlainPrinted) → IsTextOfItems text items → ⊥
+  pub order : IsRefusalOf text fault
+  pub kind : IsItemFault fault
+  pub place : IsPlacedWithin (length text) fault
+
 -- what a fault tells of a block's text, which begins at the offset
 abbrev pub TellsOfText : ℕ → List ℕ → StreamError → Type 0
-TellsOfText offset text (Item fault) = (own : SyntaxError) × IsPlacedWithin (length text) own × (Item fault ≡ item_fault offset own)
+TellsOfText offset text (Item fault) = (own : SyntaxError) × IsFaultOfText text own × (Item fault ≡ item_fault offset own)
 TellsOfText offset text (DuplicateName span) = IsSecondPrinting offset text span
 TellsOfText offset text (Unfinished span) = ⊥
 TellsOfText offset text TooLong = ⊥
@@ -61,12 +71,3 @@ TellsOf offset text behind (DuplicateName span) = (behind ≡ Some Marker) × Te
 TellsOf offset text behind TooLong = ⊥
 TellsOf offset text behind Failed = ⊥
 TellsOf offset text behind Memory = Unit {0}
-
--- The stream stops after the parts: a block is open, and the fault tells of it and of what stands behind it.
-pub record StopsAfter (bytes : List ℕ) (parts : List StreamPart) (fault : StreamError) : Type 0 where
-  pub gap : List Line
-  pub body : List Line
-  pub rest : List Line
-  pub stands : GoesOnAfter bytes parts gap body rest
-  pub begun : body ≢ []
-  pub tells : TellsOf (length (joined stands.covers.covered) + length (joined gap)) (joined body) (first_kind rest) fault

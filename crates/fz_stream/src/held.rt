@@ -6,7 +6,7 @@ ghost use Rattle.fz_stream.specs.Faults.{IsFaultWithin};
 ghost use Rattle.fz_stream.specs.Keeping.{Keeps, HasLine, IsHeld, GoesOnHolding, EndsPart, BreaksBlock, IsKept, KeepsAll, TakesPart, EndsOpen, EndsStream, held_while};
 ghost use Rattle.fz_stream.specs.Lines.{Line};
 ghost use Rattle.fz_stream.specs.Parts.{StreamPart};
-ghost use Rattle.fz_stream.specs.Splitting.{PassesLimit, most_held, most_taken};
+ghost use Rattle.fz_stream.specs.Splitting.{HasRoomFor, PassesLimit, most_held, most_taken};
 ghost use Rattle.fz_stream.specs.Step.{begun_of, IsLineFault};
 
 use crate::error::StreamError;
@@ -125,6 +125,8 @@ pub fn take_bytes(
     ensures part { IfOk result (λ r. (ended : Ended) → r.1 ≡ Some ended → (bytes : List ℕ) (parts : List StreamPart) → Keeps bytes parts held.old.buffer.items →
         held.old.before + length held.old.buffer.items ≡ length bytes → TakesPart held.new bytes (take r.0 piece.now) parts ended) }
     ensures kept { IfOk result (λ r. IsKept r.1 held.new) }
+    ensures room { IfOk result (λ r. (bytes : List ℕ) (parts : List StreamPart) → Keeps bytes parts held.old.buffer.items →
+        held.old.before + length held.old.buffer.items ≡ length bytes → HasRoomFor bytes piece.now parts r.0) }
     ensures broken { IfErr result (λ e. e ≢ StreamError.Memory → e ≢ StreamError.TooLong →
         (bytes : List ℕ) (parts : List StreamPart) → Keeps bytes parts held.old.buffer.items →
         held.old.before + length held.old.buffer.items ≡ length bytes → IsBrokenAfter (bytes ++ piece.now) parts e) }

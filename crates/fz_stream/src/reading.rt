@@ -1,10 +1,10 @@
 ghost use Rattle.std.specs.Prelude.{◌≡◌, ◌≢◌, List, map, length, vec_len, ◌<◌, ◌↔◌, IfOk, IfErr, Err};
 ghost use Rattle.std.specs.List.{AllByRecursion};
 ghost use Rattle.fz_syntax.specs.Limits.{most_bytes};
+ghost use Rattle.fz_stream.specs.Broken.{StopsAfter};
 ghost use Rattle.fz_stream.specs.Faults.{IsStreamFault, IsFaultWithin};
 ghost use Rattle.fz_stream.specs.Found.{block_of, HasPlaces, EndsWithin, IsReadAs, AreInOrder, StandsBeforeMarker};
 ghost use Rattle.fz_stream.specs.Parts.{StreamPart, IsStreamText};
-ghost use Rattle.fz_stream.specs.Telling.{StopsAfter};
 
 use crate::block::{Block, read_block};
 use crate::error::StreamError;
@@ -46,7 +46,7 @@ pub fn blocks<'a>(alloc: Global, stream: &'a [u8]) -> Result<Stream<'a>, StreamE
     ensures too_long { (result ≡ Err StreamError.TooLong) ↔ (most_bytes < length stream.now) }
     // All else is refused only where the bytes are a text of no parts.
     ensures refused { IfErr result (λ e. e ≢ StreamError.Memory → e ≢ StreamError.TooLong → (parts : List StreamPart) → IsStreamText stream.now parts → ⊥) }
-    // The fault is that of the first block that is broken: it tells of its text and what follows it.
+    // The fault is that of the first block that is broken: it tells of its text and of what breaks it.
     ensures stops { IfErr result (λ e. e ≢ StreamError.Memory → e ≢ StreamError.TooLong → (parts : List StreamPart) × StopsAfter stream.now parts e) }
     ensures fault { IfErr result IsStreamFault }
     ensures place { IfErr result (IsFaultWithin (length stream.now)) }

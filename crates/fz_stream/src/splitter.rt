@@ -3,7 +3,7 @@ ghost use Rattle.fz_stream.specs.Broken.{IsBrokenAfter, IsBrokenAtEndAfter};
 ghost use Rattle.fz_stream.specs.Faults.{IsStreamFault, IsFaultWithin};
 ghost use Rattle.fz_stream.specs.Parts.{StreamPart};
 ghost use Rattle.fz_stream.specs.Releasing.{AreOfWaiting};
-ghost use Rattle.fz_stream.specs.Splitting.{Fits, Fed, PassesLimit, EndsWith, Lends, IsPartOfItems, parts_of, most_held, most_taken};
+ghost use Rattle.fz_stream.specs.Splitting.{Fits, Fed, HasRoomFor, PassesLimit, EndsWith, Lends, IsPartOfItems, parts_of, most_held, most_taken};
 
 use crate::block::Block;
 use crate::error::StreamError;
@@ -158,6 +158,8 @@ impl Splitter {
         ensures ok { OnOk result (self.new.stage ≡ Running) }
         ensures held { OnOk result (length self.new.held ≤ most_held) }
         ensures taken { OnOk result (self.new.taken ≤ most_taken) }
+        // The limits bind at each byte that is taken.
+        ensures room { IfOk result (λ n. (bytes : List ℕ) (parts : List StreamPart) → Fits self.old bytes parts → HasRoomFor bytes piece.now parts n) }
 
         // A fault comes only where no further bytes can mend the stream.
         ensures broken { IfErr result (λ e. e ≢ StreamError.Memory → e ≢ StreamError.TooLong → e ≢ StreamError.Failed →

@@ -247,7 +247,7 @@ some_any_index : (o : Option ℕ) → param_prefix_toks (Some o) ≡ array_toks 
 some_any_index None = refl
 some_any_index (Some n) = refl
 
-param_prefix_takes : (limits : Limits) → Takes param_prefix_toks (IsParamArray limits) (param_prefix_at limits)
+pub param_prefix_takes : (limits : Limits) → Takes param_prefix_toks (IsParamArray limits) (param_prefix_at limits)
 unfolding param_prefix_at
 param_prefix_takes limits tokens x e =
     elim (chosen (next_word (codes "array") tokens) _ _ (Ok x) e) [

@@ -24,3 +24,6 @@ pub mod Folds
 pub mod PrintSteps
 pub mod PrintLaws
 pub mod PrintBack
+pub mod Fits
+pub mod PlacedNotes
+pub mod PlacedLaws

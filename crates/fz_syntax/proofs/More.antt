@@ -12,6 +12,7 @@ use Rattle.fz_syntax.specs.Reading.{Fault, tree_of}
 use Rattle.fz_syntax.specs.ReadingItems.{items_of}
 use Rattle.fz_syntax.proofs.TreeAgain.{tree_of_toks}
 use Rattle.fz_syntax.proofs.PrintedLaws.{items_of_toks}
+use Rattle.fz_syntax.proofs.Parsed.{tokens_are}
 
 -- limits that are no smaller
 pub record Allow (less more : Limits) : Type 0 where
@@ -182,3 +183,11 @@ pub same_of_items : {X : Type 0} (view : X → List Printed) (source : List ℕ)
     → IfOk result (λ a. (limits : Limits) (others : List Printed) → AllByRecursion (IsPrinted limits) others → itoks others ≡ itoks (view a) → others ≡ view a)
 same_of_items view source (Ok a) found = λ limits others are e. same_items limits the_limits others (view a) are found.of_grammar e
 same_of_items view source (Err e) found = tt
+
+-- ---- one tree of a text
+
+pub one_tree : (source : List ℕ) (t u : Tree) → IsTextOfTree source t → IsTextOfTree source u → t ≡ u
+one_tree source t u a b = same_tree the_limits the_limits t u a.of_grammar.shape b.of_grammar.shape (sym (tokens_are source (toks t) a.lexes) ∙ tokens_are source (toks u) b.lexes)
+
+pub one_list_of_items : (source : List ℕ) (items others : List Printed) → IsTextOfItems source items → IsTextOfItems source others → items ≡ others
+one_list_of_items source items others a b = same_items the_limits the_limits items others a.of_grammar b.of_grammar (sym (tokens_are source (itoks items) a.lexes) ∙ tokens_are source (itoks others) b.lexes)

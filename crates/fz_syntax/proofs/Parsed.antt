@@ -37,7 +37,7 @@ of_values [] h = tt
 of_values (t ∷ ts) h = (h.0, of_values ts h.1)
 
 -- the tokens of any text of the source are those ahead of its first byte
-tokens_are : (source : List ℕ) (ts : List TokenValue) → IsTextOfTokens source ts → values (tokens_ahead source 0) ≡ ts
+pub tokens_are : (source : List ℕ) (ts : List TokenValue) → IsTextOfTokens source ts → values (tokens_ahead source 0) ≡ ts
 tokens_are source ts (others, lexed, e) = sym (ap values (lexed_ahead source others lexed.lexes lexed.numbers)) ∙ e
 
 -- A parser at the first token of a source, what it read, and what the tokens behind it showed.

@@ -52,7 +52,7 @@ array_word_of w n e some =
       ]
     ]
 
-array_tokens : (tokens : List TokenValue) → 0 < next_dimensions tokens → (tokens ≡ Word (array_word (next_dimensions tokens)) ∷ drop 1 tokens) × (1 ≤ next_dimensions tokens) × (next_dimensions tokens ≤ 6)
+pub array_tokens : (tokens : List TokenValue) → 0 < next_dimensions tokens → (tokens ≡ Word (array_word (next_dimensions tokens)) ∷ drop 1 tokens) × (1 ≤ next_dimensions tokens) × (next_dimensions tokens ≤ 6)
 array_tokens [] some = absurd (omega arith)
 array_tokens (Word w ∷ rest) some =
     let is = array_word_of w (dimensions_of w) refl some in
@@ -91,7 +91,7 @@ index_set_takes limits tokens x e =
 abbrev AreIndexSets : Limits → ℕ → List Literal → Type 0
 AreIndexSets limits n ls = (length ls ≡ n) × AllByRecursion (IsBounds limits) ls
 
-index_sets_take : (limits : Limits) (n : ℕ) → Takes (flat_map index_set_toks) (AreIndexSets limits n) (index_sets_at limits n)
+pub index_sets_take : (limits : Limits) (n : ℕ) → Takes (flat_map index_set_toks) (AreIndexSets limits n) (index_sets_at limits n)
 unfolding index_sets_at
 index_sets_take limits zero tokens x e = subst (Took (flat_map index_set_toks) (AreIndexSets limits zero) tokens) (ok_is ([], tokens) x e) (record { parts = refl; fits = (refl, tt) })
 index_sets_take limits (suc n) tokens x e =

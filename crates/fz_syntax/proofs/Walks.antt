@@ -1,198 +1,369 @@
--- How the parser's steps join: what it read between two states, and then between the next two, it read between the
+-- How the parser's steps join: what it took between two states, and then between the next two, it took between the
 -- first and the last.
-use Rattle.std.proofs.Common.{true, ◌≡◌, ◌≤◌, ℕ, List, [], ◌∷◌, ◌++◌, length, map, slice_range, Result, Ok, Err, refl, sym, ap, subst, ◌∙◌, arith}
-use Rattle.std.specs.Prelude.{IfOk}
-use Rattle.std.specs.List.{flat_map, AllByRecursion}
-use Rattle.fz_syntax.specs.declared.parser.refusal.Refusal.{Refusal}
-use Rattle.std.proofs.lemmas.List.{append-nil}
-use Rattle.std.proofs.lemmas.List.Concat.{flat_map-cons}
+use Rattle.std.proofs.Common.{true, false, ◌≡◌, ◌<◌, ℕ, Bool, List, [], ◌∷◌, ◌++◌, length, length-append, map, drop, eqb, cond, Result, Ok, Err, ⊎_elim, refl, sym, ap, subst, ◌∙◌, append_assoc, arith}
+use Rattle.std.specs.Prelude.{IfOk, if◌then◌else◌, ◌==◌, codes}
+use Rattle.std.specs.List.{flat_map}
+use Rattle.std.specs.Bool.{OnFalse}
+use Rattle.std.proofs.lemmas.List.{append-nil, map-append}
+use Rattle.std.proofs.lemmas.Bool.{eqb-true, cases_Bool}
 use Rattle.std.proofs.lemmas.Grind.{flat_map-append}
-use Rattle.fz_lex.specs.Token.{Spells}
-use Rattle.fz_lex.specs.Lexing.{SpannedToken, AreInOrder}
+use Rattle.fz_lex.specs.of_base.declared.span.Span.{Span}
+use Rattle.fz_lex.specs.Token.{TokenValue, Word, Marked}
+use Rattle.fz_lex.specs.Lexing.{SpannedToken}
 use Rattle.fz_lex.specs.Left.{listed_comma, source_of}
 use Rattle.fz_lex.specs.declared.ahead.Listed.{Listed}
-use Rattle.fz_lex.specs.View.{token_value, spanned, IsSpelledAtSpan}
+use Rattle.fz_lex.specs.View.{token_value, spanned}
+use Rattle.fz_lex.specs.declared.token.Mark.{Mark}
+use Rattle.fz_lex.specs.declared.token.Mark.TheVariants.{OpenParen, CloseParen, OpenBracket, CloseBracket, Comma}
 use Rattle.fz_lex.specs.declared.token.TokenKind.{TokenKind}
 use Rattle.fz_lex.specs.declared.token.TokenKind.TheVariants as kinds
 use Rattle.fz_lex.specs.declared.token.Token.{Token}
-use Rattle.fz_syntax.specs.View.{lexeme}
-use Rattle.fz_syntax.specs.Reading.{is_name}
+use Rattle.fz_syntax.specs.Tree as tree
+use Rattle.fz_syntax.specs.Tokens.{mark, word, literal_toks, var_toks, array_word}
+use Rattle.fz_syntax.specs.View.{lexeme, bare_literal, bare_literal_kind}
+use Rattle.fz_syntax.specs.Reading.{Reader, is_name, next_is, next_word, mark_at, word_at}
+use Rattle.fz_syntax.specs.ReadingItems.{next_dimensions}
+use Rattle.fz_syntax.specs.Outcome.{Gives, IsListed, plain_token, plain_kind}
+use Rattle.fz_syntax.specs.declared.parser.refusal.Refusal.{Refusal}
+use Rattle.fz_syntax.specs.declared.parser.kinds.Plain.{Plain}
+use Rattle.fz_syntax.specs.declared.parser.kinds.Plain.TheVariants as plains
 use Rattle.fz_syntax.specs.declared.parser.cursor.Parser.{Parser}
+use Rattle.fz_syntax.specs.declared.tree.LiteralKind.{LiteralKind}
 use Rattle.fz_syntax.specs.declared.tree.Literal.{Literal}
 use Rattle.fz_syntax.specs.declared.tree.Name.{Name}
 use Rattle.fz_syntax.specs.declared.tree.NoteArg.{NoteArg}
 use Rattle.fz_syntax.specs.declared.tree.NoteBasic.{NoteBasic}
-use Rattle.fz_syntax.specs.Spots.{Spot, Stand, literal_spots, name_spot, name_spots, arg_spots, note_basic_spots}
-use Rattle.fz_syntax.specs.Walk.{IsLaidOut, Walk, Began, ahead, spot_at, start_of}
+use Rattle.fz_syntax.specs.declared.tree.PrintedValue.{PrintedValue}
+use Rattle.fz_syntax.specs.Placed.{PlacedToken, AgreeWith, unplaced, plain, placed_mark, placed_word, placed_separated, placed_between, placed_name, starting_at, ending_at, placed_literal, placed_parts, placed_args, placed_arg, placed_note_basic, placed_printed_value}
+use Rattle.fz_syntax.specs.Walk.{ahead, lexemes, start_of, end_of, Consumed, Passed, Walk, placed_listed}
+use Rattle.fz_syntax.proofs.ListLaws.{Takes, marked_tokens, worded_tokens, mark_takes, word_takes}
+use Rattle.fz_syntax.proofs.PrintedLaws.{array_tokens}
 
-stand_from : (source : List ℕ) (a b c : ℕ) (s : List Spot) → a ≤ b → Stand source b c s → Stand source a c s
-stand_from source a b c [] le h = omega (arith, le, h)
-stand_from source a b c (x ∷ xs) le h = (omega (arith, le, h.0), h.1, h.2, h.3)
+-- ---- tokens that were taken
 
-stand_upto : (source : List ℕ) (a b c : ℕ) (s : List Spot) → b ≤ c → Stand source a b s → Stand source a c s
-stand_upto source a b c [] le h = omega (arith, le, h)
-stand_upto source a b c (x ∷ xs) le h = (h.0, h.1, h.2, stand_upto source x.end b c xs le h.3)
+end_append : (from : ℕ) (xs ys : List SpannedToken) → end_of from (xs ++ ys) ≡ end_of (end_of from xs) ys
+end_append from [] ys = refl
+end_append from (x ∷ xs) ys = end_append x.end xs ys
 
-stand_then : (source : List ℕ) (a b c : ℕ) (s t : List Spot) → Stand source a b s → Stand source b c t → Stand source a c (s ++ t)
-stand_then source a b c [] t h k = stand_from source a b c t h k
-stand_then source a b c (x ∷ xs) t h k = (h.0, h.1, h.2, stand_then source x.end b c xs t h.3 k)
-
-pub walk_none : {p : Parser} → Walk p p []
-walk_none {p} = record { stand = λ source laid. omega arith; laid = λ source laid. laid; same_source = refl }
-
-pub walk_then : {p q r : Parser} {s t : List Spot} → Walk p q s → Walk q r t → Walk p r (s ++ t)
-walk_then {p} {q} {r} {s} {t} w v = record {
-  stand = λ source laid. stand_then source p.reached q.reached r.reached s t (w.stand source laid) (v.stand source (w.laid source laid));
-  laid = λ source laid. v.laid source (w.laid source laid);
-  same_source = v.same_source ∙ w.same_source;
+consumed_then : {p q r : Parser} {xs ys : List SpannedToken} → Consumed p q xs → Consumed q r ys → Consumed p r (xs ++ ys)
+consumed_then {p} {q} {r} {xs} {ys} a b = record {
+  split = a.split ∙ ap (λ (ts : List SpannedToken). xs ++ ts) b.split ∙ sym (append_assoc xs ys (ahead r));
+  upto = b.upto ∙ ap (λ (n : ℕ). end_of n ys) a.upto ∙ sym (end_append p.reached xs ys);
+  same_source = b.same_source ∙ a.same_source;
 }
 
--- steps that read no name or literal
-pub walk_skip : {p q r : Parser} {t : List Spot} → Walk p q [] → Walk q r t → Walk p r t
-walk_skip w v = walk_then w v
+consumed_none : (p q : Parser) → ahead q ≡ ahead p → q.reached ≡ p.reached → source_of q.tokens ≡ source_of p.tokens → Consumed p q []
+consumed_none p q left upto same = record { split = sym left; upto = upto; same_source = same }
 
-pub walk_end : {p q r : Parser} {s : List Spot} → Walk p q s → Walk q r [] → Walk p r s
-walk_end {p} {q} {r} {s} w v = record {
-  stand = λ source laid. stand_upto source p.reached q.reached r.reached s (v.stand source (w.laid source laid)) (w.stand source laid);
-  laid = λ source laid. v.laid source (w.laid source laid);
-  same_source = v.same_source ∙ w.same_source;
+consumed_one : (p q : Parser) (t : SpannedToken) (rest : List SpannedToken) → ahead p ≡ t ∷ rest → ahead q ≡ rest → q.reached ≡ t.end → source_of q.tokens ≡ source_of p.tokens → Consumed p q (t ∷ [])
+consumed_one p q t rest before after upto same = record {
+  split = before ∙ ap (λ (ts : List SpannedToken). t ∷ ts) (sym after);
+  upto = upto;
+  same_source = same;
 }
 
-pub began_then : {p q r : Parser} → Began p q → Walk q r [] → Began p r
-began_then {p} {q} {r} b w = record {
-  on = walk_skip b.on w;
-  from = λ source laid. let f = b.from source laid in let g = w.stand source (b.on.laid source laid) in (f.0, omega (arith, f.1, g));
-}
+pub passed_none : {p : Parser} → Passed p p
+passed_none {p} = record { taken = []; on = consumed_none p p refl refl refl }
 
--- a literal stands from its first token on up to where its last one ends
-pub literal_walk : {p q : Parser} (l : Literal) → Began p q → l.span.end ≡ q.reached → l.span.start ≡ start_of (ahead p) p.end → Walk p q (literal_spots l)
-literal_walk {p} {q} l b upto at = record {
-  stand = λ source laid. let f = b.from source laid in (omega (arith, f.0, at), omega (arith, f.1, upto, at), tt, omega (arith, upto));
-  laid = b.on.laid;
-  same_source = b.on.same_source;
-}
+pub passed_then : {p q r : Parser} → Passed p q → Passed q r → Passed p r
+passed_then a b = record { taken = a.taken ++ b.taken; on = consumed_then a.on b.on }
+
+pub passed : {p q : Parser} {placed : List PlacedToken} → Walk p q placed → Passed p q
+passed w = record { taken = w.taken; on = w.on }
 
 -- the first token is taken
-pub skip_walk : (p q : Parser) (t : SpannedToken) (rest : List SpannedToken) → ahead p ≡ t ∷ rest → ahead q ≡ rest → q.reached ≡ t.end → source_of q.tokens ≡ source_of p.tokens → Walk p q []
-skip_walk p q t rest before after upto same = record {
-  stand = λ source laid.
-      let order : AreInOrder p.reached (length source) (t ∷ rest) = subst (AreInOrder p.reached (length source)) before laid.order in
-      omega (arith, order.0, order.1, upto);
-  laid = λ source laid.
-      let order : AreInOrder p.reached (length source) (t ∷ rest) = subst (AreInOrder p.reached (length source)) before laid.order in
-      let texts : AllByRecursion (IsSpelledAtSpan source) (t ∷ rest) = subst (AllByRecursion (IsSpelledAtSpan source)) before laid.texts in
-      record {
-        order = subst (λ n. AreInOrder n (length source) (ahead q)) (sym upto) (subst (AreInOrder t.end (length source)) (sym after) order.2);
-        texts = subst (AllByRecursion (IsSpelledAtSpan source)) (sym after) texts.1;
-      };
-  same_source = same;
-}
-
-pub skip_began : (p q : Parser) (t : SpannedToken) (rest : List SpannedToken) → ahead p ≡ t ∷ rest → ahead q ≡ rest → q.reached ≡ t.end → source_of q.tokens ≡ source_of p.tokens → Began p q
-skip_began p q t rest before after upto same = record {
-  on = skip_walk p q t rest before after upto same;
-  from = λ source laid.
-      let order : AreInOrder p.reached (length source) (t ∷ rest) = subst (AreInOrder p.reached (length source)) before laid.order in
-      let at : start_of (ahead p) p.end ≡ t.start = ap (λ ts. start_of ts p.end) before in
-      (omega (arith, order.0, at), omega (arith, order.1, upto, at));
-}
+pub skip_passed : (p q : Parser) (t : SpannedToken) (rest : List SpannedToken) → ahead p ≡ t ∷ rest → ahead q ≡ rest → q.reached ≡ t.end → source_of q.tokens ≡ source_of p.tokens → Passed p q
+skip_passed p q t rest before after upto same = record { taken = t ∷ []; on = consumed_one p q t rest before after upto same }
 
 -- no token is taken
+pub passed_still : (p q : Parser) → ahead q ≡ ahead p → q.reached ≡ p.reached → source_of q.tokens ≡ source_of p.tokens → Passed p q
+passed_still p q left upto same = record { taken = []; on = consumed_none p q left upto same }
+
+-- the same of what a method gave
+pub passed_on : {X : Type 0} (p q r : Parser) (result : Result X Refusal) → Passed p q → IfOk result (λ x. Passed q r) → IfOk result (λ x. Passed p r)
+passed_on p q r (Ok x) a b = passed_then a b
+passed_on p q r (Err e) a b = tt
+
+-- ---- and their places
+
+agree_then : (s t : List PlacedToken) (xs ys : List SpannedToken) → AgreeWith s xs → AgreeWith t ys → AgreeWith (s ++ t) (xs ++ ys)
+agree_then [] t [] ys a b = b
+agree_then [] t (x ∷ xs) ys a b = absurd a
+agree_then (p ∷ s) t [] ys a b = absurd a
+agree_then (p ∷ s) t (x ∷ xs) ys a b = (a.0, agree_then s t xs ys a.1 b)
+
+pub walk_none : {p : Parser} → Walk p p []
+walk_none {p} = record { taken = []; on = consumed_none p p refl refl refl; agree = tt }
+
+-- the parser is where it was
+pub walk_same : {p q : Parser} → q ≡ p → Walk p q []
+walk_same {p} {q} same = subst (λ (r : Parser). Walk p r []) (sym same) walk_none
+
+-- it took no token
 pub walk_still : (p q : Parser) → ahead q ≡ ahead p → q.reached ≡ p.reached → source_of q.tokens ≡ source_of p.tokens → Walk p q []
-walk_still p q left upto same = record {
-  stand = λ source laid. omega (arith, upto);
-  laid = λ source laid. record {
-    order = subst (λ n. AreInOrder n (length source) (ahead q)) (sym upto) (subst (AreInOrder p.reached (length source)) (sym left) laid.order);
-    texts = subst (AllByRecursion (IsSpelledAtSpan source)) (sym left) laid.texts;
-  };
-  same_source = same;
-}
+walk_still p q left upto same = record { taken = []; on = consumed_none p q left upto same; agree = tt }
 
--- the first two tokens are taken, a literal of one token and the comma behind it
-pub listed_pair : (p q : Parser) (l : Listed) → ahead p ≡ spanned l.token ∷ (listed_comma l ∷ ahead q) → q.reached ≡ l.comma.end → source_of q.tokens ≡ source_of p.tokens → Walk p q (spot_at l.token.span ∷ [])
-listed_pair p q l before upto same = record {
-  stand = λ source laid.
-      let order : AreInOrder p.reached (length source) (spanned l.token ∷ (listed_comma l ∷ ahead q)) = subst (AreInOrder p.reached (length source)) before laid.order in
-      (order.0, order.1, tt, omega (arith, order.2.0, order.2.1, upto));
-  laid = λ source laid.
-      let order : AreInOrder p.reached (length source) (spanned l.token ∷ (listed_comma l ∷ ahead q)) = subst (AreInOrder p.reached (length source)) before laid.order in
-      let texts : AllByRecursion (IsSpelledAtSpan source) (spanned l.token ∷ (listed_comma l ∷ ahead q)) = subst (AllByRecursion (IsSpelledAtSpan source)) before laid.texts in
-      record { order = subst (λ n. AreInOrder n (length source) (ahead q)) (sym upto) order.2.2; texts = texts.1.1 };
-  same_source = same;
-}
+-- the parser was where it is now
+pub walk_from : {p q r : Parser} {s : List PlacedToken} → q ≡ p → Walk q r s → Walk p r s
+walk_from {p} {q} {r} {s} same w = subst (λ (x : Parser). Walk x r s) same w
 
--- a step that read a literal, where only its tokens count
-pub walk_past : {p q : Parser} (s : Spot) → Walk p q (s ∷ []) → Walk p q []
-walk_past s w = record {
-  stand = λ source laid. let h = w.stand source laid in omega (arith, h.0, h.1, h.3);
-  laid = w.laid;
-  same_source = w.same_source;
-}
+-- a mark that was looked for and not found
+pub walk_kept : {p q r : Parser} {s : List PlacedToken} (b : Bool) → b ≡ false → OnFalse b (r ≡ q) → Walk p q s → Walk p r s
+walk_kept true none kept w = absurd cc
+walk_kept {p} {q} {r} {s} false none kept w = subst (λ (x : Parser). Walk p x s) (sym kept) w
 
--- a word has its text where it stands
-word_text : (kind : TokenKind) (text written : List ℕ) → is_name (token_value kind text) ≡ true → Spells (token_value kind text) written → text ≡ written
-word_text kinds.Word text written named s = sym s.0
-word_text (kinds.Whole z) text written named s = absurd cc
-word_text kinds.FloatText text written named s = absurd cc
-word_text kinds.Str text written named s = absurd cc
-word_text (kinds.Mark m) text written named s = absurd cc
+pub walk_then : {p q r : Parser} {s t : List PlacedToken} → Walk p q s → Walk q r t → Walk p r (s ++ t)
+walk_then {p} {q} {r} {s} {t} w v = record { taken = w.taken ++ v.taken; on = consumed_then w.on v.on; agree = agree_then s t w.taken v.taken w.agree v.agree }
+
+pub walk_end : {p q r : Parser} {s : List PlacedToken} → Walk p q s → Walk q r [] → Walk p r s
+walk_end {p} {q} {r} {s} w v = subst (λ (t : List PlacedToken). Walk p r t) (append-nil s) (walk_then w v)
+
+-- ---- tokens of which no place is told
+
+abbrev values : List SpannedToken → List TokenValue
+values ts = map (λ t. t.token) ts
+
+values_agree : (ts : List SpannedToken) → AgreeWith (plain (values ts)) ts
+values_agree [] = tt
+values_agree (t ∷ ts) = (record { token = refl; start = tt; end = tt }, values_agree ts)
+
+same_front : (xs ys zs : List TokenValue) → xs ++ zs ≡ ys ++ zs → xs ≡ ys
+same_front [] [] zs e = refl
+same_front [] (y ∷ ys) zs e =
+    let shorter : length zs ≡ length (y ∷ (ys ++ zs)) = ap length e in
+    let both = length-append ys zs in
+    absurd (omega (arith, shorter, both))
+same_front (x ∷ xs) [] zs e =
+    let longer : length (x ∷ (xs ++ zs)) ≡ length zs = ap length e in
+    let both = length-append xs zs in
+    absurd (omega (arith, longer, both))
+same_front (x ∷ xs) (y ∷ ys) zs e =
+    let first : x ≡ y = cc in
+    let tails : xs ++ zs ≡ ys ++ zs = cc in
+    let rest : xs ≡ ys = same_front xs ys zs tails in
+    cc (first, rest)
+
+pub plain_walk : {p q : Parser} (ts : List TokenValue) → Passed p q → lexemes p ≡ ts ++ lexemes q → Walk p q (plain ts)
+plain_walk {p} {q} ts w e =
+    let both : values w.taken ++ lexemes q ≡ ts ++ lexemes q = sym (map-append (λ (t : SpannedToken). t.token) w.taken (ahead q)) ∙ (sym (ap values w.on.split) ∙ e) in
+    record { taken = w.taken; on = w.on; agree = subst (λ (us : List TokenValue). AgreeWith (plain us) w.taken) (same_front (values w.taken) ts (lexemes q) both) (values_agree w.taken) }
+
+-- what was read is spelled so
+pub read_walk : {A : Type 0} {p q : Parser} (toks : A → List TokenValue) (Is : A → Type 0) (read : Reader A) → Takes toks Is read → (x : A) → Passed p q → read (lexemes p) ≡ Ok (x, lexemes q) → Walk p q (plain (toks x))
+read_walk {A} {p} {q} toks Is read takes x w e = plain_walk (toks x) w (takes (lexemes p) (x, lexemes q) e).parts
+
+-- a mark or a word that was wanted
+pub mark_walk : {p q : Parser} (m : Mark) → Passed p q → mark_at m (lexemes p) ≡ Ok (tt, lexemes q) → Walk p q (placed_mark m)
+mark_walk {p} {q} m w e = plain_walk (mark m) w (mark_takes m (lexemes p) (tt, lexemes q) e).parts
+
+pub word_walk : {p q : Parser} (text : List ℕ) → Passed p q → word_at text (lexemes p) ≡ Ok (tt, lexemes q) → Walk p q (placed_word text)
+word_walk {p} {q} text w e = plain_walk (word text) w (word_takes text (lexemes p) (tt, lexemes q) e).parts
+
+-- one that was looked for and found
+pub ate : {p q : Parser} (m : Mark) (b : Bool) → b ≡ true → b ≡ next_is m (lexemes p) → lexemes q ≡ (if next_is m (lexemes p) then drop 1 (lexemes p) else lexemes p) → Passed p q → Walk p q (placed_mark m)
+ate {p} {q} m b wanted found left w =
+    let there : next_is m (lexemes p) ≡ true = sym found ∙ wanted in
+    let behind : lexemes q ≡ drop 1 (lexemes p) = left ∙ ap (λ (c : Bool). cond c (drop 1 (lexemes p)) (lexemes p)) there in
+    plain_walk (mark m) w (marked_tokens m (lexemes p) there ∙ ap (λ (ts : List TokenValue). Marked m ∷ ts) (sym behind))
+
+pub ate_word : {p q : Parser} (text : List ℕ) (b : Bool) → b ≡ true → b ≡ next_word text (lexemes p) → lexemes q ≡ (if next_word text (lexemes p) then drop 1 (lexemes p) else lexemes p) → Passed p q → Walk p q (placed_word text)
+ate_word {p} {q} text b wanted found left w =
+    let there : next_word text (lexemes p) ≡ true = sym found ∙ wanted in
+    let behind : lexemes q ≡ drop 1 (lexemes p) = left ∙ ap (λ (c : Bool). cond c (drop 1 (lexemes p)) (lexemes p)) there in
+    plain_walk (word text) w (worded_tokens text (lexemes p) there ∙ ap (λ (ts : List TokenValue). Word text ∷ ts) (sym behind))
+
+-- the word `var`, where it stands
+abbrev var_word : List ℕ
+var_word = codes "var"
+
+pub var_walk : {p q : Parser} (b : Bool) → b ≡ next_word var_word (lexemes p) → lexemes q ≡ (if next_word var_word (lexemes p) then drop 1 (lexemes p) else lexemes p) → Passed p q → OnFalse b (q ≡ p) → Walk p q (plain (var_toks b))
+var_walk true found left w kept = ate_word var_word true refl found left w
+var_walk false found left w kept = walk_same kept
+
+-- the word that begins an array
+fewer : (n : ℕ) (ts us vs : List TokenValue) → 0 < n → vs ≡ (if n == 0 then ts else us) → vs ≡ us
+fewer n ts us vs some e =
+    ⊎_elim (λ none. absurd (let zero_of = eqb-true n 0 none in omega (arith, some, zero_of))) (λ other. e ∙ ap (λ (c : Bool). cond c ts us) other) (cases_Bool (eqb n 0))
+
+pub array_word_walk : {p q : Parser} (n : ℕ) → 0 < n → n ≡ next_dimensions (lexemes p) → lexemes q ≡ (if next_dimensions (lexemes p) == 0 then lexemes p else drop 1 (lexemes p)) → Passed p q → Walk p q (placed_word (array_word n))
+array_word_walk {p} {q} n some found left w =
+    let there : 0 < next_dimensions (lexemes p) = omega (arith, some, found) in
+    let behind : lexemes q ≡ drop 1 (lexemes p) = fewer (next_dimensions (lexemes p)) (lexemes p) (drop 1 (lexemes p)) (lexemes q) there left in
+    let before : lexemes p ≡ word (array_word (next_dimensions (lexemes p))) ++ lexemes q = (array_tokens (lexemes p) there).0 ∙ ap (λ (ts : List TokenValue). Word (array_word (next_dimensions (lexemes p))) ∷ ts) (sym behind) in
+    subst (λ (k : ℕ). Walk p q (placed_word (array_word k))) (sym found) (plain_walk (word (array_word (next_dimensions (lexemes p)))) w before)
+
+pub array_walk : {p q : Parser} (r : Parser) (n : ℕ) (result : Result PrintedValue Refusal) → Walk p q (placed_word (array_word n)) → IfOk result (λ v. placed_printed_value v ≡ placed_word (array_word n) ++ drop 1 (placed_printed_value v))
+    → IfOk result (λ v. Walk q r (drop 1 (placed_printed_value v))) → IfOk result (λ v. Walk p r (placed_printed_value v))
+array_walk {p} {q} r n (Ok v) w worded behind = subst (λ (s : List PlacedToken). Walk p r s) (sym worded) (walk_then w behind)
+array_walk r n (Err e) w worded behind = tt
+
+-- ---- names
+
+word_is : (kind : TokenKind) (text : List ℕ) → is_name (token_value kind text) ≡ true → Word text ≡ token_value kind text
+word_is kinds.Word text named = refl
+word_is (kinds.Whole z) text named = absurd cc
+word_is kinds.FloatText text named = absurd cc
+word_is kinds.Str text named = absurd cc
+word_is (kinds.Mark m) text named = absurd cc
 
 -- the first token is taken as a name
-pub name_walk : (p q : Parser) (t : Token) (rest : List SpannedToken) (n : Name) → is_name (lexeme t) ≡ true → ahead p ≡ spanned t ∷ rest → Walk p q [] → q.reached ≡ t.span.end → n.text.now ≡ t.text.now → n.span.start ≡ t.span.start → n.span.end ≡ t.span.end → Walk p q (name_spots n)
-name_walk p q t rest n named before skipped upto text start end = record {
-  stand = λ source laid.
-      let order : AreInOrder p.reached (length source) (spanned t ∷ rest) = subst (AreInOrder p.reached (length source)) before laid.order in
-      let texts : AllByRecursion (IsSpelledAtSpan source) (spanned t ∷ rest) = subst (AllByRecursion (IsSpelledAtSpan source)) before laid.texts in
-      let written = word_text t.kind t.text.now _ named texts.0 in
-      (omega (arith, order.0, start), omega (arith, order.1, start, end), text ∙ written ∙ ap (λ a. slice_range source a t.span.end) (sym start) ∙ ap (λ b. slice_range source n.span.start b) (sym end), omega (arith, upto, end));
-  laid = skipped.laid;
-  same_source = skipped.same_source;
+pub name_walk : (p q : Parser) (t : Token) (rest : List SpannedToken) (n : Name) → is_name (lexeme t) ≡ true → ahead p ≡ spanned t ∷ rest → ahead q ≡ rest → q.reached ≡ t.span.end → source_of q.tokens ≡ source_of p.tokens
+    → n.text.now ≡ t.text.now → n.span.start ≡ t.span.start → n.span.end ≡ t.span.end → Walk p q (placed_name n)
+name_walk p q t rest n named before after upto same text start end = record {
+  taken = spanned t ∷ [];
+  on = consumed_one p q (spanned t) rest before after upto same;
+  agree = (record { token = ap Word text ∙ word_is t.kind t.text.now named; start = start; end = end }, tt);
 }
+
+-- ---- literals
+
+starts : (n end : ℕ) (s : List PlacedToken) (xs rest : List SpannedToken) → n ≡ start_of (xs ++ rest) end → AgreeWith s xs → AgreeWith (starting_at n s) xs
+starts n end [] xs rest e a = a
+starts n end (p ∷ s) [] rest e a = absurd a
+starts n end (p ∷ s) (x ∷ xs) rest e a = (record { token = a.0.token; start = e; end = a.0.end }, a.1)
+
+ends : (n from : ℕ) (s : List PlacedToken) (xs : List SpannedToken) → n ≡ end_of from xs → AgreeWith s xs → AgreeWith (ending_at n s) xs
+ends n from [] xs e a = a
+ends n from (p ∷ []) [] e a = absurd a
+ends n from (p ∷ []) (x ∷ []) e a = (record { token = a.0.token; start = a.0.start; end = e }, tt)
+ends n from (p ∷ []) (x ∷ (y ∷ xs)) e a = absurd a.1
+ends n from (p ∷ (q ∷ s)) [] e a = absurd a
+ends n from (p ∷ (q ∷ s)) (x ∷ xs) e a = (a.0, ends n x.end (q ∷ s) xs e a.1)
+
+-- a literal stands from where its first token starts up to where its last one ends
+literal_walk : {p q : Parser} (l : Literal) → Passed p q → lexemes p ≡ literal_toks (bare_literal l) ++ lexemes q → l.span.start ≡ start_of (ahead p) p.end → l.span.end ≡ q.reached → Walk p q (placed_literal l)
+literal_walk {p} {q} l w tokens at upto =
+    let s : List PlacedToken = plain (literal_toks (bare_literal l)) in
+    let v : Walk p q s = plain_walk (literal_toks (bare_literal l)) w tokens in
+    record {
+      taken = v.taken;
+      on = v.on;
+      agree = starts l.span.start p.end (ending_at l.span.end s) v.taken (ahead q) (at ∙ ap (λ (ts : List SpannedToken). start_of ts p.end) v.on.split) (ends l.span.end p.reached s v.taken (upto ∙ v.on.upto) v.agree);
+    }
+
+pub read_literal : (p q : Parser) (Is : tree.Literal → Type 0) (read : Reader tree.Literal) → Takes literal_toks Is read → (result : Result Literal Refusal) (start : ℕ) → Gives bare_literal result (read (lexemes p)) (lexemes q) → start ≡ start_of (ahead p) p.end
+    → IfOk result (λ l. Passed p q) → IfOk result (λ l. (l.span.start ≡ start) × (l.span.end ≡ q.reached)) → IfOk result (λ l. Walk p q (placed_literal l))
+read_literal p q Is read takes (Ok l) start given at w span = literal_walk l w (takes (lexemes p) (bare_literal l, lexemes q) given).parts (span.0 ∙ at) span.1
+read_literal p q Is read takes (Err e) start given at w span = tt
+
+-- the first two tokens are taken, a literal of one token and the comma behind it
+pub listed_pair : (p q : Parser) (l : Listed) → ahead p ≡ spanned l.token ∷ (listed_comma l ∷ ahead q) → q.reached ≡ l.comma.end → source_of q.tokens ≡ source_of p.tokens → Walk p q (placed_listed (lexeme l.token) l.token.span)
+listed_pair p q l before upto same = record {
+  taken = spanned l.token ∷ (listed_comma l ∷ []);
+  on = record { split = before; upto = upto; same_source = same };
+  agree = (record { token = refl; start = refl; end = refl }, (record { token = refl; start = tt; end = tt }, tt));
+}
+
+listed_is : (k : Plain) (span : Span) → placed_listed (plain_token k) span ≡ placed_literal (record { span = span; what = plain_kind k }) ++ placed_mark Comma
+listed_is (plains.Whole z) span = refl
+listed_is (plains.Truth b) span = refl
+
+same_first : (ts : List SpannedToken) (first : SpannedToken) (rest : List SpannedToken) (t : TokenValue) (others : List TokenValue) → ts ≡ first ∷ rest → values ts ≡ t ∷ others → t ≡ first.token
+same_first ts first rest t others e f = let g : first.token ∷ values rest ≡ t ∷ others = sym (ap values e) ∙ f in cc g
+
+pub listed_walk : {p q : Parser} (k : Plain) (first t : Token) (rest : List SpannedToken) (others : List TokenValue) (what : LiteralKind) → ahead p ≡ spanned first ∷ rest → lexeme first ≡ plain_token k → what ≡ plain_kind k
+    → lexemes p ≡ lexeme t ∷ others → Walk p q (placed_listed (lexeme t) t.span) → Walk p q (placed_literal (record { span = t.span; what = what }) ++ placed_mark Comma)
+listed_walk {p} {q} k first t rest others what before is kind read w =
+    let token : lexeme t ≡ plain_token k = same_first (ahead p) (spanned first) rest (lexeme t) others before read ∙ is in
+    let plain_one : Walk p q (placed_listed (plain_token k) t.span) = subst (λ (u : TokenValue). Walk p q (placed_listed u t.span)) token w in
+    let literal : Walk p q (placed_literal (record { span = t.span; what = plain_kind k }) ++ placed_mark Comma) = subst (λ (s : List PlacedToken). Walk p q s) (listed_is k t.span) plain_one in
+    subst (λ (m : LiteralKind). Walk p q (placed_literal (record { span = t.span; what = m }) ++ placed_mark Comma)) (sym kind) literal
+
+kind_listed : (k : Plain) (before after : List TokenValue) → before ≡ plain_token k ∷ (Marked Comma ∷ after) → IsListed (bare_literal_kind (plain_kind k)) before after
+kind_listed (plains.Whole z) before after e = e
+kind_listed (plains.Truth b) before after e = e
+
+pub listed_read : (p q : Parser) (k : Plain) (first t : Token) (rest : List SpannedToken) (what : LiteralKind) → ahead p ≡ spanned first ∷ rest → lexeme first ≡ plain_token k → what ≡ plain_kind k
+    → lexemes p ≡ lexeme t ∷ (Marked Comma ∷ lexemes q) → IsListed (bare_literal_kind what) (lexemes p) (lexemes q)
+listed_read p q k first t rest what before is kind read =
+    let token : lexeme t ≡ plain_token k = same_first (ahead p) (spanned first) rest (lexeme t) (Marked Comma ∷ lexemes q) before read ∙ is in
+    subst (λ (m : LiteralKind). IsListed (bare_literal_kind m) (lexemes p) (lexemes q)) (sym kind) (kind_listed k (lexemes p) (lexemes q) (read ∙ ap (λ (u : TokenValue). u ∷ (Marked Comma ∷ lexemes q)) token))
 
 -- ---- lists
 
-flat_map_grown : {A : Type 0} (f : A → List Spot) (front : List A) (x : A) → flat_map f (front ++ x ∷ []) ≡ flat_map f front ++ f x
-flat_map_grown f front x = flat_map-append f front (x ∷ []) ∙ ap (λ s. flat_map f front ++ s) (flat_map-cons f x [] ∙ append-nil (f x))
+flat_map_grown : {A : Type 0} (f : A → List PlacedToken) (front : List A) (x : A) → flat_map f (front ++ x ∷ []) ≡ flat_map f front ++ f x
+flat_map_grown f front x = flat_map-append f front (x ∷ []) ∙ ap (λ (s : List PlacedToken). flat_map f front ++ s) (append-nil (f x))
 
 -- no part yet
-pub walk_zero : {A : Type 0} (f : A → List Spot) {p : Parser} (items : List A) → items ≡ [] → Walk p p (flat_map f items)
+pub walk_zero : {A : Type 0} (f : A → List PlacedToken) {p : Parser} (items : List A) → items ≡ [] → Walk p p (flat_map f items)
 walk_zero f {p} items none = subst (λ xs. Walk p p (flat_map f xs)) (sym none) walk_none
 
 -- one more part of a list
-pub walk_more : {A : Type 0} (f : A → List Spot) {p q r : Parser} (front items : List A) (x : A) → items ≡ front ++ x ∷ [] → Walk p q (flat_map f front) → Walk q r (f x) → Walk p r (flat_map f items)
+pub walk_more : {A : Type 0} (f : A → List PlacedToken) {p q r : Parser} (front items : List A) (x : A) → items ≡ front ++ x ∷ [] → Walk p q (flat_map f front) → Walk q r (f x) → Walk p r (flat_map f items)
 walk_more f {p} {q} {r} front items x grew w v =
     subst (λ s. Walk p r s) (sym (ap (flat_map f) grew ∙ flat_map_grown f front x)) (walk_then w v)
 
--- the first part of a list
-pub walk_first : {A : Type 0} (f : A → List Spot) {p q : Parser} (made items : List A) (x : A) → made ≡ [] → items ≡ made ++ x ∷ [] → Walk p q (f x) → Walk p q (flat_map f items)
-walk_first f {p} {q} made items x none grew v = walk_more f made items x grew (walk_zero f made none) v
+pub some_pushed : {A : Type 0} (front items : List A) (x : A) → items ≡ front ++ x ∷ [] → 0 < length items
+some_pushed {A} front items x grew =
+    let longer : length items ≡ length (front ++ x ∷ []) = ap length grew in
+    let both = length-append front (x ∷ []) in
+    omega (arith, longer, both)
 
-pub joined_map : {A : Type 0} (f : A → List Spot) (xs : List A) → flat_map (λ part. part) (map f xs) ≡ flat_map f xs
-joined_map f [] = refl
-joined_map f (x ∷ xs) = flat_map-cons (λ part. part) (f x) (map f xs) ∙ ap (λ s. f x ++ s) (joined_map f xs) ∙ sym (flat_map-cons f x xs)
+-- the first part of parts with commas between them
+pub separated_first : {A : Type 0} (f : A → List PlacedToken) {p q : Parser} (made items : List A) (x : A) → made ≡ [] → items ≡ made ++ x ∷ [] → Walk p q (f x) → Walk p q (placed_separated f items)
+separated_first {A} f {p} {q} made items x none grew v =
+    let one : items ≡ x ∷ [] = grew ∙ ap (λ (xs : List A). xs ++ x ∷ []) none in
+    subst (λ s. Walk p q s) (sym (ap (placed_separated f) one ∙ append-nil (f x))) v
 
--- the same of what the rest of a literal gave
-pub braces_walk : {p q : Parser} (r : Parser) (result : Result Literal Refusal) (start : ℕ) → Began p q → start ≡ start_of (ahead p) p.end → IfOk result (λ l. Walk q r []) → IfOk result (λ l. (l.span.start ≡ start) × (l.span.end ≡ r.reached))
-    → IfOk result (λ l. Walk p r (literal_spots l))
-braces_walk r (Ok l) start b at w span = literal_walk l (began_then b w) span.1 (span.0 ∙ at)
-braces_walk r (Err e) start b at w span = tt
+separated_grown : {A : Type 0} (f : A → List PlacedToken) (front : List A) (x : A) → 0 < length front → placed_separated f (front ++ x ∷ []) ≡ placed_separated f front ++ (placed_mark Comma ++ f x)
+separated_grown f [] x some = absurd (omega arith)
+separated_grown f (y ∷ front) x some =
+    ap (λ (s : List PlacedToken). f y ++ s) (flat_map_grown (λ z. unplaced (Marked Comma) ∷ f z) front x) ∙ sym (append_assoc (f y) (flat_map (λ z. unplaced (Marked Comma) ∷ f z) front) (placed_mark Comma ++ f x))
+
+-- a further one
+pub separated_more : {A : Type 0} (f : A → List PlacedToken) {p q r s : Parser} (front items : List A) (x : A) → 0 < length front → items ≡ front ++ x ∷ [] → Walk p q (placed_separated f front) → Walk q r (placed_mark Comma) → Walk r s (f x)
+    → Walk p s (placed_separated f items)
+separated_more f {p} {q} {r} {s} front items x some grew w c v =
+    subst (λ t. Walk p s t) (sym (ap (placed_separated f) grew ∙ separated_grown f front x some)) (walk_then w (walk_then c v))
+
+-- parts that have a comma behind each of them, and then the last part
+abbrev pub with_comma : {A : Type 0} → (A → List PlacedToken) → A → List PlacedToken
+with_comma f x = f x ++ placed_mark Comma
+
+commas_first : {A : Type 0} (f : A → List PlacedToken) (front : List A) (x : A) → flat_map (λ z. unplaced (Marked Comma) ∷ f z) (front ++ x ∷ []) ≡ placed_mark Comma ++ (flat_map (with_comma f) front ++ f x)
+commas_first f [] x = ap (λ (s : List PlacedToken). placed_mark Comma ++ s) (append-nil (f x))
+commas_first f (y ∷ front) x =
+    let C : List PlacedToken = placed_mark Comma in
+    let M : List PlacedToken = flat_map (with_comma f) front in
+    ap (λ (s : List PlacedToken). (C ++ f y) ++ s) (commas_first f front x)
+    ∙ ap (λ (s : List PlacedToken). C ++ s) (sym (append_assoc (f y ++ C) M (f x) ∙ append_assoc (f y) C (M ++ f x)))
+
+separated_last : {A : Type 0} (f : A → List PlacedToken) (front : List A) (x : A) → placed_separated f (front ++ x ∷ []) ≡ flat_map (with_comma f) front ++ f x
+separated_last f [] x = append-nil (f x)
+separated_last f (y ∷ front) x =
+    let C : List PlacedToken = placed_mark Comma in
+    let M : List PlacedToken = flat_map (with_comma f) front in
+    ap (λ (s : List PlacedToken). f y ++ s) (commas_first f front x) ∙ sym (append_assoc (f y ++ C) M (f x) ∙ append_assoc (f y) C (M ++ f x))
+
+pub separated_end : {A : Type 0} (f : A → List PlacedToken) {p q r : Parser} (front items : List A) (x : A) → items ≡ front ++ x ∷ [] → Walk p q (flat_map (with_comma f) front) → Walk q r (f x) → Walk p r (placed_separated f items)
+separated_end f {p} {q} {r} front items x grew w v =
+    subst (λ s. Walk p r s) (sym (ap (placed_separated f) grew ∙ separated_last f front x)) (walk_then w v)
+
+-- a list of no parts
+pub walk_empty : {A : Type 0} (f : A → List PlacedToken) {p q : Parser} (m : Mark) (items : List A) → items ≡ [] → Walk p q (placed_mark m) → Walk p q (placed_separated f items ++ placed_mark m)
+walk_empty f {p} {q} m items none w = subst (λ xs. Walk p q (placed_separated f xs ++ placed_mark m)) (sym none) w
 
 -- ---- annotations
 
-pub note_walk : {p q r : Parser} (n : Name) (args : List NoteArg) → Walk p q (name_spots n) → Walk q r (flat_map arg_spots args) → Walk p r (name_spot n ∷ flat_map (λ part. part) (map arg_spots args))
-note_walk {p} {q} {r} n args w v = walk_then w (subst (λ s. Walk q r s) (sym (joined_map arg_spots args)) v)
+mapped_parts : {A : Type 0} (f : A → List PlacedToken) (xs : List A) → flat_map (λ part. unplaced (Marked Comma) ∷ part) (map f xs) ≡ flat_map (λ x. unplaced (Marked Comma) ∷ f x) xs
+mapped_parts f [] = refl
+mapped_parts f (x ∷ xs) = ap (λ (s : List PlacedToken). (unplaced (Marked Comma) ∷ f x) ++ s) (mapped_parts f xs)
 
-pub listed_walk : {p q r : Parser} (bs : List NoteBasic) → Walk p q [] → Walk q r (flat_map note_basic_spots bs) → Walk p r (flat_map (λ part. part) (map note_basic_spots bs))
-listed_walk {p} {q} {r} bs w v = walk_skip w (subst (λ s. Walk q r s) (sym (joined_map note_basic_spots bs)) v)
+pub parts_are : {A : Type 0} (f : A → List PlacedToken) (xs : List A) → placed_parts (map f xs) ≡ placed_separated f xs
+parts_are f [] = refl
+parts_are f (x ∷ xs) = ap (λ (s : List PlacedToken). f x ++ s) (mapped_parts f xs)
 
--- ---- the whole
+args_are : (args : List NoteArg) → 0 < length args → placed_args (map placed_arg args) ≡ placed_between OpenParen CloseParen (placed_separated placed_arg args)
+args_are [] some = absurd (omega arith)
+args_are (a ∷ args) some = ap (placed_between OpenParen CloseParen) (parts_are placed_arg (a ∷ args))
 
-order_within : (from end : ℕ) (tokens : List SpannedToken) → AreInOrder from end tokens → from ≤ end
-order_within from end [] h = h
-order_within from end (t ∷ ts) h = omega (arith, h.0, h.1, order_within t.end end ts h.2)
+-- arguments in parentheses
+pub args_walk : {p q r s : Parser} (args : List NoteArg) → 0 < length args → Walk p q (placed_mark OpenParen) → Walk q r (placed_separated placed_arg args) → Walk r s (placed_mark CloseParen) → Walk p s (placed_args (map placed_arg args))
+args_walk {p} {q} {r} {s} args some opened w closed = subst (λ t. Walk p s t) (sym (args_are args some)) (walk_then opened (walk_then w closed))
 
--- what was read from the first token on stands in the source
-pub stands_of : (p q : Parser) (s : List Spot) → Walk p q s → p.reached ≡ 0 → (source : List ℕ) → IsLaidOut source p → Stand source 0 (length source) s
-stands_of p q s w zero source laid =
-    let end = order_within q.reached (length source) (ahead q) (w.laid source laid).order in
-    subst (λ n. Stand source n (length source) s) zero (stand_upto source p.reached q.reached (length source) s end (w.stand source laid))
+pub no_args_walk : {p q : Parser} (args : List NoteArg) → args ≡ [] → q ≡ p → Walk p q (placed_args (map placed_arg args))
+no_args_walk {p} {q} args none same = subst (λ (xs : List NoteArg). Walk p q (placed_args (map placed_arg xs))) (sym none) (walk_same same)
+
+-- a list among them
+pub note_list_walk : {p q r : Parser} (bs : List NoteBasic) → Walk p q (placed_mark OpenBracket) → Walk q r (placed_separated placed_note_basic bs ++ placed_mark CloseBracket) → Walk p r (placed_between OpenBracket CloseBracket (placed_parts (map placed_note_basic bs)))
+note_list_walk {p} {q} {r} bs opened w = subst (λ s. Walk p r (placed_between OpenBracket CloseBracket s)) (sym (parts_are placed_note_basic bs)) (walk_then opened w)

@@ -8,6 +8,7 @@ pub mod Spots
 pub mod Reading
 pub mod ReadingItems
 pub mod Outcome
+pub mod Placed
 pub mod Walk
 pub mod Words
 pub use Rattle.fz_lex.specs.Byte

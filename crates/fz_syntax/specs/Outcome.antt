@@ -8,6 +8,8 @@ use Rattle.fz_syntax.specs.declared.parser.kinds.Plain.{Plain}
 use Rattle.fz_syntax.specs.declared.parser.kinds.Plain.TheVariants as plains
 use Rattle.fz_lex.specs.Token.{TokenValue, Word, Whole, Marked}
 use Rattle.fz_lex.specs.declared.token.Mark.TheVariants.{Comma}
+use Rattle.fz_syntax.specs.declared.tree.LiteralKind.{LiteralKind}
+use Rattle.fz_syntax.specs.declared.tree.LiteralKind.TheVariants as literals
 use Rattle.fz_syntax.specs.Tree.{Literal, Number, Truth}
 use Rattle.fz_syntax.specs.Tokens.{truth_word}
 use Rattle.fz_syntax.specs.Reading.{FaultKind, Syntax, Float, TooDeep, TooMany, Fault, Read, is_float, next_passes}
@@ -64,6 +66,11 @@ IsWhole view (Err e) read = (f : Fault) × (read ≡ Err f) × IsFault e f.kind
 abbrev pub plain_token : Plain → TokenValue
 plain_token (plains.Whole z) = Whole z
 plain_token (plains.Truth b) = Word (truth_word b)
+
+-- and what the literal is
+abbrev pub plain_kind : Plain → LiteralKind
+plain_kind (plains.Whole z) = literals.Whole z
+plain_kind (plains.Truth b) = literals.Truth b
 
 -- the literal is the first token, a comma is the second, and behind them stand the tokens after
 abbrev pub IsListed : Literal → List TokenValue → List TokenValue → Type 0

@@ -38,3 +38,13 @@ IsRefusalOf source (errors.Syntax span) = (tokens : List SpannedToken) × LexesW
 IsRefusalOf source (errors.TooDeep span) = (tokens : List SpannedToken) × LexesWithinLimits source tokens
 IsRefusalOf source (errors.TooMany span) = (tokens : List SpannedToken) × LexesWithinLimits source tokens
 IsRefusalOf source errors.Memory = Unit {0}
+
+-- ---- laws
+
+-- A text has one tree.
+abbrev pub TextHasOneTree : Type 0
+TextHasOneTree = (source : List ℕ) (t u : Tree) → IsTextOfTree source t → IsTextOfTree source u → t ≡ u
+
+-- A text has one list of printed items.
+abbrev pub TextHasOneListOfItems : Type 0
+TextHasOneListOfItems = (source : List ℕ) (items others : List Printed) → IsTextOfItems source items → IsTextOfItems source others → items ≡ others

@@ -5,6 +5,8 @@ mod parser;
 mod printer;
 mod tree;
 
+ghost use Rattle.fz_syntax.specs.Text.{TextHasOneTree, TextHasOneListOfItems};
+
 pub use fz_lex::fz_base::Span;
 pub use fz_lex::{Mark, SyntaxError, Token, TokenKind, lex};
 pub use parser::{parse, read_items};
@@ -13,3 +15,13 @@ pub use tree::{
     Ast, Base, Basic, Constraint, Decl, Expr, Goal, Literal, LiteralKind, Name, Note, NoteArg,
     NoteBasic, Param, Predicate, Printed, PrintedValue, Solve,
 };
+
+/// A text has one tree.
+pub fn text_has_one_tree()
+    ensures { TextHasOneTree }
+{}
+
+/// A text has one list of printed items.
+pub fn text_has_one_list_of_items()
+    ensures { TextHasOneListOfItems }
+{}

@@ -3,7 +3,8 @@
 ghost use Rattle.std.specs.Prelude.{ℕ, ◌≡◌, ◌<◌, ◌↔◌, length, List, [], IfOk, IfErr, MatchResult, Err};
 ghost use Rattle.std.specs.List.{AllByRecursion};
 ghost use Rattle.fz_lex.specs.View.{IsPlacedWithin};
-ghost use Rattle.fz_syntax.specs.Walk.{Walk, lexemes};
+ghost use Rattle.fz_syntax.specs.Walk.{Walk, ahead, lexemes};
+ghost use Rattle.fz_syntax.specs.Placed.{ArePlacedIn, placed_tree, placed_items};
 ghost use Rattle.fz_syntax.specs.Spots.{Stand, spots, item_spots};
 ghost use Rattle.fz_syntax.specs.View.{bare, bare_items};
 ghost use Rattle.fz_syntax.specs.Outcome.{IsWhole};
@@ -37,7 +38,8 @@ use std::alloc::Global;
 fn read_all<'a>(parser: &mut Parser<'a>) -> Result<Ast<'a>, SyntaxError>
     ensures whole { IsWhole bare result (tree_of the_limits (lexemes parser.old)) }
     ensures placed { IfErr result (IsPlacedWithin parser.old.end) }
-    ensures walked { IfOk result (λ a. Walk parser.old parser.new (spots a)) }
+    ensures walked { IfOk result (λ a. Walk parser.old parser.new (placed_tree a)) }
+    ensures ended { IfOk result (λ _. ahead parser.new ≡ []) }
 {
     match parser.tree() {
         Ok(ast) => {
@@ -56,7 +58,8 @@ fn read_all<'a>(parser: &mut Parser<'a>) -> Result<Ast<'a>, SyntaxError>
 fn read_all_items<'a>(parser: &mut Parser<'a>) -> Result<Vec<Printed<'a>>, SyntaxError>
     ensures whole { IsWhole (λ v. bare_items v.items) result (items_of the_limits (lexemes parser.old)) }
     ensures placed { IfErr result (IsPlacedWithin parser.old.end) }
-    ensures walked { IfOk result (λ v. Walk parser.old parser.new (item_spots v.items)) }
+    ensures walked { IfOk result (λ v. Walk parser.old parser.new (placed_items v.items)) }
+    ensures ended { IfOk result (λ _. ahead parser.new ≡ []) }
 {
     match parser.printed_items() {
         Ok(items) => {
@@ -97,7 +100,11 @@ pub fn parse<'a>(alloc: Global, source: &'a [u8]) -> Result<Ast<'a>, SyntaxError
     // The place of an error lies within the source.
     ensures placed { IfErr result (IsPlacedWithin (length source.now)) }
 
-    // The names and literals stand in the source one behind the other, each name with its text.
+    // The source is cut into the tree's tokens. Each name stands where its own token does, and each literal from where
+    // its first token starts up to where its last one ends.
+    ensures in_place { IfOk result (λ a. ArePlacedIn source.now (placed_tree a)) }
+
+    // So the names and literals stand one behind the other, each name with its text.
     ensures stands { IfOk result (λ a. Stand source.now 0 (length source.now) (spots a)) }
 {
     if source.len() > MOST_BYTES {
@@ -137,7 +144,10 @@ pub fn read_items<'a>(alloc: Global, source: &'a [u8]) -> Result<Vec<Printed<'a>
     // The place of an error lies within the source.
     ensures placed { IfErr result (IsPlacedWithin (length source.now)) }
 
-    // The names and literals stand in the source one behind the other, each name with its text.
+    // The source is cut into the items' tokens, and each name and literal stands where its own tokens do.
+    ensures in_place { IfOk result (λ items. ArePlacedIn source.now (placed_items items.items)) }
+
+    // So the names and literals stand one behind the other, each name with its text.
     ensures stands { IfOk result (λ a. Stand source.now 0 (length source.now) (item_spots a.items)) }
 
     // The empty source has no items.

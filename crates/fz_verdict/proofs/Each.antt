@@ -1,12 +1,16 @@
--- What holds of one violated block under its filling holds of each violated block of a report.
+-- What holds of one block under its filling holds of each block of a report with such a verdict.
 use Rattle.std.proofs.Common.{◌≡◌, ℕ, suc, zero, ℤ, List, Option, Some, None, refl, ap, subst, slice_get, ◌⊎◌, inl, inr}
-use Rattle.fz_model.specs.Meaning.{Model, Partial, Assignment, objective, IsKnownSolution}
+use Rattle.fz_model.specs.Located.{LocatedTree}
+use Rattle.fz_model.specs.Meaning.{Model, Partial, Assignment, objective, IsKnownSolution, IsSolution}
+use Rattle.fz_model.specs.Names.{HasNoFault, model_of}
 use Rattle.fz_verdict.specs.Blocks.{Block, Extends}
 use Rattle.fz_verdict.specs.Headline.{Improves}
 use Rattle.fz_verdict.specs.Verdict.{Verdict, Fault, verdict, AreJudged, IsFilled, AreVerdicts}
 use Rattle.fz_verdict.specs.Verdict.AreJudged.{NoneLeft, OneMore}
-use Rattle.fz_verdict.specs.Verdict.Verdict.{Violated}
+use Rattle.fz_verdict.specs.Verdict.Verdict.{Satisfied, Violated}
 use Rattle.fz_verdict.specs.Verdict.Fault.{NotBetter}
+use Rattle.fz_verdict.proofs.Accepted.{Satisfies, satisfied_solves}
+use Rattle.fz_verdict.proofs.Start.{filling_proposed}
 use Rattle.fz_verdict.proofs.Violated.{violated_has_none, not_better_has_none, is_not_better, never_first}
 
 -- the block before the one at a place, and what was proposed for it, under which it has the objective
@@ -71,3 +75,11 @@ each_not_better m blocks vs i block now before are at is =
         not_better_has_none m b.block block b.proposed j.proposed (NotBetter now before) b.is_proposed.filling j.is_proposed.filling (subst (λ k. verdict m j.proposed block k ≡ Violated (NotBetter now before)) b.kept_is j.is),
       )
     ]
+
+-- Block number i that is satisfied has a solution that extends it.
+pub each_satisfied : (t : LocatedTree) (blocks : List Block) (vs : List Verdict) (i : ℕ) (block : Block) → HasNoFault t → AreVerdicts (model_of t) blocks vs → slice_get blocks i ≡ Some block
+    → slice_get vs i ≡ Some Satisfied → (A : Assignment) × Extends (model_of t) A block × IsSolution (model_of t) A
+each_satisfied t blocks vs i block sound are at is =
+    let j : JudgedAt (model_of t) (IsFilled (model_of t)) None blocks i block Satisfied = judged_at (model_of t) (IsFilled (model_of t)) are i block Satisfied at is in
+    let s : Satisfies (model_of t) j.proposed block j.kept = satisfied_solves (model_of t) j.proposed block j.kept (filling_proposed t block j.proposed sound j.is_proposed).partial j.is in
+    (s.assignment, s.extends, s.solution)

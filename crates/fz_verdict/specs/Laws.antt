@@ -58,6 +58,12 @@ EachNotBetterHasNone =
     → (j : ℕ) × (earlier : Block) × (i ≡ suc j) × (slice_get blocks j ≡ Some earlier)
     × ((A B : Assignment) → IsKnownSolution m A → Extends m A earlier → IsKnownSolution m B → Extends m B block → Improves m (Some A) B → ⊥)
 
+-- Each block of a report on a model's tree that is satisfied, whatever the others are, has a solution that extends it.
+abbrev pub EachSatisfiedHasOne : Type 0
+EachSatisfiedHasOne =
+    (t : LocatedTree) (blocks : List Block) (verdicts : List Verdict) (i : ℕ) (block : Block) → HasNoFault t → AreVerdicts (model_of t) blocks verdicts → slice_get blocks i ≡ Some block
+    → slice_get verdicts i ≡ Some Satisfied → (A : Assignment) × Extends (model_of t) A block × IsSolution (model_of t) A
+
 -- A block has one filling.
 abbrev pub FillingIsOne : Type 0
 FillingIsOne = (m : Model) (block : Block) (F G : Partial) → IsFilling m block F → IsFilling m block G → F ≡ G

@@ -4,6 +4,7 @@
 ghost use Rattle.fz_verdict.specs.Laws.{
   AcceptedHaveSolutions,
   EachNotBetterHasNone,
+  EachSatisfiedHasOne,
   EachViolatedHasNone,
   FillingFollows,
   FillingIsOne,
@@ -43,6 +44,11 @@ pub fn each_violated_has_none()
 /// The same where the objective is not better.
 pub fn each_not_better_has_none()
     ensures { EachNotBetterHasNone }
+{}
+
+/// A yes is a yes, for each block of a report, accepted or not: where it is satisfied, it has a solution.
+pub fn each_satisfied_has_one()
+    ensures { EachSatisfiedHasOne }
 {}
 
 /// A block has one filling.

@@ -1,13 +1,12 @@
 //! Annotations.
 
-ghost use Rattle.std.specs.Prelude.{◌≡◌, ◌≤◌, length, map, IfOk, []};
+ghost use Rattle.std.specs.Prelude.{◌≡◌, ◌≤◌, ◌<◌, ◌++◌, length, map, IfOk};
 ghost use Rattle.fz_syntax.specs.View.{bare_note, bare_arg, bare_basic, bare_notes};
 ghost use Rattle.fz_syntax.specs.Outcome.{Gives};
 ghost use Rattle.fz_syntax.specs.Reading.{mark_at, at_most, separated_at, note_at, note_args_at, note_arg_at, note_list_at, note_basic_at, begins_note_basic, any_number, notes_at, list_at};
 ghost use Rattle.fz_lex.specs.declared.token.Mark.TheVariants.{CloseParen, CloseBracket};
 ghost use Rattle.fz_syntax.specs.Shape.{the_limits};
-ghost use Rattle.fz_syntax.specs.Spots.{note_spots, arg_spots, note_basic_spots};
-ghost use Rattle.std.specs.List.{flat_map};
+ghost use Rattle.fz_syntax.specs.Placed.{placed_mark, placed_separated, placed_note, placed_arg, placed_args, placed_note_basic, placed_notes};
 ghost use Rattle.fz_syntax.specs.Walk.{Walk, lexemes};
 
 use crate::parser::cursor::{MAX_DEPTH, MAX_ELEMENTS, Parser};
@@ -19,12 +18,12 @@ use fz_lex::{Mark, TokenKind};
 impl<'a> Parser<'a> {
     /// An annotation of at most `depth` levels.
     #[cycle(notes)]
-    #[tactic(auto, unfolding(crate::specs::Reading::note_at), using(crate::proofs::Walks::walk_skip, crate::proofs::Walks::walk_then, crate::proofs::Walks::walk_end, crate::proofs::Walks::walk_none, crate::proofs::Errors::fails_unexpected, crate::proofs::Separated::fails_bind))]
+    #[tactic(auto, unfolding(crate::specs::Reading::note_at), using(crate::proofs::Walks::passed_then, crate::proofs::Walks::passed_none, crate::proofs::Walks::passed, crate::proofs::Walks::walk_none, crate::proofs::Errors::fails_unexpected, crate::proofs::Separated::fails_bind))]
     pub(crate) fn note(&mut self, depth: usize) -> Result<Note<'a>, Refusal>
         ensures read { Gives (bare_note) result (note_at the_limits depth (lexemes self.old)) (lexemes self.new) }
         ensures shorter { length (lexemes self.new) ≤ length (lexemes self.old) }
         ensures end { self.new.end ≡ self.old.end }
-        ensures walked { IfOk result (λ n. Walk self.old self.new (note_spots n)) }
+        ensures walked { IfOk result (λ n. Walk self.old self.new (placed_note n)) }
     {
         if depth == 0 {
             return Err(if self.begins_name() {
@@ -39,12 +38,12 @@ impl<'a> Parser<'a> {
     }
 
     #[cycle(notes)]
-    #[tactic(auto, unfolding(crate::specs::Reading::note_args_at, crate::specs::Reading::mark_at), using(crate::proofs::Walks::walk_skip, crate::proofs::Walks::walk_then, crate::proofs::Walks::walk_end, crate::proofs::Walks::walk_none, crate::proofs::Errors::fails_unexpected, crate::proofs::Separated::fails_bind))]
+    #[tactic(auto, unfolding(crate::specs::Reading::note_args_at, crate::specs::Reading::mark_at), using(crate::proofs::Walks::passed_then, crate::proofs::Walks::passed_none, crate::proofs::Walks::passed, crate::proofs::Walks::walk_none, crate::proofs::Errors::fails_unexpected, crate::proofs::Separated::fails_bind))]
     pub(crate) fn note_args(&mut self, depth: usize) -> Result<Vec<NoteArg<'a>>, Refusal>
         ensures read { Gives (λ v. map bare_arg v.items) result (note_args_at the_limits depth (note_at the_limits depth) (lexemes self.old)) (lexemes self.new) }
         ensures shorter { length (lexemes self.new) ≤ length (lexemes self.old) }
         ensures end { self.new.end ≡ self.old.end }
-        ensures walked { IfOk result (λ v. Walk self.old self.new (flat_map arg_spots v.items)) }
+        ensures walked { IfOk result (λ v. Walk self.old self.new (placed_args (map placed_arg v.items))) }
     {
         if !self.eat(Mark::OpenParen) {
             return Ok(Vec::new(self.alloc));
@@ -59,7 +58,8 @@ impl<'a> Parser<'a> {
         ensures read { Gives (λ v. map bare_arg v.items) result (separated_at (any_number (note_arg_at the_limits depth (note_at the_limits depth))) (lexemes self.old)) (lexemes self.new) }
         ensures shorter { length (lexemes self.new) ≤ length (lexemes self.old) }
         ensures end { self.new.end ≡ self.old.end }
-        ensures walked { IfOk result (λ v. Walk self.old self.new (flat_map arg_spots v.items)) }
+        ensures walked { IfOk result (λ v. Walk self.old self.new (placed_separated placed_arg v.items)) }
+        ensures some { IfOk result (λ v. 0 < length v.items) }
     {
         let mut arguments = Vec::new(self.alloc);
         arguments.push(self.note_arg(depth)?)?;
@@ -71,12 +71,12 @@ impl<'a> Parser<'a> {
     }
 
     #[cycle(notes)]
-    #[tactic(auto, unfolding(crate::specs::Reading::note_arg_at), using(crate::proofs::Walks::walk_skip, crate::proofs::Walks::walk_then, crate::proofs::Walks::walk_end, crate::proofs::Walks::walk_none, crate::proofs::Errors::fails_unexpected, crate::proofs::Separated::fails_bind))]
+    #[tactic(auto, unfolding(crate::specs::Reading::note_arg_at), using(crate::proofs::Walks::passed_then, crate::proofs::Walks::passed_none, crate::proofs::Walks::passed, crate::proofs::Walks::walk_none, crate::proofs::Errors::fails_unexpected, crate::proofs::Separated::fails_bind))]
     pub(crate) fn note_arg(&mut self, depth: usize) -> Result<NoteArg<'a>, Refusal>
         ensures read { Gives (bare_arg) result (note_arg_at the_limits depth (note_at the_limits depth) (lexemes self.old)) (lexemes self.new) }
         ensures shorter { length (lexemes self.new) ≤ length (lexemes self.old) }
         ensures end { self.new.end ≡ self.old.end }
-        ensures walked { IfOk result (λ a. Walk self.old self.new (arg_spots a)) }
+        ensures walked { IfOk result (λ a. Walk self.old self.new (placed_arg a)) }
     {
         if self.eat(Mark::OpenBracket) {
             Ok(NoteArg::List(self.note_list(depth)?))
@@ -86,12 +86,12 @@ impl<'a> Parser<'a> {
     }
 
     #[cycle(notes)]
-    #[tactic(auto, unfolding(crate::specs::Reading::note_list_at, crate::specs::Reading::list_at, crate::specs::Reading::mark_at), using(crate::proofs::Walks::walk_skip, crate::proofs::Walks::walk_then, crate::proofs::Walks::walk_end, crate::proofs::Walks::walk_none, crate::proofs::Errors::fails_unexpected, crate::proofs::Separated::fails_bind))]
+    #[tactic(auto, unfolding(crate::specs::Reading::note_list_at, crate::specs::Reading::list_at, crate::specs::Reading::mark_at), using(crate::proofs::Walks::passed_then, crate::proofs::Walks::passed_none, crate::proofs::Walks::passed, crate::proofs::Walks::walk_none, crate::proofs::Errors::fails_unexpected, crate::proofs::Separated::fails_bind))]
     pub(crate) fn note_list(&mut self, depth: usize) -> Result<Vec<NoteBasic<'a>>, Refusal>
         ensures read { Gives (λ v. map bare_basic v.items) result (note_list_at the_limits depth (note_at the_limits depth) (lexemes self.old)) (lexemes self.new) }
         ensures shorter { length (lexemes self.new) ≤ length (lexemes self.old) }
         ensures end { self.new.end ≡ self.old.end }
-        ensures walked { IfOk result (λ v. Walk self.old self.new (flat_map note_basic_spots v.items)) }
+        ensures walked { IfOk result (λ v. Walk self.old self.new (placed_separated placed_note_basic v.items ++ placed_mark CloseBracket)) }
     {
         if self.eat(Mark::CloseBracket) {
             return Ok(Vec::new(self.alloc));
@@ -109,7 +109,7 @@ impl<'a> Parser<'a> {
         ensures read { Gives (λ v. map bare_basic v.items) result (separated_at (at_most the_limits.elements (begins_note_basic depth) (note_basic_at the_limits (note_at the_limits depth))) (lexemes self.old)) (lexemes self.new) }
         ensures shorter { length (lexemes self.new) ≤ length (lexemes self.old) }
         ensures end { self.new.end ≡ self.old.end }
-        ensures walked { IfOk result (λ v. Walk self.old self.new (flat_map note_basic_spots v.items)) }
+        ensures walked { IfOk result (λ v. Walk self.old self.new (placed_separated placed_note_basic v.items)) }
     {
         let mut basics = Vec::new(self.alloc);
         basics.push(self.listed_note_basic(depth, 0)?)?;
@@ -130,7 +130,7 @@ impl<'a> Parser<'a> {
         ensures read { Gives (bare_basic) result (at_most the_limits.elements (begins_note_basic depth) (note_basic_at the_limits (note_at the_limits depth)) count (lexemes self.old)) (lexemes self.new) }
         ensures shorter { length (lexemes self.new) ≤ length (lexemes self.old) }
         ensures end { self.new.end ≡ self.old.end }
-        ensures walked { IfOk result (λ b. Walk self.old self.new (note_basic_spots b)) }
+        ensures walked { IfOk result (λ b. Walk self.old self.new (placed_note_basic b)) }
     {
         if count >= MAX_ELEMENTS && self.begins_note_basic(depth) {
             return Err(Refusal::TooMany);
@@ -139,12 +139,12 @@ impl<'a> Parser<'a> {
     }
 
     #[cycle(notes)]
-    #[tactic(auto, unfolding(crate::specs::Reading::note_basic_at), using(crate::proofs::Walks::walk_skip, crate::proofs::Walks::walk_then, crate::proofs::Walks::walk_end, crate::proofs::Walks::walk_none, crate::proofs::Errors::fails_unexpected, crate::proofs::Separated::fails_bind))]
+    #[tactic(auto, unfolding(crate::specs::Reading::note_basic_at), using(crate::proofs::Walks::passed_then, crate::proofs::Walks::passed_none, crate::proofs::Walks::passed, crate::proofs::Walks::walk_none, crate::proofs::Errors::fails_unexpected, crate::proofs::Separated::fails_bind))]
     pub(crate) fn note_basic(&mut self, depth: usize) -> Result<NoteBasic<'a>, Refusal>
         ensures read { Gives (bare_basic) result (note_basic_at the_limits (note_at the_limits depth) (lexemes self.old)) (lexemes self.new) }
         ensures shorter { length (lexemes self.new) ≤ length (lexemes self.old) }
         ensures end { self.new.end ≡ self.old.end }
-        ensures walked { IfOk result (λ b. Walk self.old self.new (note_basic_spots b)) }
+        ensures walked { IfOk result (λ b. Walk self.old self.new (placed_note_basic b)) }
     {
         if let Some(first) = self.tokens.first() {
             match first.kind {
@@ -170,7 +170,7 @@ impl<'a> Parser<'a> {
         ensures read { Gives (λ v. bare_notes v.items) result (notes_at the_limits (lexemes self.old)) (lexemes self.new) }
         ensures shorter { length (lexemes self.new) ≤ length (lexemes self.old) }
         ensures end { self.new.end ≡ self.old.end }
-        ensures walked { IfOk result (λ v. Walk self.old self.new (flat_map note_spots v.items)) }
+        ensures walked { IfOk result (λ v. Walk self.old self.new (placed_notes v.items)) }
     {
         let mut notes = Vec::new(self.alloc);
         while self.eat(Mark::ColonColon) {

@@ -1,6 +1,6 @@
 //! The tokens that are left to read, and how one of them is taken.
 
-ghost use Rattle.std.specs.Prelude.{List, ◌∷◌, ◌≡◌, ◌≤◌, ◌<◌, ◌-◌, drop, length, if◌then◌else◌, IfOk, []};
+ghost use Rattle.std.specs.Prelude.{List, ◌∷◌, ◌≡◌, ◌≤◌, ◌<◌, ◌-◌, drop, length, if◌then◌else◌, IfOk};
 ghost use Rattle.std.specs.Bool.{OnTrue, OnFalse};
 ghost use Rattle.std.specs.List.{All};
 ghost use Rattle.fz_lex.specs.View.{IsSpanWithin, IsPlacedWithin};
@@ -35,8 +35,8 @@ pub(crate) struct Parser<'a> {
 }
 
 impl<'a> Parser<'a> {
-    ghost use Rattle.fz_syntax.specs.Walk.{IsLaidOut, Walk, Began, start_of, ahead, lexemes};
-    ghost use Rattle.fz_syntax.specs.Spots.{name_spots};
+    ghost use Rattle.fz_syntax.specs.Walk.{Passed, Walk, start_of, ahead, lexemes};
+    ghost use Rattle.fz_syntax.specs.Placed.{placed_name};
     ghost use Rattle.fz_lex.specs.Lexing.{SpannedToken};
     ghost use Rattle.fz_lex.specs.Ahead.{tokens_ahead};
     ghost use Rattle.fz_lex.specs.Left.{source_of};
@@ -46,8 +46,6 @@ impl<'a> Parser<'a> {
         ensures all { ahead result ≡ tokens_ahead source.now 0 }
         ensures source { source_of result.tokens ≡ source.now }
         ensures end { result.end ≡ length source.now }
-        ensures reached { result.reached ≡ 0 }
-        ensures laid { IsLaidOut source.now result }
     {
         Parser {
             alloc,
@@ -103,8 +101,7 @@ impl<'a> Parser<'a> {
         ensures left { lexemes self.new ≡ drop 1 (lexemes self.old) }
         ensures shorter { length (lexemes self.new) ≡ length (lexemes self.old) - 1 }
         ensures end { self.new.end ≡ self.old.end }
-        ensures walked { Walk self.old self.new [] }
-        ensures began { 0 < length (lexemes self.old) → Began self.old self.new }
+        ensures walked { Passed self.old self.new }
         ensures reached { (t : SpannedToken) (rest : List SpannedToken) → ahead self.old ≡ t ∷ rest → (ahead self.new ≡ rest) × (self.new.reached ≡ t.end) }
     {
         if let Some(first) = self.tokens.first() {
@@ -148,8 +145,7 @@ impl<'a> Parser<'a> {
         ensures left { lexemes self.new ≡ (if next_is mark (lexemes self.old) then drop 1 (lexemes self.old) else lexemes self.old) }
         ensures shorter { length (lexemes self.new) ≤ length (lexemes self.old) }
         ensures end { self.new.end ≡ self.old.end }
-        ensures walked { Walk self.old self.new [] }
-        ensures began { OnTrue result (Began self.old self.new) }
+        ensures walked { Passed self.old self.new }
         ensures kept { OnFalse result (self.new ≡ self.old) }
         ensures taken { OnTrue result (length (lexemes self.new) < length (lexemes self.old)) }
     {
@@ -161,12 +157,12 @@ impl<'a> Parser<'a> {
     }
 
     #[inline(always)]
-    #[tactic(auto, unfolding(crate::specs::Reading::mark_at), using(crate::proofs::Walks::walk_skip, crate::proofs::Walks::walk_then, crate::proofs::Walks::walk_end, crate::proofs::Walks::walk_none, crate::proofs::Errors::fails_unexpected))]
+    #[tactic(auto, unfolding(crate::specs::Reading::mark_at), using(crate::proofs::Walks::passed_then, crate::proofs::Walks::passed_none, crate::proofs::Walks::passed, crate::proofs::Walks::walk_none, crate::proofs::Errors::fails_unexpected))]
     pub(crate) fn expect(&mut self, mark: Mark) -> Result<(), Refusal>
         ensures read { Gives (λ _. tt) result (mark_at mark (lexemes self.old)) (lexemes self.new) }
         ensures shorter { length (lexemes self.new) ≤ length (lexemes self.old) }
         ensures end { self.new.end ≡ self.old.end }
-        ensures walked { IfOk result (λ _. Walk self.old self.new []) }
+        ensures walked { IfOk result (λ _. Passed self.old self.new) }
     {
         if self.eat(mark) {
             Ok(())
@@ -175,12 +171,12 @@ impl<'a> Parser<'a> {
         }
     }
 
-    #[tactic(auto, unfolding(crate::specs::Reading::word_at), using(crate::proofs::Walks::walk_skip, crate::proofs::Walks::walk_then, crate::proofs::Walks::walk_end, crate::proofs::Walks::walk_none, crate::proofs::Errors::fails_unexpected))]
+    #[tactic(auto, unfolding(crate::specs::Reading::word_at), using(crate::proofs::Walks::passed_then, crate::proofs::Walks::passed_none, crate::proofs::Walks::passed, crate::proofs::Walks::walk_none, crate::proofs::Errors::fails_unexpected))]
     pub(crate) fn expect_word(&mut self, word: &[u8]) -> Result<(), Refusal>
         ensures read { Gives (λ _. tt) result (word_at word.now (lexemes self.old)) (lexemes self.new) }
         ensures shorter { length (lexemes self.new) ≤ length (lexemes self.old) }
         ensures end { self.new.end ≡ self.old.end }
-        ensures walked { IfOk result (λ _. Walk self.old self.new []) }
+        ensures walked { IfOk result (λ _. Passed self.old self.new) }
     {
         if self.eat_word(word) {
             Ok(())
@@ -194,8 +190,7 @@ impl<'a> Parser<'a> {
         ensures left { lexemes self.new ≡ (if next_word word.now (lexemes self.old) then drop 1 (lexemes self.old) else lexemes self.old) }
         ensures shorter { length (lexemes self.new) ≤ length (lexemes self.old) }
         ensures end { self.new.end ≡ self.old.end }
-        ensures walked { Walk self.old self.new [] }
-        ensures began { OnTrue result (Began self.old self.new) }
+        ensures walked { Passed self.old self.new }
         ensures kept { OnFalse result (self.new ≡ self.old) }
         ensures taken { OnTrue result (length (lexemes self.new) < length (lexemes self.old)) }
     {
@@ -207,12 +202,12 @@ impl<'a> Parser<'a> {
     }
 
     #[inline(always)]
-    #[tactic(auto, unfolding(crate::specs::Reading::name_at), using(crate::proofs::Walks::walk_skip, crate::proofs::Walks::walk_then, crate::proofs::Walks::walk_end, crate::proofs::Walks::walk_none, crate::proofs::Errors::fails_unexpected))]
+    #[tactic(auto, unfolding(crate::specs::Reading::name_at), using(crate::proofs::Walks::passed_then, crate::proofs::Walks::passed_none, crate::proofs::Walks::passed, crate::proofs::Walks::walk_none, crate::proofs::Errors::fails_unexpected))]
     pub(crate) fn name(&mut self) -> Result<Name<'a>, Refusal>
         ensures read { Gives bare_name result (name_at (lexemes self.old)) (lexemes self.new) }
         ensures shorter { length (lexemes self.new) ≤ length (lexemes self.old) }
         ensures end { self.new.end ≡ self.old.end }
-        ensures walked { IfOk result (λ n. Walk self.old self.new (name_spots n)) }
+        ensures walked { IfOk result (λ n. Walk self.old self.new (placed_name n)) }
     {
         match self.tokens.first() {
             Some(first) if is_name(&first) => {
@@ -227,13 +222,12 @@ impl<'a> Parser<'a> {
     }
 
     #[inline(always)]
-    #[tactic(auto, unfolding(crate::specs::Reading::whole_at), using(crate::proofs::Walks::walk_skip, crate::proofs::Walks::walk_then, crate::proofs::Walks::walk_end, crate::proofs::Walks::walk_none, crate::proofs::Errors::fails_unexpected))]
+    #[tactic(auto, unfolding(crate::specs::Reading::whole_at), using(crate::proofs::Walks::passed_then, crate::proofs::Walks::passed_none, crate::proofs::Walks::passed, crate::proofs::Walks::walk_none, crate::proofs::Errors::fails_unexpected))]
     pub(crate) fn whole(&mut self) -> Result<i64, Refusal>
         ensures read { Gives (λ n. n) result (whole_at (lexemes self.old)) (lexemes self.new) }
         ensures shorter { length (lexemes self.new) ≤ length (lexemes self.old) }
         ensures end { self.new.end ≡ self.old.end }
-        ensures walked { IfOk result (λ _. Walk self.old self.new []) }
-        ensures began { IfOk result (λ _. Began self.old self.new) }
+        ensures walked { IfOk result (λ _. Passed self.old self.new) }
     {
         match self.tokens.first() {
             Some(first) => match first.kind {

@@ -1,18 +1,17 @@
 //! Literals, names and lists of them.
 
-ghost use Rattle.std.specs.Prelude.{◌≡◌, ◌<◌, ◌≤◌, ◌∷◌, length, IfOk, IfSome, IfNone, []};
+ghost use Rattle.std.specs.Prelude.{◌≡◌, ◌<◌, ◌≤◌, ◌∷◌, ◌++◌, length, IfOk, IfSome, IfNone, []};
 ghost use Rattle.fz_syntax.specs.View.{lexeme, bare_literal, bare_expression, bare_expressions, bare_expr};
 ghost use Rattle.fz_syntax.specs.Outcome.{Gives, IsListed};
 ghost use Rattle.fz_syntax.specs.Reading.{mark_at, whole_at, is_whole, begins_literal, begins_basic, at_most, separated_at, braces_at, from_whole, literal_at, basic_at, expr_list_at, expr_at, list_at, literal_basic_at};
 ghost use Rattle.fz_lex.specs.Token.{Whole, Marked};
 ghost use Rattle.fz_lex.specs.declared.token.Mark.TheVariants.{CloseBracket, Comma};
 ghost use Rattle.fz_syntax.specs.Shape.{the_limits};
-ghost use Rattle.fz_syntax.specs.Spots.{literal_spots, basic_spots, expr_spots};
-ghost use Rattle.std.specs.List.{flat_map};
-ghost use Rattle.fz_syntax.specs.Walk.{Walk, spot_at, lexemes};
+ghost use Rattle.fz_syntax.specs.Placed.{placed_mark, placed_separated, placed_literal, placed_basic, placed_expr};
+ghost use Rattle.fz_syntax.specs.Walk.{Passed, Walk, placed_listed, lexemes};
 
 use crate::parser::cursor::{MAX_ELEMENTS, Parser};
-use crate::parser::kinds::{Plain, plain_of};
+use crate::parser::kinds::{kind_of, plain_of};
 use crate::parser::lists::trimmed;
 use crate::parser::refusal::Refusal;
 use crate::tree::{Basic, Expr, Literal, LiteralKind};
@@ -24,7 +23,7 @@ impl<'a> Parser<'a> {
     fn eat_with_comma(&mut self) -> Option<Token<'a>>
         ensures read { IfSome result (λ t. lexemes self.old ≡ lexeme t ∷ (Marked Comma ∷ lexemes self.new)) }
         ensures end { self.new.end ≡ self.old.end }
-        ensures walked { IfSome result (λ t. Walk self.old self.new (spot_at t.span ∷ [])) }
+        ensures walked { IfSome result (λ t. Walk self.old self.new (placed_listed (lexeme t) t.span)) }
         ensures kept { IfNone result (lexemes self.new ≡ lexemes self.old) }
         ensures stays { IfNone result (Walk self.old self.new []) }
     {
@@ -44,20 +43,16 @@ impl<'a> Parser<'a> {
         ensures read { IfSome result (λ l. IsListed (bare_literal l) (lexemes self.old) (lexemes self.new)) }
         ensures shorter { IfSome result (λ _. length (lexemes self.new) < length (lexemes self.old)) }
         ensures end { self.new.end ≡ self.old.end }
-        ensures walked { IfSome result (λ l. Walk self.old self.new (literal_spots l)) }
+        ensures walked { IfSome result (λ l. Walk self.old self.new (placed_literal l ++ placed_mark Comma)) }
         ensures kept { IfNone result (lexemes self.new ≡ lexemes self.old) }
         ensures stays { IfNone result (Walk self.old self.new []) }
     {
         let first = self.tokens.first()?;
         let plain = plain_of(&first)?;
         let taken = self.eat_with_comma()?;
-        let what = match plain {
-            Plain::Whole(value) => LiteralKind::Whole(value),
-            Plain::Truth(value) => LiteralKind::Truth(value),
-        };
         Some(Literal {
             span: taken.span,
-            what,
+            what: kind_of(plain),
         })
     }
 
@@ -67,7 +62,7 @@ impl<'a> Parser<'a> {
         ensures read { IfSome result (λ n. lexemes self.old ≡ Whole n ∷ (Marked Comma ∷ lexemes self.new)) }
         ensures shorter { IfSome result (λ _. length (lexemes self.new) < length (lexemes self.old)) }
         ensures end { self.new.end ≡ self.old.end }
-        ensures walked { Walk self.old self.new [] }
+        ensures walked { Passed self.old self.new }
         ensures kept { IfNone result (lexemes self.new ≡ lexemes self.old) }
     {
         let first = self.tokens.first()?;
@@ -84,7 +79,7 @@ impl<'a> Parser<'a> {
         ensures read { Gives (λ n. n) result (at_most the_limits.elements is_whole whole_at count (lexemes self.old)) (lexemes self.new) }
         ensures shorter { length (lexemes self.new) ≤ length (lexemes self.old) }
         ensures end { self.new.end ≡ self.old.end }
-        ensures walked { IfOk result (λ _. Walk self.old self.new []) }
+        ensures walked { IfOk result (λ _. Passed self.old self.new) }
     {
         if count >= MAX_ELEMENTS && self.begins_whole() {
             return Err(Refusal::TooMany);
@@ -96,7 +91,7 @@ impl<'a> Parser<'a> {
         ensures read { Gives (λ v. v.items) result (separated_at (at_most the_limits.elements is_whole whole_at) (lexemes self.old)) (lexemes self.new) }
         ensures shorter { length (lexemes self.new) ≤ length (lexemes self.old) }
         ensures end { self.new.end ≡ self.old.end }
-        ensures walked { IfOk result (λ _. Walk self.old self.new []) }
+        ensures walked { IfOk result (λ _. Passed self.old self.new) }
     {
         let mut numbers = Vec::new(self.alloc);
         'numbers: loop {
@@ -116,12 +111,12 @@ impl<'a> Parser<'a> {
     }
 
     /// Numbers behind the brace that opened at `start`.
-    #[tactic(auto, unfolding(crate::specs::Reading::braces_at, crate::specs::Reading::list_at, crate::specs::Reading::mark_at), using(crate::proofs::Walks::walk_skip, crate::proofs::Walks::walk_then, crate::proofs::Walks::walk_end, crate::proofs::Walks::walk_none, crate::proofs::Errors::fails_unexpected, crate::proofs::Separated::fails_bind))]
+    #[tactic(auto, unfolding(crate::specs::Reading::braces_at, crate::specs::Reading::list_at, crate::specs::Reading::mark_at), using(crate::proofs::Walks::passed_then, crate::proofs::Walks::passed_none, crate::proofs::Walks::passed, crate::proofs::Walks::walk_none, crate::proofs::Errors::fails_unexpected, crate::proofs::Separated::fails_bind))]
     pub(crate) fn braces(&mut self, start: usize) -> Result<Literal, Refusal>
         ensures read { Gives (bare_literal) result (braces_at the_limits (lexemes self.old)) (lexemes self.new) }
         ensures shorter { length (lexemes self.new) ≤ length (lexemes self.old) }
         ensures end { self.new.end ≡ self.old.end }
-        ensures walked { IfOk result (λ _. Walk self.old self.new []) }
+        ensures walked { IfOk result (λ _. Passed self.old self.new) }
         ensures span { IfOk result (λ l. (l.span.start ≡ start) × (l.span.end ≡ self.new.reached)) }
     {
         if self.eat(Mark::CloseBrace) {
@@ -139,12 +134,12 @@ impl<'a> Parser<'a> {
     }
 
     #[inline(always)]
-    #[tactic(auto, unfolding(crate::specs::Reading::from_whole), using(crate::proofs::Walks::walk_skip, crate::proofs::Walks::walk_then, crate::proofs::Walks::walk_end, crate::proofs::Walks::walk_none, crate::proofs::Errors::fails_unexpected, crate::proofs::Separated::fails_bind))]
+    #[tactic(auto, unfolding(crate::specs::Reading::from_whole), using(crate::proofs::Walks::passed_then, crate::proofs::Walks::passed_none, crate::proofs::Walks::passed, crate::proofs::Walks::walk_none, crate::proofs::Errors::fails_unexpected, crate::proofs::Separated::fails_bind))]
     pub(crate) fn from_whole(&mut self, low: i64, start: usize) -> Result<Literal, Refusal>
         ensures read { Gives (bare_literal) result (from_whole low (lexemes self.old)) (lexemes self.new) }
         ensures shorter { length (lexemes self.new) ≤ length (lexemes self.old) }
         ensures end { self.new.end ≡ self.old.end }
-        ensures walked { IfOk result (λ _. Walk self.old self.new []) }
+        ensures walked { IfOk result (λ _. Passed self.old self.new) }
         ensures span { IfOk result (λ l. (l.span.start ≡ start) × (l.span.end ≡ self.new.reached)) }
     {
         if !self.eat(Mark::DotDot) {
@@ -160,15 +155,16 @@ impl<'a> Parser<'a> {
         })
     }
 
+    /// A literal whose first token starts at `start`.
     #[inline(always)]
-    #[tactic(auto, unfolding(crate::specs::Reading::literal_at), using(crate::proofs::Walks::walk_skip, crate::proofs::Walks::walk_then, crate::proofs::Walks::walk_end, crate::proofs::Walks::walk_none, crate::proofs::Errors::fails_unexpected, crate::proofs::Separated::fails_bind))]
-    pub(crate) fn literal(&mut self) -> Result<Literal, Refusal>
+    #[tactic(auto, unfolding(crate::specs::Reading::literal_at), using(crate::proofs::Walks::passed_then, crate::proofs::Walks::passed_none, crate::proofs::Walks::passed, crate::proofs::Walks::walk_none, crate::proofs::Errors::fails_unexpected, crate::proofs::Separated::fails_bind))]
+    fn literal_from(&mut self, start: usize) -> Result<Literal, Refusal>
         ensures read { Gives (bare_literal) result (literal_at the_limits (lexemes self.old)) (lexemes self.new) }
         ensures shorter { length (lexemes self.new) ≤ length (lexemes self.old) }
         ensures end { self.new.end ≡ self.old.end }
-        ensures walked { IfOk result (λ l. Walk self.old self.new (literal_spots l)) }
+        ensures walked { IfOk result (λ _. Passed self.old self.new) }
+        ensures span { IfOk result (λ l. (l.span.start ≡ start) × (l.span.end ≡ self.new.reached)) }
     {
-        let start = self.place().start;
         if self.begins_whole() {
             let low = self.whole()?;
             self.from_whole(low, start)
@@ -190,12 +186,23 @@ impl<'a> Parser<'a> {
     }
 
     #[inline(always)]
-    #[tactic(auto, unfolding(crate::specs::Reading::basic_at), using(crate::proofs::Walks::walk_skip, crate::proofs::Walks::walk_then, crate::proofs::Walks::walk_end, crate::proofs::Walks::walk_none, crate::proofs::Errors::fails_unexpected, crate::proofs::Separated::fails_bind))]
+    pub(crate) fn literal(&mut self) -> Result<Literal, Refusal>
+        ensures read { Gives (bare_literal) result (literal_at the_limits (lexemes self.old)) (lexemes self.new) }
+        ensures shorter { length (lexemes self.new) ≤ length (lexemes self.old) }
+        ensures end { self.new.end ≡ self.old.end }
+        ensures walked { IfOk result (λ l. Walk self.old self.new (placed_literal l)) }
+    {
+        let start = self.place().start;
+        self.literal_from(start)
+    }
+
+    #[inline(always)]
+    #[tactic(auto, unfolding(crate::specs::Reading::basic_at), using(crate::proofs::Walks::passed_then, crate::proofs::Walks::passed_none, crate::proofs::Walks::passed, crate::proofs::Walks::walk_none, crate::proofs::Errors::fails_unexpected, crate::proofs::Separated::fails_bind))]
     pub(crate) fn basic(&mut self) -> Result<Basic<'a>, Refusal>
         ensures read { Gives (bare_expression) result (basic_at the_limits (lexemes self.old)) (lexemes self.new) }
         ensures shorter { length (lexemes self.new) ≤ length (lexemes self.old) }
         ensures end { self.new.end ≡ self.old.end }
-        ensures walked { IfOk result (λ b. Walk self.old self.new (basic_spots b)) }
+        ensures walked { IfOk result (λ b. Walk self.old self.new (placed_basic b)) }
     {
         if self.begins_name() {
             Ok(Basic::Named(self.name()?))
@@ -210,7 +217,7 @@ impl<'a> Parser<'a> {
         ensures read { Gives (bare_expression) result (at_most the_limits.elements begins_basic (basic_at the_limits) count (lexemes self.old)) (lexemes self.new) }
         ensures shorter { length (lexemes self.new) ≤ length (lexemes self.old) }
         ensures end { self.new.end ≡ self.old.end }
-        ensures walked { IfOk result (λ b. Walk self.old self.new (basic_spots b)) }
+        ensures walked { IfOk result (λ b. Walk self.old self.new (placed_basic b)) }
     {
         if count >= MAX_ELEMENTS && self.begins_basic() {
             return Err(Refusal::TooMany);
@@ -223,7 +230,7 @@ impl<'a> Parser<'a> {
         ensures read { Gives (λ v. bare_expressions v.items) result (separated_at (at_most the_limits.elements begins_basic (basic_at the_limits)) (lexemes self.old)) (lexemes self.new) }
         ensures shorter { length (lexemes self.new) ≤ length (lexemes self.old) }
         ensures end { self.new.end ≡ self.old.end }
-        ensures walked { IfOk result (λ v. Walk self.old self.new (flat_map basic_spots v.items)) }
+        ensures walked { IfOk result (λ v. Walk self.old self.new (placed_separated placed_basic v.items)) }
     {
         let mut basics = Vec::new(self.alloc);
         basics.push(self.listed_basic(0)?)?;
@@ -235,12 +242,12 @@ impl<'a> Parser<'a> {
     }
 
     /// A list's elements behind the bracket that opens it.
-    #[tactic(auto, unfolding(crate::specs::Reading::expr_list_at, crate::specs::Reading::list_at, crate::specs::Reading::mark_at), using(crate::proofs::Walks::walk_skip, crate::proofs::Walks::walk_then, crate::proofs::Walks::walk_end, crate::proofs::Walks::walk_none, crate::proofs::Errors::fails_unexpected, crate::proofs::Separated::fails_bind))]
+    #[tactic(auto, unfolding(crate::specs::Reading::expr_list_at, crate::specs::Reading::list_at, crate::specs::Reading::mark_at), using(crate::proofs::Walks::passed_then, crate::proofs::Walks::passed_none, crate::proofs::Walks::passed, crate::proofs::Walks::walk_none, crate::proofs::Errors::fails_unexpected, crate::proofs::Separated::fails_bind))]
     pub(crate) fn expr_list(&mut self) -> Result<Vec<Basic<'a>>, Refusal>
         ensures read { Gives (λ v. bare_expressions v.items) result (expr_list_at the_limits (lexemes self.old)) (lexemes self.new) }
         ensures shorter { length (lexemes self.new) ≤ length (lexemes self.old) }
         ensures end { self.new.end ≡ self.old.end }
-        ensures walked { IfOk result (λ v. Walk self.old self.new (flat_map basic_spots v.items)) }
+        ensures walked { IfOk result (λ v. Walk self.old self.new (placed_separated placed_basic v.items ++ placed_mark CloseBracket)) }
     {
         if self.eat(Mark::CloseBracket) {
             return Ok(Vec::new(self.alloc));
@@ -251,12 +258,12 @@ impl<'a> Parser<'a> {
     }
 
     #[inline(always)]
-    #[tactic(auto, unfolding(crate::specs::Reading::expr_at), using(crate::proofs::Walks::walk_skip, crate::proofs::Walks::walk_then, crate::proofs::Walks::walk_end, crate::proofs::Walks::walk_none, crate::proofs::Errors::fails_unexpected, crate::proofs::Separated::fails_bind))]
+    #[tactic(auto, unfolding(crate::specs::Reading::expr_at), using(crate::proofs::Walks::passed_then, crate::proofs::Walks::passed_none, crate::proofs::Walks::passed, crate::proofs::Walks::walk_none, crate::proofs::Errors::fails_unexpected, crate::proofs::Separated::fails_bind))]
     pub(crate) fn expr(&mut self) -> Result<Expr<'a>, Refusal>
         ensures read { Gives (bare_expr) result (expr_at the_limits (lexemes self.old)) (lexemes self.new) }
         ensures shorter { length (lexemes self.new) ≤ length (lexemes self.old) }
         ensures end { self.new.end ≡ self.old.end }
-        ensures walked { IfOk result (λ e. Walk self.old self.new (expr_spots e)) }
+        ensures walked { IfOk result (λ e. Walk self.old self.new (placed_expr e)) }
     {
         if self.eat(Mark::OpenBracket) {
             Ok(Expr::List(self.expr_list()?))
@@ -265,12 +272,12 @@ impl<'a> Parser<'a> {
         }
     }
 
-    #[tactic(auto, unfolding(crate::specs::Reading::literal_basic_at), using(crate::proofs::Walks::walk_skip, crate::proofs::Walks::walk_then, crate::proofs::Walks::walk_end, crate::proofs::Walks::walk_none, crate::proofs::Errors::fails_unexpected, crate::proofs::Separated::fails_bind))]
+    #[tactic(auto, unfolding(crate::specs::Reading::literal_basic_at), using(crate::proofs::Walks::passed_then, crate::proofs::Walks::passed_none, crate::proofs::Walks::passed, crate::proofs::Walks::walk_none, crate::proofs::Errors::fails_unexpected, crate::proofs::Separated::fails_bind))]
     pub(crate) fn literal_basic(&mut self) -> Result<Basic<'a>, Refusal>
         ensures read { Gives (bare_expression) result (literal_basic_at the_limits (lexemes self.old)) (lexemes self.new) }
         ensures shorter { length (lexemes self.new) ≤ length (lexemes self.old) }
         ensures end { self.new.end ≡ self.old.end }
-        ensures walked { IfOk result (λ b. Walk self.old self.new (basic_spots b)) }
+        ensures walked { IfOk result (λ b. Walk self.old self.new (placed_basic b)) }
     {
         Ok(Basic::Lit(self.literal()?))
     }
@@ -280,7 +287,7 @@ impl<'a> Parser<'a> {
         ensures read { Gives (bare_expression) result (at_most the_limits.elements begins_literal (literal_basic_at the_limits) count (lexemes self.old)) (lexemes self.new) }
         ensures shorter { length (lexemes self.new) ≤ length (lexemes self.old) }
         ensures end { self.new.end ≡ self.old.end }
-        ensures walked { IfOk result (λ b. Walk self.old self.new (basic_spots b)) }
+        ensures walked { IfOk result (λ b. Walk self.old self.new (placed_basic b)) }
     {
         if count >= MAX_ELEMENTS && self.begins_literal() {
             return Err(Refusal::TooMany);
@@ -292,7 +299,7 @@ impl<'a> Parser<'a> {
         ensures read { Gives (λ v. bare_expressions v.items) result (separated_at (at_most the_limits.elements begins_literal (literal_basic_at the_limits)) (lexemes self.old)) (lexemes self.new) }
         ensures shorter { length (lexemes self.new) ≤ length (lexemes self.old) }
         ensures end { self.new.end ≡ self.old.end }
-        ensures walked { IfOk result (λ v. Walk self.old self.new (flat_map basic_spots v.items)) }
+        ensures walked { IfOk result (λ v. Walk self.old self.new (placed_separated placed_basic v.items)) }
     {
         let mut literals = Vec::new(self.alloc);
         literals.push(self.listed_literal(0)?)?;
@@ -304,12 +311,12 @@ impl<'a> Parser<'a> {
     }
 
     /// A list's literals behind the bracket that opens it.
-    #[tactic(auto, unfolding(crate::specs::Reading::list_at, crate::specs::Reading::mark_at), using(crate::proofs::Walks::walk_skip, crate::proofs::Walks::walk_then, crate::proofs::Walks::walk_end, crate::proofs::Walks::walk_none, crate::proofs::Errors::fails_unexpected, crate::proofs::Separated::fails_bind))]
+    #[tactic(auto, unfolding(crate::specs::Reading::list_at, crate::specs::Reading::mark_at), using(crate::proofs::Walks::passed_then, crate::proofs::Walks::passed_none, crate::proofs::Walks::passed, crate::proofs::Walks::walk_none, crate::proofs::Errors::fails_unexpected, crate::proofs::Separated::fails_bind))]
     pub(crate) fn literal_list(&mut self) -> Result<Vec<Basic<'a>>, Refusal>
         ensures read { Gives (λ v. bare_expressions v.items) result (list_at CloseBracket (at_most the_limits.elements begins_literal (literal_basic_at the_limits)) (lexemes self.old)) (lexemes self.new) }
         ensures shorter { length (lexemes self.new) ≤ length (lexemes self.old) }
         ensures end { self.new.end ≡ self.old.end }
-        ensures walked { IfOk result (λ v. Walk self.old self.new (flat_map basic_spots v.items)) }
+        ensures walked { IfOk result (λ v. Walk self.old self.new (placed_separated placed_basic v.items ++ placed_mark CloseBracket)) }
     {
         if self.eat(Mark::CloseBracket) {
             return Ok(Vec::new(self.alloc));

@@ -1,13 +1,12 @@
 //! The items of a tree.
 
-ghost use Rattle.std.specs.Prelude.{◌≡◌, ◌≤◌, length, map, IfOk, []};
+ghost use Rattle.std.specs.Prelude.{◌≡◌, ◌≤◌, ◌++◌, length, map, IfOk};
 ghost use Rattle.fz_syntax.specs.View.{bare_expr, bare_param, bare_predicate, bare_constraint, bare_goal, bare_solve, bare_value, bare_decl};
 ghost use Rattle.fz_syntax.specs.Outcome.{Gives};
 ghost use Rattle.fz_syntax.specs.Reading.{mark_at, separated_at, expr_at, any_number, param_at, predicate_at, list_at, constraint_at, goal_at, solve_at, decl_at, value_at, given_value_at, may_lack_value};
 ghost use Rattle.fz_lex.specs.declared.token.Mark.TheVariants.{CloseParen};
 ghost use Rattle.fz_syntax.specs.Shape.{the_limits};
-ghost use Rattle.fz_syntax.specs.Spots.{expr_spots, param_spots, predicate_spots, constraint_spots, goal_spots, solve_spots, value_spots, decl_spots};
-ghost use Rattle.std.specs.List.{flat_map};
+ghost use Rattle.fz_syntax.specs.Placed.{placed_mark, placed_separated, placed_expr, placed_param, placed_predicate, placed_constraint, placed_goal, placed_solve, placed_value, placed_decl};
 ghost use Rattle.fz_syntax.specs.Walk.{Walk, lexemes};
 
 use crate::parser::cursor::Parser;
@@ -18,12 +17,12 @@ use crate::tree::{Constraint, Decl, Expr, Goal, Param, Predicate, Solve};
 use fz_lex::Mark;
 
 impl<'a> Parser<'a> {
-    #[tactic(auto, unfolding(crate::specs::Reading::param_at, crate::specs::Reading::var_at), using(crate::proofs::Walks::walk_skip, crate::proofs::Walks::walk_then, crate::proofs::Walks::walk_end, crate::proofs::Walks::walk_none, crate::proofs::Errors::fails_unexpected, crate::proofs::Separated::fails_bind))]
+    #[tactic(auto, unfolding(crate::specs::Reading::param_at, crate::specs::Reading::var_at), using(crate::proofs::Walks::passed_then, crate::proofs::Walks::passed_none, crate::proofs::Walks::passed, crate::proofs::Walks::walk_none, crate::proofs::Errors::fails_unexpected, crate::proofs::Separated::fails_bind))]
     pub(crate) fn param(&mut self) -> Result<Param<'a>, Refusal>
         ensures read { Gives (bare_param) result (param_at the_limits (lexemes self.old)) (lexemes self.new) }
         ensures shorter { length (lexemes self.new) ≤ length (lexemes self.old) }
         ensures end { self.new.end ≡ self.old.end }
-        ensures walked { IfOk result (λ p. Walk self.old self.new (param_spots p)) }
+        ensures walked { IfOk result (λ p. Walk self.old self.new (placed_param p)) }
     {
         let array = self.param_prefix()?;
         let is_var = self.eat_word(b"var");
@@ -42,7 +41,7 @@ impl<'a> Parser<'a> {
         ensures read { Gives (λ v. map bare_param v.items) result (separated_at (any_number (param_at the_limits)) (lexemes self.old)) (lexemes self.new) }
         ensures shorter { length (lexemes self.new) ≤ length (lexemes self.old) }
         ensures end { self.new.end ≡ self.old.end }
-        ensures walked { IfOk result (λ v. Walk self.old self.new (flat_map param_spots v.items)) }
+        ensures walked { IfOk result (λ v. Walk self.old self.new (placed_separated placed_param v.items)) }
     {
         let mut params = Vec::new(self.alloc);
         params.push(self.param()?)?;
@@ -53,12 +52,12 @@ impl<'a> Parser<'a> {
         Ok(trimmed(self.alloc, params))
     }
 
-    #[tactic(auto, unfolding(crate::specs::Reading::list_at, crate::specs::Reading::mark_at), using(crate::proofs::Walks::walk_skip, crate::proofs::Walks::walk_then, crate::proofs::Walks::walk_end, crate::proofs::Walks::walk_none, crate::proofs::Errors::fails_unexpected, crate::proofs::Separated::fails_bind))]
+    #[tactic(auto, unfolding(crate::specs::Reading::list_at, crate::specs::Reading::mark_at), using(crate::proofs::Walks::passed_then, crate::proofs::Walks::passed_none, crate::proofs::Walks::passed, crate::proofs::Walks::walk_none, crate::proofs::Errors::fails_unexpected, crate::proofs::Separated::fails_bind))]
     pub(crate) fn params(&mut self) -> Result<Vec<Param<'a>>, Refusal>
         ensures read { Gives (λ v. map bare_param v.items) result (list_at CloseParen (any_number (param_at the_limits)) (lexemes self.old)) (lexemes self.new) }
         ensures shorter { length (lexemes self.new) ≤ length (lexemes self.old) }
         ensures end { self.new.end ≡ self.old.end }
-        ensures walked { IfOk result (λ v. Walk self.old self.new (flat_map param_spots v.items)) }
+        ensures walked { IfOk result (λ v. Walk self.old self.new (placed_separated placed_param v.items ++ placed_mark CloseParen)) }
     {
         if self.eat(Mark::CloseParen) {
             return Ok(Vec::new(self.alloc));
@@ -68,12 +67,12 @@ impl<'a> Parser<'a> {
         Ok(params)
     }
 
-    #[tactic(auto, unfolding(crate::specs::Reading::predicate_at), using(crate::proofs::Walks::walk_skip, crate::proofs::Walks::walk_then, crate::proofs::Walks::walk_end, crate::proofs::Walks::walk_none, crate::proofs::Errors::fails_unexpected, crate::proofs::Separated::fails_bind))]
+    #[tactic(auto, unfolding(crate::specs::Reading::predicate_at), using(crate::proofs::Walks::passed_then, crate::proofs::Walks::passed_none, crate::proofs::Walks::passed, crate::proofs::Walks::walk_none, crate::proofs::Errors::fails_unexpected, crate::proofs::Separated::fails_bind))]
     pub(crate) fn predicate(&mut self) -> Result<Predicate<'a>, Refusal>
         ensures read { Gives (bare_predicate) result (predicate_at the_limits (lexemes self.old)) (lexemes self.new) }
         ensures shorter { length (lexemes self.new) ≤ length (lexemes self.old) }
         ensures end { self.new.end ≡ self.old.end }
-        ensures walked { IfOk result (λ p. Walk self.old self.new (predicate_spots p)) }
+        ensures walked { IfOk result (λ p. Walk self.old self.new (placed_predicate p)) }
     {
         self.expect_word(b"predicate")?;
         let name = self.name()?;
@@ -91,7 +90,7 @@ impl<'a> Parser<'a> {
         ensures read { Gives (λ v. map bare_expr v.items) result (separated_at (any_number (expr_at the_limits)) (lexemes self.old)) (lexemes self.new) }
         ensures shorter { length (lexemes self.new) ≤ length (lexemes self.old) }
         ensures end { self.new.end ≡ self.old.end }
-        ensures walked { IfOk result (λ v. Walk self.old self.new (flat_map expr_spots v.items)) }
+        ensures walked { IfOk result (λ v. Walk self.old self.new (placed_separated placed_expr v.items)) }
     {
         spare.clear();
         spare.push(self.expr()?)?;
@@ -102,7 +101,7 @@ impl<'a> Parser<'a> {
         Ok(moved_out(self.alloc, spare)?)
     }
 
-    #[tactic(auto, unfolding(crate::specs::Reading::list_at, crate::specs::Reading::mark_at), using(crate::proofs::Walks::walk_skip, crate::proofs::Walks::walk_then, crate::proofs::Walks::walk_end, crate::proofs::Walks::walk_none, crate::proofs::Errors::fails_unexpected, crate::proofs::Separated::fails_bind))]
+    #[tactic(auto, unfolding(crate::specs::Reading::list_at, crate::specs::Reading::mark_at), using(crate::proofs::Walks::passed_then, crate::proofs::Walks::passed_none, crate::proofs::Walks::passed, crate::proofs::Walks::walk_none, crate::proofs::Errors::fails_unexpected, crate::proofs::Separated::fails_bind))]
     pub(crate) fn constraint_args(
         &mut self,
         spare: &mut Vec<Expr<'a>>,
@@ -110,7 +109,7 @@ impl<'a> Parser<'a> {
         ensures read { Gives (λ v. map bare_expr v.items) result (list_at CloseParen (any_number (expr_at the_limits)) (lexemes self.old)) (lexemes self.new) }
         ensures shorter { length (lexemes self.new) ≤ length (lexemes self.old) }
         ensures end { self.new.end ≡ self.old.end }
-        ensures walked { IfOk result (λ v. Walk self.old self.new (flat_map expr_spots v.items)) }
+        ensures walked { IfOk result (λ v. Walk self.old self.new (placed_separated placed_expr v.items ++ placed_mark CloseParen)) }
     {
         if self.eat(Mark::CloseParen) {
             return Ok(Vec::new(self.alloc));
@@ -120,7 +119,7 @@ impl<'a> Parser<'a> {
         Ok(args)
     }
 
-    #[tactic(auto, unfolding(crate::specs::Reading::constraint_at), using(crate::proofs::Walks::walk_skip, crate::proofs::Walks::walk_then, crate::proofs::Walks::walk_end, crate::proofs::Walks::walk_none, crate::proofs::Errors::fails_unexpected, crate::proofs::Separated::fails_bind))]
+    #[tactic(auto, unfolding(crate::specs::Reading::constraint_at), using(crate::proofs::Walks::passed_then, crate::proofs::Walks::passed_none, crate::proofs::Walks::passed, crate::proofs::Walks::walk_none, crate::proofs::Errors::fails_unexpected, crate::proofs::Separated::fails_bind))]
     pub(crate) fn constraint(
         &mut self,
         spare: &mut Vec<Expr<'a>>,
@@ -128,7 +127,7 @@ impl<'a> Parser<'a> {
         ensures read { Gives (bare_constraint) result (constraint_at the_limits (lexemes self.old)) (lexemes self.new) }
         ensures shorter { length (lexemes self.new) ≤ length (lexemes self.old) }
         ensures end { self.new.end ≡ self.old.end }
-        ensures walked { IfOk result (λ c. Walk self.old self.new (constraint_spots c)) }
+        ensures walked { IfOk result (λ c. Walk self.old self.new (placed_constraint c)) }
     {
         self.expect_word(b"constraint")?;
         let name = self.name()?;
@@ -139,12 +138,12 @@ impl<'a> Parser<'a> {
         Ok(Constraint { name, args, notes })
     }
 
-    #[tactic(auto, unfolding(crate::specs::Reading::goal_at), using(crate::proofs::Walks::walk_skip, crate::proofs::Walks::walk_then, crate::proofs::Walks::walk_end, crate::proofs::Walks::walk_none, crate::proofs::Errors::fails_unexpected, crate::proofs::Separated::fails_bind))]
+    #[tactic(auto, unfolding(crate::specs::Reading::goal_at), using(crate::proofs::Walks::passed_then, crate::proofs::Walks::passed_none, crate::proofs::Walks::passed, crate::proofs::Walks::walk_none, crate::proofs::Errors::fails_unexpected, crate::proofs::Separated::fails_bind))]
     pub(crate) fn goal(&mut self) -> Result<Goal<'a>, Refusal>
         ensures read { Gives (bare_goal) result (goal_at the_limits (lexemes self.old)) (lexemes self.new) }
         ensures shorter { length (lexemes self.new) ≤ length (lexemes self.old) }
         ensures end { self.new.end ≡ self.old.end }
-        ensures walked { IfOk result (λ g. Walk self.old self.new (goal_spots g)) }
+        ensures walked { IfOk result (λ g. Walk self.old self.new (placed_goal g)) }
     {
         if self.eat_word(b"minimize") {
             Ok(Goal::Minimize(self.basic()?))
@@ -156,12 +155,12 @@ impl<'a> Parser<'a> {
         }
     }
 
-    #[tactic(auto, unfolding(crate::specs::Reading::solve_at), using(crate::proofs::Walks::walk_skip, crate::proofs::Walks::walk_then, crate::proofs::Walks::walk_end, crate::proofs::Walks::walk_none, crate::proofs::Errors::fails_unexpected, crate::proofs::Separated::fails_bind))]
+    #[tactic(auto, unfolding(crate::specs::Reading::solve_at), using(crate::proofs::Walks::passed_then, crate::proofs::Walks::passed_none, crate::proofs::Walks::passed, crate::proofs::Walks::walk_none, crate::proofs::Errors::fails_unexpected, crate::proofs::Separated::fails_bind))]
     pub(crate) fn solve(&mut self) -> Result<Solve<'a>, Refusal>
         ensures read { Gives (bare_solve) result (solve_at the_limits (lexemes self.old)) (lexemes self.new) }
         ensures shorter { length (lexemes self.new) ≤ length (lexemes self.old) }
         ensures end { self.new.end ≡ self.old.end }
-        ensures walked { IfOk result (λ s. Walk self.old self.new (solve_spots s)) }
+        ensures walked { IfOk result (λ s. Walk self.old self.new (placed_solve s)) }
     {
         self.expect_word(b"solve")?;
         let notes = self.notes()?;
@@ -170,12 +169,12 @@ impl<'a> Parser<'a> {
         Ok(Solve { notes, goal })
     }
 
-    #[tactic(auto, unfolding(crate::specs::Reading::value_at), using(crate::proofs::Walks::walk_skip, crate::proofs::Walks::walk_then, crate::proofs::Walks::walk_end, crate::proofs::Walks::walk_none, crate::proofs::Errors::fails_unexpected, crate::proofs::Separated::fails_bind))]
+    #[tactic(auto, unfolding(crate::specs::Reading::value_at), using(crate::proofs::Walks::passed_then, crate::proofs::Walks::passed_none, crate::proofs::Walks::passed, crate::proofs::Walks::walk_none, crate::proofs::Errors::fails_unexpected, crate::proofs::Separated::fails_bind))]
     pub(crate) fn value(&mut self, is_var: bool, array: Option<usize>) -> Result<Expr<'a>, Refusal>
         ensures read { Gives (bare_expr) result (value_at the_limits is_var array (lexemes self.old)) (lexemes self.new) }
         ensures shorter { length (lexemes self.new) ≤ length (lexemes self.old) }
         ensures end { self.new.end ≡ self.old.end }
-        ensures walked { IfOk result (λ e. Walk self.old self.new (expr_spots e)) }
+        ensures walked { IfOk result (λ e. Walk self.old self.new (placed_expr e)) }
     {
         match (is_var, array) {
             (true, None) => Ok(Expr::One(self.basic()?)),
@@ -191,7 +190,7 @@ impl<'a> Parser<'a> {
         }
     }
 
-    #[tactic(auto, unfolding(crate::specs::Reading::given_value_at), using(crate::proofs::Walks::walk_skip, crate::proofs::Walks::walk_then, crate::proofs::Walks::walk_end, crate::proofs::Walks::walk_none, crate::proofs::Errors::fails_unexpected, crate::proofs::Separated::fails_bind))]
+    #[tactic(auto, unfolding(crate::specs::Reading::given_value_at), using(crate::proofs::Walks::passed_then, crate::proofs::Walks::passed_none, crate::proofs::Walks::passed, crate::proofs::Walks::walk_none, crate::proofs::Errors::fails_unexpected, crate::proofs::Separated::fails_bind))]
     pub(crate) fn given_value(
         &mut self,
         is_var: bool,
@@ -200,7 +199,7 @@ impl<'a> Parser<'a> {
         ensures read { Gives (bare_value) result (given_value_at the_limits is_var array (lexemes self.old)) (lexemes self.new) }
         ensures shorter { length (lexemes self.new) ≤ length (lexemes self.old) }
         ensures end { self.new.end ≡ self.old.end }
-        ensures walked { IfOk result (λ o. Walk self.old self.new (value_spots o)) }
+        ensures walked { IfOk result (λ o. Walk self.old self.new (placed_value o)) }
     {
         if may_lack_value(is_var, array) && !self.next_is(Mark::Equals) {
             return Ok(None);
@@ -209,12 +208,12 @@ impl<'a> Parser<'a> {
         Ok(Some(self.value(is_var, array)?))
     }
 
-    #[tactic(auto, unfolding(crate::specs::Reading::decl_at, crate::specs::Reading::var_at), using(crate::proofs::Walks::walk_skip, crate::proofs::Walks::walk_then, crate::proofs::Walks::walk_end, crate::proofs::Walks::walk_none, crate::proofs::Errors::fails_unexpected, crate::proofs::Separated::fails_bind))]
+    #[tactic(auto, unfolding(crate::specs::Reading::decl_at, crate::specs::Reading::var_at), using(crate::proofs::Walks::passed_then, crate::proofs::Walks::passed_none, crate::proofs::Walks::passed, crate::proofs::Walks::walk_none, crate::proofs::Errors::fails_unexpected, crate::proofs::Separated::fails_bind))]
     pub(crate) fn decl(&mut self) -> Result<Decl<'a>, Refusal>
         ensures read { Gives (bare_decl) result (decl_at the_limits (lexemes self.old)) (lexemes self.new) }
         ensures shorter { length (lexemes self.new) ≤ length (lexemes self.old) }
         ensures end { self.new.end ≡ self.old.end }
-        ensures walked { IfOk result (λ d. Walk self.old self.new (decl_spots d)) }
+        ensures walked { IfOk result (λ d. Walk self.old self.new (placed_decl d)) }
     {
         let length = self.prefix()?;
         let is_var = self.eat_word(b"var");

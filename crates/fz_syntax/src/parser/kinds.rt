@@ -2,12 +2,13 @@
 
 ghost use Rattle.std.specs.Prelude.{◌≡◌, IfSome};
 ghost use Rattle.fz_syntax.specs.View.{lexeme};
-ghost use Rattle.fz_syntax.specs.Outcome.{plain_token};
+ghost use Rattle.fz_syntax.specs.Outcome.{plain_token, plain_kind};
 ghost use Rattle.fz_syntax.specs.Reading.{is_float, is_name, begins_literal, is_quoted, may_lack_value, begins_decl};
 ghost use Rattle.fz_syntax.specs.ReadingItems.{dimensions_of, token_dimensions};
 ghost use Rattle.fz_syntax.specs.Words.{may_be_reserved};
 ghost use Rattle.fz_syntax.specs.Shape.{is_one_of, type_words, item_words, truth_words, is_reserved};
 
+use crate::tree::LiteralKind;
 use fz_lex::{Mark, Token, TokenKind};
 
 pub(crate) fn is_float(token: &Token<'_>) -> bool
@@ -137,6 +138,17 @@ pub(crate) fn plain_of(token: &Token<'_>) -> Option<Plain>
         TokenKind::Word if token.text == b"true".as_slice() => Some(Plain::Truth(true)),
         TokenKind::Word if token.text == b"false".as_slice() => Some(Plain::Truth(false)),
         _ => None,
+    }
+}
+
+/// What the literal is.
+#[inline(always)]
+pub(crate) fn kind_of(plain: Plain) -> LiteralKind
+    ensures { result ≡ plain_kind plain }
+{
+    match plain {
+        Plain::Whole(value) => LiteralKind::Whole(value),
+        Plain::Truth(value) => LiteralKind::Truth(value),
     }
 }
 

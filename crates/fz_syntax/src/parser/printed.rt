@@ -1,14 +1,15 @@
 //! The items of a solver's output.
 
-ghost use Rattle.std.specs.Prelude.{◌≡◌, ◌≤◌, ◌==◌, if◌then◌else◌, drop, length, map, IfOk, []};
+ghost use Rattle.std.specs.Prelude.{◌≡◌, ◌≤◌, ◌==◌, if◌then◌else◌, drop, ◌++◌, length, map, IfOk};
 ghost use Rattle.fz_syntax.specs.View.{bare_literal, bare_printed_value, bare_printed, bare_items};
 ghost use Rattle.fz_syntax.specs.Outcome.{Gives};
 ghost use Rattle.fz_syntax.specs.Reading.{any_number, at_most, separated_at, begins_literal, literal_at, many_at, is_name};
 ghost use Rattle.fz_syntax.specs.ReadingItems.{next_dimensions, index_set_at, index_sets_at, elements_at, printed_array_at, printed_value_at, printed_at};
 ghost use Rattle.fz_syntax.specs.Shape.{the_limits};
-ghost use Rattle.fz_syntax.specs.Spots.{literal_spots, printed_value_spots, printed_spots, item_spots};
-ghost use Rattle.std.specs.List.{flat_map};
-ghost use Rattle.fz_syntax.specs.Walk.{Walk, lexemes};
+ghost use Rattle.fz_syntax.specs.Placed.{placed_mark, placed_word, placed_separated, placed_literal, placed_indexes, placed_printed_value, placed_printed, placed_items};
+ghost use Rattle.fz_lex.specs.declared.token.Mark.TheVariants.{CloseBracket, Comma};
+ghost use Rattle.fz_syntax.specs.Tokens.{array_word};
+ghost use Rattle.fz_syntax.specs.Walk.{Passed, Walk, lexemes};
 
 use crate::parser::cursor::{MAX_ELEMENTS, Parser};
 use crate::parser::kinds::dimensions;
@@ -24,7 +25,7 @@ impl<'a> Parser<'a> {
         ensures left { lexemes self.new ≡ (if next_dimensions (lexemes self.old) == 0 then lexemes self.old else drop 1 (lexemes self.old)) }
         ensures shorter { length (lexemes self.new) ≤ length (lexemes self.old) }
         ensures end { self.new.end ≡ self.old.end }
-        ensures walked { Walk self.old self.new [] }
+        ensures walked { Passed self.old self.new }
     {
         match self.tokens.first() {
             Some(first) => {
@@ -38,12 +39,12 @@ impl<'a> Parser<'a> {
         }
     }
 
-    #[tactic(auto, unfolding(crate::specs::ReadingItems::index_set_at), using(crate::proofs::Walks::walk_skip, crate::proofs::Walks::walk_then, crate::proofs::Walks::walk_end, crate::proofs::Walks::walk_none, crate::proofs::Errors::fails_unexpected, crate::proofs::Separated::fails_bind))]
+    #[tactic(auto, unfolding(crate::specs::ReadingItems::index_set_at), using(crate::proofs::Walks::passed_then, crate::proofs::Walks::passed_none, crate::proofs::Walks::passed, crate::proofs::Walks::walk_none, crate::proofs::Errors::fails_unexpected, crate::proofs::Separated::fails_bind))]
     fn index_set(&mut self) -> Result<Literal, Refusal>
         ensures read { Gives bare_literal result (index_set_at the_limits (lexemes self.old)) (lexemes self.new) }
         ensures shorter { length (lexemes self.new) ≤ length (lexemes self.old) }
         ensures end { self.new.end ≡ self.old.end }
-        ensures walked { IfOk result (λ l. Walk self.old self.new (literal_spots l)) }
+        ensures walked { IfOk result (λ l. Walk self.old self.new (placed_literal l ++ placed_mark Comma)) }
     {
         let bounds = self.bounds()?;
         self.expect(Mark::Comma)?;
@@ -54,7 +55,7 @@ impl<'a> Parser<'a> {
         ensures read { Gives (λ v. map bare_literal v.items) result (index_sets_at the_limits count (lexemes self.old)) (lexemes self.new) }
         ensures shorter { length (lexemes self.new) ≤ length (lexemes self.old) }
         ensures end { self.new.end ≡ self.old.end }
-        ensures walked { IfOk result (λ v. Walk self.old self.new (flat_map literal_spots v.items)) }
+        ensures walked { IfOk result (λ v. Walk self.old self.new (placed_indexes v.items)) }
     {
         let mut sets = Vec::new(self.alloc);
         while sets.len() < count {
@@ -69,7 +70,7 @@ impl<'a> Parser<'a> {
         ensures read { Gives bare_literal result (at_most the_limits.elements begins_literal (literal_at the_limits) count (lexemes self.old)) (lexemes self.new) }
         ensures shorter { length (lexemes self.new) ≤ length (lexemes self.old) }
         ensures end { self.new.end ≡ self.old.end }
-        ensures walked { IfOk result (λ l. Walk self.old self.new (literal_spots l)) }
+        ensures walked { IfOk result (λ l. Walk self.old self.new (placed_literal l)) }
     {
         if count >= MAX_ELEMENTS && self.begins_literal() {
             return Err(Refusal::TooMany);
@@ -81,7 +82,7 @@ impl<'a> Parser<'a> {
         ensures read { Gives (λ v. map bare_literal v.items) result (separated_at (at_most the_limits.elements begins_literal (literal_at the_limits)) (lexemes self.old)) (lexemes self.new) }
         ensures shorter { length (lexemes self.new) ≤ length (lexemes self.old) }
         ensures end { self.new.end ≡ self.old.end }
-        ensures walked { IfOk result (λ v. Walk self.old self.new (flat_map literal_spots v.items)) }
+        ensures walked { IfOk result (λ v. Walk self.old self.new (placed_separated placed_literal v.items)) }
     {
         let mut elements = Vec::new(self.alloc);
         'elements: loop {
@@ -101,12 +102,12 @@ impl<'a> Parser<'a> {
     }
 
     /// An array's elements behind the bracket that opens them.
-    #[tactic(auto, unfolding(crate::specs::ReadingItems::elements_at, crate::specs::Reading::list_at, crate::specs::Reading::mark_at), using(crate::proofs::Walks::walk_skip, crate::proofs::Walks::walk_then, crate::proofs::Walks::walk_end, crate::proofs::Walks::walk_none, crate::proofs::Errors::fails_unexpected, crate::proofs::Separated::fails_bind))]
+    #[tactic(auto, unfolding(crate::specs::ReadingItems::elements_at, crate::specs::Reading::list_at, crate::specs::Reading::mark_at), using(crate::proofs::Walks::passed_then, crate::proofs::Walks::passed_none, crate::proofs::Walks::passed, crate::proofs::Walks::walk_none, crate::proofs::Errors::fails_unexpected, crate::proofs::Separated::fails_bind))]
     fn elements(&mut self) -> Result<Vec<Literal>, Refusal>
         ensures read { Gives (λ v. map bare_literal v.items) result (elements_at the_limits (lexemes self.old)) (lexemes self.new) }
         ensures shorter { length (lexemes self.new) ≤ length (lexemes self.old) }
         ensures end { self.new.end ≡ self.old.end }
-        ensures walked { IfOk result (λ v. Walk self.old self.new (flat_map literal_spots v.items)) }
+        ensures walked { IfOk result (λ v. Walk self.old self.new (placed_separated placed_literal v.items ++ placed_mark CloseBracket)) }
     {
         if self.eat(Mark::CloseBracket) {
             return Ok(Vec::new(self.alloc));
@@ -117,12 +118,13 @@ impl<'a> Parser<'a> {
     }
 
     /// An array behind its word, which says how many index sets it has.
-    #[tactic(auto, unfolding(crate::specs::ReadingItems::printed_array_at), using(crate::proofs::Walks::walk_skip, crate::proofs::Walks::walk_then, crate::proofs::Walks::walk_end, crate::proofs::Walks::walk_none, crate::proofs::Errors::fails_unexpected, crate::proofs::Separated::fails_bind))]
+    #[tactic(auto, unfolding(crate::specs::ReadingItems::printed_array_at), using(crate::proofs::Walks::passed_then, crate::proofs::Walks::passed_none, crate::proofs::Walks::passed, crate::proofs::Walks::walk_none, crate::proofs::Errors::fails_unexpected, crate::proofs::Separated::fails_bind))]
     fn printed_array(&mut self, dimensions: usize) -> Result<PrintedValue, Refusal>
         ensures read { Gives bare_printed_value result (printed_array_at the_limits dimensions (lexemes self.old)) (lexemes self.new) }
         ensures shorter { length (lexemes self.new) ≤ length (lexemes self.old) }
         ensures end { self.new.end ≡ self.old.end }
-        ensures walked { IfOk result (λ v. Walk self.old self.new (printed_value_spots v)) }
+        ensures walked { IfOk result (λ v. Walk self.old self.new (drop 1 (placed_printed_value v))) }
+        ensures worded { IfOk result (λ v. placed_printed_value v ≡ placed_word (array_word dimensions) ++ drop 1 (placed_printed_value v)) }
     {
         self.expect(Mark::OpenParen)?;
         let indexes = self.index_sets(dimensions)?;
@@ -132,12 +134,12 @@ impl<'a> Parser<'a> {
         Ok(PrintedValue::Array { indexes, elements })
     }
 
-    #[tactic(auto, unfolding(crate::specs::ReadingItems::printed_value_at), using(crate::proofs::Walks::walk_skip, crate::proofs::Walks::walk_then, crate::proofs::Walks::walk_end, crate::proofs::Walks::walk_none, crate::proofs::Errors::fails_unexpected, crate::proofs::Separated::fails_bind))]
+    #[tactic(auto, unfolding(crate::specs::ReadingItems::printed_value_at), using(crate::proofs::Walks::passed_then, crate::proofs::Walks::passed_none, crate::proofs::Walks::passed, crate::proofs::Walks::walk_none, crate::proofs::Errors::fails_unexpected, crate::proofs::Separated::fails_bind))]
     fn printed_value(&mut self) -> Result<PrintedValue, Refusal>
         ensures read { Gives bare_printed_value result (printed_value_at the_limits (lexemes self.old)) (lexemes self.new) }
         ensures shorter { length (lexemes self.new) ≤ length (lexemes self.old) }
         ensures end { self.new.end ≡ self.old.end }
-        ensures walked { IfOk result (λ v. Walk self.old self.new (printed_value_spots v)) }
+        ensures walked { IfOk result (λ v. Walk self.old self.new (placed_printed_value v)) }
     {
         let dimensions = self.eat_array();
         if dimensions == 0 {
@@ -147,12 +149,12 @@ impl<'a> Parser<'a> {
         }
     }
 
-    #[tactic(auto, unfolding(crate::specs::ReadingItems::printed_at), using(crate::proofs::Walks::walk_skip, crate::proofs::Walks::walk_then, crate::proofs::Walks::walk_end, crate::proofs::Walks::walk_none, crate::proofs::Errors::fails_unexpected, crate::proofs::Separated::fails_bind))]
+    #[tactic(auto, unfolding(crate::specs::ReadingItems::printed_at), using(crate::proofs::Walks::passed_then, crate::proofs::Walks::passed_none, crate::proofs::Walks::passed, crate::proofs::Walks::walk_none, crate::proofs::Errors::fails_unexpected, crate::proofs::Separated::fails_bind))]
     fn printed(&mut self) -> Result<Printed<'a>, Refusal>
         ensures read { Gives bare_printed result (printed_at the_limits (lexemes self.old)) (lexemes self.new) }
         ensures shorter { length (lexemes self.new) ≤ length (lexemes self.old) }
         ensures end { self.new.end ≡ self.old.end }
-        ensures walked { IfOk result (λ p. Walk self.old self.new (printed_spots p)) }
+        ensures walked { IfOk result (λ p. Walk self.old self.new (placed_printed p)) }
     {
         let name = self.name()?;
         self.expect(Mark::Equals)?;
@@ -165,7 +167,7 @@ impl<'a> Parser<'a> {
         ensures read { Gives (λ v. bare_items v.items) result (many_at is_name (any_number (printed_at the_limits)) 0 (lexemes self.old)) (lexemes self.new) }
         ensures shorter { length (lexemes self.new) ≤ length (lexemes self.old) }
         ensures end { self.new.end ≡ self.old.end }
-        ensures walked { IfOk result (λ v. Walk self.old self.new (item_spots v.items)) }
+        ensures walked { IfOk result (λ v. Walk self.old self.new (placed_items v.items)) }
     {
         let mut items = Vec::new(self.alloc);
         while self.begins_name() {

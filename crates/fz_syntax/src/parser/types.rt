@@ -1,13 +1,13 @@
 //! Types and the lengths of arrays.
 
-ghost use Rattle.std.specs.Prelude.{◌≡◌, ◌≤◌, length, IfOk, []};
+ghost use Rattle.std.specs.Prelude.{◌≡◌, ◌≤◌, length, IfOk};
 ghost use Rattle.fz_syntax.specs.View.{bare_literal, bare_bounds, bare_base};
 ghost use Rattle.fz_syntax.specs.Outcome.{Gives};
 ghost use Rattle.fz_syntax.specs.Reading.{range_at, bounds_at, int_at, base_at, plain_at, one_at, size_at, index_at, any_index_at, param_prefix_at, prefix_at, type_at};
 ghost use Rattle.fz_lex.specs.declared.token.Mark.TheVariants.{CloseBracket};
 ghost use Rattle.fz_syntax.specs.Shape.{the_limits};
-ghost use Rattle.fz_syntax.specs.Spots.{literal_spots, bounds_spots, base_spots};
-ghost use Rattle.fz_syntax.specs.Walk.{Walk, lexemes};
+ghost use Rattle.fz_syntax.specs.Placed.{placed_literal, placed_bounds, placed_base};
+ghost use Rattle.fz_syntax.specs.Walk.{Passed, Walk, lexemes};
 
 use crate::parser::cursor::{MAX_SIZE, Parser};
 use crate::parser::refusal::Refusal;
@@ -15,14 +15,15 @@ use crate::tree::{Base, Literal, LiteralKind};
 use fz_lex::{Mark, TokenKind};
 
 impl<'a> Parser<'a> {
-    #[tactic(auto, unfolding(crate::specs::Reading::range_at), using(crate::proofs::Walks::walk_skip, crate::proofs::Walks::walk_then, crate::proofs::Walks::walk_end, crate::proofs::Walks::walk_none, crate::proofs::Errors::fails_unexpected, crate::proofs::Separated::fails_bind))]
-    pub(crate) fn range(&mut self) -> Result<Literal, Refusal>
+    /// A range whose first number starts at `start`.
+    #[tactic(auto, unfolding(crate::specs::Reading::range_at), using(crate::proofs::Walks::passed_then, crate::proofs::Walks::passed_none, crate::proofs::Walks::passed, crate::proofs::Walks::walk_none, crate::proofs::Errors::fails_unexpected, crate::proofs::Separated::fails_bind))]
+    fn range(&mut self, start: usize) -> Result<Literal, Refusal>
         ensures read { Gives (bare_literal) result (range_at (lexemes self.old)) (lexemes self.new) }
         ensures shorter { length (lexemes self.new) ≤ length (lexemes self.old) }
         ensures end { self.new.end ≡ self.old.end }
-        ensures walked { IfOk result (λ l. Walk self.old self.new (literal_spots l)) }
+        ensures walked { IfOk result (λ _. Passed self.old self.new) }
+        ensures span { IfOk result (λ l. (l.span.start ≡ start) × (l.span.end ≡ self.new.reached)) }
     {
-        let start = self.place().start;
         let low = self.whole()?;
         self.expect(Mark::DotDot)?;
         let high = self.whole()?;
@@ -32,28 +33,39 @@ impl<'a> Parser<'a> {
         })
     }
 
-    #[tactic(auto, unfolding(crate::specs::Reading::bounds_at), using(crate::proofs::Walks::walk_skip, crate::proofs::Walks::walk_then, crate::proofs::Walks::walk_end, crate::proofs::Walks::walk_none, crate::proofs::Errors::fails_unexpected, crate::proofs::Separated::fails_bind))]
+    /// Bounds whose first token starts at `start`.
+    #[tactic(auto, unfolding(crate::specs::Reading::bounds_at), using(crate::proofs::Walks::passed_then, crate::proofs::Walks::passed_none, crate::proofs::Walks::passed, crate::proofs::Walks::walk_none, crate::proofs::Errors::fails_unexpected, crate::proofs::Separated::fails_bind))]
+    fn bounds_from(&mut self, start: usize) -> Result<Literal, Refusal>
+        ensures read { Gives (bare_literal) result (bounds_at the_limits (lexemes self.old)) (lexemes self.new) }
+        ensures shorter { length (lexemes self.new) ≤ length (lexemes self.old) }
+        ensures end { self.new.end ≡ self.old.end }
+        ensures walked { IfOk result (λ _. Passed self.old self.new) }
+        ensures span { IfOk result (λ l. (l.span.start ≡ start) × (l.span.end ≡ self.new.reached)) }
+    {
+        if self.eat(Mark::OpenBrace) {
+            self.braces(start)
+        } else {
+            self.range(start)
+        }
+    }
+
     pub(crate) fn bounds(&mut self) -> Result<Literal, Refusal>
         ensures read { Gives (bare_literal) result (bounds_at the_limits (lexemes self.old)) (lexemes self.new) }
         ensures shorter { length (lexemes self.new) ≤ length (lexemes self.old) }
         ensures end { self.new.end ≡ self.old.end }
-        ensures walked { IfOk result (λ l. Walk self.old self.new (literal_spots l)) }
+        ensures walked { IfOk result (λ l. Walk self.old self.new (placed_literal l)) }
     {
         let start = self.place().start;
-        if self.eat(Mark::OpenBrace) {
-            self.braces(start)
-        } else {
-            self.range()
-        }
+        self.bounds_from(start)
     }
 
     /// The word `int`, or bounds.
-    #[tactic(auto, unfolding(crate::specs::Reading::int_at), using(crate::proofs::Walks::walk_skip, crate::proofs::Walks::walk_then, crate::proofs::Walks::walk_end, crate::proofs::Walks::walk_none, crate::proofs::Errors::fails_unexpected, crate::proofs::Separated::fails_bind))]
+    #[tactic(auto, unfolding(crate::specs::Reading::int_at), using(crate::proofs::Walks::passed_then, crate::proofs::Walks::passed_none, crate::proofs::Walks::passed, crate::proofs::Walks::walk_none, crate::proofs::Errors::fails_unexpected, crate::proofs::Separated::fails_bind))]
     pub(crate) fn int(&mut self) -> Result<Option<Literal>, Refusal>
         ensures read { Gives (bare_bounds) result (int_at the_limits (lexemes self.old)) (lexemes self.new) }
         ensures shorter { length (lexemes self.new) ≤ length (lexemes self.old) }
         ensures end { self.new.end ≡ self.old.end }
-        ensures walked { IfOk result (λ o. Walk self.old self.new (bounds_spots o)) }
+        ensures walked { IfOk result (λ o. Walk self.old self.new (placed_bounds o)) }
     {
         if self.eat_word(b"int") {
             Ok(None)
@@ -62,12 +74,12 @@ impl<'a> Parser<'a> {
         }
     }
 
-    #[tactic(auto, unfolding(crate::specs::Reading::base_at), using(crate::proofs::Walks::walk_skip, crate::proofs::Walks::walk_then, crate::proofs::Walks::walk_end, crate::proofs::Walks::walk_none, crate::proofs::Errors::fails_unexpected, crate::proofs::Separated::fails_bind))]
+    #[tactic(auto, unfolding(crate::specs::Reading::base_at), using(crate::proofs::Walks::passed_then, crate::proofs::Walks::passed_none, crate::proofs::Walks::passed, crate::proofs::Walks::walk_none, crate::proofs::Errors::fails_unexpected, crate::proofs::Separated::fails_bind))]
     pub(crate) fn base(&mut self) -> Result<Base, Refusal>
         ensures read { Gives (bare_base) result (base_at the_limits (lexemes self.old)) (lexemes self.new) }
         ensures shorter { length (lexemes self.new) ≤ length (lexemes self.old) }
         ensures end { self.new.end ≡ self.old.end }
-        ensures walked { IfOk result (λ b. Walk self.old self.new (base_spots b)) }
+        ensures walked { IfOk result (λ b. Walk self.old self.new (placed_base b)) }
     {
         if self.eat_word(b"bool") {
             Ok(Base::Bool)
@@ -80,12 +92,12 @@ impl<'a> Parser<'a> {
     }
 
     /// The type of a parameter.
-    #[tactic(auto, unfolding(crate::specs::Reading::plain_at), using(crate::proofs::Walks::walk_skip, crate::proofs::Walks::walk_then, crate::proofs::Walks::walk_end, crate::proofs::Walks::walk_none, crate::proofs::Errors::fails_unexpected, crate::proofs::Separated::fails_bind))]
+    #[tactic(auto, unfolding(crate::specs::Reading::plain_at), using(crate::proofs::Walks::passed_then, crate::proofs::Walks::passed_none, crate::proofs::Walks::passed, crate::proofs::Walks::walk_none, crate::proofs::Errors::fails_unexpected, crate::proofs::Separated::fails_bind))]
     pub(crate) fn plain(&mut self) -> Result<Base, Refusal>
         ensures read { Gives (bare_base) result (plain_at (lexemes self.old)) (lexemes self.new) }
         ensures shorter { length (lexemes self.new) ≤ length (lexemes self.old) }
         ensures end { self.new.end ≡ self.old.end }
-        ensures walked { IfOk result (λ b. Walk self.old self.new (base_spots b)) }
+        ensures walked { IfOk result (λ b. Walk self.old self.new (placed_base b)) }
     {
         if self.eat_word(b"bool") {
             Ok(Base::Bool)
@@ -99,12 +111,12 @@ impl<'a> Parser<'a> {
         }
     }
 
-    #[tactic(auto, unfolding(crate::specs::Reading::one_at), using(crate::proofs::Walks::walk_skip, crate::proofs::Walks::walk_then, crate::proofs::Walks::walk_end, crate::proofs::Walks::walk_none, crate::proofs::Errors::fails_unexpected, crate::proofs::Separated::fails_bind))]
+    #[tactic(auto, unfolding(crate::specs::Reading::one_at), using(crate::proofs::Walks::passed_then, crate::proofs::Walks::passed_none, crate::proofs::Walks::passed, crate::proofs::Walks::walk_none, crate::proofs::Errors::fails_unexpected, crate::proofs::Separated::fails_bind))]
     pub(crate) fn one(&mut self) -> Result<(), Refusal>
         ensures read { Gives (λ _. tt) result (one_at (lexemes self.old)) (lexemes self.new) }
         ensures shorter { length (lexemes self.new) ≤ length (lexemes self.old) }
         ensures end { self.new.end ≡ self.old.end }
-        ensures walked { IfOk result (λ _. Walk self.old self.new []) }
+        ensures walked { IfOk result (λ _. Passed self.old self.new) }
     {
         match self.tokens.first() {
             Some(first) => {
@@ -119,12 +131,12 @@ impl<'a> Parser<'a> {
         }
     }
 
-    #[tactic(auto, unfolding(crate::specs::Reading::size_at), using(crate::proofs::Walks::walk_skip, crate::proofs::Walks::walk_then, crate::proofs::Walks::walk_end, crate::proofs::Walks::walk_none, crate::proofs::Errors::fails_unexpected, crate::proofs::Separated::fails_bind))]
+    #[tactic(auto, unfolding(crate::specs::Reading::size_at), using(crate::proofs::Walks::passed_then, crate::proofs::Walks::passed_none, crate::proofs::Walks::passed, crate::proofs::Walks::walk_none, crate::proofs::Errors::fails_unexpected, crate::proofs::Separated::fails_bind))]
     pub(crate) fn size(&mut self) -> Result<usize, Refusal>
         ensures read { Gives (λ n. n) result (size_at the_limits (lexemes self.old)) (lexemes self.new) }
         ensures shorter { length (lexemes self.new) ≤ length (lexemes self.old) }
         ensures end { self.new.end ≡ self.old.end }
-        ensures walked { IfOk result (λ _. Walk self.old self.new []) }
+        ensures walked { IfOk result (λ _. Passed self.old self.new) }
     {
         match self.tokens.first() {
             Some(first) => match first.kind {
@@ -145,24 +157,24 @@ impl<'a> Parser<'a> {
         }
     }
 
-    #[tactic(auto, unfolding(crate::specs::Reading::index_at), using(crate::proofs::Walks::walk_skip, crate::proofs::Walks::walk_then, crate::proofs::Walks::walk_end, crate::proofs::Walks::walk_none, crate::proofs::Errors::fails_unexpected, crate::proofs::Separated::fails_bind))]
+    #[tactic(auto, unfolding(crate::specs::Reading::index_at), using(crate::proofs::Walks::passed_then, crate::proofs::Walks::passed_none, crate::proofs::Walks::passed, crate::proofs::Walks::walk_none, crate::proofs::Errors::fails_unexpected, crate::proofs::Separated::fails_bind))]
     pub(crate) fn index(&mut self) -> Result<usize, Refusal>
         ensures read { Gives (λ n. n) result (index_at the_limits (lexemes self.old)) (lexemes self.new) }
         ensures shorter { length (lexemes self.new) ≤ length (lexemes self.old) }
         ensures end { self.new.end ≡ self.old.end }
-        ensures walked { IfOk result (λ _. Walk self.old self.new []) }
+        ensures walked { IfOk result (λ _. Passed self.old self.new) }
     {
         self.one()?;
         self.expect(Mark::DotDot)?;
         self.size()
     }
 
-    #[tactic(auto, unfolding(crate::specs::Reading::any_index_at), using(crate::proofs::Walks::walk_skip, crate::proofs::Walks::walk_then, crate::proofs::Walks::walk_end, crate::proofs::Walks::walk_none, crate::proofs::Errors::fails_unexpected, crate::proofs::Separated::fails_bind))]
+    #[tactic(auto, unfolding(crate::specs::Reading::any_index_at), using(crate::proofs::Walks::passed_then, crate::proofs::Walks::passed_none, crate::proofs::Walks::passed, crate::proofs::Walks::walk_none, crate::proofs::Errors::fails_unexpected, crate::proofs::Separated::fails_bind))]
     pub(crate) fn any_index(&mut self) -> Result<Option<usize>, Refusal>
         ensures read { Gives (λ n. n) result (any_index_at the_limits (lexemes self.old)) (lexemes self.new) }
         ensures shorter { length (lexemes self.new) ≤ length (lexemes self.old) }
         ensures end { self.new.end ≡ self.old.end }
-        ensures walked { IfOk result (λ _. Walk self.old self.new []) }
+        ensures walked { IfOk result (λ _. Passed self.old self.new) }
     {
         if self.eat_word(b"int") {
             Ok(None)
@@ -171,12 +183,12 @@ impl<'a> Parser<'a> {
         }
     }
 
-    #[tactic(auto, unfolding(crate::specs::Reading::param_prefix_at, crate::specs::Reading::array_at), using(crate::proofs::Walks::walk_skip, crate::proofs::Walks::walk_then, crate::proofs::Walks::walk_end, crate::proofs::Walks::walk_none, crate::proofs::Errors::fails_unexpected, crate::proofs::Separated::fails_bind))]
+    #[tactic(auto, unfolding(crate::specs::Reading::param_prefix_at, crate::specs::Reading::array_at), using(crate::proofs::Walks::passed_then, crate::proofs::Walks::passed_none, crate::proofs::Walks::passed, crate::proofs::Walks::walk_none, crate::proofs::Errors::fails_unexpected, crate::proofs::Separated::fails_bind))]
     pub(crate) fn param_prefix(&mut self) -> Result<Option<Option<usize>>, Refusal>
         ensures read { Gives (λ n. n) result (param_prefix_at the_limits (lexemes self.old)) (lexemes self.new) }
         ensures shorter { length (lexemes self.new) ≤ length (lexemes self.old) }
         ensures end { self.new.end ≡ self.old.end }
-        ensures walked { IfOk result (λ _. Walk self.old self.new []) }
+        ensures walked { IfOk result (λ _. Passed self.old self.new) }
     {
         if !self.eat_word(b"array") {
             return Ok(None);
@@ -188,12 +200,12 @@ impl<'a> Parser<'a> {
         Ok(Some(length))
     }
 
-    #[tactic(auto, unfolding(crate::specs::Reading::prefix_at, crate::specs::Reading::array_at), using(crate::proofs::Walks::walk_skip, crate::proofs::Walks::walk_then, crate::proofs::Walks::walk_end, crate::proofs::Walks::walk_none, crate::proofs::Errors::fails_unexpected, crate::proofs::Separated::fails_bind))]
+    #[tactic(auto, unfolding(crate::specs::Reading::prefix_at, crate::specs::Reading::array_at), using(crate::proofs::Walks::passed_then, crate::proofs::Walks::passed_none, crate::proofs::Walks::passed, crate::proofs::Walks::walk_none, crate::proofs::Errors::fails_unexpected, crate::proofs::Separated::fails_bind))]
     pub(crate) fn prefix(&mut self) -> Result<Option<usize>, Refusal>
         ensures read { Gives (λ n. n) result (prefix_at the_limits (lexemes self.old)) (lexemes self.new) }
         ensures shorter { length (lexemes self.new) ≤ length (lexemes self.old) }
         ensures end { self.new.end ≡ self.old.end }
-        ensures walked { IfOk result (λ _. Walk self.old self.new []) }
+        ensures walked { IfOk result (λ _. Passed self.old self.new) }
     {
         if !self.eat_word(b"array") {
             return Ok(None);
@@ -205,12 +217,12 @@ impl<'a> Parser<'a> {
         Ok(Some(length))
     }
 
-    #[tactic(auto, unfolding(crate::specs::Reading::type_at), using(crate::proofs::Walks::walk_skip, crate::proofs::Walks::walk_then, crate::proofs::Walks::walk_end, crate::proofs::Walks::walk_none, crate::proofs::Errors::fails_unexpected, crate::proofs::Separated::fails_bind))]
+    #[tactic(auto, unfolding(crate::specs::Reading::type_at), using(crate::proofs::Walks::passed_then, crate::proofs::Walks::passed_none, crate::proofs::Walks::passed, crate::proofs::Walks::walk_none, crate::proofs::Errors::fails_unexpected, crate::proofs::Separated::fails_bind))]
     pub(crate) fn element_type(&mut self, is_var: bool) -> Result<Base, Refusal>
         ensures read { Gives (bare_base) result (type_at the_limits is_var (lexemes self.old)) (lexemes self.new) }
         ensures shorter { length (lexemes self.new) ≤ length (lexemes self.old) }
         ensures end { self.new.end ≡ self.old.end }
-        ensures walked { IfOk result (λ b. Walk self.old self.new (base_spots b)) }
+        ensures walked { IfOk result (λ b. Walk self.old self.new (placed_base b)) }
     {
         if is_var { self.base() } else { self.plain() }
     }

@@ -1,7 +1,8 @@
-use Rattle.std.proofs.Common.{◌≡◌, ◌∙◌, sym, ap, subst, inr, Err}
+use Rattle.std.proofs.Common.{◌≡◌, ◌∙◌, sym, ap, subst, inr, Err, arith}
 use Rattle.fz_check.specs.declared.error.CheckError.TheVariants as errors
 use Rattle.fz_check.proofs.OverLemmas.{holds_of_model, accepted_over, reported_over, told_model, told_names, told_stream, told_block, told_read, never_of_model}
 use Rattle.fz_check.specs.Over.{IsOfModel}
+use Rattle.fz_live.proofs.SpendingLemmas.{spends_none}
 use Rattle.fz_check.proofs.Refusals.{name_fault_on}
 use Rattle.fz_check.proofs.live.check_stream_up_to.Goals as goal
 
@@ -18,8 +19,8 @@ pub returns-in-Ok-check_parts-clause-report : goal.returns-in-Ok-check_parts-cla
 returns-in-Ok-check_parts-clause-report g c =
     reported_over c.args.model.now c.in-Ok.ast c.in-Ok-load_tree.loaded c.in-Ok.ensures.found c.in-Ok-load_tree.ensures.loaded.0 c.in-Ok-load_tree.ensures.loaded.1 _ _ _ _ c.in-Ok-check_parts.answer c.in-Ok-check_parts.ensures.answered
 
-pub returns-clause-no_tree : goal.returns-clause-no_tree
-returns-clause-no_tree g c = λ e same t text.
+pub returns-clause-model : goal.returns-clause-model
+returns-clause-model g c = λ e same.
     (let told = told_model c.in-Err-check_parts.error e (sym c.live_refusal.ensures ∙ cc) in absurd told)
 
 pub returns-clause-names : goal.returns-clause-names
@@ -55,3 +56,9 @@ returns-clause-model_first g c = λ of_model. absurd (never_of_model c.in-Err-ch
 pub returns-clause-memory : goal.returns-clause-memory
 returns-clause-memory g c = λ same.
     inr (holds_of_model c.args.model.now c.in-Ok.ast c.in-Ok-load_tree.loaded c.in-Ok.ensures.found c.in-Ok-load_tree.ensures.loaded.0 c.in-Ok-load_tree.ensures.loaded.1 _ c.in-Err-check_parts.ensures.front)
+
+pub returns-in-Err-clause-reads : goal.returns-in-Err-clause-reads
+returns-in-Err-clause-reads g c = spends_none _ _ _ (omega arith)
+
+pub returns-in-Err-load_tree-clause-reads : goal.returns-in-Err-load_tree-clause-reads
+returns-in-Err-load_tree-clause-reads g c = spends_none _ _ _ (omega arith)

@@ -24,7 +24,7 @@ returns-in-Err c =
       refused = λ known items t. no_value c.args.offset c.in-Err.e items (subst (λ f. f ≡ Memory → ⊥) c.item_fault.ensures known) (c.in-Err.ensures.only items t.0);
       fault = subst IsBlockFault (sym c.item_fault.ensures) (block_fault c.args.offset c.in-Err.e short);
       place = subst (IsFaultWithin (c.args.offset + length c.args.text.now)) (sym c.item_fault.ensures) (placed_fault c.args.offset (length c.args.text.now) c.in-Err.e c.in-Err.ensures.placed);
-      tells = subst (TellsOfText c.args.offset c.args.text.now) (sym c.item_fault.ensures) (tells_text c.args.offset c.args.text.now c.in-Err.e c.in-Err.ensures.placed);
+      tells = subst (TellsOfText c.args.offset c.args.text.now) (sym c.item_fault.ensures) (tells_text c.args.offset c.args.text.now c.in-Err.e short c.in-Err.ensures.only c.in-Err.ensures.order c.in-Err.ensures.placed);
     }
 
 pub moved_span-requires : goal.moved_span-requires

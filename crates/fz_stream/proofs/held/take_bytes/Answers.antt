@@ -1,7 +1,7 @@
 use Rattle.std.proofs.Common.{◌≡◌, ℕ, ◌+◌, ◌≤◌, ◌^◌, ◌-◌, inl, inr, List, length, ap, ◌∙◌, refl, arith, Some, is_some}
 use Rattle.std.proofs.lemmas.List.{take_rest}
 use Rattle.std.proofs.lemmas.Result.{err_from_is_err_and}
-use Rattle.fz_stream.proofs.TakeLemmas.{taking_begun, taking_line, takes_part, takes_broken, passes_limit, lines_mid}
+use Rattle.fz_stream.proofs.TakeLemmas.{taking_begun, taking_line, takes_part, takes_broken, passes_limit, room_next, lines_mid}
 use Rattle.fz_stream.proofs.held.take_bytes.Goals as goal
 use Rattle.fz_stream.proofs.held.take_bytes.Goals.{then-part-room-via-then-part-room, then-part-room-via-else-part-room+then-part-left}
 
@@ -33,6 +33,12 @@ returns-in-Some-clause-part c ended e bytes parts k size =
     let same : c.in-Some.ended ≡ ended = cc in
     takes_part c.args.held.now c.loop-at.held c.args.piece.now c.loop-at.at c.loop-at.invariant c.first_line-part.result.now _ (take_rest c.args.piece.now c.loop-at.at) c.first_line-part.ensures.front c.first_line-part.ensures.within c.first_line-part.ensures.some c.first_line-part.ensures.cut (record { buffer = c.extend_from_slice.new.self; line = c.loop-at.held.line; before = c.loop-at.held.before; kept = c.loop-at.held.kept }) c.in_ok-extend_from_slice.ensures.items refl refl room over c.if-is_whole.true _ ended c.in_ok-ended.ensures.taken (c.in_ok-ended.ensures.same (ap is_some c.in-Some.is)).0
     (c.in_ok-ended.ensures.ends ended (c.in-Some.is ∙ ap Some same) _ _ l) bytes parts k size
+
+pub returns-in-Some-clause-room : goal.returns-in-Some-clause-room
+returns-in-Some-clause-room c =
+    let room : length c.loop-at.held.buffer.items + length c.first_line-part.result.now ≤ 2 ^ 24 = omega arith in
+    let over : c.loop-at.held.before + length c.loop-at.held.buffer.items + length c.first_line-part.result.now ≤ 2 ^ 40 = omega arith in
+    room_next c.args.held.now c.loop-at.held c.args.piece.now c.loop-at.at c.loop-at.invariant c.first_line-part.result.now _ (take_rest c.args.piece.now c.loop-at.at) c.first_line-part.ensures.front c.first_line-part.ensures.within c.first_line-part.ensures.some c.first_line-part.ensures.cut room over
 
 pub returns-in_err-ended-clause-broken : goal.returns-in_err-ended-clause-broken
 returns-in_err-ended-clause-broken c =

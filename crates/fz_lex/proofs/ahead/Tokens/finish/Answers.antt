@@ -18,3 +18,9 @@ returns-clause-refused c = IfErr-weaker c.scan.result _ _ (λ e f. f.0) c.scan.e
 
 pub returns-clause-placed : goal.returns-clause-placed
 returns-clause-placed c = IfErr-weaker c.scan.result _ _ (λ e f. fault_placed (source_of c.args.self) e f.0) c.scan.ensures.refused
+
+pub returns-clause-no_memory : goal.returns-clause-no_memory
+returns-clause-no_memory c = IfErr-weaker c.scan.result _ _ (λ e f. f.1) c.scan.ensures.refused
+
+pub returns-clause-any_length : goal.returns-clause-any_length
+returns-clause-any_length c = IfErr-weaker c.scan.result _ _ (λ e f. f.2) c.scan.ensures.refused

@@ -1,8 +1,10 @@
-use Rattle.fz_stream.specs.declared.splitter.Stage.TheVariants.{Running, Failed as FailedStage}
-use Rattle.std.proofs.Common.{Err, ◌≡◌, ap, sym, ◌∙◌, refl, true, false, Ok}
+use Rattle.fz_stream.specs.declared.splitter.Stage.TheVariants.{Running, Finished, Failed as FailedStage}
+use Rattle.std.proofs.Common.{Err, ◌≡◌, ◌≢◌, [], ap, sym, ◌∙◌, refl, true, false, Ok, arith}
+use Rattle.std.proofs.KnownBytes.{Consumes-nil}
 use Rattle.std.specs.Prelude.{⊤}
 use Rattle.fz_live.specs.Reading.{ReaderState}
-use Rattle.fz_live.proofs.AdvanceLemmas.{advance_ended, advance_fed, advance_read, advance_stops, advance_then, advance_more, advance_last, advance_ends, advance_refused, advance_broken, fault_told, reads_on}
+use Rattle.fz_live.proofs.AdvanceLemmas.{advance_spends, advance_ended, advance_fed, advance_read, advance_stops, advance_then, advance_more, advance_last, advance_ends, advance_refused, advance_broken, fault_told, reads_on}
+use Rattle.fz_live.proofs.SpendingLemmas.{not_more, one_more, spends_none}
 use Rattle.fz_live.proofs.reader.PartReader.advance.Goals as goal
 
 pub returns-then-self-clause-end : goal.returns-then-self-clause-end
@@ -73,3 +75,43 @@ pub returns-in-Err-finish-clause-fault : goal.returns-in-Err-finish-clause-fault
 returns-in-Err-finish-clause-fault g c = λ e is.
     fault_told c.in-Err-finish.e e _ (sym c.part_refusal-in-Err-finish.ensures ∙ cc)
     (λ _ f. let no : Running ≡ FailedStage = sym c.in-Ok-false.ensures.going ∙ ap (λ s. s.stage) (sym c.read.ensures.same) ∙ c.finish.ensures.before (c.in-Err-finish.is ∙ ap Err f) in cc) c.in-Err-finish.ensures.fault
+
+-- ---- the reads that were made
+
+pub returns-then-self-clause-spends : goal.returns-then-self-clause-spends
+returns-then-self-clause-spends g c = spends_none _ _ _ (omega arith)
+
+pub returns-then-self-clause-at_end : goal.returns-then-self-clause-at_end
+returns-then-self-clause-at_end g c = λ _. (sym (ap (λ (s : ReaderState). s.splitter.stage) c.self.view_is) ∙ c.self.invariant.ended.0 c.if-self.true)
+
+pub returns-in-Ok-true-clause-spends : goal.returns-in-Ok-true-clause-spends
+returns-in-Ok-true-clause-spends g c =
+    let going : c.feed.new.self.splitter.stage ≢ Finished = λ f. (let no : Running ≡ Finished = sym c.in-Ok-true.ensures.going ∙ f in cc) in
+    advance_spends _ _ c.feed.new.self _ _ c.loop-e.invariant _ [] (Consumes-nil _) refl (not_more c.feed.new.self _ going (omega (arith, c.feed.ensures.reads)))
+
+pub returns-in-Err-clause-spends : goal.returns-in-Err-clause-spends
+returns-in-Err-clause-spends g c =
+    let going : c.feed.new.self.splitter.stage ≢ Finished = λ f. (let no : FailedStage ≡ Finished = sym c.in-Err.ensures.failed ∙ f in cc) in
+    advance_spends _ _ c.feed.new.self _ _ c.loop-e.invariant _ [] (Consumes-nil _) refl (not_more c.feed.new.self _ going (omega (arith, c.feed.ensures.reads)))
+
+pub returns-in-Err-read-clause-spends : goal.returns-in-Err-read-clause-spends
+returns-in-Err-read-clause-spends g c =
+    let none = c.in-Ok-false.is ∙ ap Ok c.in-Ok-false.field-0-test in
+    let fed = advance_fed _ _ c.feed.new.self _ _ c.loop-e.invariant c.in-Ok-false.ensures.going (c.feed.ensures.all none) c.feed.ensures.reads (c.feed.ensures.none none) in
+    let going : c.read.new.self.splitter.stage ≢ Finished = λ f. (let no : Running ≡ Finished = sym c.in-Ok-false.ensures.going ∙ ap (λ s. s.stage) (sym c.read.ensures.same) ∙ f in cc) in
+    advance_spends _ _ c.read.new.self _ _ fed _ _ c.read.ensures.given c.in-Err-read.ensures.none_given (not_more c.read.new.self _ going c.read.ensures.fewer)
+
+pub returns-in-Ok-clause-spends : goal.returns-in-Ok-clause-spends
+returns-in-Ok-clause-spends g c =
+    let none = c.in-Ok-false.is ∙ ap Ok c.in-Ok-false.field-0-test in
+    let fed = advance_fed _ _ c.feed.new.self _ _ c.loop-e.invariant c.in-Ok-false.ensures.going (c.feed.ensures.all none) c.feed.ensures.reads (c.feed.ensures.none none) in
+    let end = c.read.ensures.end (c.in-Ok-false-read.is ∙ ap Ok c.in-Ok-false-read.field-0-test) in
+    advance_spends _ _ c.finish.new.self _ _ fed _ _ c.read.ensures.given end.0 (one_more c.finish.new.self _ c.in-Ok.ensures.ended (omega (arith, c.finish.ensures.reads, c.in-Ok-false-read.ensures.reads)))
+
+pub returns-in-Err-finish-clause-spends : goal.returns-in-Err-finish-clause-spends
+returns-in-Err-finish-clause-spends g c =
+    let none = c.in-Ok-false.is ∙ ap Ok c.in-Ok-false.field-0-test in
+    let fed = advance_fed _ _ c.feed.new.self _ _ c.loop-e.invariant c.in-Ok-false.ensures.going (c.feed.ensures.all none) c.feed.ensures.reads (c.feed.ensures.none none) in
+    let end = c.read.ensures.end (c.in-Ok-false-read.is ∙ ap Ok c.in-Ok-false-read.field-0-test) in
+    let going : c.finish.new.self.splitter.stage ≢ Finished = λ f. (let no : FailedStage ≡ Finished = sym c.in-Err-finish.ensures.failed ∙ f in cc) in
+    advance_spends _ _ c.finish.new.self _ _ fed _ _ c.read.ensures.given end.0 (not_more c.finish.new.self _ going (omega (arith, c.finish.ensures.reads, c.in-Ok-false-read.ensures.reads)))

@@ -18,6 +18,9 @@ returns-in-Ok c =
       ok = running;
       held = short_held c.in-Ok.ended _ _ c.in-Ok.ensures.most_after;
       taken = c.in-Ok.ensures.taken_after;
+      room = λ bytes parts f. c.in-Ok.ensures.room bytes parts
+          (kept_by c.args.self.now c.drop_part.new.held (c.drop_part.ensures.kept ∙ ap (λ (s : SplitterState). s.held) c.self.view_is) bytes parts f)
+          (c.drop_part.ensures.taken ∙ ap (λ (s : SplitterState). s.taken) c.self.view_is ∙ f.taken);
       broken = tt;
       too_long = λ e. absurd cc;
       failed = ((λ e. absurd cc), (λ e. absurd (let no : Running ≡ Failed = sym running ∙ stage ∙ e in cc)));
@@ -38,6 +41,7 @@ returns-in-Err c =
       ok = tt;
       held = tt;
       taken = tt;
+      room = tt;
       broken = λ memory long _ bytes parts f. c.in-Err.ensures.broken memory long bytes parts (kept_by c.args.self.now c.drop_part.new.held held bytes parts f) (taken ∙ f.taken);
       too_long = λ e bytes parts f. (
           let same : c.in-Err.e ≡ TooLong = cc in

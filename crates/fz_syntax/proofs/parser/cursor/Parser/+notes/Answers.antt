@@ -1,8 +1,8 @@
 use Rattle.std.proofs.Common.{sym, subst, ◌∙◌, ap, map, refl, arith}
 use Rattle.std.proofs.lemmas.Result.{err_from_is_err_and}
-use Rattle.fz_lex.specs.declared.token.Mark.TheVariants.{Comma}
-use Rattle.fz_syntax.specs.Spots.{arg_spots, note_basic_spots}
-use Rattle.fz_syntax.proofs.Walks.{walk_first, walk_more, walk_skip, walk_end, note_walk, listed_walk}
+use Rattle.fz_lex.specs.declared.token.Mark.TheVariants.{OpenParen, CloseParen, OpenBracket, CloseBracket, Comma}
+use Rattle.fz_syntax.specs.Placed.{placed_arg, placed_note_basic}
+use Rattle.fz_syntax.proofs.Walks.{separated_first, separated_more, some_pushed, walk_then, walk_from, walk_kept, walk_empty, no_args_walk, ate, mark_walk, args_walk, note_list_walk}
 use Rattle.fz_syntax.proofs.Folds.{note_unfolds, list_unfolds}
 use Rattle.fz_syntax.specs.Walk.{Walk}
 use Rattle.fz_syntax.specs.View.{bare_arg, bare_basic}
@@ -23,7 +23,8 @@ separated_note_args-more_args-init t c = record {
   continues = separated_init (any_number (note_arg_at the_limits c.args.depth (note_at the_limits c.args.depth))) _ _ _ _ _ (ap (map bare_arg) c.new-arguments.ensures.items) (grown bare_arg _ _ _ c.in_ok-push.ensures.items) c.in_ok-note_arg.ensures.read;
   shorter = omega arith;
   same_end = omega arith;
-  walked = walk_first arg_spots _ _ _ c.new-arguments.ensures.items c.in_ok-push.ensures.items c.in_ok-note_arg.ensures.walked;
+  walked = separated_first placed_arg _ _ _ c.new-arguments.ensures.items c.in_ok-push.ensures.items c.in_ok-note_arg.ensures.walked;
+  some = some_pushed _ _ _ c.in_ok-push.ensures.items;
 }
 
 pub separated_note_args-returns-in_err-arg-clause-read : goal.separated_note_args-returns-in_err-arg-clause-read
@@ -36,7 +37,8 @@ separated_note_args-more_args-preserved t c = record {
   continues = keeps_on Comma (any_number (note_arg_at the_limits c.args.depth (note_at the_limits c.args.depth))) (note_args_shrink the_limits c.args.depth) _ _ _ _ _ _ _ _ refl (grown bare_arg _ _ _ c.in_ok-push-2.ensures.items) _ c.more_args-test.true c.eat.ensures.found c.eat.ensures.left c.in_ok-arg.ensures.read c.more_args.invariant.continues;
   shorter = omega arith;
   same_end = omega arith;
-  walked = walk_more arg_spots _ _ _ c.in_ok-push-2.ensures.items (walk_end c.more_args.invariant.walked c.eat.ensures.walked) c.in_ok-arg.ensures.walked;
+  walked = separated_more placed_arg _ _ _ c.more_args.invariant.some c.in_ok-push-2.ensures.items c.more_args.invariant.walked (ate Comma _ c.more_args-test.true c.eat.ensures.found c.eat.ensures.left c.eat.ensures.walked) c.in_ok-arg.ensures.walked;
+  some = some_pushed _ _ _ c.in_ok-push-2.ensures.items;
 }
 
 pub separated_note_args-returns-clause-read : goal.separated_note_args-returns-clause-read
@@ -52,7 +54,8 @@ separated_note_basics-more_basics-init t c = record {
   continues = separated_init (at_most the_limits.elements (begins_note_basic c.args.depth) (note_basic_at the_limits (note_at the_limits c.args.depth))) _ _ _ _ _ (ap (map bare_basic) c.new-basics.ensures.items) (grown bare_basic _ _ _ c.in_ok-push.ensures.items) c.in_ok-listed_note_basic.ensures.read;
   shorter = omega arith;
   same_end = omega arith;
-  walked = walk_first note_basic_spots _ _ _ c.new-basics.ensures.items c.in_ok-push.ensures.items c.in_ok-listed_note_basic.ensures.walked;
+  walked = separated_first placed_note_basic _ _ _ c.new-basics.ensures.items c.in_ok-push.ensures.items c.in_ok-listed_note_basic.ensures.walked;
+  some = some_pushed _ _ _ c.in_ok-push.ensures.items;
 }
 
 pub separated_note_basics-returns-in_err-basic-clause-read : goal.separated_note_basics-returns-in_err-basic-clause-read
@@ -65,28 +68,41 @@ separated_note_basics-more_basics-preserved t c = record {
   continues = keeps_on Comma (at_most the_limits.elements (begins_note_basic c.args.depth) (note_basic_at the_limits (note_at the_limits c.args.depth))) (note_list_shrinks the_limits c.args.depth) _ _ _ _ _ _ _ _ (c.len.ensures ∙ c.more_basics.basics.ok.0 ∙ length_seen bare_basic c.more_basics.basics.items) (grown bare_basic _ _ _ c.in_ok-push-2.ensures.items) _ c.more_basics-test.true c.eat.ensures.found c.eat.ensures.left c.in_ok-basic.ensures.read c.more_basics.invariant.continues;
   shorter = omega arith;
   same_end = omega arith;
-  walked = walk_more note_basic_spots _ _ _ c.in_ok-push-2.ensures.items (walk_end c.more_basics.invariant.walked c.eat.ensures.walked) c.in_ok-basic.ensures.walked;
+  walked = separated_more placed_note_basic _ _ _ c.more_basics.invariant.some c.in_ok-push-2.ensures.items c.more_basics.invariant.walked (ate Comma _ c.more_basics-test.true c.eat.ensures.found c.eat.ensures.left c.eat.ensures.walked) c.in_ok-basic.ensures.walked;
+  some = some_pushed _ _ _ c.in_ok-push-2.ensures.items;
 }
 
 pub separated_note_basics-returns-clause-read : goal.separated_note_basics-returns-clause-read
 separated_note_basics-returns-clause-read t c = rw c.trimmed.ensures (is_whole_list Comma (at_most the_limits.elements (begins_note_basic c.args.depth) (note_basic_at the_limits (note_at the_limits c.args.depth))) _ _ _ _ _ c.more_basics-test.false c.eat.ensures.found c.eat.ensures.left c.more_basics.invariant.continues)
 
 pub separated_note_args-returns-clause-walked : goal.separated_note_args-returns-clause-walked
-separated_note_args-returns-clause-walked t c = rw c.trimmed.ensures (walk_end c.more_args.invariant.walked c.eat.ensures.walked)
+separated_note_args-returns-clause-walked t c = rw c.trimmed.ensures (walk_kept _ c.more_args-test.false c.eat.ensures.kept c.more_args.invariant.walked)
 
 pub separated_note_basics-returns-clause-walked : goal.separated_note_basics-returns-clause-walked
-separated_note_basics-returns-clause-walked t c = rw c.trimmed.ensures (walk_end c.more_basics.invariant.walked c.eat.ensures.walked)
+separated_note_basics-returns-clause-walked t c = rw c.trimmed.ensures (walk_kept _ c.more_basics-test.false c.eat.ensures.kept c.more_basics.invariant.walked)
+
+pub separated_note_args-returns-clause-some : goal.separated_note_args-returns-clause-some
+separated_note_args-returns-clause-some t c = rw c.trimmed.ensures c.more_args.invariant.some
 
 pub note-returns-clause-walked : goal.note-returns-clause-walked
 note-returns-clause-walked t c =
-    subst (λ s. Walk c.args.self.now c.note_args.new.self s) (sym (note_unfolds c.in_ok-name.name c.in_ok-args.args)) (note_walk c.in_ok-name.name c.in_ok-args.args.items c.in_ok-name.ensures.walked c.in_ok-args.ensures.walked)
+    subst (λ s. Walk c.args.self.now c.note_args.new.self s) (sym (note_unfolds c.in_ok-name.name c.in_ok-args.args)) (walk_then c.in_ok-name.ensures.walked c.in_ok-args.ensures.walked)
 
 pub note_arg-returns-in_ok-note_list-clause-walked : goal.note_arg-returns-in_ok-note_list-clause-walked
 note_arg-returns-in_ok-note_list-clause-walked t c =
-    subst (λ s. Walk c.args.self.now c.note_list.new.self s) (sym (list_unfolds c.in_ok-note_list.field-0)) (listed_walk c.in_ok-note_list.field-0.items c.eat.ensures.walked c.in_ok-note_list.ensures.walked)
+    subst (λ s. Walk c.args.self.now c.note_list.new.self s) (sym (list_unfolds c.in_ok-note_list.field-0))
+    (note_list_walk c.in_ok-note_list.field-0.items (ate OpenBracket _ c.if-eat.true c.eat.ensures.found c.eat.ensures.left c.eat.ensures.walked) c.in_ok-note_list.ensures.walked)
 
 pub note_args-returns-clause-walked : goal.note_args-returns-clause-walked
-note_args-returns-clause-walked t c = walk_skip c.eat.ensures.walked (walk_end c.in_ok-args.ensures.walked c.in_ok-expect.ensures.walked)
+note_args-returns-clause-walked t c =
+    args_walk c.in_ok-args.args.items c.in_ok-args.ensures.some (ate OpenParen _ c.if-not-eat.false c.eat.ensures.found c.eat.ensures.left c.eat.ensures.walked) c.in_ok-args.ensures.walked
+    (mark_walk CloseParen c.in_ok-expect.ensures.walked c.in_ok-expect.ensures.read)
+
+pub note_args-returns-then-not-eat-clause-walked : goal.note_args-returns-then-not-eat-clause-walked
+note_args-returns-then-not-eat-clause-walked t c = no_args_walk c.new.result.items c.new.ensures.items c.if-not-eat.ensures.kept
+
+pub note_list-returns-then-eat-clause-walked : goal.note_list-returns-then-eat-clause-walked
+note_list-returns-then-eat-clause-walked t c = walk_empty placed_note_basic CloseBracket _ c.new.ensures.items (ate CloseBracket _ c.if-eat.true c.eat.ensures.found c.eat.ensures.left c.eat.ensures.walked)
 
 pub note_list-returns-clause-walked : goal.note_list-returns-clause-walked
-note_list-returns-clause-walked t c = walk_skip c.eat.ensures.walked (walk_end c.in_ok-basics.ensures.walked c.in_ok-expect.ensures.walked)
+note_list-returns-clause-walked t c = walk_from c.if-eat.ensures.kept (walk_then c.in_ok-basics.ensures.walked (mark_walk CloseBracket c.in_ok-expect.ensures.walked c.in_ok-expect.ensures.read))

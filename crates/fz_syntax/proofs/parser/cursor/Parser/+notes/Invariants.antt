@@ -1,8 +1,7 @@
-use Rattle.std.proofs.Common.{◌≡◌, ◌≤◌, ◌+◌, ◌*◌, length, map}
+use Rattle.std.proofs.Common.{◌≡◌, ◌≤◌, ◌<◌, ◌+◌, ◌*◌, length, map}
 use Rattle.fz_lex.specs.declared.token.Mark.TheVariants.{Comma}
-use Rattle.std.specs.List.{flat_map}
 use Rattle.fz_syntax.specs.Walk.{Walk, lexemes}
-use Rattle.fz_syntax.specs.Spots.{arg_spots, note_basic_spots}
+use Rattle.fz_syntax.specs.Placed.{placed_separated, placed_arg, placed_note_basic}
 use Rattle.fz_syntax.specs.View.{bare_arg, bare_basic}
 use Rattle.fz_syntax.specs.Reading.{separated_at, any_number, at_most, note_at, note_arg_at, note_basic_at, begins_note_basic}
 use Rattle.fz_syntax.specs.Shape.{the_limits}
@@ -40,7 +39,8 @@ invariant-separated_note_args-more_args l = record {
       (separated_at (any_number (note_arg_at the_limits l.fn.depth (note_at the_limits l.fn.depth))) (lexemes l.fn.self));
   shorter : length (lexemes l.self) ≤ length (lexemes l.fn.self);
   same_end : l.self.end ≡ l.fn.self.end;
-  walked : Walk l.fn.self l.self (flat_map arg_spots l.arguments.items);
+  walked : Walk l.fn.self l.self (placed_separated placed_arg l.arguments.items);
+  some : 0 < length l.arguments.items;
 }
 
 abbrev pub decreases-separated_note_args-more_args : goal.decreases-separated_note_args-more_args
@@ -52,7 +52,8 @@ invariant-separated_note_basics-more_basics l = record {
       (separated_at (at_most the_limits.elements (begins_note_basic l.fn.depth) (note_basic_at the_limits (note_at the_limits l.fn.depth))) (lexemes l.fn.self));
   shorter : length (lexemes l.self) ≤ length (lexemes l.fn.self);
   same_end : l.self.end ≡ l.fn.self.end;
-  walked : Walk l.fn.self l.self (flat_map note_basic_spots l.basics.items);
+  walked : Walk l.fn.self l.self (placed_separated placed_note_basic l.basics.items);
+  some : 0 < length l.basics.items;
 }
 
 abbrev pub decreases-separated_note_basics-more_basics : goal.decreases-separated_note_basics-more_basics

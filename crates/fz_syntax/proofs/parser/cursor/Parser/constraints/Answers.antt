@@ -1,7 +1,7 @@
 use Rattle.std.proofs.Common.{ap, map, arith}
 use Rattle.std.specs.Prelude.{codes}
 use Rattle.std.proofs.lemmas.Result.{err_from_is_err_and}
-use Rattle.fz_syntax.specs.Spots.{constraint_spots}
+use Rattle.fz_syntax.specs.Placed.{placed_constraint}
 use Rattle.fz_syntax.proofs.Walks.{walk_zero, walk_more}
 use Rattle.fz_syntax.specs.View.{bare_constraint}
 use Rattle.fz_syntax.specs.Reading.{is_word, constraint_at}
@@ -15,7 +15,7 @@ loop-self-init c = record {
   gathers = gathers_begin (is_word (codes "constraint")) (constraint_at the_limits) _ _ (ap (map bare_constraint) c.new-items.ensures.items);
   shorter = omega arith;
   same_end = omega arith;
-  walked = walk_zero constraint_spots _ c.new-items.ensures.items;
+  walked = walk_zero placed_constraint _ c.new-items.ensures.items;
 }
 
 pub returns-in_err-item-clause-read : goal.returns-in_err-item-clause-read
@@ -28,7 +28,7 @@ loop-self-preserved c = record {
   gathers = gathers_on (is_word (codes "constraint")) (constraint_at the_limits) (constraints_shrink the_limits) _ _ _ _ _ _ (grown bare_constraint _ _ _ c.in_ok-push.ensures.items) _ c.loop-self-test.true c.next_word.ensures c.in_ok-item.ensures.read c.loop-self.invariant.gathers;
   shorter = omega arith;
   same_end = omega arith;
-  walked = walk_more constraint_spots _ _ _ c.in_ok-push.ensures.items c.loop-self.invariant.walked c.in_ok-item.ensures.walked;
+  walked = walk_more placed_constraint _ _ _ c.in_ok-push.ensures.items c.loop-self.invariant.walked c.in_ok-item.ensures.walked;
 }
 
 pub loop-self-smaller : goal.loop-self-smaller

@@ -2,7 +2,7 @@ use Rattle.std.proofs.Common.{◌≡◌, ◌≤◌, length, map}
 use Rattle.std.specs.Prelude.{codes}
 use Rattle.fz_syntax.specs.Walk.{Walk, lexemes}
 use Rattle.std.specs.List.{flat_map}
-use Rattle.fz_syntax.specs.Spots.{constraint_spots}
+use Rattle.fz_syntax.specs.Placed.{placed_constraint}
 use Rattle.fz_syntax.specs.View.{bare_constraint}
 use Rattle.fz_syntax.specs.Reading.{many_at, any_number, is_word, constraint_at}
 use Rattle.fz_syntax.specs.Shape.{the_limits}
@@ -14,7 +14,7 @@ invariant-loop-self l = record {
   gathers : Gathers (is_word (codes "constraint")) (constraint_at the_limits) (map bare_constraint l.items.items) (lexemes l.self) (many_at (is_word (codes "constraint")) (any_number (constraint_at the_limits)) 0 (lexemes l.fn.self));
   shorter : length (lexemes l.self) ≤ length (lexemes l.fn.self);
   same_end : l.self.end ≡ l.fn.self.end;
-  walked : Walk l.fn.self l.self (flat_map constraint_spots l.items.items);
+  walked : Walk l.fn.self l.self (flat_map placed_constraint l.items.items);
 }
 
 abbrev pub decreases-loop-self : goal.decreases-loop-self

@@ -1,7 +1,11 @@
-use Rattle.fz_syntax.proofs.Walks.{walk_skip, walk_then, walk_end}
+use Rattle.fz_lex.specs.declared.token.Mark.TheVariants.{Semicolon, Colon}
+use Rattle.fz_syntax.specs.Tokens.{prefix_toks}
+use Rattle.fz_syntax.specs.Reading.{prefix_at}
+use Rattle.fz_syntax.specs.Shape.{the_limits}
+use Rattle.fz_syntax.proofs.ItemLaws.{prefix_takes}
+use Rattle.fz_syntax.proofs.Walks.{mark_walk, walk_then, read_walk, var_walk}
 use Rattle.fz_syntax.proofs.parser.cursor.Parser.decl.Goals as goal
 
 pub returns-clause-walked : goal.returns-clause-walked
 returns-clause-walked c =
-    walk_skip c.in_ok-length.ensures.walked (walk_skip c.eat_word-is_var.ensures.walked (walk_then c.in_ok-base.ensures.walked (walk_skip c.in_ok-expect.ensures.walked
-    (walk_then c.in_ok-name.ensures.walked (walk_then c.in_ok-notes.ensures.walked (walk_end c.in_ok-value.ensures.walked c.in_ok-expect-2.ensures.walked))))))
+    walk_then (walk_then (walk_then (walk_then (walk_then (walk_then (walk_then (read_walk prefix_toks _ (prefix_at the_limits) (prefix_takes the_limits) _ c.in_ok-length.ensures.walked c.in_ok-length.ensures.read) (var_walk _ c.eat_word-is_var.ensures.found c.eat_word-is_var.ensures.left c.eat_word-is_var.ensures.walked c.eat_word-is_var.ensures.kept)) c.in_ok-base.ensures.walked) (mark_walk Colon c.in_ok-expect.ensures.walked c.in_ok-expect.ensures.read)) c.in_ok-name.ensures.walked) c.in_ok-notes.ensures.walked) c.in_ok-value.ensures.walked) (mark_walk Semicolon c.in_ok-expect-2.ensures.walked c.in_ok-expect-2.ensures.read)

@@ -1,6 +1,6 @@
 use Rattle.std.proofs.Common.{ap, map, arith}
 use Rattle.std.proofs.lemmas.Result.{err_from_is_err_and}
-use Rattle.fz_syntax.specs.Spots.{decl_spots}
+use Rattle.fz_syntax.specs.Placed.{placed_decl}
 use Rattle.fz_syntax.proofs.Walks.{walk_zero, walk_more}
 use Rattle.fz_syntax.specs.View.{bare_decl}
 use Rattle.fz_syntax.specs.Reading.{begins_decl, decl_at}
@@ -14,7 +14,7 @@ loop-self-init c = record {
   gathers = gathers_begin begins_decl (decl_at the_limits) _ _ (ap (map bare_decl) c.new-items.ensures.items);
   shorter = omega arith;
   same_end = omega arith;
-  walked = walk_zero decl_spots _ c.new-items.ensures.items;
+  walked = walk_zero placed_decl _ c.new-items.ensures.items;
 }
 
 pub returns-in_err-item-clause-read : goal.returns-in_err-item-clause-read
@@ -27,7 +27,7 @@ loop-self-preserved c = record {
   gathers = gathers_on begins_decl (decl_at the_limits) (decls_shrink the_limits) _ _ _ _ _ _ (grown bare_decl _ _ _ c.in_ok-push.ensures.items) _ c.loop-self-test.true c.begins_decl.ensures c.in_ok-item.ensures.read c.loop-self.invariant.gathers;
   shorter = omega arith;
   same_end = omega arith;
-  walked = walk_more decl_spots _ _ _ c.in_ok-push.ensures.items c.loop-self.invariant.walked c.in_ok-item.ensures.walked;
+  walked = walk_more placed_decl _ _ _ c.in_ok-push.ensures.items c.loop-self.invariant.walked c.in_ok-item.ensures.walked;
 }
 
 pub loop-self-smaller : goal.loop-self-smaller

@@ -1,7 +1,7 @@
 use Rattle.std.proofs.Common.{◌≡◌, ◌≤◌, length, map}
 use Rattle.fz_syntax.specs.Walk.{Walk, lexemes}
 use Rattle.std.specs.List.{flat_map}
-use Rattle.fz_syntax.specs.Spots.{decl_spots}
+use Rattle.fz_syntax.specs.Placed.{placed_decl}
 use Rattle.fz_syntax.specs.View.{bare_decl}
 use Rattle.fz_syntax.specs.Reading.{many_at, any_number, begins_decl, decl_at}
 use Rattle.fz_syntax.specs.Shape.{the_limits}
@@ -13,7 +13,7 @@ invariant-loop-self l = record {
   gathers : Gathers begins_decl (decl_at the_limits) (map bare_decl l.items.items) (lexemes l.self) (many_at begins_decl (any_number (decl_at the_limits)) 0 (lexemes l.fn.self));
   shorter : length (lexemes l.self) ≤ length (lexemes l.fn.self);
   same_end : l.self.end ≡ l.fn.self.end;
-  walked : Walk l.fn.self l.self (flat_map decl_spots l.items.items);
+  walked : Walk l.fn.self l.self (flat_map placed_decl l.items.items);
 }
 
 abbrev pub decreases-loop-self : goal.decreases-loop-self

@@ -1,7 +1,7 @@
 use Rattle.std.proofs.Common.{◌-◌, ◌∙◌, suc, [], ◌∷◌, length, length-append, ap, map, arith}
 use Rattle.std.proofs.lemmas.Result.{err_from_is_err_and}
-use Rattle.fz_syntax.specs.Spots.{literal_spots}
-use Rattle.fz_syntax.proofs.Walks.{walk_zero, walk_more}
+use Rattle.fz_syntax.specs.Placed.{placed_literal}
+use Rattle.fz_syntax.proofs.Walks.{walk_zero, walk_more, with_comma}
 use Rattle.fz_syntax.specs.View.{bare_literal}
 use Rattle.fz_syntax.specs.Shape.{the_limits}
 use Rattle.fz_syntax.proofs.Running.{grown}
@@ -13,7 +13,7 @@ loop-self-init c = record {
   counts = counts_begin the_limits _ _ _ _ (ap (map bare_literal) c.new-sets.ensures.items) (omega (arith, ap length c.new-sets.ensures.items));
   shorter = omega arith;
   same_end = omega arith;
-  walked = walk_zero literal_spots _ c.new-sets.ensures.items;
+  walked = walk_zero (with_comma placed_literal) _ c.new-sets.ensures.items;
 }
 
 pub returns-in_err-set-clause-read : goal.returns-in_err-set-clause-read
@@ -30,7 +30,7 @@ loop-self-preserved c =
       counts = counts_on the_limits _ _ _ _ _ _ _ _ (omega (arith, c.loop-self-test.true, at, longer)) (grown bare_literal _ _ _ c.in_ok-push.ensures.items) c.in_ok-set.ensures.read c.loop-self.invariant.counts;
       shorter = omega arith;
       same_end = omega arith;
-      walked = walk_more literal_spots _ _ _ c.in_ok-push.ensures.items c.loop-self.invariant.walked c.in_ok-set.ensures.walked;
+      walked = walk_more (with_comma placed_literal) _ _ _ c.in_ok-push.ensures.items c.loop-self.invariant.walked c.in_ok-set.ensures.walked;
     }
 
 pub returns-clause-read : goal.returns-clause-read

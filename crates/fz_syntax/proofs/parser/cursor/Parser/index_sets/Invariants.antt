@@ -1,7 +1,6 @@
 use Rattle.std.proofs.Common.{◌≡◌, ◌≤◌, ◌-◌, length, map}
 use Rattle.fz_syntax.specs.Walk.{Walk, lexemes}
-use Rattle.std.specs.List.{flat_map}
-use Rattle.fz_syntax.specs.Spots.{literal_spots}
+use Rattle.fz_syntax.specs.Placed.{placed_indexes}
 use Rattle.fz_syntax.specs.View.{bare_literal}
 use Rattle.fz_syntax.specs.ReadingItems.{index_sets_at}
 use Rattle.fz_syntax.specs.Shape.{the_limits}
@@ -13,7 +12,7 @@ invariant-loop-self l = record {
   counts : Counts the_limits (l.fn.count - length l.sets.items) (map bare_literal l.sets.items) (lexemes l.self) (index_sets_at the_limits l.fn.count (lexemes l.fn.self));
   shorter : length (lexemes l.self) ≤ length (lexemes l.fn.self);
   same_end : l.self.end ≡ l.fn.self.end;
-  walked : Walk l.fn.self l.self (flat_map literal_spots l.sets.items);
+  walked : Walk l.fn.self l.self (placed_indexes l.sets.items);
 }
 
 abbrev pub decreases-loop-self : goal.decreases-loop-self

@@ -1,8 +1,9 @@
-use Rattle.std.proofs.Common.{ap, map, refl, arith}
+use Rattle.fz_lex.specs.Token.{Marked}
+use Rattle.std.proofs.Common.{◌∷◌, ap, map, refl, arith}
 use Rattle.std.proofs.lemmas.Result.{err_from_is_err_and}
 use Rattle.fz_lex.specs.declared.token.Mark.TheVariants.{ColonColon}
-use Rattle.fz_syntax.specs.Spots.{note_spots}
-use Rattle.fz_syntax.proofs.Walks.{walk_zero, walk_more, walk_end}
+use Rattle.fz_syntax.specs.Placed.{unplaced, placed_note}
+use Rattle.fz_syntax.proofs.Walks.{walk_zero, walk_more, walk_then, walk_kept, ate}
 use Rattle.fz_syntax.specs.View.{bare_note}
 use Rattle.fz_syntax.specs.Reading.{any_number, note_at}
 use Rattle.fz_syntax.specs.Shape.{the_limits}
@@ -15,7 +16,7 @@ loop-self-init c = record {
   continues = notes_begin the_limits _ _ (ap (map bare_note) c.new-notes.ensures.items);
   shorter = omega arith;
   same_end = omega arith;
-  walked = walk_zero note_spots _ c.new-notes.ensures.items;
+  walked = walk_zero (λ n. unplaced (Marked ColonColon) ∷ placed_note n) _ c.new-notes.ensures.items;
 }
 
 pub returns-in_err-note-clause-read : goal.returns-in_err-note-clause-read
@@ -28,11 +29,11 @@ loop-self-preserved c = record {
   continues = keeps_on ColonColon (any_number (note_at the_limits 32)) (notes_shrink the_limits 32) _ _ _ _ _ _ _ _ refl (grown bare_note _ _ _ c.in_ok-push.ensures.items) _ c.loop-self-test.true c.eat.ensures.found c.eat.ensures.left c.in_ok-note.ensures.read c.loop-self.invariant.continues;
   shorter = omega arith;
   same_end = omega arith;
-  walked = walk_more note_spots _ _ _ c.in_ok-push.ensures.items (walk_end c.loop-self.invariant.walked c.eat.ensures.walked) c.in_ok-note.ensures.walked;
+  walked = walk_more (λ n. unplaced (Marked ColonColon) ∷ placed_note n) _ _ _ c.in_ok-push.ensures.items c.loop-self.invariant.walked (walk_then (ate ColonColon _ c.loop-self-test.true c.eat.ensures.found c.eat.ensures.left c.eat.ensures.walked) c.in_ok-note.ensures.walked);
 }
 
 pub returns-clause-read : goal.returns-clause-read
 returns-clause-read c = rw c.trimmed.ensures (is_whole_list ColonColon (any_number (note_at the_limits 32)) _ _ _ _ _ c.loop-self-test.false c.eat.ensures.found c.eat.ensures.left c.loop-self.invariant.continues)
 
 pub returns-clause-walked : goal.returns-clause-walked
-returns-clause-walked c = rw c.trimmed.ensures (walk_end c.loop-self.invariant.walked c.eat.ensures.walked)
+returns-clause-walked c = rw c.trimmed.ensures (walk_kept _ c.loop-self-test.false c.eat.ensures.kept c.loop-self.invariant.walked)

@@ -1,8 +1,7 @@
 use Rattle.std.proofs.Common.{◌≡◌, ◌≤◌, length}
 use Rattle.fz_lex.specs.declared.token.Mark.TheVariants.{ColonColon}
 use Rattle.fz_syntax.specs.Walk.{Walk, lexemes}
-use Rattle.std.specs.List.{flat_map}
-use Rattle.fz_syntax.specs.Spots.{note_spots}
+use Rattle.fz_syntax.specs.Placed.{placed_notes}
 use Rattle.fz_syntax.specs.View.{bare_notes}
 use Rattle.fz_syntax.specs.Reading.{any_number, note_at, notes_at}
 use Rattle.fz_syntax.specs.Shape.{the_limits}
@@ -14,7 +13,7 @@ invariant-loop-self l = record {
   continues : Continues ColonColon (any_number (note_at the_limits 32)) (bare_notes l.notes.items) (lexemes l.self) (notes_at the_limits (lexemes l.fn.self));
   shorter : length (lexemes l.self) ≤ length (lexemes l.fn.self);
   same_end : l.self.end ≡ l.fn.self.end;
-  walked : Walk l.fn.self l.self (flat_map note_spots l.notes.items);
+  walked : Walk l.fn.self l.self (placed_notes l.notes.items);
 }
 
 abbrev pub decreases-loop-self : goal.decreases-loop-self

@@ -2,10 +2,10 @@ use Rattle.std.proofs.Common.{◌≡◌, ◌<◌, ◌++◌, ◌∷◌, [], ◌�
 use Rattle.std.proofs.lemmas.Int.{to_z-of_z}
 use Rattle.std.proofs.lemmas.Result.{err_from_is_err_and}
 use Rattle.fz_lex.specs.declared.token.Mark.TheVariants.{Comma}
-use Rattle.fz_syntax.specs.Walk.{Walk, lexemes}
+use Rattle.fz_syntax.specs.Walk.{Passed, lexemes}
 use Rattle.fz_syntax.specs.Reading.{at_most, whole_at, is_whole}
 use Rattle.fz_syntax.specs.Shape.{the_limits}
-use Rattle.fz_syntax.proofs.Walks.{walk_end, walk_none}
+use Rattle.fz_syntax.proofs.Walks.{passed_then, passed_none}
 use Rattle.fz_syntax.proofs.Shorter.{at_most_shortens, whole_shortens}
 use Rattle.fz_syntax.proofs.Running.{wants_next, wants_part, wants_fails, wants_more, awaits_first, is_whole_list}
 use Rattle.fz_syntax.proofs.Listed.{listed_whole}
@@ -21,7 +21,7 @@ listed-preserved c =
       wants = wants_more (at_most the_limits.elements is_whole whole_at) (at_most_shortens _ _ whole_at whole_shortens) _ _ _ _ _ _ _ refl grew refl (listed_whole the_limits _ _ _ _ few c.in-Some.ensures.read) c.listed.invariant.wants;
       shorter = omega (arith, c.in-Some.ensures.shorter);
       same_end = omega arith;
-      walked = walk_end c.listed.invariant.walked c.in-Some.ensures.walked;
+      walked = passed_then c.listed.invariant.walked c.in-Some.ensures.walked;
     }
 
 pub returns-in_err-number-clause-read : goal.returns-in_err-number-clause-read
@@ -43,7 +43,7 @@ pub numbers-preserved : goal.numbers-preserved
 numbers-preserved c =
     let left : lexemes c.listed-test.self ≡ lexemes c.listed.self = elim c.listed-test.branch [ else-listed-test w ↦ ap lexemes w.self-is | then-listed-test+in_default w ↦ ap lexemes w.self-is ∙ w.in_default.ensures.kept ] in
     let end : c.listed-test.self.end ≡ c.listed.self.end = elim c.listed-test.branch [ else-listed-test w ↦ ap (λ p. p.end) w.self-is | then-listed-test+in_default w ↦ ap (λ p. p.end) w.self-is ∙ w.eat_listed_whole.ensures.end ] in
-    let stays : Walk c.listed.self c.listed-test.self [] = elim c.listed-test.branch [ else-listed-test w ↦ subst (λ p. Walk c.listed.self p []) (sym w.self-is) walk_none | then-listed-test+in_default w ↦ subst (λ p. Walk c.listed.self p []) (sym w.self-is) w.in_default.ensures.walked ] in
+    let stays : Passed c.listed.self c.listed-test.self = elim c.listed-test.branch [ else-listed-test w ↦ subst (λ p. Passed c.listed.self p) (sym w.self-is) passed_none | then-listed-test+in_default w ↦ subst (λ p. Passed c.listed.self p) (sym w.self-is) w.in_default.ensures.walked ] in
     let wants = rw (← left) at c.listed.invariant.wants in
     let same_length = ap length left in
     let grew : c.push-in-numbers.new.self.items ≡ c.listed.numbers.items ++ c.in_ok-number.number ∷ [] = grind (arith, to_z-of_z, c.in_ok-push-2.ensures.items) in
@@ -52,5 +52,10 @@ numbers-preserved c =
       wants = wants_next (awaits_first Comma (at_most the_limits.elements is_whole whole_at) _ _ _ _ _ c.if-not-eat.false c.eat.ensures.found c.eat.ensures.left part);
       shorter = omega (arith, c.in_ok-number.ensures.shorter, c.eat.ensures.shorter);
       same_end = c.eat.ensures.end ∙ c.in_ok-number.ensures.end ∙ end ∙ c.listed.invariant.same_end;
-      walked = walk_end (walk_end (walk_end c.listed.invariant.walked stays) c.in_ok-number.ensures.walked) c.eat.ensures.walked;
+      walked = passed_then (passed_then (passed_then c.listed.invariant.walked stays) c.in_ok-number.ensures.walked) c.eat.ensures.walked;
     }
+
+pub returns-then-not-eat-clause-walked : goal.returns-then-not-eat-clause-walked
+returns-then-not-eat-clause-walked c =
+    let stays : Passed c.listed.self c.listed-test.self = elim c.listed-test.branch [ else-listed-test w ↦ subst (λ p. Passed c.listed.self p) (sym w.self-is) passed_none | then-listed-test+in_default w ↦ subst (λ p. Passed c.listed.self p) (sym w.self-is) w.in_default.ensures.walked ] in
+    passed_then (passed_then (passed_then c.listed.invariant.walked stays) c.in_ok-number.ensures.walked) c.eat.ensures.walked

@@ -1,5 +1,5 @@
-use Rattle.std.proofs.Common.{[], ◌≡◌, ◌≤◌, length}
-use Rattle.fz_syntax.specs.Walk.{Walk, lexemes}
+use Rattle.std.proofs.Common.{◌≡◌, ◌≤◌, length}
+use Rattle.fz_syntax.specs.Walk.{Passed, lexemes}
 use Rattle.fz_syntax.specs.Reading.{at_most, separated_at, whole_at, is_whole}
 use Rattle.fz_syntax.specs.Shape.{the_limits}
 use Rattle.fz_syntax.proofs.Running.{Wants}
@@ -10,7 +10,7 @@ invariant-numbers l = record {
   wants : Wants (at_most the_limits.elements is_whole whole_at) l.numbers.items (lexemes l.self) (separated_at (at_most the_limits.elements is_whole whole_at) (lexemes l.fn.self));
   shorter : length (lexemes l.self) ≤ length (lexemes l.fn.self);
   same_end : l.self.end ≡ l.fn.self.end;
-  walked : Walk l.fn.self l.self [];
+  walked : Passed l.fn.self l.self;
 }
 
 abbrev pub decreases-numbers : goal.decreases-numbers
@@ -21,7 +21,7 @@ invariant-listed l = record {
   wants : Wants (at_most the_limits.elements is_whole whole_at) l.numbers.items (lexemes l.self) (separated_at (at_most the_limits.elements is_whole whole_at) (lexemes l.fn.self));
   shorter : length (lexemes l.self) ≤ length (lexemes l.initial.self);
   same_end : l.self.end ≡ l.fn.self.end;
-  walked : Walk l.fn.self l.self [];
+  walked : Passed l.fn.self l.self;
 }
 
 abbrev pub decreases-listed : goal.decreases-listed

@@ -1,5 +1,12 @@
-use Rattle.fz_syntax.proofs.Walks.{walk_skip, walk_end}
+use Rattle.fz_lex.specs.declared.token.Mark.TheVariants.{CloseParen}
+use Rattle.fz_syntax.specs.Placed.{placed_param}
+use Rattle.fz_syntax.proofs.Walks.{ate, mark_walk, walk_then, walk_from, walk_empty}
 use Rattle.fz_syntax.proofs.parser.cursor.Parser.params.Goals as goal
 
+pub returns-then-eat-clause-walked : goal.returns-then-eat-clause-walked
+returns-then-eat-clause-walked c =
+    walk_empty placed_param CloseParen _ c.new.ensures.items (ate CloseParen _ c.if-eat.true c.eat.ensures.found c.eat.ensures.left c.eat.ensures.walked)
+
 pub returns-clause-walked : goal.returns-clause-walked
-returns-clause-walked c = walk_skip c.eat.ensures.walked (walk_end c.in_ok-params.ensures.walked c.in_ok-expect.ensures.walked)
+returns-clause-walked c =
+    walk_from c.if-eat.ensures.kept (walk_then c.in_ok-params.ensures.walked (mark_walk CloseParen c.in_ok-expect.ensures.walked c.in_ok-expect.ensures.read))

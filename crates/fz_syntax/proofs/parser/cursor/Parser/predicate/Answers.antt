@@ -1,6 +1,8 @@
-use Rattle.fz_syntax.proofs.Walks.{walk_skip, walk_then, walk_end}
+use Rattle.std.specs.Prelude.{codes}
+use Rattle.fz_lex.specs.declared.token.Mark.TheVariants.{OpenParen, Semicolon}
+use Rattle.fz_syntax.proofs.Walks.{mark_walk, word_walk, walk_then}
 use Rattle.fz_syntax.proofs.parser.cursor.Parser.predicate.Goals as goal
 
 pub returns-clause-walked : goal.returns-clause-walked
 returns-clause-walked c =
-    walk_skip c.in_ok-expect_word.ensures.walked (walk_then c.in_ok-name.ensures.walked (walk_skip c.in_ok-expect.ensures.walked (walk_end c.in_ok-params.ensures.walked c.in_ok-expect-2.ensures.walked)))
+    walk_then (walk_then (walk_then (word_walk (codes "predicate") c.in_ok-expect_word.ensures.walked c.in_ok-expect_word.ensures.read) c.in_ok-name.ensures.walked) (walk_then (mark_walk OpenParen c.in_ok-expect.ensures.walked c.in_ok-expect.ensures.read) c.in_ok-params.ensures.walked)) (mark_walk Semicolon c.in_ok-expect-2.ensures.walked c.in_ok-expect-2.ensures.read)

@@ -1,6 +1,6 @@
 use Rattle.std.proofs.Common.{ap, map, arith}
 use Rattle.std.proofs.lemmas.Result.{err_from_is_err_and}
-use Rattle.fz_syntax.specs.Spots.{printed_spots}
+use Rattle.fz_syntax.specs.Placed.{placed_printed}
 use Rattle.fz_syntax.proofs.Walks.{walk_zero, walk_more}
 use Rattle.fz_syntax.specs.View.{bare_printed}
 use Rattle.fz_syntax.specs.Reading.{is_name}
@@ -15,7 +15,7 @@ loop-self-init c = record {
   gathers = gathers_begin is_name (printed_at the_limits) _ _ (ap (map bare_printed) c.new-items.ensures.items);
   shorter = omega arith;
   same_end = omega arith;
-  walked = walk_zero printed_spots _ c.new-items.ensures.items;
+  walked = walk_zero placed_printed _ c.new-items.ensures.items;
 }
 
 pub returns-in_err-item-clause-read : goal.returns-in_err-item-clause-read
@@ -28,7 +28,7 @@ loop-self-preserved c = record {
   gathers = gathers_on is_name (printed_at the_limits) (printed_shrink the_limits) _ _ _ _ _ _ (grown bare_printed _ _ _ c.in_ok-push.ensures.items) _ c.loop-self-test.true c.begins_name.ensures c.in_ok-item.ensures.read c.loop-self.invariant.gathers;
   shorter = omega arith;
   same_end = omega arith;
-  walked = walk_more printed_spots _ _ _ c.in_ok-push.ensures.items c.loop-self.invariant.walked c.in_ok-item.ensures.walked;
+  walked = walk_more placed_printed _ _ _ c.in_ok-push.ensures.items c.loop-self.invariant.walked c.in_ok-item.ensures.walked;
 }
 
 pub loop-self-smaller : goal.loop-self-smaller

@@ -1,7 +1,7 @@
 use Rattle.std.proofs.Common.{◌≡◌, ◌≤◌, length, map}
 use Rattle.fz_syntax.specs.Walk.{Walk, lexemes}
 use Rattle.std.specs.List.{flat_map}
-use Rattle.fz_syntax.specs.Spots.{printed_spots}
+use Rattle.fz_syntax.specs.Placed.{placed_printed}
 use Rattle.fz_syntax.specs.View.{bare_printed}
 use Rattle.fz_syntax.specs.Reading.{many_at, any_number, is_name}
 use Rattle.fz_syntax.specs.ReadingItems.{printed_at}
@@ -14,7 +14,7 @@ invariant-loop-self l = record {
   gathers : Gathers is_name (printed_at the_limits) (map bare_printed l.items.items) (lexemes l.self) (many_at is_name (any_number (printed_at the_limits)) 0 (lexemes l.fn.self));
   shorter : length (lexemes l.self) ≤ length (lexemes l.fn.self);
   same_end : l.self.end ≡ l.fn.self.end;
-  walked : Walk l.fn.self l.self (flat_map printed_spots l.items.items);
+  walked : Walk l.fn.self l.self (flat_map placed_printed l.items.items);
 }
 
 abbrev pub decreases-loop-self : goal.decreases-loop-self

@@ -1,8 +1,7 @@
-use Rattle.std.proofs.Common.{◌≡◌, ◌≤◌, length, map}
+use Rattle.std.proofs.Common.{◌≡◌, ◌≤◌, ◌<◌, length, map}
 use Rattle.fz_lex.specs.declared.token.Mark.TheVariants.{Comma}
 use Rattle.fz_syntax.specs.Walk.{Walk, lexemes}
-use Rattle.std.specs.List.{flat_map}
-use Rattle.fz_syntax.specs.Spots.{expr_spots}
+use Rattle.fz_syntax.specs.Placed.{placed_separated, placed_expr}
 use Rattle.fz_syntax.specs.View.{bare_expr}
 use Rattle.fz_syntax.specs.Reading.{separated_at, any_number, expr_at}
 use Rattle.fz_syntax.specs.Shape.{the_limits}
@@ -14,7 +13,8 @@ invariant-loop-self l = record {
   continues : Continues Comma (any_number (expr_at the_limits)) (map bare_expr l.spare.items) (lexemes l.self) (separated_at (any_number (expr_at the_limits)) (lexemes l.fn.self));
   shorter : length (lexemes l.self) ≤ length (lexemes l.fn.self);
   same_end : l.self.end ≡ l.fn.self.end;
-  walked : Walk l.fn.self l.self (flat_map expr_spots l.spare.items);
+  walked : Walk l.fn.self l.self (placed_separated placed_expr l.spare.items);
+  some : 0 < length l.spare.items;
 }
 
 abbrev pub decreases-loop-self : goal.decreases-loop-self

@@ -1,8 +1,8 @@
 use Rattle.std.proofs.Common.{◌≡◌, ◌<◌, [], ◌∙◌, length, refl, sym, ap, subst, map, arith}
 use Rattle.std.proofs.lemmas.Result.{err_from_is_err_and}
 use Rattle.fz_lex.specs.declared.token.Mark.TheVariants.{Comma}
-use Rattle.fz_syntax.specs.Spots.{literal_spots}
-use Rattle.fz_syntax.proofs.Walks.{walk_none, walk_zero, walk_more, walk_end}
+use Rattle.fz_syntax.specs.Placed.{placed_literal}
+use Rattle.fz_syntax.proofs.Walks.{walk_zero, walk_more, walk_then, walk_kept, walk_none, walk_end, separated_end, with_comma, ate}
 use Rattle.fz_syntax.specs.Walk.{Walk, lexemes}
 use Rattle.fz_syntax.specs.View.{bare_literal}
 use Rattle.fz_syntax.specs.Reading.{at_most, begins_literal, literal_at}
@@ -18,7 +18,7 @@ elements-init c = record {
   wants = wants_first (ap (map bare_literal) c.new-elements.ensures.items) refl;
   shorter = omega arith;
   same_end = refl;
-  walked = walk_zero literal_spots _ c.new-elements.ensures.items;
+  walked = walk_zero (with_comma placed_literal) _ c.new-elements.ensures.items;
 }
 
 pub listed-preserved : goal.listed-preserved
@@ -29,7 +29,7 @@ listed-preserved c =
       wants = wants_more (at_most the_limits.elements begins_literal (literal_at the_limits)) (elements_shrink the_limits) _ _ _ _ _ _ _ refl (grown bare_literal _ _ _ c.in_ok-push.ensures.items) refl (listed_element the_limits _ _ _ _ few c.in-Some.ensures.read) c.listed.invariant.wants;
       shorter = omega (arith, c.in-Some.ensures.shorter);
       same_end = omega arith;
-      walked = walk_more literal_spots _ _ _ c.in_ok-push.ensures.items c.listed.invariant.walked c.in-Some.ensures.walked;
+      walked = walk_more (with_comma placed_literal) _ _ _ c.in_ok-push.ensures.items c.listed.invariant.walked c.in-Some.ensures.walked;
     }
 
 pub returns-in_err-element-clause-read : goal.returns-in_err-element-clause-read
@@ -49,7 +49,7 @@ returns-then-not-eat-clause-read c =
 pub returns-then-not-eat-clause-walked : goal.returns-then-not-eat-clause-walked
 returns-then-not-eat-clause-walked c =
     let stays : Walk c.listed.self c.listed-test.self [] = elim c.listed-test.branch [ else-listed-test w ↦ subst (λ p. Walk c.listed.self p []) (sym w.self-is) walk_none | then-listed-test+in_default w ↦ subst (λ p. Walk c.listed.self p []) (sym w.self-is) w.in_default.ensures.stays ] in
-    rw c.trimmed.ensures (walk_end (walk_more literal_spots _ _ _ c.in_ok-push-2.ensures.items (walk_end c.listed.invariant.walked stays) c.in_ok-element.ensures.walked) c.eat.ensures.walked)
+    rw c.trimmed.ensures (walk_kept _ c.if-not-eat.true c.eat.ensures.kept (separated_end placed_literal _ _ _ c.in_ok-push-2.ensures.items (walk_end c.listed.invariant.walked stays) c.in_ok-element.ensures.walked))
 
 pub elements-preserved : goal.elements-preserved
 elements-preserved c =
@@ -63,5 +63,5 @@ elements-preserved c =
       wants = wants_next (awaits_first Comma (at_most the_limits.elements begins_literal (literal_at the_limits)) _ _ _ _ _ c.if-not-eat.false c.eat.ensures.found c.eat.ensures.left part);
       shorter = omega (arith, c.in_ok-element.ensures.shorter, c.eat.ensures.shorter);
       same_end = c.eat.ensures.end ∙ c.in_ok-element.ensures.end ∙ end ∙ c.listed.invariant.same_end;
-      walked = walk_end (walk_more literal_spots _ _ _ c.in_ok-push-2.ensures.items (walk_end c.listed.invariant.walked stays) c.in_ok-element.ensures.walked) c.eat.ensures.walked;
+      walked = walk_more (with_comma placed_literal) _ _ _ c.in_ok-push-2.ensures.items (walk_end c.listed.invariant.walked stays) (walk_then c.in_ok-element.ensures.walked (ate Comma _ c.if-not-eat.false c.eat.ensures.found c.eat.ensures.left c.eat.ensures.walked));
     }

@@ -1,11 +1,12 @@
 use Rattle.std.proofs.Common.{◌≡◌, ◌≤◌, length, map}
 use Rattle.fz_syntax.specs.Walk.{Walk, lexemes}
 use Rattle.std.specs.List.{flat_map}
-use Rattle.fz_syntax.specs.Spots.{literal_spots}
+use Rattle.fz_syntax.specs.Placed.{placed_literal}
 use Rattle.fz_syntax.specs.View.{bare_literal}
 use Rattle.fz_syntax.specs.Reading.{separated_at, at_most, begins_literal, literal_at}
 use Rattle.fz_syntax.specs.Shape.{the_limits}
 use Rattle.fz_syntax.proofs.Running.{Wants}
+use Rattle.fz_syntax.proofs.Walks.{with_comma}
 use Rattle.fz_syntax.proofs.parser.cursor.Parser.separated_elements.Given as goal
 
 abbrev pub invariant-elements : goal.invariant-elements
@@ -13,7 +14,7 @@ invariant-elements l = record {
   wants : Wants (at_most the_limits.elements begins_literal (literal_at the_limits)) (map bare_literal l.elements.items) (lexemes l.self) (separated_at (at_most the_limits.elements begins_literal (literal_at the_limits)) (lexemes l.fn.self));
   shorter : length (lexemes l.self) ≤ length (lexemes l.fn.self);
   same_end : l.self.end ≡ l.fn.self.end;
-  walked : Walk l.fn.self l.self (flat_map literal_spots l.elements.items);
+  walked : Walk l.fn.self l.self (flat_map (with_comma placed_literal) l.elements.items);
 }
 
 abbrev pub decreases-elements : goal.decreases-elements
@@ -24,7 +25,7 @@ invariant-listed l = record {
   wants : Wants (at_most the_limits.elements begins_literal (literal_at the_limits)) (map bare_literal l.elements.items) (lexemes l.self) (separated_at (at_most the_limits.elements begins_literal (literal_at the_limits)) (lexemes l.fn.self));
   shorter : length (lexemes l.self) ≤ length (lexemes l.initial.self);
   same_end : l.self.end ≡ l.fn.self.end;
-  walked : Walk l.fn.self l.self (flat_map literal_spots l.elements.items);
+  walked : Walk l.fn.self l.self (flat_map (with_comma placed_literal) l.elements.items);
 }
 
 abbrev pub decreases-listed : goal.decreases-listed

@@ -1,8 +1,8 @@
 use Rattle.std.proofs.Common.{◌∙◌, ap, map, arith}
 use Rattle.std.proofs.lemmas.Result.{err_from_is_err_and}
 use Rattle.fz_lex.specs.declared.token.Mark.TheVariants.{Comma}
-use Rattle.fz_syntax.specs.Spots.{basic_spots}
-use Rattle.fz_syntax.proofs.Walks.{walk_first, walk_more, walk_end}
+use Rattle.fz_syntax.specs.Placed.{placed_basic}
+use Rattle.fz_syntax.proofs.Walks.{separated_first, separated_more, some_pushed, walk_kept, ate}
 use Rattle.fz_syntax.specs.View.{bare_expression}
 use Rattle.fz_syntax.specs.Reading.{at_most, begins_literal, literal_basic_at}
 use Rattle.fz_syntax.specs.Shape.{the_limits}
@@ -21,7 +21,8 @@ loop-self-init c = record {
   continues = separated_init (at_most the_limits.elements begins_literal (literal_basic_at the_limits)) _ _ _ _ _ (ap (map bare_expression) c.new-literals.ensures.items) (grown bare_expression _ _ _ c.in_ok-push.ensures.items) c.in_ok-listed_literal.ensures.read;
   shorter = omega arith;
   same_end = omega arith;
-  walked = walk_first basic_spots _ _ _ c.new-literals.ensures.items c.in_ok-push.ensures.items c.in_ok-listed_literal.ensures.walked;
+  walked = separated_first placed_basic _ _ _ c.new-literals.ensures.items c.in_ok-push.ensures.items c.in_ok-listed_literal.ensures.walked;
+  some = some_pushed _ _ _ c.in_ok-push.ensures.items;
 }
 
 pub returns-in_err-literal-clause-read : goal.returns-in_err-literal-clause-read
@@ -34,11 +35,12 @@ loop-self-preserved c = record {
   continues = keeps_on Comma (at_most the_limits.elements begins_literal (literal_basic_at the_limits)) (literals_shrink the_limits) _ _ _ _ _ _ _ _ (c.len.ensures ∙ c.loop-self.literals.ok.0 ∙ length_seen bare_expression c.loop-self.literals.items) (grown bare_expression _ _ _ c.in_ok-push-2.ensures.items) _ c.loop-self-test.true c.eat.ensures.found c.eat.ensures.left c.in_ok-literal.ensures.read c.loop-self.invariant.continues;
   shorter = omega arith;
   same_end = omega arith;
-  walked = walk_more basic_spots _ _ _ c.in_ok-push-2.ensures.items (walk_end c.loop-self.invariant.walked c.eat.ensures.walked) c.in_ok-literal.ensures.walked;
+  walked = separated_more placed_basic _ _ _ c.loop-self.invariant.some c.in_ok-push-2.ensures.items c.loop-self.invariant.walked (ate Comma _ c.loop-self-test.true c.eat.ensures.found c.eat.ensures.left c.eat.ensures.walked) c.in_ok-literal.ensures.walked;
+  some = some_pushed _ _ _ c.in_ok-push-2.ensures.items;
 }
 
 pub returns-clause-read : goal.returns-clause-read
 returns-clause-read c = rw c.trimmed.ensures (is_whole_list Comma (at_most the_limits.elements begins_literal (literal_basic_at the_limits)) _ _ _ _ _ c.loop-self-test.false c.eat.ensures.found c.eat.ensures.left c.loop-self.invariant.continues)
 
 pub returns-clause-walked : goal.returns-clause-walked
-returns-clause-walked c = rw c.trimmed.ensures (walk_end c.loop-self.invariant.walked c.eat.ensures.walked)
+returns-clause-walked c = rw c.trimmed.ensures (walk_kept _ c.loop-self-test.false c.eat.ensures.kept c.loop-self.invariant.walked)

@@ -1,8 +1,7 @@
-use Rattle.std.proofs.Common.{◌≡◌, ◌≤◌, length, map}
+use Rattle.std.proofs.Common.{◌≡◌, ◌≤◌, ◌<◌, length, map}
 use Rattle.fz_lex.specs.declared.token.Mark.TheVariants.{Comma}
 use Rattle.fz_syntax.specs.Walk.{Walk, lexemes}
-use Rattle.std.specs.List.{flat_map}
-use Rattle.fz_syntax.specs.Spots.{basic_spots}
+use Rattle.fz_syntax.specs.Placed.{placed_separated, placed_basic}
 use Rattle.fz_syntax.specs.View.{bare_expression}
 use Rattle.fz_syntax.specs.Reading.{separated_at, at_most, begins_literal, literal_basic_at}
 use Rattle.fz_syntax.specs.Shape.{the_limits}
@@ -14,7 +13,8 @@ invariant-loop-self l = record {
   continues : Continues Comma (at_most the_limits.elements begins_literal (literal_basic_at the_limits)) (map bare_expression l.literals.items) (lexemes l.self) (separated_at (at_most the_limits.elements begins_literal (literal_basic_at the_limits)) (lexemes l.fn.self));
   shorter : length (lexemes l.self) ≤ length (lexemes l.fn.self);
   same_end : l.self.end ≡ l.fn.self.end;
-  walked : Walk l.fn.self l.self (flat_map basic_spots l.literals.items);
+  walked : Walk l.fn.self l.self (placed_separated placed_basic l.literals.items);
+  some : 0 < length l.literals.items;
 }
 
 abbrev pub decreases-loop-self : goal.decreases-loop-self

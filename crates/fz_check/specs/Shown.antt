@@ -1,0 +1,16 @@
+-- What is shown of a model (this project's profile).
+use Rattle.std.specs.Prelude.{◌≡◌, ℕ, List}
+use Rattle.fz_syntax.specs.Limits.{LexesWithNumbersInLimit}
+use Rattle.fz_syntax.specs.Print.{tree_text}
+use Rattle.fz_syntax.specs.Text.{IsTextOfTree}
+use Rattle.fz_syntax.specs.Tokens.{toks}
+use Rattle.fz_model.specs.Located.{LocatedTree, bare_of}
+use Rattle.fz_model.specs.Names.{HasNoFault}
+
+-- The model's bytes are a text of a tree without faults, and what is shown is that tree's canonical text, which lexes to its tokens.
+pub record IsShown (model shown : List ℕ) : Type 0 where
+  pub tree : LocatedTree
+  pub text_of_model : IsTextOfTree model (bare_of tree)
+  pub no_fault : HasNoFault tree
+  pub layout : shown ≡ tree_text (bare_of tree)
+  pub reads_back : LexesWithNumbersInLimit shown (toks (bare_of tree))
