@@ -1,13 +1,13 @@
-//! What is written while a stream is read, and where a read or a write fails.
+//! What is written while a stream is read, and where a read fails.
 
 use crate::table::{Call, look_at};
 use fz_base::Span;
-use fz_check::{Answer, CheckError, check, check_stream, check_stream_up_to, refusal_text, status};
+use fz_check::{Answer, CheckError, check, check_stream, check_stream_up_to, refusal_text};
 use fz_stream::StreamError;
-use std::alloc::{AllocError, Global};
+use std::alloc::Global;
 use std::io::{self, ErrorKind, Read, Write};
 
-/// A model, the reader of a stream, and how far its report may be written.
+/// A model and the reader of a stream.
 #[derive(Clone, Copy)]
 pub(crate) struct Run<'a> {
     pub(crate) model: &'a [u8],
@@ -19,9 +19,6 @@ pub(crate) struct Run<'a> {
     pub(crate) ends: bool,
     /// the most reads, where there is a bound
     pub(crate) reads: Option<u64>,
-    /// how many bytes are written before a write fails, or else takes nothing
-    pub(crate) room: usize,
-    pub(crate) fails: bool,
 }
 
 impl Read for Run<'_> {
@@ -37,22 +34,16 @@ impl Read for Run<'_> {
     }
 }
 
-/// Takes so many bytes in all, at most three at a write.
+/// Takes at most three bytes at a write.
 #[derive(Drop)]
 struct Narrow {
     taken: Vec<u8>,
-    room: usize,
-    fails: bool,
 }
 
 impl Write for Narrow {
     fn write(&mut self, buf: &[u8]) -> io::Result<usize> {
-        if self.room == 0 && self.fails {
-            return Err(io::Error::from(ErrorKind::StorageFull));
-        }
-        let count = buf.len().min(self.room).min(3);
+        let count = buf.len().min(3);
         self.taken.extend_from_slice(&buf[..count])?;
-        self.room -= count;
         Ok(count)
     }
 
@@ -61,15 +52,13 @@ impl Write for Narrow {
     }
 }
 
-impl Run<'_> {
-    fn writer(&self, alloc: Global) -> Narrow {
-        Narrow {
-            taken: Vec::new(alloc),
-            room: self.room,
-            fails: self.fails,
-        }
+fn narrow(alloc: Global) -> Narrow {
+    Narrow {
+        taken: Vec::new(alloc),
     }
+}
 
+impl Run<'_> {
     fn answer(mut self, alloc: Global, writer: &mut Narrow) -> Result<Answer, CheckError> {
         let model = self.model;
         match self.reads {
@@ -80,7 +69,7 @@ impl Run<'_> {
 
     /// What is written, and then the line of the refusal.
     pub(crate) fn told(self, alloc: Global) -> Result<Vec<u8>, CheckError> {
-        let mut writer = self.writer(alloc);
+        let mut writer = narrow(alloc);
         let answer = self.answer(alloc, &mut writer);
         if let Err(error) = answer {
             let line = refusal_text(alloc, &error)?;
@@ -106,21 +95,8 @@ pub(crate) fn bytewise<'a>(model: &'a [u8], stream: &'a [u8], ends: bool) -> Run
         later: 1,
         ends,
         reads: None,
-        room: 1000,
-        fails: true,
     }
 }
-
-const FIRST: &[u8] = b"var 1..5: x :: output_var;\nconstraint int_le(2,x);\nsolve satisfy;\n";
-
-const MIXED: &[u8] = b"x = 3;\n----------\n==========\nx = 1;\n----------\n% end\n----------";
-
-const MIXED_REPORT: &[u8] = b"block 1: satisfied
-claim: ========== not judged
-block 2: violated: constraint 1 int_le
-block 3: undecided: no value for x
-rejected: block 2
-";
 
 const IMPROVING: &[u8] = b"var 0..9: c :: output_var;\nsolve minimize c;\n";
 
@@ -138,10 +114,6 @@ claim: ========== not judged
 refused: read
 ";
 
-fn mixed() -> Run<'static> {
-    bytewise(FIRST, MIXED, true)
-}
-
 fn better() -> Run<'static> {
     bytewise(IMPROVING, BETTER, true)
 }
@@ -149,17 +121,6 @@ fn better() -> Run<'static> {
 fn up_to<'a>(reads: u64, mut run: Run<'a>) -> Run<'a> {
     run.reads = Some(reads);
     run
-}
-
-/// Wherever the stream is cut in two, three reads give the report on all of it.
-#[test]
-fn streams_in_two_pieces(rt: HostRuntime) {
-    for first in 1..=MIXED.len() {
-        let mut run = up_to(3, mixed());
-        run.first = first;
-        run.later = MIXED.len();
-        assert!(rt; run.tells(rt.alloc(), MIXED_REPORT), "at {first}");
-    }
 }
 
 #[test]
@@ -205,35 +166,6 @@ fn streams_that_stop(rt: HostRuntime) {
     look_at(&rt, rt.alloc(), Call::CheckStream, STOPPING);
 }
 
-/// Whether a front of the report is written, as far as there is room.
-fn is_front(alloc: Global, run: Run<'_>, report: &[u8]) -> Result<bool, AllocError> {
-    let room = run.room.min(report.len());
-    let mut wanted = Vec::from_slice(alloc, &report[..room])?;
-    wanted.extend_from_slice(b"refused: write\n")?;
-    Ok(run.tells(alloc, &wanted))
-}
-
-/// Whether a front is written wherever the writer stops.
-fn are_fronts(alloc: Global, mut run: Run<'_>, report: &[u8]) -> Result<bool, AllocError> {
-    for room in 0..report.len() {
-        run.room = room;
-        if !is_front(alloc, run, report)? {
-            return Ok(false);
-        }
-    }
-    Ok(true)
-}
-
-#[test]
-fn writers_that_stop(rt: HostRuntime) {
-    let mut full = better();
-    full.fails = false;
-    let where_it_fails = are_fronts(rt.alloc(), mixed(), MIXED_REPORT);
-    let where_it_takes_nothing = are_fronts(rt.alloc(), full, BETTER_REPORT);
-    assert!(rt; matches!(where_it_fails, Ok(true)));
-    assert!(rt; matches!(where_it_takes_nothing, Ok(true)));
-}
-
 fn answer(alloc: Global, model: &[u8], stream: &[u8]) -> Result<Answer, CheckError> {
     let report = check(alloc, model, stream)?;
     Ok(report.answer)
@@ -258,7 +190,7 @@ fn answer_to_front(count: usize) -> Result<Answer, CheckError> {
 /// Whether `check` and `check_stream` give the answer on so many bytes.
 fn is_answer(alloc: Global, count: usize, stream: &[u8]) -> bool {
     let run = bytewise(IMPROVING, stream, true);
-    let mut writer = run.writer(alloc);
+    let mut writer = narrow(alloc);
     let wanted = answer_to_front(count);
     answer(alloc, IMPROVING, stream) == wanted && run.answer(alloc, &mut writer) == wanted
 }
@@ -270,15 +202,5 @@ fn first_bytes_of_a_stream(rt: HostRuntime) {
             is_answer(rt.alloc(), count, &BETTER[..count]),
             "at {count}"
         );
-    }
-}
-
-#[test]
-fn first_bytes_of_a_model(rt: HostRuntime) {
-    for count in 0..=FIRST.len() {
-        let answer = answer(rt.alloc(), &FIRST[..count], b"x = 3;\n----------\n");
-        let wanted = if count < 65 { 4 } else { 0 };
-        let is_wanted = status(&answer) == wanted;
-        assert!(rt; is_wanted, "at {count}");
     }
 }
