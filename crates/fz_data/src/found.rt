@@ -11,8 +11,8 @@ use fz_meaning::Kind;
 /// Scalars one behind another.
 #[derive(Clone, Copy)]
 pub struct Scalars<'m> {
-    pub(crate) slots: &'m [Slot],
-    pub(crate) constants: &'m [Value],
+    pub slots: &'m [Slot],
+    pub constants: &'m [Value],
 }
 
 impl<'m> Scalars<'m> {

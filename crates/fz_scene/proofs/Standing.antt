@@ -12,7 +12,7 @@ use Rattle.fz_scene.specs.declared.scene.Scene.{Scene}
 use Rattle.fz_scene.specs.Given.{slot_in, slots_in, slot_at, slots_at, are_read}
 use Rattle.fz_scene.specs.Arguments.{Reading, argument_slot, argument_slots, reading_in, reading_of, scalar_read, elements_read, reading_is_read, readings_are_read}
 use Rattle.fz_scene.specs.Views.{arguments_of}
-use Rattle.fz_scene.proofs.Slots.{same_readings}
+use Rattle.fz_scene.proofs.Kept.{same_readings}
 
 -- ---- a list of arguments by its readings
 

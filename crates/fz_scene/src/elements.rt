@@ -1,6 +1,6 @@
 //! The elements of an array under a partial assignment.
 
-use crate::slots::{slot_int, slot_is_read, slot_set, slot_truth};
+use crate::slots::{slot_int, slot_set, slot_truth, slots_are_read};
 use fz_base::{IntSet, Value};
 use fz_data::{Partial, Slot};
 use fz_meaning::Kind;
@@ -66,8 +66,6 @@ impl<'s> Elements<'s> {
     pub(crate) fn are_read(&self, kind: Kind) -> bool
         ensures { result ≡ list_all (is_read (under self.now) kind) (slots_of self.now) }
     {
-        self.slots
-            .iter()
-            .all(|slot| slot_is_read(self.partial, self.constants, kind, slot))
+        slots_are_read(self.partial, self.constants, kind, self.slots)
     }
 }

@@ -1,6 +1,7 @@
 //! Reading one slot. Nothing is read of an array's.
 
 ghost use Rattle.std.specs.Prelude.{◌≡◌, Some};
+ghost use Rattle.std.specs.List.{list_all};
 ghost use Rattle.std.specs.FinSet as sets;
 ghost use Rattle.fz_meaning.specs.Values.{kind_of, same_kind};
 ghost use Rattle.fz_data.specs.Partial.{number_in, truth_in};
@@ -103,4 +104,18 @@ pub(crate) fn slot_is_read(partial: &Partial, constants: &[Value], kind: Kind, s
         Slot::Constant(place) => constant_is_of(constants, *place, kind),
         Slot::Array(_) => false,
     }
+}
+
+/// Whether each slot has a value of the kind.
+pub(crate) fn slots_are_read(
+    partial: &Partial,
+    constants: &[Value],
+    kind: Kind,
+    slots: &[Slot],
+) -> bool
+    ensures { result ≡ list_all (λ s. is_read partial.now kind (slot_read constants.now s)) slots.now }
+{
+    slots
+        .iter()
+        .all(|slot| slot_is_read(partial, constants, kind, slot))
 }

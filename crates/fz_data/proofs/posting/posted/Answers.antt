@@ -22,7 +22,7 @@ returns-clause-row c =
     c.row_of-known.ensures c.target_of.result
     ∙ (λ i. row_of (record {
         name = c.args.constraint.now.name.text.now;
-        arguments = map (argument_view s.variables.items s.arrays.items st) (segment (c.deref-2.ensures.value i) c.in_ok-arguments.arguments);
+        arguments = map (argument_view (c.cited.ensures.variables i) (c.cited.ensures.arrays i) st) ((c.part.ensures ∙ ap (λ as'. segment as' c.in_ok-arguments.arguments) c.deref-2.ensures.value) i);
         target = c.target_of.result;
       }))
     ∙ (λ i. row_of (record {

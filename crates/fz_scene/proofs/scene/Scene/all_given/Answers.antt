@@ -1,7 +1,7 @@
 use Rattle.std.proofs.Common.{ap, ◌∙◌}
 use Rattle.std.specs.List.{list_all}
 use Rattle.fz_scene.specs.Arguments.{argument_is_given}
-use Rattle.fz_scene.proofs.Slots.{same_arguments}
+use Rattle.fz_scene.proofs.Kept.{same_arguments}
 use Rattle.fz_scene.proofs.Standing.{own}
 use Rattle.fz_scene.proofs.scene.Scene.all_given.Goals as goal
 
