@@ -4,7 +4,7 @@ ghost use Rattle.std.specs.Prelude.{◌≡◌, ℕ, IfOk, List, None, map, optio
 ghost use Rattle.fz_model.specs.Meaning.{Place, Variable as DeclaredVariable, first_some};
 ghost use Rattle.fz_model.specs.declared.Kind.{Kind as KindOf};
 ghost use Rattle.fz_model.specs.Names.{literal_value};
-ghost use Rattle.fz_model.specs.declared.Term;
+ghost use Rattle.fz_model.specs.declared.Term.TheVariants.{Var};
 ghost use Rattle.fz_model.specs.Shown.{scalar_terms, what_place};
 ghost use Rattle.fz_model.specs.Slots.{scalar_term};
 ghost use Rattle.fz_model.specs.View.{located_literal};
@@ -28,7 +28,7 @@ fn variable_has(
     number: usize,
     literal: &Literal,
 ) -> Result<bool, AllocError>
-    ensures { IfOk result (λ b. b ≡ has_value partial.now (Term.Var number, literal_value (bare_literal literal.now))) }
+    ensures { IfOk result (λ b. b ≡ has_value partial.now (Var number, literal_value (bare_literal literal.now))) }
 {
     match partial.get(number) {
         Some(value) => is_of_literal(alloc, value, &literal.what),

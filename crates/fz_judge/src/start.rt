@@ -2,6 +2,7 @@
 
 ghost use Rattle.std.specs.Prelude.{◌≡◌, ◌<◌, ℕ, List, None, IfErr, IfOk, IfSome, IsTrue, OnOk, cond, is_none, length, map};
 ghost use Rattle.std.specs.List.{AllByRecursion};
+ghost use Rattle.fz_model.specs.declared.Term.TheVariants.{Var};
 ghost use Rattle.fz_model.specs.Meaning.{IsPartial, Variable as DeclaredVariable, give, value_at, variables_of};
 ghost use Rattle.fz_model.specs.Names.{literal_value};
 ghost use Rattle.fz_model.specs.Partial.{nothing_for};
@@ -84,7 +85,7 @@ fn set_variable(
 ) -> Result<bool, AllocError>
     requires in_range { number < length partial.old }
     ensures given { OnOk result (partial.new ≡ cond (is_none (value_at partial.old number)) (give partial.old number (literal_value (bare_literal_kind literal.now))) partial.old) }
-    ensures agrees { IfOk result (λ b. b ≡ has_value partial.new (Term.Var number, literal_value (bare_literal_kind literal.now))) }
+    ensures agrees { IfOk result (λ b. b ≡ has_value partial.new (Var number, literal_value (bare_literal_kind literal.now))) }
 {
     if let Some(value) = partial.get(number) {
         return is_of_literal(alloc, value, literal);
@@ -101,7 +102,7 @@ fn set_scalar(
     scalar: Scalar<'_>,
     literal: &Literal,
 ) -> Result<bool, AllocError>
-    requires within { IsWithin (length partial.old) (scalar_term scalar.entry) }
+    requires within { IsWithin (length partial.old) (scalar_term scalar) }
     ensures given { OnOk result (partial.new ≡ with_first partial.old (scalar_term scalar.entry, literal_value (bare_literal literal.now))) }
     ensures agrees { IfOk result (λ b. b ≡ has_value partial.new (scalar_term scalar.entry, literal_value (bare_literal literal.now))) }
 {
@@ -120,7 +121,7 @@ fn set_elements(
     list: Scalars<'_>,
     literals: &[Literal],
 ) -> Result<bool, AllocError>
-    requires within { AllByRecursion (IsWithin (length partial.old)) (scalar_terms list.entry) }
+    requires within { AllByRecursion (IsWithin (length partial.old)) (scalar_terms list) }
     ensures given { OnOk result (partial.new ≡ with_all partial.old (pairs (scalar_terms list.entry) (printed_values (map located_literal literals.now)))) }
     ensures agrees { IfOk result (λ b. b ≡ agree_all partial.old (pairs (scalar_terms list.entry) (printed_values (map located_literal literals.now)))) }
 {
@@ -158,7 +159,7 @@ fn set_one(
     scalar: Scalar<'_>,
     value: &PrintedValue,
 ) -> Result<bool, AllocError>
-    requires within { IsWithin (length partial.old) (scalar_term scalar.entry) }
+    requires within { IsWithin (length partial.old) (scalar_term scalar) }
     ensures given { OnOk result (partial.new ≡ with_all partial.old (one_pair (scalar_term scalar.entry) (located_printed_value value.now))) }
     ensures agrees { IfOk result (λ b. b ≡ agree_all partial.old (one_pair (scalar_term scalar.entry) (located_printed_value value.now))) }
 {
@@ -175,7 +176,7 @@ fn set_array(
     list: Scalars<'_>,
     value: &PrintedValue,
 ) -> Result<bool, AllocError>
-    requires within { AllByRecursion (IsWithin (length partial.old)) (scalar_terms list.entry) }
+    requires within { AllByRecursion (IsWithin (length partial.old)) (scalar_terms list) }
     ensures given { OnOk result (partial.new ≡ with_all partial.old (element_pairs (scalar_terms list.entry) (located_printed_value value.now))) }
     ensures agrees { IfOk result (λ b. b ≡ agree_all partial.old (element_pairs (scalar_terms list.entry) (located_printed_value value.now))) }
 {
