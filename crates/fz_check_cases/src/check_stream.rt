@@ -52,9 +52,11 @@ impl Write for Narrow {
     }
 }
 
-fn narrow(alloc: Global) -> Narrow {
-    Narrow {
-        taken: Vec::new(alloc),
+impl Narrow {
+    fn new(alloc: Global) -> Narrow {
+        Narrow {
+            taken: Vec::new(alloc),
+        }
     }
 }
 
@@ -69,7 +71,7 @@ impl Run<'_> {
 
     /// What is written, and then the line of the refusal.
     pub(crate) fn told(self, alloc: Global) -> Result<Vec<u8>, CheckError> {
-        let mut writer = narrow(alloc);
+        let mut writer = Narrow::new(alloc);
         let answer = self.answer(alloc, &mut writer);
         if let Err(error) = answer {
             let line = refusal_text(alloc, &error)?;
@@ -190,7 +192,7 @@ fn answer_to_front(count: usize) -> Result<Answer, CheckError> {
 /// Whether `check` and `check_stream` give the answer on so many bytes.
 fn is_answer(alloc: Global, count: usize, stream: &[u8]) -> bool {
     let run = bytewise(IMPROVING, stream, true);
-    let mut writer = narrow(alloc);
+    let mut writer = Narrow::new(alloc);
     let wanted = answer_to_front(count);
     answer(alloc, IMPROVING, stream) == wanted && run.answer(alloc, &mut writer) == wanted
 }

@@ -62,3 +62,7 @@ returns-in-Err-clause-reads g c = spends_none _ _ _ (omega arith)
 
 pub returns-in-Err-load_tree-clause-reads : goal.returns-in-Err-load_tree-clause-reads
 returns-in-Err-load_tree-clause-reads g c = spends_none _ _ _ (omega arith)
+
+pub returns-in-Err-clause-model : goal.returns-in-Err-clause-model
+returns-in-Err-clause-model g c = λ e same.
+    (let told : c.in-Err.error ≡ errors.Model e = cc in c.read_text.ensures.model e (c.in-Err.is ∙ ap Err told))
