@@ -4,7 +4,7 @@
 use crate::table::{Call, look_at, push_all};
 use fz_base::Value;
 use fz_check::CheckError;
-use fz_model::{Model, Partial, Term, Variable, What, load};
+use fz_model::{Model, Partial, Scalar, Term, Variable, What, load};
 use fz_syntax::parse;
 use std::alloc::Global;
 use std::test::Fail;
@@ -20,7 +20,7 @@ fn target<'a>(variables: &[Variable<'a>], number: Option<usize>) -> Option<&'a [
 /// A line for each constraint.
 pub(crate) fn targets(alloc: Global, model: &Model<'_>) -> Result<Vec<u8>, CheckError> {
     let mut text = Vec::new(alloc);
-    for posted in model.constraints() {
+    for posted in model.constraints().posted {
         match target(model.variables(), posted.target) {
             Some(name) => push_all(&mut text, &[name, b"\n"])?,
             None => push_all(&mut text, &[b"none\n"])?,
@@ -50,17 +50,17 @@ fn variables_that_constraints_define(rt: HostRuntime) {
 const MIXED: &[u8] = b"int: n = 2; var 1..3: x; array [1..2] of var 0..9: a = [x, 5];
 var int: y = n; constraint int_le(x, n); solve satisfy;";
 
-fn number(term: &Term) -> Option<usize> {
-    match term {
-        Term::Var(number) => Some(*number),
-        Term::Fixed(_) => None,
+fn number(scalar: Scalar<'_>) -> Option<usize> {
+    match scalar {
+        Scalar::Variable(number) => Some(number),
+        _ => None,
     }
 }
 
 /// The number of the variable of a name, or the length of the array.
 fn found(model: &Model<'_>, name: &[u8]) -> Option<usize> {
     match model.find(name)?.what {
-        What::Scalar(term) => number(term),
+        What::Scalar(scalar) => number(scalar),
         What::Array(_, elements) => Some(elements.len()),
     }
 }

@@ -22,7 +22,7 @@ use Rattle.fz_data.specs.declared.parts.Array as the_array
 use Rattle.fz_data.specs.Naming.{Declared as declarations}
 use Rattle.fz_data.specs.declared.parts.DeclaredPoint.TheVariants as points
 use Rattle.fz_data.specs.declared.parts.Variable.{Variable}
-use Rattle.fz_data.specs.Parts.{variable_view, no_variable, variable_at, definition_at, array_view, array_declared, declared_point, definition_point, elements_point, no_array}
+use Rattle.fz_data.specs.Parts.{variable_view, no_variable, variable_at, definition_at, array_view, array_declared, declared_point, definition_point, elements_point, no_array, elements_of}
 use Rattle.fz_data.specs.Layout.{IsPlaced}
 use Rattle.fz_data.specs.Scope.{has_elements_point}
 use Rattle.fz_data.proofs.Stands.{Adds}
@@ -129,7 +129,7 @@ all_cond P true x h = (h, tt)
 all_cond P false x h = tt
 
 module _ (all known : List Decl) (d : Decl) (k : List ℕ) (x : the_array.Array) (named : k ≡ d.name.text) (list : is_scalar d ≡ false) (varies : x.is_variable ≡ d.is_var) (name : x.name.now ≡ d.name.text)
-    (kind : x.kind ≡ kind_of_base d.base) (domain : x.domain ≡ domain_of d.base) (elements : x.elements.items ≡ map (term_of all) (parts d.value)) (vs : List Variable) (xs : List the_array.Array) where
+    (kind : x.kind ≡ kind_of_base d.base) (domain : x.domain ≡ domain_of d.base) (elements : elements_of x ≡ map (term_of all) (parts d.value)) (vs : List Variable) (xs : List the_array.Array) where
   array_place : place_of_declared all d ≡ Array d.name.text (kind_of_base d.base) (map (term_of all) (parts d.value))
   array_place = cond_false (is_scalar d) _ _ list
 
@@ -150,6 +150,6 @@ module _ (all known : List Decl) (d : Decl) (k : List ℕ) (x : the_array.Array)
     variables = ap (λ b. map variable_declared (cond b (d ∷ []) [])) (sym (ap (λ b. d.is_var && b) list ∙ and_false d.is_var));
     points = λ ws ys. map_cond (declared_point (vs ++ ws) (xs ++ x ∷ ys)) (has_elements_point x) (points.Elements (length xs))
         ∙ ap (λ o. cond (has_elements_point x) (option_map_or elements_point o (ArrayPoint [] All []) ∷ []) []) (here ys)
-        ∙ bounded_points x.is_variable (next_number known) x.name.now x.kind x.domain x.elements.items (array_view x) ∙ ap (λ q. declared_points (next_number known, q)) declared_is;
+        ∙ bounded_points x.is_variable (next_number known) x.name.now x.kind x.domain (elements_of x) (array_view x) ∙ ap (λ q. declared_points (next_number known, q)) declared_is;
     placed = λ ws ys. all_cond (IsPlaced (vs ++ ws) (xs ++ x ∷ ys)) (has_elements_point x) (points.Elements (length xs)) (slice_get_within (xs ++ x ∷ ys) (length xs) x (here ys));
   }

@@ -18,11 +18,10 @@ use Rattle.fz_data.specs.declared.parts.Variable.{Variable}
 use Rattle.fz_data.specs.declared.parts.Array.{Array}
 use Rattle.fz_data.specs.Naming.{Declared, has_text}
 use Rattle.fz_data.specs.Naming.{Declared as declarations}
-use Rattle.fz_data.specs.Parts.{variable_view, no_variable, kind_of_term, array_view, no_array, declared_place}
+use Rattle.fz_data.specs.Parts.{variable_view, no_variable, kind_of_term, array_view, no_array, declared_place, elements_of}
 use Rattle.fz_data.specs.Layout.{model_view, named_place, IsArrayNamed, IsKeptAs, IsLaidOut}
 use Rattle.fz_data.specs.Shown.{kind_among}
 use Rattle.fz_data.proofs.Loops.{found_entry}
-use Rattle.fz_data.proofs.NameTable.{own_get}
 
 -- the place of the first pair that has the name
 abbrev pub by_name : List ℕ → (List ℕ × meaning.Place) → Option meaning.Place
@@ -72,12 +71,6 @@ same_kinds : (vs : List Variable) (t : Term) → kind_among (map variable_view v
 same_kinds vs (Var n) = ap (λ o. option_map_or (λ (v : meaning.Variable). v.kind) o IntKind) (slice_get-map variable_view vs n) ∙ kind_at_place (slice_get vs n)
 same_kinds vs (Fixed v) = refl
 
--- what has a kind there is there
-within : (vs : List meaning.Variable) (n : ℕ) (k : Kind) → option_map (λ (v : meaning.Variable). v.kind) (slice_get vs n) ≡ Some k → n < length vs
-within [] n k e = cc
-within (v ∷ vs) zero k e = omega arith
-within (v ∷ vs) (suc n) k e = omega (arith, within vs n k e)
-
 module _ (m : Inside) (laid : IsLaidOut m) (now : meaning.Model) (view_is : model_view m ≡ now) (x : List ℕ) where
   pub found_none : None ≡ lookup (has_text x) m.names → None ≡ find_name now x
   found_none e = ap (option_map (declared_place m.variables.items m.arrays.items)) e ∙ sym (find_is_lookup m laid x) ∙ ap (λ w. find_name w x) view_is
@@ -90,14 +83,6 @@ module _ (m : Inside) (laid : IsLaidOut m) (now : meaning.Model) (view_is : mode
       ap (λ vs. Some (meaning.Place.Scalar (kind_among vs t) t)) (ap variables_of (sym view_is) ∙ laid.variables) ∙ ap (λ k. Some (meaning.Place.Scalar k t)) (same_kinds m.variables.items t)
       ∙ ap (λ w. Some (declared_place m.variables.items m.arrays.items w)) (sym is) ∙ found_some d e
 
-  -- a variable that a name stands for has its term
-  pub own_term : (d : Declared) (n : ℕ) → Some d ≡ lookup (has_text x) m.names → d ≡ declarations.Scalar (Var n) → slice_get m.terms.items n ≡ Some (Var n)
-  own_term d n e is =
-      let found = find_is_lookup m laid x ∙ ap (option_map (declared_place m.variables.items m.arrays.items)) (sym e) ∙ ap (λ w. Some (declared_place m.variables.items m.arrays.items w)) is in
-      let few = within (variables_of (model_view m)) n _ (laid.kinds x _ found) in
-      let counted = ap length laid.variables ∙ length-map m.variables.items variable_view in
-      ap (λ ts. slice_get ts n) laid.terms ∙ own_get 0 (length m.variables.items) n (omega (arith, few, counted)) ∙ (let same : 0 + n ≡ n = omega arith in ap (λ k. Some (Var k)) same)
-
   module _ (d : Declared) (i : ℕ) (e : Some d ≡ lookup (has_text x) m.names) (is : d ≡ declarations.Array i) where
     named : IsArrayNamed m.arrays.items i x
     named = subst (IsKeptAs m.arrays.items x) is (found_entry (IsKeptAs m.arrays.items) x m.names d laid.kept e)
@@ -105,8 +90,8 @@ module _ (m : Inside) (laid : IsLaidOut m) (now : meaning.Model) (view_is : mode
     pub stands : slice_get m.arrays.items i ≡ None → ⊥
     stands none = let no : ◌≡◌ {A = Option (List ℕ)} None (Some x) = ap (option_map (λ (a : Array). a.name.now)) (sym none) ∙ named in cc
 
-    pub found_array : (a : Array) → slice_get m.arrays.items i ≡ Some a → Some (meaning.Place.Array x a.kind a.elements.items) ≡ find_name now x
+    pub found_array : (a : Array) → slice_get m.arrays.items i ≡ Some a → Some (meaning.Place.Array x a.kind (elements_of a)) ≡ find_name now x
     found_array a at =
         let same : a.name.now ≡ x = same_Some _ _ (ap (option_map (λ (b : Array). b.name.now)) (sym at) ∙ named) in
-        ap (λ y. Some (meaning.Place.Array y a.kind a.elements.items)) (sym same) ∙ ap (λ o. Some (option_map_or array_view o no_array)) (sym at)
+        ap (λ y. Some (meaning.Place.Array y a.kind (elements_of a))) (sym same) ∙ ap (λ o. Some (option_map_or array_view o no_array)) (sym at)
         ∙ ap (λ w. Some (declared_place m.variables.items m.arrays.items w)) (sym is) ∙ found_some d e

@@ -13,6 +13,6 @@ pub mod OwnKinds
 pub mod Tabled
 pub mod Loaded
 pub mod NameTable
-pub mod Sheets
 pub mod Grown
+pub mod Flat
 pub mod Noted

@@ -10,8 +10,6 @@ use Rattle.fz_meaning.specs.Meaning.{declared_points, numbered_from, name_of, pl
 use Rattle.fz_meaning.specs.Meaning.Declared.{Parameter, ScalarVariable, ArrayOfVariables}
 use Rattle.fz_meaning.specs.Names.{IsInReadingOrder, goal_parts, parts, kind_of_base, domain_of, is_scalar, number_of, variable_declared, definition_of, term_of, place_of_declared, declared_of, posted_of, aim_of, model_of}
 use Rattle.fz_meaning.specs.View.{TellsFault, TellsFirstFault}
-use Rattle.fz_meaning.specs.declared.known.Known.{Known}
-use Rattle.fz_meaning.specs.Known.{known_row}
 use Rattle.fz_data.specs.Kinds.{PlaceFits, PostedFits}
 use Rattle.fz_meaning.specs.FirstFault.{FirstFaultIsLeftmost, decls_fault, constraint_fault, constraints_fault, goal_fault, first_fault}
 use Rattle.fz_meaning.proofs.FoundFaults.{scanned}
@@ -21,13 +19,10 @@ use Rattle.fz_data.specs.declared.model.Model.TheInside.{Inside}
 use Rattle.fz_data.specs.declared.parts.Goal as the_goal
 use Rattle.fz_data.specs.declared.parts.Posted as the_posted
 use Rattle.fz_data.specs.declared.scope.Scope.{Scope}
-use Rattle.fz_data.specs.declared.sheet.Sheets.{Sheets}
-use Rattle.fz_data.specs.Sheets.{AreSheetsOf}
-use Rattle.fz_meaning.specs.declared.term.Term.{Term}
-use Rattle.fz_data.specs.Naming.{own_terms}
-use Rattle.fz_data.specs.Parts.{posted_view, goal_view, declared_point}
-use Rattle.fz_data.specs.Layout.{model_view, named_place, IsLaidOut, IsPlaced, CitesArrays}
-use Rattle.fz_data.specs.Scope.{AreKept, Tells, posted_in, aim_in, faults_in, constraint_fault_in}
+use Rattle.fz_data.specs.declared.store.Store.{Store}
+use Rattle.fz_data.specs.Parts.{posted_view, kept_row, goal_view, declared_point}
+use Rattle.fz_data.specs.Layout.{model_view, named_place, IsLaidOut, IsPlaced}
+use Rattle.fz_data.specs.Scope.{Tells, posted_in, aim_in, faults_in, constraint_fault_in}
 use Rattle.fz_data.specs.Stands.{StandsFor, entry_view, entry_place, is_kept, declared_pair}
 use Rattle.fz_meaning.proofs.ScanSteps.{in_constraints, in_goal, nowhere}
 use Rattle.fz_data.proofs.Finds.{first_some-same}
@@ -70,16 +65,16 @@ module _ (all : List Decl) (s : Scope) (st : StandsFor all all s) where
       subst (λ us. AllByRecursion (IsPlaced us s.arrays.items) s.points.items) (append-nil s.variables.items)
       (subst (λ zs. AllByRecursion (IsPlaced (s.variables.items ++ []) zs) s.points.items) (append-nil s.arrays.items) (st.placed [] []))
 
-  pub kept_now : AreKept s
+  kept_now : AllByRecursion (is_kept s.arrays.items) s.names
   kept_now = subst (λ zs. AllByRecursion (is_kept zs) s.names) (append-nil s.arrays.items) (st.kept [])
 
 -- ---- the whole
 
-module _ (t : LocatedTree) (s : Scope) (ts : Vec Term Global) (cs : Vec the_posted.Posted Global) (ks : Vec (Option Known) Global) (g : the_goal.Goal) (sh : Sheets) (st : StandsFor t.decls t.decls s) (clean : decls_fault [] t.decls ≡ None)
-    (posted : map (posted_view s.variables.items s.arrays.items) cs.items ≡ map (posted_in s) t.constraints) (cited : AllByRecursion (CitesArrays s.arrays.items) cs.items)
+module _ (t : LocatedTree) (s : Scope) (held : Store) (cs : Vec the_posted.Posted Global) (g : the_goal.Goal) (st : StandsFor t.decls t.decls s) (clean : decls_fault [] t.decls ≡ None)
+    (posted : map (posted_view s.variables.items s.arrays.items held) cs.items ≡ map (posted_in s) t.constraints)
     (sound : faults_in s (Some IntKind) (goal_parts t.solve.goal) ≡ None) (aim : goal_view g ≡ aim_in s t.solve.goal) where
   abbrev fields : Inside
-  fields = record { names = s.names; variables = s.variables; terms = ts; arrays = s.arrays; points = s.points; constraints = cs; known = ks; goal = g; sheets = sh }
+  fields = record { names = s.names; variables = s.variables; arrays = s.arrays; points = s.points; constraints = cs; goal = g; store = held }
 
   new : AreNew [] t.decls
   new = are_new [] t.decls clean
@@ -87,7 +82,7 @@ module _ (t : LocatedTree) (s : Scope) (ts : Vec Term Global) (cs : Vec the_post
   aim_is : goal_view g ≡ aim_of t.decls t.solve.goal
   aim_is = aim ∙ aim_same t.decls t.decls s st [] (sym (append-nil t.decls)) t.solve.goal (sym (faults_same t.decls t.decls s st (Some IntKind) (goal_parts t.solve.goal)) ∙ sound)
 
-  posted_is : map (posted_view s.variables.items s.arrays.items) cs.items ≡ map (posted_of t.decls) t.constraints
+  posted_is : map (posted_view s.variables.items s.arrays.items held) cs.items ≡ map (posted_of t.decls) t.constraints
   posted_is = posted ∙ all_posted_same t.decls s st new t.constraints
 
   pub model_is : model_view fields ≡ model_of t
@@ -96,17 +91,14 @@ module _ (t : LocatedTree) (s : Scope) (ts : Vec Term Global) (cs : Vec the_post
   own : AllByRecursion HasOwnKind t.decls
   own = own_kinds t.decls s.variables.items s.arrays.items s.names t.decls (pairs_now t.decls s st)
 
-  pub laid_out : ts.items ≡ own_terms (length s.variables.items) → map (option_map known_row) ks.items ≡ map row_of (map (posted_view s.variables.items s.arrays.items) cs.items) → AreSheetsOf s.arrays.items cs.items ks.items sh → IsLaidOut fields
-  laid_out numbered rows sheets = record {
-    sheets = sheets;
-    terms = numbered;
+  pub laid_out : map kept_row cs.items ≡ map row_of (map (posted_in s) t.constraints) → IsLaidOut fields
+  laid_out rows = record {
     variables = ap (flat_map variable_of) (declared_now t.decls s st) ∙ variables_known t.decls t.decls ∙ sym st.variables;
     places = ap (λ qs. map named_place (numbered_from 0 qs)) (declared_now t.decls s st) ∙ ap (map named_place) (numbered_is t) ∙ named_pairs t.decls [] t.decls refl new ∙ sym (pairs_now t.decls s st);
     points = ap (λ qs. flat_map declared_points (numbered_from 0 qs)) (declared_now t.decls s st) ∙ sym (points_now t.decls s st);
     placed = placed_now t.decls s st;
     kept = kept_now t.decls s st;
-    cited = cited;
-    known = rows;
+    rows = rows ∙ ap (map row_of) (sym posted);
     kinds = λ x p e. subst (λ m. PlaceFits m p) (sym model_is) (name_fits t clean own x p (subst (λ m. find_name m x ≡ Some p) model_is e));
     posted_kinds = subst (λ m. AllByRecursion (PostedFits m) m.constraints) (sym model_is) (posted_fit t clean own t.constraints);
   }

@@ -22,12 +22,15 @@ one_found g want view xs i x cs new c lt at so_far here grew =
 pub all_found : {C : Type 0} (P : C → Type 0) (cs new : List C) (c : C) → AllByRecursion P cs → P c → new ≡ cs ++ c ∷ [] → AllByRecursion P new
 all_found P cs new c h k grew = subst (AllByRecursion P) (sym grew) (all_append P cs (c ∷ []) h (k, tt))
 
+pub two_more : {A B C : Type 0} (f : B → C) (g : A → B) (xs : List A) (i : ℕ) (x : A) → i < length xs → x ≡ get_or xs i x → map f (map g (take (i + 1) xs)) ≡ map f (map g (take i xs)) ++ f (g x) ∷ []
+two_more f g xs i x lt at = ap (map f) (take_one_more g xs i x lt at) ∙ map-append f (map g (take i xs)) (g x ∷ [])
+
 -- one more is kept with its row
-pub row_found : {C V K R : Type 0} (view : C → V) (fit : V → R) (kept : K → R) (cs new : List C) (c : C) (ks more : List K) (k : K)
-    → map kept ks ≡ map fit (map view cs) → kept k ≡ fit (view c) → new ≡ cs ++ c ∷ [] → more ≡ ks ++ k ∷ [] → map kept more ≡ map fit (map view new)
-row_found view fit kept cs new c ks more k so_far here grew longer =
-    ap (map kept) longer ∙ map-append kept ks (k ∷ []) ∙ (λ i. so_far i ++ here i ∷ [])
-    ∙ sym (ap (λ zs. map fit (map view zs)) grew ∙ ap (map fit) (map-append view cs (c ∷ [])) ∙ map-append fit (map view cs) (view c ∷ []))
+pub rows_found : {P Q V C R : Type 0} (want : Q → V) (fit : V → R) (located : P → Q) (kept : C → R) (ps : List P) (k : ℕ) (p : P) (cs new : List C) (c : C) → k < length ps → p ≡ get_or ps k p
+    → map kept cs ≡ map fit (map want (map located (take k ps))) → kept c ≡ fit (want (located p)) → new ≡ cs ++ c ∷ [] → map kept new ≡ map fit (map want (map located (take (k + 1) ps)))
+rows_found want fit located kept ps k p cs new c lt at so_far here grew =
+    ap (map kept) grew ∙ map-append kept cs (c ∷ []) ∙ (λ i. so_far i ++ here i ∷ [])
+    ∙ sym (ap (map fit) (two_more want located ps k p lt at) ∙ map-append fit (map want (map located (take k ps))) (want (located p) ∷ []))
 
 -- the first answer
 some_answer : {A : Type 0} (o : Option A) → is_some o ≡ true → (y : A) × (o ≡ Some y)

@@ -15,7 +15,7 @@ use Rattle.fz_meaning.specs.declared.term.Term.TheVariants.{Var}
 use Rattle.fz_data.specs.declared.names.Entry.{Entry}
 use Rattle.fz_data.specs.declared.names.Kept.{Kept}
 use Rattle.fz_data.specs.declared.names.Entry.TheVariants as entries
-use Rattle.fz_data.specs.Naming.{Declared, has_text, stands_for, IsAmongTerms, own_from, own_terms, no_term}
+use Rattle.fz_data.specs.Naming.{Declared, has_text, stands_for, IsAmongTerms, no_term}
 use Rattle.fz_data.specs.Names.{entry_stands, is_among_terms, is_key, same_key}
 
 -- a look-up in the list is one in the table
@@ -100,23 +100,6 @@ stands_same ts us (entries.Array i) h = refl
 pub all_stand_same : (ts us : List Term) (es : List Kept) → AllByRecursion (is_among_terms ts) es → map (entry_stands (ts ++ us)) es ≡ map (entry_stands ts) es
 all_stand_same ts us [] h = refl
 all_stand_same ts us (e ∷ es) h = λ i. (e.bytes.now, stands_same ts us e.entry h.0 i) ∷ all_stand_same ts us es h.1 i
-
--- ---- the scalars that variables are
-
-pub own_get : (n k i : ℕ) → i < k → slice_get (own_from n k) i ≡ Some (Var (n + i))
-own_get n zero i lt = absurd (omega arith)
-own_get n (suc k) zero lt = let same : n ≡ n + 0 = omega arith in ap (λ m. Some (Var m)) same
-own_get n (suc k) (suc i) lt = let same : suc n + i ≡ n + suc i = omega arith in own_get (suc n) k i (omega arith) ∙ ap (λ m. Some (Var m)) same
-
-own_push : (n k : ℕ) → own_from n (suc k) ≡ own_from n k ++ Var (n + k) ∷ []
-own_push n zero = let same : n ≡ n + 0 = omega arith in ap (λ m. Var m ∷ []) same
-own_push n (suc k) = let same : suc n + k ≡ n + suc k = omega arith in ap (λ ts. Var n ∷ ts) (own_push (suc n) k ∙ ap (λ m. own_from (suc n) k ++ Var m ∷ []) same)
-
-pub own_more : (k : ℕ) → own_terms (k + 1) ≡ own_terms k ++ Var k ∷ []
-own_more k =
-    let next : k + 1 ≡ suc k = omega arith in
-    let same : 0 + k ≡ k = omega arith in
-    ap own_terms next ∙ own_push 0 k ∙ ap (λ m. own_terms k ++ Var m ∷ []) same
 
 -- ---- one more name
 

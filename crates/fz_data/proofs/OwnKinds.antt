@@ -28,7 +28,7 @@ use Rattle.fz_data.specs.declared.parts.Variable.{Variable}
 use Rattle.fz_data.specs.Kinds.{ArgumentFits, PlaceFits, PostedFits, TermFits}
 use Rattle.fz_data.specs.Naming as the_declared
 use Rattle.fz_data.specs.Naming.{Declared as declarations}
-use Rattle.fz_data.specs.Parts.{array_view, declared_place, no_array}
+use Rattle.fz_data.specs.Parts.{array_view, declared_place, no_array, elements_of}
 use Rattle.fz_data.specs.Stands.{Entry, declared_pair, entry_place}
 
 -- ---- parameters, by what is kept of them: the kind of a value that is kept is its own
@@ -40,7 +40,7 @@ HasOwnKind d = is_scalar d ≡ true → d.is_var ≡ false → kind_of (literal_
 module _ (all : List Decl) (vs : List Variable) (xs : List the_array.Array) where
   no_scalar : (d : Decl) (o : Option the_array.Array) → option_map_or array_view o no_array ≡ place_of_declared all d → HasOwnKind d
   no_scalar d None h = λ scalar _. no (sym (array_by_place all d [] IntKind [] (sym h)).0 ∙ scalar)
-  no_scalar d (Some a) h = λ scalar _. no (sym (array_by_place all d a.name.now a.kind a.elements.items (sym h)).0 ∙ scalar)
+  no_scalar d (Some a) h = λ scalar _. no (sym (array_by_place all d a.name.now a.kind (elements_of a) (sym h)).0 ∙ scalar)
 
   own_kind : (d : Decl) (e : the_declared.Declared) → declared_place vs xs e ≡ place_of_declared all d → HasOwnKind d
   own_kind d (declarations.Array i) h = no_scalar d (slice_get xs i) h

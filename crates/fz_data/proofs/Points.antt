@@ -10,15 +10,13 @@ use Rattle.fz_meaning.proofs.Lists.{at_place}
 use Rattle.fz_meaning.specs.declared.term.Term.{Term}
 use Rattle.fz_meaning.specs.declared.term.Domain.TheVariants.{All}
 use Rattle.std.proofs.lemmas.Bool.{false≢true}
-use Rattle.fz_meaning.specs.Known.{known_row}
-use Rattle.fz_meaning.specs.declared.known.Known.{Known}
 use Rattle.fz_data.specs.declared.model.Model.TheInside.{Inside}
 use Rattle.fz_data.specs.declared.parts.DeclaredPoint.{DeclaredPoint}
 use Rattle.fz_data.specs.declared.parts.DeclaredPoint.TheVariants as points
 use Rattle.fz_data.specs.declared.parts.Variable.{Variable}
 use Rattle.fz_data.specs.declared.parts.Array.{Array}
 use Rattle.fz_data.specs.declared.parts.Posted as the_posted
-use Rattle.fz_data.specs.Parts.{variable_view, no_variable, definition_at, posted_view, declared_point, definition_point, elements_point}
+use Rattle.fz_data.specs.Parts.{variable_view, no_variable, definition_at, posted_view, kept_row, elements_of, declared_point, definition_point, elements_point}
 use Rattle.fz_data.specs.Kinds.{PostedFits}
 use Rattle.fz_data.specs.Layout.{model_view, IsPlaced, IsLaidOut}
 
@@ -48,7 +46,7 @@ module _ (m : Inside) (laid : IsLaidOut m) where
   declared = map (declared_point m.variables.items m.arrays.items) m.points.items
 
   abbrev posted : List Point
-  posted = constraint_points 1 (map (posted_view m.variables.items m.arrays.items) m.constraints.items)
+  posted = constraint_points 1 (map (posted_view m.variables.items m.arrays.items m.store) m.constraints.items)
 
   points_are : points (model_view m) ≡ declared ++ posted
   points_are = ap (λ ps. ps ++ posted) laid.points
@@ -58,29 +56,22 @@ module _ (m : Inside) (laid : IsLaidOut m) where
 
   pub how_many : length (points (model_view m)) ≡ length m.points.items + length m.constraints.items
   how_many =
-      let counted : length posted ≡ length m.constraints.items = length-constraint_points 1 _ ∙ length-map m.constraints.items (posted_view m.variables.items m.arrays.items) in
+      let counted : length posted ≡ length m.constraints.items = length-constraint_points 1 _ ∙ length-map m.constraints.items (posted_view m.variables.items m.arrays.items m.store) in
       ap length points_are ∙ length-append declared posted ∙ (λ i. length-declared i + counted i)
 
-  -- as many rows are kept as constraints
-  pub how_many_rows : length m.known.items ≡ length m.constraints.items
-  how_many_rows =
-      sym (length-map m.known.items (option_map known_row)) ∙ ap length laid.known
-      ∙ length-map (map (posted_view m.variables.items m.arrays.items) m.constraints.items) row_of ∙ length-map m.constraints.items (posted_view m.variables.items m.arrays.items)
-
-  -- the row in a constraint's place is the one that it fits
-  pub row_in_place : (k : ℕ) (p : the_posted.Posted) (o : Option Known) → slice_get m.constraints.items k ≡ Some p → slice_get m.known.items k ≡ Some o
-      → option_map known_row o ≡ row_of (posted_view m.variables.items m.arrays.items p)
-  row_in_place k p o at here =
+  -- the row that a constraint is kept with is the one that it fits
+  pub row_in_place : (k : ℕ) (p : the_posted.Posted) → slice_get m.constraints.items k ≡ Some p → kept_row p ≡ row_of (posted_view m.variables.items m.arrays.items m.store p)
+  row_in_place k p at =
       same_Some _ _
-      (ap (option_map (option_map known_row)) (sym here) ∙ sym (slice_get-map (option_map known_row) m.known.items k) ∙ ap (λ rs. slice_get rs k) laid.known
-      ∙ slice_get-map row_of (map (posted_view m.variables.items m.arrays.items) m.constraints.items) k
-      ∙ ap (option_map row_of) (slice_get-map (posted_view m.variables.items m.arrays.items) m.constraints.items k ∙ ap (option_map (posted_view m.variables.items m.arrays.items)) at))
+      (ap (option_map kept_row) (sym at) ∙ sym (slice_get-map kept_row m.constraints.items k) ∙ ap (λ rs. slice_get rs k) laid.rows
+      ∙ slice_get-map row_of (map (posted_view m.variables.items m.arrays.items m.store) m.constraints.items) k
+      ∙ ap (option_map row_of) (slice_get-map (posted_view m.variables.items m.arrays.items m.store) m.constraints.items k ∙ ap (option_map (posted_view m.variables.items m.arrays.items m.store)) at))
 
   -- what stands in it has its kind
-  pub kinds_in_place : (k : ℕ) (p : the_posted.Posted) → slice_get m.constraints.items k ≡ Some p → PostedFits (model_view m) (posted_view m.variables.items m.arrays.items p)
+  pub kinds_in_place : (k : ℕ) (p : the_posted.Posted) → slice_get m.constraints.items k ≡ Some p → PostedFits (model_view m) (posted_view m.variables.items m.arrays.items m.store p)
   kinds_in_place k p at =
-      at_place (PostedFits (model_view m)) (map (posted_view m.variables.items m.arrays.items) m.constraints.items) k (posted_view m.variables.items m.arrays.items p) laid.posted_kinds
-      (slice_get-map (posted_view m.variables.items m.arrays.items) m.constraints.items k ∙ ap (option_map (posted_view m.variables.items m.arrays.items)) at)
+      at_place (PostedFits (model_view m)) (map (posted_view m.variables.items m.arrays.items m.store) m.constraints.items) k (posted_view m.variables.items m.arrays.items m.store p) laid.posted_kinds
+      (slice_get-map (posted_view m.variables.items m.arrays.items m.store) m.constraints.items k ∙ ap (option_map (posted_view m.variables.items m.arrays.items m.store)) at)
 
   -- a point of a declaration
   pub point_declared : (k : ℕ) (p : DeclaredPoint) → slice_get m.points.items k ≡ Some p → k < length m.points.items → slice_get (points (model_view m)) k ≡ Some (declared_point m.variables.items m.arrays.items p)
@@ -91,12 +82,12 @@ module _ (m : Inside) (laid : IsLaidOut m) where
   module _ (k : ℕ) where
     -- past n of them a constraint
     pub point_posted : (n : ℕ) (p : the_posted.Posted) → n ≡ length m.points.items → n ≤ k → slice_get m.constraints.items (k - n) ≡ Some p
-        → slice_get (points (model_view m)) k ≡ Some (ConstraintPoint (k - n + 1) (posted_view m.variables.items m.arrays.items p))
+        → slice_get (points (model_view m)) k ≡ Some (ConstraintPoint (k - n + 1) (posted_view m.variables.items m.arrays.items m.store p))
     point_posted n p count le e =
         let there : k - length declared ≡ k - n = ap (λ n. k - n) (length-declared ∙ sym count) in
         ap (λ ps. slice_get ps k) points_are ∙ at_right declared posted k (omega (arith, length-declared, count, le)) ∙ ap (slice_get posted) there
-        ∙ at_constraint 1 (k - n) (map (posted_view m.variables.items m.arrays.items) m.constraints.items)
-        ∙ ap (option_map (λ q. ConstraintPoint (k - n + 1) q)) (slice_get-map (posted_view m.variables.items m.arrays.items) m.constraints.items (k - n) ∙ ap (option_map (posted_view m.variables.items m.arrays.items)) e)
+        ∙ at_constraint 1 (k - n) (map (posted_view m.variables.items m.arrays.items m.store) m.constraints.items)
+        ∙ ap (option_map (λ q. ConstraintPoint (k - n + 1) q)) (slice_get-map (posted_view m.variables.items m.arrays.items m.store) m.constraints.items (k - n) ∙ ap (option_map (posted_view m.variables.items m.arrays.items m.store)) e)
 
     -- the point p that is read at k, where it has the form q
     module _ (p q : DeclaredPoint) (lt : k < length m.points.items) (read : p ≡ get_or m.points.items k p) (form : p ≡ q) where
@@ -132,7 +123,7 @@ module _ (m : Inside) (laid : IsLaidOut m) where
           false≢true (sym (ap is_some is_none) ∙ (placed_at_k p (points.Definition n) lt read form).1)
 
     pub elements_at : (p : DeclaredPoint) (n : ℕ) (x : Array) → k < length m.points.items → p ≡ get_or m.points.items k p → x ≡ get_or m.arrays.items n x → p ≡ points.Elements n
-        → slice_get (points (model_view m)) k ≡ Some (ArrayPoint x.name.now x.domain x.elements.items)
+        → slice_get (points (model_view m)) k ≡ Some (ArrayPoint x.name.now x.domain (elements_of x))
     elements_at p n x lt read found form =
         let at : slice_get m.arrays.items n ≡ Some x = slice_get_read m.arrays.items _ n x refl (placed_at_k p (points.Elements n) lt read form) found in
         there p (points.Elements n) lt read form ∙ ap (λ o. Some (option_map_or elements_point o (ArrayPoint [] All []))) at

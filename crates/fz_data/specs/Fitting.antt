@@ -7,10 +7,12 @@ use Rattle.fz_meaning.specs.declared.kind.Kind.{Kind}
 use Rattle.fz_meaning.specs.declared.kind.Kind.TheVariants.{Int as IntKind}
 use Rattle.fz_data.specs.declared.parts.Variable.{Variable}
 use Rattle.fz_data.specs.declared.parts.Array.{Array}
-use Rattle.fz_data.specs.declared.parts.Place.{Place}
-use Rattle.fz_data.specs.declared.parts.Place.TheVariants as places
-use Rattle.fz_data.specs.declared.parts.Argument.{Argument}
-use Rattle.fz_data.specs.declared.parts.Argument.TheVariants as arguments
+use Rattle.fz_base.specs.declared.value.Value.{Value}
+use Rattle.fz_data.specs.declared.store.Slot.{Slot}
+use Rattle.fz_data.specs.declared.store.Slot.TheVariants as slots
+use Rattle.fz_data.specs.declared.store.Argument.{Argument}
+use Rattle.fz_data.specs.declared.store.Argument.TheVariants as arguments
+use Rattle.fz_data.specs.Slots.{slot_term, segment}
 use Rattle.fz_data.specs.Parts.{kind_of_term}
 
 -- ---- kinds
@@ -23,28 +25,45 @@ abbrev pub kinds_among : List Variable → List Kind
 kinds_among vs = map (λ v. v.kind) vs
 
 -- a scalar of the kind
-abbrev pub is_term_among : List Variable → Kind → Place → Bool
-is_term_among vs k (places.Scalar t) = same_kind (kind_of_term vs t) k
-is_term_among vs k (places.Array x) = false
+abbrev pub is_of_kind : List Variable → List Value → Kind → Slot → Bool
+is_of_kind vs cs k (slots.Variable n) = same_kind (kind_of_term vs (slot_term cs (slots.Variable n))) k
+is_of_kind vs cs k (slots.Number i) = same_kind (kind_of_term vs (slot_term cs (slots.Number i))) k
+is_of_kind vs cs k (slots.Truth b) = same_kind (kind_of_term vs (slot_term cs (slots.Truth b))) k
+is_of_kind vs cs k (slots.Constant c) = same_kind (kind_of_term vs (slot_term cs (slots.Constant c))) k
+is_of_kind vs cs k (slots.Array i) = false
 
-abbrev pub is_scalar_of : List Variable → Kind → Argument → Bool
-is_scalar_of vs k (arguments.One p) = is_term_among vs k p
-is_scalar_of vs k (arguments.List ps) = false
+abbrev pub is_scalar_of : List Variable → List Value → Kind → Argument → Bool
+is_scalar_of vs cs k (arguments.One s) = is_of_kind vs cs k s
+is_scalar_of vs cs k (arguments.List g) = false
+
+-- a declared array of the kind, where the slot is one
+abbrev pub is_array_slot : List Array → Kind → Slot → Bool
+is_array_slot xs k (slots.Array i) = same_kind (array_kind xs i) k
+is_array_slot xs k (slots.Variable n) = false
+is_array_slot xs k (slots.Number i) = false
+is_array_slot xs k (slots.Truth b) = false
+is_array_slot xs k (slots.Constant c) = false
 
 -- an array of the kind by its name, or a list of such scalars
-abbrev pub is_array_of : List Variable → List Array → Kind → Argument → Bool
-is_array_of vs xs k (arguments.One (places.Scalar t)) = false
-is_array_of vs xs k (arguments.One (places.Array x)) = same_kind (array_kind xs x.number) k
-is_array_of vs xs k (arguments.List ps) = list_all (is_term_among vs k) ps.items
+abbrev pub is_array_of : List Variable → List Array → List Value → List Slot → Kind → Argument → Bool
+is_array_of vs xs cs ss k (arguments.One s) = is_array_slot xs k s
+is_array_of vs xs cs ss k (arguments.List g) = list_all (is_of_kind vs cs k) (segment ss g)
 
 -- ---- lengths
 
--- the number of elements, each place of a list counted once
-abbrev pub length_of : List Array → Argument → ℕ
-length_of xs (arguments.One (places.Scalar t)) = 1
-length_of xs (arguments.One (places.Array x)) = option_map_or (λ a. length a.elements.items) (slice_get xs x.number) 0
-length_of xs (arguments.List ps) = length ps.items
+-- the number of elements: those of an array, one of a scalar
+abbrev pub slot_length : List Array → Slot → ℕ
+slot_length xs (slots.Array i) = option_map_or (λ a. length a.elements.slots.items) (slice_get xs i) 0
+slot_length xs (slots.Variable n) = 1
+slot_length xs (slots.Number i) = 1
+slot_length xs (slots.Truth b) = 1
+slot_length xs (slots.Constant c) = 1
 
-abbrev pub are_equally_long : List Array → List Argument → Bool
-are_equally_long xs (a ∷ b ∷ as') = length_of xs a == length_of xs b
-are_equally_long xs _ = false
+-- each place of a list is counted once
+abbrev pub length_of : List Array → List Slot → Argument → ℕ
+length_of xs ss (arguments.One s) = slot_length xs s
+length_of xs ss (arguments.List g) = length (segment ss g)
+
+abbrev pub are_equally_long : List Array → List Slot → List Argument → Bool
+are_equally_long xs ss (a ∷ b ∷ as') = length_of xs ss a == length_of xs ss b
+are_equally_long xs ss _ = false

@@ -1,3 +1,4 @@
+pub mod Slots
 pub mod Parts
 pub mod Kinds
 pub mod Layout
@@ -5,11 +6,9 @@ pub mod Shown
 pub mod Partial
 pub mod Fitting
 pub mod Scope
+pub mod Posting
 pub mod Stands
 pub mod Naming
 pub mod Names
-pub mod Readings
-pub mod Sheets
-pub mod Laying
 pub mod Hashing
 pub mod Numbered

@@ -33,14 +33,6 @@ IsAmongTerms ts (entries.Variable n) = ⊤
 IsAmongTerms ts (entries.Parameter i) = i < length ts
 IsAmongTerms ts (entries.Array i) = ⊤
 
--- the scalars that variables are, by their numbers: this many from a number on
-abbrev pub own_from : ℕ → ℕ → List Term
-own_from n zero = []
-own_from n (suc k) = Var n ∷ own_from (suc n) k
-
-abbrev pub own_terms : ℕ → List Term
-own_terms k = own_from 0 k
-
 -- what is told of a name
 abbrev pub standing_view : Standing → Declared
 standing_view (standings.Variable n) = Scalar (Var n)

@@ -1,6 +1,6 @@
 -- What the parts of a loaded model stand for: the model as it is defined, without memory (this project's profile). Variables and arrays are
 -- cited by their numbers; nothing rests on what stands for a number that is none's.
-use Rattle.std.specs.Prelude.{ℕ, List, [], map, Option, None, Some, cond, slice_get}
+use Rattle.std.specs.Prelude.{ℕ, List, [], map, Option, None, Some, cond, option_map, slice_get}
 use Rattle.std.specs.Option.{option_map_or}
 use Rattle.fz_meaning.specs.Values.{kind_of}
 use Rattle.fz_meaning.specs.declared.kind.Kind.{Kind}
@@ -8,16 +8,23 @@ use Rattle.fz_meaning.specs.declared.kind.Kind.TheVariants.{Int as IntKind}
 use Rattle.fz_meaning.specs.declared.term.Term.{Term}
 use Rattle.fz_meaning.specs.declared.term.Term.TheVariants.{Var, Fixed}
 use Rattle.fz_meaning.specs.declared.term.Domain.TheVariants.{All}
+use Rattle.fz_meaning.specs.Builtins.{Row}
+use Rattle.fz_meaning.specs.Known.{known_row}
 use Rattle.fz_meaning.specs.Meaning as meaning
 use Rattle.fz_data.specs.declared.parts.Variable.{Variable}
 use Rattle.fz_data.specs.declared.parts.Array.{Array}
+use Rattle.fz_data.specs.declared.parts.ScalarList.{ScalarList}
 use Rattle.fz_data.specs.Naming.{Declared}
 use Rattle.fz_data.specs.Naming.{Declared as declarations}
-use Rattle.fz_data.specs.declared.parts.Place.{Place}
-use Rattle.fz_data.specs.declared.parts.Place.TheVariants as places
-use Rattle.fz_data.specs.declared.parts.Argument.{Argument}
-use Rattle.fz_data.specs.declared.parts.Argument.TheVariants as arguments
+use Rattle.fz_base.specs.declared.value.Value.{Value}
+use Rattle.fz_data.specs.declared.store.Slot.{Slot}
+use Rattle.fz_data.specs.declared.store.Slot.TheVariants as slots
+use Rattle.fz_data.specs.declared.store.Argument.{Argument}
+use Rattle.fz_data.specs.declared.store.Argument.TheVariants as arguments
+use Rattle.fz_data.specs.declared.store.Store.{Store}
 use Rattle.fz_data.specs.declared.parts.Posted.{Posted}
+use Rattle.fz_data.specs.declared.point.ConstraintParts.{ConstraintParts}
+use Rattle.fz_data.specs.Slots.{slot_term, segment}
 use Rattle.fz_data.specs.declared.parts.Goal.{Goal}
 use Rattle.fz_data.specs.declared.parts.Goal.TheVariants as goals
 use Rattle.fz_data.specs.declared.parts.DeclaredPoint.{DeclaredPoint}
@@ -45,8 +52,15 @@ kind_of_term vs (Fixed v) = kind_of v
 abbrev pub scalar_view : List Variable → Term → meaning.Place
 scalar_view vs t = meaning.Place.Scalar (kind_of_term vs t) t
 
+abbrev pub terms_of : ScalarList → List Term
+terms_of l = map (slot_term l.constants.items) l.slots.items
+
+-- the elements of an array
+abbrev pub elements_of : Array → List Term
+elements_of x = terms_of x.elements
+
 abbrev pub array_view : Array → meaning.Place
-array_view x = meaning.Place.Array x.name.now x.kind x.elements.items
+array_view x = meaning.Place.Array x.name.now x.kind (elements_of x)
 
 abbrev pub no_array : meaning.Place
 no_array = meaning.Place.Array [] IntKind []
@@ -63,7 +77,7 @@ scalar_declared vs x (Fixed v) = meaning.Declared.Parameter x (meaning.Place.Sca
 abbrev pub array_declared : Array → meaning.Declared
 array_declared x =
     cond x.is_variable
-    (meaning.Declared.ArrayOfVariables x.name.now x.kind x.domain x.elements.items)
+    (meaning.Declared.ArrayOfVariables x.name.now x.kind x.domain (elements_of x))
     (meaning.Declared.Parameter x.name.now (array_view x))
 
 abbrev pub declared_view : List Variable → List Array → List ℕ → Declared → meaning.Declared
@@ -77,16 +91,27 @@ declared_place vs xs (declarations.Array i) = array_at xs i
 
 -- ---- constraints and the goal
 
-abbrev pub place_view : List Variable → List Array → Place → meaning.Place
-place_view vs xs (places.Scalar t) = scalar_view vs t
-place_view vs xs (places.Array x) = array_at xs x.number
+-- what a slot stands for, with these constants beside
+abbrev pub place_view : List Variable → List Array → List Value → Slot → meaning.Place
+place_view vs xs cs (slots.Variable n) = scalar_view vs (slot_term cs (slots.Variable n))
+place_view vs xs cs (slots.Number i) = scalar_view vs (slot_term cs (slots.Number i))
+place_view vs xs cs (slots.Truth b) = scalar_view vs (slot_term cs (slots.Truth b))
+place_view vs xs cs (slots.Constant k) = scalar_view vs (slot_term cs (slots.Constant k))
+place_view vs xs cs (slots.Array i) = array_at xs i
 
-abbrev pub argument_view : List Variable → List Array → Argument → meaning.Argument
-argument_view vs xs (arguments.One p) = meaning.Argument.One (place_view vs xs p)
-argument_view vs xs (arguments.List ps) = meaning.Argument.ListOf (map (place_view vs xs) ps.items)
+abbrev pub argument_view : List Variable → List Array → Store → Argument → meaning.Argument
+argument_view vs xs st (arguments.One s) = meaning.Argument.One (place_view vs xs st.constants.items s)
+argument_view vs xs st (arguments.List g) = meaning.Argument.ListOf (map (place_view vs xs st.constants.items) (segment st.slots.items g))
 
-abbrev pub posted_view : List Variable → List Array → Posted → meaning.Posted
-posted_view vs xs p = record { name = p.name.now; arguments = map (argument_view vs xs) p.arguments.items; target = p.target }
+abbrev pub posted_view : List Variable → List Array → Store → Posted → meaning.Posted
+posted_view vs xs st p = record { name = p.name.now; arguments = map (argument_view vs xs st) (segment st.arguments.items p.arguments); target = p.target }
+
+-- the row of the table that it is kept with
+abbrev pub kept_row : Posted → Option Row
+kept_row p = option_map known_row p.known
+
+abbrev pub constraint_view : ConstraintParts → meaning.Posted
+constraint_view c = posted_view c.variables.now c.arrays.now c.store.now c.posted.now
 
 abbrev pub goal_view : Goal → meaning.Aim
 goal_view goals.Satisfy = meaning.Aim.Satisfy
@@ -100,7 +125,7 @@ definition_point vs n None = meaning.Point.DomainPoint (variable_at vs n) n
 definition_point vs n (Some e) = meaning.Point.DefinitionPoint (variable_at vs n) n e
 
 abbrev pub elements_point : Array → meaning.Point
-elements_point x = meaning.Point.ArrayPoint x.name.now x.domain x.elements.items
+elements_point x = meaning.Point.ArrayPoint x.name.now x.domain (elements_of x)
 
 abbrev pub declared_point : List Variable → List Array → DeclaredPoint → meaning.Point
 declared_point vs xs (points.Domain n) = meaning.Point.DomainPoint (variable_at vs n) n

@@ -17,8 +17,6 @@ use Rattle.fz_syntax.specs.Tree.Note.{Called}
 use Rattle.fz_syntax.specs.Tree.NoteArgs.{NoMoreArgs, MoreArgs}
 use Rattle.fz_syntax.specs.Tree.NoteArg.{OneBasic}
 use Rattle.fz_syntax.specs.Tree.NoteBasic.{Inner}
-use Rattle.std.specs.List.{AllByRecursion}
-use Rattle.fz_data.specs.Layout.{IsKeptAs}
 use Rattle.fz_data.specs.Fitting.{kinds_among}
 use Rattle.fz_meaning.specs.Located.Basic.{Lit, Named}
 use Rattle.fz_meaning.specs.Located.Expr.{One, Several}
@@ -39,7 +37,7 @@ use Rattle.fz_data.specs.Naming.{Declared as declarations}
 use Rattle.fz_data.specs.declared.parts.DeclaredPoint.{DeclaredPoint}
 use Rattle.fz_data.specs.declared.parts.DeclaredPoint.TheVariants as points
 use Rattle.fz_data.specs.declared.parts.Variable.{Variable}
-use Rattle.fz_data.specs.Parts.{variable_view, declared_place}
+use Rattle.fz_data.specs.Parts.{variable_view, declared_place, elements_of}
 
 -- the error tells the fault, where it is not for want of memory
 abbrev pub Tells : ModelError → Option Fault → Type 0
@@ -112,7 +110,7 @@ definition_in s (Some (One b)) = Some (term_in s b)
 definition_in s _ = None
 
 abbrev pub IsArrayOf : Scope → Decl → the_array.Array → Type 0
-IsArrayOf s d x = (x.is_variable ≡ d.is_var) × (x.name.now ≡ d.name.text) × (x.kind ≡ kind_of_base d.base) × (x.domain ≡ domain_of d.base) × (x.elements.items ≡ map (term_in s) (parts d.value))
+IsArrayOf s d x = (x.is_variable ≡ d.is_var) × (x.name.now ≡ d.name.text) × (x.kind ≡ kind_of_base d.base) × (x.domain ≡ domain_of d.base) × (elements_of x ≡ map (term_in s) (parts d.value))
 
 -- what is declared: a parameter by its value, a variable, or an array
 abbrev pub IsItem : Scope → Decl → Item → Type 0
@@ -157,10 +155,6 @@ pub record IsAdded (old : Scope) (name : List ℕ) (item : Item) (new : Scope) :
   pub points : new.points.items ≡ old.points.items ++ new_points old item
 
 -- ---- constraints and the goal
-
--- a declared array stands in the list of arrays, under its name
-abbrev pub AreKept : Scope → Type 0
-AreKept s = AllByRecursion (λ e. IsKeptAs s.arrays.items e.0 e.1) s.names
 
 abbrev pub constraint_fault_in : Scope → Constraint → Option Fault
 constraint_fault_in s c = first_some (argument_fault s) c.args

@@ -1,6 +1,6 @@
 -- What a caller is shown of a model: points by their names, constraints with arrays by theirs, and what a name stands for (this project's
 -- profile).
-use Rattle.std.specs.Prelude.{ℕ, List, map, slice_get, ⊤}
+use Rattle.std.specs.Prelude.{ℕ, List, [], map, slice_get, ⊤}
 use Rattle.std.specs.Option.{option_map_or}
 use Rattle.fz_meaning.specs.Values.{kind_of}
 use Rattle.fz_meaning.specs.declared.kind.Kind.{Kind}
@@ -8,11 +8,15 @@ use Rattle.fz_meaning.specs.declared.kind.Kind.TheVariants.{Int as IntKind}
 use Rattle.fz_meaning.specs.declared.term.Term.{Term}
 use Rattle.fz_meaning.specs.declared.term.Term.TheVariants.{Var, Fixed}
 use Rattle.fz_meaning.specs.Meaning as meaning
-use Rattle.fz_data.specs.Parts.{variable_view, posted_view}
-use Rattle.fz_data.specs.declared.parts.Place.{Place}
-use Rattle.fz_data.specs.declared.parts.Place.TheVariants as places
-use Rattle.fz_data.specs.declared.parts.Argument.{Argument}
-use Rattle.fz_data.specs.declared.parts.Argument.TheVariants as arguments
+use Rattle.fz_base.specs.declared.value.Value.{Value}
+use Rattle.fz_data.specs.Slots.{scalar_term, slot_term, segment}
+use Rattle.fz_data.specs.Parts.{variable_view, constraint_view}
+use Rattle.fz_data.specs.declared.store.Slot.{Slot}
+use Rattle.fz_data.specs.declared.store.Slot.TheVariants as slots
+use Rattle.fz_data.specs.declared.store.Argument.{Argument}
+use Rattle.fz_data.specs.declared.store.Argument.TheVariants as arguments
+use Rattle.fz_data.specs.declared.store.Store.{Store}
+use Rattle.fz_data.specs.declared.parts.Array.{Array}
 use Rattle.fz_data.specs.declared.parts.Posted.{Posted}
 use Rattle.fz_data.specs.declared.point.Point.{Point}
 use Rattle.fz_data.specs.declared.point.Point.TheVariants as points
@@ -20,8 +24,14 @@ use Rattle.fz_data.specs.declared.point.ConstraintParts.{ConstraintParts}
 use Rattle.fz_data.specs.declared.point.PointParts.{PointParts}
 use Rattle.fz_data.specs.declared.point.PointParts.TheVariants as parts
 use Rattle.fz_data.specs.declared.found.Found.{Found}
+use Rattle.fz_data.specs.declared.found.Scalars.{Scalars}
 use Rattle.fz_data.specs.declared.found.What.{What}
 use Rattle.fz_data.specs.declared.found.What.TheVariants as whats
+
+-- ---- scalars
+
+abbrev pub scalar_terms : Scalars → List Term
+scalar_terms s = map (slot_term s.constants.now) s.slots.now
 
 -- ---- points
 
@@ -35,8 +45,8 @@ point_name (points.Constraint k x) = meaning.ConstraintOf k x.now
 abbrev pub point_view : PointParts → meaning.Point
 point_view (parts.Domain x n) = meaning.Point.DomainPoint (variable_view x.now) n
 point_view (parts.Definition x n e) = meaning.Point.DefinitionPoint (variable_view x.now) n e.now
-point_view (parts.Elements x d ts) = meaning.Point.ArrayPoint x.now d.now ts.now
-point_view (parts.Constraint c) = meaning.Point.ConstraintPoint c.number (posted_view c.variables.now c.arrays.now c.posted.now)
+point_view (parts.Elements x d ts) = meaning.Point.ArrayPoint x.now d.now (scalar_terms ts)
+point_view (parts.Constraint c) = meaning.Point.ConstraintPoint c.number (constraint_view c)
 
 -- what holds of a constraint's parts, where the point is a constraint
 abbrev pub IfConstraint : PointParts → (ConstraintParts → Type 0) → Type 0
@@ -47,16 +57,19 @@ IfConstraint (parts.Elements x d ts) P = ⊤
 
 -- ---- constraints: an array is shown by its name
 
-abbrev pub shown_place : Place → meaning.ShownPlace
-shown_place (places.Scalar t) = meaning.ShownScalar t
-shown_place (places.Array x) = meaning.ShownArray x.text.now
+abbrev pub shown_place : List Array → List Value → Slot → meaning.ShownPlace
+shown_place xs cs (slots.Variable n) = meaning.ShownScalar (slot_term cs (slots.Variable n))
+shown_place xs cs (slots.Number i) = meaning.ShownScalar (slot_term cs (slots.Number i))
+shown_place xs cs (slots.Truth b) = meaning.ShownScalar (slot_term cs (slots.Truth b))
+shown_place xs cs (slots.Constant k) = meaning.ShownScalar (slot_term cs (slots.Constant k))
+shown_place xs cs (slots.Array i) = meaning.ShownArray (option_map_or (λ x. x.name.now) (slice_get xs i) [])
 
-abbrev pub shown_argument : Argument → meaning.ShownArgument
-shown_argument (arguments.One p) = meaning.ShownOne (shown_place p)
-shown_argument (arguments.List ps) = meaning.ShownList (map shown_place ps.items)
+abbrev pub shown_argument : List Array → Store → Argument → meaning.ShownArgument
+shown_argument xs st (arguments.One s) = meaning.ShownOne (shown_place xs st.constants.items s)
+shown_argument xs st (arguments.List g) = meaning.ShownList (map (shown_place xs st.constants.items) (segment st.slots.items g))
 
-abbrev pub shown_posted : Posted → meaning.ShownPosted
-shown_posted p = record { name = p.name.now; arguments = map shown_argument p.arguments.items; target = p.target }
+abbrev pub shown_posted : List Array → Store → Posted → meaning.ShownPosted
+shown_posted xs st p = record { name = p.name.now; arguments = map (shown_argument xs st) (segment st.arguments.items p.arguments); target = p.target }
 
 -- ---- names
 
@@ -66,8 +79,8 @@ kind_among vs (Var n) = option_map_or (λ v. v.kind) (slice_get vs n) IntKind
 kind_among vs (Fixed v) = kind_of v
 
 abbrev pub what_place : List meaning.Variable → List ℕ → What → meaning.Place
-what_place vs x (whats.Scalar t) = meaning.Place.Scalar (kind_among vs t.now) t.now
-what_place vs x (whats.Array k ts) = meaning.Place.Array x k ts.now
+what_place vs x (whats.Scalar s) = meaning.Place.Scalar (kind_among vs (scalar_term s)) (scalar_term s)
+what_place vs x (whats.Array k ts) = meaning.Place.Array x k (scalar_terms ts)
 
 -- what is found under a name, among these variables
 abbrev pub found_place : List meaning.Variable → Found → meaning.Place

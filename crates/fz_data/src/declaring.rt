@@ -10,7 +10,7 @@ ghost use Rattle.fz_data.specs.Scope.{HasKinds, IsArrayOf, IsItem, Tells, decl_f
 ghost use Rattle.fz_data.specs.declared.scope.Scope.{Scope};
 
 use crate::parts::{Array, Variable};
-use crate::scope::{Item, Scope, term_of, terms_of};
+use crate::scope::{Item, Scope, scalars_of, term_of};
 use crate::values::{base_kind, domain_of, literal_kind, literal_value, same_kind};
 use fz_base::Value;
 use fz_meaning::{Kind, ModelError, Term};
@@ -98,7 +98,7 @@ fn expression_definition(
             Ok(Some(term))
         }
         Expr::List(parts) => {
-            let _ = terms_of(alloc, scope, kind, parts)?;
+            let _ = scalars_of(alloc, scope, kind, parts)?;
             Ok(None)
         }
     }
@@ -159,7 +159,7 @@ fn array_of<'a>(alloc: Global, scope: &Scope<'a>, decl: &Decl<'a>) -> Result<Arr
     ensures tells { IfErr result (λ e. Tells e (faults_in scope.now (Some (kind_of_base (located_decl decl.now).base)) (parts (located_decl decl.now).value))) }
 {
     let kind = base_kind(&decl.base);
-    let elements = terms_of(alloc, scope, kind, value_parts(&decl.value))?;
+    let elements = scalars_of(alloc, scope, kind, value_parts(&decl.value))?;
     let domain = domain_of(alloc, &decl.base)?;
     Ok(Array {
         name: decl.name.text,

@@ -5,7 +5,6 @@ ghost use Rattle.fz_meaning.specs.declared.error.ModelError.TheVariants.{Memory}
 ghost use Rattle.fz_meaning.specs.Names.{HasNoFault, IsInReadingOrder, model_of};
 ghost use Rattle.fz_meaning.specs.View.{TellsFault, TellsFirstFault, located, located_decl};
 ghost use Rattle.fz_meaning.specs.FirstFault.{decls_fault, first_fault};
-ghost use Rattle.fz_data.specs.Naming.{own_terms};
 ghost use Rattle.fz_data.specs.Scope.{HasKinds, Tells};
 ghost use Rattle.fz_data.specs.Stands.{StandsFor};
 
@@ -14,9 +13,10 @@ use crate::model::Model;
 use crate::names::Names;
 use crate::posting::{all_posted, goal_of};
 use crate::scope::{Scope, add};
-use fz_meaning::{ModelError, Term};
+use crate::store::Store;
+use fz_meaning::ModelError;
 use fz_syntax::{Ast, Decl};
-use std::alloc::{AllocError, Global};
+use std::alloc::Global;
 
 /// Nothing declared yet, with room for this many names.
 fn empty<'a>(alloc: Global, names: usize) -> Result<Scope<'a>, ModelError>
@@ -51,17 +51,6 @@ fn declared<'a>(alloc: Global, decls: &[Decl<'a>]) -> Result<Scope<'a>, ModelErr
     Ok(scope)
 }
 
-/// The scalars that this many variables are, by their numbers.
-fn variable_terms(alloc: Global, count: usize) -> Result<Vec<Term>, AllocError>
-    ensures { IfOk result (λ ts. ts.items ≡ own_terms count) }
-{
-    let mut terms = Vec::with_capacity(alloc, count)?;
-    for number in 0..count {
-        terms.push(Term::Var(number))?;
-    }
-    Ok(terms)
-}
-
 /// The model of a tree, or the fault that is met first.
 fn read<'a>(alloc: Global, ast: &Ast<'a>) -> Result<Model<'a>, ModelError>
     ensures clean { IfOk result (λ _. first_fault (located ast.now) ≡ None) }
@@ -69,17 +58,10 @@ fn read<'a>(alloc: Global, ast: &Ast<'a>) -> Result<Model<'a>, ModelError>
     ensures tells { IfErr result (λ e. Tells e (first_fault (located ast.now))) }
 {
     let scope = declared(alloc, &ast.decls)?;
-    let constraints = all_posted(alloc, &scope, &ast.constraints)?;
+    let mut store = Store::new(alloc);
+    let constraints = all_posted(alloc, &scope, &mut store, &ast.constraints)?;
     let goal = goal_of(alloc, &scope, &ast.solve.goal)?;
-    let terms = variable_terms(alloc, scope.variables.len())?;
-    Ok(Model::assembled(
-        scope,
-        terms,
-        constraints.posted,
-        constraints.known,
-        goal,
-        constraints.sheets,
-    ))
+    Ok(Model::assembled(scope, store, constraints, goal))
 }
 
 /// The model of a tree. It refuses a tree with faults, with the leftmost; else only where memory runs out.

@@ -1,22 +1,18 @@
 //! The loaded model.
 
-ghost use Rattle.std.specs.Prelude.{◌≡◌, ◌<◌, ◌++◌, IfSome, Some, length, map, option_map, slice_get};
+ghost use Rattle.std.specs.Prelude.{◌≡◌, ◌<◌, IfSome, Some, length, map, option_map, slice_get};
 ghost use Rattle.fz_meaning.specs.Meaning.{constraint_points, find_name, points, row_of, shown_point, shown_posted as shown, variables_of};
 ghost use Rattle.fz_meaning.specs.Known.{known_row};
 ghost use Rattle.fz_data.specs.Kinds.{PlaceFits, PostedFits};
-ghost use Rattle.fz_data.specs.Parts.{goal_view, posted_view, variable_view};
-ghost use Rattle.std.specs.List.{AllByRecursion};
-ghost use Rattle.fz_data.specs.Sheets.{Covers};
-ghost use Rattle.fz_data.specs.Shown.{IfConstraint, found_place, point_name, point_view, shown_posted};
+ghost use Rattle.fz_data.specs.Parts.{constraint_view, elements_of, goal_view, variable_view};
+ghost use Rattle.fz_data.specs.Shown.{IfConstraint, found_place, point_name, point_view, scalar_terms, shown_posted};
 
-use crate::found::{Found, What};
-use crate::laying::Laying;
+use crate::found::{Found, Scalars, What};
 use crate::names::{Names, Standing};
 use crate::parts::{Array, DeclaredPoint, Goal, Posted, Variable};
-use crate::point::{ConstraintParts, Point, PointParts};
+use crate::point::{ConstraintParts, Constraints, Point, PointParts};
 use crate::scope::Scope;
-use crate::sheet::Sheets;
-use fz_meaning::{Known, Term};
+use crate::store::{Scalar, Store, read_term};
 
 /// A model with its names looked up. A contract sees it as the model of the tree that it was loaded from.
 #[derive(Drop)]
@@ -24,17 +20,13 @@ pub struct Model<'a> {
     /// the declared names, in source order
     names: Names<'a>,
     variables: Vec<Variable<'a>>,
-    /// the scalar that each variable is, in their order, for those who look up its name
-    terms: Vec<Term>,
     arrays: Vec<Array<'a>>,
     /// the points of the declarations, in their order
     points: Vec<DeclaredPoint>,
     constraints: Vec<Posted<'a>>,
-    /// the row of the table that each constraint fits, in their order
-    known: Vec<Option<Known>>,
     goal: Goal,
-    /// the constraints by their rows, and those that define a variable in their order
-    sheets: Sheets,
+    /// the arguments of the constraints
+    store: Store,
 }
 
 impl<'a> std::marker::Model for Model<'a> {
@@ -62,10 +54,14 @@ impl<'a> Model<'a> {
     }
 
     /// The constraints, in source order. It takes no memory.
-    pub fn constraints(&self) -> &[Posted<'a>]
-        ensures all { map shown_posted result.now ≡ map shown self.now.constraints }
+    pub fn constraints(&self) -> Constraints<'_, 'a>
+        ensures all { map (shown_posted result.arrays.now result.store.now) result.posted.now ≡ map shown self.now.constraints }
     {
-        &self.constraints
+        Constraints {
+            posted: &self.constraints,
+            arrays: &self.arrays,
+            store: &self.store,
+        }
     }
 
     /// What is asked for. It takes no memory.
@@ -95,35 +91,14 @@ impl<'a> Model<'a> {
     {
         let (text, standing, stands_at) = self.names.find_at(name, place)?;
         let what = match standing {
-            Standing::Variable(number) => {
-                let term = self.terms.get(number)?;
-                What::Scalar(term)
-            }
-            Standing::Parameter(term) => What::Scalar(term),
+            Standing::Variable(number) => What::Scalar(Scalar::Variable(number)),
+            Standing::Parameter(term) => What::Scalar(read_term(term)),
             Standing::Array(number) => {
                 let array = self.arrays.get(number)?;
-                What::Array(array.kind, &array.elements)
+                What::Array(array.kind, elements_of(array))
             }
         };
         Some((Found { name: text, what }, stands_at))
-    }
-
-    /// The constraints as they stand on sheets, for who looks at all of them. It takes no memory.
-    pub fn laying(&self) -> Laying<'_, 'a>
-        ensures constraints { map (posted_view result.variables.now result.arrays.now) result.constraints.now ≡ self.now.constraints }
-        ensures rows { map (option_map known_row) result.known.now ≡ map row_of self.now.constraints }
-        ensures covers { Covers result.rest.now result.sheets.now (length self.now.constraints) }
-        ensures within { AllByRecursion (λ n. n < length self.now.constraints) result.rest.now }
-        ensures kinds { AllByRecursion (PostedFits self.now) self.now.constraints }
-    {
-        Laying {
-            constraints: &self.constraints,
-            variables: &self.variables,
-            arrays: &self.arrays,
-            known: &self.known,
-            sheets: &self.sheets.sheets,
-            rest: &self.sheets.rest,
-        }
     }
 
     /// The number of points. It takes no memory.
@@ -151,19 +126,17 @@ impl<'a> Model<'a> {
     pub fn point_parts(&self, number: usize) -> PointParts<'_, 'a>
         requires in_range { number < length (points self.now) }
         ensures parts { slice_get (points self.now) number ≡ Some (point_view result) }
-        ensures known { IfConstraint result (λ c. option_map known_row c.known ≡ row_of (posted_view c.variables.now c.arrays.now c.posted.now)) }
-        ensures kinds { IfConstraint result (λ c. PostedFits self.now (posted_view c.variables.now c.arrays.now c.posted.now)) }
+        ensures known { IfConstraint result (λ c. option_map known_row c.posted.now.known ≡ row_of (constraint_view c)) }
+        ensures kinds { IfConstraint result (λ c. PostedFits self.now (constraint_view c)) }
     {
         if number >= self.points.len() {
             let place = number - self.points.len();
-            let known = self.known[place];
             return PointParts::Constraint(ConstraintParts {
                 number: place + 1,
                 posted: &self.constraints[place],
                 variables: &self.variables,
                 arrays: &self.arrays,
-                known,
-                laid: self.sheets.laid_at(place),
+                store: &self.store,
             });
         }
         match self.points[number] {
@@ -179,7 +152,7 @@ impl<'a> Model<'a> {
             }
             DeclaredPoint::Elements(array) => {
                 let array = &self.arrays[array];
-                PointParts::Elements(array.name, &array.domain, &array.elements)
+                PointParts::Elements(array.name, &array.domain, elements_of(array))
             }
         }
     }
@@ -188,17 +161,15 @@ impl<'a> Model<'a> {
 impl<'a> Model<'a> {
     ghost use Rattle.fz_data.specs.Layout.{IsLaidOut, model_view};
 
-    /// The model of what was declared, with constraints, their rows and a goal that cite it.
+    /// The model of what was declared, with constraints and a goal that cite it.
     pub(crate) fn assembled(
         scope: Scope<'a>,
-        terms: Vec<Term>,
+        store: Store,
         constraints: Vec<Posted<'a>>,
-        known: Vec<Option<Known>>,
         goal: Goal,
-        sheets: Sheets,
     ) -> Model<'a>
-        requires laid_out { IsLaidOut (record { names = scope.names; variables = scope.variables; terms = terms; arrays = scope.arrays; points = scope.points; constraints = constraints; known = known; goal = goal; sheets = sheets }) }
-        ensures view { result ≡ model_view (record { names = scope.entry.names; variables = scope.entry.variables; terms = terms; arrays = scope.entry.arrays; points = scope.entry.points; constraints = constraints.entry; known = known; goal = goal; sheets = sheets }) }
+        requires laid_out { IsLaidOut (record { names = scope.names; variables = scope.variables; arrays = scope.arrays; points = scope.points; constraints = constraints; goal = goal; store = store }) }
+        ensures view { result ≡ model_view (record { names = scope.entry.names; variables = scope.entry.variables; arrays = scope.entry.arrays; points = scope.entry.points; constraints = constraints.entry; goal = goal; store = store }) }
     {
         let Scope {
             names,
@@ -210,13 +181,22 @@ impl<'a> Model<'a> {
         Model {
             names,
             variables,
-            terms,
             arrays,
             points,
             constraints,
-            known,
             goal,
-            sheets,
+            store,
         }
+    }
+}
+
+/// The elements of an array.
+#[inline(always)]
+fn elements_of<'m>(array: &'m Array<'_>) -> Scalars<'m>
+    ensures { scalar_terms result ≡ elements_of array.now }
+{
+    Scalars {
+        slots: &array.elements.slots,
+        constants: &array.elements.constants,
     }
 }

@@ -6,7 +6,6 @@ ghost use Rattle.fz_data.specs.declared.numbered.Place.TheVariants.{Crowded, Fre
 ghost use Rattle.fz_data.specs.Numbered.{entry_of, entry_there, head_of, is_free, is_free_there, is_of, mark_of, marks_of, number_of, place_at, seat_there, unpacked, with_byte, AreKept, ArePackedOf, IsLeft, IsPlaceOf, IsShapeAt, IsTakenBy};
 
 use crate::names::Entry;
-use crate::sheet::small;
 use fz_meaning::same_text;
 use std::alloc::{AllocError, Global};
 
@@ -49,6 +48,13 @@ pub(crate) struct Shape<'a> {
 struct Ending {
     number: usize,
     marks: [u8; LAST],
+}
+
+/// The number, where it has 32 bits.
+fn small(number: usize) -> Option<u32>
+    ensures { IfSome result (λ k. k ≡ number) }
+{
+    u32::try_from(number).ok()
 }
 
 /// A byte, a digit as `0`.

@@ -1,9 +1,12 @@
 //! The parts of a model. Names are slices of the source.
 
-ghost use Rattle.std.specs.Prelude.{◌≡◌};
-ghost use Rattle.fz_data.specs.Readings.{array_elements};
+ghost use Rattle.std.specs.Prelude.{◌≡◌, true};
+ghost use Rattle.std.specs.List.{list_all};
+ghost use Rattle.fz_data.specs.Slots.{is_scalar};
 
-use fz_meaning::{Domain, Kind, Term};
+use crate::store::{Segment, Slot};
+use fz_base::Value;
+use fz_meaning::{Domain, Kind, Known, Term};
 
 /// A scalar variable: its name, its kind, and the values that its declaration admits.
 #[derive(Debug, Drop)]
@@ -22,55 +25,25 @@ pub struct Array<'a> {
     pub is_variable: bool,
     pub kind: Kind,
     pub domain: Domain,
-    pub elements: Vec<Term>,
+    pub elements: ScalarList,
 }
 
-/// A declared array by its name, and by its number among the arrays.
-#[derive(Clone, Copy, Debug)]
-pub struct ArrayName<'a> {
-    pub text: &'a [u8],
-    pub(crate) number: usize,
-}
-
-impl ArrayName<'_> {
-    /// The elements of the array, which is one of these; else none.
-    pub fn elements<'m>(&self, arrays: &'m [Array<'_>]) -> &'m [Term]
-        ensures { result.now ≡ array_elements arrays.now self.now.number }
-    {
-        array_elements(arrays, self.number)
-    }
-}
-
-/// The elements of the array of a number; none where the number is no array's.
-pub fn array_elements<'m>(arrays: &'m [Array<'_>], number: usize) -> &'m [Term]
-    ensures { result.now ≡ array_elements arrays.now number }
-{
-    match arrays.get(number) {
-        Some(array) => &array.elements,
-        None => &[],
-    }
-}
-
-/// What a literal or a name in a constraint stands for.
+/// Scalars one behind another, with the values for which no slot has room.
 #[derive(Debug, Drop)]
-pub enum Place<'a> {
-    Scalar(Term),
-    Array(ArrayName<'a>),
+pub struct ScalarList {
+    pub slots: Vec<Slot>,
+    pub constants: Vec<Value>,
+    ghost flat: { list_all is_scalar slots.items ≡ true },
 }
 
-/// An argument of a constraint: one literal or name, or a list of them in brackets.
-#[derive(Debug, Drop)]
-pub enum Argument<'a> {
-    One(Place<'a>),
-    List(Vec<Place<'a>>),
-}
-
-/// A constraint: the predicate's name, its arguments, and the number of the variable that its first whole
+/// A constraint: the predicate's name, the row of the table that it fits, the segment of the
+/// store's arguments that are its own, and the number of the variable that its first whole
 /// `defines_var` names.
-#[derive(Debug, Drop)]
+#[derive(Clone, Copy, Debug)]
 pub struct Posted<'a> {
     pub name: &'a [u8],
-    pub arguments: Vec<Argument<'a>>,
+    pub known: Option<Known>,
+    pub arguments: Segment,
     pub target: Option<usize>,
 }
 

@@ -1,133 +1,142 @@
 //! Constraints and the goal, with their names looked up.
 
-ghost use Rattle.std.specs.Prelude.{◌≡◌, IfErr, IfOk, None, Some, map, option_map};
-ghost use Rattle.std.specs.List.{AllByRecursion};
+ghost use Rattle.std.specs.Prelude.{◌≡◌, IfErr, IfOk, None, OnOk, Some, map, option_map};
 ghost use Rattle.fz_meaning.specs.declared.kind.Kind.TheVariants.{Int as IntKind};
+ghost use Rattle.fz_meaning.specs.Located.Basic.{Named};
 ghost use Rattle.fz_meaning.specs.Meaning.{first_some, row_of};
 ghost use Rattle.fz_meaning.specs.Names.{goal_parts};
 ghost use Rattle.fz_meaning.specs.View.{located_basic, located_constraint, located_expr, located_goal, located_name};
-ghost use Rattle.fz_syntax.specs.View.{bare_basic, bare_note, bare_notes};
+ghost use Rattle.fz_syntax.specs.View.{arg_list, bare_arg, bare_basic, bare_note, bare_notes};
 ghost use Rattle.fz_syntax.specs.Tree.NoteArg.{OneBasic};
-ghost use Rattle.fz_meaning.specs.Known.{known_row};
-ghost use Rattle.fz_data.specs.Layout.{AreCited, CitesArrays, IsCited};
-ghost use Rattle.fz_data.specs.Parts.{argument_view, goal_view, place_view, posted_view};
-ghost use Rattle.fz_data.specs.Sheets.{AreSheetsOf};
-ghost use Rattle.fz_data.specs.Scope.{AreKept, HasKinds, Tells, aim_in, argument_fault, argument_in, constraint_fault_in, defined_in, bare_name_of, fault_in, faults_in, inner_of, only_arg, place_in, place_of_part, posted_in, variable_at_term, variable_by_place};
-ghost use Rattle.fz_meaning.specs.Located.Basic.{Named};
-ghost use Rattle.fz_syntax.specs.View.{arg_list, bare_arg};
+ghost use Rattle.fz_data.specs.Parts.{goal_view, kept_row, posted_view};
+ghost use Rattle.fz_data.specs.Posting.{AreArgumentsOf, ArePlacesOf, IsArgumentOf, IsLonger, IsPlaceOf, IsPostedOf};
+ghost use Rattle.fz_data.specs.Scope.{HasKinds, Tells, aim_in, argument_fault, argument_in, constraint_fault_in, defined_in, bare_name_of, fault_in, faults_in, inner_of, only_arg, place_in, place_of_part, posted_in, variable_at_term, variable_by_place};
+ghost use Rattle.fz_data.specs.Slots.{IsGrown};
 
 use crate::names::Standing;
-use crate::parts::{Argument, ArrayName, Goal, Place, Posted};
+use crate::parts::{Goal, Posted};
 use crate::rows::row_of;
 use crate::scope::{Scope, term_of};
-use crate::sheet::Sheets;
+use crate::store::{Argument, Segment, Slot, Store, narrow, part, slot_of, value_slot};
 use crate::values::{copied, literal_value};
-use fz_meaning::{Kind, Known, ModelError, Term, same_text};
+use fz_base::Value;
+use fz_meaning::{Kind, ModelError, Term, same_text};
 use fz_syntax::{Basic, Constraint, Expr, Goal as TreeGoal, Name, Note, NoteArg, NoteBasic};
 use std::alloc::Global;
 
 /// What a name stands for.
 #[inline(always)]
-fn named_place<'a>(
+fn named_slot(
     alloc: Global,
-    scope: &Scope<'a>,
-    name: &Name<'a>,
-) -> Result<Place<'a>, ModelError>
-    requires kept { AreKept scope.now }
+    scope: &Scope<'_>,
+    constants: &mut Vec<Value>,
+    name: &Name<'_>,
+) -> Result<Slot, ModelError>
     ensures known { IfOk result (λ _. fault_in scope.now None (Named (located_name name.now)) ≡ None) }
-    ensures place { IfOk result (λ p. place_view scope.now.variables.items scope.now.arrays.items p ≡ place_of_part scope.now (Named (located_name name.now))) }
-    ensures cited { IfOk result (λ p. IsCited scope.now.arrays.items p) }
+    ensures place { IfOk result (IsPlaceOf scope.now constants.new.items (place_of_part scope.now (Named (located_name name.now)))) }
+    ensures grown { OnOk result (IsGrown constants.old.items constants.new.items) }
     ensures tells { IfErr result (λ e. Tells e (fault_in scope.now None (Named (located_name name.now)))) }
 {
     match scope.names.get(name.text) {
         None => Err(ModelError::UnknownName(name.span)),
-        Some(Standing::Variable(number)) => Ok(Place::Scalar(Term::Var(number))),
-        Some(Standing::Array(number)) => Ok(Place::Array(ArrayName {
-            text: name.text,
-            number,
-        })),
-        Some(Standing::Parameter(term)) => Ok(Place::Scalar(copied(alloc, term)?)),
+        Some(Standing::Variable(number)) => Ok(Slot::Variable(narrow(number)?)),
+        Some(Standing::Array(number)) => Ok(Slot::Array(narrow(number)?)),
+        Some(Standing::Parameter(term)) => {
+            let term = copied(alloc, term)?;
+            Ok(slot_of(constants, term)?)
+        }
     }
 }
 
 /// What a literal or a name in a constraint stands for.
 #[inline(always)]
-fn place_of<'a>(alloc: Global, scope: &Scope<'a>, part: &Basic<'a>) -> Result<Place<'a>, ModelError>
-    requires kept { AreKept scope.now }
+fn place_of(
+    alloc: Global,
+    scope: &Scope<'_>,
+    constants: &mut Vec<Value>,
+    part: &Basic<'_>,
+) -> Result<Slot, ModelError>
     ensures known { IfOk result (λ _. fault_in scope.now None (located_basic part.now) ≡ None) }
-    ensures place { IfOk result (λ p. place_view scope.now.variables.items scope.now.arrays.items p ≡ place_of_part scope.now (located_basic part.now)) }
-    ensures cited { IfOk result (λ p. IsCited scope.now.arrays.items p) }
+    ensures place { IfOk result (IsPlaceOf scope.now constants.new.items (place_of_part scope.now (located_basic part.now))) }
+    ensures grown { OnOk result (IsGrown constants.old.items constants.new.items) }
     ensures tells { IfErr result (λ e. Tells e (fault_in scope.now None (located_basic part.now))) }
 {
     match part {
-        Basic::Lit(literal) => Ok(Place::Scalar(Term::Fixed(literal_value(alloc, &literal.what)?))),
-        Basic::Named(name) => named_place(alloc, scope, name),
+        Basic::Lit(literal) => {
+            let value = literal_value(alloc, &literal.what)?;
+            Ok(value_slot(constants, value)?)
+        }
+        Basic::Named(name) => named_slot(alloc, scope, constants, name),
     }
 }
 
-/// What the elements of a list in brackets stand for.
-fn places_of<'a>(
+/// Puts what the elements of a list in brackets stand for behind the other slots.
+fn places_of(
     alloc: Global,
-    scope: &Scope<'a>,
-    parts: &[Basic<'a>],
-) -> Result<Vec<Place<'a>>, ModelError>
-    requires kept { AreKept scope.now }
+    scope: &Scope<'_>,
+    store: &mut Store,
+    parts: &[Basic<'_>],
+) -> Result<Segment, ModelError>
     ensures known { IfOk result (λ _. faults_in scope.now None (map located_basic parts.now) ≡ None) }
-    ensures places { IfOk result (λ ps. map (place_view scope.now.variables.items scope.now.arrays.items) ps.items ≡ map (place_of_part scope.now) (map located_basic parts.now)) }
-    ensures cited { IfOk result (λ ps. AllByRecursion (IsCited scope.now.arrays.items) ps.items) }
+    ensures places { IfOk result (ArePlacesOf scope.now store.new (map (place_of_part scope.now) (map located_basic parts.now))) }
+    ensures longer { OnOk result (IsLonger store.old store.new) }
+    ensures kept { OnOk result (store.new.arguments.items ≡ store.old.arguments.items) }
     ensures tells { IfErr result (λ e. Tells e (faults_in scope.now None (map located_basic parts.now))) }
 {
-    let mut places = Vec::with_capacity(alloc, parts.len())?;
+    let first = narrow(store.slots.len())?;
+    let count = narrow(parts.len())?;
     for part in parts {
-        let place = place_of(alloc, scope, part)?;
-        places.push(place)?;
+        let slot = place_of(alloc, scope, &mut store.constants, part)?;
+        store.slots.push(slot)?;
     }
-    Ok(places)
+    Ok(Segment { first, count })
 }
 
 /// An argument of a constraint.
 #[inline(always)]
-fn argument_of<'a>(
+fn argument_of(
     alloc: Global,
-    scope: &Scope<'a>,
-    argument: &Expr<'a>,
-) -> Result<Argument<'a>, ModelError>
-    requires kept { AreKept scope.now }
+    scope: &Scope<'_>,
+    store: &mut Store,
+    argument: &Expr<'_>,
+) -> Result<Argument, ModelError>
     ensures known { IfOk result (λ _. argument_fault scope.now (located_expr argument.now) ≡ None) }
-    ensures argument { IfOk result (λ a. argument_view scope.now.variables.items scope.now.arrays.items a ≡ argument_in scope.now (located_expr argument.now)) }
-    ensures cited { IfOk result (λ a. AreCited scope.now.arrays.items a) }
+    ensures argument { IfOk result (IsArgumentOf scope.now store.new (argument_in scope.now (located_expr argument.now))) }
+    ensures longer { OnOk result (IsLonger store.old store.new) }
+    ensures kept { OnOk result (store.new.arguments.items ≡ store.old.arguments.items) }
     ensures tells { IfErr result (λ e. Tells e (argument_fault scope.now (located_expr argument.now))) }
 {
     match argument {
         Expr::One(part) => {
-            let place = place_of(alloc, scope, part)?;
-            Ok(Argument::One(place))
+            let slot = place_of(alloc, scope, &mut store.constants, part)?;
+            Ok(Argument::One(slot))
         }
         Expr::List(parts) => {
-            let places = places_of(alloc, scope, parts)?;
-            Ok(Argument::List(places))
+            let slots = places_of(alloc, scope, store, parts)?;
+            Ok(Argument::List(slots))
         }
     }
 }
 
-/// The arguments of a constraint, in their order.
-fn arguments_of<'a>(
+/// Puts the arguments of a constraint, in their order, behind the others.
+fn arguments_of(
     alloc: Global,
-    scope: &Scope<'a>,
-    arguments: &[Expr<'a>],
-) -> Result<Vec<Argument<'a>>, ModelError>
-    requires kept { AreKept scope.now }
+    scope: &Scope<'_>,
+    store: &mut Store,
+    arguments: &[Expr<'_>],
+) -> Result<Segment, ModelError>
     ensures known { IfOk result (λ _. first_some (argument_fault scope.now) (map located_expr arguments.now) ≡ None) }
-    ensures arguments { IfOk result (λ xs. map (argument_view scope.now.variables.items scope.now.arrays.items) xs.items ≡ map (argument_in scope.now) (map located_expr arguments.now)) }
-    ensures cited { IfOk result (λ xs. AllByRecursion (AreCited scope.now.arrays.items) xs.items) }
+    ensures arguments { IfOk result (AreArgumentsOf scope.now store.new (map (argument_in scope.now) (map located_expr arguments.now))) }
+    ensures longer { OnOk result (IsLonger store.old store.new) }
     ensures tells { IfErr result (λ e. Tells e (first_some (argument_fault scope.now) (map located_expr arguments.now))) }
 {
-    let mut found = Vec::with_capacity(alloc, arguments.len())?;
+    let first = narrow(store.arguments.len())?;
+    let count = narrow(arguments.len())?;
     for argument in arguments {
-        let place = argument_of(alloc, scope, argument)?;
-        found.push(place)?;
+        let given = argument_of(alloc, scope, store, argument)?;
+        store.arguments.push(given)?;
     }
-    Ok(found)
+    Ok(Segment { first, count })
 }
 
 fn variable_number(term: &Term) -> Option<usize>
@@ -216,65 +225,55 @@ fn target_of(scope: &Scope<'_>, notes: &[Note<'_>]) -> Option<usize>
     None
 }
 
-/// A constraint, with the variable that its first whole `defines_var` names.
+/// A constraint, with the row that it fits and the variable that its first whole `defines_var` names.
 fn posted<'a>(
     alloc: Global,
     scope: &Scope<'a>,
+    store: &mut Store,
     constraint: &Constraint<'a>,
 ) -> Result<Posted<'a>, ModelError>
-    requires kept { AreKept scope.now }
+    requires kinds { HasKinds scope.now }
     ensures known { IfOk result (λ _. constraint_fault_in scope.now (located_constraint constraint.now) ≡ None) }
-    ensures posted { IfOk result (λ p. posted_view scope.now.variables.items scope.now.arrays.items p ≡ posted_in scope.now (located_constraint constraint.now)) }
-    ensures cited { IfOk result (λ p. CitesArrays scope.now.arrays.items p) }
+    ensures posted { IfOk result (IsPostedOf scope.now store.new (posted_in scope.now (located_constraint constraint.now))) }
+    ensures row { IfOk result (λ p. kept_row p ≡ row_of (posted_in scope.now (located_constraint constraint.now))) }
+    ensures longer { OnOk result (IsLonger store.old store.new) }
     ensures tells { IfErr result (λ e. Tells e (constraint_fault_in scope.now (located_constraint constraint.now))) }
 {
-    let arguments = arguments_of(alloc, scope, &constraint.args)?;
+    let arguments = arguments_of(alloc, scope, store, &constraint.args)?;
+    let name = constraint.name.text;
+    let known = row_of(
+        name,
+        part(&store.arguments, arguments),
+        &scope.cited(),
+        store,
+    );
     Ok(Posted {
-        name: constraint.name.text,
+        name,
+        known,
         arguments,
         target: target_of(scope, &constraint.notes),
     })
 }
 
-/// Constraints with the row of the table that each fits, in source order.
-#[derive(Drop)]
-pub(crate) struct Constraints<'a> {
-    pub(crate) posted: Vec<Posted<'a>>,
-    pub(crate) known: Vec<Option<Known>>,
-    pub(crate) sheets: Sheets,
-}
-
-/// The constraints, in source order. The row of each is found while its arguments are at hand.
+/// The constraints, in source order.
 pub(crate) fn all_posted<'a>(
     alloc: Global,
     scope: &Scope<'a>,
+    store: &mut Store,
     constraints: &[Constraint<'a>],
-) -> Result<Constraints<'a>, ModelError>
-    requires kept { AreKept scope.now }
+) -> Result<Vec<Posted<'a>>, ModelError>
     requires kinds { HasKinds scope.now }
     ensures known { IfOk result (λ _. first_some (constraint_fault_in scope.now) (map located_constraint constraints.now) ≡ None) }
-    ensures posted { IfOk result (λ cs. map (posted_view scope.now.variables.items scope.now.arrays.items) cs.posted.items ≡ map (posted_in scope.now) (map located_constraint constraints.now)) }
-    ensures rows { IfOk result (λ cs. map (option_map known_row) cs.known.items ≡ map row_of (map (posted_view scope.now.variables.items scope.now.arrays.items) cs.posted.items)) }
-    ensures cited { IfOk result (λ cs. AllByRecursion (CitesArrays scope.now.arrays.items) cs.posted.items) }
-    ensures sheets { IfOk result (λ cs. AreSheetsOf scope.now.arrays.items cs.posted.items cs.known.items cs.sheets) }
+    ensures posted { IfOk result (λ ps. map (posted_view scope.now.variables.items scope.now.arrays.items store.new) ps.items ≡ map (posted_in scope.now) (map located_constraint constraints.now)) }
+    ensures rows { IfOk result (λ ps. map kept_row ps.items ≡ map row_of (map (posted_in scope.now) (map located_constraint constraints.now))) }
     ensures tells { IfErr result (λ e. Tells e (first_some (constraint_fault_in scope.now) (map located_constraint constraints.now))) }
 {
-    let cited = scope.cited();
     let mut found = Vec::with_capacity(alloc, constraints.len())?;
-    let mut known = Vec::with_capacity(alloc, constraints.len())?;
-    let mut sheets = Sheets::with_capacity(alloc, constraints.len())?;
     for constraint in constraints {
-        let one = posted(alloc, scope, constraint)?;
-        let row = row_of(&one, &cited);
-        sheets.add(alloc, found.len(), row, &one)?;
-        known.push(row)?;
+        let one = posted(alloc, scope, store, constraint)?;
         found.push(one)?;
     }
-    Ok(Constraints {
-        posted: found,
-        known,
-        sheets,
-    })
+    Ok(found)
 }
 
 /// What is asked for: the objective is to be a whole number.

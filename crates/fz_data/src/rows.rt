@@ -1,15 +1,19 @@
 //! The row of the table of builtins that a constraint fits.
 
-ghost use Rattle.std.specs.Prelude.{◌≡◌, map, option_map};
+ghost use Rattle.std.specs.Prelude.{◌≡◌, ℕ, Option, map, option_map};
 ghost use Rattle.std.specs.List.{list_all};
 ghost use Rattle.fz_meaning.specs.declared.term.Term.TheVariants.{Var};
 ghost use Rattle.fz_meaning.specs.Meaning.{fits, has_shape, have_shapes, row_of};
 ghost use Rattle.fz_meaning.specs.Known.{known_row, shape_of};
-ghost use Rattle.fz_data.specs.Parts.{argument_view, kind_of_term, posted_view};
-ghost use Rattle.fz_data.specs.Fitting.{are_equally_long, array_kind, is_array_of, is_scalar_of, is_term_among, kinds_among, length_of};
+ghost use Rattle.fz_meaning.specs.Values.{kind_of};
+ghost use Rattle.fz_data.specs.Parts.{argument_view, kind_of_term};
+ghost use Rattle.fz_data.specs.Fitting.{are_equally_long, array_kind, is_array_of, is_array_slot, is_of_kind, is_scalar_of, kinds_among, length_of, slot_length};
+ghost use Rattle.fz_data.specs.Slots.{constant_at};
 
-use crate::parts::{Argument, Array, Place, Posted, Variable};
+use crate::parts::{Array, Variable};
+use crate::store::{Argument, Slot, Store, part};
 use crate::values::{kind_of, same_kind};
+use fz_base::Value;
 use fz_meaning::{Kind, Known, Shape, Term};
 
 /// What constraints cite: the variables, their kinds, and the arrays. The kinds stand side by side, a byte each, so that the look-ups of
@@ -24,103 +28,144 @@ pub(crate) struct Cited<'m, 'a> {
 
 /// The row of the table that a constraint fits, by its name, the kinds of its arguments and, where the row adds up products, the lengths
 /// of the first two. It goes over each argument once and takes no memory.
-pub(crate) fn row_of(posted: &Posted<'_>, cited: &Cited<'_, '_>) -> Option<Known>
-    ensures { option_map known_row result ≡ row_of (posted_view cited.now.variables.now cited.now.arrays.now posted.now) }
+pub(crate) fn row_of(
+    name: &[u8],
+    arguments: &[Argument],
+    cited: &Cited<'_, '_>,
+    store: &Store,
+) -> Option<Known>
+    ensures { (t : Option ℕ) → option_map known_row result ≡ row_of (record { name = name.now; arguments = map (argument_view cited.now.variables.now cited.now.arrays.now store.now) arguments.now; target = t }) }
 {
-    let known = Known::find(posted.name)?;
-    if fits(known, &posted.arguments, cited) {
+    let known = Known::find(name)?;
+    if fits(known, arguments, cited, store) {
         Some(known)
     } else {
         None
     }
 }
 
-fn fits(known: Known, arguments: &[Argument<'_>], cited: &Cited<'_, '_>) -> bool
-    ensures { result ≡ fits (known_row known) (map (argument_view cited.now.variables.now cited.now.arrays.now) arguments.now) }
+fn fits(known: Known, arguments: &[Argument], cited: &Cited<'_, '_>, store: &Store) -> bool
+    ensures { result ≡ fits (known_row known) (map (argument_view cited.now.variables.now cited.now.arrays.now store.now) arguments.now) }
 {
-    have_shapes(known.shapes(), arguments, cited)
-        && (!known.equal_lengths() || equally_long(arguments, cited.arrays))
+    have_shapes(known.shapes(), arguments, cited, store)
+        && (!known.equal_lengths() || equally_long(arguments, cited.arrays, &store.slots))
 }
 
-fn have_shapes(shapes: &[Shape], arguments: &[Argument<'_>], cited: &Cited<'_, '_>) -> bool
-    ensures { result ≡ have_shapes (map shape_of shapes.now) (map (argument_view cited.now.variables.now cited.now.arrays.now) arguments.now) }
+fn have_shapes(
+    shapes: &[Shape],
+    arguments: &[Argument],
+    cited: &Cited<'_, '_>,
+    store: &Store,
+) -> bool
+    ensures { result ≡ have_shapes (map shape_of shapes.now) (map (argument_view cited.now.variables.now cited.now.arrays.now store.now) arguments.now) }
 {
     if shapes.len() != arguments.len() {
         return false;
     }
     for (shape, argument) in shapes.iter().zip(arguments) {
-        if !has_shape(*shape, argument, cited) {
+        if !has_shape(*shape, argument, cited, store) {
             return false;
         }
     }
     true
 }
 
-fn has_shape(shape: Shape, argument: &Argument<'_>, cited: &Cited<'_, '_>) -> bool
-    ensures { result ≡ has_shape (shape_of shape) (argument_view cited.now.variables.now cited.now.arrays.now argument.now) }
+fn has_shape(shape: Shape, argument: &Argument, cited: &Cited<'_, '_>, store: &Store) -> bool
+    ensures { result ≡ has_shape (shape_of shape) (argument_view cited.now.variables.now cited.now.arrays.now store.now argument.now) }
 {
     match shape {
-        Shape::Scalar(kind) => is_scalar_of(kind, argument, cited),
-        Shape::Array(kind) => is_array_of(kind, argument, cited),
+        Shape::Scalar(kind) => is_scalar_of(kind, argument, cited, store),
+        Shape::Array(kind) => is_array_of(kind, argument, cited, store),
     }
 }
 
-fn is_scalar_of(kind: Kind, argument: &Argument<'_>, cited: &Cited<'_, '_>) -> bool
-    ensures { result ≡ is_scalar_of cited.now.variables.now kind argument.now }
+fn is_scalar_of(kind: Kind, argument: &Argument, cited: &Cited<'_, '_>, store: &Store) -> bool
+    ensures { result ≡ is_scalar_of cited.now.variables.now store.now.constants.items kind argument.now }
 {
     match argument {
-        Argument::One(place) => is_term_of(kind, place, cited),
+        Argument::One(slot) => is_of(kind, slot, cited, &store.constants),
         Argument::List(_) => false,
     }
 }
 
-fn is_array_of(kind: Kind, argument: &Argument<'_>, cited: &Cited<'_, '_>) -> bool
-    ensures { result ≡ is_array_of cited.now.variables.now cited.now.arrays.now kind argument.now }
+fn is_array_of(kind: Kind, argument: &Argument, cited: &Cited<'_, '_>, store: &Store) -> bool
+    ensures { result ≡ is_array_of cited.now.variables.now cited.now.arrays.now store.now.constants.items store.now.slots.items kind argument.now }
 {
     match argument {
-        Argument::One(Place::Array(name)) => same_kind(array_kind(name.number, cited.arrays), kind),
-        Argument::One(Place::Scalar(_)) => false,
-        Argument::List(places) => are_terms_of(kind, places, cited),
+        Argument::One(slot) => is_array_slot(kind, slot, cited.arrays),
+        Argument::List(slots) => are_of(kind, part(&store.slots, *slots), cited, &store.constants),
     }
 }
 
-fn are_terms_of(kind: Kind, places: &[Place<'_>], cited: &Cited<'_, '_>) -> bool
-    ensures { result ≡ list_all (is_term_among cited.now.variables.now kind) places.now }
+/// Whether a slot is an array of the kind.
+fn is_array_slot(kind: Kind, slot: &Slot, arrays: &[Array<'_>]) -> bool
+    ensures { result ≡ is_array_slot arrays.now kind slot.now }
 {
-    places.iter().all(|place| is_term_of(kind, place, cited))
+    match slot {
+        Slot::Array(number) => same_kind(array_kind(*number as usize, arrays), kind),
+        Slot::Variable(_) | Slot::Number(_) | Slot::Truth(_) | Slot::Constant(_) => false,
+    }
 }
 
-#[inline]
-fn is_term_of(kind: Kind, place: &Place<'_>, cited: &Cited<'_, '_>) -> bool
-    ensures { result ≡ is_term_among cited.now.variables.now kind place.now }
+fn are_of(kind: Kind, slots: &[Slot], cited: &Cited<'_, '_>, constants: &[Value]) -> bool
+    ensures { result ≡ list_all (is_of_kind cited.now.variables.now constants.now kind) slots.now }
 {
-    match place {
-        Place::Scalar(term) => same_kind(term_kind(term, cited), kind),
-        Place::Array(_) => false,
+    slots.iter().all(|slot| is_of(kind, slot, cited, constants))
+}
+
+/// Whether a slot is a scalar of the kind.
+#[inline]
+fn is_of(kind: Kind, slot: &Slot, cited: &Cited<'_, '_>, constants: &[Value]) -> bool
+    ensures { result ≡ is_of_kind cited.now.variables.now constants.now kind slot.now }
+{
+    match slot {
+        Slot::Variable(number) => same_kind(variable_kind(*number as usize, cited), kind),
+        Slot::Number(_) => same_kind(Kind::Int, kind),
+        Slot::Truth(_) => same_kind(Kind::Bool, kind),
+        Slot::Constant(place) => same_kind(constant_kind(constants, *place as usize), kind),
+        Slot::Array(_) => false,
+    }
+}
+
+/// The kind of the constant at a place.
+fn constant_kind(constants: &[Value], place: usize) -> Kind
+    ensures { result ≡ kind_of (constant_at constants.now place) }
+{
+    match constants.get(place) {
+        Some(value) => kind_of(value),
+        None => Kind::Int,
     }
 }
 
 // Whether the first two are equally long, where both have shapes.
-fn equally_long(arguments: &[Argument<'_>], arrays: &[Array<'_>]) -> bool
-    ensures { result ≡ are_equally_long arrays.now arguments.now }
+fn equally_long(arguments: &[Argument], arrays: &[Array<'_>], slots: &[Slot]) -> bool
+    ensures { result ≡ are_equally_long arrays.now slots.now arguments.now }
 {
     match arguments {
-        [first, second, ..] => length(first, arrays) == length(second, arrays),
+        [first, second, ..] => length(first, arrays, slots) == length(second, arrays, slots),
         _ => false,
     }
 }
 
 // The number of scalars in an argument that has a shape: there is no array in its list.
-fn length(argument: &Argument<'_>, arrays: &[Array<'_>]) -> usize
-    ensures { result ≡ length_of arrays.now argument.now }
+fn length(argument: &Argument, arrays: &[Array<'_>], slots: &[Slot]) -> usize
+    ensures { result ≡ length_of arrays.now slots.now argument.now }
 {
     match argument {
-        Argument::One(Place::Scalar(_)) => 1,
-        Argument::One(Place::Array(name)) => match arrays.get(name.number) {
-            Some(array) => array.elements.len(),
+        Argument::One(slot) => slot_length(slot, arrays),
+        Argument::List(list) => part(slots, *list).len(),
+    }
+}
+
+fn slot_length(slot: &Slot, arrays: &[Array<'_>]) -> usize
+    ensures { result ≡ slot_length arrays.now slot.now }
+{
+    match slot {
+        Slot::Array(number) => match arrays.get(*number as usize) {
+            Some(array) => array.elements.slots.len(),
             None => 0,
         },
-        Argument::List(places) => places.len(),
+        Slot::Variable(_) | Slot::Number(_) | Slot::Truth(_) | Slot::Constant(_) => 1,
     }
 }
 

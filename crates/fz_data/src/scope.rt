@@ -7,14 +7,15 @@ ghost use Rattle.fz_meaning.specs.FirstFault.{literal_fault};
 ghost use Rattle.fz_meaning.specs.Names.{literal_value};
 ghost use Rattle.fz_meaning.specs.Values.{kind_of};
 ghost use Rattle.fz_syntax.specs.View.{bare_literal_kind};
-ghost use Rattle.fz_data.specs.Parts.{kind_of_term};
+ghost use Rattle.fz_data.specs.Parts.{kind_of_term, terms_of};
 ghost use Rattle.fz_data.specs.declared.scope.Item.TheVariants.{Parameter, Variable as item_variable, Array as item_array};
 ghost use Rattle.fz_meaning.specs.declared.error.ModelError.TheVariants.{Memory};
 ghost use Rattle.fz_data.specs.Scope.{HasKinds, IsAdded, Tells, fault_in, faults_in, has_elements_point, IsNewName, place_fault, place_in, term_at, term_in};
 
 use crate::names::{Names, Standing};
-use crate::parts::{Array, DeclaredPoint, Variable};
+use crate::parts::{Array, DeclaredPoint, ScalarList, Variable};
 use crate::rows::{Cited, term_kind, variable_kind};
+use crate::store::slot_of;
 use crate::values::{copied, literal_kind, literal_value, same_kind};
 use fz_base::Value;
 use fz_meaning::{Domain, Kind, ModelError, Term};
@@ -118,24 +119,26 @@ pub(crate) fn term_of(
     }
 }
 
-/// The terms of literals and names, where scalars of a kind are wanted.
-pub(crate) fn terms_of(
+/// Literals and names, where scalars of a kind are wanted.
+pub(crate) fn scalars_of(
     alloc: Global,
     scope: &Scope<'_>,
     wanted: Kind,
     parts: &[Basic<'_>],
-) -> Result<Vec<Term>, ModelError>
+) -> Result<ScalarList, ModelError>
     requires kinds { HasKinds scope.now }
     ensures of_kind { IfOk result (λ _. faults_in scope.now (Some wanted) (map located_basic parts.now) ≡ None) }
-    ensures terms { IfOk result (λ ts. ts.items ≡ map (term_in scope.now) (map located_basic parts.now)) }
+    ensures terms { IfOk result (λ l. terms_of l ≡ map (term_in scope.now) (map located_basic parts.now)) }
     ensures tells { IfErr result (λ e. Tells e (faults_in scope.now (Some wanted) (map located_basic parts.now))) }
 {
-    let mut terms = Vec::with_capacity(alloc, parts.len())?;
+    let mut slots = Vec::with_capacity(alloc, parts.len())?;
+    let mut constants = Vec::new(alloc);
     for part in parts {
         let term = term_of(alloc, scope, wanted, part)?;
-        terms.push(term)?;
+        let slot = slot_of(&mut constants, term)?;
+        slots.push(slot)?;
     }
-    Ok(terms)
+    Ok(ScalarList { slots, constants })
 }
 
 /// Puts a point behind the others, where it is wanted.

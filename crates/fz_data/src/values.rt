@@ -44,6 +44,7 @@ pub fn literal_kind(literal: &LiteralKind) -> Kind
 }
 
 /// The value that a literal stands for: a number, a truth value, or the set of a range or of braces. It refuses only where memory runs out.
+#[inline]
 pub fn literal_value(alloc: Global, literal: &LiteralKind) -> Result<Value, AllocError>
     ensures { IfOk result (λ v. v ≡ literal_value (bare_literal_kind literal.now)) }
 {

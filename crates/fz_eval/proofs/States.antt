@@ -1,7 +1,7 @@
 -- From readiness and outcome to the state of a constraint.
-use Rattle.std.proofs.Common.{◌≡◌, Bool, true, false, ◌&&◌, List, [], ◌∷◌, Option, Some, None, cond, refl, sym, ap, ◌∙◌}
+use Rattle.std.proofs.Common.{◌≡◌, Bool, true, false, ◌&&◌, ◌||◌, List, map, [], ◌∷◌, Option, Some, None, cond, refl, sym, ap, ◌∙◌}
 use Rattle.std.specs.Prelude.{is_some, find, bytes_eq}
-use Rattle.std.specs.List.{list_all}
+use Rattle.std.specs.List.{list_all, list_any}
 use Rattle.fz_meaning.specs.declared.state.State.{State}
 use Rattle.fz_meaning.specs.declared.term.Term.{Term}
 use Rattle.fz_meaning.specs.declared.state.State.TheVariants.{Holds, Fails, NoValue, TooLarge}
@@ -139,6 +139,10 @@ too_large r K xs adds shaped =
     ] adds
 
 -- ---- an array's elements
+
+pub any_after : {A B : Type 0} (f : B → Bool) (g : A → B) (xs : List A) → list_any (λ x. f (g x)) xs ≡ list_any f (map g xs)
+any_after f g [] = refl
+any_after f g (x ∷ xs) = ap (λ b. f (g x) || b) (any_after f g xs)
 
 abbrev all_there : {A : Type 0} → Option A → State
 all_there o = judged_by (λ vs. true) o

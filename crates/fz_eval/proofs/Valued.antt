@@ -25,10 +25,13 @@ use Rattle.fz_meaning.proofs.Scope.{same_kind_is}
 use Rattle.fz_meaning.proofs.Values.{no, and_first, and_second}
 use Rattle.fz_data.specs.declared.parts.Variable.{Variable}
 use Rattle.fz_data.specs.Kinds.{TermFits, PlaceFits, ArgumentFits, PostedFits}
-use Rattle.fz_data.specs.Parts.{variable_view}
+use Rattle.fz_data.specs.declared.point.PointParts.{PointParts}
+use Rattle.fz_data.specs.declared.point.PointParts.TheVariants as parts
+use Rattle.fz_data.specs.Parts.{constraint_view, variable_view}
+use Rattle.fz_data.specs.Shown.{IfConstraint}
 use Rattle.fz_kernel.specs.of_scene.Given.{slot_of, is_read, argument_is_read, are_read}
 use Rattle.fz_eval.specs.Holding.{is_held, point_holds}
-use Rattle.fz_eval.specs.Whole.{AreReady, is_domain, lies_inside, lie_inside}
+use Rattle.fz_eval.specs.Whole.{IsReady, is_domain, lies_inside, lie_inside}
 use Rattle.fz_eval.proofs.States.{row_fits}
 
 -- ---- what was seen of a model's variables
@@ -94,12 +97,15 @@ module _ (m : Model) (K : Partial) (within : lie_inside (variables_of m) K ≡ t
       let rest = arguments_read ss xs (and_second (has_shape s x) _ shaped) h.1 in
       λ i. here i && rest i
 
-  each_ready : (ps : List Posted) → AllByRecursion (PostedFits m) ps → AreReady K ps
-  each_ready [] h = tt
-  each_ready (p ∷ ps) h = ((λ r e. arguments_read r.shapes p.arguments (row_fits p r e) h.0), each_ready ps h.1)
+  pub posted_ready : (p : Posted) → PostedFits m p → IsReady K p
+  posted_ready p h r e = arguments_read r.shapes p.arguments (row_fits p r e) h
 
-pub all_ready : (m : Model) (K : Partial) → AllByRecursion (PostedFits m) m.constraints → lie_inside (variables_of m) K ≡ true → AreReady K m.constraints
-all_ready m K kinded within = each_ready m K within m.constraints kinded
+-- where the point is a constraint, it is ready
+pub point_ready : (m : Model) (K : Partial) → lie_inside (variables_of m) K ≡ true → (p : PointParts) → IfConstraint p (λ c. PostedFits m (constraint_view c)) → IfConstraint p (λ c. IsReady K (constraint_view c))
+point_ready m K within (parts.Domain x n) h = tt
+point_ready m K within (parts.Definition x n e) h = tt
+point_ready m K within (parts.Elements x d ts) h = tt
+point_ready m K within (parts.Constraint c) h = posted_ready m K within (constraint_view c) h
 
 -- ---- the points of domains
 

@@ -1,6 +1,5 @@
 -- Where every variable has a value of its kind inside its domain, and what that spares. Only private functions use these, but for `is_domain`, which `IsOverview` cites.
 use Rattle.std.specs.Prelude.{◌≡◌, Bool, true, false, ◌&&◌, List, [], ◌∷◌, Option, Some, None}
-use Rattle.std.specs.List.{AllByRecursion}
 use Rattle.fz_base.specs.declared.value.Value.{Value}
 use Rattle.fz_meaning.specs.Values.{kind_of, same_kind}
 use Rattle.fz_meaning.specs.Builtins.{Row}
@@ -29,6 +28,3 @@ is_domain (ConstraintPoint k p) = false
 -- each scalar of the constraint has a value of the kind that its row asks for, where it has a row
 abbrev pub IsReady : Partial → Posted → Type 0
 IsReady K p = (r : Row) → row_of p ≡ Some r → are_read K r.shapes p.arguments ≡ true
-
-abbrev pub AreReady : Partial → List Posted → Type 0
-AreReady K ps = AllByRecursion (IsReady K) ps

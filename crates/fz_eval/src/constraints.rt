@@ -4,7 +4,7 @@ ghost use Rattle.std.specs.Prelude.{◌≡◌, IfOk, IsTrue, Some, ◌&&◌, tru
 ghost use Rattle.fz_meaning.specs.Builtins.{leaves_128, products};
 ghost use Rattle.fz_meaning.specs.Meaning.{have_shapes, row_of, state_of_row};
 ghost use Rattle.fz_meaning.specs.Known.{known_row};
-ghost use Rattle.fz_data.specs.Parts.{posted_view};
+ghost use Rattle.fz_data.specs.Parts.{constraint_view};
 ghost use Rattle.fz_kernel.specs.of_scene.Given.{are_read};
 ghost use Rattle.fz_kernel.specs.of_scene.Views.{arguments_of, assigned};
 ghost use Rattle.fz_eval.specs.Outcomes.{row_outcome};
@@ -28,11 +28,11 @@ pub(crate) fn of_constraint(
     partial: &Partial,
     ready: bool,
 ) -> Result<State, AllocError>
-    requires known { option_map known_row parts.known ≡ row_of (posted_view parts.variables.now parts.arrays.now parts.posted.now) }
-    requires ready { IsTrue ready → IsReady partial.now (posted_view parts.variables.now parts.arrays.now parts.posted.now) }
-    ensures { IfOk result (λ s. s ≡ state_of_row partial.now (posted_view parts.entry.variables.now parts.entry.arrays.now parts.entry.posted.now).arguments (row_of (posted_view parts.entry.variables.now parts.entry.arrays.now parts.entry.posted.now))) }
+    requires known { option_map known_row parts.posted.now.known ≡ row_of (constraint_view parts) }
+    requires ready { IsTrue ready → IsReady partial.now (constraint_view parts) }
+    ensures { IfOk result (λ s. s ≡ state_of_row partial.now (constraint_view parts.entry).arguments (row_of (constraint_view parts.entry))) }
 {
-    let Some(known) = parts.known else {
+    let Some(known) = parts.posted.known else {
         return Ok(State::Unknown);
     };
     let scene = Scene::new(parts, partial);

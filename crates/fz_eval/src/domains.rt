@@ -6,11 +6,13 @@ ghost use Rattle.std.specs.FinSet as sets;
 ghost use Rattle.fz_meaning.specs.declared.state.State.TheVariants.{Fails};
 ghost use Rattle.fz_meaning.specs.Values.{same_value};
 ghost use Rattle.fz_meaning.specs.Meaning.{admits, both, inside, is_outside, judged, judged_by, values};
+ghost use Rattle.fz_data.specs.Shown.{scalar_terms};
+ghost use Rattle.fz_data.specs.Slots.{scalar_term, slot_term};
 ghost use Rattle.fz_kernel.specs.of_scene.Given.{has_value};
 
 use fz_base::{IntSet, Value};
-use fz_data::Partial;
-use fz_meaning::{Domain, State, Term};
+use fz_data::{Partial, Scalar, Scalars, scalar_at};
+use fz_meaning::{Domain, State};
 
 fn judged(holds: bool) -> State
     ensures { result ≡ judged holds }
@@ -42,45 +44,57 @@ pub(crate) fn of_definition(left: Option<&Value>, right: Option<&Value>) -> Stat
 }
 
 /// The state of the domain of an array's elements: it fails as soon as one element lies outside.
-pub(crate) fn of_elements(partial: &Partial, domain: &Domain, elements: &[Term]) -> State
-    ensures { result ≡ cond (list_any (is_outside partial.now domain.now) elements.now) Fails (judged_by (λ vs. true) (values partial.now elements.now)) }
+pub(crate) fn of_elements(partial: &Partial, domain: &Domain, elements: Scalars<'_>) -> State
+    ensures { result ≡ cond (list_any (is_outside partial.now domain.now) (scalar_terms elements.entry)) Fails (judged_by (λ vs. true) (values partial.now (scalar_terms elements.entry))) }
 {
-    if one_outside(partial, domain, elements) {
+    if one_outside(partial, domain, &elements) {
         State::Fails
-    } else if have_values(partial, elements) {
+    } else if have_values(partial, &elements) {
         State::Holds
     } else {
         State::NoValue
     }
 }
 
-fn one_outside(partial: &Partial, domain: &Domain, elements: &[Term]) -> bool
-    ensures { result ≡ list_any (is_outside partial.now domain.now) elements.now }
+fn one_outside(partial: &Partial, domain: &Domain, elements: &Scalars<'_>) -> bool
+    ensures { result ≡ list_any (λ s. is_outside partial.now domain.now (slot_term elements.now.constants.now s)) elements.now.slots.now }
 {
     elements
+        .slots
         .iter()
-        .any(|term| is_outside(partial, domain, term))
+        .any(|slot| is_outside(partial, domain, scalar_at(elements.constants, *slot)))
 }
 
-fn is_outside(partial: &Partial, domain: &Domain, term: &Term) -> bool
-    ensures { result ≡ is_outside partial.now domain.now term.now }
+fn is_outside(partial: &Partial, domain: &Domain, scalar: Scalar<'_>) -> bool
+    ensures { result ≡ is_outside partial.now domain.now (scalar_term scalar.entry) }
 {
-    match partial.value(term) {
-        Some(value) => !is_inside(domain, value),
-        None => false,
+    match scalar {
+        Scalar::Variable(number) => match partial.get(number) {
+            Some(value) => !is_inside(domain, value),
+            None => false,
+        },
+        Scalar::Number(number) => !admits(domain, number),
+        Scalar::Truth(_) => !matches!(domain, Domain::All),
+        Scalar::Set(set) => !admits_each(domain, set),
     }
 }
 
-fn have_values(partial: &Partial, elements: &[Term]) -> bool
-    ensures { result ≡ list_all (has_value partial.now) elements.now }
+fn have_values(partial: &Partial, elements: &Scalars<'_>) -> bool
+    ensures { result ≡ list_all (λ s. has_value partial.now (slot_term elements.now.constants.now s)) elements.now.slots.now }
 {
-    elements.iter().all(|term| has_value(partial, term))
+    elements
+        .slots
+        .iter()
+        .all(|slot| has_value(partial, scalar_at(elements.constants, *slot)))
 }
 
-fn has_value(partial: &Partial, term: &Term) -> bool
-    ensures { result ≡ has_value partial.now term.now }
+fn has_value(partial: &Partial, scalar: Scalar<'_>) -> bool
+    ensures { result ≡ has_value partial.now (scalar_term scalar.entry) }
 {
-    partial.value(term).is_some()
+    match scalar {
+        Scalar::Variable(number) => partial.has(number),
+        Scalar::Number(_) | Scalar::Truth(_) | Scalar::Set(_) => true,
+    }
 }
 
 fn is_same(left: &Value, right: &Value) -> bool

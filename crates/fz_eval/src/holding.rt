@@ -1,22 +1,16 @@
-//! Whether all points hold. The constraints are looked at row by row, as they stand on the model's sheets: the same is done for many of them
-//! in turn, over memory in its order.
+//! Whether all points hold.
 
-ghost use Rattle.std.specs.Prelude.{◌≡◌, ◌≤◌, ◌<◌, ◌+◌, IfOk, IsTrue, Some, length, map, option_map, slice_get, take, true};
+ghost use Rattle.std.specs.Prelude.{◌≡◌, ◌≤◌, ◌<◌, ◌+◌, IfOk, IsTrue, Some, length, slice_get, take, true};
 ghost use Rattle.std.specs.List.{AllByRecursion, list_all};
-ghost use Rattle.fz_meaning.specs.Meaning.{points, row_of, variables_of};
-ghost use Rattle.fz_meaning.specs.Known.{known_row};
-ghost use Rattle.fz_data.specs.Parts.{posted_view};
-ghost use Rattle.fz_data.specs.Sheets.{lines_of};
-ghost use Rattle.fz_data.specs.declared.sheet.Line.{Line};
-ghost use Rattle.fz_eval.specs.Holding.{is_held, number_holds, point_holds};
+ghost use Rattle.fz_meaning.specs.Meaning.{Point, points, variables_of};
+ghost use Rattle.fz_eval.specs.Holding.{is_held, point_holds};
 ghost use Rattle.fz_eval.specs.Overviews.{IsOverview, holds_at};
-ghost use Rattle.fz_eval.specs.Whole.{AreReady, lie_inside};
+ghost use Rattle.fz_eval.specs.Whole.{lie_inside};
 
-use crate::constraints::of_constraint;
 use crate::overview::Overview;
-use crate::points::state;
+use crate::points::{of_point, state};
 use crate::whole::lie_inside;
-use fz_data::{Laying, Model, Partial};
+use fz_data::{Model, Partial};
 use fz_meaning::State;
 use std::alloc::{AllocError, Global};
 
@@ -86,99 +80,39 @@ fn declared_hold(
     }
 }
 
-/// Whether the constraint of a number, from 0, holds, where so many points stand before the constraints.
+/// Whether the point of a number holds. Where the assignment is known to be whole, whether a
+/// constraint is ready isn't looked at.
+#[inline(always)]
 fn number_holds(
     alloc: Global,
     model: &Model<'_>,
-    before: usize,
     number: usize,
     partial: &Partial,
+    whole: bool,
 ) -> Result<bool, AllocError>
-    requires counted { before + length model.now.constraints ≡ length (points model.now) }
-    requires few { length (points model.now) ≤ usize.MAX }
-    requires in_range { number < length model.now.constraints }
-    ensures { IfOk result (λ b. b ≡ number_holds partial.now model.now.constraints number) }
+    requires in_range { number < length (points model.now) }
+    requires whole { IsTrue whole → lie_inside (variables_of model.now) partial.now ≡ true }
+    ensures { IfOk result (λ b. (p : Point) → slice_get (points model.now) number ≡ Some p → b ≡ point_holds partial.now p) }
 {
-    let found = state(alloc, model, before + number, partial)?;
+    let found = of_point(alloc, model.point_parts(number), partial, whole)?;
     Ok(is_held(found))
 }
 
-/// Whether the constraints of these numbers hold.
+/// Whether all points hold, where those before a number do.
 fn rest_holds(
     alloc: Global,
     model: &Model<'_>,
-    before: usize,
-    rest: &[usize],
-    partial: &Partial,
-) -> Result<bool, AllocError>
-    requires counted { before + length model.now.constraints ≡ length (points model.now) }
-    requires few { length (points model.now) ≤ usize.MAX }
-    requires in_range { AllByRecursion (λ n. n < length model.now.constraints) rest.now }
-    ensures { IfOk result (λ b. b ≡ list_all (number_holds partial.now model.now.constraints) rest.now) }
-{
-    for place in 0..rest.len() {
-        let number = rest[place];
-        if !number_holds(alloc, model, before, number, partial)? {
-            return Ok(false);
-        }
-    }
-    Ok(true)
-}
-
-/// Whether the constraint on a line of a sheet holds. Where the assignment is whole, the constraint is ready.
-#[inline(always)]
-fn line_holds(
-    alloc: Global,
-    laying: &Laying<'_, '_>,
-    sheet: usize,
-    line: usize,
+    from: usize,
     partial: &Partial,
     whole: bool,
 ) -> Result<bool, AllocError>
-    requires rows { map (option_map known_row) laying.now.known.now ≡ map row_of (map (posted_view laying.now.variables.now laying.now.arrays.now) laying.now.constraints.now) }
-    requires ready { IsTrue whole → AreReady partial.now (map (posted_view laying.now.variables.now laying.now.arrays.now) laying.now.constraints.now) }
-    requires is_sheet { sheet < length laying.now.sheets.now }
-    requires is_line { line < length (lines_of laying.now.sheets.now sheet) }
-    ensures { IfOk result (λ b. (l : Line) → slice_get (lines_of laying.now.sheets.now sheet) line ≡ Some l → b ≡ number_holds partial.now (map (posted_view laying.now.variables.now laying.now.arrays.now) laying.now.constraints.now) l.number) }
+    requires in_range { from ≤ length (points model.now) }
+    requires whole { IsTrue whole → lie_inside (variables_of model.now) partial.now ≡ true }
+    requires before { list_all (point_holds partial.now) (take from (points model.now)) ≡ true }
+    ensures { IfOk result (λ b. b ≡ list_all (point_holds partial.now) (points model.now)) }
 {
-    let found = of_constraint(alloc, laying.parts(sheet, line), partial, whole)?;
-    Ok(is_held(found))
-}
-
-/// Whether the constraints on a sheet hold.
-fn sheet_holds(
-    alloc: Global,
-    laying: &Laying<'_, '_>,
-    sheet: usize,
-    partial: &Partial,
-    whole: bool,
-) -> Result<bool, AllocError>
-    requires rows { map (option_map known_row) laying.now.known.now ≡ map row_of (map (posted_view laying.now.variables.now laying.now.arrays.now) laying.now.constraints.now) }
-    requires ready { IsTrue whole → AreReady partial.now (map (posted_view laying.now.variables.now laying.now.arrays.now) laying.now.constraints.now) }
-    requires is_sheet { sheet < length laying.now.sheets.now }
-    ensures { IfOk result (λ b. b ≡ list_all (λ l. number_holds partial.now (map (posted_view laying.now.variables.now laying.now.arrays.now) laying.now.constraints.now) l.number) (lines_of laying.now.sheets.now sheet)) }
-{
-    for line in 0..laying.lines(sheet) {
-        if !line_holds(alloc, laying, sheet, line, partial, whole)? {
-            return Ok(false);
-        }
-    }
-    Ok(true)
-}
-
-/// Whether the constraints on all sheets hold.
-fn sheets_hold(
-    alloc: Global,
-    laying: &Laying<'_, '_>,
-    partial: &Partial,
-    whole: bool,
-) -> Result<bool, AllocError>
-    requires rows { map (option_map known_row) laying.now.known.now ≡ map row_of (map (posted_view laying.now.variables.now laying.now.arrays.now) laying.now.constraints.now) }
-    requires ready { IsTrue whole → AreReady partial.now (map (posted_view laying.now.variables.now laying.now.arrays.now) laying.now.constraints.now) }
-    ensures { IfOk result (λ b. b ≡ list_all (λ s. list_all (λ l. number_holds partial.now (map (posted_view laying.now.variables.now laying.now.arrays.now) laying.now.constraints.now) l.number) s.lines.items) laying.now.sheets.now) }
-{
-    for sheet in 0..laying.sheets() {
-        if !sheet_holds(alloc, laying, sheet, partial, whole)? {
+    for number in from..model.points() {
+        if !number_holds(alloc, model, number, partial, whole)? {
             return Ok(false);
         }
     }
@@ -196,14 +130,10 @@ pub fn all_hold(
     requires overview { IsOverview model.now overview.now }
     ensures exact { IfOk result (λ b. b ≡ list_all (point_holds partial.now) (points model.now)) }
 {
-    let before = model.points() - model.constraints().len();
+    let declared = model.points() - model.constraints().posted.len();
     let inside = lie_inside(&overview.bounds, model.variables(), partial.values());
-    if !declared_hold(alloc, model, overview, before, partial, inside)? {
+    if !declared_hold(alloc, model, overview, declared, partial, inside)? {
         return Ok(false);
     }
-    let laying = model.laying();
-    if !rest_holds(alloc, model, before, laying.rest(), partial)? {
-        return Ok(false);
-    }
-    Ok(sheets_hold(alloc, &laying, partial, inside)?)
+    Ok(rest_holds(alloc, model, declared, partial, inside)?)
 }

@@ -92,7 +92,7 @@ impl Overview {
         ensures made { IfOk result (IsOverview model.now) }
     {
         let bounds = all_bounds(alloc, model.variables())?;
-        let declared = model.points() - model.constraints().len();
+        let declared = model.points() - model.constraints().posted.len();
         let others = others(alloc, model, declared)?;
         Ok(Overview { bounds, others })
     }

@@ -1,13 +1,40 @@
 //! The state of a point.
 
-ghost use Rattle.std.specs.Prelude.{◌≡◌, ◌<◌, IfOk, Some, length, slice_get};
-ghost use Rattle.fz_meaning.specs.Meaning.{Point, points, state};
+ghost use Rattle.std.specs.Prelude.{◌≡◌, ◌<◌, IfOk, IsTrue, Some, length, option_map, slice_get};
+ghost use Rattle.fz_meaning.specs.Known.{known_row};
+ghost use Rattle.fz_meaning.specs.Meaning.{Point, points, row_of, state};
+ghost use Rattle.fz_data.specs.Parts.{constraint_view};
+ghost use Rattle.fz_data.specs.Shown.{IfConstraint, point_view};
+ghost use Rattle.fz_eval.specs.Whole.{IsReady};
 
 use crate::constraints::of_constraint;
 use crate::domains::{of_definition, of_domain, of_elements};
 use fz_data::{Model, Partial, PointParts};
 use fz_meaning::State;
 use std::alloc::{AllocError, Global};
+
+/// The state of a point with its parts. Where a constraint is known to be ready, whether it is isn't
+/// looked at.
+#[inline(always)]
+pub(crate) fn of_point(
+    alloc: Global,
+    point: PointParts<'_, '_>,
+    partial: &Partial,
+    ready: bool,
+) -> Result<State, AllocError>
+    requires known { IfConstraint point (λ c. option_map known_row c.posted.now.known ≡ row_of (constraint_view c)) }
+    requires ready { IsTrue ready → IfConstraint point (λ c. IsReady partial.now (constraint_view c)) }
+    ensures exact { IfOk result (λ s. s ≡ state partial.now (point_view point.entry)) }
+{
+    match point {
+        PointParts::Domain(variable, place) => Ok(of_domain(&variable.domain, partial.get(place))),
+        PointParts::Definition(_, place, term) => {
+            Ok(of_definition(partial.get(place), partial.value(term)))
+        }
+        PointParts::Elements(_, domain, elements) => Ok(of_elements(partial, domain, elements)),
+        PointParts::Constraint(parts) => of_constraint(alloc, parts, partial, ready),
+    }
+}
 
 /// The state of the point of a number, from 0, under a partial assignment. It takes memory for long lists of
 /// `fzn_all_different_int` alone, and refuses only where there is none.
@@ -21,12 +48,5 @@ pub fn state(
     requires in_range { number < length (points model.now) }
     ensures exact { IfOk result (λ s. (p : Point) → slice_get (points model.now) number ≡ Some p → s ≡ state partial.now p) }
 {
-    match model.point_parts(number) {
-        PointParts::Domain(variable, place) => Ok(of_domain(&variable.domain, partial.get(place))),
-        PointParts::Definition(_, place, term) => {
-            Ok(of_definition(partial.get(place), partial.value(term)))
-        }
-        PointParts::Elements(_, domain, elements) => Ok(of_elements(partial, domain, elements)),
-        PointParts::Constraint(parts) => of_constraint(alloc, parts, partial, false),
-    }
+    of_point(alloc, model.point_parts(number), partial, false)
 }

@@ -1,15 +1,15 @@
--- The first answer in a list, as a loop looks for it, and the scalars of arguments as they are kept.
+-- The first answer in a list, as a loop looks for it, and the scalars of arguments.
 use Rattle.std.proofs.Common.{◌≡◌, ℕ, suc, zero, ◌+◌, ◌<◌, ◌≤◌, List, [], ◌∷◌, ◌++◌, map, flat_map, length, drop, get_or, Option, Some, None, is_some, refl, sym, ap, ◌∙◌, slice_get, arith, add-one, drop-cons, true, false}
 use Rattle.std.specs.Option.{option_or, option_map_or}
-use Rattle.fz_model.specs.declared.Variable.{Variable}
-use Rattle.fz_model.specs.declared.Array.{Array}
-use Rattle.fz_model.specs.declared.Place.{Place}
-use Rattle.fz_model.specs.declared.Place.TheVariants as places
+use Rattle.fz_model.specs.declared.ConstraintParts.{ConstraintParts}
+use Rattle.fz_model.specs.declared.Slot.{Slot}
 use Rattle.fz_model.specs.declared.Argument.{Argument}
 use Rattle.fz_model.specs.declared.Argument.TheVariants as arguments
-use Rattle.fz_model.specs.Parts.{argument_view, place_view, array_view, no_array}
+use Rattle.fz_model.specs.Meaning as meaning
 use Rattle.fz_model.specs.Meaning.{Partial, first_some, terms_at, terms_in}
-use Rattle.fz_filling.specs.Outlooks.{first_other, open_other, terms_kept, terms_given}
+use Rattle.fz_model.specs.Parts.{argument_view, place_view}
+use Rattle.fz_model.specs.Slots.{segment}
+use Rattle.fz_filling.specs.Outlooks.{first_other, open_other, slot_terms, terms_given}
 
 -- ---- the first answer
 
@@ -26,9 +26,16 @@ pub first_flat : {A B C : Type 0} (f : B → Option C) (g : A → List B) (xs : 
 first_flat f g [] = refl
 first_flat f g (x ∷ xs) = first_append f (g x) (flat_map g xs) ∙ ap (option_or (first_some f (g x))) (first_flat f g xs)
 
-module _ {A B : Type 0} (f : A → Option B) (xs : List A) (i : ℕ) (x : A) (within : i < length xs) (is : x ≡ get_or xs i x) where
+dropped_at : {A : Type 0} (xs : List A) (i : ℕ) (x : A) → slice_get xs i ≡ Some x → drop i xs ≡ x ∷ drop (i + 1) xs
+dropped_at [] i x at = cc
+dropped_at (y ∷ xs) zero x at = let same : y ≡ x = cc in ap (λ z. z ∷ xs) same
+dropped_at (y ∷ xs) (suc i) x at =
+    let next : suc i + 1 ≡ suc (i + 1) = omega arith in
+    dropped_at xs i x at ∙ sym (ap (λ n. x ∷ drop n (y ∷ xs)) next)
+
+module _ {A B : Type 0} (f : A → Option B) (xs : List A) (i : ℕ) (x : A) (at : slice_get xs i ≡ Some x) where
   rest_is : drop i xs ≡ x ∷ drop (i + 1) xs
-  rest_is = drop-cons xs i x within ∙ (λ j. sym is j ∷ drop (sym (add-one i) j) xs)
+  rest_is = dropped_at xs i x at
 
   -- an element that answers nothing
   pub none_here : first_some f xs ≡ first_some f (drop i xs) → is_some (f x) ≡ false → first_some f xs ≡ first_some f (drop (i + 1) xs)
@@ -56,29 +63,28 @@ none_left f xs i past so_far = sym (so_far ∙ nothing f xs i past)
     nothing g (y ∷ ys) zero h = absurd (omega arith)
     nothing g (y ∷ ys) (suc k) h = nothing g ys k (omega arith)
 
--- ---- the scalars of an argument, as it is kept and as it is defined
+-- ---- the scalars of an argument, as they are looked through and as they are defined
 
-module _ (vs : List Variable) (xs : List Array) where
-  of_array : (o : Option Array) → option_map_or (λ (a : Array). a.elements.items) o [] ≡ terms_at (option_map_or array_view o no_array)
-  of_array None = refl
-  of_array (Some a) = refl
+pub first_after : {A B C : Type 0} (f : B → Option C) (g : A → B) (xs : List A) → first_some (λ x. f (g x)) xs ≡ first_some f (map g xs)
+first_after f g [] = refl
+first_after f g (x ∷ xs) = ap (option_or (f (g x))) (first_after f g xs)
 
-  of_place : (p : Place) → terms_kept xs p ≡ terms_at (place_view vs xs p)
-  of_place (places.Scalar t) = refl
-  of_place (places.Array x) = of_array (slice_get xs x.number)
+module _ (c : ConstraintParts) where
+  abbrev view : Argument → meaning.Argument
+  view = argument_view c.variables.now c.arrays.now c.store.now
 
-  of_places : (ps : List Place) → flat_map (terms_kept xs) ps ≡ flat_map terms_at (map (place_view vs xs) ps)
-  of_places [] = refl
-  of_places (p ∷ ps) = λ i. of_place p i ++ of_places ps i
+  of_slots : (ss : List Slot) → flat_map (slot_terms c) ss ≡ flat_map terms_at (map (place_view c.variables.now c.arrays.now c.store.now.constants.items) ss)
+  of_slots [] = refl
+  of_slots (s ∷ ss) = ap (λ ts. slot_terms c s ++ ts) (of_slots ss)
 
-  of_argument : (a : Argument) → terms_given xs a ≡ terms_in (argument_view vs xs a)
-  of_argument (arguments.One p) = of_place p
-  of_argument (arguments.List ps) = of_places ps.items
+  of_argument : (a : Argument) → terms_given c a ≡ terms_in (view a)
+  of_argument (arguments.One s) = refl
+  of_argument (arguments.List g) = of_slots (segment c.store.now.slots.items g)
 
-  of_arguments : (as' : List Argument) → flat_map (terms_given xs) as' ≡ flat_map terms_in (map (argument_view vs xs) as')
+  of_arguments : (as' : List Argument) → flat_map (terms_given c) as' ≡ flat_map terms_in (map view as')
   of_arguments [] = refl
   of_arguments (a ∷ as') = λ i. of_argument a i ++ of_arguments as' i
 
   -- the first other variable of a constraint's scalars
-  pub first_is : (K : Partial) (n : ℕ) (as' : List Argument) → first_some (λ a. first_other K n (terms_given xs a)) as' ≡ first_other K n (flat_map terms_in (map (argument_view vs xs) as'))
-  first_is K n as' = sym (first_flat (open_other K n) (terms_given xs) as') ∙ ap (first_other K n) (of_arguments as')
+  pub first_is : (K : Partial) (n : ℕ) (as' : List Argument) → first_some (λ a. first_other K n (terms_given c a)) as' ≡ first_other K n (flat_map terms_in (map view as'))
+  first_is K n as' = sym (first_flat (open_other K n) (terms_given c) as') ∙ ap (first_other K n) (of_arguments as')

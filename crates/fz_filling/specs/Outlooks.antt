@@ -1,15 +1,15 @@
 -- What a point gives later, and the scalars without a value that it waits for. Only private functions use these.
-use Rattle.std.specs.Prelude.{◌≡◌, ℕ, cond, ◌==◌, is_none, List, [], ◌∷◌, length, Option, None, Some, slice_get, flat_map}
+use Rattle.std.specs.Prelude.{◌≡◌, ℕ, cond, ◌==◌, is_none, List, [], ◌∷◌, length, Option, None, Some, flat_map}
 use Rattle.std.specs.List.{AllByRecursion}
-use Rattle.std.specs.Option.{option_map_or}
 use Rattle.fz_model.specs.declared.Term.{Term}
 use Rattle.fz_model.specs.declared.Term.TheVariants.{Var, Fixed}
-use Rattle.fz_model.specs.declared.Array.{Array}
-use Rattle.fz_model.specs.declared.Place.{Place}
-use Rattle.fz_model.specs.declared.Place.TheVariants as places
+use Rattle.fz_model.specs.declared.ConstraintParts.{ConstraintParts}
+use Rattle.fz_model.specs.declared.Slot.{Slot}
 use Rattle.fz_model.specs.declared.Argument.{Argument}
 use Rattle.fz_model.specs.declared.Argument.TheVariants as arguments
-use Rattle.fz_model.specs.Meaning.{Model, Partial, Point, value, value_at, first_some}
+use Rattle.fz_model.specs.Meaning.{Model, Partial, Point, value, value_at, first_some, terms_at}
+use Rattle.fz_model.specs.Parts.{place_view}
+use Rattle.fz_model.specs.Slots.{segment}
 use Rattle.fz_model.specs.Steps.{GivesNothing}
 use Rattle.fz_verdict.specs.Filling.{HasAllOf}
 use Rattle.fz_filling.specs.declared.outlook.Outlook.{Outlook}
@@ -36,14 +36,13 @@ open_other K n (Fixed v) = None
 abbrev pub first_other : Partial → ℕ → List Term → Option ℕ
 first_other K n ts = first_some (open_other K n) ts
 
--- the scalars of an argument as it is kept
-abbrev pub terms_kept : List Array → Place → List Term
-terms_kept xs (places.Scalar t) = t ∷ []
-terms_kept xs (places.Array x) = option_map_or (λ a. a.elements.items) (slice_get xs x.number) []
+-- the scalars of a constraint's argument: those of a slot, or of each slot of a list
+abbrev pub slot_terms : ConstraintParts → Slot → List Term
+slot_terms c s = terms_at (place_view c.variables.now c.arrays.now c.store.now.constants.items s)
 
-abbrev pub terms_given : List Array → Argument → List Term
-terms_given xs (arguments.One p) = terms_kept xs p
-terms_given xs (arguments.List ps) = flat_map (terms_kept xs) ps.items
+abbrev pub terms_given : ConstraintParts → Argument → List Term
+terms_given c (arguments.One s) = slot_terms c s
+terms_given c (arguments.List g) = flat_map (slot_terms c) (segment c.store.now.slots.items g)
 
 -- ---- later values
 

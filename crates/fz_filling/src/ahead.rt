@@ -33,7 +33,7 @@ struct Posts<'m, 'a> {
 fn posts_of<'m, 'a>(model: &'m Model<'a>) -> Posts<'m, 'a>
     ensures { StandBehind model.now result.before result.all.now }
 {
-    let all = model.constraints();
+    let all = model.constraints().posted;
     Posts {
         before: model.points() - all.len(),
         all,

@@ -1,13 +1,15 @@
 //! What a point can give now and later. It takes no memory, and reads an argument only up to the first scalar that is waited for.
 
-ghost use Rattle.std.specs.Prelude.{◌≡◌, flat_map};
+ghost use Rattle.std.specs.Prelude.{◌≡◌, ◌<◌, List, Some, flat_map, length, map, slice_get};
+ghost use Rattle.fz_base.specs.declared.value.Value.{Value};
+ghost use Rattle.fz_model.specs.Slots.{slot_term};
 ghost use Rattle.fz_model.specs.Meaning.{Model, Variable as Declared, first_some};
 ghost use Rattle.fz_model.specs.Meaning.Point.{ConstraintPoint, DefinitionPoint, DomainPoint};
-ghost use Rattle.fz_model.specs.Parts.{posted_view};
+ghost use Rattle.fz_model.specs.Parts.{constraint_view};
 ghost use Rattle.fz_model.specs.Shown.{point_view};
-ghost use Rattle.fz_filling.specs.Outlooks.{IsOutlook, first_other, open_other, open_variable, terms_given, terms_kept};
+ghost use Rattle.fz_filling.specs.Outlooks.{IsOutlook, first_other, open_other, open_variable, slot_terms, terms_given};
 
-use fz_model::{Argument, Array, ConstraintParts, Partial, Place, PointParts, Term};
+use fz_model::{Argument, ConstraintParts, Partial, PointParts, Slot, Term, part};
 
 /// What a point that gives nothing waits for.
 #[derive(Clone, Copy)]
@@ -67,7 +69,7 @@ fn of_definition(own: usize, side: &Term, partial: &Partial) -> Outlook
 }
 
 fn of_constraint(parts: &ConstraintParts<'_, '_>, partial: &Partial) -> Outlook
-    ensures { (m : Model) → IsOutlook m partial.now (ConstraintPoint parts.now.number (posted_view parts.now.variables.now parts.now.arrays.now parts.now.posted.now)) result }
+    ensures { (m : Model) → IsOutlook m partial.now (ConstraintPoint parts.now.number (constraint_view parts.now)) result }
 {
     let Some(target) = parts.posted.target else {
         return Outlook::Waits(Waiting::Forever);
@@ -75,23 +77,32 @@ fn of_constraint(parts: &ConstraintParts<'_, '_>, partial: &Partial) -> Outlook
     if partial.get(target).is_some() {
         return Outlook::Waits(Waiting::Forever);
     }
-    match first_open(&parts.posted.arguments, parts.arrays, target, partial) {
+    match first_open(parts.arguments(), parts, target, partial) {
         Some(other) => Outlook::Waits(Waiting::For(other)),
         None => Outlook::Asks(target),
     }
 }
 
+/// The item at an index.
+#[inline(always)]
+fn item_at<T>(items: &[T], index: usize) -> &T
+    requires { index < length items.now }
+    ensures { slice_get items.now index ≡ Some result.now }
+{
+    &items[index]
+}
+
 /// The first variable without a value that stands in the arguments, other than the target.
-fn first_open<'a>(
-    arguments: &[Argument<'a>],
-    arrays: &[Array<'a>],
+fn first_open(
+    arguments: &[Argument],
+    parts: &ConstraintParts<'_, '_>,
     target: usize,
     partial: &Partial,
 ) -> Option<usize>
-    ensures { result ≡ first_some (λ a. first_other partial.now target (terms_given arrays.now a)) arguments.now }
+    ensures { result ≡ first_some (λ a. first_other partial.now target (terms_given parts.now a)) arguments.now }
 {
-    for argument in arguments {
-        let open = first_in(argument, arrays, target, partial);
+    for place in 0..arguments.len() {
+        let open = first_in(item_at(arguments, place), parts, target, partial);
         if open.is_some() {
             return open;
         }
@@ -99,30 +110,30 @@ fn first_open<'a>(
     None
 }
 
-fn first_in<'a>(
-    argument: &Argument<'a>,
-    arrays: &[Array<'a>],
+fn first_in(
+    argument: &Argument,
+    parts: &ConstraintParts<'_, '_>,
     target: usize,
     partial: &Partial,
 ) -> Option<usize>
-    ensures { result ≡ first_other partial.now target (terms_given arrays.now argument.now) }
+    ensures { result ≡ first_other partial.now target (terms_given parts.now argument.now) }
 {
     match argument {
-        Argument::One(place) => first_at(place, arrays, target, partial),
-        Argument::List(places) => first_among(places, arrays, target, partial),
+        Argument::One(slot) => first_at(slot, parts, target, partial),
+        Argument::List(at) => first_among(part(&parts.store.slots, *at), parts, target, partial),
     }
 }
 
-fn first_among<'a>(
-    places: &[Place<'a>],
-    arrays: &[Array<'a>],
+fn first_among(
+    slots: &[Slot],
+    parts: &ConstraintParts<'_, '_>,
     target: usize,
     partial: &Partial,
 ) -> Option<usize>
-    ensures { result ≡ first_other partial.now target (flat_map (terms_kept arrays.now) places.now) }
+    ensures { result ≡ first_other partial.now target (flat_map (slot_terms parts.now) slots.now) }
 {
-    for place in places {
-        let open = first_at(place, arrays, target, partial);
+    for place in 0..slots.len() {
+        let open = first_at(item_at(slots, place), parts, target, partial);
         if open.is_some() {
             return open;
         }
@@ -130,25 +141,32 @@ fn first_among<'a>(
     None
 }
 
-fn first_at<'a>(
-    place: &Place<'a>,
-    arrays: &[Array<'a>],
+fn first_at(
+    slot: &Slot,
+    parts: &ConstraintParts<'_, '_>,
     target: usize,
     partial: &Partial,
 ) -> Option<usize>
-    ensures { result ≡ first_other partial.now target (terms_kept arrays.now place.now) }
+    ensures { result ≡ first_other partial.now target (slot_terms parts.now slot.now) }
 {
-    match place {
-        Place::Scalar(term) => open_other(term, target, partial),
-        Place::Array(name) => first_of(name.elements(arrays), target, partial),
+    match slot {
+        Slot::Variable(number) => open_other(*number as usize, target, partial),
+        Slot::Number(_) => None,
+        Slot::Truth(_) => None,
+        Slot::Constant(_) => None,
+        Slot::Array(number) => match parts.arrays.get(*number as usize) {
+            Some(array) => first_of(&array.elements.slots, target, partial),
+            None => None,
+        },
     }
 }
 
-fn first_of(terms: &[Term], target: usize, partial: &Partial) -> Option<usize>
-    ensures { result ≡ first_other partial.now target terms.now }
+/// The same of slots that are no arrays.
+fn first_of(slots: &[Slot], target: usize, partial: &Partial) -> Option<usize>
+    ensures { (cs : List Value) → result ≡ first_other partial.now target (map (slot_term cs) slots.now) }
 {
-    for term in terms {
-        let open = open_other(term, target, partial);
+    for place in 0..slots.len() {
+        let open = open_slot(item_at(slots, place), target, partial);
         if open.is_some() {
             return open;
         }
@@ -156,18 +174,26 @@ fn first_of(terms: &[Term], target: usize, partial: &Partial) -> Option<usize>
     None
 }
 
-fn open_other(term: &Term, target: usize, partial: &Partial) -> Option<usize>
-    ensures { result ≡ open_other partial.now target term.now }
+fn open_slot(slot: &Slot, target: usize, partial: &Partial) -> Option<usize>
+    ensures { (cs : List Value) → result ≡ open_other partial.now target (slot_term cs slot.now) }
 {
-    match term {
-        Term::Fixed(_) => None,
-        Term::Var(number) => {
-            if *number == target {
-                None
-            } else {
-                open_variable(term, partial)
-            }
-        }
+    match slot {
+        Slot::Variable(number) => open_other(*number as usize, target, partial),
+        Slot::Number(_) => None,
+        Slot::Truth(_) => None,
+        Slot::Constant(_) => None,
+        Slot::Array(_) => None,
+    }
+}
+
+/// The variable of a number, where it has no value and isn't the target.
+fn open_other(number: usize, target: usize, partial: &Partial) -> Option<usize>
+    ensures { result ≡ open_other partial.now target (Term.Var number) }
+{
+    if number == target || partial.has(number) {
+        None
+    } else {
+        Some(number)
     }
 }
 

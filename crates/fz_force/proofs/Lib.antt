@@ -9,8 +9,7 @@ pub mod Spots
 pub mod Gaps
 pub mod Sides
 pub mod Fits
-pub mod ScalarsKept
-pub mod Readings
+pub mod Scalars
 pub mod Held
 pub mod KindsFit
 pub mod Tables

@@ -1,37 +1,13 @@
 -- The scalars of an argument by their places, and which of them are open as more of them come.
 use Rattle.std.proofs.Common.{◌≡◌, ℕ, zero, suc, ◌+◌, ◌<◌, ◌≤◌, true, false, cond, List, [], ◌∷◌, ◌++◌, length, take, drop, get_or, flat_map, Option, Some, None, option_map, IfSome, MatchOption, slice_get, is_none, Bor, refl, sym, ap, subst, ◌∙◌, ◌⊎◌, inl, inr, arith}
 use Rattle.std.proofs.lemmas.Option.{slice_get_past, slice_get_read}
-use Rattle.std.specs.List.{AllByRecursion}
 use Rattle.fz_meaning.specs.declared.term.Term.{Term}
 use Rattle.fz_meaning.specs.declared.term.Term.TheVariants.{Var}
 use Rattle.fz_meaning.specs.Meaning.{Partial, value}
 use Rattle.fz_meaning.specs.Steps.{open_terms}
-use Rattle.fz_data.specs.declared.parts.Array.{Array}
-use Rattle.fz_data.specs.declared.parts.Place.{Place}
-use Rattle.fz_data.specs.declared.parts.Place.TheVariants as places
 use Rattle.fz_force.specs.declared.only.Open.{Open}
 use Rattle.fz_force.specs.declared.only.Open.TheVariants.{Nothing, Target, More}
-use Rattle.fz_force.specs.Only.{IsScalar, AreOpen, scalar_kept, terms_kept}
-
--- ---- a list of scalars, by places
-
-module _ (xs : List Array) where
-  pub scalars_counted : (ps : List Place) → AllByRecursion IsScalar ps → length ps ≡ length (flat_map (terms_kept xs) ps)
-  scalars_counted [] h = refl
-  scalars_counted (places.Scalar t ∷ ps) h = ap suc (scalars_counted ps h.1)
-  scalars_counted (places.Array x ∷ ps) h = absurd h.0
-
-  pub scalar_at : (ps : List Place) (k : ℕ) (p : Place) → AllByRecursion IsScalar ps → slice_get ps k ≡ Some p → scalar_kept p ≡ slice_get (flat_map (terms_kept xs) ps) k
-  scalar_at [] k p h e = cc
-  scalar_at (places.Scalar u ∷ ps) zero p h e = let same : places.Scalar u ≡ p = cc in ap scalar_kept (sym same)
-  scalar_at (places.Scalar u ∷ ps) (suc k) p h e = scalar_at ps k p h.1 e
-  scalar_at (places.Array x ∷ ps) k p h e = absurd h.0
-
-  pub no_scalar_at : (ps : List Place) (k : ℕ) → AllByRecursion IsScalar ps → slice_get ps k ≡ None → None ≡ slice_get (flat_map (terms_kept xs) ps) k
-  no_scalar_at [] k h e = refl
-  no_scalar_at (places.Scalar u ∷ ps) zero h e = cc
-  no_scalar_at (places.Scalar u ∷ ps) (suc k) h e = no_scalar_at ps k h.1 e
-  no_scalar_at (places.Array x ∷ ps) k h e = absurd h.0
+use Rattle.fz_force.specs.Only.{AreOpen}
 
 -- ---- what a slice's `get` gives
 

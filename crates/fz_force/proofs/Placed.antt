@@ -15,61 +15,64 @@ use Rattle.fz_meaning.specs.Steps.{Gives, IsResult, kind_at, open_terms}
 use Rattle.fz_meaning.proofs.Values.{no, and_first, and_second}
 use Rattle.fz_meaning.proofs.States.{intro}
 use Rattle.fz_meaning.proofs.Steps.{only_open_none, some_of}
-use Rattle.fz_data.specs.declared.parts.Variable.{Variable}
 use Rattle.fz_data.specs.declared.parts.Array.{Array}
-use Rattle.fz_data.specs.declared.parts.Place.{Place}
-use Rattle.fz_data.specs.declared.parts.Place.TheVariants as places
-use Rattle.fz_data.specs.declared.parts.Argument.{Argument}
-use Rattle.fz_data.specs.declared.parts.Argument.TheVariants as arguments
+use Rattle.fz_data.specs.declared.store.Slot.{Slot}
+use Rattle.fz_data.specs.declared.store.Slot.TheVariants as slots
+use Rattle.fz_data.specs.declared.store.Argument.{Argument}
+use Rattle.fz_data.specs.declared.store.Argument.TheVariants as arguments
+use Rattle.fz_data.specs.declared.point.ConstraintParts.{ConstraintParts}
+use Rattle.fz_data.specs.Slots.{is_scalar, segment}
 use Rattle.fz_data.specs.Kinds.{PostedFits}
 use Rattle.fz_data.specs.Parts.{argument_view, place_view, array_view, no_array}
 use Rattle.fz_force.specs.declared.only.Spot.{Spot}
 use Rattle.fz_force.specs.Forced.{Fills, IsForced, IsOnlyValue, IsReady}
 use Rattle.fz_force.specs.Kinds.{each_fits}
-use Rattle.fz_force.specs.Only.{IsFlat, IsOnlyAt, IsOnlyOpen, IsScalar, terms_given}
+use Rattle.fz_force.specs.Only.{IsFlat, IsOnlyAt, IsOnlyOpen, terms_of}
 use Rattle.fz_force.proofs.Gaps.{has_place}
 use Rattle.fz_force.proofs.KindsFit.{filled_kind, has_number}
-use Rattle.fz_force.proofs.ScalarsKept.{at_argument, of_arguments}
+use Rattle.fz_force.proofs.Scalars.{at_argument, of_arguments}
 
-module _ (vs : List Variable) (xs : List Array) where
+module _ (c : ConstraintParts) where
+  abbrev view : Argument → meaning.Argument
+  view = argument_view c.variables.now c.arrays.now c.store.now
+
   -- ---- no array stands in a list of a constraint that has the shapes
 
   no_term : (k : Kind) (o : Option Array) → is_term_of k (option_map_or array_view o no_array) ≡ false
   no_term k None = refl
   no_term k (Some a) = refl
 
-  flat_place : (k : Kind) (p : Place) → is_term_of k (place_view vs xs p) ≡ true → IsScalar p
-  flat_place k (places.Scalar t) h = tt
-  flat_place k (places.Array x) h = no (sym (no_term k (slice_get xs x.number)) ∙ h)
+  flat_places : (k : Kind) (ss : List Slot) → list_all (is_term_of k) (map (place_view c.variables.now c.arrays.now c.store.now.constants.items) ss) ≡ true → list_all is_scalar ss ≡ true
+  flat_places k [] h = refl
+  flat_places k (slots.Variable n ∷ ss) h = flat_places k ss (and_second (is_term_of k (place_view c.variables.now c.arrays.now c.store.now.constants.items (slots.Variable n))) _ h)
+  flat_places k (slots.Number i ∷ ss) h = flat_places k ss (and_second (is_term_of k (place_view c.variables.now c.arrays.now c.store.now.constants.items (slots.Number i))) _ h)
+  flat_places k (slots.Truth b ∷ ss) h = flat_places k ss (and_second (is_term_of k (place_view c.variables.now c.arrays.now c.store.now.constants.items (slots.Truth b))) _ h)
+  flat_places k (slots.Constant v ∷ ss) h = flat_places k ss (and_second (is_term_of k (place_view c.variables.now c.arrays.now c.store.now.constants.items (slots.Constant v))) _ h)
+  flat_places k (slots.Array i ∷ ss) h = no (sym (no_term k (slice_get c.arrays.now i)) ∙ and_first (is_term_of k (option_map_or array_view (slice_get c.arrays.now i) no_array)) _ h)
 
-  flat_places : (k : Kind) (ps : List Place) → list_all (is_term_of k) (map (place_view vs xs) ps) ≡ true → AllByRecursion IsScalar ps
-  flat_places k [] h = tt
-  flat_places k (p ∷ ps) h = (flat_place k p (and_first (is_term_of k (place_view vs xs p)) _ h), flat_places k ps (and_second (is_term_of k (place_view vs xs p)) _ h))
-
-  flat_argument : (s : Shape) (a : Argument) → has_shape s (argument_view vs xs a) ≡ true → IsFlat a
+  flat_argument : (s : Shape) (a : Argument) → has_shape s (view a) ≡ true → IsFlat c a
   flat_argument s (arguments.One p) h = tt
-  flat_argument (ScalarOf k) (arguments.List ps) h = no h
-  flat_argument (ArrayOf k) (arguments.List ps) h = flat_places k ps.items h
+  flat_argument (ScalarOf k) (arguments.List g) h = no h
+  flat_argument (ArrayOf k) (arguments.List g) h = flat_places k (segment c.store.now.slots.items g) h
 
-  pub flat_arguments : (ss : List Shape) (as' : List Argument) → have_shapes ss (map (argument_view vs xs) as') ≡ true → AllByRecursion IsFlat as'
+  pub flat_arguments : (ss : List Shape) (as' : List Argument) → have_shapes ss (map view as') ≡ true → AllByRecursion (IsFlat c) as'
   flat_arguments ss [] h = tt
   flat_arguments [] (a ∷ as') h = no h
-  flat_arguments (s ∷ ss) (a ∷ as') h =
-      (flat_argument s a (and_first (has_shape s (argument_view vs xs a)) _ h), flat_arguments ss as' (and_second (has_shape s (argument_view vs xs a)) _ h))
+  flat_arguments (s ∷ ss) (a ∷ as') h = (flat_argument s a (and_first (has_shape s (view a)) _ h), flat_arguments ss as' (and_second (has_shape s (view a)) _ h))
 
   -- ---- what is found of it
 
-  pub ready : (K : Partial) (as' : List Argument) (r : Row) (n : ℕ) (s : Spot) → have_shapes r.shapes (map (argument_view vs xs) as') ≡ true → IsOnlyAt K (terms_given xs) as' n s
-      → each_fits K r.shapes (map (argument_view vs xs) as') ≡ true → IsReady K (map (argument_view vs xs) as') r s
+  pub ready : (K : Partial) (as' : List Argument) (r : Row) (n : ℕ) (s : Spot) → have_shapes r.shapes (map view as') ≡ true → IsOnlyAt K (terms_of c) as' n s
+      → each_fits K r.shapes (map view as') ≡ true → IsReady K (map view as') r s
   ready K as' r n s shaped only kinds = record {
     shaped = shaped;
-    only_open = ap (open_terms K) (sym (of_arguments vs xs as')) ∙ only.open_once ∙ ap (λ j. Var j ∷ []) (sym only.variable);
-    stands = ap (λ ts. slice_get ts s.place) (sym (at_argument vs xs as' s.argument)) ∙ only.stands ∙ ap (λ j. Some (Var j)) (sym only.variable);
+    only_open = ap (open_terms K) (sym (of_arguments view as')) ∙ only.open_once ∙ ap (λ j. Var j ∷ []) (sym only.variable);
+    stands = ap (λ ts. slice_get ts s.place) (sym (at_argument view as' s.argument)) ∙ only.stands ∙ ap (λ j. Some (Var j)) (sym only.variable);
     kinds = kinds;
   }
 
-  pub not_only : (K : Partial) (as' : List Argument) (r : Row) (n : ℕ) → IsOnlyOpen K (terms_given xs) as' n None → IsOnlyValue K (map (argument_view vs xs) as') r n None
-  not_only K as' r n none = λ within w f. none (ap (open_terms K) (of_arguments vs xs as') ∙ f.only_open)
+  pub not_only : (K : Partial) (as' : List Argument) (r : Row) (n : ℕ) → IsOnlyOpen K (terms_of c) as' n None → IsOnlyValue K (map view as') r n None
+  not_only K as' r n none = λ within w f. none (ap (open_terms K) (of_arguments view as') ∙ f.only_open)
 
 pub has_value : (K : Partial) (xs : List meaning.Argument) (r : Row) (n : ℕ) → is_some (value_at K n) ≡ true → IsOnlyValue K xs r n None
 has_value K xs r n some = λ within w f. no (ap is_some (sym (only_open_none K n (flat_map terms_in xs) f.only_open)) ∙ some)

@@ -1,65 +1,29 @@
 -- The only scalar without a value among a constraint's arguments, and where it stands (private functions only).
-use Rattle.std.specs.Prelude.{◌≡◌, ℕ, List, [], ◌∷◌, Option, Some, None, false, flat_map, map, slice_get, ⊤}
-use Rattle.std.specs.List.{AllByRecursion}
+use Rattle.std.specs.Prelude.{◌≡◌, ℕ, true, List, [], ◌∷◌, Option, Some, None, flat_map, slice_get, ⊤}
+use Rattle.std.specs.List.{list_all}
 use Rattle.std.specs.Option.{option_map_or}
-use Rattle.fz_base.specs.declared.value.Value.{Value}
-use Rattle.fz_base.specs.declared.value.Value.TheVariants.{Bool as Truth}
 use Rattle.fz_meaning.specs.declared.term.Term.{Term}
-use Rattle.fz_meaning.specs.declared.term.Term.TheVariants.{Fixed, Var}
-use Rattle.fz_meaning.specs.Meaning.{Partial}
+use Rattle.fz_meaning.specs.declared.term.Term.TheVariants.{Var}
+use Rattle.fz_meaning.specs.Meaning.{Partial, terms_in}
 use Rattle.fz_meaning.specs.Steps.{open_terms}
-use Rattle.fz_data.specs.declared.parts.Array.{Array}
-use Rattle.fz_data.specs.declared.parts.Place.{Place}
-use Rattle.fz_data.specs.declared.parts.Place.TheVariants as places
-use Rattle.fz_data.specs.declared.parts.Argument.{Argument}
-use Rattle.fz_data.specs.declared.parts.Argument.TheVariants as arguments
-use Rattle.fz_data.specs.declared.sheet.Laid.{Laid}
-use Rattle.fz_data.specs.declared.sheet.Slot.{Slot}
-use Rattle.fz_data.specs.Readings.{Reading, array_elements, laid_reading, slot_term}
+use Rattle.fz_data.specs.declared.store.Argument.{Argument}
+use Rattle.fz_data.specs.declared.store.Argument.TheVariants as arguments
+use Rattle.fz_data.specs.declared.point.ConstraintParts.{ConstraintParts}
+use Rattle.fz_data.specs.Parts.{argument_view}
+use Rattle.fz_data.specs.Slots.{is_scalar, segment}
 use Rattle.fz_force.specs.declared.only.Open.{Open}
 use Rattle.fz_force.specs.declared.only.Open.TheVariants.{Nothing, Target, More}
 use Rattle.fz_force.specs.declared.only.Spot.{Spot}
 
--- ---- the scalars of an argument as it is kept
-
-abbrev pub IsScalar : Place → Type 0
-IsScalar (places.Scalar t) = ⊤
-IsScalar (places.Array x) = ⊥
+-- ---- the scalars of an argument
 
 -- no array stands in a list, as in each constraint that fits a row
-abbrev pub IsFlat : Argument → Type 0
-IsFlat (arguments.One p) = ⊤
-IsFlat (arguments.List ps) = AllByRecursion IsScalar ps.items
+abbrev pub IsFlat : ConstraintParts → Argument → Type 0
+IsFlat c (arguments.One s) = ⊤
+IsFlat c (arguments.List g) = list_all is_scalar (segment c.store.now.slots.items g) ≡ true
 
-abbrev pub scalar_kept : Place → Option Term
-scalar_kept (places.Scalar t) = Some t
-scalar_kept (places.Array x) = None
-
-abbrev pub terms_kept : List Array → Place → List Term
-terms_kept xs (places.Scalar t) = t ∷ []
-terms_kept xs (places.Array x) = array_elements xs x.number
-
-abbrev pub terms_given : List Array → Argument → List Term
-terms_given xs (arguments.One p) = terms_kept xs p
-terms_given xs (arguments.List ps) = flat_map (terms_kept xs) ps.items
-
--- ---- the scalars of an argument by what it is read by
-
--- what reads as no scalar is taken for one that has a value, so that all others keep their places
-abbrev pub term_or : Option Term → Term
-term_or (Some t) = t
-term_or None = Fixed (Truth false)
-
-abbrev pub terms_read : Reading → List Term
-terms_read (Some t, os) = t ∷ []
-terms_read (None, os) = map term_or os
-
-abbrev pub slot_or : List Value → Slot → Term
-slot_or cs s = term_or (slot_term cs s)
-
--- an argument as it is laid
-abbrev pub terms_laid : List Array → List Value → List Slot → Laid → List Term
-terms_laid xs cs ss l = terms_read (laid_reading xs cs ss l)
+abbrev pub terms_of : ConstraintParts → Argument → List Term
+terms_of c a = terms_in (argument_view c.variables.now c.arrays.now c.store.now a)
 
 -- ---- which of them have no value
 

@@ -94,7 +94,7 @@ pub(crate) fn left_set(
 fn element_copy(
     alloc: Global,
     index: i64,
-    elements: &Elements<'_, '_>,
+    elements: &Elements<'_>,
 ) -> Result<Option<IntSet>, SetError>
     ensures { IfOk result (λ left. left ≡ element_at (sets elements.now) index) }
 {

@@ -5,7 +5,6 @@
 
 mod base_row;
 mod kinds;
-mod laid;
 mod numbers;
 mod only;
 mod row;

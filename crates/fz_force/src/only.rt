@@ -1,15 +1,16 @@
 //! The only scalar without a value among a constraint's arguments.
 
-ghost use Rattle.std.specs.Prelude.{◌≡◌, ◌↔◌, ◌∷◌, [], IsTrue, List, flat_map, is_some, option_map};
+ghost use Rattle.std.specs.Prelude.{◌≡◌, ◌<◌, ◌∷◌, [], ◌↔◌, IsTrue, List, Some, length, map, slice_get};
 ghost use Rattle.std.specs.List.{AllByRecursion};
+ghost use Rattle.fz_base.specs.declared.value.Value.{Value};
+ghost use Rattle.fz_meaning.specs.Meaning.{terms_at};
+ghost use Rattle.fz_meaning.specs.declared.term.Term.TheVariants.{Var};
+ghost use Rattle.fz_data.specs.Parts.{place_view};
+ghost use Rattle.fz_data.specs.Slots.{slot_term};
+ghost use Rattle.fz_force.specs.Only.{AreOpen, IsFlat, IsOnlyOpen, terms_of};
 ghost use Rattle.fz_force.specs.declared.only.Open.TheVariants.{Nothing};
-ghost use Rattle.fz_meaning.specs.Meaning.{value};
-ghost use Rattle.fz_data.specs.declared.parts.Array.{Array as Held};
-ghost use Rattle.fz_force.specs.Only.{AreOpen, IsFlat, IsOnlyOpen, IsScalar, scalar_kept, terms_given, terms_kept};
-ghost use Rattle.fz_data.specs.Readings.{array_elements as elements_in};
 
-use fz_data::{Argument, Array, Partial, Place, array_elements};
-use fz_meaning::Term;
+use fz_data::{Argument, ConstraintParts, Partial, Slot, part};
 
 /// Which scalars have no value: none; the target alone, once, at a place counted from 0; or others.
 #[derive(Clone, Copy)]
@@ -35,43 +36,51 @@ pub(crate) struct Spot {
     pub(crate) place: usize,
 }
 
-fn open_term(term: &Term, target: usize, partial: &Partial) -> Open
-    ensures { AreOpen partial.now target (term.now ∷ []) result }
+/// The item at an index.
+#[inline(always)]
+fn item_at<T>(items: &[T], index: usize) -> &T
+    requires { index < length items.now }
+    ensures { slice_get items.now index ≡ Some result.now }
 {
-    if has_value(term, partial) {
+    &items[index]
+}
+
+/// Whether a variable has no value: the target, or another.
+#[inline(always)]
+fn open_variable(number: usize, target: usize, partial: &Partial) -> Open
+    ensures { AreOpen partial.now target (Var number ∷ []) result }
+{
+    if partial.has(number) {
         return Open::Nothing;
     }
-    match term {
-        Term::Var(number) if *number == target => Open::Target(0),
-        _ => Open::More,
+    if number == target {
+        return Open::Target(0);
     }
+    Open::More
 }
 
-fn has_value(term: &Term, partial: &Partial) -> bool
-    ensures { result ≡ is_some (value partial.now term.now) }
+/// Whether a slot that is no array has no value. Only variables can be without one.
+#[inline(always)]
+fn open_slot(slot: &Slot, target: usize, partial: &Partial) -> Open
+    ensures { (cs : List Value) → AreOpen partial.now target (slot_term cs slot.now ∷ []) result }
 {
-    match term {
-        Term::Fixed(_) => true,
-        Term::Var(number) => partial.has(*number),
+    match slot {
+        Slot::Variable(number) => open_variable(*number as usize, target, partial),
+        Slot::Number(_) => Open::Nothing,
+        Slot::Truth(_) => Open::Nothing,
+        Slot::Constant(_) => Open::Nothing,
+        Slot::Array(_) => Open::Nothing,
     }
 }
 
-fn scalar_in<'m>(place: &'m Place<'_>) -> Option<&'m Term>
-    ensures { option_map (λ t. t.now) result ≡ scalar_kept place.now }
-{
-    match place {
-        Place::Scalar(term) => Some(term),
-        Place::Array(_) => None,
-    }
-}
-
-// Which scalars of an array have no value.
-fn open_of(terms: &[Term], target: usize, partial: &Partial) -> Open
-    ensures { AreOpen partial.now target terms.now result }
+/// Which slots that are no arrays have no value.
+#[inline]
+fn open_slots(slots: &[Slot], target: usize, partial: &Partial) -> Open
+    ensures { (cs : List Value) → AreOpen partial.now target (map (slot_term cs) slots.now) result }
 {
     let mut found = Open::Nothing;
-    for (place, term) in terms.iter().enumerate() {
-        match open_term(term, target, partial) {
+    for place in 0..slots.len() {
+        match open_slot(item_at(slots, place), target, partial) {
             Open::Nothing => {}
             Open::More => return Open::More,
             Open::Target(_) => {
@@ -85,72 +94,58 @@ fn open_of(terms: &[Term], target: usize, partial: &Partial) -> Open
     found
 }
 
-/// Which scalars of the array of a number have no value; none where the number is no array's.
-pub(crate) fn open_elements(
-    arrays: &[Array<'_>],
-    number: usize,
+/// Which scalars of a slot have no value: it is one, or an array has them.
+#[inline]
+fn open_place(
+    slot: &Slot,
+    parts: &ConstraintParts<'_, '_>,
     target: usize,
     partial: &Partial,
 ) -> Open
-    ensures { AreOpen partial.now target (elements_in arrays.now number) result }
+    ensures { AreOpen partial.now target (terms_at (place_view parts.now.variables.now parts.now.arrays.now parts.now.store.now.constants.items slot.now)) result }
 {
-    open_of(array_elements(arrays, number), target, partial)
-}
-
-// Which scalars of a list have no value.
-fn open_among<'a>(places: &[Place<'a>], target: usize, partial: &Partial) -> Open
-    requires flat { AllByRecursion IsScalar places.now }
-    ensures { (xs : List Held) → AreOpen partial.now target (flat_map (terms_kept xs) places.now) result }
-{
-    let mut found = Open::Nothing;
-    for (place, kept) in places.iter().enumerate() {
-        let Some(term) = scalar_in(kept) else {
-            return found;
-        };
-        match open_term(term, target, partial) {
-            Open::Nothing => {}
-            Open::More => return Open::More,
-            Open::Target(_) => {
-                if !found.is_nothing() {
-                    return Open::More;
-                }
-                found = Open::Target(place);
-            }
-        }
+    match slot {
+        Slot::Array(number) => match parts.arrays.get(*number as usize) {
+            Some(array) => open_slots(&array.elements.slots, target, partial),
+            None => Open::Nothing,
+        },
+        Slot::Variable(number) => open_variable(*number as usize, target, partial),
+        Slot::Number(_) => Open::Nothing,
+        Slot::Truth(_) => Open::Nothing,
+        Slot::Constant(_) => Open::Nothing,
     }
-    found
 }
 
-// Which scalars of an argument have no value.
-fn open_in<'m, 'a>(
-    argument: &'m Argument<'a>,
-    arrays: &'m [Array<'a>],
+/// Which scalars of an argument have no value.
+#[inline]
+fn open_in(
+    argument: &Argument,
+    parts: &ConstraintParts<'_, '_>,
     target: usize,
     partial: &Partial,
 ) -> Open
-    requires flat { IsFlat argument.now }
-    ensures { AreOpen partial.now target (terms_given arrays.now argument.now) result }
+    requires flat { IsFlat parts.now argument.now }
+    ensures { AreOpen partial.now target (terms_of parts.now argument.now) result }
 {
     match argument {
-        Argument::One(Place::Scalar(term)) => open_term(term, target, partial),
-        Argument::One(Place::Array(name)) => open_of(name.elements(arrays), target, partial),
-        Argument::List(places) => open_among(places, target, partial),
+        Argument::One(slot) => open_place(slot, parts, target, partial),
+        Argument::List(at) => open_slots(part(&parts.store.slots, *at), target, partial),
     }
 }
 
 /// Where the target stands, if it is the only scalar without a value, and stands there alone.
-pub(crate) fn only_open<'m, 'a>(
-    arguments: &'m [Argument<'a>],
-    arrays: &'m [Array<'a>],
+pub(crate) fn only_open(
+    arguments: &[Argument],
+    parts: &ConstraintParts<'_, '_>,
     target: usize,
     partial: &Partial,
 ) -> Option<Spot>
-    requires flat { AllByRecursion IsFlat arguments.now }
-    ensures { IsOnlyOpen partial.now (terms_given arrays.now) arguments.now target result }
+    requires flat { AllByRecursion (IsFlat parts.now) arguments.now }
+    ensures { IsOnlyOpen partial.now (terms_of parts.now) arguments.now target result }
 {
     let mut found = None;
-    for (number, argument) in arguments.iter().enumerate() {
-        match open_in(argument, arrays, target, partial) {
+    for number in 0..arguments.len() {
+        match open_in(item_at(arguments, number), parts, target, partial) {
             Open::Nothing => {}
             Open::More => return None,
             Open::Target(place) => {

@@ -1,21 +1,18 @@
 //! What a constraint forces by its row of the table.
 
 ghost use Rattle.std.specs.Prelude.{◌≡◌, ◌↔◌, IfOk, IfSome, IsTrue, Some, option_map, true};
-ghost use Rattle.std.specs.List.{AllByRecursion};
 ghost use Rattle.fz_base.specs.declared.value.Value.TheVariants.{Int};
 ghost use Rattle.fz_meaning.specs.Builtins.Result.{UnitTerm};
 ghost use Rattle.fz_meaning.specs.Meaning.{IsPartial, Model as Meaning, row_of};
 ghost use Rattle.fz_meaning.specs.Meaning.Point.{ConstraintPoint};
 ghost use Rattle.fz_meaning.specs.Known.{known_row, result_of};
 ghost use Rattle.fz_data.specs.Kinds.{PostedFits};
-ghost use Rattle.fz_data.specs.Parts.{posted_view};
+ghost use Rattle.fz_data.specs.Parts.{constraint_view};
 ghost use Rattle.fz_eval.specs.of_scene.Views.{arguments_of, assigned};
 ghost use Rattle.fz_force.specs.Left.{HasUnit, IsPlaceOf};
 ghost use Rattle.fz_force.specs.Forced.{IsForced, IsOnlyValue, IsReady, IsRow};
 ghost use Rattle.fz_force.specs.Kinds.{each_fits};
-ghost use Rattle.fz_force.specs.Only.{IsFlat, IsOnlyOpen, terms_given};
 
-use crate::laid::only_open_laid;
 use crate::only::{Spot, only_open};
 use crate::unit::unit_value;
 use crate::value::left_value;
@@ -33,14 +30,14 @@ pub(crate) fn by_row(
     parts: ConstraintParts<'_, '_>,
     partial: &Partial,
 ) -> Result<Option<(usize, Value)>, AllocError>
-    requires known { option_map known_row parts.known ≡ row_of (posted_view parts.variables.now parts.arrays.now parts.posted.now) }
-    requires kinds { IfSome parts.known (λ k. each_fits partial.now (known_row k).shapes (posted_view parts.variables.now parts.arrays.now parts.posted.now).arguments ≡ true) }
-    ensures forced { (m : Meaning) → IsPartial m partial.now → PostedFits m (posted_view parts.entry.variables.now parts.entry.arrays.now parts.entry.posted.now) → IfOk result (λ o. IsForced m partial.now (ConstraintPoint parts.entry.number (posted_view parts.entry.variables.now parts.entry.arrays.now parts.entry.posted.now)) o) }
+    requires known { option_map known_row parts.posted.now.known ≡ row_of (constraint_view parts) }
+    requires kinds { IfSome parts.posted.now.known (λ k. each_fits partial.now (known_row k).shapes (constraint_view parts).arguments ≡ true) }
+    ensures forced { (m : Meaning) → IsPartial m partial.now → PostedFits m (constraint_view parts.entry) → IfOk result (λ o. IsForced m partial.now (ConstraintPoint parts.entry.number (constraint_view parts.entry)) o) }
 {
-    let Some(target) = parts.target() else {
+    let Some(target) = parts.posted.target else {
         return Ok(None);
     };
-    let Some(known) = parts.known else {
+    let Some(known) = parts.posted.known else {
         return Ok(None);
     };
     match only_value(alloc, known, target, parts, partial)? {
@@ -58,30 +55,17 @@ fn only_value(
     parts: ConstraintParts<'_, '_>,
     partial: &Partial,
 ) -> Result<Option<Value>, AllocError>
-    requires row { row_of (posted_view parts.variables.now parts.arrays.now parts.posted.now) ≡ Some (known_row known) }
-    requires kinds { each_fits partial.now (known_row known).shapes (posted_view parts.variables.now parts.arrays.now parts.posted.now).arguments ≡ true }
-    ensures { IfOk result (λ o. IsOnlyValue partial.now (posted_view parts.entry.variables.now parts.entry.arrays.now parts.entry.posted.now).arguments (known_row known) target o) }
+    requires row { row_of (constraint_view parts) ≡ Some (known_row known) }
+    requires kinds { each_fits partial.now (known_row known).shapes (constraint_view parts).arguments ≡ true }
+    ensures { IfOk result (λ o. IsOnlyValue partial.now (constraint_view parts.entry).arguments (known_row known) target o) }
 {
     if partial.has(target) {
         return Ok(None);
     }
-    let Some(spot) = spot_of(&parts, target, partial) else {
+    let Some(spot) = only_open(parts.arguments(), &parts, target, partial) else {
         return Ok(None);
     };
     value_at(alloc, known, spot, &Scene::new(parts, partial))
-}
-
-// Where the target stands, if it is the only scalar without a value: looked for on the constraint's sheet, or else among its arguments
-// as it keeps them.
-#[inline(always)]
-fn spot_of(parts: &ConstraintParts<'_, '_>, target: usize, partial: &Partial) -> Option<Spot>
-    requires flat { AllByRecursion IsFlat parts.now.posted.now.arguments.items }
-    ensures { IsOnlyOpen partial.now (terms_given parts.now.arrays.now) parts.now.posted.now.arguments.items target result }
-{
-    match parts.laid {
-        Some(laid) => only_open_laid(&laid, parts.arrays, target, partial),
-        None => only_open(&parts.posted.arguments, parts.arrays, target, partial),
-    }
 }
 
 // The value of the variable at the spot with which the row holds.

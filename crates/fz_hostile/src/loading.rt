@@ -44,7 +44,7 @@ fn call_on_model(rt: &HostRuntime, call: &str, model: &Model<'_>) -> Option<()> 
 
 fn tell_model(rt: &HostRuntime, model: &Model<'_>) {
     tell_all(rt, model.variables());
-    tell_all(rt, model.constraints());
+    tell_all(rt, model.constraints().posted);
     tell(rt, model.goal());
     tell(rt, &model.points());
 }

@@ -1,5 +1,6 @@
 -- Loops over a list: one more element, and the first answer.
-use Rattle.std.proofs.Common.{◌≡◌, ℕ, zero, suc, ◌+◌, ◌<◌, min, Bool, true, false, List, [], ◌∷◌, ◌++◌, map, option_map, length, get_or, slice_get, take, drop, Option, Some, None, is_some, Result, Ok, Err, IfOk, refl, sym, ap, ◌∙◌, add-one, drop-cons, arith}
+use Rattle.std.proofs.Common.{◌≡◌, ℕ, zero, suc, ◌+◌, ◌<◌, min, Bool, true, false, List, [], ◌∷◌, ◌++◌, map, option_map, length, get_or, slice_get, take, drop, Option, Some, None, is_some, Result, Ok, Err, IfOk, refl, sym, ap, subst, ◌∙◌, add-one, drop-cons, arith}
+use Rattle.std.specs.List.{AllByRecursion}
 use Rattle.std.specs.Option.{option_or}
 use Rattle.std.proofs.lemmas.List.{take-append-drop, map-append}
 use Rattle.std.proofs.Math.Seq.{take-suc}
@@ -30,6 +31,12 @@ pub there_is : {A : Type 0} (xs : List A) (k : ℕ) → k < length xs → (x : A
 there_is [] k h = absurd (omega arith)
 there_is (x ∷ xs) zero h = (x, refl)
 there_is (x ∷ xs) (suc k) h = there_is xs k (omega arith)
+
+-- what holds of what each element stands for holds of what one stands for
+pub mapped_at : {A B : Type 0} (P : B → Type 0) (f : A → B) (xs : List A) (k : ℕ) (x : A) → k < length xs → x ≡ get_or xs k x → AllByRecursion P (map f xs) → P (f x)
+mapped_at P f [] k x h e all = absurd (omega arith)
+mapped_at P f (y ∷ xs) zero x h e all = subst (λ z. P (f z)) (sym e) all.0
+mapped_at P f (y ∷ xs) (suc k) x h e all = mapped_at P f xs k x (omega arith) e all.1
 
 -- ---- the first answer
 

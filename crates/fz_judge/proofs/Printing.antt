@@ -2,7 +2,9 @@
 use Rattle.std.proofs.Common.{◌≡◌, ◌≢◌, suc, Bool, true, false, ◌&&◌, ◌↔◌, IsTrue, List, [], ◌∷◌, map, length, Option, Some, None, refl, sym, ap, ◌∙◌, subst}
 use Rattle.std.specs.Option.{option_map_or}
 use Rattle.fz_base.specs.declared.value.Value.{Value}
+use Rattle.fz_base.specs.declared.value.Value.TheVariants.{Set}
 use Rattle.fz_model.specs.Values.{same_value, same_values}
+use Rattle.fz_base.specs.Sets.{NumberSet}
 use Rattle.fz_model.specs.Meaning.{Partial, option_cons, value, values}
 use Rattle.fz_model.specs.declared.Term.{Term}
 use Rattle.fz_model.proofs.Values.{no, same_value_is, value_itself}
@@ -19,6 +21,13 @@ tests_same false v w h = refused (same_value v w) refl
     refused : (c : Bool) → same_value v w ≡ c → false ≡ c
     refused true e = no (h.1 (same_value_is v w e))
     refused false e = refl
+
+-- and one for equal sets
+pub sets_same : (b : Bool) (s t : NumberSet) → IsTrue b ↔ (s ≡ t) → b ≡ same_value (Set s) (Set t)
+sets_same b s t h = tests_same b (Set s) (Set t) (λ e. ap Set (h.0 e), λ e. h.1 (inside e))
+  where
+    inside : ◌≡◌ {A = Value} (Set s) (Set t) → s ≡ t
+    inside e = cc
 
 pub and_false : (a : Bool) → (a && false) ≡ false
 and_false true = refl

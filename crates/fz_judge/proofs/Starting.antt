@@ -14,7 +14,8 @@ use Rattle.fz_model.specs.Kinds.{TermFits, PlaceFits}
 use Rattle.fz_model.specs.Located.{Name, Literal}
 use Rattle.fz_model.specs.Names.{literal_value}
 use Rattle.fz_model.specs.Partial.{nothing_for}
-use Rattle.fz_model.specs.Shown.{what_place}
+use Rattle.fz_model.specs.Shown.{scalar_terms, what_place}
+use Rattle.fz_model.specs.Slots.{scalar_term}
 use Rattle.fz_model.specs.Meaning.{Place, Variable, Model, Partial, give, value_at, variables_of, first_some, FitVariables, IsPartial}
 use Rattle.fz_model.specs.Meaning.Place.{Scalar, Array}
 use Rattle.fz_model.specs.Steps.{kind_at}
@@ -196,8 +197,8 @@ term_within m K k (Fixed v) h fits = tt
 
 -- what a name stands for has numbers of variables
 pub what_within : (m : Model) (K : Partial) (vs : List Variable) (x : List ℕ) (w : What) → IsPartial m K → PlaceFits m (what_place vs x w) → AllByRecursion (IsWithin (length K)) (terms_of_what w)
-what_within m K vs x (whats.Scalar t) h fits = (term_within m K _ t.now h fits, tt)
-what_within m K vs x (whats.Array k ts) h fits = all_map (TermFits m k) (IsWithin (length K)) (λ t fit. term_within m K k t h fit) ts.now fits
+what_within m K vs x (whats.Scalar s) h fits = (term_within m K _ (scalar_term s) h fits, tt)
+what_within m K vs x (whats.Array k ts) h fits = all_map (TermFits m k) (IsWithin (length K)) (λ t fit. term_within m K k t h fit) (scalar_terms ts) fits
 
 -- ---- the items of a block
 

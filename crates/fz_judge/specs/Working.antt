@@ -10,6 +10,8 @@ use Rattle.fz_model.specs.declared.What.{What}
 use Rattle.fz_model.specs.declared.What.TheVariants as whats
 use Rattle.fz_model.specs.Names.{literal_value}
 use Rattle.fz_model.specs.Values.{same_value}
+use Rattle.fz_model.specs.Shown.{scalar_terms}
+use Rattle.fz_model.specs.Slots.{scalar_term}
 use Rattle.fz_model.specs.Meaning.{Model, Partial, PointName, give, value, value_at, variables_of, find_name}
 use Rattle.fz_syntax.specs.Places.{IsSpanWithin}
 use Rattle.fz_verdict.specs.Blocks.{Printed, PrintedValue, printed_values, moved}
@@ -33,8 +35,8 @@ IsWithin count (Var n) = n < count
 IsWithin count (Fixed v) = ⊤
 
 abbrev pub terms_of_what : What → List Term
-terms_of_what (whats.Scalar t) = t.now ∷ []
-terms_of_what (whats.Array k ts) = ts.now
+terms_of_what (whats.Scalar s) = scalar_term s ∷ []
+terms_of_what (whats.Array k ts) = scalar_terms ts
 
 -- a variable without a value takes the value
 abbrev pub with_first : Partial → (Term × Value) → Partial

@@ -2,17 +2,18 @@
 
 ghost use Rattle.std.specs.Prelude.{◌≡◌, ℕ, List, map, option_map, slice_get};
 ghost use Rattle.std.specs.Option.{option_map_or};
-ghost use Rattle.fz_model.specs.declared.Term.{Term as Scalar};
+ghost use Rattle.fz_model.specs.declared.Term.{Term as Held};
 ghost use Rattle.fz_model.specs.Meaning.{Place, Variable as DeclaredVariable, first_some};
 ghost use Rattle.fz_model.specs.Parts.{variable_view};
-ghost use Rattle.fz_model.specs.Shown.{kind_among, what_place};
+ghost use Rattle.fz_model.specs.Shown.{kind_among, scalar_terms, what_place};
+ghost use Rattle.fz_model.specs.Slots.{scalar_term};
 ghost use Rattle.fz_model.specs.View.{located_literal, located_name};
 ghost use Rattle.fz_verdict.specs.Blocks.{literal_fault, value_fault};
 ghost use Rattle.fz_verdict.specs.View.{located_printed_value};
 ghost use Rattle.fz_judge.specs.Judged.{refusal};
 
 use crate::error::BlockError;
-use fz_model::{Kind, Term, Variable, What, kind_of, literal_kind, same_kind};
+use fz_model::{Kind, Scalar, Scalars, Variable, What, literal_kind, same_kind};
 use fz_syntax::{Literal, Name, PrintedValue};
 
 /// A literal of another kind.
@@ -50,18 +51,20 @@ fn variable_kind(variables: &[Variable<'_>], number: usize) -> Kind
 }
 
 /// The kind of a scalar: its variable's, or its value's.
-fn scalar_kind(variables: &[Variable<'_>], term: &Term) -> Kind
-    ensures { result ≡ kind_among (map variable_view variables.now) term.now }
+fn scalar_kind(variables: &[Variable<'_>], scalar: Scalar<'_>) -> Kind
+    ensures { result ≡ kind_among (map variable_view variables.now) (scalar_term scalar.entry) }
 {
-    match term {
-        Term::Var(number) => variable_kind(variables, *number),
-        Term::Fixed(value) => kind_of(value),
+    match scalar {
+        Scalar::Variable(number) => variable_kind(variables, number),
+        Scalar::Number(_) => Kind::Int,
+        Scalar::Truth(_) => Kind::Bool,
+        Scalar::Set(_) => Kind::Set,
     }
 }
 
 /// What of the value that is printed for a scalar of a kind does not fit.
 fn scalar_fault(name: &Name<'_>, kind: Kind, value: &PrintedValue) -> Option<BlockError>
-    ensures { (t : Scalar) → result ≡ option_map refusal (value_fault (located_name name.now) (Place.Scalar kind t) (located_printed_value value.now)) }
+    ensures { (t : Held) → result ≡ option_map refusal (value_fault (located_name name.now) (Place.Scalar kind t) (located_printed_value value.now)) }
 {
     match value {
         PrintedValue::One(literal) => literal_fault(kind, literal),
@@ -73,15 +76,15 @@ fn scalar_fault(name: &Name<'_>, kind: Kind, value: &PrintedValue) -> Option<Blo
 fn array_fault(
     name: &Name<'_>,
     kind: Kind,
-    terms: &[Term],
+    list: Scalars<'_>,
     value: &PrintedValue,
 ) -> Option<BlockError>
-    ensures { (x : List ℕ) → result ≡ option_map refusal (value_fault (located_name name.now) (Place.Array x kind terms.now) (located_printed_value value.now)) }
+    ensures { (x : List ℕ) → result ≡ option_map refusal (value_fault (located_name name.now) (Place.Array x kind (scalar_terms list.entry)) (located_printed_value value.now)) }
 {
     match value {
         PrintedValue::One(_) => Some(BlockError::Kind(name.span)),
         PrintedValue::Array { elements, .. } => {
-            if elements.len() != terms.len() {
+            if elements.len() != list.len() {
                 return Some(BlockError::Length(name.span));
             }
             elements_fault(kind, elements)
@@ -99,7 +102,7 @@ pub(crate) fn value_fault(
     ensures { (x : List ℕ) → result ≡ option_map refusal (value_fault (located_name name.now) (what_place (map variable_view variables.now) x what.entry) (located_printed_value value.now)) }
 {
     match what {
-        What::Scalar(term) => scalar_fault(name, scalar_kind(variables, term), value),
-        What::Array(kind, terms) => array_fault(name, kind, terms, value),
+        What::Scalar(scalar) => scalar_fault(name, scalar_kind(variables, scalar), value),
+        What::Array(kind, list) => array_fault(name, kind, list, value),
     }
 }

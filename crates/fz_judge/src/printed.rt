@@ -4,7 +4,9 @@ ghost use Rattle.std.specs.Prelude.{◌≡◌, ℕ, IfOk, List, None, map, optio
 ghost use Rattle.fz_model.specs.Meaning.{Place, Variable as DeclaredVariable, first_some};
 ghost use Rattle.fz_model.specs.declared.Kind.{Kind as KindOf};
 ghost use Rattle.fz_model.specs.Names.{literal_value};
-ghost use Rattle.fz_model.specs.Shown.{what_place};
+ghost use Rattle.fz_model.specs.declared.Term.TheVariants.{Var};
+ghost use Rattle.fz_model.specs.Shown.{scalar_terms, what_place};
+ghost use Rattle.fz_model.specs.Slots.{scalar_term};
 ghost use Rattle.fz_model.specs.View.{located_literal};
 ghost use Rattle.fz_syntax.specs.View.{bare_literal};
 ghost use Rattle.fz_verdict.specs.Blocks.{items_fault, printed_fault, printed_values};
@@ -13,24 +15,41 @@ ghost use Rattle.fz_verdict.specs.View.{located_items, located_printed, located_
 ghost use Rattle.fz_judge.specs.View.{fault_view};
 ghost use Rattle.fz_judge.specs.Working.{has_value, have_values};
 
-use crate::values::is_of_literal;
+use crate::values::{is_number, is_of_literal, is_set, is_truth};
 use crate::verdict::Fault;
-use fz_model::{Model, Partial, Term, What};
+use fz_model::{Model, Partial, Scalar, Scalars, What, scalar_at};
 use fz_syntax::{Literal, Printed, PrintedValue};
 use std::alloc::{AllocError, Global};
+
+/// Whether the variable of a number has the value of the literal.
+fn variable_has(
+    alloc: Global,
+    partial: &Partial,
+    number: usize,
+    literal: &Literal,
+) -> Result<bool, AllocError>
+    ensures { IfOk result (λ b. b ≡ has_value partial.now (Var number, literal_value (bare_literal literal.now))) }
+{
+    match partial.get(number) {
+        Some(value) => is_of_literal(alloc, value, &literal.what),
+        None => Ok(false),
+    }
+}
 
 /// Whether the scalar has the value of the literal.
 fn has_value(
     alloc: Global,
     partial: &Partial,
-    term: &Term,
+    scalar: Scalar<'_>,
     literal: &Literal,
 ) -> Result<bool, AllocError>
-    ensures { IfOk result (λ b. b ≡ has_value partial.now (term.now, literal_value (bare_literal literal.now))) }
+    ensures { IfOk result (λ b. b ≡ has_value partial.now (scalar_term scalar.entry, literal_value (bare_literal literal.now))) }
 {
-    match partial.value(term) {
-        Some(value) => is_of_literal(alloc, value, &literal.what),
-        None => Ok(false),
+    match scalar {
+        Scalar::Variable(number) => variable_has(alloc, partial, number, literal),
+        Scalar::Number(number) => Ok(is_number(number, &literal.what)),
+        Scalar::Truth(truth) => Ok(is_truth(truth, &literal.what)),
+        Scalar::Set(set) => is_set(alloc, set, &literal.what),
     }
 }
 
@@ -38,16 +57,17 @@ fn has_value(
 fn have_values(
     alloc: Global,
     partial: &Partial,
-    terms: &[Term],
+    list: Scalars<'_>,
     literals: &[Literal],
 ) -> Result<bool, AllocError>
-    ensures { IfOk result (λ b. b ≡ have_values partial.now terms.now (printed_values (map located_literal literals.now))) }
+    ensures { IfOk result (λ b. b ≡ have_values partial.now (scalar_terms list.entry) (printed_values (map located_literal literals.now))) }
 {
-    if terms.len() != literals.len() {
+    if list.len() != literals.len() {
         return Ok(false);
     }
-    for (term, literal) in terms.iter().zip(literals) {
-        if !has_value(alloc, partial, term, literal)? {
+    for (slot, literal) in list.slots.iter().zip(literals) {
+        let scalar = scalar_at(list.constants, *slot);
+        if !has_value(alloc, partial, scalar, literal)? {
             return Ok(false);
         }
     }
@@ -58,13 +78,13 @@ fn have_values(
 fn scalar_has(
     alloc: Global,
     partial: &Partial,
-    term: &Term,
+    scalar: Scalar<'_>,
     value: &PrintedValue,
 ) -> Result<bool, AllocError>
-    ensures { IfOk result (λ b. (k : KindOf) → b ≡ has_printed partial.now (Place.Scalar k term.now) (located_printed_value value.now)) }
+    ensures { IfOk result (λ b. (k : KindOf) → b ≡ has_printed partial.now (Place.Scalar k (scalar_term scalar.entry)) (located_printed_value value.now)) }
 {
     match value {
-        PrintedValue::One(literal) => has_value(alloc, partial, term, literal),
+        PrintedValue::One(literal) => has_value(alloc, partial, scalar, literal),
         PrintedValue::Array { .. } => Ok(false),
     }
 }
@@ -73,14 +93,14 @@ fn scalar_has(
 fn array_has(
     alloc: Global,
     partial: &Partial,
-    terms: &[Term],
+    list: Scalars<'_>,
     value: &PrintedValue,
 ) -> Result<bool, AllocError>
-    ensures { IfOk result (λ b. (x : List ℕ) (k : KindOf) → b ≡ has_printed partial.now (Place.Array x k terms.now) (located_printed_value value.now)) }
+    ensures { IfOk result (λ b. (x : List ℕ) (k : KindOf) → b ≡ has_printed partial.now (Place.Array x k (scalar_terms list.entry)) (located_printed_value value.now)) }
 {
     match value {
         PrintedValue::One(_) => Ok(false),
-        PrintedValue::Array { elements, .. } => have_values(alloc, partial, terms, elements),
+        PrintedValue::Array { elements, .. } => have_values(alloc, partial, list, elements),
     }
 }
 
@@ -94,8 +114,8 @@ fn has_printed(
     ensures { IfOk result (λ b. (vs : List DeclaredVariable) (x : List ℕ) → b ≡ has_printed partial.now (what_place vs x what.entry) (located_printed_value value.now)) }
 {
     match what {
-        What::Scalar(term) => scalar_has(alloc, partial, term, value),
-        What::Array(_, terms) => array_has(alloc, partial, terms, value),
+        What::Scalar(scalar) => scalar_has(alloc, partial, scalar, value),
+        What::Array(_, list) => array_has(alloc, partial, list, value),
     }
 }
 

@@ -2,10 +2,12 @@
 
 ghost use Rattle.std.specs.Prelude.{◌≡◌, ◌<◌, ℕ, List, None, IfErr, IfOk, IfSome, IsTrue, OnOk, cond, is_none, length, map};
 ghost use Rattle.std.specs.List.{AllByRecursion};
+ghost use Rattle.fz_model.specs.declared.Term.TheVariants.{Var};
 ghost use Rattle.fz_model.specs.Meaning.{IsPartial, Variable as DeclaredVariable, give, value_at, variables_of};
 ghost use Rattle.fz_model.specs.Names.{literal_value};
 ghost use Rattle.fz_model.specs.Partial.{nothing_for};
-ghost use Rattle.fz_model.specs.Shown.{what_place};
+ghost use Rattle.fz_model.specs.Shown.{scalar_terms, what_place};
+ghost use Rattle.fz_model.specs.Slots.{scalar_term};
 ghost use Rattle.fz_model.specs.View.{located_literal};
 ghost use Rattle.fz_syntax.specs.View.{bare_literal, bare_literal_kind};
 ghost use Rattle.fz_verdict.specs.Blocks.{items_fault, printed_fault, printed_values};
@@ -16,9 +18,9 @@ ghost use Rattle.fz_judge.specs.Working.{HasRoom, IsWithin, agree_all, element_p
 
 use crate::error::BlockError;
 use crate::faults::value_fault;
-use crate::values::is_of_literal;
+use crate::values::{is_number, is_of_literal, is_set, is_truth};
 use fz_base::Value;
-use fz_model::{Model, Partial, Term, What, literal_value};
+use fz_model::{Model, Partial, Scalar, Scalars, What, literal_value, scalar_at};
 use fz_syntax::{Literal, LiteralKind, Printed, PrintedValue};
 use std::alloc::{AllocError, Global};
 
@@ -83,7 +85,7 @@ fn set_variable(
 ) -> Result<bool, AllocError>
     requires in_range { number < length partial.old }
     ensures given { OnOk result (partial.new ≡ cond (is_none (value_at partial.old number)) (give partial.old number (literal_value (bare_literal_kind literal.now))) partial.old) }
-    ensures agrees { IfOk result (λ b. b ≡ has_value partial.new (Term.Var number, literal_value (bare_literal_kind literal.now))) }
+    ensures agrees { IfOk result (λ b. b ≡ has_value partial.new (Var number, literal_value (bare_literal_kind literal.now))) }
 {
     if let Some(value) = partial.get(number) {
         return is_of_literal(alloc, value, literal);
@@ -97,16 +99,18 @@ fn set_variable(
 fn set_scalar(
     alloc: Global,
     partial: &mut Partial,
-    term: &Term,
+    scalar: Scalar<'_>,
     literal: &Literal,
 ) -> Result<bool, AllocError>
-    requires within { IsWithin (length partial.old) term.now }
-    ensures given { OnOk result (partial.new ≡ with_first partial.old (term.now, literal_value (bare_literal literal.now))) }
-    ensures agrees { IfOk result (λ b. b ≡ has_value partial.new (term.now, literal_value (bare_literal literal.now))) }
+    requires within { IsWithin (length partial.old) (scalar_term scalar) }
+    ensures given { OnOk result (partial.new ≡ with_first partial.old (scalar_term scalar.entry, literal_value (bare_literal literal.now))) }
+    ensures agrees { IfOk result (λ b. b ≡ has_value partial.new (scalar_term scalar.entry, literal_value (bare_literal literal.now))) }
 {
-    match term {
-        Term::Var(number) => set_variable(alloc, partial, *number, &literal.what),
-        Term::Fixed(value) => is_of_literal(alloc, value, &literal.what),
+    match scalar {
+        Scalar::Variable(number) => set_variable(alloc, partial, number, &literal.what),
+        Scalar::Number(number) => Ok(is_number(number, &literal.what)),
+        Scalar::Truth(truth) => Ok(is_truth(truth, &literal.what)),
+        Scalar::Set(set) => is_set(alloc, set, &literal.what),
     }
 }
 
@@ -114,16 +118,17 @@ fn set_scalar(
 fn set_elements(
     alloc: Global,
     partial: &mut Partial,
-    terms: &[Term],
+    list: Scalars<'_>,
     literals: &[Literal],
 ) -> Result<bool, AllocError>
-    requires within { AllByRecursion (IsWithin (length partial.old)) terms.now }
-    ensures given { OnOk result (partial.new ≡ with_all partial.old (pairs terms.now (printed_values (map located_literal literals.now)))) }
-    ensures agrees { IfOk result (λ b. b ≡ agree_all partial.old (pairs terms.now (printed_values (map located_literal literals.now)))) }
+    requires within { AllByRecursion (IsWithin (length partial.old)) (scalar_terms list) }
+    ensures given { OnOk result (partial.new ≡ with_all partial.old (pairs (scalar_terms list.entry) (printed_values (map located_literal literals.now)))) }
+    ensures agrees { IfOk result (λ b. b ≡ agree_all partial.old (pairs (scalar_terms list.entry) (printed_values (map located_literal literals.now)))) }
 {
     let mut agrees = true;
-    for (term, literal) in terms.iter().zip(literals) {
-        if !set_scalar(alloc, partial, term, literal)? {
+    for (slot, literal) in list.slots.iter().zip(literals) {
+        let scalar = scalar_at(list.constants, *slot);
+        if !set_scalar(alloc, partial, scalar, literal)? {
             agrees = false;
         }
     }
@@ -142,8 +147,8 @@ fn set_value(
     ensures agrees { IfOk result (λ b. (vs : List DeclaredVariable) (x : List ℕ) → b ≡ agree_all partial.old (pairs_at (what_place vs x what.entry) (located_printed_value value.now))) }
 {
     match what {
-        What::Scalar(term) => set_one(alloc, partial, term, value),
-        What::Array(_, terms) => set_array(alloc, partial, terms, value),
+        What::Scalar(scalar) => set_one(alloc, partial, scalar, value),
+        What::Array(_, list) => set_array(alloc, partial, list, value),
     }
 }
 
@@ -151,15 +156,15 @@ fn set_value(
 fn set_one(
     alloc: Global,
     partial: &mut Partial,
-    term: &Term,
+    scalar: Scalar<'_>,
     value: &PrintedValue,
 ) -> Result<bool, AllocError>
-    requires within { IsWithin (length partial.old) term.now }
-    ensures given { OnOk result (partial.new ≡ with_all partial.old (one_pair term.now (located_printed_value value.now))) }
-    ensures agrees { IfOk result (λ b. b ≡ agree_all partial.old (one_pair term.now (located_printed_value value.now))) }
+    requires within { IsWithin (length partial.old) (scalar_term scalar) }
+    ensures given { OnOk result (partial.new ≡ with_all partial.old (one_pair (scalar_term scalar.entry) (located_printed_value value.now))) }
+    ensures agrees { IfOk result (λ b. b ≡ agree_all partial.old (one_pair (scalar_term scalar.entry) (located_printed_value value.now))) }
 {
     match value {
-        PrintedValue::One(literal) => set_scalar(alloc, partial, term, literal),
+        PrintedValue::One(literal) => set_scalar(alloc, partial, scalar, literal),
         PrintedValue::Array { .. } => Ok(true),
     }
 }
@@ -168,16 +173,16 @@ fn set_one(
 fn set_array(
     alloc: Global,
     partial: &mut Partial,
-    terms: &[Term],
+    list: Scalars<'_>,
     value: &PrintedValue,
 ) -> Result<bool, AllocError>
-    requires within { AllByRecursion (IsWithin (length partial.old)) terms.now }
-    ensures given { OnOk result (partial.new ≡ with_all partial.old (element_pairs terms.now (located_printed_value value.now))) }
-    ensures agrees { IfOk result (λ b. b ≡ agree_all partial.old (element_pairs terms.now (located_printed_value value.now))) }
+    requires within { AllByRecursion (IsWithin (length partial.old)) (scalar_terms list) }
+    ensures given { OnOk result (partial.new ≡ with_all partial.old (element_pairs (scalar_terms list.entry) (located_printed_value value.now))) }
+    ensures agrees { IfOk result (λ b. b ≡ agree_all partial.old (element_pairs (scalar_terms list.entry) (located_printed_value value.now))) }
 {
     match value {
         PrintedValue::One(_) => Ok(true),
-        PrintedValue::Array { elements, .. } => set_elements(alloc, partial, terms, elements),
+        PrintedValue::Array { elements, .. } => set_elements(alloc, partial, list, elements),
     }
 }
 

@@ -5,14 +5,14 @@ ghost use Rattle.fz_model.specs.Names.{literal_value};
 ghost use Rattle.fz_model.specs.Values.{same_value};
 ghost use Rattle.fz_syntax.specs.View.{bare_literal_kind};
 
-use fz_base::Value;
+use fz_base::{IntSet, Value};
 use fz_model::literal_value;
 use fz_syntax::LiteralKind;
 use std::alloc::{AllocError, Global};
 
 /// Whether a number is the literal's value.
 #[inline]
-fn is_number(number: i64, literal: &LiteralKind) -> bool
+pub(crate) fn is_number(number: i64, literal: &LiteralKind) -> bool
     ensures { result ≡ same_value (Value.Int number) (literal_value (bare_literal_kind literal.now)) }
 {
     match literal {
@@ -25,7 +25,7 @@ fn is_number(number: i64, literal: &LiteralKind) -> bool
 
 /// Whether a truth value is the literal's value.
 #[inline]
-fn is_truth(truth: bool, literal: &LiteralKind) -> bool
+pub(crate) fn is_truth(truth: bool, literal: &LiteralKind) -> bool
     ensures { result ≡ same_value (Value.Bool truth) (literal_value (bare_literal_kind literal.now)) }
 {
     match literal {
@@ -36,12 +36,15 @@ fn is_truth(truth: bool, literal: &LiteralKind) -> bool
     }
 }
 
-/// Whether a value is the literal's, which is made. It refuses only where memory runs out.
-fn is_made(alloc: Global, value: &Value, literal: &LiteralKind) -> Result<bool, AllocError>
-    ensures { IfOk result (λ b. b ≡ same_value value.now (literal_value (bare_literal_kind literal.now))) }
+/// Whether a set is the literal's value, which is made. It refuses only where memory runs out.
+pub(crate) fn is_set(alloc: Global, set: &IntSet, literal: &LiteralKind) -> Result<bool, AllocError>
+    ensures { IfOk result (λ b. b ≡ same_value (Value.Set set.now) (literal_value (bare_literal_kind literal.now))) }
 {
-    let printed = literal_value(alloc, literal)?;
-    Ok(value.equals(&printed))
+    match literal_value(alloc, literal)? {
+        Value::Set(printed) => Ok(set.equals(&printed)),
+        Value::Int(_) => Ok(false),
+        Value::Bool(_) => Ok(false),
+    }
 }
 
 /// Whether a value is the literal's. Numbers and truth values are compared where they stand; only for a set is the literal's value made. It
@@ -57,6 +60,6 @@ pub(crate) fn is_of_literal(
     match value {
         Value::Int(number) => Ok(is_number(*number, literal)),
         Value::Bool(truth) => Ok(is_truth(*truth, literal)),
-        Value::Set(_) => is_made(alloc, value, literal),
+        Value::Set(set) => is_set(alloc, set, literal),
     }
 }

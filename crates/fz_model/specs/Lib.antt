@@ -6,6 +6,7 @@ pub use Rattle.fz_meaning.specs.Names
 pub use Rattle.fz_meaning.specs.View
 pub use Rattle.fz_meaning.specs.Steps
 pub use Rattle.fz_meaning.specs.Laws
+pub use Rattle.fz_force.specs.of_data.Slots
 pub use Rattle.fz_force.specs.of_data.Parts
 pub use Rattle.fz_force.specs.of_data.Shown
 pub use Rattle.fz_force.specs.of_data.Partial

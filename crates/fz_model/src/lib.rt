@@ -4,8 +4,9 @@
 #![tactic(auto)]
 
 pub use fz_force::fz_data::{
-    Argument, Array, ArrayName, ConstraintParts, Found, Goal, Model, Partial, Place, Point,
-    PointParts, Posted, Variable, What, kind_of, literal_kind, literal_value, load, same_kind,
+    Argument, Array, ConstraintParts, Constraints, Found, Goal, Model, Partial, Point, PointParts,
+    Posted, Scalar, ScalarList, Scalars, Segment, Slot, Store, Variable, What, kind_of,
+    literal_kind, literal_value, load, part, same_kind, scalar_at,
 };
 pub use fz_force::fz_eval::{Overview, all_hold, state};
 pub use fz_force::{forced, only_number};

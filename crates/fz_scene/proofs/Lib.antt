@@ -1,4 +1,4 @@
-pub mod Slots
+pub mod Kept
 pub mod Shapes
 pub mod Ready
 pub mod Sums

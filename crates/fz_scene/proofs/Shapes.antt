@@ -4,8 +4,7 @@ use Rattle.std.proofs.lemmas.List.{at_drop_more, at_drop_all}
 use Rattle.fz_meaning.specs.Meaning.{Partial}
 use Rattle.fz_meaning.specs.declared.row.Shape.{Shape}
 use Rattle.fz_meaning.specs.Known.{shape_of}
-use Rattle.fz_data.specs.Readings.{Reading}
-use Rattle.fz_scene.specs.Laid.{reading_is_read, readings_are_read}
+use Rattle.fz_scene.specs.Arguments.{Reading, reading_is_read, readings_are_read}
 
 and_false : (a : Bool) → (a && false) ≡ false
 and_false true = refl

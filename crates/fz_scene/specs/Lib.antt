@@ -1,3 +1,3 @@
 pub mod Given
 pub mod Views
-pub mod Laid
+pub mod Arguments

@@ -1,39 +1,32 @@
 -- What the code's views of a constraint stand for.
-use Rattle.std.specs.Prelude.{◌≡◌, ℕ, ℤ, Bool, true, false, List, map, Option, Some}
-use Rattle.std.specs.List.{list_all}
+use Rattle.std.specs.Prelude.{◌≡◌, ℤ, Bool, true, false, List, map, Option, Some, None}
 use Rattle.fz_base.specs.Sets.{NumberSet}
-use Rattle.fz_meaning.specs.declared.kind.Kind.{Kind}
+use Rattle.fz_base.specs.declared.value.Value.{Value}
 use Rattle.fz_meaning.specs.declared.term.Term.{Term}
 use Rattle.fz_meaning.specs.Builtins.{Shape}
 use Rattle.fz_meaning.specs.Meaning as meaning
-use Rattle.fz_data.specs.declared.parts.Place.{Place}
-use Rattle.fz_data.specs.declared.parts.Place.TheVariants as places
-use Rattle.fz_data.specs.declared.parts.Argument.{Argument}
-use Rattle.fz_data.specs.declared.parts.Argument.TheVariants as arguments
-use Rattle.fz_data.specs.declared.parts.Array.{Array}
-use Rattle.fz_data.specs.Parts.{argument_view}
-use Rattle.fz_data.specs.Readings.{array_elements, place_term, slot_term}
+use Rattle.fz_data.specs.declared.store.Slot.{Slot}
+use Rattle.fz_data.specs.declared.store.Slot.TheVariants as slots
+use Rattle.fz_data.specs.Parts.{constraint_view}
+use Rattle.fz_data.specs.Slots.{slot_term}
 use Rattle.fz_scene.specs.declared.elements.Elements.{Elements}
-use Rattle.fz_scene.specs.declared.elements.Kept.{Kept}
-use Rattle.fz_scene.specs.declared.elements.Kept.TheVariants as kept
 use Rattle.fz_scene.specs.declared.scene.Scene.{Scene}
 use Rattle.fz_scene.specs.declared.reading.Readiness.{Readiness}
 use Rattle.fz_scene.specs.declared.reading.Readiness.TheVariants.{Ready, WrongKind, Missing}
-use Rattle.fz_scene.specs.Given.{ints_of, bools_of, sets_of, is_read, has_value, are_read, are_given}
+use Rattle.fz_scene.specs.Given.{ints_of, bools_of, sets_of, are_read, are_given}
 
 -- ---- elements
 
--- the scalar at a place, as the code keeps it
-abbrev pub slot_kept : Place → Option Term
-slot_kept p = place_term p
-
-abbrev pub slots_kept : Kept → List (Option Term)
-slots_kept (kept.Terms ts) = map Some ts.now
-slots_kept (kept.Places ps) = map slot_kept ps.now
-slots_kept (kept.Slots ss cs) = map (slot_term cs.now) ss.now
+-- the scalar that a slot is; an array is none
+abbrev pub slot_read : List Value → Slot → Option Term
+slot_read cs (slots.Variable n) = Some (slot_term cs (slots.Variable n))
+slot_read cs (slots.Number i) = Some (slot_term cs (slots.Number i))
+slot_read cs (slots.Truth b) = Some (slot_term cs (slots.Truth b))
+slot_read cs (slots.Constant k) = Some (slot_term cs (slots.Constant k))
+slot_read cs (slots.Array i) = None
 
 abbrev pub slots_of : Elements → List (Option Term)
-slots_of e = slots_kept e.kept
+slots_of e = map (slot_read e.constants.now) e.slots.now
 
 -- the partial assignment that they are read under
 abbrev pub under : Elements → meaning.Partial
@@ -48,29 +41,11 @@ bools e = bools_of (under e) (slots_of e)
 abbrev pub sets : Elements → List NumberSet
 sets e = sets_of (under e) (slots_of e)
 
--- ---- whether scalars can be read, as the code keeps them (private functions only)
-
-abbrev pub term_is_read : meaning.Partial → Kind → Term → Bool
-term_is_read K k t = is_read K k (Some t)
-
-abbrev pub place_is_read : meaning.Partial → Kind → Place → Bool
-place_is_read K k p = is_read K k (slot_kept p)
-
--- ---- whether scalars have values, as the code keeps them (private functions only)
-
-abbrev pub place_is_given : meaning.Partial → List Array → Place → Bool
-place_is_given K xs (places.Scalar t) = has_value K t
-place_is_given K xs (places.Array x) = list_all (has_value K) (array_elements xs x.number)
-
-abbrev pub kept_is_given : meaning.Partial → List Array → Argument → Bool
-kept_is_given K xs (arguments.One p) = place_is_given K xs p
-kept_is_given K xs (arguments.List ps) = list_all (place_is_given K xs) ps.items
-
 -- ---- scenes
 
 -- the constraint's arguments
 abbrev pub arguments_of : Scene → List meaning.Argument
-arguments_of s = map (argument_view s.parts.variables.now s.parts.arrays.now) s.parts.posted.now.arguments.items
+arguments_of s = (constraint_view s.parts).arguments
 
 -- the partial assignment
 abbrev pub assigned : Scene → meaning.Partial

@@ -3,10 +3,9 @@
 #![tactic(auto)]
 
 mod elements;
-mod given;
-mod laid;
 mod reading;
 mod scene;
+mod slots;
 
 pub use elements::Elements;
 pub use reading::Readiness;

@@ -1,16 +1,14 @@
 //! Reading one scalar.
 
-ghost use Rattle.std.specs.Prelude.{◌≡◌, ◌<◌, Some, false, length, map, option_map, slice_get};
-ghost use Rattle.std.specs.List.{list_all};
+ghost use Rattle.std.specs.Prelude.{◌≡◌, Some, false, option_map};
 ghost use Rattle.std.specs.Option.{option_map_or};
 ghost use Rattle.std.specs.FinSet as sets;
 ghost use Rattle.fz_meaning.specs.Values.{kind_of, same_kind};
-ghost use Rattle.fz_scene.specs.Given.{bool_in, int_in, set_in, value_of};
-ghost use Rattle.fz_scene.specs.Views.{place_is_read, slot_kept, term_is_read};
+ghost use Rattle.fz_scene.specs.Given.{bool_in, int_in, set_in};
 
 use fz_base::{IntSet, Value};
-use fz_data::{Partial, Place, number_of, truth_of};
-use fz_meaning::{Kind, Term};
+use fz_data::{number_of, truth_of};
+use fz_meaning::Kind;
 
 /// Whether the arguments of a constraint can be read as its row's shapes ask: each scalar has a value of the kind; each has a value, and
 /// one is of another kind; or one has none.
@@ -78,7 +76,7 @@ pub(crate) fn is_of(value: Option<&Value>, kind: Kind) -> bool
 }
 
 #[inline(always)]
-fn has_kind(value: &Value, kind: Kind) -> bool
+pub(crate) fn has_kind(value: &Value, kind: Kind) -> bool
     ensures { result ≡ same_kind (kind_of value.now) kind }
 {
     match value {
@@ -86,100 +84,4 @@ fn has_kind(value: &Value, kind: Kind) -> bool
         Value::Bool(_) => matches!(kind, Kind::Bool),
         Value::Set(_) => matches!(kind, Kind::Set),
     }
-}
-
-/// The scalar at an index.
-#[inline(always)]
-pub(crate) fn term_at(terms: &[Term], index: usize) -> &Term
-    requires { index < length terms.now }
-    ensures { slice_get terms.now index ≡ Some result.now }
-{
-    &terms[index]
-}
-
-/// The value of the scalar at an index.
-#[inline(always)]
-pub(crate) fn term_value<'s>(
-    partial: &'s Partial,
-    terms: &'s [Term],
-    index: usize,
-) -> Option<&'s Value>
-    requires { index < length terms.now }
-    ensures { slice_get (map (value_of partial.now) (map Some terms.now)) index ≡ Some (option_map (λ v. v.now) result) }
-{
-    partial.value(term_at(terms, index))
-}
-
-/// The value of the scalar at an index of a list in brackets.
-#[inline(always)]
-pub(crate) fn place_value<'s>(
-    partial: &'s Partial,
-    places: &'s [Place<'_>],
-    index: usize,
-) -> Option<&'s Value>
-    requires { index < length places.now }
-    ensures { slice_get (map (value_of partial.now) (map slot_kept places.now)) index ≡ Some (option_map (λ v. v.now) result) }
-{
-    let term = scalar_at(places, index)?;
-    partial.value(term)
-}
-
-/// The scalar at an index of a list in brackets.
-#[inline(always)]
-pub(crate) fn scalar_at<'s>(places: &'s [Place<'_>], index: usize) -> Option<&'s Term>
-    requires { index < length places.now }
-    ensures { slice_get (map slot_kept places.now) index ≡ Some (option_map (λ t. t.now) result) }
-{
-    scalar_in(&places[index])
-}
-
-#[inline(always)]
-fn scalar_in<'s>(place: &'s Place<'_>) -> Option<&'s Term>
-    ensures { option_map (λ t. t.now) result ≡ slot_kept place.now }
-{
-    match place {
-        Place::Scalar(term) => Some(term),
-        Place::Array(_) => None,
-    }
-}
-
-/// The value of a scalar at a place.
-#[inline(always)]
-pub(crate) fn value_at<'s>(partial: &'s Partial, place: &'s Place<'_>) -> Option<&'s Value>
-    ensures { option_map (λ v. v.now) result ≡ value_of partial.now (slot_kept place.now) }
-{
-    match place {
-        Place::Scalar(term) => partial.value(term),
-        Place::Array(_) => None,
-    }
-}
-
-#[inline(always)]
-fn term_is_read(partial: &Partial, kind: Kind, term: &Term) -> bool
-    ensures { result ≡ term_is_read partial.now kind term.now }
-{
-    is_of(partial.value(term), kind)
-}
-
-#[inline(always)]
-fn place_is_read(partial: &Partial, kind: Kind, place: &Place<'_>) -> bool
-    ensures { result ≡ place_is_read partial.now kind place.now }
-{
-    is_of(value_at(partial, place), kind)
-}
-
-/// Whether each scalar has a value of the kind.
-pub(crate) fn are_read(partial: &Partial, kind: Kind, terms: &[Term]) -> bool
-    ensures { result ≡ list_all (term_is_read partial.now kind) terms.now }
-{
-    terms.iter().all(|term| term_is_read(partial, kind, term))
-}
-
-/// Whether each place of a list in brackets is a scalar with a value of the kind.
-pub(crate) fn all_read(partial: &Partial, kind: Kind, places: &[Place<'_>]) -> bool
-    ensures { result ≡ list_all (place_is_read partial.now kind) places.now }
-{
-    places
-        .iter()
-        .all(|place| place_is_read(partial, kind, place))
 }

@@ -1,11 +1,10 @@
 //! A constraint under a partial assignment.
 
-use crate::elements::{Elements, Kept};
-use crate::given::are_given;
-use crate::laid::{scalar_at_laid, scalar_laid, slot_int, slot_is_read, slot_set, slot_truth};
-use crate::reading::{Readiness, bool_in, int_in, is_of, set_in, value_at};
+use crate::elements::Elements;
+use crate::reading::Readiness;
+use crate::slots::{slot_int, slot_is_read, slot_set, slot_truth};
 use fz_base::{IntSet, Value};
-use fz_data::{Argument, ConstraintParts, Laid, LaidParts, Partial, Place, array_elements, part};
+use fz_data::{Argument, ConstraintParts, Partial, Slot, part};
 use fz_meaning::Shape;
 
 /// A constraint's arguments under a partial assignment.
@@ -16,19 +15,18 @@ pub struct Scene<'s, 'a> {
 }
 
 impl<'s, 'a> Scene<'s, 'a> {
-    ghost use Rattle.std.specs.Prelude.{◌≡◌, map, option_map};
-    ghost use Rattle.fz_meaning.specs.Meaning as meaning;
+    ghost use Rattle.std.specs.Prelude.{◌≡◌, [], map, option_and_then};
+    ghost use Rattle.std.specs.List.{list_all};
     ghost use Rattle.fz_meaning.specs.Known.{shape_of};
-    ghost use Rattle.fz_data.specs.Parts.{posted_view};
-    ghost use Rattle.fz_data.specs.Readings.{kept_reading, kept_readings, laid_reading, laid_readings};
-    ghost use Rattle.fz_scene.specs.Given.{are_given, are_read, bool_at, int_at, set_at, slots_at, value_of};
-    ghost use Rattle.fz_scene.specs.Laid.{elements_read, reading_is_read, readings_are_read, scalar_read};
-    ghost use Rattle.fz_scene.specs.Views.{IsReadiness, arguments_of, assigned, slots_kept, slots_of, under};
+    ghost use Rattle.fz_data.specs.Parts.{constraint_view};
+    ghost use Rattle.fz_scene.specs.Arguments.{argument_is_given, argument_slots, array_slots, has_value_at, reading_in, reading_is_read, readings_are_read, slot_is_given};
+    ghost use Rattle.fz_scene.specs.Given.{are_given, are_read, bool_at, int_at, set_at, slot_at, slots_at};
+    ghost use Rattle.fz_scene.specs.Views.{IsReadiness, arguments_of, assigned, slot_read, slots_of, under};
 
     /// The arguments of a constraint, under a partial assignment. It takes no memory.
     #[inline(always)]
     pub fn new(parts: ConstraintParts<'s, 'a>, partial: &'s Partial) -> Scene<'s, 'a>
-        ensures arguments { arguments_of result ≡ (posted_view parts.entry.variables.now parts.entry.arrays.now parts.entry.posted.now).arguments }
+        ensures arguments { arguments_of result ≡ (constraint_view parts.entry).arguments }
         ensures assigned { assigned result ≡ partial.now }
     {
         Scene { parts, partial }
@@ -39,12 +37,9 @@ impl<'s, 'a> Scene<'s, 'a> {
     pub fn int(&self, index: usize) -> i64
         ensures read { result ≡ int_at (assigned self.now) (arguments_of self.now) index }
     {
-        match self.parts.laid {
-            Some(laid) => match scalar_at_laid(&laid, index) {
-                Some(slot) => slot_int(self.partial, laid.constants, slot),
-                None => 0,
-            },
-            None => int_in(self.value(index)),
+        match self.scalar(index) {
+            Some(slot) => slot_int(self.partial, self.constants(), slot),
+            None => 0,
         }
     }
 
@@ -53,12 +48,9 @@ impl<'s, 'a> Scene<'s, 'a> {
     pub fn truth(&self, index: usize) -> bool
         ensures read { result ≡ bool_at (assigned self.now) (arguments_of self.now) index }
     {
-        match self.parts.laid {
-            Some(laid) => match scalar_at_laid(&laid, index) {
-                Some(slot) => slot_truth(self.partial, laid.constants, slot),
-                None => false,
-            },
-            None => bool_in(self.value(index)),
+        match self.scalar(index) {
+            Some(slot) => slot_truth(self.partial, self.constants(), slot),
+            None => false,
         }
     }
 
@@ -67,110 +59,88 @@ impl<'s, 'a> Scene<'s, 'a> {
     pub fn set(&self, index: usize) -> &'s IntSet
         ensures read { result.now ≡ set_at (assigned self.now) (arguments_of self.now) index }
     {
-        match self.parts.laid {
-            Some(laid) => match scalar_at_laid(&laid, index) {
-                Some(slot) => slot_set(self.partial, laid.constants, slot),
-                None => self.partial.no_numbers(),
-            },
-            None => set_in(self.value(index), self.partial.no_numbers()),
+        match self.scalar(index) {
+            Some(slot) => slot_set(self.partial, self.constants(), slot),
+            None => self.partial.no_numbers(),
         }
     }
 
     /// The elements of the argument at a place, where it is an array. It takes no memory.
     #[inline(always)]
-    pub fn elements(&self, index: usize) -> Elements<'s, 'a>
+    pub fn elements(&self, index: usize) -> Elements<'s>
         ensures slots { slots_of result ≡ slots_at (arguments_of self.now) index }
         ensures under { under result ≡ assigned self.now }
     {
-        self.elements_of(self.kept_at(index))
-    }
-
-    #[inline(always)]
-    fn kept_at(&self, index: usize) -> Kept<'s, 'a>
-        ensures { slots_kept result ≡ slots_at (arguments_of self.now) index }
-    {
-        match self.parts.laid {
-            Some(laid) => self.laid_at(&laid, index),
-            None => self.kept_in_place(index),
-        }
-    }
-
-    #[inline]
-    fn kept_in_place(&self, index: usize) -> Kept<'s, 'a>
-        ensures { slots_kept result ≡ elements_read (kept_readings self.now.parts.arrays.now self.now.parts.posted.now) index }
-    {
-        match self.parts.posted.arguments.get(index) {
-            Some(argument) => self.kept_in(argument),
-            None => Kept::Terms(&[]),
+        match self.parts.arguments().get(index) {
+            Some(argument) => self.elements_of(argument),
+            None => self.no_elements(),
         }
     }
 
     #[inline(always)]
-    fn laid_at(&self, laid: &LaidParts<'s>, index: usize) -> Kept<'s, 'a>
-        ensures { slots_kept result ≡ elements_read (laid_readings self.now.parts.arrays.now laid.now) index }
+    fn constants(&self) -> &'s [Value]
+        ensures { result.now ≡ self.now.parts.store.now.constants.items }
     {
-        match laid.arguments.get(index) {
-            Some(argument) => self.laid_in(laid, argument),
-            None => Kept::Terms(&[]),
-        }
+        &self.parts.store.constants
     }
 
+    // The slot of the argument at a place, where that is one.
     #[inline(always)]
-    fn laid_in(&self, laid: &LaidParts<'s>, argument: &Laid) -> Kept<'s, 'a>
-        ensures { slots_kept result ≡ (laid_reading self.now.parts.arrays.now laid.now.constants.now laid.now.slots.now argument.now).1 }
+    fn scalar(&self, index: usize) -> Option<&'s Slot>
+        ensures { slot_at (arguments_of self.now) index ≡ option_and_then (λ s. slot_read self.now.parts.store.now.constants.items s.now) result }
     {
-        match argument {
-            Laid::One(_) => Kept::Terms(&[]),
-            Laid::Many(first, count) => Kept::Slots(
-                part(laid.slots, *first as usize, *count as usize),
-                laid.constants,
-            ),
-            Laid::Array(number) => {
-                Kept::Terms(array_elements(self.parts.arrays, *number as usize))
-            }
-        }
-    }
-
-    // The value of the scalar at a place.
-    #[inline]
-    fn value(&self, index: usize) -> Option<&'s Value>
-        ensures { option_map (λ v. v.now) result ≡ value_of (assigned self.now) (scalar_read (kept_readings self.now.parts.arrays.now self.now.parts.posted.now) index) }
-    {
-        match self.parts.posted.arguments.get(index) {
-            Some(argument) => self.value_in(argument),
+        match self.parts.arguments().get(index) {
+            Some(Argument::One(slot)) => Some(slot),
+            Some(Argument::List(_)) => None,
             None => None,
         }
     }
 
     #[inline(always)]
-    fn value_in(&self, argument: &'s Argument<'a>) -> Option<&'s Value>
-        ensures { option_map (λ v. v.now) result ≡ value_of (assigned self.now) (kept_reading self.now.parts.arrays.now argument.now).0 }
+    fn elements_of(&self, argument: &Argument) -> Elements<'s>
+        ensures slots { slots_of result ≡ argument_slots self.now.parts.arrays.now self.now.parts.store.now argument.now }
+        ensures under { under result ≡ assigned self.now }
     {
         match argument {
-            Argument::One(place) => value_at(self.partial, place),
-            Argument::List(_) => None,
+            Argument::One(slot) => self.array_elements(slot),
+            Argument::List(at) => Elements {
+                slots: part(&self.parts.store.slots, *at),
+                constants: self.constants(),
+                partial: self.partial,
+            },
+        }
+    }
+
+    // Those of the declared array that a slot is.
+    #[inline(always)]
+    fn array_elements(&self, slot: &Slot) -> Elements<'s>
+        ensures slots { slots_of result ≡ array_slots self.now.parts.arrays.now slot.now }
+        ensures under { under result ≡ assigned self.now }
+    {
+        match slot {
+            Slot::Array(number) => match self.parts.arrays.get(*number as usize) {
+                Some(array) => Elements {
+                    slots: &array.elements.slots,
+                    constants: &array.elements.constants,
+                    partial: self.partial,
+                },
+                None => self.no_elements(),
+            },
+            Slot::Variable(_) | Slot::Number(_) | Slot::Truth(_) | Slot::Constant(_) => {
+                self.no_elements()
+            }
         }
     }
 
     #[inline(always)]
-    fn elements_of(&self, kept: Kept<'s, 'a>) -> Elements<'s, 'a>
-        ensures kept { result.kept ≡ kept.entry }
+    fn no_elements(&self) -> Elements<'s>
+        ensures slots { slots_of result ≡ [] }
         ensures under { under result ≡ assigned self.now }
     {
         Elements {
-            kept,
+            slots: &[],
+            constants: &[],
             partial: self.partial,
-        }
-    }
-
-    #[inline(always)]
-    fn kept_in(&self, argument: &'s Argument<'a>) -> Kept<'s, 'a>
-        ensures { slots_kept result ≡ (kept_reading self.now.parts.arrays.now argument.now).1 }
-    {
-        match argument {
-            Argument::One(Place::Scalar(_)) => Kept::Terms(&[]),
-            Argument::One(Place::Array(name)) => Kept::Terms(name.elements(self.parts.arrays)),
-            Argument::List(places) => Kept::Places(places),
         }
     }
 
@@ -192,14 +162,11 @@ impl<'s, 'a> Scene<'s, 'a> {
     fn can_be_read(&self, shapes: &[Shape]) -> bool
         ensures { result ≡ are_read (assigned self.now) (map shape_of shapes.now) (arguments_of self.now) }
     {
-        match self.parts.laid {
-            Some(laid) => self.laid_are_read(shapes, &laid),
-            None => self.are_read(shapes, &self.parts.posted.arguments),
-        }
+        self.are_read(shapes, self.parts.arguments())
     }
 
-    fn are_read(&self, shapes: &[Shape], arguments: &'s [Argument<'a>]) -> bool
-        ensures { result ≡ readings_are_read (assigned self.now) (map shape_of shapes.now) (map (kept_reading self.now.parts.arrays.now) arguments.now) }
+    fn are_read(&self, shapes: &[Shape], arguments: &[Argument]) -> bool
+        ensures { result ≡ readings_are_read (assigned self.now) (map shape_of shapes.now) (map (reading_in self.now.parts.arrays.now self.now.parts.store.now) arguments.now) }
     {
         if shapes.len() != arguments.len() {
             return false;
@@ -213,42 +180,15 @@ impl<'s, 'a> Scene<'s, 'a> {
     }
 
     #[inline]
-    fn is_read(&self, shape: Shape, argument: &'s Argument<'a>) -> bool
-        ensures { result ≡ reading_is_read (assigned self.now) (shape_of shape) (kept_reading self.now.parts.arrays.now argument.now) }
+    fn is_read(&self, shape: Shape, argument: &Argument) -> bool
+        ensures { result ≡ reading_is_read (assigned self.now) (shape_of shape) (reading_in self.now.parts.arrays.now self.now.parts.store.now argument.now) }
     {
         match shape {
-            Shape::Scalar(kind) => is_of(self.value_in(argument), kind),
-            Shape::Array(kind) => self.elements_of(self.kept_in(argument)).are_read(kind),
-        }
-    }
-
-    fn laid_are_read(&self, shapes: &[Shape], laid: &LaidParts<'s>) -> bool
-        ensures { result ≡ readings_are_read (assigned self.now) (map shape_of shapes.now) (laid_readings self.now.parts.arrays.now laid.now) }
-    {
-        let arguments = laid.arguments;
-        if shapes.len() != arguments.len() {
-            return false;
-        }
-        for (shape, argument) in shapes.iter().zip(arguments) {
-            if !self.is_laid_read(*shape, laid, argument) {
-                return false;
-            }
-        }
-        true
-    }
-
-    #[inline]
-    fn is_laid_read(&self, shape: Shape, laid: &LaidParts<'s>, argument: &Laid) -> bool
-        ensures { result ≡ reading_is_read (assigned self.now) (shape_of shape) (laid_reading self.now.parts.arrays.now laid.now.constants.now laid.now.slots.now argument.now) }
-    {
-        match shape {
-            Shape::Scalar(kind) => match scalar_laid(argument) {
-                Some(slot) => slot_is_read(self.partial, laid.constants, kind, slot),
-                None => false,
+            Shape::Scalar(kind) => match argument {
+                Argument::One(slot) => slot_is_read(self.partial, self.constants(), kind, slot),
+                Argument::List(_) => false,
             },
-            Shape::Array(kind) => self
-                .elements_of(self.laid_in(laid, argument))
-                .are_read(kind),
+            Shape::Array(kind) => self.elements_of(argument).are_read(kind),
         }
     }
 
@@ -256,10 +196,57 @@ impl<'s, 'a> Scene<'s, 'a> {
     pub fn all_given(&self) -> bool
         ensures exact { result ≡ are_given (assigned self.now) (arguments_of self.now) }
     {
-        are_given(
-            self.partial,
-            self.parts.arrays,
-            &self.parts.posted.arguments,
-        )
+        self.are_given(self.parts.arguments())
+    }
+
+    fn are_given(&self, arguments: &[Argument]) -> bool
+        ensures { result ≡ list_all (argument_is_given (assigned self.now) self.now.parts.arrays.now self.now.parts.store.now) arguments.now }
+    {
+        arguments.iter().all(|argument| self.is_given(argument))
+    }
+
+    fn is_given(&self, argument: &Argument) -> bool
+        ensures { result ≡ argument_is_given (assigned self.now) self.now.parts.arrays.now self.now.parts.store.now argument.now }
+    {
+        match argument {
+            Argument::One(slot) => self.slot_is_given(slot),
+            Argument::List(at) => self.slots_are_given(part(&self.parts.store.slots, *at)),
+        }
+    }
+
+    fn slots_are_given(&self, slots: &[Slot]) -> bool
+        ensures { result ≡ list_all (slot_is_given (assigned self.now) self.now.parts.arrays.now) slots.now }
+    {
+        slots.iter().all(|slot| self.slot_is_given(slot))
+    }
+
+    fn slot_is_given(&self, slot: &Slot) -> bool
+        ensures { result ≡ slot_is_given (assigned self.now) self.now.parts.arrays.now slot.now }
+    {
+        match slot {
+            Slot::Array(number) => match self.parts.arrays.get(*number as usize) {
+                Some(array) => self.elements_are_given(&array.elements.slots),
+                None => true,
+            },
+            Slot::Variable(_) | Slot::Number(_) | Slot::Truth(_) | Slot::Constant(_) => {
+                self.has_value(slot)
+            }
+        }
+    }
+
+    fn elements_are_given(&self, slots: &[Slot]) -> bool
+        ensures { result ≡ list_all (has_value_at (assigned self.now)) slots.now }
+    {
+        slots.iter().all(|slot| self.has_value(slot))
+    }
+
+    // Whether a scalar has a value: only a variable can have none.
+    fn has_value(&self, slot: &Slot) -> bool
+        ensures { result ≡ has_value_at (assigned self.now) slot.now }
+    {
+        match slot {
+            Slot::Variable(number) => self.partial.has(*number as usize),
+            Slot::Number(_) | Slot::Truth(_) | Slot::Constant(_) | Slot::Array(_) => true,
+        }
     }
 }

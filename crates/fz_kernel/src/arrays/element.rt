@@ -42,7 +42,7 @@ pub fn bool_element(index: i64, elements: &Elements) -> Option<bool>
 }
 
 /// The element at an index counted from 1; none where that is no index.
-pub fn set_element<'s>(index: i64, elements: &Elements<'s, '_>) -> Option<&'s IntSet>
+pub fn set_element<'s>(index: i64, elements: &Elements<'s>) -> Option<&'s IntSet>
     ensures exact { option_map (λ s. s.now) result ≡ element_at (sets elements.now) index }
 {
     match place_of(index, elements.len()) {

@@ -1,20 +1,13 @@
-use Rattle.std.proofs.Common.{◌≡◌, [], None, map, length, arith, subst, ap, ◌∙◌}
+use Rattle.std.proofs.Common.{◌≡◌, [], None, map, subst, ◌∙◌}
 use Rattle.std.proofs.lemmas.Result.{err_from_is_err_and}
-use Rattle.fz_meaning.specs.Meaning.{first_some}
+use Rattle.fz_meaning.specs.Meaning.{first_some, row_of}
 use Rattle.fz_meaning.specs.View.{located, located_decl, located_constraint}
 use Rattle.fz_meaning.specs.FirstFault.{decls_fault}
-use Rattle.fz_data.specs.Parts.{posted_view}
+use Rattle.fz_data.specs.Parts.{posted_view, kept_row}
 use Rattle.fz_data.specs.Scope.{Tells, posted_in, constraint_fault_in}
-use Rattle.fz_data.specs.Naming.{own_terms}
 use Rattle.fz_data.specs.Stands.{StandsFor}
-use Rattle.fz_data.proofs.Loaded.{kept_now, laid_out, model_is, told_in_constraints, told_in_goal, none_anywhere}
+use Rattle.fz_data.proofs.Loaded.{laid_out, model_is, told_in_constraints, told_in_goal, none_anywhere}
 use Rattle.fz_data.proofs.loading.read.Goals as goal
-
-pub all_posted-requires : goal.all_posted-requires
-all_posted-requires c = record {
-  kept = kept_now (map located_decl c.deref.result.now) c.in_ok-scope.scope c.in_ok-scope.ensures.stands;
-  kinds = c.in_ok-scope.ensures.kinds;
-}
 
 pub returns-in_err-constraints-clause-tells : goal.returns-in_err-constraints-clause-tells
 returns-in_err-constraints-clause-tells c =
@@ -41,13 +34,10 @@ assembled-requires c =
     let s = c.in_ok-scope.scope in
     let stands = subst (λ ds. StandsFor (map located_decl ds) (map located_decl ds) s) c.deref.ensures.value c.in_ok-scope.ensures.stands in
     let clean = subst (λ ds. decls_fault [] (map located_decl ds) ≡ None) c.deref.ensures.value c.in_ok-scope.ensures.clean in
-    let posted = subst (λ cs. map (posted_view s.variables.items s.arrays.items) c.in_ok-constraints.constraints.posted.items ≡ map (posted_in s) (map located_constraint cs)) c.deref-2.ensures.value c.in_ok-constraints.ensures.posted in
-    let counted : c.len.result ≡ length s.variables.items = omega arith in
+    let posted = subst (λ cs. map (posted_view s.variables.items s.arrays.items c.all_posted.new.store) c.in_ok-constraints.constraints.items ≡ map (posted_in s) (map located_constraint cs)) c.deref-2.ensures.value c.in_ok-constraints.ensures.posted in
+    let rows = subst (λ cs. map kept_row c.in_ok-constraints.constraints.items ≡ map row_of (map (posted_in s) (map located_constraint cs))) c.deref-2.ensures.value c.in_ok-constraints.ensures.rows in
     record {
-      laid_out = laid_out t s c.in_ok-terms.terms c.in_ok-constraints.constraints.posted c.in_ok-constraints.constraints.known c.in_ok-goal.goal c.in_ok-constraints.constraints.sheets stands clean posted c.in_ok-constraints.ensures.cited c.in_ok-goal.ensures.clean c.in_ok-goal.ensures.aim
-          (c.in_ok-terms.ensures ∙ ap own_terms counted)
-          c.in_ok-constraints.ensures.rows
-          c.in_ok-constraints.ensures.sheets;
+      laid_out = laid_out t s c.all_posted.new.store c.in_ok-constraints.constraints c.in_ok-goal.goal stands clean posted c.in_ok-goal.ensures.clean c.in_ok-goal.ensures.aim rows;
     }
 
 pub returns-clause-clean : goal.returns-clause-clean
@@ -65,5 +55,5 @@ returns-clause-model c =
     let s = c.in_ok-scope.scope in
     let stands = subst (λ ds. StandsFor (map located_decl ds) (map located_decl ds) s) c.deref.ensures.value c.in_ok-scope.ensures.stands in
     let clean = subst (λ ds. decls_fault [] (map located_decl ds) ≡ None) c.deref.ensures.value c.in_ok-scope.ensures.clean in
-    let posted = subst (λ cs. map (posted_view s.variables.items s.arrays.items) c.in_ok-constraints.constraints.posted.items ≡ map (posted_in s) (map located_constraint cs)) c.deref-2.ensures.value c.in_ok-constraints.ensures.posted in
-    c.assembled.ensures.view ∙ model_is t s c.in_ok-terms.terms c.in_ok-constraints.constraints.posted c.in_ok-constraints.constraints.known c.in_ok-goal.goal c.in_ok-constraints.constraints.sheets stands clean posted c.in_ok-constraints.ensures.cited c.in_ok-goal.ensures.clean c.in_ok-goal.ensures.aim
+    let posted = subst (λ cs. map (posted_view s.variables.items s.arrays.items c.all_posted.new.store) c.in_ok-constraints.constraints.items ≡ map (posted_in s) (map located_constraint cs)) c.deref-2.ensures.value c.in_ok-constraints.ensures.posted in
+    c.assembled.ensures.view ∙ model_is t s c.all_posted.new.store c.in_ok-constraints.constraints c.in_ok-goal.goal stands clean posted c.in_ok-goal.ensures.clean c.in_ok-goal.ensures.aim

@@ -1,16 +1,15 @@
+use Rattle.std.proofs.Common.{map, refl, ap, ◌∙◌}
+use Rattle.std.proofs.lemmas.List.{take_all}
 use Rattle.std.proofs.lemmas.Result.{err_from_is_err_and}
+use Rattle.fz_meaning.specs.Meaning.{row_of}
 use Rattle.fz_meaning.specs.View.{located_constraint}
 use Rattle.fz_meaning.proofs.ScanSteps.{first_more}
-use Rattle.std.proofs.Common.{option_map, ◌++◌, ◌∷◌, [], arith, map, length, refl, sym, ap, subst, ◌∙◌}
-use Rattle.std.specs.List.{AllByRecursion}
-use Rattle.fz_meaning.specs.Meaning.{row_of}
-use Rattle.fz_meaning.specs.Known.{known_row}
-use Rattle.fz_data.specs.Layout.{CitesArrays}
-use Rattle.fz_data.specs.Parts.{posted_view}
+use Rattle.fz_data.specs.Parts.{kept_row, posted_view}
+use Rattle.fz_data.specs.Posting.{IsLonger}
 use Rattle.fz_data.specs.Scope.{constraint_fault_in, posted_in}
+use Rattle.fz_data.proofs.Grown.{longer_none, longer_more, none_read, next_read}
+use Rattle.fz_data.proofs.Loops.{rows_found}
 use Rattle.fz_data.proofs.Tells.{tells_stop}
-use Rattle.fz_data.proofs.Sheets.{longer_too, grown_too}
-use Rattle.fz_data.proofs.Loops.{one_found, all_found, row_found}
 use Rattle.fz_data.proofs.posting.all_posted.Goals as goal
 
 pub returns-in_err-one-clause-tells : goal.returns-in_err-one-clause-tells
@@ -19,28 +18,23 @@ returns-in_err-one-clause-tells c =
     rw (p.1, p.2) (tells_stop (constraint_fault_in c.args.scope.now) located_constraint c.args.constraints.now c.loop-constraint.constraint-index c.constraint-item.result _ c.loop-constraint-test.true c.constraint-item.is c.loop-constraint.invariant.clean c.in_err-one.ensures.tells)
 
 pub loop-constraint-init : goal.loop-constraint-init
-loop-constraint-init c =
-    let none = c.in_ok-found.ensures.items in
-    let no_rows = c.in_ok-known.ensures.items in
-    record {
-      clean = refl;
-      views = ap (map (posted_view c.args.scope.now.variables.items c.args.scope.now.arrays.items)) none;
-      rows = ap (map (option_map known_row)) no_rows ∙ sym (ap (λ zs. map row_of (map (posted_view c.args.scope.now.variables.items c.args.scope.now.arrays.items) zs)) none);
-      sheets = grown_too c.args.scope.now.arrays.items c.in_ok-sheets.sheets [] c.in_ok-found.found.items [] c.in_ok-known.known.items (c.in_ok-sheets.ensures.empty c.args.scope.now.arrays.items) none no_rows;
-      even = ap length no_rows ∙ sym (ap length none);
-      cited = subst (AllByRecursion (CitesArrays c.args.scope.now.arrays.items)) (sym none) tt;
-    }
+loop-constraint-init c = record {
+  clean = refl;
+  views = none_read IsLonger (posted_view c.args.scope.now.variables.items c.args.scope.now.arrays.items) c.args.store.now c.in_ok-found.found.items c.in_ok-found.ensures.items;
+  rows = ap (map kept_row) c.in_ok-found.ensures.items;
+}
 
 pub loop-constraint-preserved : goal.loop-constraint-preserved
 loop-constraint-preserved c = record {
   clean = first_more (constraint_fault_in c.args.scope.now) located_constraint c.args.constraints.now c.loop-constraint.constraint-index c.constraint-item.result c.loop-constraint-test.true c.constraint-item.is c.loop-constraint.invariant.clean c.in_ok-one.ensures.known;
-  views = one_found located_constraint (posted_in c.args.scope.now) (posted_view c.args.scope.now.variables.items c.args.scope.now.arrays.items) c.args.constraints.now c.loop-constraint.constraint-index c.constraint-item.result c.loop-constraint.found.items c.push-in-loop-constraint.new.self.items c.in_ok-one.one
-      c.loop-constraint-test.true c.constraint-item.is c.loop-constraint.invariant.views c.in_ok-one.ensures.posted c.in_ok-push-2.ensures.items;
-  rows = row_found (posted_view c.args.scope.now.variables.items c.args.scope.now.arrays.items) row_of (option_map known_row) c.loop-constraint.found.items c.push-in-loop-constraint.new.self.items c.in_ok-one.one c.loop-constraint.known.items c.push.new.self.items c.row_of-row.result c.loop-constraint.invariant.rows (c.row_of-row.ensures ∙ (λ i. row_of (posted_view (c.cited-cited.ensures.variables i) (c.cited-cited.ensures.arrays i) c.in_ok-one.one))) c.in_ok-push-2.ensures.items c.in_ok-push.ensures.items;
-  sheets = grown_too c.args.scope.now.arrays.items c.add.new.self (c.loop-constraint.found.items ++ c.in_ok-one.one ∷ []) c.push-in-loop-constraint.new.self.items (c.loop-constraint.known.items ++ c.row_of-row.result ∷ []) c.push.new.self.items
-      (c.in_ok-add.ensures.added c.args.scope.now.arrays.items c.loop-constraint.found.items c.loop-constraint.known.items
-      (omega (arith, c.len.ensures, c.loop-constraint.found.ok.0)) (omega (arith, c.len.ensures, c.loop-constraint.found.ok.0, c.loop-constraint.invariant.even)) c.loop-constraint.invariant.sheets)
-      c.in_ok-push-2.ensures.items c.in_ok-push.ensures.items;
-  even = longer_too c.loop-constraint.known.items c.push.new.self.items c.row_of-row.result c.loop-constraint.found.items c.push-in-loop-constraint.new.self.items c.in_ok-one.one c.in_ok-push.ensures.items c.in_ok-push-2.ensures.items c.loop-constraint.invariant.even;
-  cited = all_found (CitesArrays c.args.scope.now.arrays.items) c.loop-constraint.found.items c.push-in-loop-constraint.new.self.items c.in_ok-one.one c.loop-constraint.invariant.cited c.in_ok-one.ensures.cited c.in_ok-push-2.ensures.items;
+  views = next_read IsLonger (posted_view c.args.scope.now.variables.items c.args.scope.now.arrays.items) (posted_in c.args.scope.now) located_constraint c.args.constraints.now c.loop-constraint.constraint-index c.constraint-item.result
+      c.loop-constraint.store c.posted.new.store c.loop-constraint.found.items c.push.new.self.items c.in_ok-one.one c.loop-constraint-test.true c.constraint-item.is
+      (λ later g. longer_more c.loop-constraint.store c.posted.new.store later c.in_ok-one.ensures.longer g) c.in_ok-push.ensures.items c.in_ok-one.ensures.posted c.loop-constraint.invariant.views;
+  rows = rows_found (posted_in c.args.scope.now) row_of located_constraint kept_row c.args.constraints.now c.loop-constraint.constraint-index c.constraint-item.result c.loop-constraint.found.items c.push.new.self.items c.in_ok-one.one
+      c.loop-constraint-test.true c.constraint-item.is c.loop-constraint.invariant.rows c.in_ok-one.ensures.row c.in_ok-push.ensures.items;
 }
+
+pub returns-clause-posted : goal.returns-clause-posted
+returns-clause-posted c =
+    c.loop-constraint.invariant.views c.loop-constraint.store (longer_none c.loop-constraint.store)
+    ∙ ap (λ cs. map (posted_in c.args.scope.now) (map located_constraint cs)) (take_all c.loop-constraint.constraint-index c.args.constraints.now c.loop-constraint-test.false)

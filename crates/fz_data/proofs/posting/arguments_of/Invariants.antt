@@ -1,15 +1,15 @@
 use Rattle.std.proofs.Common.{◌≡◌, None, map, take}
-use Rattle.std.specs.List.{AllByRecursion}
 use Rattle.fz_meaning.specs.Meaning.{first_some}
 use Rattle.fz_meaning.specs.View.{located_expr}
-use Rattle.fz_data.specs.Layout.{AreCited}
 use Rattle.fz_data.specs.Parts.{argument_view}
+use Rattle.fz_data.specs.Posting.{IsLonger}
 use Rattle.fz_data.specs.Scope.{argument_fault, argument_in}
+use Rattle.fz_data.proofs.Grown.{SoFar}
 use Rattle.fz_data.proofs.posting.arguments_of.Given as goal
 
 abbrev pub invariant-loop-argument : goal.invariant-loop-argument
 invariant-loop-argument l = record {
   clean : first_some (argument_fault l.scope) (map located_expr (take l.argument-index l.arguments)) ≡ None;
-  views : map (argument_view l.scope.variables.items l.scope.arrays.items) l.found.items ≡ map (argument_in l.scope) (map located_expr (take l.argument-index l.arguments));
-  cited : AllByRecursion (AreCited l.scope.arrays.items) l.found.items;
+  given : SoFar IsLonger (argument_view l.scope.variables.items l.scope.arrays.items) l.store l.fn.store.arguments.items l.store.arguments.items (map (argument_in l.scope) (map located_expr (take l.argument-index l.arguments)));
+  longer : IsLonger l.fn.store l.store;
 }

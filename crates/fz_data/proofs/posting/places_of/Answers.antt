@@ -1,23 +1,50 @@
+use Rattle.std.proofs.Common.{None, length, refl, arith, map, subst}
+use Rattle.std.proofs.lemmas.List.{length-map, take_all}
 use Rattle.std.proofs.lemmas.Result.{err_from_is_err_and}
 use Rattle.fz_meaning.specs.View.{located_basic}
 use Rattle.fz_meaning.proofs.ScanSteps.{first_more}
-use Rattle.fz_data.specs.Layout.{IsCited}
 use Rattle.fz_data.specs.Parts.{place_view}
 use Rattle.fz_data.specs.Scope.{fault_in, place_of_part}
+use Rattle.fz_data.specs.Slots.{IsGrown}
+use Rattle.fz_data.proofs.Grown.{SoFar, grown_none, grown_more, grown_one, longer_none, none_so_far, next_so_far, segment_is}
 use Rattle.fz_data.proofs.Tells.{tells_stop}
-use Rattle.fz_data.proofs.Loops.{one_found, all_found}
-use Rattle.std.proofs.Common.{None}
 use Rattle.fz_data.proofs.posting.places_of.Goals as goal
 
-pub returns-in_err-place-clause-tells : goal.returns-in_err-place-clause-tells
-returns-in_err-place-clause-tells c =
-    let p = err_from_is_err_and c.from_residual-in_err-place.result c.from_residual-in_err-place.ensures.1 in
-    rw (p.1, p.2) (tells_stop (fault_in c.args.scope.now None) located_basic c.args.parts.now c.loop-part.part-index c.part-item.result _ c.loop-part-test.true c.part-item.is c.loop-part.invariant.clean c.in_err-place.ensures.tells)
+pub returns-in_err-slot-clause-tells : goal.returns-in_err-slot-clause-tells
+returns-in_err-slot-clause-tells c =
+    let p = err_from_is_err_and c.from_residual-in_err-slot.result c.from_residual-in_err-slot.ensures.1 in
+    rw (p.1, p.2) (tells_stop (fault_in c.args.scope.now None) located_basic c.args.parts.now c.loop-part.part-index c.part-item.result _ c.loop-part-test.true c.part-item.is c.loop-part.invariant.clean c.in_err-slot.ensures.tells)
+
+pub loop-part-init : goal.loop-part-init
+loop-part-init c = record {
+  clean = refl;
+  places = none_so_far IsGrown (place_view c.args.scope.now.variables.items c.args.scope.now.arrays.items) c.args.store.now.constants.items c.args.store.now.slots.items;
+  longer = longer_none c.args.store.now;
+  kept = refl;
+}
 
 pub loop-part-preserved : goal.loop-part-preserved
-loop-part-preserved c = record {
-  clean = first_more (fault_in c.args.scope.now None) located_basic c.args.parts.now c.loop-part.part-index c.part-item.result c.loop-part-test.true c.part-item.is c.loop-part.invariant.clean c.in_ok-place.ensures.known;
-  views = one_found located_basic (place_of_part c.args.scope.now) (place_view c.args.scope.now.variables.items c.args.scope.now.arrays.items) c.args.parts.now c.loop-part.part-index c.part-item.result c.loop-part.places.items c.push.new.self.items c.in_ok-place.place
-      c.loop-part-test.true c.part-item.is c.loop-part.invariant.views c.in_ok-place.ensures.place c.in_ok-push.ensures.items;
-  cited = all_found (IsCited c.args.scope.now.arrays.items) c.loop-part.places.items c.push.new.self.items c.in_ok-place.place c.loop-part.invariant.cited c.in_ok-place.ensures.cited c.in_ok-push.ensures.items;
-}
+loop-part-preserved c =
+    let before = c.loop-part.store in
+    let grown = c.in_ok-slot.ensures.grown in
+    record {
+      clean = first_more (fault_in c.args.scope.now None) located_basic c.args.parts.now c.loop-part.part-index c.part-item.result c.loop-part-test.true c.part-item.is c.loop-part.invariant.clean c.in_ok-slot.ensures.known;
+      places = next_so_far IsGrown (place_view c.args.scope.now.variables.items c.args.scope.now.arrays.items) (place_of_part c.args.scope.now) located_basic c.args.parts.now c.loop-part.part-index c.part-item.result
+          before.constants.items c.place_of.new.constants.items c.args.store.now.slots.items before.slots.items c.push.new.self.items c.in_ok-slot.slot c.loop-part-test.true c.part-item.is
+          (λ later g. grown_more before.constants.items c.place_of.new.constants.items later grown g) c.in_ok-push.ensures.items c.in_ok-slot.ensures.place c.loop-part.invariant.places;
+      longer = record {
+        arguments = c.loop-part.invariant.longer.arguments;
+        slots = grown_one c.args.store.now.slots.items before.slots.items c.push.new.self.items c.in_ok-slot.slot c.loop-part.invariant.longer.slots c.in_ok-push.ensures.items;
+        constants = grown_more c.args.store.now.constants.items before.constants.items c.place_of.new.constants.items c.loop-part.invariant.longer.constants grown;
+      };
+      kept = c.loop-part.invariant.kept;
+    }
+
+pub returns-clause-places : goal.returns-clause-places
+returns-clause-places c later h =
+    let all = take_all c.loop-part.part-index c.args.parts.now c.loop-part-test.false in
+    segment_is IsGrown (place_view c.args.scope.now.variables.items c.args.scope.now.arrays.items) c.loop-part.store.constants.items c.args.store.now.slots.items c.loop-part.store.slots.items
+    (map (place_of_part c.args.scope.now) (map located_basic c.args.parts.now)) c.in_ok-first.first c.in_ok-count.count
+    (omega (arith, c.in_ok-first.ensures, c.len.ensures, c.args.store.now.slots.ok.0))
+    (omega (arith, c.in_ok-count.ensures, length-map (map located_basic c.args.parts.now) (place_of_part c.args.scope.now), length-map c.args.parts.now located_basic))
+    (subst (λ ps. SoFar IsGrown (place_view c.args.scope.now.variables.items c.args.scope.now.arrays.items) c.loop-part.store.constants.items c.args.store.now.slots.items c.loop-part.store.slots.items (map (place_of_part c.args.scope.now) (map located_basic ps))) all c.loop-part.invariant.places) (grown_none c.loop-part.store.constants.items) later.constants.items h.constants later.slots.items h.slots

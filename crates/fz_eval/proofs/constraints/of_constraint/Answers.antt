@@ -2,7 +2,7 @@ use Rattle.std.proofs.Common.{◌≡◌, Some, option_map, sym, ap, ◌∙◌, s
 use Rattle.std.specs.Prelude.{IfOk}
 use Rattle.fz_meaning.specs.Meaning.{have_shapes, row_of}
 use Rattle.fz_meaning.specs.Known.{known_row}
-use Rattle.fz_data.specs.Parts.{posted_view}
+use Rattle.fz_data.specs.Parts.{constraint_view}
 use Rattle.fz_kernel.specs.of_scene.Given.{are_read}
 use Rattle.fz_kernel.specs.of_scene.Views.{arguments_of, assigned}
 use Rattle.fz_eval.proofs.States.{row_fits, same_state}
@@ -10,7 +10,7 @@ use Rattle.fz_eval.proofs.constraints.of_constraint.Goals as goal
 
 pub of_ready-requires : goal.of_ready-requires
 of_ready-requires c =
-    let p = posted_view c.args.parts.variables.now c.args.parts.arrays.now c.args.parts.posted.now in
+    let p = constraint_view c.args.parts in
     let r = known_row c.in-Some.known in
     let e : row_of p ≡ Some r = sym c.requires.known ∙ ap (option_map known_row) c.in-Some.is in
     record {
@@ -20,21 +20,21 @@ of_ready-requires c =
 
 pub of_scene-requires : goal.of_scene-requires
 of_scene-requires c =
-    let p = posted_view c.args.parts.variables.now c.args.parts.arrays.now c.args.parts.posted.now in
+    let p = constraint_view c.args.parts in
     let r = known_row c.in-Some.known in
     let e : row_of p ≡ Some r = sym c.requires.known ∙ ap (option_map known_row) c.in-Some.is in
     record { fits = ap (have_shapes r.shapes) c.new-scene.ensures.arguments ∙ row_fits p r e }
 
 pub returns-then-ready : goal.returns-then-ready
 returns-then-ready c =
-    let p = posted_view c.args.parts.variables.now c.args.parts.arrays.now c.args.parts.posted.now in
+    let p = constraint_view c.args.parts in
     let r = known_row c.in-Some.known in
     let e : row_of p ≡ Some r = sym c.requires.known ∙ ap (option_map known_row) c.in-Some.is in
     subst (λ t. IfOk c.of_ready.result (λ s. s ≡ t)) (same_state (assigned c.new-scene.result) c.args.partial.now (arguments_of c.new-scene.result) p.arguments r (row_of p) c.new-scene.ensures.assigned c.new-scene.ensures.arguments e) c.of_ready.ensures
 
 pub returns-else-ready : goal.returns-else-ready
 returns-else-ready c =
-    let p = posted_view c.args.parts.variables.now c.args.parts.arrays.now c.args.parts.posted.now in
+    let p = constraint_view c.args.parts in
     let r = known_row c.in-Some.known in
     let e : row_of p ≡ Some r = sym c.requires.known ∙ ap (option_map known_row) c.in-Some.is in
     subst (λ t. IfOk c.of_scene.result (λ s. s ≡ t)) (same_state (assigned c.new-scene.result) c.args.partial.now (arguments_of c.new-scene.result) p.arguments r (row_of p) c.new-scene.ensures.assigned c.new-scene.ensures.arguments e) c.of_scene.ensures

@@ -1,12 +1,14 @@
-use Rattle.std.proofs.Common.{◌∙◌, arith}
-use Rattle.fz_eval.proofs.Together.{there, number_held}
+use Rattle.std.proofs.Common.{sym, ap, subst, ◌∙◌}
+use Rattle.std.proofs.lemmas.Option.{same_Some}
+use Rattle.fz_eval.specs.Holding.{is_held, point_holds}
+use Rattle.fz_eval.proofs.Valued.{point_ready}
 use Rattle.fz_eval.proofs.holding.number_holds.Goals as goal
 
-pub overflow_add-before : goal.overflow_add-before
-overflow_add-before c = record { fits = omega (arith, c.requires.counted, c.requires.few, c.requires.in_range) }
+pub of_point-requires : goal.of_point-requires
+of_point-requires c = record {
+  known = c.point_parts.ensures.known;
+  ready = λ whole. point_ready c.args.model.now c.args.partial.now (c.requires.whole whole) c.point_parts.result c.point_parts.ensures.kinds;
+}
 
 pub returns : goal.returns
-returns c =
-    let m = c.args.model.now in
-    let (p, at) = there m.constraints c.args.number c.requires.in_range in
-    c.is_held.ensures ∙ number_held m c.args.partial.now c.args.before c.requires.counted c.args.number p c.in_ok-found.found at c.in_ok-found.ensures.exact
+returns c = λ p at. c.is_held.ensures ∙ ap is_held c.in_ok-found.ensures.exact ∙ ap (point_holds c.args.partial.now) (same_Some _ _ (sym c.point_parts.ensures.parts ∙ at))

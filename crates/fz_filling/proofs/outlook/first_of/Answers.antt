@@ -1,15 +1,21 @@
 use Rattle.std.proofs.Common.{is_some, sym, ap, ◌∙◌, arith}
+use Rattle.fz_model.specs.Slots.{slot_term}
 use Rattle.fz_filling.specs.Outlooks.{open_other}
-use Rattle.fz_filling.proofs.Searching.{some_here, none_here, none_left}
+use Rattle.fz_filling.proofs.Searching.{some_here, none_here, none_left, first_after}
 use Rattle.fz_filling.proofs.outlook.first_of.Goals as goal
 
 pub returns-then-is_some : goal.returns-then-is_some
-returns-then-is_some c =
-    c.open_other-open.ensures ∙ some_here (open_other c.args.partial.now c.args.target) c.args.terms.now c.loop-term.term-index c.term-item.result c.loop-term-test.true c.term-item.is c.loop-term.invariant (sym (ap is_some c.open_other-open.ensures) ∙ sym c.is_some.ensures ∙ c.if-is_some.true)
+returns-then-is_some c = λ cs.
+    let f = open_other c.args.partial.now c.args.target in
+    c.open_slot-open.ensures cs
+    ∙ some_here (λ s. f (slot_term cs s)) c.args.slots.now c.loop-place.place c.item_at.result.now c.item_at.ensures (c.loop-place.invariant cs) (sym (ap is_some (c.open_slot-open.ensures cs)) ∙ sym c.is_some.ensures ∙ c.if-is_some.true)
+    ∙ first_after f (slot_term cs) c.args.slots.now
 
-pub loop-term-preserved : goal.loop-term-preserved
-loop-term-preserved c =
-    none_here (open_other c.args.partial.now c.args.target) c.args.terms.now c.loop-term.term-index c.term-item.result c.loop-term-test.true c.term-item.is c.loop-term.invariant (sym (ap is_some c.open_other-open.ensures) ∙ sym c.is_some.ensures ∙ c.if-is_some.false)
+pub loop-place-preserved : goal.loop-place-preserved
+loop-place-preserved c = λ cs.
+    none_here (λ s. open_other c.args.partial.now c.args.target (slot_term cs s)) c.args.slots.now c.loop-place.place c.item_at.result.now c.item_at.ensures (c.loop-place.invariant cs) (sym (ap is_some (c.open_slot-open.ensures cs)) ∙ sym c.is_some.ensures ∙ c.if-is_some.false)
 
 pub returns : goal.returns
-returns c = none_left (open_other c.args.partial.now c.args.target) c.args.terms.now c.loop-term.term-index (omega arith) c.loop-term.invariant
+returns c = λ cs.
+    let f = open_other c.args.partial.now c.args.target in
+    none_left (λ s. f (slot_term cs s)) c.args.slots.now c.loop-place.place c.loop-place-test.false (c.loop-place.invariant cs) ∙ first_after f (slot_term cs) c.args.slots.now

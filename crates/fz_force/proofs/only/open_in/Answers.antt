@@ -1,10 +1,15 @@
-use Rattle.std.proofs.Common.{flat_map, subst, sym}
-use Rattle.fz_force.specs.Only.{AreOpen, terms_given, terms_kept}
+use Rattle.std.proofs.Common.{map, sym, ap, subst, ◌∙◌}
+use Rattle.fz_data.specs.Slots.{segment, slot_term}
+use Rattle.fz_force.specs.Only.{AreOpen, IsFlat, terms_of}
+use Rattle.fz_force.proofs.Scalars.{flat_terms}
 use Rattle.fz_force.proofs.only.open_in.Goals as goal
 
 pub returns-in-List : goal.returns-in-List
 returns-in-List c =
-    let K = c.args.partial.now in
-    let xs = c.args.arrays.now in
-    subst (λ a. AreOpen K c.args.target (terms_given xs a) c.open_among.result) (sym c.in-List.is)
-    (subst (λ ps. AreOpen K c.args.target (flat_map (terms_kept xs) ps) c.open_among.result) c.deref.ensures.value (c.open_among.ensures xs))
+    let p = c.args.parts.now in
+    let cs = p.store.now.constants.items in
+    let ss = segment p.store.now.slots.items c.in-List.at in
+    let here = c.part.ensures ∙ ap (λ zs. segment zs c.in-List.at) c.deref.ensures.value in
+    let flat = subst (IsFlat p) c.in-List.is c.requires.flat in
+    subst (λ a. AreOpen c.args.partial.now c.args.target (terms_of p a) c.open_slots.result) (sym c.in-List.is)
+    (subst (λ ts. AreOpen c.args.partial.now c.args.target ts c.open_slots.result) (ap (map (slot_term cs)) here ∙ flat_terms p.variables.now p.arrays.now cs ss flat) (c.open_slots.ensures cs))

@@ -3,7 +3,7 @@ use Rattle.fz_meaning.specs.Meaning.Point.{ConstraintPoint, DefinitionPoint, Dom
 use Rattle.fz_meaning.proofs.Lists.{at_place}
 use Rattle.fz_meaning.proofs.Points.{points_fit}
 use Rattle.fz_meaning.proofs.Steps.{PointFits}
-use Rattle.fz_data.specs.Parts.{posted_view, variable_view}
+use Rattle.fz_data.specs.Parts.{constraint_view, variable_view}
 use Rattle.fz_force.proofs.Gaps.{gives, gives_nothing, forces, forces_nothing}
 use Rattle.fz_force.proofs.KindsFit.{known_fits}
 use Rattle.fz_force.proofs.step.forced.Goals as goal
@@ -37,16 +37,16 @@ returns-in-Definition-clause-nothing c =
 pub by_row-requires-clause-kinds : goal.by_row-requires-clause-kinds
 by_row-requires-clause-kinds c =
     let k = c.in-Constraint.parts in
-    known_fits c.args.model.now c.args.partial.now c.requires.fits (posted_view k.variables.now k.arrays.now k.posted.now) k.known c.in-Constraint.ensures.kinds c.in-Constraint.ensures.known
+    known_fits c.args.model.now c.args.partial.now c.requires.fits (constraint_view k) k.posted.now.known c.in-Constraint.ensures.kinds c.in-Constraint.ensures.known
 
 pub returns-in-Constraint-clause-given : goal.returns-in-Constraint-clause-given
 returns-in-Constraint-clause-given c =
     let k = c.in-Constraint.parts in
-    forces c.args.model.now c.args.partial.now (ConstraintPoint k.number (posted_view k.variables.now k.arrays.now k.posted.now)) (points c.args.model.now) c.args.number
+    forces c.args.model.now c.args.partial.now (ConstraintPoint k.number (constraint_view k)) (points c.args.model.now) c.args.number
     c.in-Constraint.ensures.parts c.by_row.result (c.by_row.ensures.forced c.args.model.now c.requires.fits c.in-Constraint.ensures.kinds)
 
 pub returns-in-Constraint-clause-nothing : goal.returns-in-Constraint-clause-nothing
 returns-in-Constraint-clause-nothing c =
     let k = c.in-Constraint.parts in
-    forces_nothing c.args.model.now c.args.partial.now (ConstraintPoint k.number (posted_view k.variables.now k.arrays.now k.posted.now)) (points c.args.model.now) c.args.number
+    forces_nothing c.args.model.now c.args.partial.now (ConstraintPoint k.number (constraint_view k)) (points c.args.model.now) c.args.number
     c.in-Constraint.ensures.parts c.by_row.result (c.by_row.ensures.forced c.args.model.now c.requires.fits c.in-Constraint.ensures.kinds)

@@ -2,6 +2,7 @@ use Rattle.std.proofs.Common.{map, option_map, sym, ap, ◌∙◌}
 use Rattle.fz_model.specs.Meaning.Place.{Scalar}
 use Rattle.fz_model.specs.Parts.{variable_view}
 use Rattle.fz_model.specs.Shown.{what_place}
+use Rattle.fz_model.specs.Slots.{scalar_term}
 use Rattle.fz_model.specs.View.{located_name}
 use Rattle.fz_verdict.specs.Blocks.{value_fault}
 use Rattle.fz_verdict.specs.View.{located_printed_value}
@@ -10,8 +11,8 @@ use Rattle.fz_judge.proofs.faults.value_fault.Goals as goal
 
 pub returns-in-Scalar : goal.returns-in-Scalar
 returns-in-Scalar c x =
-    c.scalar_fault.ensures c.in-Scalar.term.now
-    ∙ ap (λ k. option_map refusal (value_fault (located_name c.args.name.now) (Scalar k c.in-Scalar.term.now) (located_printed_value c.args.value.now))) c.scalar_kind.ensures
+    c.scalar_fault.ensures (scalar_term c.in-Scalar.scalar)
+    ∙ ap (λ k. option_map refusal (value_fault (located_name c.args.name.now) (Scalar k (scalar_term c.in-Scalar.scalar)) (located_printed_value c.args.value.now))) c.scalar_kind.ensures
     ∙ ap (λ w. option_map refusal (value_fault (located_name c.args.name.now) (what_place (map variable_view c.args.variables.now) x w) (located_printed_value c.args.value.now))) (sym c.in-Scalar.is)
 
 pub returns-in-Array : goal.returns-in-Array

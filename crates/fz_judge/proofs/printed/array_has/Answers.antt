@@ -1,5 +1,6 @@
 use Rattle.std.proofs.Common.{map, sym, ap, ◌∙◌}
 use Rattle.fz_model.specs.Meaning.Place.{Array}
+use Rattle.fz_model.specs.Shown.{scalar_terms}
 use Rattle.fz_model.specs.View.{located_literal}
 use Rattle.fz_verdict.specs.Blocks.{printed_values}
 use Rattle.fz_verdict.specs.Verdict.{has_printed}
@@ -12,5 +13,5 @@ use Rattle.fz_judge.proofs.printed.array_has.Goals as goal
 pub returns-in-Array : goal.returns-in-Array
 returns-in-Array c =
     ok_then c.have_values.result c.have_values.ensures (λ b h x k.
-    h ∙ ap (λ ls. have_values c.args.partial.now c.args.terms.now (printed_values (map located_literal ls))) c.deref.ensures.value ∙ are_same c.args.partial.now c.args.terms.now (printed_values (map located_literal c.in-Array.elements.items))
-    ∙ ap (λ v. has_printed c.args.partial.now (Array x k c.args.terms.now) (located_printed_value v)) (sym c.in-Array.is))
+    h ∙ ap (λ ls. have_values c.args.partial.now (scalar_terms c.args.list) (printed_values (map located_literal ls))) c.deref.ensures.value ∙ are_same c.args.partial.now (scalar_terms c.args.list) (printed_values (map located_literal c.in-Array.elements.items))
+    ∙ ap (λ v. has_printed c.args.partial.now (Array x k (scalar_terms c.args.list)) (located_printed_value v)) (sym c.in-Array.is))

@@ -1,5 +1,6 @@
 use Rattle.std.proofs.Common.{sym, ap, ◌∙◌}
 use Rattle.fz_model.specs.Shown.{kind_among, what_place}
+use Rattle.fz_model.specs.Slots.{scalar_term}
 use Rattle.fz_verdict.specs.Verdict.{has_printed}
 use Rattle.fz_verdict.specs.View.{located_printed_value}
 use Rattle.fz_judge.proofs.Lists.{ok_then}
@@ -7,7 +8,7 @@ use Rattle.fz_judge.proofs.printed.has_printed.Goals as goal
 
 pub returns-in-Scalar : goal.returns-in-Scalar
 returns-in-Scalar c =
-    ok_then c.scalar_has.result c.scalar_has.ensures (λ b h vs x. h (kind_among vs c.in-Scalar.term.now) ∙ ap (λ w. has_printed c.args.partial.now (what_place vs x w) (located_printed_value c.args.value.now)) (sym c.in-Scalar.is))
+    ok_then c.scalar_has.result c.scalar_has.ensures (λ b h vs x. h (kind_among vs (scalar_term c.in-Scalar.scalar)) ∙ ap (λ w. has_printed c.args.partial.now (what_place vs x w) (located_printed_value c.args.value.now)) (sym c.in-Scalar.is))
 
 pub returns-in-Array : goal.returns-in-Array
 returns-in-Array c =

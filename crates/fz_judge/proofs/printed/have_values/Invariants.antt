@@ -1,10 +1,12 @@
 use Rattle.std.proofs.Common.{◌≡◌, drop, length, map}
+use Rattle.fz_model.specs.Shown.{scalar_terms}
+use Rattle.fz_model.specs.Slots.{slot_term}
 use Rattle.fz_model.specs.View.{located_literal}
 use Rattle.fz_verdict.specs.Blocks.{printed_values}
 use Rattle.fz_judge.specs.Working.{have_values}
 use Rattle.fz_judge.proofs.printed.have_values.Given as goal
 
-abbrev pub invariant-loop-term : goal.invariant-loop-term
-invariant-loop-term l =
-    have_values l.partial l.terms (printed_values (map located_literal l.literals))
-    ≡ have_values l.partial (drop (length l.yielded) l.terms) (printed_values (map located_literal (drop (length l.yielded) l.literals)))
+abbrev pub invariant-loop-slot : goal.invariant-loop-slot
+invariant-loop-slot l =
+    have_values l.partial (scalar_terms l.list) (printed_values (map located_literal l.literals))
+    ≡ have_values l.partial (map (slot_term l.list.constants.now) (drop (length l.yielded) l.list.slots.now)) (printed_values (map located_literal (drop (length l.yielded) l.literals)))

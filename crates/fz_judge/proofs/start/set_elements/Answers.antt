@@ -1,14 +1,16 @@
-use Rattle.std.proofs.Common.{◌≡◌, true, ◌&&◌, List, [], ◌∷◌, length, map, refl, sym, ap, ◌∙◌}
-use Rattle.std.proofs.lemmas.Slice.Zip.{zip_end}
+use Rattle.std.proofs.Common.{◌≡◌, true, ◌&&◌, List, [], ◌∷◌, length, map, refl, sym, ap, subst, ◌∙◌}
+use Rattle.std.proofs.lemmas.Slice.Zip.{zip_turn, zip_end}
+use Rattle.fz_model.specs.declared.Slot.{Slot}
 use Rattle.fz_model.specs.declared.Term.{Term}
+use Rattle.fz_model.specs.Slots.{slot_term}
 use Rattle.fz_model.specs.Meaning.{Partial}
 use Rattle.fz_model.specs.View.{located_literal}
 use Rattle.fz_syntax.specs.declared.tree.Literal.{Literal}
 use Rattle.fz_verdict.specs.Blocks.{printed_values}
 use Rattle.fz_verdict.specs.Filling.{pairs}
-use Rattle.fz_judge.specs.Working.{agree_all, with_all}
+use Rattle.fz_judge.specs.Working.{IsWithin, agree_all, with_all}
 use Rattle.fz_judge.proofs.Agreeing.{and_true}
-use Rattle.fz_judge.proofs.Lists.{both_end}
+use Rattle.fz_judge.proofs.Lists.{both_end, mapped_at}
 use Rattle.fz_judge.proofs.start.set_elements.Goals as goal
 
 no_literals : (K : Partial) (ts : List Term) → with_all K (pairs ts []) ≡ K
@@ -19,13 +21,21 @@ none_disagrees : (K : Partial) (ts : List Term) → agree_all K (pairs ts []) �
 none_disagrees K [] = refl
 none_disagrees K (t ∷ ts) = refl
 
+pub set_scalar-requires : goal.set_scalar-requires
+set_scalar-requires c =
+    let t = zip_turn c.args.list.slots.now c.args.literals.now c.loop-slot.yielded c.into_iter-slot-iterator.result c.loop-slot.slot-iterator c.next.new.self c.next.result (cc) (cc) c.loop-slot.yielded_by (c.in-Some.slot, c.in-Some.literal) c.in-Some.is c.next.ensures.steps in
+    let slot = c.in-Some.slot.now in
+    let here : IsWithin (length c.args.partial.now) (slot_term c.args.list.constants.now slot) =
+    mapped_at (IsWithin (length c.args.partial.now)) (slot_term c.args.list.constants.now) c.args.list.slots.now (length c.loop-slot.yielded) slot t.0 (t.2 slot) c.requires.within in
+    record { within = subst (IsWithin (length c.loop-slot.partial)) (sym c.scalar_at-scalar.ensures) (subst (λ n. IsWithin n (slot_term c.args.list.constants.now slot)) (sym c.loop-slot.invariant.long) here) }
+
 pub returns : goal.returns
 returns c =
-    let e = zip_end c.args.terms.now c.args.literals.now c.loop-term.yielded c.into_iter-term-iterator.result c.loop-term.term-iterator c.next.new.self c.next.result (cc) (cc) c.loop-term.yielded_by c.in-None.is c.next.ensures.steps in
+    let e = zip_end c.args.list.slots.now c.args.literals.now c.loop-slot.yielded c.into_iter-slot-iterator.result c.loop-slot.slot-iterator c.next.new.self c.next.result (cc) (cc) c.loop-slot.yielded_by c.in-None.is c.next.ensures.steps in
     record {
-      given = sym (c.loop-term.invariant.given
-          ∙ both_end (λ (ts : List Term) (ls : List Literal). with_all c.loop-term.partial (pairs ts (printed_values (map located_literal ls)))) c.loop-term.partial (λ ls. refl) (no_literals c.loop-term.partial) c.args.terms.now c.args.literals.now (length c.loop-term.yielded) e);
-      agrees = sym (c.loop-term.invariant.agree
-          ∙ ap (λ b. c.loop-term.agrees && b) (both_end (λ (ts : List Term) (ls : List Literal). agree_all c.loop-term.partial (pairs ts (printed_values (map located_literal ls)))) true (λ ls. refl) (none_disagrees c.loop-term.partial) c.args.terms.now c.args.literals.now (length c.loop-term.yielded) e)
-          ∙ and_true c.loop-term.agrees);
+      given = sym (c.loop-slot.invariant.given
+          ∙ both_end (λ (xs : List Slot) (ls : List Literal). with_all c.loop-slot.partial (pairs (map (slot_term c.args.list.constants.now) xs) (printed_values (map located_literal ls)))) c.loop-slot.partial (λ ls. refl) (λ xs. no_literals c.loop-slot.partial (map (slot_term c.args.list.constants.now) xs)) c.args.list.slots.now c.args.literals.now (length c.loop-slot.yielded) e);
+      agrees = sym (c.loop-slot.invariant.agree
+          ∙ ap (λ b. c.loop-slot.agrees && b) (both_end (λ (xs : List Slot) (ls : List Literal). agree_all c.loop-slot.partial (pairs (map (slot_term c.args.list.constants.now) xs) (printed_values (map located_literal ls)))) true (λ ls. refl) (λ xs. none_disagrees c.loop-slot.partial (map (slot_term c.args.list.constants.now) xs)) c.args.list.slots.now c.args.literals.now (length c.loop-slot.yielded) e)
+          ∙ and_true c.loop-slot.agrees);
     }

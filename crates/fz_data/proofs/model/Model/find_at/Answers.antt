@@ -1,60 +1,44 @@
-use Rattle.std.proofs.Common.{◌≡◌, Some, None, Option, option_map, slice_get, refl, ap, sym, ◌∙◌}
-use Rattle.std.proofs.lemmas.Option.{slice_get_past, slice_get_read, same_Some}
+use Rattle.std.proofs.Common.{◌≡◌, Some, option_map, slice_get, refl, ap, sym, ◌∙◌}
+use Rattle.std.proofs.lemmas.Option.{slice_get_past, slice_get_read}
 use Rattle.fz_meaning.specs.Meaning.{variables_of}
 use Rattle.fz_meaning.specs.Meaning.Place.{Scalar, Array}
-use Rattle.fz_meaning.specs.declared.term.Term.{Term}
 use Rattle.fz_meaning.specs.declared.term.Term.TheVariants.{Var}
 use Rattle.fz_data.specs.Naming.{standing_view}
+use Rattle.fz_data.specs.Parts.{elements_of}
 use Rattle.fz_data.specs.Shown.{found_place, kind_among}
-use Rattle.fz_data.proofs.Finds.{found_none, found_scalar, own_term, stands, found_array}
+use Rattle.fz_data.proofs.Finds.{found_none, found_scalar, stands, found_array}
 use Rattle.fz_data.proofs.FindsKinds.{fits_found, fits_if_found}
 use Rattle.fz_data.proofs.model.Model.find_at.Goals as goal
-use Rattle.fz_data.proofs.model.Model.find_at.Goals.{in-Parameter, in-Variable+in_ok-term-in-Variable, in-Array+in_ok-array-in-Array}
+use Rattle.fz_data.proofs.model.Model.find_at.Goals.{in-Parameter, in-Variable, in-Array+in_ok-array-in-Array}
 
 pub returns-in_err-text-clause-place : goal.returns-in_err-text-clause-place
 returns-in_err-text-clause-place c =
     ap (option_map (λ f. found_place (variables_of c.args.self.now) f.0)) c.from_residual.ensures ∙ found_none c.self.inside c.self.invariant c.args.self.now c.self.view_is c.args.name.now c.in_err-text.ensures.stands
 
-pub returns-in_err-term-in-Variable-clause-place : goal.returns-in_err-term-in-Variable-clause-place
-returns-in_err-term-in-Variable-clause-place c =
-    let none = ap (λ xs. slice_get xs c.in-Variable.number) (sym c.deref.ensures.value) ∙ slice_get_past c.deref.result.now c.in-Variable.number c.in_err-term-in-Variable.ensures.lookup.3 in
-    let own = own_term c.self.inside c.self.invariant c.args.self.now c.self.view_is c.args.name.now (standing_view c.in_ok-text.standing) c.in-Variable.number c.in_ok-text.ensures.stands (ap standing_view c.in-Variable.is) in
-    let no : ◌≡◌ {A = Option Term} None (Some (Var c.in-Variable.number)) = sym none ∙ own in cc
-
 pub returns-in_err-array-in-Array-clause-place : goal.returns-in_err-array-in-Array-clause-place
 returns-in_err-array-in-Array-clause-place c =
     absurd (stands c.self.inside c.self.invariant c.args.self.now c.self.view_is c.args.name.now (standing_view c.in_ok-text.standing) c.in-Array.number c.in_ok-text.ensures.stands (ap standing_view c.in-Array.is)
-    (ap (λ xs. slice_get xs c.in-Array.number) (sym c.deref-in-Array.ensures.value) ∙ slice_get_past c.deref-in-Array.result.now c.in-Array.number c.in_err-array-in-Array.ensures.lookup.3))
+    (ap (λ xs. slice_get xs c.in-Array.number) (sym c.deref.ensures.value) ∙ slice_get_past c.deref.result.now c.in-Array.number c.in_err-array-in-Array.ensures.lookup.3))
 
 pub returns-clause-place : goal.returns-clause-place
 returns-clause-place c = elim c.match-standing.branch [
-  | in-Variable+in_ok-term-in-Variable w ↦ (
-      let t = w.in_ok-term-in-Variable.term.now in
-      let found = w.in_ok-term-in-Variable.ensures.lookup in
-      let at : slice_get c.self.inside.terms.items w.in-Variable.number ≡ Some t =
-      ap (λ xs. slice_get xs w.in-Variable.number) (sym w.deref.ensures.value) ∙ slice_get_read w.deref.result.now _ w.in-Variable.number t refl found.3.0 found.1 in
-      let own = own_term c.self.inside c.self.invariant c.args.self.now c.self.view_is c.args.name.now (standing_view c.in_ok-text.standing) w.in-Variable.number c.in_ok-text.ensures.stands (ap standing_view w.in-Variable.is) in
-      let same : t ≡ Var w.in-Variable.number = same_Some _ _ (sym at ∙ own) in
-      ap (λ what. Some (found_place (variables_of c.args.self.now) (record { name = c.in_ok-text.text; what = what }))) w.what-is
-      ∙ ap (λ x. Some (Scalar (kind_among (variables_of c.args.self.now) x) x)) same
-      ∙ found_scalar c.self.inside c.self.invariant c.args.self.now c.self.view_is c.args.name.now (standing_view c.in_ok-text.standing) (Var w.in-Variable.number) c.in_ok-text.ensures.stands (ap standing_view w.in-Variable.is))
+  | in-Variable w ↦ ap (λ what. Some (found_place (variables_of c.args.self.now) (record { name = c.in_ok-text.text; what = what }))) w.what-is
+      ∙ found_scalar c.self.inside c.self.invariant c.args.self.now c.self.view_is c.args.name.now (standing_view c.in_ok-text.standing) (Var w.in-Variable.number) c.in_ok-text.ensures.stands (ap standing_view w.in-Variable.is)
   | in-Parameter w ↦ ap (λ what. Some (found_place (variables_of c.args.self.now) (record { name = c.in_ok-text.text; what = what }))) w.what-is
+      ∙ ap (λ t. Some (Scalar (kind_among (variables_of c.args.self.now) t) t)) w.read_term.ensures
       ∙ found_scalar c.self.inside c.self.invariant c.args.self.now c.self.view_is c.args.name.now (standing_view c.in_ok-text.standing) w.in-Parameter.term.now c.in_ok-text.ensures.stands (ap standing_view w.in-Parameter.is)
   | in-Array+in_ok-array-in-Array w ↦ (
       let a = w.in_ok-array-in-Array.array.now in
       let found = w.in_ok-array-in-Array.ensures.lookup in
       let at : slice_get c.self.inside.arrays.items w.in-Array.number ≡ Some a =
-      ap (λ xs. slice_get xs w.in-Array.number) (sym w.deref-in-Array.ensures.value) ∙ slice_get_read w.deref-in-Array.result.now _ w.in-Array.number a refl found.3.0 found.1 in
-      ap (λ what. Some (found_place (variables_of c.args.self.now) (record { name = c.in_ok-text.text; what = what }))) w.what-is ∙ ap (λ ts. Some (Array c.in_ok-text.text.now a.kind ts)) w.deref-in-Array-2.ensures.value
-      ∙ ap (λ y. Some (Array y a.kind a.elements.items)) c.in_ok-text.ensures.text
+      ap (λ xs. slice_get xs w.in-Array.number) (sym w.deref.ensures.value) ∙ slice_get_read w.deref.result.now _ w.in-Array.number a refl found.3.0 found.1 in
+      ap (λ what. Some (found_place (variables_of c.args.self.now) (record { name = c.in_ok-text.text; what = what }))) w.what-is ∙ ap (λ ts. Some (Array c.in_ok-text.text.now a.kind ts)) w.elements_of.ensures
+      ∙ ap (λ y. Some (Array y a.kind (elements_of a))) c.in_ok-text.ensures.text
       ∙ found_array c.self.inside c.self.invariant c.args.self.now c.self.view_is c.args.name.now (standing_view c.in_ok-text.standing) w.in-Array.number c.in_ok-text.ensures.stands (ap standing_view w.in-Array.is) a at)
 ]
 
 pub returns-in_err-text-clause-kinds : goal.returns-in_err-text-clause-kinds
 returns-in_err-text-clause-kinds c = fits_if_found c.self.inside c.self.invariant c.args.self.now c.self.view_is c.args.name.now c.from_residual.result (returns-in_err-text-clause-place c)
-
-pub returns-in_err-term-in-Variable-clause-kinds : goal.returns-in_err-term-in-Variable-clause-kinds
-returns-in_err-term-in-Variable-clause-kinds c = fits_if_found c.self.inside c.self.invariant c.args.self.now c.self.view_is c.args.name.now c.from_residual-in_err-term-in-Variable.result (returns-in_err-term-in-Variable-clause-place c)
 
 pub returns-in_err-array-in-Array-clause-kinds : goal.returns-in_err-array-in-Array-clause-kinds
 returns-in_err-array-in-Array-clause-kinds c = fits_if_found c.self.inside c.self.invariant c.args.self.now c.self.view_is c.args.name.now c.from_residual-in_err-array-in-Array.result (returns-in_err-array-in-Array-clause-place c)

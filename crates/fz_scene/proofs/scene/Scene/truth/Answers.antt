@@ -1,23 +1,17 @@
-use Rattle.std.proofs.Common.{Some, None, option_and_then, ap, ◌∙◌}
-use Rattle.fz_data.specs.Readings.{slot_term}
-use Rattle.fz_scene.specs.Given.{bool_in, bool_of}
-use Rattle.fz_scene.specs.Views.{assigned}
-use Rattle.fz_scene.proofs.Standing.{scalar_kept, scalar_laid}
+use Rattle.std.proofs.Common.{None, option_and_then, sym, ap, ◌∙◌}
+use Rattle.fz_scene.specs.Given.{bool_of}
+use Rattle.fz_scene.specs.Views.{assigned, slot_read}
 use Rattle.fz_scene.proofs.scene.Scene.truth.Goals as goal
 
-pub returns-in-Some-scalar_at_laid : goal.returns-in-Some-scalar_at_laid
-returns-in-Some-scalar_at_laid c =
+pub returns-in-Some : goal.returns-in-Some
+returns-in-Some c =
     let s = c.args.self.now in
-    let l = c.in-Some.laid in
-    record { read = c.slot_truth.ensures ∙ ap (bool_of (assigned s)) (scalar_laid s l c.in-Some.is c.args.index (Some c.in-Some-scalar_at_laid.slot) (c.scalar_at_laid.ensures s.parts.arrays.now ∙ ap (option_and_then (λ z. slot_term l.constants.now z.now)) c.in-Some-scalar_at_laid.is)) }
-
-pub returns-in-None-scalar_at_laid : goal.returns-in-None-scalar_at_laid
-returns-in-None-scalar_at_laid c =
-    let s = c.args.self.now in
-    let l = c.in-Some.laid in
-    record { read = ap (bool_of (assigned s)) (scalar_laid s l c.in-Some.is c.args.index None (c.scalar_at_laid.ensures s.parts.arrays.now ∙ ap (option_and_then (λ z. slot_term l.constants.now z.now)) c.in-None-scalar_at_laid.is)) }
+    record {
+      read = c.slot_truth.ensures ∙ ap (bool_of (assigned s)) ((λ i. slot_read (c.constants.ensures i) c.in-Some.slot.now)
+          ∙ sym (c.scalar.ensures ∙ ap (option_and_then (λ z. slot_read s.parts.store.now.constants.items z.now)) c.in-Some.is));
+    }
 
 pub returns-in-None : goal.returns-in-None
 returns-in-None c =
     let s = c.args.self.now in
-    record { read = c.bool_in.ensures ∙ ap bool_in c.value.ensures ∙ ap (bool_of (assigned s)) (scalar_kept s c.args.index) }
+    record { read = ap (bool_of (assigned s)) (sym (c.scalar.ensures ∙ ap (option_and_then (λ z. slot_read s.parts.store.now.constants.items z.now)) c.in-None.is)) }

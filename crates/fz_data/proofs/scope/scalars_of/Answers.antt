@@ -1,0 +1,38 @@
+use Rattle.std.proofs.Common.{Some, map, ap, refl, ◌∙◌}
+use Rattle.std.proofs.lemmas.List.{take_all}
+use Rattle.std.specs.List.{list_all}
+use Rattle.std.proofs.lemmas.Result.{err_from_is_err_and}
+use Rattle.fz_meaning.specs.View.{located_basic}
+use Rattle.fz_meaning.proofs.ScanSteps.{first_more}
+use Rattle.fz_data.specs.Scope.{fault_in, term_in}
+use Rattle.fz_data.specs.Slots.{IsGrown, is_scalar, slot_term}
+use Rattle.fz_data.proofs.Grown.{grown_none, grown_more, none_read, next_read}
+use Rattle.fz_data.proofs.Flat.{one_flat}
+use Rattle.fz_data.proofs.Tells.{tells_stop}
+use Rattle.fz_data.proofs.scope.scalars_of.Goals as goal
+
+pub returns-in_err-term-clause-tells : goal.returns-in_err-term-clause-tells
+returns-in_err-term-clause-tells c =
+    let p = err_from_is_err_and c.from_residual-in_err-term.result c.from_residual-in_err-term.ensures.1 in
+    rw (p.1, p.2) (tells_stop (fault_in c.args.scope.now (Some c.args.wanted)) located_basic c.args.parts.now c.loop-part.part-index c.part-item.result _ c.loop-part-test.true c.part-item.is c.loop-part.invariant.clean c.in_err-term.ensures.tells)
+
+pub loop-part-init : goal.loop-part-init
+loop-part-init c = record {
+  clean = refl;
+  terms = none_read IsGrown slot_term c.new-constants.result.items c.in_ok-slots.slots.items c.in_ok-slots.ensures.items;
+  flat = ap (list_all is_scalar) c.in_ok-slots.ensures.items;
+}
+
+pub loop-part-preserved : goal.loop-part-preserved
+loop-part-preserved c = record {
+  clean = first_more (fault_in c.args.scope.now (Some c.args.wanted)) located_basic c.args.parts.now c.loop-part.part-index c.part-item.result c.loop-part-test.true c.part-item.is c.loop-part.invariant.clean c.in_ok-term.ensures.of_kind;
+  terms = next_read IsGrown slot_term (term_in c.args.scope.now) located_basic c.args.parts.now c.loop-part.part-index c.part-item.result c.loop-part.constants.items c.slot_of.new.constants.items c.loop-part.slots.items c.push.new.self.items c.in_ok-slot.slot
+      c.loop-part-test.true c.part-item.is (λ later g. grown_more c.loop-part.constants.items c.slot_of.new.constants.items later c.in_ok-slot.ensures.grown g) c.in_ok-push.ensures.items
+      (λ later g. c.in_ok-slot.ensures.slot.stands later g ∙ c.in_ok-term.ensures.term) c.loop-part.invariant.terms;
+  flat = one_flat c.loop-part.slots.items c.push.new.self.items c.in_ok-slot.slot c.in_ok-push.ensures.items c.loop-part.invariant.flat c.in_ok-slot.ensures.slot.scalar;
+}
+
+pub returns-clause-terms : goal.returns-clause-terms
+returns-clause-terms c =
+    c.loop-part.invariant.terms c.loop-part.constants.items (grown_none c.loop-part.constants.items)
+    ∙ ap (λ ps. map (term_in c.args.scope.now) (map located_basic ps)) (take_all c.loop-part.part-index c.args.parts.now c.loop-part-test.false)

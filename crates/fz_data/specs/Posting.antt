@@ -1,0 +1,33 @@
+-- Only private functions use these: what a store's parts stand for while a model is loaded, whatever more comes behind them.
+use Rattle.std.specs.Prelude.{◌≡◌, List, map}
+use Rattle.fz_base.specs.declared.value.Value.{Value}
+use Rattle.fz_meaning.specs.Meaning as meaning
+use Rattle.fz_data.specs.declared.store.Slot.{Slot}
+use Rattle.fz_data.specs.declared.store.Segment.{Segment}
+use Rattle.fz_data.specs.declared.store.Argument.{Argument}
+use Rattle.fz_data.specs.declared.store.Store.{Store}
+use Rattle.fz_data.specs.declared.parts.Posted.{Posted}
+use Rattle.fz_data.specs.declared.scope.Scope.{Scope}
+use Rattle.fz_data.specs.Slots.{IsGrown, segment}
+use Rattle.fz_data.specs.Parts.{place_view, argument_view, posted_view}
+
+-- there may be more behind each list
+pub record IsLonger (before after : Store) : Type 0 where
+  pub arguments : IsGrown before.arguments.items after.arguments.items
+  pub slots : IsGrown before.slots.items after.slots.items
+  pub constants : IsGrown before.constants.items after.constants.items
+
+abbrev pub IsPlaceOf : Scope → List Value → meaning.Place → Slot → Type 0
+IsPlaceOf s cs x o = (later : List Value) → IsGrown cs later → place_view s.variables.items s.arrays.items later o ≡ x
+
+abbrev pub ArePlacesOf : Scope → Store → List meaning.Place → Segment → Type 0
+ArePlacesOf s st xs g = (later : Store) → IsLonger st later → map (place_view s.variables.items s.arrays.items later.constants.items) (segment later.slots.items g) ≡ xs
+
+abbrev pub IsArgumentOf : Scope → Store → meaning.Argument → Argument → Type 0
+IsArgumentOf s st x a = (later : Store) → IsLonger st later → argument_view s.variables.items s.arrays.items later a ≡ x
+
+abbrev pub AreArgumentsOf : Scope → Store → List meaning.Argument → Segment → Type 0
+AreArgumentsOf s st xs g = (later : Store) → IsLonger st later → map (argument_view s.variables.items s.arrays.items later) (segment later.arguments.items g) ≡ xs
+
+abbrev pub IsPostedOf : Scope → Store → meaning.Posted → Posted → Type 0
+IsPostedOf s st x p = (later : Store) → IsLonger st later → posted_view s.variables.items s.arrays.items later p ≡ x

@@ -1,0 +1,46 @@
+-- The scalars of a constraint's arguments, as a store keeps them.
+use Rattle.std.proofs.Common.{◌≡◌, ℕ, zero, suc, true, List, [], ◌∷◌, ◌++◌, length, map, flat_map, Option, Some, None, option_map, slice_get, refl, sym, ap, ◌∙◌}
+use Rattle.std.specs.List.{list_all}
+use Rattle.std.specs.Option.{option_map_or}
+use Rattle.std.proofs.lemmas.Bool.{false≢true}
+use Rattle.std.proofs.lemmas.Option.{slice_get-map}
+use Rattle.fz_base.specs.declared.value.Value.{Value}
+use Rattle.fz_meaning.specs.declared.term.Term.{Term}
+use Rattle.fz_meaning.specs.Meaning.{Argument, terms_at, terms_in}
+use Rattle.fz_data.specs.declared.parts.Variable.{Variable}
+use Rattle.fz_data.specs.declared.parts.Array.{Array}
+use Rattle.fz_data.specs.declared.store.Slot.{Slot}
+use Rattle.fz_data.specs.declared.store.Slot.TheVariants as slots
+use Rattle.fz_data.specs.Parts.{place_view}
+use Rattle.fz_data.specs.Slots.{is_scalar, slot_term}
+
+-- ---- a list that is mapped
+
+pub as_many : {A B : Type 0} (f : A → B) (xs : List A) → length xs ≡ length (map f xs)
+as_many f [] = refl
+as_many f (x ∷ xs) = ap suc (as_many f xs)
+
+pub mapped_at : {A B : Type 0} (f : A → B) (xs : List A) (i : ℕ) (x : A) → slice_get xs i ≡ Some x → Some (f x) ≡ slice_get (map f xs) i
+mapped_at f xs i x e = sym (slice_get-map f xs i ∙ ap (option_map f) e)
+
+-- ---- slots that are no array
+
+pub flat_terms : (vs : List Variable) (xs : List Array) (cs : List Value) (ss : List Slot) → list_all is_scalar ss ≡ true → map (slot_term cs) ss ≡ flat_map terms_at (map (place_view vs xs cs) ss)
+flat_terms vs xs cs [] h = refl
+flat_terms vs xs cs (slots.Variable n ∷ ss) h = ap (λ ts. slot_term cs (slots.Variable n) ∷ ts) (flat_terms vs xs cs ss h)
+flat_terms vs xs cs (slots.Number i ∷ ss) h = ap (λ ts. slot_term cs (slots.Number i) ∷ ts) (flat_terms vs xs cs ss h)
+flat_terms vs xs cs (slots.Truth b ∷ ss) h = ap (λ ts. slot_term cs (slots.Truth b) ∷ ts) (flat_terms vs xs cs ss h)
+flat_terms vs xs cs (slots.Constant k ∷ ss) h = ap (λ ts. slot_term cs (slots.Constant k) ∷ ts) (flat_terms vs xs cs ss h)
+flat_terms vs xs cs (slots.Array i ∷ ss) h = absurd (false≢true h)
+
+-- ---- the scalars of all arguments
+
+module _ {A : Type 0} (view : A → Argument) where
+  pub of_arguments : (as' : List A) → flat_map (λ a. terms_in (view a)) as' ≡ flat_map terms_in (map view as')
+  of_arguments [] = refl
+  of_arguments (a ∷ as') = ap (λ ts. terms_in (view a) ++ ts) (of_arguments as')
+
+  pub at_argument : (as' : List A) (i : ℕ) → option_map_or (λ a. terms_in (view a)) (slice_get as' i) [] ≡ option_map_or terms_in (slice_get (map view as') i) []
+  at_argument [] i = refl
+  at_argument (a ∷ as') zero = refl
+  at_argument (a ∷ as') (suc i) = at_argument as' i
