@@ -1,5 +1,5 @@
-//! The model of a tree as the checker keeps it: names looked up once, and values by variable number. The inner crate below `fz_model`,
-//! which offers all of it.
+//! The model of a tree as the checker keeps it: names looked up once, and values by variable number. The inner
+//! crate below `fz_model`, which offers all of it.
 #![tactic(auto)]
 
 mod declaring;
@@ -24,5 +24,5 @@ pub use model::Model;
 pub use partial::{Partial, number_of, truth_of};
 pub use parts::{Array, Goal, Posted, ScalarList, Variable};
 pub use point::{ConstraintParts, Constraints, Point, PointParts};
-pub use store::{Argument, Scalar, Segment, Slot, Store, part, scalar_at};
+pub use store::{Argument, Scalar, Segment, Slot, Store, item_at, part, scalar_at};
 pub use values::{kind_of, literal_kind, literal_value, same_kind};

@@ -1,7 +1,7 @@
 //! Scalars in eight bytes each, one behind another: what the lists of constraints and of declared
 //! arrays hold.
 
-ghost use Rattle.std.specs.Prelude.{◌≡◌, IfOk, OnOk};
+ghost use Rattle.std.specs.Prelude.{◌≡◌, ◌<◌, IfOk, OnOk, Some, length, slice_get};
 ghost use Rattle.fz_base.specs.declared.value.Value.TheVariants.{Int};
 ghost use Rattle.fz_meaning.specs.declared.term.Term.TheVariants.{Fixed};
 ghost use Rattle.fz_data.specs.Slots.{IsGrown, IsSlotOf, constant_at, scalar_term, segment, slot_term};
@@ -74,6 +74,15 @@ pub(crate) fn narrow(number: usize) -> Result<u32, AllocError>
         Ok(narrow) => Ok(narrow),
         Err(_) => Err(AllocError),
     }
+}
+
+/// The item at an index.
+#[inline(always)]
+pub fn item_at<T>(items: &[T], index: usize) -> &T
+    requires { index < length items.now }
+    ensures { slice_get items.now index ≡ Some result.now }
+{
+    &items[index]
 }
 
 /// The items of a segment, as far as there are.

@@ -59,10 +59,11 @@ pub(crate) fn of_elements(partial: &Partial, domain: &Domain, elements: Scalars<
 fn one_outside(partial: &Partial, domain: &Domain, elements: &Scalars<'_>) -> bool
     ensures { result ≡ list_any (λ s. is_outside partial.now domain.now (slot_term elements.now.constants.now s)) elements.now.slots.now }
 {
-    elements
-        .slots
-        .iter()
-        .any(|slot| is_outside(partial, domain, scalar_at(elements.constants, *slot)))
+    elements.slots.iter().any(|slot| is_outside(
+        partial,
+        domain,
+        scalar_at(elements.constants, *slot),
+    ))
 }
 
 fn is_outside(partial: &Partial, domain: &Domain, scalar: Scalar<'_>) -> bool
@@ -82,10 +83,7 @@ fn is_outside(partial: &Partial, domain: &Domain, scalar: Scalar<'_>) -> bool
 fn have_values(partial: &Partial, elements: &Scalars<'_>) -> bool
     ensures { result ≡ list_all (λ s. has_value partial.now (slot_term elements.now.constants.now s)) elements.now.slots.now }
 {
-    elements
-        .slots
-        .iter()
-        .all(|slot| has_value(partial, scalar_at(elements.constants, *slot)))
+    elements.slots.iter().all(|slot| has_value(partial, scalar_at(elements.constants, *slot)))
 }
 
 fn has_value(partial: &Partial, scalar: Scalar<'_>) -> bool

@@ -1,6 +1,6 @@
 //! What a point can give now and later. It takes no memory, and reads an argument only up to the first scalar that is waited for.
 
-ghost use Rattle.std.specs.Prelude.{◌≡◌, ◌<◌, List, Some, flat_map, length, map, slice_get};
+ghost use Rattle.std.specs.Prelude.{◌≡◌, List, Some, flat_map, map};
 ghost use Rattle.fz_base.specs.declared.value.Value.{Value};
 ghost use Rattle.fz_model.specs.Slots.{slot_term};
 ghost use Rattle.fz_model.specs.Meaning.{Model, Variable as Declared, first_some};
@@ -9,7 +9,7 @@ ghost use Rattle.fz_model.specs.Parts.{constraint_view};
 ghost use Rattle.fz_model.specs.Shown.{point_view};
 ghost use Rattle.fz_filling.specs.Outlooks.{IsOutlook, first_other, open_other, open_variable, slot_terms, terms_given};
 
-use fz_model::{Argument, ConstraintParts, Partial, PointParts, Slot, Term, part};
+use fz_model::{Argument, ConstraintParts, Partial, PointParts, Slot, Term, item_at, part};
 
 /// What a point that gives nothing waits for.
 #[derive(Clone, Copy)]
@@ -81,15 +81,6 @@ fn of_constraint(parts: &ConstraintParts<'_, '_>, partial: &Partial) -> Outlook
         Some(other) => Outlook::Waits(Waiting::For(other)),
         None => Outlook::Asks(target),
     }
-}
-
-/// The item at an index.
-#[inline(always)]
-fn item_at<T>(items: &[T], index: usize) -> &T
-    requires { index < length items.now }
-    ensures { slice_get items.now index ≡ Some result.now }
-{
-    &items[index]
 }
 
 /// The first variable without a value that stands in the arguments, other than the target.

@@ -1,6 +1,6 @@
 //! The only scalar without a value among a constraint's arguments.
 
-ghost use Rattle.std.specs.Prelude.{◌≡◌, ◌<◌, ◌∷◌, [], ◌↔◌, IsTrue, List, Some, length, map, slice_get};
+ghost use Rattle.std.specs.Prelude.{◌≡◌, ◌∷◌, [], ◌↔◌, IsTrue, List, Some, map};
 ghost use Rattle.std.specs.List.{AllByRecursion};
 ghost use Rattle.fz_base.specs.declared.value.Value.{Value};
 ghost use Rattle.fz_meaning.specs.Meaning.{terms_at};
@@ -10,7 +10,7 @@ ghost use Rattle.fz_data.specs.Slots.{slot_term};
 ghost use Rattle.fz_force.specs.Only.{AreOpen, IsFlat, IsOnlyOpen, terms_of};
 ghost use Rattle.fz_force.specs.declared.only.Open.TheVariants.{Nothing};
 
-use fz_data::{Argument, ConstraintParts, Partial, Slot, part};
+use fz_data::{Argument, ConstraintParts, Partial, Slot, item_at, part};
 
 /// Which scalars have no value: none; the target alone, once, at a place counted from 0; or others.
 #[derive(Clone, Copy)]
@@ -34,15 +34,6 @@ pub(crate) struct Spot {
     pub(crate) variable: usize,
     pub(crate) argument: usize,
     pub(crate) place: usize,
-}
-
-/// The item at an index.
-#[inline(always)]
-fn item_at<T>(items: &[T], index: usize) -> &T
-    requires { index < length items.now }
-    ensures { slice_get items.now index ≡ Some result.now }
-{
-    &items[index]
 }
 
 /// Whether a variable has no value: the target, or another.

@@ -1,11 +1,12 @@
-//! Models of FlatZinc: names, kinds and lengths, and what they mean. The inner crate `fz_meaning` has the definitions, the table of
-//! builtins and the theory of faults, `fz_data` the loaded model; `fz_scene`, `fz_kernel` and `fz_eval` tell the state of a point,
-//! `fz_force` the step that it forces.
+//! Models of FlatZinc: names, kinds and lengths, and what they mean. The inner crate `fz_meaning`
+//! has the definitions, the table of builtins and the theory of faults, `fz_data` the loaded model;
+//! `fz_scene`, `fz_kernel` and `fz_eval` tell the state of a point, `fz_force` the step that it
+//! forces.
 #![tactic(auto)]
 
 pub use fz_force::fz_data::{
     Argument, Array, ConstraintParts, Constraints, Found, Goal, Model, Partial, Point, PointParts,
-    Posted, Scalar, ScalarList, Scalars, Segment, Slot, Store, Variable, What, kind_of,
+    Posted, Scalar, ScalarList, Scalars, Segment, Slot, Store, Variable, What, item_at, kind_of,
     literal_kind, literal_value, load, part, same_kind, scalar_at,
 };
 pub use fz_force::fz_eval::{Overview, all_hold, state};

@@ -21,12 +21,12 @@ returns-clause-row c =
     let st = c.arguments_of.new.store in
     c.row_of-known.ensures c.target_of.result
     ∙ (λ i. row_of (record {
-        name = c.args.constraint.now.name.text.now;
-        arguments = map (argument_view (c.cited.ensures.variables i) (c.cited.ensures.arrays i) st) ((c.part.ensures ∙ ap (λ as'. segment as' c.in_ok-arguments.arguments) c.deref-2.ensures.value) i);
-        target = c.target_of.result;
-      }))
+      name = c.args.constraint.now.name.text.now;
+      arguments = map (argument_view (c.cited.ensures.variables i) (c.cited.ensures.arrays i) st) ((c.part.ensures ∙ ap (λ as'. segment as' c.in_ok-arguments.arguments) c.deref-2.ensures.value) i);
+      target = c.target_of.result;
+    }))
     ∙ (λ i. row_of (record {
-        name = c.args.constraint.now.name.text.now;
-        arguments = (c.in_ok-arguments.ensures.arguments st (longer_none st) ∙ ap (λ xs. map (argument_in s) (map located_expr xs)) c.deref.ensures.value) i;
-        target = (c.target_of.ensures ∙ ap (λ ns. first_some (defined_in s) (bare_notes ns)) c.deref-3.ensures.value) i;
-      }))
+      name = c.args.constraint.now.name.text.now;
+      arguments = (c.in_ok-arguments.ensures.arguments st (longer_none st) ∙ ap (λ xs. map (argument_in s) (map located_expr xs)) c.deref.ensures.value) i;
+      target = (c.target_of.ensures ∙ ap (λ ns. first_some (defined_in s) (bare_notes ns)) c.deref-3.ensures.value) i;
+    }))
