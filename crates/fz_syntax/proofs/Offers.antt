@@ -1,6 +1,6 @@
 -- What was offered so far, as one more item is read, as none is left, and as the source is refused.
-use Rattle.std.proofs.Common.{◌≡◌, ℕ, Bool, true, false, List, [], ◌∷◌, ◌++◌, length, map, Ok, Err, Result, refl, sym, ap, subst, ◌∙◌, append_assoc}
-use Rattle.std.specs.Prelude.{codes, ◌≤◌, ◌<◌}
+use Rattle.std.proofs.Common.{◌≡◌, ℕ, Bool, true, false, List, [], ◌∷◌, ◌++◌, length, map, Ok, Err, refl, sym, ap, subst, drop, arith, ◌∙◌, append_assoc}
+use Rattle.std.specs.Prelude.{codes, ◌≤◌, ◌<◌, Option, Some, None, IfSome, IfNone, is_some}
 use Rattle.std.specs.List.{flat_map}
 use Rattle.std.proofs.lemmas.List.{append-nil}
 use Rattle.std.proofs.lemmas.Grind.{flat_map-append}
@@ -8,7 +8,8 @@ use Rattle.fz_lex.specs.Ahead.{tokens_ahead}
 use Rattle.fz_lex.specs.Left.{source_of}
 use Rattle.fz_lex.specs.Lexing.{SpannedToken, LexesToSpanned}
 use Rattle.fz_lex.specs.Limits.{most_bytes, AreWithinLimit, LexesWithinLimits}
-use Rattle.fz_lex.specs.View.{IsLexicalFault, IsPlacedWithin}
+use Rattle.fz_lex.specs.View.{IsLexicalFault, IsPlacedWithin, spanned}
+use Rattle.fz_lex.specs.declared.token.Token.{Token}
 use Rattle.fz_lex.specs.Token.{TokenValue}
 use Rattle.fz_lex.specs.declared.error.SyntaxError.{SyntaxError}
 use Rattle.fz_lex.specs.declared.error.SyntaxError.TheVariants as errors
@@ -23,18 +24,19 @@ use Rattle.fz_syntax.specs.declared.tree.Solve.{Solve}
 use Rattle.fz_syntax.specs.View.{bare_predicate, bare_decl, bare_constraint, bare_solve}
 use Rattle.fz_syntax.specs.Placed.{PlacedToken, placed_predicate, placed_decl, placed_constraint, placed_solve}
 use Rattle.fz_syntax.specs.Shape.{the_limits}
-use Rattle.fz_syntax.specs.Reading.{Read, Reader, ◌>>=◌, next_passes, is_word, begins_decl, predicate_at, decl_at, constraint_at, solve_at, tree_at, tree_of, ended, whole}
+use Rattle.fz_syntax.specs.Reading.{Read, Reader, ◌>>=◌, next_passes, is_word, begins_decl, predicate_at, decl_at, constraint_at, solve_at, tree_at, tree_of, ended}
 use Rattle.fz_syntax.specs.Outcome.{Fails, IsErrorOf, IsRefusal, IsWhole, unexpected_kind}
-use Rattle.fz_syntax.specs.Text.{IsTextOfTree, IsValue}
+use Rattle.fz_syntax.specs.Text.{IsValue}
 use Rattle.fz_syntax.specs.Walk.{ahead, lexemes, Walk}
-use Rattle.fz_syntax.specs.Offering.{TreeItems, bare_all, placed_before, IsTextOfAll, IsRefused, IsRefusedBy, by_lexer, by_grammar, Gathers, IsAfter, read_predicates, read_decls, read_constraints, AtPredicates, AtDecls, AtConstraints, AtSolve}
+use Rattle.fz_syntax.specs.Offering.{TreeItems, bare_all, placed_all, placed_before, IsTextOfAll, IsRefused, IsRefusedBy, by_lexer, by_grammar, IsAfter, read_predicates, read_decls, read_constraints, AtPredicates, AtDecls, AtConstraints, AtSolve}
 use Rattle.fz_syntax.proofs.Separated.{fails_bind}
 use Rattle.fz_syntax.proofs.Running.{front_of_none, gathers_on, gathers_stop, gathers_all, grown}
 use Rattle.fz_syntax.proofs.ItemLaws.{predicates_shrink, decls_shrink, constraints_shrink}
 use Rattle.fz_syntax.proofs.Walks.{walk_none, walk_then}
 use Rattle.fz_syntax.proofs.Whole.{refused_so, refused_more, grammar_refuses, lexer_refuses}
 use Rattle.fz_syntax.proofs.Parsed.{tree_found, tree_only}
-use Rattle.fz_syntax.proofs.Fits.{placed_in}
+use Rattle.fz_syntax.proofs.Fits.{placed_in, stands_of}
+use Rattle.fz_syntax.proofs.PlacedLaws.{fits_all}
 
 -- ---- the beginning
 
@@ -219,6 +221,15 @@ constraint_refused ps ds cs i r e left begins fails by h =
 
 -- ---- the solve item
 
+-- whether a token is left
+pub some_left : (o : Option Token) (p : Parser) → is_some o ≡ true → IfSome o (λ t. ahead p ≡ spanned t ∷ drop 1 (ahead p)) → 0 < length (lexemes p)
+some_left None p some h = absurd cc
+some_left (Some t) p some h = subst (λ (ts : List SpannedToken). 0 < length (map (λ u. u.token) ts)) (sym h) (omega arith)
+
+pub none_left : (o : Option Token) (p : Parser) → is_some o ≡ false → IfNone o (ahead p ≡ []) → ahead p ≡ []
+none_left None p none h = h
+none_left (Some t) p none h = absurd cc
+
 pub solve_refused : (ps : List Predicate) (ds : List Decl) (cs : List Constraint) (i : Items) (r : Refusal) (e : SyntaxError) (left : List TokenValue) → Fails r (solve_at the_limits (lexemes i.parser)) left
     → IsRefusedBy i.source.now r e → AtSolve ps ds cs i → IsRefused i.source.now e
 unfolding tree_at
@@ -247,7 +258,10 @@ unfolding tree_of ended
 text_of_all ps ds cs s i now found none walked lexes numbers h =
     let empty : lexemes now ≡ [] = ap (λ (ts : List SpannedToken). map (λ t. t.token) ts) none in
     let read = all_read ps ds cs s i (lexemes now) found h in
+    let all : TreeItems = record { predicates = ps; decls = ds; constraints = cs; solve = s } in
+    let placed = placed_in i.source.now h.start now (placed_all all) h.after.begins (walk_then h.after.walked walked) none lexes in
     record {
       text = tree_found i.source.now h.start h.after.begins _ h.after.short lexes numbers (rw (read, empty) refl);
-      placed = placed_in i.source.now h.start now _ h.after.begins (walk_then h.after.walked walked) none lexes;
+      placed = placed;
+      stands = stands_of i.source.now (fits_all all) placed;
     }

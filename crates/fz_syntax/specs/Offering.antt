@@ -1,7 +1,7 @@
 -- The items of a model as they are offered, one behind another, each kind in its turn.
 -- Only `TreeItems`, `IsTextOfAll` and `IsRefused` are to be believed. The others say what was offered so far; what follows from them at the
 -- end is said by `IsTextOfAll`, and that they hold at the beginning by `Items::new`.
-use Rattle.std.specs.Prelude.{◌≡◌, ◌≤◌, ℕ, List, [], ◌∷◌, ◌++◌, map, length, codes, Bool, Option, Some, None, Result, Ok, Err}
+use Rattle.std.specs.Prelude.{◌≡◌, ◌≤◌, ℕ, List, [], ◌++◌, map, length, codes, Bool, Option, Some, None, Result, Ok, Err}
 use Rattle.std.specs.List.{flat_map}
 use Rattle.fz_lex.specs.View.{IsLexicalFault, IsPlacedWithin}
 use Rattle.fz_lex.specs.Limits.{most_bytes, LexesWithinLimits}
@@ -24,6 +24,7 @@ use Rattle.fz_syntax.specs.declared.tree.Solve.{Solve}
 use Rattle.fz_syntax.specs.View.{bare_predicate, bare_decl, bare_constraint, bare_solve}
 use Rattle.fz_syntax.specs.Placed.{PlacedToken, ArePlacedIn, placed_predicate, placed_decl, placed_constraint, placed_solve}
 use Rattle.fz_syntax.specs.Shape.{the_limits}
+use Rattle.fz_syntax.specs.Spots.{Spot, Stand, predicate_spots, decl_spots, constraint_spots, solve_spots}
 use Rattle.fz_syntax.specs.Reading.{Read, Reader, ◌>>=◌, many_at, any_number, is_word, begins_decl, predicate_at, decl_at, constraint_at}
 use Rattle.fz_syntax.specs.Text.{IsTextOfTree, IsRefusalOf}
 use Rattle.fz_syntax.specs.Walk.{ahead, lexemes, Walk}
@@ -44,10 +45,17 @@ bare_all t = record { predicates = map bare_predicate t.predicates; decls = map 
 abbrev pub placed_before : List Predicate → List Decl → List Constraint → List PlacedToken
 placed_before ps ds cs = flat_map placed_predicate ps ++ flat_map placed_decl ds ++ flat_map placed_constraint cs
 
--- The source is a text of these items, and they stand where their tokens do.
+abbrev pub placed_all : TreeItems → List PlacedToken
+placed_all t = placed_before t.predicates t.decls t.constraints ++ placed_solve t.solve
+
+abbrev pub spots_all : TreeItems → List Spot
+spots_all t = flat_map predicate_spots t.predicates ++ (flat_map decl_spots t.decls ++ (flat_map constraint_spots t.constraints ++ solve_spots t.solve))
+
+-- The source is a text of these items, and they stand where their tokens do: so the names and literals stand one behind the other.
 pub record IsTextOfAll (source : List ℕ) (t : TreeItems) : Type 0 where
   pub text : IsTextOfTree source (bare_all t)
-  pub placed : ArePlacedIn source (placed_before t.predicates t.decls t.constraints ++ placed_solve t.solve)
+  pub placed : ArePlacedIn source (placed_all t)
+  pub stands : Stand source 0 (length source) (spots_all t)
 
 -- The source is a text of no tree, unless memory ran out, and the fault comes in the order of faults.
 pub record IsRefused (source : List ℕ) (e : SyntaxError) : Type 0 where
