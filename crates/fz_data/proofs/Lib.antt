@@ -9,6 +9,7 @@ pub mod Added
 pub mod Knows
 pub mod Loops
 pub mod Next
+pub mod OneMore
 pub mod OwnKinds
 pub mod Tabled
 pub mod Loaded
