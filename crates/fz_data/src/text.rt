@@ -1,0 +1,60 @@
+//! From a text to its model, item by item: each is let go when it is loaded.
+
+ghost use Rattle.std.specs.Prelude.{◌≡◌, ◌++◌, ◌∷◌, [], IfErr, IfOk, List, None, map};
+ghost use Rattle.fz_syntax.specs.Offering.{AtConstraints, AtDecls, AtPredicates, AtSolve, IsAllOf, IsRefused};
+ghost use Rattle.fz_syntax.specs.SyntaxError.{SyntaxError as SyntaxFault};
+ghost use Rattle.fz_syntax.specs.declared.tree.Constraint as the_constraint;
+ghost use Rattle.fz_syntax.specs.declared.tree.Decl as the_decl;
+ghost use Rattle.fz_syntax.specs.declared.tree.Predicate as the_predicate;
+ghost use Rattle.fz_meaning.specs.FirstFault.{decl_fault, decls_fault};
+ghost use Rattle.fz_meaning.specs.Meaning.{first_some};
+ghost use Rattle.fz_meaning.specs.View.{located_constraint, located_decl};
+ghost use Rattle.fz_meaning.specs.declared.error.ModelError.{ModelError as NameFault};
+ghost use Rattle.fz_meaning.specs.declared.error.ModelError.TheVariants.{Memory};
+ghost use Rattle.fz_data.specs.Posting.{Posts};
+ghost use Rattle.fz_data.specs.Scope.{HasKinds, Tells, constraint_fault_in};
+ghost use Rattle.fz_data.specs.Stands.{Declares};
+ghost use Rattle.fz_data.specs.declared.scope.Scope.{Scope};
+ghost use Rattle.fz_data.specs.Texts.{BeginsWithConstraints, BeginsWithDecls, IsLoadRefusal};
+
+use crate::error::LoadError;
+use fz_meaning::ModelError;
+use fz_syntax::{Items, SyntaxError};
+
+/// Reads all that stands behind constraints.
+fn behind_constraints(mut items: Items<'_>) -> Result<(), SyntaxError>
+    ensures { (ps : List the_predicate.Predicate) (ds : List the_decl.Decl) (cs : List the_constraint.Constraint) → AtConstraints ps ds cs items.entry → IsAllOf items.entry.source.now result (λ _. BeginsWithConstraints items.entry.source.now ds cs) }
+{
+    while items.constraint()?.is_some() {}
+    items.solve()?;
+    Ok(())
+}
+
+/// Reads all that stands behind declarations.
+fn behind_decls(mut items: Items<'_>) -> Result<(), SyntaxError>
+    ensures { (ps : List the_predicate.Predicate) (ds : List the_decl.Decl) → AtDecls ps ds items.entry → IsAllOf items.entry.source.now result (λ _. BeginsWithDecls items.entry.source.now ds) }
+{
+    while items.decl()?.is_some() {}
+    behind_constraints(items)
+}
+
+/// What is answered to a fault of names at the last declaration: a fault of the text comes first,
+/// wherever it is.
+fn at_decl(items: Items<'_>, fault: ModelError) -> LoadError
+    ensures { (ps : List the_predicate.Predicate) (ds : List the_decl.Decl) (d : the_decl.Decl) → AtDecls ps (ds ++ d ∷ []) items.entry → decls_fault [] (map located_decl ds) ≡ None → Tells fault (decl_fault (map located_decl ds) (located_decl d)) → IsLoadRefusal items.entry.source.now result }
+{
+    match behind_decls(items) {
+        Ok(()) => LoadError::Names(fault),
+        Err(error) => LoadError::Text(error),
+    }
+}
+
+/// The same of a fault at the last constraint.
+fn at_constraint(items: Items<'_>, fault: ModelError) -> LoadError
+    ensures { (ps : List the_predicate.Predicate) (ds : List the_decl.Decl) (cs : List the_constraint.Constraint) (c : the_constraint.Constraint) (s : Scope) → AtConstraints ps ds (cs ++ c ∷ []) items.entry → Declares (map located_decl ds) s → first_some (constraint_fault_in s) (map located_constraint cs) ≡ None → Tells fault (constraint_fault_in s (located_constraint c)) → IsLoadRefusal items.entry.source.now result }
+{
+    match behind_constraints(items) {
+        Ok(()) => LoadError::Names(fault),
+        Err(error) => LoadError::Text(error),
+    }
+}
