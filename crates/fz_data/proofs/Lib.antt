@@ -13,6 +13,7 @@ pub mod OneMore
 pub mod OwnKinds
 pub mod Tabled
 pub mod Loaded
+pub mod RestOfText
 pub mod NameTable
 pub mod Grown
 pub mod Flat

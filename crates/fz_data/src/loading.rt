@@ -20,7 +20,7 @@ use fz_syntax::{Ast, Decl};
 use std::alloc::Global;
 
 /// Nothing declared yet, with room for this many names.
-fn empty<'a>(alloc: Global, names: usize) -> Result<Scope<'a>, ModelError>
+pub(crate) fn empty<'a>(alloc: Global, names: usize) -> Result<Scope<'a>, ModelError>
     ensures names { IfOk result (λ s. s.names ≡ []) }
     ensures variables { IfOk result (λ s. s.variables.items ≡ []) }
     ensures kinds { IfOk result HasKinds }
@@ -38,7 +38,7 @@ fn empty<'a>(alloc: Global, names: usize) -> Result<Scope<'a>, ModelError>
 }
 
 /// Takes in what one more declaration declares. It refuses the first fault at it.
-fn declare<'a>(
+pub(crate) fn declare<'a>(
     alloc: Global,
     scope: &mut Scope<'a>,
     decl: &Decl<'a>,

@@ -14,12 +14,15 @@ ghost use Rattle.fz_meaning.specs.declared.error.ModelError.TheVariants.{Memory}
 ghost use Rattle.fz_data.specs.Posting.{Posts};
 ghost use Rattle.fz_data.specs.Scope.{HasKinds, Tells, constraint_fault_in};
 ghost use Rattle.fz_data.specs.Stands.{Declares};
-ghost use Rattle.fz_data.specs.declared.scope.Scope.{Scope};
-ghost use Rattle.fz_data.specs.Texts.{BeginsWithConstraints, BeginsWithDecls, IsLoadRefusal};
+ghost use Rattle.fz_data.specs.declared.scope.Scope.{Scope as the_scope};
+ghost use Rattle.fz_data.specs.Texts.{BeginsWithConstraints, BeginsWithDecls, HasDeclared, IsLoad, IsLoadRefusal};
 
 use crate::error::LoadError;
+use crate::loading::declare;
+use crate::scope::Scope;
 use fz_meaning::ModelError;
 use fz_syntax::{Items, SyntaxError};
+use std::alloc::Global;
 
 /// Reads all that stands behind constraints.
 fn behind_constraints(mut items: Items<'_>) -> Result<(), SyntaxError>
@@ -51,10 +54,29 @@ fn at_decl(items: Items<'_>, fault: ModelError) -> LoadError
 
 /// The same of a fault at the last constraint.
 fn at_constraint(items: Items<'_>, fault: ModelError) -> LoadError
-    ensures { (ps : List the_predicate.Predicate) (ds : List the_decl.Decl) (cs : List the_constraint.Constraint) (c : the_constraint.Constraint) (s : Scope) → AtConstraints ps ds (cs ++ c ∷ []) items.entry → Declares (map located_decl ds) s → first_some (constraint_fault_in s) (map located_constraint cs) ≡ None → Tells fault (constraint_fault_in s (located_constraint c)) → IsLoadRefusal items.entry.source.now result }
+    ensures { (ps : List the_predicate.Predicate) (ds : List the_decl.Decl) (cs : List the_constraint.Constraint) (c : the_constraint.Constraint) (s : the_scope) → AtConstraints ps ds (cs ++ c ∷ []) items.entry → Declares (map located_decl ds) s → first_some (constraint_fault_in s) (map located_constraint cs) ≡ None → Tells fault (constraint_fault_in s (located_constraint c)) → IsLoadRefusal items.entry.source.now result }
 {
     match behind_constraints(items) {
         Ok(()) => LoadError::Names(fault),
         Err(error) => LoadError::Text(error),
     }
+}
+
+/// What all declarations declare, and the items behind them.
+fn declared_in<'a>(
+    alloc: Global,
+    mut items: Items<'a>,
+    mut scope: Scope<'a>,
+) -> Result<(Items<'a>, Scope<'a>), LoadError>
+    requires kinds { HasKinds scope }
+    ensures kinds { IfOk result (λ r. HasKinds r.1) }
+    ensures source { IfOk result (λ r. r.0.source.now ≡ items.entry.source.now) }
+    ensures declared { (ps : List the_predicate.Predicate) → Declares [] scope.entry → AtDecls ps [] items.entry → IsLoad items.entry.source.now result (λ r. HasDeclared ps r.0 r.1) }
+{
+    while let Some(decl) = items.decl()? {
+        if let Err(fault) = declare(alloc, &mut scope, &decl) {
+            return Err(at_decl(items, fault));
+        }
+    }
+    Ok((items, scope))
 }
