@@ -1,6 +1,7 @@
 //! From a text to its model, item by item: each is let go when it is loaded.
 
-ghost use Rattle.std.specs.Prelude.{◌≡◌, ◌++◌, ◌∷◌, [], IfErr, IfOk, List, None, map};
+ghost use Rattle.std.specs.Prelude.{◌≡◌, ◌++◌, ◌∷◌, [], IfErr, IfOk, List, None, OnOk, map};
+ghost use Rattle.fz_meaning.specs.Located.{Constraint as LocatedConstraint, Decl as LocatedDecl};
 ghost use Rattle.fz_syntax.specs.Offering.{AtConstraints, AtDecls, AtPredicates, AtSolve, IsAllOf, IsRefused};
 ghost use Rattle.fz_syntax.specs.SyntaxError.{SyntaxError as SyntaxFault};
 ghost use Rattle.fz_syntax.specs.declared.tree.Constraint as the_constraint;
@@ -15,13 +16,16 @@ ghost use Rattle.fz_data.specs.Posting.{Posts};
 ghost use Rattle.fz_data.specs.Scope.{HasKinds, Tells, constraint_fault_in};
 ghost use Rattle.fz_data.specs.Stands.{Declares};
 ghost use Rattle.fz_data.specs.declared.scope.Scope.{Scope as the_scope};
-ghost use Rattle.fz_data.specs.Texts.{BeginsWithConstraints, BeginsWithDecls, HasDeclared, IsLoad, IsLoadRefusal};
+ghost use Rattle.fz_data.specs.Texts.{BeginsWithConstraints, BeginsWithDecls, HasDeclared, HasPosted, IsLoad, IsLoadRefusal};
 
 use crate::error::LoadError;
 use crate::loading::declare;
+use crate::parts::Posted;
+use crate::posting::post;
 use crate::scope::Scope;
+use crate::store::Store;
 use fz_meaning::ModelError;
-use fz_syntax::{Items, SyntaxError};
+use fz_syntax::{Constraint, Decl, Items, SyntaxError};
 use std::alloc::Global;
 
 /// Reads all that stands behind constraints.
@@ -62,6 +66,16 @@ fn at_constraint(items: Items<'_>, fault: ModelError) -> LoadError
     }
 }
 
+/// Takes in what one more declaration declares, and lets the item go.
+fn take_decl<'a>(alloc: Global, scope: &mut Scope<'a>, decl: Decl<'a>) -> Result<(), ModelError>
+    requires kinds { HasKinds scope.old }
+    ensures more { (known : List LocatedDecl) → Declares known scope.old → OnOk result (Declares (known ++ located_decl decl.entry ∷ []) scope.new) }
+    ensures kinds { OnOk result (HasKinds scope.new) }
+    ensures tells { (known : List LocatedDecl) → Declares known scope.old → IfErr result (λ e. Tells e (decl_fault known (located_decl decl.entry))) }
+{
+    declare(alloc, scope, &decl)
+}
+
 /// What all declarations declare, and the items behind them.
 fn declared_in<'a>(
     alloc: Global,
@@ -74,9 +88,44 @@ fn declared_in<'a>(
     ensures declared { (ps : List the_predicate.Predicate) → Declares [] scope.entry → AtDecls ps [] items.entry → IsLoad items.entry.source.now result (λ r. HasDeclared ps r.0 r.1) }
 {
     while let Some(decl) = items.decl()? {
-        if let Err(fault) = declare(alloc, &mut scope, &decl) {
+        if let Err(fault) = take_decl(alloc, &mut scope, decl) {
             return Err(at_decl(items, fault));
         }
     }
     Ok((items, scope))
+}
+
+/// Puts one more constraint behind those that were found, and lets the item go.
+fn take_constraint<'a>(
+    alloc: Global,
+    scope: &Scope<'a>,
+    store: &mut Store,
+    found: &mut Vec<Posted<'a>>,
+    constraint: Constraint<'a>,
+) -> Result<(), ModelError>
+    requires kinds { HasKinds scope.now }
+    ensures more { (known : List LocatedConstraint) → Posts scope.now known store.old found.old.items → OnOk result (Posts scope.now (known ++ located_constraint constraint.entry ∷ []) store.new found.new.items) }
+    ensures tells { IfErr result (λ e. Tells e (constraint_fault_in scope.now (located_constraint constraint.entry))) }
+{
+    post(alloc, scope, store, found, &constraint)
+}
+
+/// What all constraints come to, and the items behind them.
+fn posted_in<'a>(
+    alloc: Global,
+    mut items: Items<'a>,
+    scope: &Scope<'a>,
+    store: &mut Store,
+) -> Result<(Items<'a>, Vec<Posted<'a>>), LoadError>
+    requires kinds { HasKinds scope.now }
+    ensures source { IfOk result (λ r. r.0.source.now ≡ items.entry.source.now) }
+    ensures posted { (ps : List the_predicate.Predicate) (ds : List the_decl.Decl) → Declares (map located_decl ds) scope.now → AtConstraints ps ds [] items.entry → IsLoad items.entry.source.now result (λ r. HasPosted ps ds r.0 scope.now store.new r.1.items) }
+{
+    let mut found = Vec::new(alloc);
+    while let Some(constraint) = items.constraint()? {
+        if let Err(fault) = take_constraint(alloc, scope, store, &mut found, constraint) {
+            return Err(at_constraint(items, fault));
+        }
+    }
+    Ok((items, found))
 }
