@@ -129,3 +129,36 @@ fn posted_in<'a>(
     }
     Ok((items, found))
 }
+
+/// So many bytes of a text are taken for one declaration, where room for the names is made.
+const BYTES_OF_A_DECLARATION: usize = 64;
+
+/// The model of a text, read and loaded item by item.
+fn read_text<'a>(alloc: Global, source: &'a [u8]) -> Result<Model<'a>, LoadError>
+    ensures loaded { IfOk result (IsLoadedFrom source.now) }
+    ensures refused { IfErr result (IsLoadRefusal source.now) }
+{
+    let mut items = Items::new(alloc, source)?;
+    while items.predicate()?.is_some() {}
+    let nothing = empty(alloc, source.len() / BYTES_OF_A_DECLARATION)?;
+    let (items, scope) = declared_in(alloc, items, nothing)?;
+    let mut store = Store::new(alloc);
+    let (items, constraints) = posted_in(alloc, items, &scope, &mut store)?;
+    let solve = items.solve()?;
+    let goal = goal_of(alloc, &scope, &solve.goal)?;
+    Ok(Model::assembled(scope, store, constraints, goal))
+}
+
+/// The model of a text, and no tree of it is held.
+///
+/// # Errors
+///
+/// `Text` with the error of `parse`, or else `Names` with that of `load`: a fault of the text comes
+/// before each of names, wherever it is.
+pub fn load_text<'a>(alloc: Global, source: &'a [u8]) -> Result<Model<'a>, LoadError>
+    ensures loaded { IfOk result (IsLoadedFrom source.now) }
+    ensures text { (e : SyntaxFault) → result ≡ Err (LoadError.Text e) → IsRefused source.now e }
+    ensures names { (e : NameFault) → result ≡ Err (LoadError.Names e) → e ≢ Memory → IsNameFault source.now e }
+{
+    read_text(alloc, source)
+}
