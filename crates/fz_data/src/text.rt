@@ -1,6 +1,6 @@
 //! From a text to its model, item by item: each is let go when it is loaded.
 
-ghost use Rattle.std.specs.Prelude.{◌≡◌, ◌++◌, ◌∷◌, [], IfErr, IfOk, List, None, OnOk, map};
+ghost use Rattle.std.specs.Prelude.{◌≡◌, ◌≢◌, Err, ◌++◌, ◌∷◌, [], IfErr, IfOk, List, None, OnOk, map};
 ghost use Rattle.fz_meaning.specs.Located.{Constraint as LocatedConstraint, Decl as LocatedDecl};
 ghost use Rattle.fz_syntax.specs.Offering.{AtConstraints, AtDecls, AtPredicates, AtSolve, IsAllOf, IsRefused};
 ghost use Rattle.fz_syntax.specs.SyntaxError.{SyntaxError as SyntaxFault};
@@ -16,12 +16,13 @@ ghost use Rattle.fz_data.specs.Posting.{Posts};
 ghost use Rattle.fz_data.specs.Scope.{HasKinds, Tells, constraint_fault_in};
 ghost use Rattle.fz_data.specs.Stands.{Declares};
 ghost use Rattle.fz_data.specs.declared.scope.Scope.{Scope as the_scope};
-ghost use Rattle.fz_data.specs.Texts.{BeginsWithConstraints, BeginsWithDecls, HasDeclared, HasPosted, IsLoad, IsLoadRefusal};
+ghost use Rattle.fz_data.specs.Texts.{BeginsWithConstraints, BeginsWithDecls, HasDeclared, HasPosted, IsLoad, IsLoadRefusal, IsLoadedFrom, IsNameFault};
 
 use crate::error::LoadError;
-use crate::loading::declare;
+use crate::loading::{declare, empty};
+use crate::model::Model;
 use crate::parts::Posted;
-use crate::posting::post;
+use crate::posting::{goal_of, post};
 use crate::scope::Scope;
 use crate::store::Store;
 use fz_meaning::ModelError;

@@ -176,6 +176,9 @@ lexer_refused source e fault none place = record {
   place = place;
 }
 
+pub too_long_refused : (source : List ℕ) → most_bytes < length source → IsRefused source errors.TooLong
+too_long_refused source long = record { no_tree = λ t text. let short = text.lexes.1.short in absurd (omega (arith, short, long)); order = long; place = tt }
+
 pub refused_if : (source : List ℕ) (start : Parser) (r : Refusal) (e : SyntaxError) → ahead start ≡ tokens_ahead source 0 → (IsErrorOf r e → IsWhole same_tree (Err e) (tree_of the_limits (lexemes start))) → IsRefusedBy source r e → IsRefused source e
 refused_if source start r e all reads (by_lexer fault none place) = lexer_refused source e fault none place
 refused_if source start r e all reads (by_grammar lexed of place) = record {

@@ -36,6 +36,7 @@ impl<'a> Items<'a> {
         ensures source { IfOk result (λ i. i.source.now ≡ source.now) }
         ensures too_long { (most_bytes < length source.now) → result ≡ Err TooLong }
         ensures only_too_long { IfErr result (λ e. (e ≡ TooLong) × (most_bytes < length source.now)) }
+        ensures refused { IfErr result (IsRefused source.now) }
     {
         if source.len() > MOST_BYTES {
             return Err(SyntaxError::TooLong);
