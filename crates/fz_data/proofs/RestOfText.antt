@@ -14,8 +14,10 @@ use Rattle.fz_meaning.proofs.ScanSteps.{decls_stop, first_append}
 use Rattle.fz_data.specs.declared.scope.Scope.{Scope}
 use Rattle.fz_data.specs.Scope.{Tells, constraint_fault_in}
 use Rattle.fz_data.specs.Stands.{StandsFor, Declares}
-use Rattle.fz_data.specs.Texts.{TellsOfText, IsNameRefusal}
-use Rattle.fz_data.proofs.Loaded.{told_in_constraints}
+use Rattle.std.specs.Prelude.{◌≢◌}
+use Rattle.fz_meaning.specs.FirstFault.{FirstFaultIsLeftmost}
+use Rattle.fz_data.specs.Texts.{TellsOfText, IsNameFault, IsNameRefusal}
+use Rattle.fz_data.proofs.Loaded.{told_in_constraints, tells_first}
 use Rattle.fz_data.proofs.Tells.{tells_further}
 
 pub offered_more : {X : Type 0} (source : List ℕ) (o : Option X) (More : X → Type 0) (Done : Type 0) → is_some o ≡ true → Offers source (Ok o) More Done → (x : X) × More x
@@ -59,3 +61,11 @@ told_at_constraint t ds cs more c s e decls are h clean tells =
     let stands = subst (λ all. StandsFor all known s) (append-nil known) (h.stands []) in
     told_in_constraints (located_all t) s (subst (λ all. StandsFor all all s) same stands) (subst (λ all. decls_fault [] all ≡ None) same h.clean) e
     (tells_further e _ _ (λ y here. ap (λ (xs : List Constraint). first_some (constraint_fault_in s) (map located_constraint xs)) are ∙ first_between s cs more c y clean here) tells)
+
+-- a refusal of names tells the leftmost fault
+pub name_fault : (source : List ℕ) (e : ModelError) → FirstFaultIsLeftmost → e ≢ names.Memory → IsNameRefusal source e → IsNameFault source e
+name_fault source names.Memory law not h = absurd (not refl)
+name_fault source (names.DuplicateName at) law not h = record { all = h.all; text = h.text; tells = λ order. tells_first (located_all h.all) (names.DuplicateName at) law order h.tells }
+name_fault source (names.UnknownName at) law not h = record { all = h.all; text = h.text; tells = λ order. tells_first (located_all h.all) (names.UnknownName at) law order h.tells }
+name_fault source (names.Kind at) law not h = record { all = h.all; text = h.text; tells = λ order. tells_first (located_all h.all) (names.Kind at) law order h.tells }
+name_fault source (names.Length at) law not h = record { all = h.all; text = h.text; tells = λ order. tells_first (located_all h.all) (names.Length at) law order h.tells }
