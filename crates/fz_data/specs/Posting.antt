@@ -1,4 +1,5 @@
--- Only private functions use these: what a store's parts stand for while a model is loaded, whatever more comes behind them.
+-- Only private functions use these: what a store's parts stand for while a model is loaded,
+-- whatever more comes behind them.
 use Rattle.std.specs.Prelude.{◌≡◌, List, map}
 use Rattle.fz_base.specs.declared.value.Value.{Value}
 use Rattle.fz_meaning.specs.Meaning as meaning

@@ -225,7 +225,8 @@ fn target_of(scope: &Scope<'_>, notes: &[Note<'_>]) -> Option<usize>
     None
 }
 
-/// A constraint, with the row that it fits and the variable that its first whole `defines_var` names.
+/// A constraint, with the row that it fits and the variable that its first whole `defines_var`
+/// names.
 fn posted<'a>(
     alloc: Global,
     scope: &Scope<'a>,
