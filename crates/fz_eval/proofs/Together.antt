@@ -1,14 +1,10 @@
 -- Whether all points hold, from whether those of the declarations do.
-use Rattle.std.proofs.Common.{◌≡◌, ℕ, zero, suc, pred, option_map, option_and_then, ◌+◌, ◌<◌, ◌≤◌, Bool, true, false, ◌&&◌, List, [], ◌∷◌, ◌++◌, map, flat_map, length, take, Option, Some, None, slice_get, refl, sym, ap, ◌∙◌, arith, length-append}
+use Rattle.std.proofs.Common.{◌≡◌, ℕ, zero, suc, ◌+◌, ◌<◌, ◌≤◌, Bool, true, false, ◌&&◌, List, [], ◌∷◌, ◌++◌, map, flat_map, length, take, Some, slice_get, refl, sym, ap, ◌∙◌, arith, length-append}
 use Rattle.std.specs.List.{list_all}
-use Rattle.std.specs.Option.{option_map_or}
 use Rattle.std.proofs.lemmas.Bool.{false≢true}
 use Rattle.std.proofs.lemmas.List.{length-map}
-use Rattle.std.proofs.lemmas.List.Folds.{list_all-append}
-use Rattle.std.proofs.lemmas.Option.{slice_get-map, same_Some}
 use Rattle.fz_meaning.specs.Meaning.{Model, Partial, Point, Posted, constraint_points, declared_points, numbered, points}
 use Rattle.fz_meaning.proofs.Values.{and_first, and_second}
-use Rattle.fz_eval.specs.Holding.{point_holds}
 
 -- ---- one after another
 

@@ -1,4 +1,4 @@
-use Rattle.std.proofs.Common.{◌≡◌, ◌+◌, ◌-◌, length, sym, ◌∙◌, arith}
+use Rattle.std.proofs.Common.{◌-◌, length, sym, ◌∙◌, arith}
 use Rattle.fz_meaning.specs.Meaning.{points, shown_posted as shown}
 use Rattle.fz_data.specs.Shown.{shown_posted}
 use Rattle.fz_eval.specs.Holding.{point_holds}
