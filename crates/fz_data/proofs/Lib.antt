@@ -9,9 +9,11 @@ pub mod Added
 pub mod Knows
 pub mod Loops
 pub mod Next
+pub mod OneMore
 pub mod OwnKinds
 pub mod Tabled
 pub mod Loaded
+pub mod RestOfText
 pub mod NameTable
 pub mod Grown
 pub mod Flat

@@ -8,6 +8,7 @@ pub mod Fitting
 pub mod Scope
 pub mod Posting
 pub mod Stands
+pub mod Texts
 pub mod Naming
 pub mod Names
 pub mod Hashing

@@ -1,16 +1,19 @@
 -- Only private functions use these: what a store's parts stand for while a model is loaded,
 -- whatever more comes behind them.
-use Rattle.std.specs.Prelude.{◌≡◌, List, map}
+use Rattle.std.specs.Prelude.{◌≡◌, List, None, map}
 use Rattle.fz_base.specs.declared.value.Value.{Value}
+use Rattle.fz_meaning.specs.Located.{Constraint}
 use Rattle.fz_meaning.specs.Meaning as meaning
+use Rattle.fz_meaning.specs.Meaning.{first_some, row_of}
 use Rattle.fz_data.specs.declared.store.Slot.{Slot}
 use Rattle.fz_data.specs.declared.store.Segment.{Segment}
 use Rattle.fz_data.specs.declared.store.Argument.{Argument}
 use Rattle.fz_data.specs.declared.store.Store.{Store}
 use Rattle.fz_data.specs.declared.parts.Posted.{Posted}
 use Rattle.fz_data.specs.declared.scope.Scope.{Scope}
+use Rattle.fz_data.specs.Scope.{constraint_fault_in, posted_in}
 use Rattle.fz_data.specs.Slots.{IsGrown, segment}
-use Rattle.fz_data.specs.Parts.{place_view, argument_view, posted_view}
+use Rattle.fz_data.specs.Parts.{place_view, argument_view, posted_view, kept_row}
 
 -- there may be more behind each list
 pub record IsLonger (before after : Store) : Type 0 where
@@ -32,3 +35,9 @@ AreArgumentsOf s st xs g = (later : Store) → IsLonger st later → map (argume
 
 abbrev pub IsPostedOf : Scope → Store → meaning.Posted → Posted → Type 0
 IsPostedOf s st x p = (later : Store) → IsLonger st later → posted_view s.variables.items s.arrays.items later p ≡ x
+
+-- The constraints so far have no fault, and what was found reads as they are looked up, whatever the store gets behind it, each with its row.
+pub record Posts (s : Scope) (known : List Constraint) (store : Store) (found : List Posted) : Type 0 where
+  pub clean : first_some (constraint_fault_in s) known ≡ None
+  pub views : (later : Store) → IsLonger store later → map (posted_view s.variables.items s.arrays.items later) found ≡ map (posted_in s) known
+  pub rows : map kept_row found ≡ map row_of (map (posted_in s) known)

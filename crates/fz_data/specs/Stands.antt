@@ -1,7 +1,8 @@
 -- Only private functions use these: what was declared so far stands for declarations, whatever more variables and arrays come.
-use Rattle.std.specs.Prelude.{◌≡◌, ℕ, ◌++◌, List, map, flat_map}
+use Rattle.std.specs.Prelude.{◌≡◌, ℕ, ◌++◌, List, [], None, map, flat_map}
 use Rattle.std.specs.List.{AllByRecursion}
 use Rattle.fz_meaning.specs.Located.{Decl}
+use Rattle.fz_meaning.specs.FirstFault.{decls_fault}
 use Rattle.fz_meaning.specs.Meaning as meaning
 use Rattle.fz_meaning.specs.Meaning.{Place, declared_points, numbered_from}
 use Rattle.fz_meaning.specs.Names.{scalar_variables, place_of_declared, declared_of, variable_declared}
@@ -39,3 +40,8 @@ pub record Stands (all known : List Decl) (es : List Entry) (vs : List Variable)
 -- the scope stands for the first of all declarations
 abbrev pub StandsFor : List Decl → List Decl → Scope → Type 0
 StandsFor all known s = Stands all known s.names s.variables.items s.arrays.items s.points.items
+
+-- The declarations so far have no fault, and the scope stands for them, whatever others come.
+pub record Declares (known : List Decl) (s : Scope) : Type 0 where
+  pub clean : decls_fault [] known ≡ None
+  pub stands : (rest : List Decl) → StandsFor (known ++ rest) known s

@@ -3,6 +3,7 @@
 #![tactic(auto)]
 
 mod declaring;
+mod error;
 mod found;
 mod hashing;
 mod loading;
@@ -16,8 +17,10 @@ mod posting;
 mod rows;
 mod scope;
 mod store;
+mod text;
 mod values;
 
+pub use error::LoadError;
 pub use found::{Found, Scalars, What};
 pub use loading::load;
 pub use model::Model;

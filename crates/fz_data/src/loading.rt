@@ -1,12 +1,13 @@
 //! From a tree to its model: each name is looked up once.
 
-ghost use Rattle.std.specs.Prelude.{◌≡◌, [], IfErr, IfOk, None, map};
+ghost use Rattle.std.specs.Prelude.{◌≡◌, ◌++◌, ◌∷◌, [], IfErr, IfOk, List, None, OnOk, map};
+ghost use Rattle.fz_meaning.specs.Located.{Decl as LocatedDecl};
 ghost use Rattle.fz_meaning.specs.declared.error.ModelError.TheVariants.{Memory};
 ghost use Rattle.fz_meaning.specs.Names.{HasNoFault, IsInReadingOrder, model_of};
 ghost use Rattle.fz_meaning.specs.View.{TellsFault, TellsFirstFault, located, located_decl};
-ghost use Rattle.fz_meaning.specs.FirstFault.{decls_fault, first_fault};
+ghost use Rattle.fz_meaning.specs.FirstFault.{decl_fault, decls_fault, first_fault};
 ghost use Rattle.fz_data.specs.Scope.{HasKinds, Tells};
-ghost use Rattle.fz_data.specs.Stands.{StandsFor};
+ghost use Rattle.fz_data.specs.Stands.{Declares, StandsFor};
 
 use crate::declaring::item_of;
 use crate::model::Model;
@@ -19,7 +20,7 @@ use fz_syntax::{Ast, Decl};
 use std::alloc::Global;
 
 /// Nothing declared yet, with room for this many names.
-fn empty<'a>(alloc: Global, names: usize) -> Result<Scope<'a>, ModelError>
+pub(crate) fn empty<'a>(alloc: Global, names: usize) -> Result<Scope<'a>, ModelError>
     ensures names { IfOk result (λ s. s.names ≡ []) }
     ensures variables { IfOk result (λ s. s.variables.items ≡ []) }
     ensures kinds { IfOk result HasKinds }
@@ -36,6 +37,22 @@ fn empty<'a>(alloc: Global, names: usize) -> Result<Scope<'a>, ModelError>
     })
 }
 
+/// Takes in what one more declaration declares. It refuses the first fault at it.
+pub(crate) fn declare<'a>(
+    alloc: Global,
+    scope: &mut Scope<'a>,
+    decl: &Decl<'a>,
+) -> Result<(), ModelError>
+    requires kinds { HasKinds scope.old }
+    ensures more { (known : List LocatedDecl) → Declares known scope.old → OnOk result (Declares (known ++ located_decl decl.now ∷ []) scope.new) }
+    ensures kinds { OnOk result (HasKinds scope.new) }
+    ensures tells { (known : List LocatedDecl) → Declares known scope.old → IfErr result (λ e. Tells e (decl_fault known (located_decl decl.now))) }
+{
+    let item = item_of(alloc, scope, decl)?;
+    add(scope, decl.name.text, item)?;
+    Ok(())
+}
+
 /// What all declarations declare. It refuses the first fault in them.
 fn declared<'a>(alloc: Global, decls: &[Decl<'a>]) -> Result<Scope<'a>, ModelError>
     ensures clean { IfOk result (λ _. decls_fault [] (map located_decl decls.now) ≡ None) }
@@ -45,8 +62,7 @@ fn declared<'a>(alloc: Global, decls: &[Decl<'a>]) -> Result<Scope<'a>, ModelErr
 {
     let mut scope = empty(alloc, decls.len())?;
     for decl in decls {
-        let item = item_of(alloc, &scope, decl)?;
-        add(&mut scope, decl.name.text, item)?;
+        declare(alloc, &mut scope, decl)?;
     }
     Ok(scope)
 }

@@ -1,6 +1,7 @@
 //! Constraints and the goal, with their names looked up.
 
-ghost use Rattle.std.specs.Prelude.{◌≡◌, IfErr, IfOk, None, OnOk, Some, map, option_map};
+ghost use Rattle.std.specs.Prelude.{◌≡◌, ◌++◌, ◌∷◌, [], IfErr, IfOk, List, None, OnOk, Some, map, option_map};
+ghost use Rattle.fz_meaning.specs.Located.{Constraint as LocatedConstraint};
 ghost use Rattle.fz_meaning.specs.declared.kind.Kind.TheVariants.{Int as IntKind};
 ghost use Rattle.fz_meaning.specs.Located.Basic.{Named};
 ghost use Rattle.fz_meaning.specs.Meaning.{first_some, row_of};
@@ -9,7 +10,7 @@ ghost use Rattle.fz_meaning.specs.View.{located_basic, located_constraint, locat
 ghost use Rattle.fz_syntax.specs.View.{arg_list, bare_arg, bare_basic, bare_note, bare_notes};
 ghost use Rattle.fz_syntax.specs.Tree.NoteArg.{OneBasic};
 ghost use Rattle.fz_data.specs.Parts.{goal_view, kept_row, posted_view};
-ghost use Rattle.fz_data.specs.Posting.{AreArgumentsOf, ArePlacesOf, IsArgumentOf, IsLonger, IsPlaceOf, IsPostedOf};
+ghost use Rattle.fz_data.specs.Posting.{AreArgumentsOf, ArePlacesOf, IsArgumentOf, IsLonger, IsPlaceOf, IsPostedOf, Posts};
 ghost use Rattle.fz_data.specs.Scope.{HasKinds, Tells, aim_in, argument_fault, argument_in, constraint_fault_in, defined_in, bare_name_of, fault_in, faults_in, inner_of, only_arg, place_in, place_of_part, posted_in, variable_at_term, variable_by_place};
 ghost use Rattle.fz_data.specs.Slots.{IsGrown};
 
@@ -256,6 +257,23 @@ fn posted<'a>(
     })
 }
 
+/// Puts one more constraint behind those that were found. It refuses the first fault at it.
+pub(crate) fn post<'a>(
+    alloc: Global,
+    scope: &Scope<'a>,
+    store: &mut Store,
+    found: &mut Vec<Posted<'a>>,
+    constraint: &Constraint<'a>,
+) -> Result<(), ModelError>
+    requires kinds { HasKinds scope.now }
+    ensures more { (known : List LocatedConstraint) → Posts scope.now known store.old found.old.items → OnOk result (Posts scope.now (known ++ located_constraint constraint.now ∷ []) store.new found.new.items) }
+    ensures tells { IfErr result (λ e. Tells e (constraint_fault_in scope.now (located_constraint constraint.now))) }
+{
+    let one = posted(alloc, scope, store, constraint)?;
+    found.push(one)?;
+    Ok(())
+}
+
 /// The constraints, in source order.
 pub(crate) fn all_posted<'a>(
     alloc: Global,
@@ -264,15 +282,12 @@ pub(crate) fn all_posted<'a>(
     constraints: &[Constraint<'a>],
 ) -> Result<Vec<Posted<'a>>, ModelError>
     requires kinds { HasKinds scope.now }
-    ensures known { IfOk result (λ _. first_some (constraint_fault_in scope.now) (map located_constraint constraints.now) ≡ None) }
-    ensures posted { IfOk result (λ ps. map (posted_view scope.now.variables.items scope.now.arrays.items store.new) ps.items ≡ map (posted_in scope.now) (map located_constraint constraints.now)) }
-    ensures rows { IfOk result (λ ps. map kept_row ps.items ≡ map row_of (map (posted_in scope.now) (map located_constraint constraints.now))) }
+    ensures posts { IfOk result (λ ps. Posts scope.now (map located_constraint constraints.now) store.new ps.items) }
     ensures tells { IfErr result (λ e. Tells e (first_some (constraint_fault_in scope.now) (map located_constraint constraints.now))) }
 {
     let mut found = Vec::with_capacity(alloc, constraints.len())?;
     for constraint in constraints {
-        let one = posted(alloc, scope, store, constraint)?;
-        found.push(one)?;
+        post(alloc, scope, store, &mut found, constraint)?;
     }
     Ok(found)
 }

@@ -1,5 +1,6 @@
 -- What the parser's tree and a refusal of names stand for: the tree with its places, and the leftmost fault (this project's profile).
 use Rattle.std.specs.Prelude.{map, option_map, Option, ⊤}
+use Rattle.fz_syntax.specs.Offering.{TreeItems}
 use Rattle.fz_syntax.specs.View.{bare_literal, bare_base, bare_notes, bare_predicate}
 use Rattle.fz_syntax.specs.declared.tree.Ast.{Ast}
 use Rattle.fz_syntax.specs.declared.tree.Basic as the_basic
@@ -57,6 +58,10 @@ located_solve s = record { notes = bare_notes s.notes.items; goal = located_goal
 -- the tree with its places
 abbrev pub located : Ast → LocatedTree
 located a = record { predicates = map bare_predicate a.predicates.items; decls = map located_decl a.decls.items; constraints = map located_constraint a.constraints.items; solve = located_solve a.solve }
+
+-- the same of a tree by its items
+abbrev pub located_all : TreeItems → LocatedTree
+located_all t = record { predicates = map bare_predicate t.predicates; decls = map located_decl t.decls; constraints = map located_constraint t.constraints; solve = located_solve t.solve }
 
 -- ---- refusals
 

@@ -8,7 +8,7 @@ use Rattle.fz_syntax.specs.Shape.{Limits}
 use Rattle.fz_syntax.specs.Reading.{Fault, Read, ◌>>=◌}
 use Rattle.fz_syntax.specs.ReadingItems.{index_set_at, index_sets_at}
 use Rattle.fz_syntax.specs.Outcome.{Fails}
-use Rattle.fz_syntax.proofs.Lists.{with_front}
+use Rattle.fz_syntax.specs.Offering.{with_front}
 use Rattle.fz_syntax.proofs.Separated.{fails_like}
 use Rattle.fz_syntax.proofs.Running.{front_of_none}
 

@@ -12,6 +12,7 @@ pub mod NoteAgain
 pub mod Whole
 pub mod Words
 pub mod Parsed
+pub mod Offers
 pub mod Rows
 pub mod ItemAgain
 pub mod TreeAgain

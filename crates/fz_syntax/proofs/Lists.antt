@@ -2,6 +2,7 @@
 use Rattle.std.proofs.Common.{◌≡◌, ℕ, zero, suc, ◌+◌, ◌≤◌, ◌<◌, Bool, true, false, cond, List, [], ◌∷◌, ◌++◌, length, Ok, Err, refl, sym, ap, ◌∙◌, append_assoc, arith}
 use Rattle.std.proofs.lemmas.List.{append-nil}
 use Rattle.fz_lex.specs.Token.{TokenValue}
+use Rattle.fz_syntax.specs.Offering.{with_front}
 use Rattle.fz_syntax.specs.Reading.{Fault, Read, Reader, ◌>>=◌, next_passes, many_upto, many_at}
 
 abbrev done : {A : Type 0} → A × List TokenValue → Read A
@@ -18,10 +19,6 @@ ok_is x y e = cc
 -- a part that is read takes a token at least
 abbrev pub Shrinks : {A : Type 0} → (ℕ → Reader A) → Type 0
 Shrinks {A} part = (i : ℕ) (tokens : List TokenValue) (x : A) (rest : List TokenValue) → part i tokens ≡ Ok (x, rest) → length rest < length tokens
-
--- what was read before, and what is still read
-abbrev pub with_front : {A : Type 0} → List A → Read (List A) → Read (List A)
-with_front front read = read >>= λ x. Ok (front ++ x.0, x.1)
 
 bind_same : {A B : Type 0} (r : Read A) (f g : A × List TokenValue → Read B) → ((x : A × List TokenValue) → r ≡ Ok x → f x ≡ g x) → (r >>= f) ≡ (r >>= g)
 bind_same (Ok x) f g h = h x refl

@@ -11,9 +11,8 @@ use Rattle.fz_lex.proofs.Texts.{words_are_words}
 use Rattle.fz_lex.proofs.AheadLaws.{lexed_ahead}
 use Rattle.fz_lex.specs.declared.error.SyntaxError.{SyntaxError}
 use Rattle.fz_lex.specs.declared.error.SyntaxError.TheVariants as errors
-use Rattle.fz_syntax.specs.View.{bare, bare_printed, bare_items}
+use Rattle.fz_syntax.specs.View.{bare_printed, bare_items}
 use Rattle.fz_syntax.specs.declared.parser.cursor.Parser.{Parser}
-use Rattle.fz_syntax.specs.declared.tree.Ast.{Ast}
 use Rattle.fz_syntax.specs.declared.tree.Printed.{Printed as Item}
 use Rattle.fz_syntax.specs.Tree.{Tree, Printed}
 use Rattle.fz_syntax.specs.Tokens.{toks, itoks}
@@ -49,21 +48,21 @@ module _ (source : List ℕ) (p : Parser) (all : ahead p ≡ tokens_ahead source
   text_of ts short lexes numbers e = (tokens_ahead source 0, record { short = short; lexes = lexes; numbers = numbers }, seen ts e)
 
   -- the tree that was read is one of which the source is a text
-  pub tree_found : (a : Ast) → length source ≤ most_bytes → LexesToSpanned source (tokens_ahead source 0) → AreWithinLimit (tokens_ahead source 0) → tree_of the_limits (lexemes p) ≡ Ok (bare a) → IsTextOfTree source (bare a)
+  pub tree_found : (t : Tree) → length source ≤ most_bytes → LexesToSpanned source (tokens_ahead source 0) → AreWithinLimit (tokens_ahead source 0) → tree_of the_limits (lexemes p) ≡ Ok t → IsTextOfTree source t
   unfolding tree_of
-  tree_found a short lexes numbers read =
-      let result : Result Ast SyntaxError = Ok a in
-      let h = found_of bare toks (HasShape the_limits) (tree_at the_limits) (tree_takes the_limits) result (lexemes p) read in
+  tree_found t short lexes numbers read =
+      let result : Result Tree SyntaxError = Ok t in
+      let h = found_of (λ (u : Tree). u) toks (HasShape the_limits) (tree_at the_limits) (tree_takes the_limits) result (lexemes p) read in
       record {
-        lexes = text_of (toks (bare a)) short lexes numbers h.1;
-        of_grammar = record { shape = h.0; texts = subst (AllByRecursion IsTokenText) (seen (toks (bare a)) h.1) (of_values (tokens_ahead source 0) (words_are_words source (tokens_ahead source 0) lexes)) };
+        lexes = text_of (toks t) short lexes numbers h.1;
+        of_grammar = record { shape = h.0; texts = subst (AllByRecursion IsTokenText) (seen (toks t) h.1) (of_values (tokens_ahead source 0) (words_are_words source (tokens_ahead source 0) lexes)) };
       }
 
   -- a tree of which the source is a text is the one that was read
-  pub tree_only : (result : Result Ast SyntaxError) → IsWhole bare result (tree_of the_limits (lexemes p)) → (t : Tree) → IsTextOfTree source t → IsValue bare result t
+  pub tree_only : (result : Result Tree SyntaxError) → IsWhole (λ (u : Tree). u) result (tree_of the_limits (lexemes p)) → (t : Tree) → IsTextOfTree source t → IsValue (λ (u : Tree). u) result t
   unfolding tree_of
   tree_only result read t text =
-      only_of bare toks (HasShape the_limits) (tree_at the_limits) (tree_of_toks the_limits) result (lexemes p) read t text.of_grammar.shape (ap values all ∙ tokens_are source (toks t) text.lexes)
+      only_of (λ (u : Tree). u) toks (HasShape the_limits) (tree_at the_limits) (tree_of_toks the_limits) result (lexemes p) read t text.of_grammar.shape (ap values all ∙ tokens_are source (toks t) text.lexes)
 
   -- the items that were read are some of which the source is a text
   pub items_found : (v : Vec Item Global) → length source ≤ most_bytes → LexesToSpanned source (tokens_ahead source 0) → AreWithinLimit (tokens_ahead source 0) → items_of the_limits (lexemes p) ≡ Ok (bare_items v.items) → IsTextOfItems source (bare_items v.items)

@@ -1,5 +1,5 @@
 -- The names and literals of a tree and of printed items fit their placed tokens.
-use Rattle.std.proofs.Common.{◌≡◌, List, [], ◌∷◌, ◌++◌, length, Option, Some, None, sym, subst, ◌∙◌, append_assoc}
+use Rattle.std.proofs.Common.{◌≡◌, List, [], ◌∷◌, ◌++◌, length, Option, Some, None, subst, ◌∙◌, append_assoc}
 use Rattle.std.specs.Prelude.{codes}
 use Rattle.std.specs.List.{flat_map}
 use Rattle.fz_lex.specs.Token.{Marked}
@@ -19,13 +19,13 @@ use Rattle.fz_syntax.specs.declared.tree.Constraint.{Constraint}
 use Rattle.fz_syntax.specs.declared.tree.Goal.{Goal}
 use Rattle.fz_syntax.specs.declared.tree.Goal.TheVariants as goals
 use Rattle.fz_syntax.specs.declared.tree.Solve.{Solve}
-use Rattle.fz_syntax.specs.declared.tree.Ast.{Ast}
 use Rattle.fz_syntax.specs.declared.tree.PrintedValue.{PrintedValue}
 use Rattle.fz_syntax.specs.declared.tree.PrintedValue.TheVariants as printed
 use Rattle.fz_syntax.specs.declared.tree.Printed.{Printed}
 use Rattle.fz_syntax.specs.declared.tree.Note.{Note}
-use Rattle.fz_syntax.specs.Spots.{Spot, name_spots, literal_spots, basic_spots, expr_spots, bounds_spots, base_spots, param_spots, predicate_spots, value_spots, note_spots, decl_spots, constraint_spots, goal_spots, solve_spots, spots, printed_value_spots, printed_spots, item_spots}
-use Rattle.fz_syntax.specs.Placed.{PlacedToken, unplaced, plain, placed_mark, placed_word, placed_basic, placed_expr, placed_literal, placed_note, placed_notes, placed_bounds, placed_base, placed_param, placed_predicate, placed_value, placed_decl, placed_constraint, placed_goal, placed_solve, placed_tree, placed_printed_value, placed_printed, placed_items}
+use Rattle.fz_syntax.specs.Spots.{Spot, name_spots, literal_spots, basic_spots, expr_spots, bounds_spots, base_spots, param_spots, predicate_spots, value_spots, note_spots, decl_spots, constraint_spots, goal_spots, solve_spots, printed_value_spots, printed_spots, item_spots}
+use Rattle.fz_syntax.specs.Offering.{TreeItems, placed_all, spots_all}
+use Rattle.fz_syntax.specs.Placed.{unplaced, plain, placed_mark, placed_word, placed_basic, placed_expr, placed_literal, placed_note, placed_notes, placed_bounds, placed_base, placed_param, placed_predicate, placed_value, placed_decl, placed_constraint, placed_goal, placed_solve, placed_printed_value, placed_printed, placed_items}
 use Rattle.fz_syntax.proofs.Fits.{Fits, fits_plain, fits_skip, fits_end, fits_then, fits_separated, fits_between, fits_each, fits_literal, fits_name}
 use Rattle.fz_syntax.proofs.PlacedNotes.{fits_note}
 
@@ -88,12 +88,12 @@ fits_goal (goals.Maximize e) = fits_skip (placed_word (codes "maximize")) (fits_
 fits_solve : (s : Solve) → Fits (placed_solve s) (solve_spots s)
 fits_solve s = fits_end (fits_then (fits_skip (placed_word (codes "solve")) (fits_notes s.notes.items)) (fits_goal s.goal)) (placed_mark Semicolon)
 
-pub fits_tree : (a : Ast) → Fits (placed_tree a) (spots a)
-fits_tree a =
-    subst (λ (s : List Spot). Fits (placed_tree a) s) (to_right (flat_map predicate_spots a.predicates.items) (flat_map decl_spots a.decls.items) (flat_map constraint_spots a.constraints.items) (solve_spots a.solve))
+pub fits_all : (t : TreeItems) → Fits (placed_all t) (spots_all t)
+fits_all t =
+    subst (λ (s : List Spot). Fits (placed_all t) s) (to_right (flat_map predicate_spots t.predicates) (flat_map decl_spots t.decls) (flat_map constraint_spots t.constraints) (solve_spots t.solve))
     (fits_then
-    (fits_then (fits_then (fits_each placed_predicate predicate_spots fits_predicate a.predicates.items) (fits_each placed_decl decl_spots fits_decl a.decls.items)) (fits_each placed_constraint constraint_spots fits_constraint a.constraints.items))
-    (fits_solve a.solve))
+    (fits_then (fits_then (fits_each placed_predicate predicate_spots fits_predicate t.predicates) (fits_each placed_decl decl_spots fits_decl t.decls)) (fits_each placed_constraint constraint_spots fits_constraint t.constraints))
+    (fits_solve t.solve))
 
 -- ---- printed items
 

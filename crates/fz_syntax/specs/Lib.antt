@@ -10,6 +10,7 @@ pub mod ReadingItems
 pub mod Outcome
 pub mod Placed
 pub mod Walk
+pub mod Offering
 pub mod Words
 pub use Rattle.fz_lex.specs.Byte
 pub use Rattle.fz_lex.specs.Token

@@ -3,6 +3,7 @@
 
 mod parser;
 mod printer;
+mod reader;
 mod tree;
 
 ghost use Rattle.fz_syntax.specs.Text.{TextHasOneTree, TextHasOneListOfItems};
@@ -11,6 +12,7 @@ pub use fz_lex::fz_base::Span;
 pub use fz_lex::{Mark, SyntaxError, Token, TokenKind, lex};
 pub use parser::{parse, read_items};
 pub use printer::to_text;
+pub use reader::Items;
 pub use tree::{
     Ast, Base, Basic, Constraint, Decl, Expr, Goal, Literal, LiteralKind, Name, Note, NoteArg,
     NoteBasic, Param, Predicate, Printed, PrintedValue, Solve,

@@ -18,40 +18,20 @@ ghost use Rattle.fz_lex.specs.Limits.{most_bytes};
 ghost use Rattle.fz_lex.specs.declared.error.SyntaxError.TheVariants.{TooLong, Memory};
 
 mod annotations;
-mod cursor;
+pub(crate) mod cursor;
 mod expressions;
 mod items;
 mod kinds;
-mod lists;
+pub(crate) mod lists;
 mod printed;
-mod refusal;
+pub(crate) mod refusal;
 mod types;
-mod whole;
 
 use crate::parser::cursor::Parser;
+use crate::reader::Items;
 use crate::tree::{Ast, Printed};
 use fz_lex::{MOST_BYTES, SyntaxError, check_tokens};
 use std::alloc::Global;
-
-/// The tree that the tokens are that are left, up to the end of the source or its first lexical fault.
-#[tactic(auto, unfolding(crate::specs::Reading::tree_of, crate::specs::Reading::ended))]
-fn read_all<'a>(parser: &mut Parser<'a>) -> Result<Ast<'a>, SyntaxError>
-    ensures whole { IsWhole bare result (tree_of the_limits (lexemes parser.old)) }
-    ensures placed { IfErr result (IsPlacedWithin parser.old.end) }
-    ensures walked { IfOk result (λ a. Walk parser.old parser.new (placed_tree a)) }
-    ensures ended { IfOk result (λ _. ahead parser.new ≡ []) }
-{
-    match parser.tree() {
-        Ok(ast) => {
-            if parser.tokens.first().is_none() {
-                Ok(ast)
-            } else {
-                Err(parser.refused(parser.unexpected()))
-            }
-        }
-        Err(refusal) => Err(parser.refused(refusal)),
-    }
-}
 
 /// The printed items that the tokens are that are left.
 #[tactic(auto, unfolding(crate::specs::ReadingItems::items_of, crate::specs::ReadingItems::items_at, crate::specs::Reading::ended))]
@@ -107,20 +87,17 @@ pub fn parse<'a>(alloc: Global, source: &'a [u8]) -> Result<Ast<'a>, SyntaxError
     // So the names and literals stand one behind the other, each name with its text.
     ensures stands { IfOk result (λ a. Stand source.now 0 (length source.now) (spots a)) }
 {
-    if source.len() > MOST_BYTES {
-        return Err(SyntaxError::TooLong);
-    }
-    let mut parser = Parser::new(alloc, source);
-    match read_all(&mut parser) {
-        Ok(ast) => {
-            parser.tokens.finish()?;
-            Ok(ast)
-        }
-        Err(error) => {
-            check_tokens(source)?;
-            Err(error)
-        }
-    }
+    let mut items = Items::new(alloc, source)?;
+    let predicates = items.predicates()?;
+    let decls = items.decls()?;
+    let constraints = items.constraints()?;
+    let solve = items.solve()?;
+    Ok(Ast {
+        predicates,
+        decls,
+        constraints,
+        solve,
+    })
 }
 
 /// The items of a text that a solver printed: `name = value;` each, in order. Spans count from the first byte of the

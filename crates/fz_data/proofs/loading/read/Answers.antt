@@ -6,6 +6,7 @@ use Rattle.fz_meaning.specs.FirstFault.{decls_fault}
 use Rattle.fz_data.specs.Parts.{posted_view, kept_row}
 use Rattle.fz_data.specs.Scope.{Tells, posted_in, constraint_fault_in}
 use Rattle.fz_data.specs.Stands.{StandsFor}
+use Rattle.fz_data.proofs.Grown.{longer_none}
 use Rattle.fz_data.proofs.Loaded.{laid_out, model_is, told_in_constraints, told_in_goal, none_anywhere}
 use Rattle.fz_data.proofs.loading.read.Goals as goal
 
@@ -25,7 +26,7 @@ returns-in_err-goal-clause-tells c =
     let p = err_from_is_err_and c.from_residual-in_err-goal.result c.from_residual-in_err-goal.ensures.1 in
     let stands = subst (λ ds. StandsFor (map located_decl ds) (map located_decl ds) s) c.deref.ensures.value c.in_ok-scope.ensures.stands in
     let clean = subst (λ ds. decls_fault [] (map located_decl ds) ≡ None) c.deref.ensures.value c.in_ok-scope.ensures.clean in
-    let known = subst (λ cs. first_some (constraint_fault_in s) (map located_constraint cs) ≡ None) c.deref-2.ensures.value c.in_ok-constraints.ensures.known in
+    let known = subst (λ cs. first_some (constraint_fault_in s) (map located_constraint cs) ≡ None) c.deref-2.ensures.value c.in_ok-constraints.ensures.posts.clean in
     rw (p.1, p.2) (told_in_goal t s stands clean known _ c.in_err-goal.ensures.tells)
 
 pub assembled-requires : goal.assembled-requires
@@ -34,8 +35,8 @@ assembled-requires c =
     let s = c.in_ok-scope.scope in
     let stands = subst (λ ds. StandsFor (map located_decl ds) (map located_decl ds) s) c.deref.ensures.value c.in_ok-scope.ensures.stands in
     let clean = subst (λ ds. decls_fault [] (map located_decl ds) ≡ None) c.deref.ensures.value c.in_ok-scope.ensures.clean in
-    let posted = subst (λ cs. map (posted_view s.variables.items s.arrays.items c.all_posted.new.store) c.in_ok-constraints.constraints.items ≡ map (posted_in s) (map located_constraint cs)) c.deref-2.ensures.value c.in_ok-constraints.ensures.posted in
-    let rows = subst (λ cs. map kept_row c.in_ok-constraints.constraints.items ≡ map row_of (map (posted_in s) (map located_constraint cs))) c.deref-2.ensures.value c.in_ok-constraints.ensures.rows in
+    let posted = subst (λ cs. map (posted_view s.variables.items s.arrays.items c.all_posted.new.store) c.in_ok-constraints.constraints.items ≡ map (posted_in s) (map located_constraint cs)) c.deref-2.ensures.value (c.in_ok-constraints.ensures.posts.views c.all_posted.new.store (longer_none c.all_posted.new.store)) in
+    let rows = subst (λ cs. map kept_row c.in_ok-constraints.constraints.items ≡ map row_of (map (posted_in s) (map located_constraint cs))) c.deref-2.ensures.value c.in_ok-constraints.ensures.posts.rows in
     record {
       laid_out = laid_out t s c.all_posted.new.store c.in_ok-constraints.constraints c.in_ok-goal.goal stands clean posted c.in_ok-goal.ensures.clean c.in_ok-goal.ensures.aim rows;
     }
@@ -46,7 +47,7 @@ returns-clause-clean c =
     let s = c.in_ok-scope.scope in
     let stands = subst (λ ds. StandsFor (map located_decl ds) (map located_decl ds) s) c.deref.ensures.value c.in_ok-scope.ensures.stands in
     let clean = subst (λ ds. decls_fault [] (map located_decl ds) ≡ None) c.deref.ensures.value c.in_ok-scope.ensures.clean in
-    let known = subst (λ cs. first_some (constraint_fault_in s) (map located_constraint cs) ≡ None) c.deref-2.ensures.value c.in_ok-constraints.ensures.known in
+    let known = subst (λ cs. first_some (constraint_fault_in s) (map located_constraint cs) ≡ None) c.deref-2.ensures.value c.in_ok-constraints.ensures.posts.clean in
     none_anywhere t s stands clean known c.in_ok-goal.ensures.clean
 
 pub returns-clause-model : goal.returns-clause-model
@@ -55,5 +56,5 @@ returns-clause-model c =
     let s = c.in_ok-scope.scope in
     let stands = subst (λ ds. StandsFor (map located_decl ds) (map located_decl ds) s) c.deref.ensures.value c.in_ok-scope.ensures.stands in
     let clean = subst (λ ds. decls_fault [] (map located_decl ds) ≡ None) c.deref.ensures.value c.in_ok-scope.ensures.clean in
-    let posted = subst (λ cs. map (posted_view s.variables.items s.arrays.items c.all_posted.new.store) c.in_ok-constraints.constraints.items ≡ map (posted_in s) (map located_constraint cs)) c.deref-2.ensures.value c.in_ok-constraints.ensures.posted in
+    let posted = subst (λ cs. map (posted_view s.variables.items s.arrays.items c.all_posted.new.store) c.in_ok-constraints.constraints.items ≡ map (posted_in s) (map located_constraint cs)) c.deref-2.ensures.value (c.in_ok-constraints.ensures.posts.views c.all_posted.new.store (longer_none c.all_posted.new.store)) in
     c.assembled.ensures.view ∙ model_is t s c.all_posted.new.store c.in_ok-constraints.constraints c.in_ok-goal.goal stands clean posted c.in_ok-goal.ensures.clean c.in_ok-goal.ensures.aim

@@ -1,4 +1,4 @@
-use Rattle.std.proofs.Common.{None, length, refl, arith, map, subst}
+use Rattle.std.proofs.Common.{None, refl, arith, map, subst}
 use Rattle.std.proofs.lemmas.List.{length-map, take_all}
 use Rattle.std.proofs.lemmas.Result.{err_from_is_err_and}
 use Rattle.fz_meaning.specs.View.{located_basic}

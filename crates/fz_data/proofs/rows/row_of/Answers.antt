@@ -1,5 +1,4 @@
-use Rattle.std.proofs.Common.{ℕ, Option, Some, None, cond, map, option_map, sym, ap, ◌∙◌}
-use Rattle.fz_meaning.specs.Meaning as meaning
+use Rattle.std.proofs.Common.{Some, None, cond, map, option_map, sym, ap, ◌∙◌}
 use Rattle.fz_meaning.specs.Known.{known_row}
 use Rattle.fz_meaning.proofs.FoundRows.{row_of_known, row_of_unknown}
 use Rattle.fz_data.specs.Parts.{argument_view}

@@ -1,4 +1,4 @@
-use Rattle.std.proofs.Common.{map, ap, sym, ◌∙◌}
+use Rattle.std.proofs.Common.{map, ap, ◌∙◌}
 use Rattle.fz_meaning.specs.Meaning as meaning
 use Rattle.fz_data.specs.Shown.{shown_posted}
 use Rattle.fz_data.proofs.Shows.{all_are_shown}

@@ -1,0 +1,14 @@
+use Rattle.std.proofs.Common.{◌≡◌, ◌++◌, List}
+use Rattle.fz_syntax.specs.Offering.{AtDecls, left_of}
+use Rattle.fz_syntax.specs.declared.tree.Decl.{Decl}
+use Rattle.fz_syntax.specs.declared.tree.Predicate.{Predicate}
+use Rattle.fz_data.proofs.text.behind_decls.Given as goal
+
+abbrev pub invariant-loop-items : goal.invariant-loop-items
+invariant-loop-items l = record {
+  offered : (ps : List Predicate) (ds : List Decl) → AtDecls ps ds l.fn.items → (more : List Decl) × AtDecls ps (ds ++ more) l.items;
+  same : l.items.source.now ≡ l.fn.items.source.now;
+}
+
+abbrev pub decreases-loop-items : goal.decreases-loop-items
+decreases-loop-items l = left_of l.items
