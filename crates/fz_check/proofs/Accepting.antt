@@ -1,16 +1,12 @@
 -- What follows where each block is judged: an accepted stream has solutions, and a violated block has none.
 use Rattle.std.proofs.Common.{◌≡◌, ℕ, List, length, map, sym, ap, ◌∙◌, subst}
 use Rattle.std.proofs.lemmas.List.{length-map}
-use Rattle.fz_syntax.specs.Text.{IsTextOfTree}
-use Rattle.fz_syntax.specs.View.{bare}
-use Rattle.fz_syntax.specs.declared.tree.Ast as the_ast
 use Rattle.fz_stream.specs.declared.block.Block as the_block
 use Rattle.fz_stream.specs.declared.reading.Claim.{Claim}
 use Rattle.fz_stream.specs.Found.{IsReadAs, AreInOrder, block_of}
 use Rattle.fz_model.specs.Meaning.{Model, IsPartial}
-use Rattle.fz_model.specs.Names.{HasNoFault, model_of}
-use Rattle.fz_model.specs.View.{located}
-use Rattle.fz_model.proofs.Places.{located_is_bare}
+use Rattle.fz_model.specs.Names.{model_of}
+use Rattle.fz_model.specs.Texts.{IsLoadedFrom}
 use Rattle.fz_model.proofs.Scope.{sound_aims}
 use Rattle.fz_verdict.specs.Verdict.{IsFilled, AreVerdicts, answer_of}
 use Rattle.fz_verdict.specs.View.{located_block}
@@ -25,19 +21,20 @@ use Rattle.fz_check.specs.Headline.{HasSolutions}
 use Rattle.fz_live.specs.View.{answer_view}
 
 -- an accepted stream has solutions
-pub accepted_solved : (model stream : List ℕ) (a : the_ast.Ast) (m : Model) → IsTextOfTree model (bare a) → HasNoFault (located a) → m ≡ model_of (located a)
+pub accepted_solved : (model stream : List ℕ) (m : Model) → IsLoadedFrom model m
     → (bs : List the_block.Block) (cs : List Claim) → IsReadAs stream (map block_of bs) cs
     → (rs : List the_verdict.Verdict) → AreVerdicts m (map located_block bs) (map verdict_view rs) → (answer : the_answer.Answer) → answer_view answer ≡ answer_of (map verdict_view rs)
     → (count : ℕ) → answer ≡ answers.Accepted count → HasSolutions model stream count
-accepted_solved model stream a m text sound is bs cs read rs judged answer answers_to count accepted =
-    let here : AreVerdicts (model_of (located a)) (map located_block bs) (map verdict_view rs) = subst (λ n. AreVerdicts n (map located_block bs) (map verdict_view rs)) is judged in
-    let (solutions, counted, some) = accepted_solves (model_of (located a)) (map located_block bs) (map verdict_view rs) count (sound_aims (located a) sound)
-    (judged_weaker (model_of (located a)) (IsFilled (model_of (located a))) (λ b K. IsPartial (model_of (located a)) K) (λ b K filled. (filling_proposed (located a) b K sound filled).partial) here)
+accepted_solved model stream m loaded bs cs read rs judged answer answers_to count accepted =
+    let t = loaded.tree in
+    let here : AreVerdicts (model_of t) (map located_block bs) (map verdict_view rs) = subst (λ n. AreVerdicts n (map located_block bs) (map verdict_view rs)) loaded.is judged in
+    let (solutions, counted, some) = accepted_solves (model_of t) (map located_block bs) (map verdict_view rs) count (sound_aims t loaded.no_fault)
+    (judged_weaker (model_of t) (IsFilled (model_of t)) (λ b K. IsPartial (model_of t) K) (λ b K filled. (filling_proposed t b K loaded.no_fault filled).partial) here)
     (sym answers_to ∙ ap answer_view accepted) in
     record {
-      tree = located a;
-      text_of_model = subst (IsTextOfTree model) (sym (located_is_bare a)) text;
-      no_fault = sound;
+      tree = t;
+      text_of_model = loaded.text;
+      no_fault = loaded.no_fault;
       parts = read.parts;
       text_of_stream = read.text;
       blocks = map located_block bs;

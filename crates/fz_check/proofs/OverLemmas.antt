@@ -1,16 +1,12 @@
 -- What follows of a check over a reader and a writer: an accepted stream has solutions, the report is the one as defined, and what is
 -- refused is refused against the model of the text.
 use Rattle.std.proofs.Common.{◌≡◌, ℕ, List, map, Option, Some, refl, sym, ap, ◌∙◌, subst}
-use Rattle.fz_syntax.specs.Text.{IsTextOfTree}
-use Rattle.fz_syntax.specs.View.{bare}
-use Rattle.fz_syntax.specs.declared.tree.Ast as the_ast
 use Rattle.fz_syntax.specs.SyntaxError.{SyntaxError}
 use Rattle.fz_stream.specs.declared.error.StreamError.{StreamError}
 use Rattle.fz_model.specs.Meaning.{Model, IsPartial}
-use Rattle.fz_model.specs.Names.{HasNoFault, model_of}
-use Rattle.fz_model.specs.View.{located}
+use Rattle.fz_model.specs.Names.{model_of}
+use Rattle.fz_model.specs.Texts.{IsLoadedFrom}
 use Rattle.fz_model.specs.declared.ModelError.{ModelError}
-use Rattle.fz_model.proofs.Places.{located_is_bare}
 use Rattle.fz_model.proofs.Scope.{sound_aims}
 use Rattle.fz_verdict.specs.Verdict.{IsFilled, AreVerdicts}
 use Rattle.fz_verdict.specs.Report.{IsReport}
@@ -31,29 +27,29 @@ use Rattle.fz_check.specs.Over.{HoldsOfModel, HoldsOfStream, IsOfModel, IsReport
 use Rattle.fz_check.specs.Reported.{Checked}
 use Rattle.fz_check.proofs.Reporting.{borne_out}
 
-module _ (model : List ℕ) (a : the_ast.Ast) (m : Model) (text : IsTextOfTree model (bare a)) (sound : HasNoFault (located a)) (is : m ≡ model_of (located a)) where
+module _ (model : List ℕ) (m : Model) (loaded : IsLoadedFrom model m) where
   -- what holds of the model holds of the model of the text
   pub holds_of_model : (P : Model → Type 0) → P m → HoldsOfModel model P
-  holds_of_model P p = record { tree = located a; text_of_model = subst (IsTextOfTree model) (sym (located_is_bare a)) text; no_fault = sound; holds = subst P is p }
+  holds_of_model P p = record { tree = loaded.tree; text_of_model = loaded.text; no_fault = loaded.no_fault; holds = subst P loaded.is p }
 
   module _ (left left' written written' : Option (List ℕ)) (answer : the_answer.Answer) (w : IsAnswered m left left' written written' (answer_view answer)) where
-    here : AreVerdicts (model_of (located a)) (map located_block w.blocks) w.report.verdicts
-    here = subst (λ n. AreVerdicts n (map located_block w.blocks) w.report.verdicts) is w.is_report.are_verdicts
+    here : AreVerdicts (model_of loaded.tree) (map located_block w.blocks) w.report.verdicts
+    here = subst (λ n. AreVerdicts n (map located_block w.blocks) w.report.verdicts) loaded.is w.is_report.are_verdicts
 
     -- an accepted stream has solutions
     pub accepted_over : (count : ℕ) → answer ≡ answers.Accepted count → HoldsOfStream left left' (λ given. HasSolutions model given count)
     accepted_over count accepted =
-        let (solutions, counted, some) = accepted_solves (model_of (located a)) (map located_block w.blocks) w.report.verdicts count (sound_aims (located a) sound)
-        (judged_weaker (model_of (located a)) (IsFilled (model_of (located a))) (λ b K. IsPartial (model_of (located a)) K) (λ b K filled. (filling_proposed (located a) b K sound filled).partial) here)
+        let (solutions, counted, some) = accepted_solves (model_of loaded.tree) (map located_block w.blocks) w.report.verdicts count (sound_aims loaded.tree loaded.no_fault)
+        (judged_weaker (model_of loaded.tree) (IsFilled (model_of loaded.tree)) (λ b K. IsPartial (model_of loaded.tree) K) (λ b K filled. (filling_proposed loaded.tree b K loaded.no_fault filled).partial) here)
         (sym w.is_report.answers ∙ sym w.answer_is ∙ ap answer_view accepted) in
         record {
           given = w.given;
           reads = w.reads;
           end = w.end;
           holds = record {
-            tree = located a;
-            text_of_model = subst (IsTextOfTree model) (sym (located_is_bare a)) text;
-            no_fault = sound;
+            tree = loaded.tree;
+            text_of_model = loaded.text;
+            no_fault = loaded.no_fault;
             parts = w.parts;
             text_of_stream = w.text;
             blocks = map located_block w.blocks;
@@ -66,9 +62,9 @@ module _ (model : List ℕ) (a : the_ast.Ast) (m : Model) (text : IsTextOfTree m
 
     abbrev checked_over : Checked model w.given
     checked_over = record {
-      tree = located a;
-      text_of_model = subst (IsTextOfTree model) (sym (located_is_bare a)) text;
-      no_fault = sound;
+      tree = loaded.tree;
+      text_of_model = loaded.text;
+      no_fault = loaded.no_fault;
       parts = w.parts;
       text_of_stream = w.text;
       blocks = w.blocks;
@@ -86,8 +82,8 @@ module _ (model : List ℕ) (a : the_ast.Ast) (m : Model) (text : IsTextOfTree m
         report = w.report;
         has_report = record {
           checked = checked_over;
-          is_report = subst (λ n. IsReport n (map located_block w.blocks) w.parts w.report) is w.is_report;
-          borne_out = borne_out (located a) (map located_block w.blocks) w.report.verdicts sound here;
+          is_report = subst (λ n. IsReport n (map located_block w.blocks) w.parts w.report) loaded.is w.is_report;
+          borne_out = borne_out loaded.tree (map located_block w.blocks) w.report.verdicts loaded.no_fault here;
         };
         writes = w.writes;
         answer_is = w.answer_is;

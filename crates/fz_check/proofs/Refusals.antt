@@ -8,7 +8,7 @@ use Rattle.fz_syntax.specs.SyntaxError.TheVariants as syntax
 use Rattle.fz_model.specs.declared.ModelError.{ModelError}
 use Rattle.fz_model.specs.declared.ModelError.TheVariants as names
 use Rattle.fz_syntax.specs.Limits.{most_bytes}
-use Rattle.fz_syntax.specs.Spots.{Stand, spots}
+use Rattle.fz_syntax.specs.Offering.{IsRefused, IsTextOfAll, items_of_tree}
 use Rattle.fz_syntax.specs.Places.{IsPlacedWithin}
 use Rattle.fz_syntax.specs.Text.{IsTextOfTree, IsRefusalOf, IsValue}
 use Rattle.fz_syntax.specs.Tree.{Tree}
@@ -23,7 +23,8 @@ use Rattle.fz_stream.specs.Found.{EndsWithin, HasPlaces, IsReadAs, block_of}
 use Rattle.fz_stream.specs.Parts.{StreamPart, IsStreamText}
 use Rattle.fz_stream.specs.Broken.{StopsAfter}
 use Rattle.fz_model.specs.Meaning.{Model}
-use Rattle.fz_model.specs.Names.{HasNoFault, IsInReadingOrder, model_of}
+use Rattle.fz_model.specs.Names.{IsInReadingOrder}
+use Rattle.fz_model.specs.Texts.{IsLoadedFrom}
 use Rattle.fz_model.specs.View.{TellsFirstFault, located}
 use Rattle.fz_model.proofs.Reading.{in_reading_order}
 use Rattle.fz_live.specs.of_judge.declared.error.BlockError.{BlockError}
@@ -90,33 +91,31 @@ told_stream stream.Memory f h = cc
 
 -- ---- texts
 
--- a fault but want of memory is told only where there is no tree
-no_tree_where : (e : SyntaxError) (t : Tree) → (e ≡ syntax.Memory → ⊥) → IsValue {X = the_ast.Ast} bare (Err e) t → ⊥
-no_tree_where syntax.TooLong t known h = h
-no_tree_where (syntax.BadByte s) t known h = h
-no_tree_where (syntax.TooLarge s) t known h = h
-no_tree_where (syntax.Float s) t known h = h
-no_tree_where (syntax.Syntax s) t known h = h
-no_tree_where (syntax.TooDeep s) t known h = h
-no_tree_where (syntax.TooMany s) t known h = h
-no_tree_where syntax.Memory t known h = known refl
+-- a refusal that a text of a tree allows is want of memory
+memory_where : (e : SyntaxError) (t : Tree) → IsValue {X = the_ast.Ast} bare (Err e) t → e ≡ syntax.Memory
+memory_where syntax.TooLong t h = absurd h
+memory_where (syntax.BadByte s) t h = absurd h
+memory_where (syntax.TooLarge s) t h = absurd h
+memory_where (syntax.Float s) t h = absurd h
+memory_where (syntax.Syntax s) t h = absurd h
+memory_where (syntax.TooDeep s) t h = absurd h
+memory_where (syntax.TooMany s) t h = absurd h
+memory_where syntax.Memory t h = refl
 
-pub text_fault_on : (model : List ℕ) (e f : SyntaxError) → ((t : Tree) → IsTextOfTree model t → IsValue {X = the_ast.Ast} bare (Err e) t) → (e ≡ syntax.TooLong → most_bytes < length model) → (most_bytes < length model → e ≡ syntax.TooLong)
-    → IsRefusalOf model e → IsPlacedWithin (length model) e → text_refusal e ≡ errors.Model f → HasTextFault model f
-text_fault_on model e f only long too_long order place same =
+pub refused_as : (model : List ℕ) (e : SyntaxError) → ((t : Tree) → IsTextOfTree model t → IsValue {X = the_ast.Ast} bare (Err e) t) → IsRefusalOf model e → IsPlacedWithin (length model) e → IsRefused model e
+refused_as model e only order place = record { no_tree = λ t text. memory_where e t (only t text); order = order; place = place }
+
+pub text_fault_on : (model : List ℕ) (e f : SyntaxError) → IsRefused model e → (e ≡ syntax.TooLong → most_bytes < length model) → (most_bytes < length model → e ≡ syntax.TooLong) → text_refusal e ≡ errors.Model f → HasTextFault model f
+text_fault_on model e f refused long too_long same =
     let told = told_text e f same in
     let known : e ≡ syntax.Memory → ⊥ = λ m. told.1 (sym told.0 ∙ m) in
-    subst (HasTextFault model) told.0 (record { no_tree = λ t text. no_tree_where e t known (only t text); too_long = (long, too_long); order = order; place = place; not_memory = known })
+    subst (HasTextFault model) told.0 (record { no_tree = λ t text. known (refused.no_tree t text); too_long = (long, too_long); order = refused.order; place = refused.place; not_memory = known })
 
 -- ---- names
 
-pub name_fault_on : (model : List ℕ) (a : the_ast.Ast) (e : ModelError) → IsTextOfTree model (bare a) → Stand model 0 (length model) (spots a)
-    → (e ≢ names.Memory) × (IsInReadingOrder (located a) → TellsFirstFault (located a) e) → HasNameFault model e
-name_fault_on model a e text stands told = record {
-  tree = a;
-  text_of_model = text;
-  places = stands;
-  tells = told.1 (in_reading_order model (length model) a stands);
+pub name_fault_on : (model : List ℕ) (a : the_ast.Ast) (e : ModelError) → IsTextOfAll model (items_of_tree a) → (e ≢ names.Memory) × (IsInReadingOrder (located a) → TellsFirstFault (located a) e) → HasNameFault model e
+name_fault_on model a e text told = record {
+  fault = record { all = items_of_tree a; text = text; tells = told.1 (in_reading_order model (length model) a text.stands) };
   not_memory = told.0;
 }
 
@@ -163,10 +162,9 @@ ends_within n most less (b ∷ bs) h = (omega (arith, h.0, less), ends_within n 
 
 -- ---- blocks
 
-pub block_fault_on : (model bytes : List ℕ) (a : the_ast.Ast) (m : Model) (text : IsTextOfTree model (bare a)) (sound : HasNoFault (located a)) → m ≡ model_of (located a)
-    → (bs : List the_block.Block) (cs : List Claim) (read : IsReadAs bytes (map block_of bs) cs) (places : AllByRecursion HasPlaces bs) → length bytes ≤ most_bytes → (n : ℕ) (e : BlockError) → IsFirstFault m bs n e → HasBlockFault model bytes n e
-block_fault_on model bytes a m text sound is bs cs read places short n e first = record {
+pub block_fault_on : (model bytes : List ℕ) (m : Model) → IsLoadedFrom model m → (bs : List the_block.Block) (cs : List Claim) → IsReadAs bytes (map block_of bs) cs → AllByRecursion HasPlaces bs → length bytes ≤ most_bytes → (n : ℕ) (e : BlockError) → IsFirstFault m bs n e → HasBlockFault model bytes n e
+block_fault_on model bytes m loaded bs cs read places short n e first = record {
   short = short;
-  checked = checked model bytes a text sound bs cs read places;
-  first = subst (λ k. IsFirstFault k bs n e) is first;
+  checked = checked model bytes m loaded bs cs read places;
+  first = subst (λ k. IsFirstFault k bs n e) loaded.is first;
 }

@@ -1,17 +1,13 @@
 -- What the report of a stream is, and that its verdicts are borne out.
 use Rattle.std.proofs.Common.{◌≡◌, ℕ, List, map, Some, sym, ap, ◌∙◌, subst}
 use Rattle.std.specs.List.{AllByRecursion}
-use Rattle.fz_syntax.specs.Text.{IsTextOfTree}
-use Rattle.fz_syntax.specs.View.{bare}
-use Rattle.fz_syntax.specs.declared.tree.Ast as the_ast
 use Rattle.fz_stream.specs.declared.block.Block as the_block
 use Rattle.fz_stream.specs.declared.reading.Claim.{Claim}
 use Rattle.fz_stream.specs.Found.{HasPlaces, IsReadAs, block_of}
 use Rattle.fz_model.specs.Located.{LocatedTree}
 use Rattle.fz_model.specs.Meaning.{Model}
 use Rattle.fz_model.specs.Names.{HasNoFault, model_of}
-use Rattle.fz_model.specs.View.{located}
-use Rattle.fz_model.proofs.Places.{located_is_bare}
+use Rattle.fz_model.specs.Texts.{IsLoadedFrom}
 use Rattle.fz_verdict.specs.Blocks.{Block}
 use Rattle.fz_verdict.specs.Verdict.{Verdict, AreVerdicts, answer_of}
 use Rattle.fz_verdict.specs.Verdict.Verdict.{Violated}
@@ -24,12 +20,11 @@ use Rattle.fz_live.specs.declared.line.Answer as the_answer
 use Rattle.fz_check.specs.Reported.{Checked, HasReport, AreBorneOut}
 use Rattle.fz_live.specs.View.{answer_view}
 
-abbrev pub checked : (model stream : List ℕ) (a : the_ast.Ast) → IsTextOfTree model (bare a) → HasNoFault (located a)
-    → (bs : List the_block.Block) (cs : List Claim) → IsReadAs stream (map block_of bs) cs → AllByRecursion HasPlaces bs → Checked model stream
-checked model stream a text sound bs cs read places = record {
-  tree = located a;
-  text_of_model = subst (IsTextOfTree model) (sym (located_is_bare a)) text;
-  no_fault = sound;
+abbrev pub checked : (model stream : List ℕ) (m : Model) → IsLoadedFrom model m → (bs : List the_block.Block) (cs : List Claim) → IsReadAs stream (map block_of bs) cs → AllByRecursion HasPlaces bs → Checked model stream
+checked model stream m loaded bs cs read places = record {
+  tree = loaded.tree;
+  text_of_model = loaded.text;
+  no_fault = loaded.no_fault;
   parts = read.parts;
   text_of_stream = read.text;
   blocks = bs;
@@ -45,14 +40,14 @@ borne_out t blocks vs sound are = record {
   not_better = λ i block f at found (now, before, e). each_not_better (model_of t) blocks vs i block now before are at (found ∙ ap (λ g. Some (Violated g)) e);
 }
 
-module _ (model stream : List ℕ) (a : the_ast.Ast) (m : Model) (text : IsTextOfTree model (bare a)) (sound : HasNoFault (located a)) (is : m ≡ model_of (located a)) (bs : List the_block.Block) (cs : List Claim) (read : IsReadAs stream (map block_of bs) cs) (places : AllByRecursion HasPlaces bs) (rs : List the_verdict.Verdict) (judged : AreVerdicts m (map located_block bs) (map verdict_view rs)) where
-  are : AreVerdicts (model_of (located a)) (map located_block bs) (map verdict_view rs)
-  are = subst (λ n. AreVerdicts n (map located_block bs) (map verdict_view rs)) is judged
+module _ (model stream : List ℕ) (m : Model) (loaded : IsLoadedFrom model m) (bs : List the_block.Block) (cs : List Claim) (read : IsReadAs stream (map block_of bs) cs) (places : AllByRecursion HasPlaces bs) (rs : List the_verdict.Verdict) (judged : AreVerdicts m (map located_block bs) (map verdict_view rs)) where
+  are : AreVerdicts (model_of loaded.tree) (map located_block bs) (map verdict_view rs)
+  are = subst (λ n. AreVerdicts n (map located_block bs) (map verdict_view rs)) loaded.is judged
 
   -- the report is the one as defined
   pub reported : (answer : the_answer.Answer) → answer_view answer ≡ answer_of (map verdict_view rs) → HasReport model stream (record { verdicts = map verdict_view rs; claims = cs; answer = answer_view answer })
   reported answer answers_to = record {
-    checked = checked model stream a text sound bs cs read places;
+    checked = checked model stream m loaded bs cs read places;
     is_report = record { of_parts = blocks_are_bare bs ∙ read.blocks_are; are_verdicts = are; claims = read.claims_are; answers = answers_to };
-    borne_out = borne_out (located a) (map located_block bs) (map verdict_view rs) sound are;
+    borne_out = borne_out loaded.tree (map located_block bs) (map verdict_view rs) loaded.no_fault are;
   }

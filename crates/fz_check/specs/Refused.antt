@@ -3,13 +3,10 @@ use Rattle.std.specs.Prelude.{◌≡◌, ◌≢◌, ◌↔◌, ℕ, ◌+◌, ◌
 use Rattle.std.specs.List.{AllByRecursion}
 use Rattle.fz_syntax.specs.Limits.{most_bytes}
 use Rattle.fz_syntax.specs.Places.{IsPlacedWithin}
-use Rattle.fz_syntax.specs.Spots.{Stand, spots}
 use Rattle.fz_syntax.specs.SyntaxError.{SyntaxError}
 use Rattle.fz_syntax.specs.SyntaxError.TheVariants.{TooLong as TextTooLong, Memory as TextMemory}
 use Rattle.fz_syntax.specs.Text.{IsTextOfTree, IsRefusalOf}
 use Rattle.fz_syntax.specs.Tree.{Tree}
-use Rattle.fz_syntax.specs.View.{bare}
-use Rattle.fz_syntax.specs.declared.tree.Ast.{Ast}
 use Rattle.fz_stream.specs.Broken.{StopsAfter}
 use Rattle.fz_stream.specs.Faults.{IsStreamFault}
 use Rattle.fz_stream.specs.Parts.{StreamPart, IsStreamText}
@@ -18,7 +15,7 @@ use Rattle.fz_stream.specs.declared.error.StreamError.{StreamError}
 use Rattle.fz_stream.specs.declared.error.StreamError.TheVariants as stream
 use Rattle.fz_model.specs.Meaning.{Model}
 use Rattle.fz_model.specs.Names.{model_of}
-use Rattle.fz_model.specs.View.{TellsFirstFault, located}
+use Rattle.fz_model.specs.Texts.{IsNameFault}
 use Rattle.fz_model.specs.declared.ModelError.{ModelError}
 use Rattle.fz_model.specs.declared.ModelError.TheVariants.{Memory as NameMemory}
 use Rattle.fz_verdict.specs.Blocks.{block_fault}
@@ -39,10 +36,7 @@ pub record HasTextFault (model : List ℕ) (e : SyntaxError) : Type 0 where
 
 -- The model's bytes are a text of a tree whose names and literals stand there, and this is its leftmost fault.
 pub record HasNameFault (model : List ℕ) (e : ModelError) : Type 0 where
-  pub tree : Ast
-  pub text_of_model : IsTextOfTree model (bare tree)
-  pub places : Stand model 0 (length model) (spots tree)
-  pub tells : TellsFirstFault (located tree) e
+  pub fault : IsNameFault model e
   pub not_memory : e ≢ NameMemory
 
 -- The stream's bytes are not too many and a text of no parts, and the fault is that of the first block that is broken.

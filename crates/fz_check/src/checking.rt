@@ -3,14 +3,12 @@
 ghost use Rattle.std.specs.Prelude.{◌≡◌, ◌≢◌, ◌≤◌, ℕ, length, map, vec_len, IfOk, IfErr, Err};
 ghost use Rattle.std.specs.List.{AllByRecursion};
 ghost use Rattle.fz_syntax.specs.SyntaxError.{SyntaxError as SyntaxFault};
-ghost use Rattle.fz_syntax.specs.Tree.{Tree};
-ghost use Rattle.fz_syntax.specs.Text.{IsTextOfTree};
-ghost use Rattle.fz_syntax.specs.View.{bare};
-ghost use Rattle.fz_syntax.specs.Spots.{Stand, spots};
+ghost use Rattle.fz_syntax.specs.Offering.{IsTextOfAll, items_of_tree};
 ghost use Rattle.fz_syntax.specs.Limits.{most_bytes};
 ghost use Rattle.fz_model.specs.declared.ModelError.{ModelError as NameFault};
 ghost use Rattle.fz_model.specs.declared.ModelError.TheVariants.{Memory as NameMemory};
 ghost use Rattle.fz_model.specs.Names.{HasNoFault, IsInReadingOrder, model_of};
+ghost use Rattle.fz_model.specs.Texts.{IsLoadedFrom};
 ghost use Rattle.fz_model.specs.View.{TellsFirstFault, located};
 ghost use Rattle.fz_stream.specs.declared.error.StreamError.{StreamError as StreamFault};
 ghost use Rattle.fz_stream.specs.Found.{AreInOrder, EndsWithin, HasPlaces, IsReadAs, block_of};
@@ -41,13 +39,13 @@ use crate::error::CheckError;
 use crate::report::{Report, answer_to};
 use fz_live::Answer;
 use fz_live::fz_judge::{BlockError, Judge, Verdict};
-use fz_model::{Model, ModelError, load};
+use fz_model::{LoadError, Model, ModelError, load, load_text};
 use fz_stream::{Block, Stream, StreamError, blocks};
 use fz_syntax::{Ast, SyntaxError, parse, to_text};
 use std::alloc::Global;
 
 /// What is answered where the text of a model is refused.
-pub(crate) fn text_refusal(error: SyntaxError) -> CheckError
+fn text_refusal(error: SyntaxError) -> CheckError
     ensures { result ≡ text_refusal error }
 {
     match error {
@@ -57,7 +55,7 @@ pub(crate) fn text_refusal(error: SyntaxError) -> CheckError
 }
 
 /// What is answered where the names of a model are refused.
-pub(crate) fn name_refusal(error: ModelError) -> CheckError
+fn name_refusal(error: ModelError) -> CheckError
     ensures { result ≡ name_refusal error }
 {
     match error {
@@ -67,7 +65,7 @@ pub(crate) fn name_refusal(error: ModelError) -> CheckError
 }
 
 /// What is answered where a stream is refused.
-pub(crate) fn stream_refusal(error: StreamError) -> CheckError
+fn stream_refusal(error: StreamError) -> CheckError
     ensures { result ≡ stream_refusal error }
 {
     match error {
@@ -77,7 +75,7 @@ pub(crate) fn stream_refusal(error: StreamError) -> CheckError
 }
 
 /// What is answered where the block of this number is refused.
-pub(crate) fn block_refusal(number: usize, error: BlockError) -> CheckError
+fn block_refusal(number: usize, error: BlockError) -> CheckError
     ensures { result ≡ block_refusal number error }
 {
     match error {
@@ -86,11 +84,23 @@ pub(crate) fn block_refusal(number: usize, error: BlockError) -> CheckError
     }
 }
 
+/// The model of a text.
+pub(crate) fn read_model<'a>(alloc: Global, source: &'a [u8]) -> Result<Model<'a>, CheckError>
+    ensures loaded { IfOk result (IsLoadedFrom source.now) }
+    ensures model { (e : SyntaxFault) → result ≡ Err (CheckError.Model e) → HasTextFault source.now e }
+    ensures names { (e : NameFault) → result ≡ Err (CheckError.Names e) → HasNameFault source.now e }
+    ensures kinds { IfErr result IsModelRefusal }
+{
+    match load_text(alloc, source) {
+        Ok(model) => Ok(model),
+        Err(LoadError::Text(error)) => Err(text_refusal(error)),
+        Err(LoadError::Names(error)) => Err(name_refusal(error)),
+    }
+}
+
 /// The tree of a model's text.
-pub(crate) fn read_text<'a>(alloc: Global, source: &'a [u8]) -> Result<Ast<'a>, CheckError>
-    ensures found { IfOk result (λ a. IsTextOfTree source.now (bare a)) }
-    ensures only { IfOk result (λ a. (t : Tree) → IsTextOfTree source.now t → t ≡ bare a) }
-    ensures stands { IfOk result (λ a. Stand source.now 0 (length source.now) (spots a)) }
+fn read_tree<'a>(alloc: Global, source: &'a [u8]) -> Result<Ast<'a>, CheckError>
+    ensures text { IfOk result (λ a. IsTextOfAll source.now (items_of_tree a)) }
     ensures model { (e : SyntaxFault) → result ≡ Err (CheckError.Model e) → HasTextFault source.now e }
     ensures kinds { IfErr result IsTextRefusal }
 {
@@ -101,7 +111,7 @@ pub(crate) fn read_text<'a>(alloc: Global, source: &'a [u8]) -> Result<Ast<'a>, 
 }
 
 /// The model of a tree.
-pub(crate) fn load_tree<'a>(alloc: Global, ast: &Ast<'a>) -> Result<Model<'a>, CheckError>
+fn load_tree<'a>(alloc: Global, ast: &Ast<'a>) -> Result<Model<'a>, CheckError>
     ensures loaded { IfOk result (λ m. HasNoFault (located ast.now) × (m ≡ model_of (located ast.now))) }
     ensures names { (e : NameFault) → result ≡ Err (CheckError.Names e) → (e ≢ NameMemory) × (IsInReadingOrder (located ast.now) → TellsFirstFault (located ast.now) e) }
     ensures kinds { IfErr result IsNameRefusal }
@@ -175,8 +185,7 @@ pub fn check<'a>(alloc: Global, model: &'a [u8], stream: &[u8]) -> Result<Report
     ensures block { (n : ℕ) (e : BlockFault) → result ≡ Err (CheckError.Block n e) → HasBlockFault model.now stream.now n e }
     ensures kinds { IfErr result IsCheckRefusal }
 {
-    let ast = read_text(alloc, model)?;
-    let loaded = load_tree(alloc, &ast)?;
+    let loaded = read_model(alloc, model)?;
     let found = read_stream(alloc, stream)?;
     let verdicts = judge_blocks(alloc, &loaded, &found.blocks)?;
     let answer = answer_to(&verdicts);
@@ -200,7 +209,7 @@ pub fn show(alloc: Global, model: &[u8]) -> Result<Vec<u8>, CheckError>
     ensures names { (e : NameFault) → result ≡ Err (CheckError.Names e) → HasNameFault model.now e }
     ensures kinds { IfErr result IsModelRefusal }
 {
-    let ast = read_text(alloc, model)?;
+    let ast = read_tree(alloc, model)?;
     load_tree(alloc, &ast)?;
     let text = to_text(alloc, &ast)?;
     Ok(text)

@@ -16,7 +16,7 @@ ghost use Rattle.fz_check.specs.Loading.{live_refusal};
 ghost use Rattle.fz_check.specs.Over.{HoldsOfModel, HoldsOfStream, IsOfModel, IsReportedTo, IsUntouched, most_reads};
 ghost use Rattle.fz_check.specs.Refused.{HasNameFault, HasTextFault};
 
-use crate::checking::{load_tree, read_text};
+use crate::checking::read_model;
 use crate::error::CheckError;
 use fz_live::{Answer, LiveError, check_parts};
 use std::alloc::Global;
@@ -69,11 +69,7 @@ pub fn check_stream_up_to<R: Read, W: Write>(
     ensures reads { SpendsReads reads 0 (R.remaining reader.old) (R.remaining reader.new) }
     ensures end_read { IfOk result (λ _. SpendsReads reads 1 (R.remaining reader.old) (R.remaining reader.new)) }
 {
-    let ast = match read_text(alloc, model) {
-        Ok(ast) => ast,
-        Err(error) => return Err(error),
-    };
-    let loaded = match load_tree(alloc, &ast) {
+    let loaded = match read_model(alloc, model) {
         Ok(loaded) => loaded,
         Err(error) => return Err(error),
     };

@@ -1,5 +1,5 @@
 -- What was offered so far is the front of a text, and a fault there is the first of the whole.
-use Rattle.std.proofs.Common.{◌≡◌, ℕ, true, false, List, [], ◌∷◌, ◌++◌, map, Option, Some, None, is_some, Result, Ok, Err, refl, sym, ap, subst, ◌∙◌, append_assoc}
+use Rattle.std.proofs.Common.{◌≡◌, ℕ, true, false, List, [], ◌∷◌, ◌++◌, map, length, Option, Some, None, is_some, Result, Ok, Err, refl, sym, ap, subst, ◌∙◌, append_assoc}
 use Rattle.std.proofs.lemmas.List.{append-nil, map-append}
 use Rattle.fz_syntax.specs.SyntaxError.{SyntaxError}
 use Rattle.fz_syntax.specs.Offering.{TreeItems, Offers, IsAllOf}
@@ -15,7 +15,8 @@ use Rattle.fz_data.specs.declared.scope.Scope.{Scope}
 use Rattle.fz_data.specs.Scope.{Tells, constraint_fault_in}
 use Rattle.fz_data.specs.Stands.{StandsFor, Declares}
 use Rattle.std.specs.Prelude.{◌≢◌}
-use Rattle.fz_meaning.specs.FirstFault.{FirstFaultIsLeftmost}
+use Rattle.fz_meaning.proofs.FoundFaults.{is_first}
+use Rattle.fz_meaning.proofs.Reading.{all_in_reading_order}
 use Rattle.fz_data.specs.Texts.{TellsOfText, IsNameFault, IsNameRefusal}
 use Rattle.fz_data.proofs.Loaded.{told_in_constraints, tells_first}
 use Rattle.fz_data.proofs.Tells.{tells_further}
@@ -63,9 +64,16 @@ told_at_constraint t ds cs more c s e decls are h clean tells =
     (tells_further e _ _ (λ y here. ap (λ (xs : List Constraint). first_some (constraint_fault_in s) (map located_constraint xs)) are ∙ first_between s cs more c y clean here) tells)
 
 -- a refusal of names tells the leftmost fault
-pub name_fault : (source : List ℕ) (e : ModelError) → FirstFaultIsLeftmost → e ≢ names.Memory → IsNameRefusal source e → IsNameFault source e
-name_fault source names.Memory law not h = absurd (not refl)
-name_fault source (names.DuplicateName at) law not h = record { all = h.all; text = h.text; tells = λ order. tells_first (located_all h.all) (names.DuplicateName at) law order h.tells }
-name_fault source (names.UnknownName at) law not h = record { all = h.all; text = h.text; tells = λ order. tells_first (located_all h.all) (names.UnknownName at) law order h.tells }
-name_fault source (names.Kind at) law not h = record { all = h.all; text = h.text; tells = λ order. tells_first (located_all h.all) (names.Kind at) law order h.tells }
-name_fault source (names.Length at) law not h = record { all = h.all; text = h.text; tells = λ order. tells_first (located_all h.all) (names.Length at) law order h.tells }
+leftmost : (source : List ℕ) (e : ModelError) → TellsOfText source e → IsNameFault source e
+leftmost source e h = record {
+  all = h.all;
+  text = h.text;
+  tells = tells_first (located_all h.all) e is_first (all_in_reading_order source (length source) h.all h.text.stands) h.tells;
+}
+
+pub name_fault : (source : List ℕ) (e : ModelError) → e ≢ names.Memory → IsNameRefusal source e → IsNameFault source e
+name_fault source names.Memory other h = absurd (other refl)
+name_fault source (names.DuplicateName at) other h = leftmost source (names.DuplicateName at) h
+name_fault source (names.UnknownName at) other h = leftmost source (names.UnknownName at) h
+name_fault source (names.Kind at) other h = leftmost source (names.Kind at) h
+name_fault source (names.Length at) other h = leftmost source (names.Length at) h

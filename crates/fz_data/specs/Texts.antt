@@ -1,13 +1,15 @@
 -- What is told of the text of a model that is loaded item by item.
 use Rattle.std.specs.Prelude.{◌≡◌, ◌++◌, ⊤, ℕ, List, [], map, Result, Ok, Err}
 use Rattle.fz_syntax.specs.Offering.{TreeItems, IsTextOfAll, IsRefused, AtConstraints, AtSolve}
+use Rattle.fz_syntax.specs.Text.{IsTextOfTree}
 use Rattle.fz_syntax.specs.declared.reader.Items.{Items}
 use Rattle.fz_syntax.specs.declared.tree.Predicate.{Predicate}
 use Rattle.fz_syntax.specs.declared.tree.Decl.{Decl}
 use Rattle.fz_syntax.specs.declared.tree.Constraint.{Constraint}
 use Rattle.fz_meaning.specs.FirstFault.{first_fault}
+use Rattle.fz_meaning.specs.Located.{LocatedTree, bare_of}
 use Rattle.fz_meaning.specs.Meaning.{Model}
-use Rattle.fz_meaning.specs.Names.{HasNoFault, IsInReadingOrder, model_of}
+use Rattle.fz_meaning.specs.Names.{HasNoFault, model_of}
 use Rattle.fz_meaning.specs.View.{TellsFirstFault, located_all, located_constraint, located_decl}
 use Rattle.fz_meaning.specs.declared.error.ModelError.{ModelError}
 use Rattle.fz_meaning.specs.declared.error.ModelError.TheVariants as names
@@ -22,16 +24,17 @@ use Rattle.fz_data.specs.declared.error.LoadError.TheVariants as errors
 
 -- The source is a text of a tree without faults, and this is its model.
 pub record IsLoadedFrom (source : List ℕ) (m : Model) : Type 0 where
-  pub all : TreeItems
-  pub text : IsTextOfAll source all
-  pub no_fault : HasNoFault (located_all all)
-  pub is : m ≡ model_of (located_all all)
+  pub tree : LocatedTree
+  pub text : IsTextOfTree source (bare_of tree)
+  pub no_fault : HasNoFault tree
+  pub is : m ≡ model_of tree
 
--- The source is a text of a tree, and this is its leftmost fault.
+-- The source is a text of these items, whose names and literals stand in it, and this is the
+-- leftmost fault of their tree.
 pub record IsNameFault (source : List ℕ) (e : ModelError) : Type 0 where
   pub all : TreeItems
   pub text : IsTextOfAll source all
-  pub tells : IsInReadingOrder (located_all all) → TellsFirstFault (located_all all) e
+  pub tells : TellsFirstFault (located_all all) e
 
 -- ---- only private functions use these
 

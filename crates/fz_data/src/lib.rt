@@ -28,4 +28,5 @@ pub use partial::{Partial, number_of, truth_of};
 pub use parts::{Array, Goal, Posted, ScalarList, Variable};
 pub use point::{ConstraintParts, Constraints, Point, PointParts};
 pub use store::{Argument, Scalar, Segment, Slot, Store, item_at, part, scalar_at};
+pub use text::load_text;
 pub use values::{kind_of, literal_kind, literal_value, same_kind};

@@ -1,9 +1,11 @@
 //! From a text to its model, item by item: each is let go when it is loaded.
 
-ghost use Rattle.std.specs.Prelude.{◌≡◌, ◌≢◌, Err, ◌++◌, ◌∷◌, [], IfErr, IfOk, List, None, OnOk, map};
+ghost use Rattle.std.specs.Prelude.{◌≡◌, ◌≢◌, ◌<◌, ◌↔◌, Err, ◌++◌, ◌∷◌, [], IfErr, IfOk, List, None, OnOk, length, map};
 ghost use Rattle.fz_meaning.specs.Located.{Constraint as LocatedConstraint, Decl as LocatedDecl};
 ghost use Rattle.fz_syntax.specs.Offering.{AtConstraints, AtDecls, AtPredicates, AtSolve, IsAllOf, IsRefused};
+ghost use Rattle.fz_syntax.specs.Limits.{most_bytes};
 ghost use Rattle.fz_syntax.specs.SyntaxError.{SyntaxError as SyntaxFault};
+ghost use Rattle.fz_syntax.specs.SyntaxError.TheVariants.{TooLong};
 ghost use Rattle.fz_syntax.specs.declared.tree.Constraint as the_constraint;
 ghost use Rattle.fz_syntax.specs.declared.tree.Decl as the_decl;
 ghost use Rattle.fz_syntax.specs.declared.tree.Predicate as the_predicate;
@@ -138,6 +140,7 @@ const BYTES_OF_A_DECLARATION: usize = 64;
 fn read_text<'a>(alloc: Global, source: &'a [u8]) -> Result<Model<'a>, LoadError>
     ensures loaded { IfOk result (IsLoadedFrom source.now) }
     ensures refused { IfErr result (IsLoadRefusal source.now) }
+    ensures too_long { (most_bytes < length source.now) → result ≡ Err (LoadError.Text TooLong) }
 {
     let mut items = Items::new(alloc, source)?;
     while items.predicate()?.is_some() {}
@@ -157,8 +160,12 @@ fn read_text<'a>(alloc: Global, source: &'a [u8]) -> Result<Model<'a>, LoadError
 /// `Text` with the error of `parse`, or else `Names` with that of `load`: a fault of the text comes
 /// before each of names, wherever it is.
 pub fn load_text<'a>(alloc: Global, source: &'a [u8]) -> Result<Model<'a>, LoadError>
+    // The source is a text of a tree without faults, and this is the tree's model.
     ensures loaded { IfOk result (IsLoadedFrom source.now) }
+    // The source is a text of no tree, unless memory ran out, and the fault comes in the order of faults.
     ensures text { (e : SyntaxFault) → result ≡ Err (LoadError.Text e) → IsRefused source.now e }
+    ensures too_long { (result ≡ Err (LoadError.Text TooLong)) ↔ (most_bytes < length source.now) }
+    // The source is a text of a tree, whose leftmost fault is told, unless memory ran out.
     ensures names { (e : NameFault) → result ≡ Err (LoadError.Names e) → e ≢ Memory → IsNameFault source.now e }
 {
     read_text(alloc, source)

@@ -1,5 +1,6 @@
 -- The tree with its places, its places left out, is the plain tree of the parser's tree.
 use Rattle.std.proofs.Common.{◌≡◌, List, [], ◌∷◌, map, Option, Some, None, option_map, refl, ap}
+use Rattle.fz_syntax.specs.Offering.{TreeItems, bare_all, items_of_tree}
 use Rattle.fz_syntax.specs.View as plain
 use Rattle.fz_syntax.specs.declared.tree.Ast.{Ast}
 use Rattle.fz_syntax.specs.declared.tree.Basic as the_basic
@@ -12,7 +13,7 @@ use Rattle.fz_syntax.specs.declared.tree.Goal as the_goal
 use Rattle.fz_syntax.specs.declared.tree.Goal.TheVariants as goals
 use Rattle.fz_syntax.specs.Tree as tree
 use Rattle.fz_meaning.specs.Located.{bare_basic, bare_expr, bare_decl, bare_constraint, bare_goal, bare_of}
-use Rattle.fz_meaning.specs.View.{located_basic, located_expr, located_value, located_decl, located_constraint, located_goal, located}
+use Rattle.fz_meaning.specs.View.{located_basic, located_expr, located_value, located_decl, located_constraint, located_goal, located, located_all}
 
 map_twice : {A B C : Type 0} (f : B → C) (g : A → B) (h : A → C) → ((x : A) → f (g x) ≡ h x) → (xs : List A) → map f (map g xs) ≡ map h xs
 map_twice f g h same [] = refl
@@ -41,10 +42,13 @@ goal_is goals.Satisfy = refl
 goal_is (goals.Minimize b) = ap tree.Minimize (basic_is b)
 goal_is (goals.Maximize b) = ap tree.Maximize (basic_is b)
 
-pub located_is_bare : (a : Ast) → bare_of (located a) ≡ plain.bare a
-located_is_bare a = λ i. record {
-  predicates = map plain.bare_predicate a.predicates.items;
-  decls = map_twice bare_decl located_decl plain.bare_decl decl_is a.decls.items i;
-  constraints = map_twice bare_constraint located_constraint plain.bare_constraint constraint_is a.constraints.items i;
-  solve = record { notes = plain.bare_notes a.solve.notes.items; goal = goal_is a.solve.goal i };
+pub all_are_bare : (t : TreeItems) → bare_of (located_all t) ≡ bare_all t
+all_are_bare t = λ i. record {
+  predicates = map plain.bare_predicate t.predicates;
+  decls = map_twice bare_decl located_decl plain.bare_decl decl_is t.decls i;
+  constraints = map_twice bare_constraint located_constraint plain.bare_constraint constraint_is t.constraints i;
+  solve = record { notes = plain.bare_notes t.solve.notes.items; goal = goal_is t.solve.goal i };
 }
+
+pub located_is_bare : (a : Ast) → bare_of (located a) ≡ plain.bare a
+located_is_bare a = all_are_bare (items_of_tree a)

@@ -3,6 +3,7 @@ use Rattle.std.proofs.Common.{◌≡◌, ℕ, ◌≤◌, ◌<◌, List, [], ◌�
 use Rattle.std.specs.Prelude.{⊤}
 use Rattle.std.proofs.lemmas.List.{map-append}
 use Rattle.fz_base.specs.declared.span.Span.{Span}
+use Rattle.fz_syntax.specs.Offering.{TreeItems, items_of_tree, spots_all}
 use Rattle.fz_syntax.specs.Spots.{Spot, Stand, spots, basic_spots, expr_spots, base_spots, name_spot, note_spots, value_spots, decl_spots, constraint_spots, goal_spots, solve_spots, predicate_spots}
 use Rattle.fz_syntax.specs.declared.tree.Ast.{Ast}
 use Rattle.fz_syntax.specs.declared.tree.Basic as the_basic
@@ -14,7 +15,7 @@ use Rattle.fz_syntax.specs.declared.tree.Expr.TheVariants as exprs
 use Rattle.fz_syntax.specs.declared.tree.Goal as the_goal
 use Rattle.fz_syntax.specs.declared.tree.Goal.TheVariants as goals
 use Rattle.fz_meaning.specs.Located.{Decl, Constraint}
-use Rattle.fz_meaning.specs.View.{located_basic, located_expr, located_value, located_decl, located_constraint, located_goal, located}
+use Rattle.fz_meaning.specs.View.{located_basic, located_expr, located_value, located_decl, located_constraint, located_goal, located, located_all}
 use Rattle.fz_meaning.specs.Names.{IsInReadingOrder, RiseFrom, span_of, fault_places, parts, parts_of_arguments, goal_parts}
 
 -- ---- places among spots
@@ -100,17 +101,20 @@ goal_among goals.Satisfy = end
 goal_among (goals.Minimize b) = basic_among b
 goal_among (goals.Maximize b) = basic_among b
 
-tree_among : (a : Ast) → Among (fault_places (located a)) (spots a)
-tree_among a =
-    let ds : List Span = flat_map (λ (d : Decl). d.name.span ∷ map span_of (parts d.value)) (map located_decl a.decls.items) in
-    let cs : List Span = flat_map (λ (c : Constraint). map span_of (parts_of_arguments c.args)) (map located_constraint a.constraints.items) in
-    let gs : List Span = map span_of (goal_parts (located_goal a.solve.goal)) in
-    subst (λ ps. Among ps (spots a)) (sym (append_assoc ds cs gs))
-    (among_right (flat_map predicate_spots a.predicates.items)
-    (among_append (among_each located_decl (λ d. d.name.span ∷ map span_of (parts d.value)) decl_spots decl_among a.decls.items) (cs ++ gs) (flat_map constraint_spots a.constraints.items ++ solve_spots a.solve)
-    (among_append (among_each located_constraint (λ c. map span_of (parts_of_arguments c.args)) constraint_spots constraint_among a.constraints.items) gs (solve_spots a.solve)
-    (among_right (flat_map note_spots a.solve.notes.items) (goal_among a.solve.goal)))))
+tree_among : (t : TreeItems) → Among (fault_places (located_all t)) (spots_all t)
+tree_among t =
+    let ds : List Span = flat_map (λ (d : Decl). d.name.span ∷ map span_of (parts d.value)) (map located_decl t.decls) in
+    let cs : List Span = flat_map (λ (c : Constraint). map span_of (parts_of_arguments c.args)) (map located_constraint t.constraints) in
+    let gs : List Span = map span_of (goal_parts (located_goal t.solve.goal)) in
+    subst (λ ps. Among ps (spots_all t)) (sym (append_assoc ds cs gs))
+    (among_right (flat_map predicate_spots t.predicates)
+    (among_append (among_each located_decl (λ d. d.name.span ∷ map span_of (parts d.value)) decl_spots decl_among t.decls) (cs ++ gs) (flat_map constraint_spots t.constraints ++ solve_spots t.solve)
+    (among_append (among_each located_constraint (λ c. map span_of (parts_of_arguments c.args)) constraint_spots constraint_among t.constraints) gs (solve_spots t.solve)
+    (among_right (flat_map note_spots t.solve.notes.items) (goal_among t.solve.goal)))))
 
 -- What stands in a source one behind the other is in reading order.
+pub all_in_reading_order : (source : List ℕ) (n : ℕ) (t : TreeItems) → Stand source 0 n (spots_all t) → IsInReadingOrder (located_all t)
+all_in_reading_order source n t h = places_rise (tree_among t) 0 (spots_rise source 0 n (spots_all t) h)
+
 pub in_reading_order : (source : List ℕ) (n : ℕ) (a : Ast) → Stand source 0 n (spots a) → IsInReadingOrder (located a)
-in_reading_order source n a h = places_rise (tree_among a) 0 (spots_rise source 0 n (spots a) h)
+in_reading_order source n a h = all_in_reading_order source n (items_of_tree a) h

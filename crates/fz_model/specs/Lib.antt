@@ -11,5 +11,6 @@ pub use Rattle.fz_force.specs.of_data.Parts
 pub use Rattle.fz_force.specs.of_data.Shown
 pub use Rattle.fz_force.specs.of_data.Partial
 pub use Rattle.fz_force.specs.of_data.Kinds
+pub use Rattle.fz_force.specs.of_data.Texts
 pub use Rattle.fz_force.specs.of_eval.Holding
 pub use Rattle.fz_force.specs.of_eval.Overviews

@@ -6,21 +6,21 @@ use Rattle.fz_check.specs.declared.error.CheckError.TheVariants as errors
 use Rattle.fz_check.proofs.Accepting.{accepted_solved, in_order}
 use Rattle.fz_check.proofs.OverLemmas.{holds_of_model}
 use Rattle.fz_check.proofs.Reporting.{reported}
-use Rattle.fz_check.proofs.Refusals.{name_fault_on, block_fault_on, residual_is, handed_on, stream_is_check, judging_is_check}
+use Rattle.fz_check.proofs.Refusals.{block_fault_on, residual_is, handed_on, stream_is_check, judging_is_check}
 use Rattle.fz_check.specs.Loading.{IsCheckRefusal}
 use Rattle.fz_check.specs.Refused.{HasStreamFault, IsFirstFault}
 use Rattle.fz_check.proofs.checking.check.Goals as goal
 
 pub returns-clause-accepted : goal.returns-clause-accepted
 returns-clause-accepted c =
-    accepted_solved c.args.model.now c.args.stream.now c.in_ok-ast.ast c.in_ok-loaded.loaded c.in_ok-ast.ensures.found c.in_ok-loaded.ensures.loaded.0 c.in_ok-loaded.ensures.loaded.1
+    accepted_solved c.args.model.now c.args.stream.now c.in_ok-loaded.loaded c.in_ok-loaded.ensures.loaded
     c.in_ok-found.found.blocks.items c.in_ok-found.found.claims.items c.in_ok-found.ensures.read c.in_ok-verdicts.verdicts.items
     (subst (λ l. AreVerdicts c.in_ok-loaded.loaded (map located_block l) (map verdict_view c.in_ok-verdicts.verdicts.items)) c.deref.ensures.value c.in_ok-verdicts.ensures.judged)
     c.answer_to-answer.result (c.answer_to-answer.ensures ∙ ap (λ l. answer_of (map verdict_view l)) c.deref-2.ensures.value)
 
 pub returns-clause-report : goal.returns-clause-report
 returns-clause-report c =
-    reported c.args.model.now c.args.stream.now c.in_ok-ast.ast c.in_ok-loaded.loaded c.in_ok-ast.ensures.found c.in_ok-loaded.ensures.loaded.0 c.in_ok-loaded.ensures.loaded.1
+    reported c.args.model.now c.args.stream.now c.in_ok-loaded.loaded c.in_ok-loaded.ensures.loaded
     c.in_ok-found.found.blocks.items c.in_ok-found.found.claims.items c.in_ok-found.ensures.read c.in_ok-found.ensures.places c.in_ok-verdicts.verdicts.items
     (subst (λ l. AreVerdicts c.in_ok-loaded.loaded (map located_block l) (map verdict_view c.in_ok-verdicts.verdicts.items)) c.deref.ensures.value c.in_ok-verdicts.ensures.judged)
     c.answer_to-answer.result (c.answer_to-answer.ensures ∙ ap (λ l. answer_of (map verdict_view l)) c.deref-2.ensures.value)
@@ -31,23 +31,22 @@ returns-clause-in_order c =
     (subst (λ l. AreVerdicts c.in_ok-loaded.loaded (map located_block l) (map verdict_view c.in_ok-verdicts.verdicts.items)) c.deref.ensures.value c.in_ok-verdicts.ensures.judged)
     c.in_ok-found.found.blocks.ok.0 c.in_ok-verdicts.verdicts.ok.0 c.in_ok-found.ensures.in_order
 
-pub returns-in_err-ast-clause-model : goal.returns-in_err-ast-clause-model
-returns-in_err-ast-clause-model c = λ e same.
-    c.read_text.ensures.model e (c.in_err-ast.was ∙ ap Err (residual_is c.from_residual.result c.in_err-ast.field-0.0 (errors.Model e) c.from_residual.ensures.1 same))
+pub returns-in_err-loaded-clause-model : goal.returns-in_err-loaded-clause-model
+returns-in_err-loaded-clause-model c = λ e same.
+    c.read_model.ensures.model e (c.in_err-loaded.was ∙ ap Err (residual_is c.from_residual.result c.in_err-loaded.field-0.0 (errors.Model e) c.from_residual.ensures.1 same))
 
 pub returns-in_err-loaded-clause-names : goal.returns-in_err-loaded-clause-names
 returns-in_err-loaded-clause-names c = λ e same.
-    name_fault_on c.args.model.now c.in_ok-ast.ast e c.in_ok-ast.ensures.found c.in_ok-ast.ensures.stands
-    (c.load_tree.ensures.names e (c.in_err-loaded.was ∙ ap Err (residual_is c.from_residual-in_err-loaded.result c.in_err-loaded.field-0.0 (errors.Names e) c.from_residual-in_err-loaded.ensures.1 same)))
+    c.read_model.ensures.names e (c.in_err-loaded.was ∙ ap Err (residual_is c.from_residual.result c.in_err-loaded.field-0.0 (errors.Names e) c.from_residual.ensures.1 same))
 
 pub returns-in_err-found-clause-stream : goal.returns-in_err-found-clause-stream
 returns-in_err-found-clause-stream c = λ e same.
-    holds_of_model c.args.model.now c.in_ok-ast.ast c.in_ok-loaded.loaded c.in_ok-ast.ensures.found c.in_ok-loaded.ensures.loaded.0 c.in_ok-loaded.ensures.loaded.1 (λ _. HasStreamFault c.args.stream.now e)
+    holds_of_model c.args.model.now c.in_ok-loaded.loaded c.in_ok-loaded.ensures.loaded (λ _. HasStreamFault c.args.stream.now e)
     (c.read_stream.ensures.stream e (c.in_err-found.was ∙ ap Err (residual_is c.from_residual-in_err-found.result c.in_err-found.field-0.0 (errors.Stream e) c.from_residual-in_err-found.ensures.1 same)))
 
 pub returns-in_err-verdicts-clause-block : goal.returns-in_err-verdicts-clause-block
 returns-in_err-verdicts-clause-block c = λ n e same.
-    block_fault_on c.args.model.now c.args.stream.now c.in_ok-ast.ast c.in_ok-loaded.loaded c.in_ok-ast.ensures.found c.in_ok-loaded.ensures.loaded.0 c.in_ok-loaded.ensures.loaded.1
+    block_fault_on c.args.model.now c.args.stream.now c.in_ok-loaded.loaded c.in_ok-loaded.ensures.loaded
     c.in_ok-found.found.blocks.items c.in_ok-found.found.claims.items c.in_ok-found.ensures.read c.in_ok-found.ensures.places c.in_ok-found.ensures.short n e
     (subst (λ l. IsFirstFault c.in_ok-loaded.loaded l n e) c.deref.ensures.value
     (c.judge_blocks.ensures.block n e (c.in_err-verdicts.was ∙ ap Err (residual_is c.from_residual-in_err-verdicts.result c.in_err-verdicts.field-0.0 (errors.Block n e) c.from_residual-in_err-verdicts.ensures.1 same))))

@@ -3,21 +3,19 @@ use Rattle.fz_check.specs.declared.error.CheckError.TheVariants as errors
 use Rattle.fz_check.proofs.OverLemmas.{holds_of_model, accepted_over, reported_over, told_model, told_names, told_stream, told_block, told_read, never_of_model}
 use Rattle.fz_check.specs.Over.{IsOfModel}
 use Rattle.fz_live.proofs.SpendingLemmas.{spends_none}
-use Rattle.fz_check.proofs.Refusals.{name_fault_on}
 use Rattle.fz_check.proofs.live.check_stream_up_to.Goals as goal
 
-pub returns-in-Err-load_tree-clause-names : goal.returns-in-Err-load_tree-clause-names
-returns-in-Err-load_tree-clause-names g c = λ e same.
-    (let told : c.in-Err-load_tree.error ≡ errors.Names e = cc in
-    name_fault_on c.args.model.now c.in-Ok.ast e c.in-Ok.ensures.found c.in-Ok.ensures.stands (c.load_tree.ensures.names e (c.in-Err-load_tree.is ∙ ap Err told)))
+pub returns-in-Err-clause-names : goal.returns-in-Err-clause-names
+returns-in-Err-clause-names g c = λ e same.
+    (let told : c.in-Err.error ≡ errors.Names e = cc in c.read_model.ensures.names e (c.in-Err.is ∙ ap Err told))
 
 pub returns-in-Ok-check_parts-clause-accepted : goal.returns-in-Ok-check_parts-clause-accepted
 returns-in-Ok-check_parts-clause-accepted g c =
-    accepted_over c.args.model.now c.in-Ok.ast c.in-Ok-load_tree.loaded c.in-Ok.ensures.found c.in-Ok-load_tree.ensures.loaded.0 c.in-Ok-load_tree.ensures.loaded.1 _ _ _ _ c.in-Ok-check_parts.answer c.in-Ok-check_parts.ensures.answered
+    accepted_over c.args.model.now c.in-Ok.loaded c.in-Ok.ensures.loaded _ _ _ _ c.in-Ok-check_parts.answer c.in-Ok-check_parts.ensures.answered
 
 pub returns-in-Ok-check_parts-clause-report : goal.returns-in-Ok-check_parts-clause-report
 returns-in-Ok-check_parts-clause-report g c =
-    reported_over c.args.model.now c.in-Ok.ast c.in-Ok-load_tree.loaded c.in-Ok.ensures.found c.in-Ok-load_tree.ensures.loaded.0 c.in-Ok-load_tree.ensures.loaded.1 _ _ _ _ c.in-Ok-check_parts.answer c.in-Ok-check_parts.ensures.answered
+    reported_over c.args.model.now c.in-Ok.loaded c.in-Ok.ensures.loaded _ _ _ _ c.in-Ok-check_parts.answer c.in-Ok-check_parts.ensures.answered
 
 pub returns-clause-model : goal.returns-clause-model
 returns-clause-model g c = λ e same.
@@ -29,21 +27,21 @@ returns-clause-names g c = λ e same. absurd (told_names c.in-Err-check_parts.er
 pub returns-clause-stream : goal.returns-clause-stream
 returns-clause-stream g c = λ e same.
     (let told = told_stream c.in-Err-check_parts.error e (sym c.live_refusal.ensures ∙ cc) in
-    holds_of_model c.args.model.now c.in-Ok.ast c.in-Ok-load_tree.loaded c.in-Ok.ensures.found c.in-Ok-load_tree.ensures.loaded.0 c.in-Ok-load_tree.ensures.loaded.1 _ (c.check_parts.ensures.stream e (c.in-Err-check_parts.is ∙ ap Err told)))
+    holds_of_model c.args.model.now c.in-Ok.loaded c.in-Ok.ensures.loaded _ (c.check_parts.ensures.stream e (c.in-Err-check_parts.is ∙ ap Err told)))
 
 pub returns-clause-block : goal.returns-clause-block
 returns-clause-block g c = λ n e same.
     (let told = told_block c.in-Err-check_parts.error n e (sym c.live_refusal.ensures ∙ cc) in
-    holds_of_model c.args.model.now c.in-Ok.ast c.in-Ok-load_tree.loaded c.in-Ok.ensures.found c.in-Ok-load_tree.ensures.loaded.0 c.in-Ok-load_tree.ensures.loaded.1 _ (c.check_parts.ensures.block n e (c.in-Err-check_parts.is ∙ ap Err told)))
+    holds_of_model c.args.model.now c.in-Ok.loaded c.in-Ok.ensures.loaded _ (c.check_parts.ensures.block n e (c.in-Err-check_parts.is ∙ ap Err told)))
 
 pub returns-clause-read : goal.returns-clause-read
 returns-clause-read g c = λ same.
     (let told = told_read c.in-Err-check_parts.error (sym c.live_refusal.ensures ∙ cc) in
-    holds_of_model c.args.model.now c.in-Ok.ast c.in-Ok-load_tree.loaded c.in-Ok.ensures.found c.in-Ok-load_tree.ensures.loaded.0 c.in-Ok-load_tree.ensures.loaded.1 _ (c.check_parts.ensures.read (c.in-Err-check_parts.is ∙ ap Err told)))
+    holds_of_model c.args.model.now c.in-Ok.loaded c.in-Ok.ensures.loaded _ (c.check_parts.ensures.read (c.in-Err-check_parts.is ∙ ap Err told)))
 
 pub returns-clause-write : goal.returns-clause-write
 returns-clause-write g c = λ same.
-    holds_of_model c.args.model.now c.in-Ok.ast c.in-Ok-load_tree.loaded c.in-Ok.ensures.found c.in-Ok-load_tree.ensures.loaded.0 c.in-Ok-load_tree.ensures.loaded.1 _ c.in-Err-check_parts.ensures.front
+    holds_of_model c.args.model.now c.in-Ok.loaded c.in-Ok.ensures.loaded _ c.in-Err-check_parts.ensures.front
 
 pub returns-clause-fault : goal.returns-clause-fault
 returns-clause-fault g c = λ e same.
@@ -55,14 +53,11 @@ returns-clause-model_first g c = λ of_model. absurd (never_of_model c.in-Err-ch
 
 pub returns-clause-memory : goal.returns-clause-memory
 returns-clause-memory g c = λ same.
-    inr (holds_of_model c.args.model.now c.in-Ok.ast c.in-Ok-load_tree.loaded c.in-Ok.ensures.found c.in-Ok-load_tree.ensures.loaded.0 c.in-Ok-load_tree.ensures.loaded.1 _ c.in-Err-check_parts.ensures.front)
+    inr (holds_of_model c.args.model.now c.in-Ok.loaded c.in-Ok.ensures.loaded _ c.in-Err-check_parts.ensures.front)
 
 pub returns-in-Err-clause-reads : goal.returns-in-Err-clause-reads
 returns-in-Err-clause-reads g c = spends_none _ _ _ (omega arith)
 
-pub returns-in-Err-load_tree-clause-reads : goal.returns-in-Err-load_tree-clause-reads
-returns-in-Err-load_tree-clause-reads g c = spends_none _ _ _ (omega arith)
-
 pub returns-in-Err-clause-model : goal.returns-in-Err-clause-model
 returns-in-Err-clause-model g c = λ e same.
-    (let told : c.in-Err.error ≡ errors.Model e = cc in c.read_text.ensures.model e (c.in-Err.is ∙ ap Err told))
+    (let told : c.in-Err.error ≡ errors.Model e = cc in c.read_model.ensures.model e (c.in-Err.is ∙ ap Err told))
