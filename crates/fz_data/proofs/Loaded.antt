@@ -23,9 +23,11 @@ use Rattle.fz_data.specs.declared.store.Store.{Store}
 use Rattle.fz_data.specs.Parts.{posted_view, kept_row, goal_view, declared_point}
 use Rattle.fz_data.specs.Layout.{model_view, named_place, IsLaidOut, IsPlaced}
 use Rattle.fz_data.specs.Scope.{Tells, posted_in, aim_in, faults_in, constraint_fault_in}
-use Rattle.fz_data.specs.Stands.{StandsFor, entry_view, entry_place, is_kept, declared_pair}
+use Rattle.fz_data.specs.Posting.{Posts}
+use Rattle.fz_data.specs.Stands.{Declares, StandsFor, entry_view, entry_place, is_kept, declared_pair}
 use Rattle.fz_meaning.proofs.ScanSteps.{in_constraints, in_goal, nowhere}
 use Rattle.fz_data.proofs.Finds.{first_some-same}
+use Rattle.fz_data.proofs.Grown.{longer_none}
 use Rattle.fz_data.proofs.OwnKinds.{HasOwnKind, name_fits, own_kinds, posted_fit}
 use Rattle.fz_data.proofs.Tells.{tells_further}
 use Rattle.fz_data.proofs.Stands.{variables_known}
@@ -73,7 +75,7 @@ module _ (all : List Decl) (s : Scope) (st : StandsFor all all s) where
 module _ (t : LocatedTree) (s : Scope) (held : Store) (cs : Vec the_posted.Posted Global) (g : the_goal.Goal) (st : StandsFor t.decls t.decls s) (clean : decls_fault [] t.decls ≡ None)
     (posted : map (posted_view s.variables.items s.arrays.items held) cs.items ≡ map (posted_in s) t.constraints)
     (sound : faults_in s (Some IntKind) (goal_parts t.solve.goal) ≡ None) (aim : goal_view g ≡ aim_in s t.solve.goal) where
-  abbrev fields : Inside
+  abbrev pub fields : Inside
   fields = record { names = s.names; variables = s.variables; arrays = s.arrays; points = s.points; constraints = cs; goal = g; store = held }
 
   new : AreNew [] t.decls
@@ -137,3 +139,26 @@ module _ (t : LocatedTree) (s : Scope) (st : StandsFor t.decls t.decls s) (clean
 
     pub none_anywhere : faults_in s (Some IntKind) (goal_parts t.solve.goal) ≡ None → first_fault t ≡ None
     none_anywhere sound = nowhere t clean (sym constraints_same ∙ known) (sym goal_same ∙ sound)
+
+-- ---- what was declared and posted, and the goal behind it
+
+module _ (t : LocatedTree) (s : Scope) (declares : Declares t.decls s) where
+  pub all_stand : StandsFor t.decls t.decls s
+  all_stand = subst (λ all. StandsFor all t.decls s) (append-nil t.decls) (declares.stands [])
+
+  module _ (held : Store) (cs : Vec the_posted.Posted Global) (posts : Posts s t.constraints held cs.items) where
+    pub goal_told : (e : ModelError) → Tells e (faults_in s (Some IntKind) (goal_parts t.solve.goal)) → Tells e (first_fault t)
+    goal_told = told_in_goal t s all_stand declares.clean posts.clean
+
+    module _ (g : the_goal.Goal) (sound : faults_in s (Some IntKind) (goal_parts t.solve.goal) ≡ None) (aim : goal_view g ≡ aim_in s t.solve.goal) where
+      pub posted_now : map (posted_view s.variables.items s.arrays.items held) cs.items ≡ map (posted_in s) t.constraints
+      posted_now = posts.views held (longer_none held)
+
+      pub all_laid_out : IsLaidOut (fields t s held cs g all_stand declares.clean posted_now sound aim)
+      all_laid_out = laid_out t s held cs g all_stand declares.clean posted_now sound aim posts.rows
+
+      pub loaded_model : model_view (fields t s held cs g all_stand declares.clean posted_now sound aim) ≡ model_of t
+      loaded_model = model_is t s held cs g all_stand declares.clean posted_now sound aim
+
+      pub no_fault_told : first_fault t ≡ None
+      no_fault_told = none_anywhere t s all_stand declares.clean posts.clean sound

@@ -1,6 +1,6 @@
 -- What is told of the text of a model that is loaded item by item.
 use Rattle.std.specs.Prelude.{◌≡◌, ◌++◌, ⊤, ℕ, List, [], map, Result, Ok, Err}
-use Rattle.fz_syntax.specs.Offering.{TreeItems, IsTextOfAll, IsRefused, AtConstraints, AtSolve}
+use Rattle.fz_syntax.specs.Offering.{TreeItems, IsTextOfAll, IsRefused, AtDecls, AtConstraints, AtSolve}
 use Rattle.fz_syntax.specs.Text.{IsTextOfTree}
 use Rattle.fz_syntax.specs.declared.reader.Items.{Items}
 use Rattle.fz_syntax.specs.declared.tree.Predicate.{Predicate}
@@ -71,6 +71,11 @@ IsLoadRefusal source (errors.Names e) = IsNameRefusal source e
 abbrev pub IsLoad : {X : Type 0} → List ℕ → Result X LoadError → (X → Type 0) → Type 0
 IsLoad source (Ok x) Loaded = Loaded x
 IsLoad source (Err e) Loaded = IsLoadRefusal source e
+
+-- All predicates were offered.
+pub record IsPastPredicates (i : Items) : Type 0 where
+  pub predicates : List Predicate
+  pub offered : AtDecls predicates [] i
 
 -- All declarations were offered, and the scope stands for them.
 pub record HasDeclared (ps : List Predicate) (i : Items) (s : Scope) : Type 0 where

@@ -7,7 +7,7 @@ ghost use Rattle.fz_meaning.specs.Names.{HasNoFault, IsInReadingOrder, model_of}
 ghost use Rattle.fz_meaning.specs.View.{TellsFault, TellsFirstFault, located, located_decl};
 ghost use Rattle.fz_meaning.specs.FirstFault.{decl_fault, decls_fault, first_fault};
 ghost use Rattle.fz_data.specs.Scope.{HasKinds, Tells};
-ghost use Rattle.fz_data.specs.Stands.{Declares, StandsFor};
+ghost use Rattle.fz_data.specs.Stands.{Declares};
 
 use crate::declaring::item_of;
 use crate::model::Model;
@@ -55,8 +55,7 @@ pub(crate) fn declare<'a>(
 
 /// What all declarations declare. It refuses the first fault in them.
 fn declared<'a>(alloc: Global, decls: &[Decl<'a>]) -> Result<Scope<'a>, ModelError>
-    ensures clean { IfOk result (λ _. decls_fault [] (map located_decl decls.now) ≡ None) }
-    ensures stands { IfOk result (λ s. StandsFor (map located_decl decls.now) (map located_decl decls.now) s) }
+    ensures declares { IfOk result (Declares (map located_decl decls.now)) }
     ensures kinds { IfOk result HasKinds }
     ensures tells { IfErr result (λ e. Tells e (decls_fault [] (map located_decl decls.now))) }
 {

@@ -18,7 +18,7 @@ ghost use Rattle.fz_data.specs.Posting.{Posts};
 ghost use Rattle.fz_data.specs.Scope.{HasKinds, Tells, constraint_fault_in};
 ghost use Rattle.fz_data.specs.Stands.{Declares};
 ghost use Rattle.fz_data.specs.declared.scope.Scope.{Scope as the_scope};
-ghost use Rattle.fz_data.specs.Texts.{BeginsWithConstraints, BeginsWithDecls, HasDeclared, HasPosted, IsLoad, IsLoadRefusal, IsLoadedFrom, IsNameFault};
+ghost use Rattle.fz_data.specs.Texts.{BeginsWithConstraints, BeginsWithDecls, HasDeclared, HasPosted, IsLoad, IsLoadRefusal, IsLoadedFrom, IsNameFault, IsPastPredicates};
 
 use crate::error::LoadError;
 use crate::loading::{declare, empty};
@@ -30,6 +30,15 @@ use crate::store::Store;
 use fz_meaning::ModelError;
 use fz_syntax::{Constraint, Decl, Items, SyntaxError};
 use std::alloc::Global;
+
+/// The items behind the predicates, which tell a model nothing.
+fn past_predicates<'a>(mut items: Items<'a>) -> Result<Items<'a>, SyntaxError>
+    ensures source { IfOk result (λ i. i.source.now ≡ items.entry.source.now) }
+    ensures offered { AtPredicates [] items.entry → IsAllOf items.entry.source.now result IsPastPredicates }
+{
+    while items.predicate()?.is_some() {}
+    Ok(items)
+}
 
 /// Reads all that stands behind constraints.
 fn behind_constraints(mut items: Items<'_>) -> Result<(), SyntaxError>
@@ -142,8 +151,7 @@ fn read_text<'a>(alloc: Global, source: &'a [u8]) -> Result<Model<'a>, LoadError
     ensures refused { IfErr result (IsLoadRefusal source.now) }
     ensures too_long { (most_bytes < length source.now) → result ≡ Err (LoadError.Text TooLong) }
 {
-    let mut items = Items::new(alloc, source)?;
-    while items.predicate()?.is_some() {}
+    let items = past_predicates(Items::new(alloc, source)?)?;
     let nothing = empty(alloc, source.len() / BYTES_OF_A_DECLARATION)?;
     let (items, scope) = declared_in(alloc, items, nothing)?;
     let mut store = Store::new(alloc);

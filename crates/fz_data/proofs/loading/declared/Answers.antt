@@ -1,10 +1,11 @@
 use Rattle.std.proofs.Common.{List, [], sym, subst, map, take}
-use Rattle.std.proofs.lemmas.List.{append-nil, take_all}
+use Rattle.std.proofs.lemmas.List.{take_all}
 use Rattle.std.proofs.lemmas.Result.{err_from_is_err_and}
+use Rattle.fz_syntax.specs.declared.tree.Decl.{Decl as TreeDecl}
 use Rattle.fz_meaning.specs.Located.{Decl}
 use Rattle.fz_meaning.specs.View.{located_decl}
 use Rattle.fz_meaning.proofs.ScanSteps.{take_one_more, decls_stops}
-use Rattle.fz_data.specs.Stands.{StandsFor, Declares}
+use Rattle.fz_data.specs.Stands.{Declares}
 use Rattle.fz_data.proofs.OneMore.{declares_none}
 use Rattle.fz_data.proofs.Tells.{tells_further}
 use Rattle.fz_data.proofs.loading.declared.Goals as goal
@@ -28,12 +29,6 @@ loop-decl-preserved c = record {
   kinds = c.in_ok-declare.ensures.kinds;
 }
 
-pub returns-clause-clean : goal.returns-clause-clean
-returns-clause-clean c = rw (sym (take_all c.loop-decl.decl-index c.args.decls.now c.loop-decl-test.false)) c.loop-decl.invariant.declares.clean
-
-pub returns-clause-stands : goal.returns-clause-stands
-returns-clause-stands c =
-    let all = take_all c.loop-decl.decl-index c.args.decls.now c.loop-decl-test.false in
-    let known = map located_decl (take c.loop-decl.decl-index c.args.decls.now) in
-    subst (λ ds. StandsFor (map located_decl ds) (map located_decl ds) c.loop-decl.scope) all
-    (subst (λ (ds : List Decl). StandsFor ds known c.loop-decl.scope) (append-nil known) (c.loop-decl.invariant.declares.stands []))
+pub returns-clause-declares : goal.returns-clause-declares
+returns-clause-declares c =
+    subst (λ (ds : List TreeDecl). Declares (map located_decl ds) c.loop-decl.scope) (take_all c.loop-decl.decl-index c.args.decls.now c.loop-decl-test.false) c.loop-decl.invariant.declares

@@ -1,12 +1,12 @@
-use Rattle.std.proofs.Common.{◌≡◌, List}
+use Rattle.std.proofs.Common.{◌≡◌, List, []}
 use Rattle.fz_syntax.specs.Offering.{AtPredicates, left_of}
 use Rattle.fz_syntax.specs.declared.tree.Predicate.{Predicate}
-use Rattle.fz_data.proofs.text.read_text.Given as goal
+use Rattle.fz_data.proofs.text.past_predicates.Given as goal
 
 abbrev pub invariant-loop-items : goal.invariant-loop-items
 invariant-loop-items l = record {
-  offered : (ps : List Predicate) × AtPredicates ps l.items;
-  same : l.items.source.now ≡ l.source;
+  offered : AtPredicates [] l.fn.items → (ps : List Predicate) × AtPredicates ps l.items;
+  same : l.items.source.now ≡ l.fn.items.source.now;
 }
 
 abbrev pub decreases-loop-items : goal.decreases-loop-items

@@ -1,0 +1,8 @@
+use Rattle.std.proofs.Common.{◌≡◌, Err}
+use Rattle.fz_data.specs.Texts.{IsLoadRefusal}
+use Rattle.fz_data.proofs.RestOfText.{name_fault}
+use Rattle.fz_data.specs.declared.error.LoadError.TheVariants.{Names}
+use Rattle.fz_data.proofs.text.load_text.Goals as goal
+
+pub returns-clause-names : goal.returns-clause-names
+returns-clause-names c = λ e same other. name_fault c.args.source.now e other (rw same at c.read_text.ensures.refused)
