@@ -21,7 +21,7 @@ use Rattle.fz_data.specs.declared.store.Argument.{Argument}
 use Rattle.fz_data.specs.declared.store.Argument.TheVariants as arguments
 use Rattle.fz_data.specs.declared.store.Store.{Store}
 use Rattle.fz_data.specs.Slots.{slot_term, segment}
-use Rattle.fz_data.specs.Parts.{argument_view, place_view, array_view, no_array, kind_of_term}
+use Rattle.fz_data.specs.Parts.{argument_view, place_view, array_view, no_array}
 use Rattle.fz_data.specs.Fitting.{is_of_kind, is_scalar_of, is_array_slot, is_array_of, slot_length, length_of, are_equally_long}
 
 list_all-same : {A : Type 0} (f g : A → Bool) → ((x : A) → f x ≡ g x) → (xs : List A) → list_all f xs ≡ list_all g xs

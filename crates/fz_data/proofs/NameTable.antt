@@ -1,5 +1,5 @@
 -- The table of names: what is looked up there, and what one more name leaves as it is.
-use Rattle.std.proofs.Common.{◌≡◌, ℕ, suc, zero, ◌+◌, ◌<◌, List, [], ◌∷◌, ◌++◌, map, length, Option, None, Some, IfSome, Bor, ltb, get_or, option_map, slice_get, cond, if◌then◌else◌, ◌||◌, Bool, true, false, refl, sym, ap, ◌∙◌, subst, is_some, is_none, arith, Result, Ok, Err}
+use Rattle.std.proofs.Common.{◌≡◌, ℕ, suc, zero, ◌<◌, List, [], ◌∷◌, ◌++◌, map, length, Option, None, Some, IfSome, Bor, ltb, get_or, option_map, slice_get, cond, if◌then◌else◌, ◌||◌, Bool, true, false, refl, sym, ap, ◌∙◌, subst, is_some, is_none, arith, Result, Ok, Err}
 use Rattle.std.specs.Result.{OnOk, OnErr}
 use Rattle.std.specs.List.{AllByRecursion, IsDistinct, find, list_any}
 use Rattle.std.specs.Option.{option_map_or}
@@ -11,7 +11,6 @@ use Rattle.std.proofs.lemmas.Option.{slice_get_past, slice_get_read}
 use Rattle.indexmap.specs.IndexSet.{insert_key}
 use Rattle.fz_meaning.proofs.Lists.{all_append}
 use Rattle.fz_meaning.specs.declared.term.Term.{Term}
-use Rattle.fz_meaning.specs.declared.term.Term.TheVariants.{Var}
 use Rattle.fz_data.specs.declared.names.Entry.{Entry}
 use Rattle.fz_data.specs.declared.names.Kept.{Kept}
 use Rattle.fz_data.specs.declared.names.Entry.TheVariants as entries

@@ -1,6 +1,6 @@
 -- Scalars as a model keeps them, and segments of lists (this project's profile). Nothing rests on
 -- what a slot stands for whose number is none's, or on the scalar of an array.
-use Rattle.std.specs.Prelude.{◌≡◌, ℕ, pos, Bool, true, false, List, ◌++◌, take, drop, Option, Some, None, slice_get}
+use Rattle.std.specs.Prelude.{◌≡◌, ℕ, pos, Bool, true, false, List, ◌++◌, take, drop, slice_get}
 use Rattle.std.specs.Option.{option_map_or}
 use Rattle.fz_base.specs.declared.value.Value.{Value}
 use Rattle.fz_base.specs.declared.value.Value.TheVariants.{Int, Bool as Truth, Set}

@@ -1,4 +1,4 @@
-use Rattle.std.proofs.Common.{List, [], sym, subst, map, take}
+use Rattle.std.proofs.Common.{List, sym, subst, map}
 use Rattle.std.proofs.lemmas.List.{take_all}
 use Rattle.std.proofs.lemmas.Result.{err_from_is_err_and}
 use Rattle.fz_syntax.specs.declared.tree.Decl.{Decl as TreeDecl}

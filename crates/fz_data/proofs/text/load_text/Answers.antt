@@ -1,7 +1,4 @@
-use Rattle.std.proofs.Common.{◌≡◌, Err}
-use Rattle.fz_data.specs.Texts.{IsLoadRefusal}
 use Rattle.fz_data.proofs.RestOfText.{name_fault}
-use Rattle.fz_data.specs.declared.error.LoadError.TheVariants.{Names}
 use Rattle.fz_data.proofs.text.load_text.Goals as goal
 
 pub returns-clause-names : goal.returns-clause-names
