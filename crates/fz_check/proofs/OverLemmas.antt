@@ -1,6 +1,6 @@
 -- What follows of a check over a reader and a writer: an accepted stream has solutions, the report is the one as defined, and what is
 -- refused is refused against the model of the text.
-use Rattle.std.proofs.Common.{◌≡◌, ℕ, List, map, Option, Some, refl, sym, ap, ◌∙◌, subst}
+use Rattle.std.proofs.Common.{◌≡◌, ℕ, List, map, Option, refl, sym, ap, ◌∙◌, subst}
 use Rattle.fz_syntax.specs.SyntaxError.{SyntaxError}
 use Rattle.fz_stream.specs.declared.error.StreamError.{StreamError}
 use Rattle.fz_model.specs.Meaning.{Model, IsPartial}
