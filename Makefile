@@ -13,6 +13,7 @@
 CRATES := $(notdir $(wildcard crates/*))
 SOURCES := crates.txt $(shell find crates -type d -name out -prune -o -type f -print)
 PREFIX ?= /usr/local
+JOBS ?= $(shell nproc)
 SECONDS ?= 600
 SEED ?= $(shell date +%s)
 
@@ -23,7 +24,7 @@ all: build/fzcheck
 # The program is run once, on no words, which is how the toolchain builds it: status 5 is what that gives.
 build/fzcheck: $(SOURCES)
 	@mkdir -p build
-	cd crates/fzcheck && rt run -- >/dev/null 2>../../build/log </dev/null; \
+	cd crates/fzcheck && rt run --jobs $(JOBS) -- >/dev/null 2>../../build/log </dev/null; \
 	  status=$$?; if [ $$status -ne 5 ]; then cat ../../build/log >&2; exit 1; fi
 	cp crates/fzcheck/out/fzcheck build/fzcheck
 

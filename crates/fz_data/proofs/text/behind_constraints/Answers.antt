@@ -30,9 +30,9 @@ pub returns-in_err-solve : goal.returns-in_err-solve
 returns-in_err-solve c =
     let p = err_from_is_err_and c.from_residual-in_err-solve.result c.from_residual-in_err-solve.ensures.1 in
     λ ps ds cs h.
-        let o = c.loop-items.invariant.offered ps ds cs h in
-        let at_solve = offered_done c.loop-items.items.source.now c.in_ok-constraint.field-0 _ _ (sym c.is_some.ensures ∙ c.if-is_some.false) (c.in_ok-constraint.ensures.offers ps ds (cs ++ o.0) o.1) in
-        rw (p.1, p.2) (rw (c.in_ok-constraint.ensures.source ∙ c.loop-items.invariant.same) at (c.in_err-solve.ensures.text ps ds (cs ++ o.0) at_solve))
+    let o = c.loop-items.invariant.offered ps ds cs h in
+    let at_solve = offered_done c.loop-items.items.source.now c.in_ok-constraint.field-0 _ _ (sym c.is_some.ensures ∙ c.if-is_some.false) (c.in_ok-constraint.ensures.offers ps ds (cs ++ o.0) o.1) in
+    rw (p.1, p.2) (rw (c.in_ok-constraint.ensures.source ∙ c.loop-items.invariant.same) at (c.in_err-solve.ensures.text ps ds (cs ++ o.0) at_solve))
 
 pub returns : goal.returns
 returns c = λ ps ds cs h.

@@ -23,9 +23,11 @@ returns-in-Err-clause-declared c = λ ps none at.
 pub loop-scope-preserved : goal.loop-scope-preserved
 loop-scope-preserved c = record {
   declared = λ ps none at.
-      let o = c.loop-scope.invariant.declared ps none at in
-      (o.0 ++ c.in-Some.decl ∷ [], (rw c.in-Some.is at c.in_ok-decl.ensures.offers) ps o.0 o.1,
-      subst (λ (ds : List Located). Declares ds c.take_decl.new.scope) (sym (map-append located_decl o.0 (c.in-Some.decl ∷ []))) (c.in_default-take_decl.ensures.more _ o.2));
+      let o = c.loop-scope.invariant.declared ps none at in (
+        o.0 ++ c.in-Some.decl ∷ [],
+        (rw c.in-Some.is at c.in_ok-decl.ensures.offers) ps o.0 o.1,
+        subst (λ (ds : List Located). Declares ds c.take_decl.new.scope) (sym (map-append located_decl o.0 (c.in-Some.decl ∷ []))) (c.in_default-take_decl.ensures.more _ o.2),
+      );
   kinds = c.in_default-take_decl.ensures.kinds;
   same = c.in_ok-decl.ensures.source ∙ c.loop-scope.invariant.same;
 }

@@ -24,9 +24,11 @@ returns-in-Err-clause-posted c = λ ps ds declares at.
 pub loop-found-preserved : goal.loop-found-preserved
 loop-found-preserved c = record {
   posted = λ ps ds at.
-      let o = c.loop-found.invariant.posted ps ds at in
-      (o.0 ++ c.in-Some.constraint ∷ [], (rw c.in-Some.is at c.in_ok-constraint.ensures.offers) ps ds o.0 o.1,
-      subst (λ (cs : List Located). Posts c.args.scope.now cs c.take_constraint.new.store c.take_constraint.new.found.items) (sym (map-append located_constraint o.0 (c.in-Some.constraint ∷ []))) (c.in_default-take_constraint.ensures.more _ o.2));
+      let o = c.loop-found.invariant.posted ps ds at in (
+        o.0 ++ c.in-Some.constraint ∷ [],
+        (rw c.in-Some.is at c.in_ok-constraint.ensures.offers) ps ds o.0 o.1,
+        subst (λ (cs : List Located). Posts c.args.scope.now cs c.take_constraint.new.store c.take_constraint.new.found.items) (sym (map-append located_constraint o.0 (c.in-Some.constraint ∷ []))) (c.in_default-take_constraint.ensures.more _ o.2),
+      );
   same = c.in_ok-constraint.ensures.source ∙ c.loop-found.invariant.same;
 }
 
