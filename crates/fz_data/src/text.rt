@@ -170,7 +170,8 @@ fn read_text<'a>(alloc: Global, source: &'a [u8]) -> Result<Model<'a>, LoadError
 pub fn load_text<'a>(alloc: Global, source: &'a [u8]) -> Result<Model<'a>, LoadError>
     // The source is a text of a tree without faults, and this is the tree's model.
     ensures loaded { IfOk result (IsLoadedFrom source.now) }
-    // The source is a text of no tree, unless memory ran out, and the fault comes in the order of faults.
+    // The source is a text of no tree, unless memory ran out, and the fault comes in the order of
+    // faults.
     ensures text { (e : SyntaxFault) → result ≡ Err (LoadError.Text e) → IsRefused source.now e }
     ensures too_long { (result ≡ Err (LoadError.Text TooLong)) ↔ (most_bytes < length source.now) }
     // The source is a text of a tree, whose leftmost fault is told, unless memory ran out.

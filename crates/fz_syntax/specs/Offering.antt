@@ -1,6 +1,7 @@
 -- The items of a model as they are offered, one behind another, each kind in its turn.
--- Only `TreeItems`, `IsTextOfAll` and `IsRefused` are to be believed. The others say what was offered so far; what follows from them at the
--- end is said by `IsTextOfAll`, and that they hold at the beginning by `Items::new`.
+-- Only `TreeItems`, `IsTextOfAll` and `IsRefused` are to be believed. The others say what was
+-- offered so far; what follows from them at the end is said by `IsTextOfAll`, and that they hold at
+-- the beginning by `Items::new`.
 use Rattle.std.specs.Prelude.{◌≡◌, ◌≤◌, ℕ, List, [], ◌++◌, map, length, codes, Bool, Option, Some, None, Result, Ok, Err}
 use Rattle.std.specs.List.{flat_map}
 use Rattle.fz_lex.specs.View.{IsLexicalFault, IsPlacedWithin}
@@ -51,19 +52,22 @@ placed_all t = placed_before t.predicates t.decls t.constraints ++ placed_solve 
 abbrev pub spots_all : TreeItems → List Spot
 spots_all t = flat_map predicate_spots t.predicates ++ (flat_map decl_spots t.decls ++ (flat_map constraint_spots t.constraints ++ solve_spots t.solve))
 
--- The source is a text of these items, and they stand where their tokens do: so the names and literals stand one behind the other.
+-- The source is a text of these items, and they stand where their tokens do: so the names and
+-- literals stand one behind the other.
 pub record IsTextOfAll (source : List ℕ) (t : TreeItems) : Type 0 where
   pub text : IsTextOfTree source (bare_all t)
   pub placed : ArePlacedIn source (placed_all t)
   pub stands : Stand source 0 (length source) (spots_all t)
 
--- The source is a text of no tree, unless memory ran out, and the fault comes in the order of faults.
+-- The source is a text of no tree, unless memory ran out, and the fault comes in the order of
+-- faults.
 pub record IsRefused (source : List ℕ) (e : SyntaxError) : Type 0 where
   pub no_tree : (t : tree.Tree) → IsTextOfTree source t → e ≡ Memory
   pub order : IsRefusalOf source e
   pub place : IsPlacedWithin (length source) e
 
--- The grammar refused a token for a reason, and this is told of the source: a lexical fault, or else the reason, at a place.
+-- The grammar refused a token for a reason, and this is told of the source: a lexical fault, or
+-- else the reason, at a place.
 pub data IsRefusedBy (source : List ℕ) (reason : Refusal) (e : SyntaxError) : Type 0 where
   by_lexer : IsLexicalFault source e → ((tokens : List SpannedToken) → LexesWithinLimits source tokens → ⊥) → IsPlacedWithin (length source) e → IsRefusedBy source reason e
   by_grammar : LexesWithinLimits source (tokens_ahead source 0) → IsErrorOf reason e → IsPlacedWithin (length source) e → IsRefusedBy source reason e
