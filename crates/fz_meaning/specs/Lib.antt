@@ -1,6 +1,7 @@
 pub mod Values
 pub mod Located
 pub mod Builtins
+pub mod Globals
 pub mod Meaning
 pub mod Names
 pub mod View
