@@ -21,7 +21,8 @@ SEED ?= $(shell date +%s)
 
 all: build/fzcheck
 
-# The program is run once, on no words, which is how the toolchain builds it: status 5 is what that gives.
+# The program is run once, on no words, which is how the toolchain builds it: status 5 is what that
+# gives.
 build/fzcheck: $(SOURCES)
 	@mkdir -p build
 	cd crates/fzcheck && rt run --jobs $(JOBS) -- >/dev/null 2>../../build/log </dev/null; \

@@ -547,6 +547,49 @@ def make_long(size, rand):
     return model, "".join(f"{values}cost = {first - n};\n----------\n" for n in range(blocks))
 
 
+def make_globals(which, rand):
+    """Rows of global constraints over lists of 100,000 elements, or over 2,000 tasks."""
+    if which == "tasks":
+        count, lengths = 2_000, [rand.randint(0, 9) for _ in range(2_000)]
+        starts = [sum(lengths[:i]) for i in range(count)]
+        arrays = {"s": starts, "d": lengths, "r": [rand.randint(0, 9) for _ in range(count)]}
+        arrays["y"], arrays["h"] = [0] * count, [1] * count
+        posts = ["fzn_cumulative(s,d,r,9)", "fzn_disjunctive(s,d)", "fzn_diffn_nonstrict(s,y,d,h)"]
+    else:
+        count = 100_000
+        order = rand.sample(range(1, count + 1), count)
+        cycle = [0] * count
+        for place, following in zip(order, order[1:] + order[:1]):
+            cycle[place - 1] = following
+        back = [0] * count
+        for place, following in enumerate(cycle):
+            back[following - 1] = place + 1
+        arrays = {"p": order, "n": cycle, "m": back, "u": list(range(1, count + 1))}
+        arrays["w"] = [rand.randint(1, 2) for _ in range(count)]
+        arrays["one"] = [1] * count
+        final = 1 + sum(v == 2 for v in arrays["w"]) % 2
+        twos = arrays["w"].count(2)
+        posts = [
+            "fzn_all_different_int(p)",
+            "fzn_sort(p,u)",
+            "fzn_strictly_increasing_int(u)",
+            "fzn_lex_less_int(w,p)" if arrays["w"] < order else "fzn_lex_less_int(p,w)",
+            f"count(w,2,{twos})",
+            "fzn_nvalue(2,w)",
+            "fzn_global_cardinality_closed(p,u,one)",
+            "fzcheck_circuit(1,n)",
+            "fzcheck_subcircuit(1,n)",
+            "inverse_offsets(n,1,m,1)",
+            "fzn_table_int([%s],p)" % ",".join(map(str, order[-5:])),
+            "fzn_regular(w,2,2,[1,2,2,1],1,{%d})" % final,
+            "fzn_value_precede_chain_int(p,p)",
+            "fzn_seq_precede_chain_int(u)",
+        ]
+    lines = [f"array [1..{len(v)}] of int: {k} = [{','.join(map(str, v))}];" for k, v in arrays.items()]
+    lines += ["var 1..1: x;"] + [f"constraint {post};" for post in posts]
+    return "\n".join(lines) + "\nsolve satisfy;\n", "x = 1;\n----------\n"
+
+
 SORTS = {"model": make_model, "stream": make_stream, "chain": make_chain, "long": make_long}
 
 
@@ -554,7 +597,10 @@ def main():
     sort, megabytes, folder = sys.argv[1:4]
     seed = sys.argv[4] if len(sys.argv) > 4 else "1"
     rand = random.Random(f"{sort} {megabytes} {seed}")
-    model, stream = SORTS[sort](int(float(megabytes) * 1_000_000), rand)
+    if sort == "globals":
+        model, stream = make_globals(megabytes, rand)
+    else:
+        model, stream = SORTS[sort](int(float(megabytes) * 1_000_000), rand)
     os.makedirs(folder, exist_ok=True)
     for ending, text in ((".fzn", model), (".out", stream)):
         with open(os.path.join(folder, f"{sort}-{megabytes}{ending}"), "w") as f:

@@ -20,6 +20,7 @@ HERE = os.path.dirname(os.path.abspath(__file__))
 TURNS = 5
 SORTS = ["model", "stream", "chain"]
 REAL = ["clauses", "queens", "reified", "recurrence"]
+GLOBALS = ["lists", "tasks"]
 LONG = "90"  # megabytes of the stream that comes through a pipe
 NO_BLOCKS = 3
 
@@ -27,8 +28,9 @@ NO_BLOCKS = 3
 class Row:
     """A line of the table: what both programs are run on, and the best that each of them did."""
 
-    def __init__(self, name, word, model, stream=None, piped=False):
+    def __init__(self, name, word, model, stream=None, piped=False, alone=False):
         self.name = name
+        self.alone = alone  # the plain program can't judge it
         self.words = [word, model]
         if stream and not piped:
             self.words.append(stream)
@@ -39,20 +41,23 @@ class Row:
         self.kilobytes = [0] * 2
 
     def turn(self, programs, reports):
-        """One run of each program."""
-        for which, program in enumerate(programs):
+        """One run of each program, or of fzcheck alone."""
+        for which, program in enumerate(programs[:1] if self.alone else programs):
             used, status = run([program, *self.words], self.input, reports[which])
             if status != self.status:
                 sys.exit(f"{self.name}: {program} ends with status {status}, not {self.status}")
             seconds = used.ru_utime + used.ru_stime
             self.seconds[which] = min(self.seconds[which], seconds)
             self.kilobytes[which] = max(self.kilobytes[which], used.ru_maxrss)
-        if subprocess.run(["cmp", *reports]).returncode != 0:
+        if not self.alone and subprocess.run(["cmp", *reports]).returncode != 0:
             sys.exit(f"{self.name}: the programs don't print the same")
 
     def text(self, floor):
         """The line, where no less memory than the floor can be told."""
         cells = [self.name, f"{self.size / 1e6:.1f}"]
+        if self.alone:
+            memory = number(max(self.kilobytes[0], floor) / 1e3)
+            return "| " + " | ".join([*cells, number(self.seconds[0] * 1e3), "", "", memory, ""]) + " |"
         cells += [number(seconds * 1e3) for seconds in self.seconds]
         cells.append(f"{self.seconds[1] / self.seconds[0]:.2f}")
         for kilobytes in self.kilobytes:
@@ -96,6 +101,10 @@ def rows_of(folder, sizes):
     models = [made(folder, "model", size)[0] for size in sizes]
     rows = [Row("`show` model", "show", model) for model in models]
     rows += [Row("`check` model, no block", "check", model, os.devnull) for model in models]
+    rows += [
+        Row(f"`check` globals, {name}", "check", *made(folder, "globals", name), alone=True)
+        for name in GLOBALS
+    ]
     for sort in SORTS:
         rows += [Row(f"`check` {sort}", "check", *made(folder, sort, size)) for size in sizes]
     # By a program of its own, since what this one once held counts as its children's memory.

@@ -10,6 +10,8 @@ import io
 import re
 import sys
 
+import constraints
+
 TOKEN = re.compile(
     rb"(?P<blank>[ \t\r\n]+|%[^\n]*)|(?P<word>[A-Za-z_][A-Za-z0-9_]*)"
     rb"|(?P<float>-?[0-9]+(?:\.[0-9]+(?:[eE][+-]?[0-9]+)?|[eE][+-]?[0-9]+))"
@@ -319,6 +321,7 @@ TESTS = {
     "bool_eq": ("B B", lambda a, b: a == b),
     "bool_le": ("B B", lambda a, b: a <= b),
     "bool_lt": ("B B", lambda a, b: a < b),
+    "bool_clause": ("[B] [B]", lambda a, b: any(a) or not all(b)),
     "set_in": ("I S", lambda a, b: a in b),
     "set_eq": ("S S", lambda a, b: a == b),
     "set_ne": ("S S", lambda a, b: a != b),
@@ -326,11 +329,10 @@ TESTS = {
     "set_superset": ("S S", lambda a, b: a >= b),
 }
 OTHER_TESTS = {
-    "fzn_all_different_int": ("[I]", lambda a: len(set(a)) == len(a)),
     "array_bool_xor": ("[B]", lambda a: sum(a) % 2 == 1),
-    "bool_clause": ("[B] [B]", lambda a, b: any(a) or not all(b)),
     "bool_lin_le": ("[I] [B] I", lambda a, b, c: sum(x for x, y in zip(a, b) if y) <= c),
 }
+OTHER_TESTS |= {name: row[:2] for name, row in constraints.TESTS.items()}
 RESULTS = {
     "int_plus": ("I I I", 2, lambda a, b: a + b),
     "int_times": ("I I I", 2, lambda a, b: a * b),
@@ -358,7 +360,7 @@ RESULTS = {
     "set_card": ("S I", 1, len),
     "array_set_element": ("I [S] S", 2, element),
     "array_var_set_element": ("I [S] S", 2, element),
-}
+} | constraints.RESULTS
 # Rows of which either side may be filled: how a side follows from the other.
 EITHER = {
     "int_eq": ("I I", lambda b: b, lambda a: a),
@@ -379,8 +381,11 @@ class Row:
     place."""
 
     def __init__(self, name):
-        base = name.removesuffix("_reif")
-        self.known, self.linear = True, base.startswith(("int_lin", "bool_lin"))
+        base = name.removesuffix("_reif").removesuffix("_imp")
+        self.known = True
+        lin = "01" if base.startswith(("int_lin", "bool_lin")) else ""
+        together = constraints.TESTS[name][2] if name in constraints.TESTS else lin
+        self.together = [int(place) for place in together]
         self.element_is_result = name == "int_lin_eq"
         self.either = EITHER.get(name)
         if self.either:
@@ -391,7 +396,11 @@ class Row:
         elif name in TESTS or name in OTHER_TESTS:
             kinds, self.test = (TESTS | OTHER_TESTS)[name]
             self.kinds, self.results, self.value = kinds.split(), set(), None
-        elif name != base and base in TESTS:
+        elif name == base + "_imp" and base in TESTS:
+            kinds, test = TESTS[base]
+            self.kinds, self.results, self.value = kinds.split() + ["B"], set(), None
+            self.test = lambda *args: test(*args[:-1]) or not args[-1]
+        elif name == base + "_reif" and base in TESTS:
             kinds, self.value = TESTS[base]
             self.kinds = kinds.split() + ["B"]
             self.results = {len(self.kinds) - 1}
@@ -478,8 +487,8 @@ class Model:
         fits = row.known and len(row.kinds) == len(found) and all(
             k == want or (k == "[]" and want.startswith("[")) for (k, _), want in zip(found, row.kinds)
         )
-        if fits and row.linear:
-            fits = len(found[0][1]) == len(found[1][1])
+        if fits:
+            fits = len({len(found[place][1]) for place in row.together}) < 2
         target = None
         for note, note_args in notes:
             if note == "defines_var" and len(note_args) == 1 and isinstance(note_args[0], tuple):

@@ -217,7 +217,8 @@ fn holds_and_fails(alloc: Global, line: &str) -> Result<bool, AllocError> {
     Ok(holds && fails)
 }
 
-fn look_at_rows(rt: &impl Abort, alloc: Global, table: &str) {
+/// Looks at a table of such lines.
+pub(crate) fn look_at_rows(rt: &impl Abort, alloc: Global, table: &str) {
     for line in table.trim().split('\n') {
         let as_said = matches!(holds_and_fails(alloc, line), Ok(true));
         assert!(rt; as_said, "at {line}");
@@ -238,10 +239,15 @@ fn is_unknown(alloc: Global, line: &str) -> Result<bool, AllocError> {
     }
 }
 
-#[test]
-fn constraints_that_fit_no_row(rt: HostRuntime) {
-    for line in FITTING_NO_ROW.trim().split('\n') {
-        let is_unknown = matches!(is_unknown(rt.alloc(), line), Ok(true));
+/// Looks at a table of constraints that fit no row: a name and arguments in each line.
+pub(crate) fn look_at_strangers(rt: &impl Abort, alloc: Global, table: &str) {
+    for line in table.trim().split('\n') {
+        let is_unknown = matches!(is_unknown(alloc, line), Ok(true));
         assert!(rt; is_unknown, "at {line}");
     }
+}
+
+#[test]
+fn constraints_that_fit_no_row(rt: HostRuntime) {
+    look_at_strangers(&rt, rt.alloc(), FITTING_NO_ROW);
 }

@@ -10,6 +10,8 @@ mod check_stream;
 #[cfg(test)]
 mod filling;
 #[cfg(test)]
+mod globals;
+#[cfg(test)]
 mod judge;
 #[cfg(test)]
 mod load;

@@ -1,5 +1,5 @@
 -- The row that a constraint fits, from the kinds and lengths that the code keeps.
-use Rattle.std.proofs.Common.{◌≡◌, ◌≢◌, ◌<◌, ◌+◌, min, get_or, drop, ℕ, suc, Bool, true, false, ◌&&◌, ◌||◌, not, List, [], ◌∷◌, map, flat_map, length, Option, Some, None, slice_get, refl, sym, ap, ◌∙◌, ◌==◌, arith}
+use Rattle.std.proofs.Common.{◌≡◌, ◌≢◌, ◌<◌, ◌+◌, min, get_or, drop, ℕ, zero, suc, Bool, true, false, ◌&&◌, ◌||◌, not, List, [], ◌∷◌, map, flat_map, length, Option, Some, None, slice_get, refl, sym, ap, ◌∙◌, ◌==◌, arith}
 use Rattle.std.specs.Option.{option_map_or}
 use Rattle.std.specs.List.{list_all}
 use Rattle.std.proofs.lemmas.Bool.{false≢true}
@@ -22,7 +22,7 @@ use Rattle.fz_data.specs.declared.store.Argument.TheVariants as arguments
 use Rattle.fz_data.specs.declared.store.Store.{Store}
 use Rattle.fz_data.specs.Slots.{slot_term, segment}
 use Rattle.fz_data.specs.Parts.{argument_view, place_view, array_view, no_array}
-use Rattle.fz_data.specs.Fitting.{is_of_kind, is_scalar_of, is_array_slot, is_array_of, slot_length, length_of, are_equally_long}
+use Rattle.fz_data.specs.Fitting.{is_of_kind, is_scalar_of, is_array_slot, is_array_of, slot_length, length_of, length_at, are_equally_long}
 
 list_all-same : {A : Type 0} (f g : A → Bool) → ((x : A) → f x ≡ g x) → (xs : List A) → list_all f xs ≡ list_all g xs
 list_all-same f g same [] = refl
@@ -108,24 +108,18 @@ module _ (vs : List Variable) (xs : List Array) (st : Store) where
   length_is (ArrayOf k) (arguments.List g) h = scalars_counted k (segment st.slots.items g) h
   length_is (ScalarOf k) (arguments.List g) h = absurd (false≢true h)
 
-  pub equally_long_are : (ss : List Kinds) (as' : List Argument) → meaning.have_shapes ss (map (argument_view vs xs st) as') ≡ true
-      → are_equally_long xs st.slots.items as' ≡ meaning.first_two_equally_long (map (argument_view vs xs st) as')
-  equally_long_are ss [] h = refl
-  equally_long_are ss (a ∷ []) h = refl
-  equally_long_are [] (a ∷ b ∷ as') h = absurd (false≢true h)
-  equally_long_are (s ∷ []) (a ∷ b ∷ as') h = absurd (false≢true (sym (and_false (meaning.has_shape s (argument_view vs xs st a))) ∙ h))
-  equally_long_are (s ∷ t ∷ ss) (a ∷ b ∷ as') h =
-      let first = and_left (meaning.has_shape s (argument_view vs xs st a)) _ h in
-      let more = and_right (meaning.has_shape s (argument_view vs xs st a)) h in
-      let second = and_left (meaning.has_shape t (argument_view vs xs st b)) _ more in
-      λ i. length_is s a first i == length_is t b second i
+  length_there : (ss : List Kinds) (as' : List Argument) (i : ℕ) → meaning.have_shapes ss (map (argument_view vs xs st) as') ≡ true
+      → length_at xs st.slots.items as' i ≡ meaning.length_at (map (argument_view vs xs st) as') i
+  length_there ss [] i h = refl
+  length_there [] (a ∷ as') i h = absurd (false≢true h)
+  length_there (s ∷ ss) (a ∷ as') zero h = length_is s a (and_left (meaning.has_shape s (argument_view vs xs st a)) _ h)
+  length_there (s ∷ ss) (a ∷ as') (suc i) h = length_there ss as' i (and_right (meaning.has_shape s (argument_view vs xs st a)) h)
 
-  -- what has the row's shapes fits it where the first two are equally long, if that is asked for
-  pub fits_if_long : (r : Row) (as' : List Argument) (long : Bool) → meaning.have_shapes r.shapes (map (argument_view vs xs st) as') ≡ true → r.equal_lengths ≡ true
-      → long ≡ are_equally_long xs st.slots.items as' → long ≡ meaning.fits r (map (argument_view vs xs st) as')
-  fits_if_long r as' long shaped asked is =
-      let both = meaning.first_two_equally_long (map (argument_view vs xs st) as') in
-      is ∙ equally_long_are r.shapes as' shaped ∙ sym (ap (λ b. b && (not r.equal_lengths || both)) shaped ∙ ap (λ b. not b || both) asked)
+  -- what has the row's shapes fits it where the arrays that belong together are equally long
+  pub equally_long_are : (ss : List Kinds) (is : List ℕ) (as' : List Argument) → meaning.have_shapes ss (map (argument_view vs xs st) as') ≡ true
+      → are_equally_long xs st.slots.items is as' ≡ meaning.equally_long is (map (argument_view vs xs st) as')
+  equally_long_are ss [] as' h = refl
+  equally_long_are ss (i ∷ is) as' h = λ k. list_all (λ j. length_there ss as' j h k == length_there ss as' i h k) is
 
   -- ---- the shapes of several arguments
 

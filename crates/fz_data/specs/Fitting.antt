@@ -1,5 +1,5 @@
 -- The kinds and the lengths of arguments as the code keeps them (private functions only).
-use Rattle.std.specs.Prelude.{ℕ, Bool, false, List, ◌∷◌, length, map, ◌==◌, slice_get}
+use Rattle.std.specs.Prelude.{ℕ, Bool, false, true, List, [], ◌∷◌, length, map, ◌==◌, slice_get}
 use Rattle.std.specs.List.{list_all}
 use Rattle.std.specs.Option.{option_map_or}
 use Rattle.fz_meaning.specs.Values.{same_kind}
@@ -64,6 +64,10 @@ abbrev pub length_of : List Array → List Slot → Argument → ℕ
 length_of xs ss (arguments.One s) = slot_length xs s
 length_of xs ss (arguments.List g) = length (segment ss g)
 
-abbrev pub are_equally_long : List Array → List Slot → List Argument → Bool
-are_equally_long xs ss (a ∷ b ∷ as') = length_of xs ss a == length_of xs ss b
-are_equally_long xs ss _ = false
+abbrev pub length_at : List Array → List Slot → List Argument → ℕ → ℕ
+length_at xs ss as' i = option_map_or (length_of xs ss) (slice_get as' i) 0
+
+-- the arguments at these places have equal lengths
+abbrev pub are_equally_long : List Array → List Slot → List ℕ → List Argument → Bool
+are_equally_long xs ss [] as' = true
+are_equally_long xs ss (i ∷ is) as' = list_all (λ j. length_at xs ss as' j == length_at xs ss as' i) is

@@ -1,13 +1,13 @@
 //! The row of the table of builtins that a constraint fits.
 
-ghost use Rattle.std.specs.Prelude.{◌≡◌, ℕ, Option, map, option_map};
+ghost use Rattle.std.specs.Prelude.{◌≡◌, ◌==◌, ℕ, Option, map, option_map};
 ghost use Rattle.std.specs.List.{list_all};
 ghost use Rattle.fz_meaning.specs.declared.term.Term.TheVariants.{Var};
 ghost use Rattle.fz_meaning.specs.Meaning.{fits, has_shape, have_shapes, row_of};
 ghost use Rattle.fz_meaning.specs.Known.{known_row, shape_of};
 ghost use Rattle.fz_meaning.specs.Values.{kind_of};
 ghost use Rattle.fz_data.specs.Parts.{argument_view, kind_of_term};
-ghost use Rattle.fz_data.specs.Fitting.{are_equally_long, array_kind, is_array_of, is_array_slot, is_of_kind, is_scalar_of, kinds_among, length_of, slot_length};
+ghost use Rattle.fz_data.specs.Fitting.{are_equally_long, array_kind, is_array_of, is_array_slot, is_of_kind, is_scalar_of, kinds_among, length_at, length_of, slot_length};
 ghost use Rattle.fz_data.specs.Slots.{constant_at};
 
 use crate::parts::{Array, Variable};
@@ -26,8 +26,8 @@ pub(crate) struct Cited<'m, 'a> {
     ghost kinds_are: { kinds.now ≡ kinds_among variables.now },
 }
 
-/// The row of the table that a constraint fits, by its name, the kinds of its arguments and, where the row adds up products, the lengths
-/// of the first two. It goes over each argument once and takes no memory.
+/// The row of the table that a constraint fits, by its name, the kinds of its arguments, and the lengths
+/// of the arrays that belong together. It goes over each argument once and takes no memory.
 pub(crate) fn row_of(
     name: &[u8],
     arguments: &[Argument],
@@ -48,7 +48,7 @@ fn fits(known: Known, arguments: &[Argument], cited: &Cited<'_, '_>, store: &Sto
     ensures { result ≡ fits (known_row known) (map (argument_view cited.now.variables.now cited.now.arrays.now store.now) arguments.now) }
 {
     have_shapes(known.shapes(), arguments, cited, store)
-        && (!known.equal_lengths() || equally_long(arguments, cited.arrays, &store.slots))
+        && equally_long(known.together(), arguments, cited.arrays, &store.slots)
 }
 
 fn have_shapes(
@@ -137,13 +137,42 @@ fn constant_kind(constants: &[Value], place: usize) -> Kind
     }
 }
 
-// Whether the first two are equally long, where both have shapes.
-fn equally_long(arguments: &[Argument], arrays: &[Array<'_>], slots: &[Slot]) -> bool
-    ensures { result ≡ are_equally_long arrays.now slots.now arguments.now }
+// Whether the arguments at these places are equally long, where all have shapes.
+fn equally_long(
+    places: &[usize],
+    arguments: &[Argument],
+    arrays: &[Array<'_>],
+    slots: &[Slot],
+) -> bool
+    ensures { result ≡ are_equally_long arrays.now slots.now places.now arguments.now }
 {
-    match arguments {
-        [first, second, ..] => length(first, arrays, slots) == length(second, arrays, slots),
-        _ => false,
+    match places.split_first() {
+        Some((first, others)) => {
+            let length = length_at(*first, arguments, arrays, slots);
+            all_so_long(length, others, arguments, arrays, slots)
+        }
+        None => true,
+    }
+}
+
+fn all_so_long(
+    length: usize,
+    places: &[usize],
+    arguments: &[Argument],
+    arrays: &[Array<'_>],
+    slots: &[Slot],
+) -> bool
+    ensures { result ≡ list_all (λ j. length_at arrays.now slots.now arguments.now j == length) places.now }
+{
+    places.iter().all(|place| length_at(*place, arguments, arrays, slots) == length)
+}
+
+fn length_at(place: usize, arguments: &[Argument], arrays: &[Array<'_>], slots: &[Slot]) -> usize
+    ensures { result ≡ length_at arrays.now slots.now arguments.now place }
+{
+    match arguments.get(place) {
+        Some(argument) => length(argument, arrays, slots),
+        None => 0,
     }
 }
 

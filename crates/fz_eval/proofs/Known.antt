@@ -1,16 +1,20 @@
 -- The outcome of a form with a truth value.
-use Rattle.std.proofs.Common.{◌≡◌, ℕ, suc, ◌+◌, Bool, true, false, ◌&&◌, List, [], ◌∷◌, ◌++◌, length, refl, sym, ap, ◌∙◌, arith}
+use Rattle.std.proofs.Common.{◌≡◌, ℕ, suc, ◌+◌, Bool, true, false, not, ◌&&◌, ◌||◌, List, [], ◌∷◌, ◌++◌, length, refl, sym, ap, ◌∙◌, arith}
 use Rattle.std.specs.Prelude.{IsSome}
 use Rattle.fz_base.specs.declared.value.Value.TheVariants.{Bool as BoolValue}
 use Rattle.fz_meaning.specs.declared.kind.Kind.TheVariants.{Int as IntKind, Bool as BoolKind, Set as SetKind}
 use Rattle.fz_meaning.specs.Values.{◌=ᴮ◌}
-use Rattle.fz_meaning.specs.Builtins.{Shape, Row, reified, with_bool, read, leaves_128, products}
+use Rattle.fz_meaning.specs.Builtins.{Shape, Row, implied, reified, with_bool, read, leaves_128, products}
+use Rattle.fz_meaning.specs.declared.known.Form.{Form}
+use Rattle.fz_meaning.specs.declared.known.Form.TheVariants.{Base, Reified, Implied}
+use Rattle.fz_meaning.specs.Known.{HasTruth, form_at}
 use Rattle.fz_meaning.specs.Builtins.Shape.{ScalarOf, ArrayOf}
 use Rattle.fz_meaning.specs.Builtins.ArgValue.{OneValue}
 use Rattle.fz_meaning.specs.Meaning.{Argument, Partial, row_holds}
-use Rattle.fz_meaning.proofs.TableRows.{AreRead, reified_holds, plain_ints, plain_bools, plain_sets}
+use Rattle.fz_meaning.proofs.TableRows.{AreRead, implied_holds, reified_holds, plain_ints, plain_bools, plain_sets}
 use Rattle.fz_kernel.specs.of_scene.Given.{given, given_from, given_values, bool_at, ints_at, bools_at, sets_at}
-use Rattle.fz_eval.specs.Outcomes.{row_outcome, sum_outcome, compared}
+use Rattle.fz_eval.specs.Outcomes.{row_outcome, sum_outcome, compared, implied_by}
+use Rattle.fz_eval.proofs.Rows.{outcome_is}
 
 -- the values that are given are read as they are
 given_read : (K : Partial) (xs : List Argument) (i : ℕ) (s : Shape) → IsSome (read s (given K xs i s))
@@ -32,19 +36,45 @@ with_last K xs i (s ∷ ss) =
     let place : length ss + suc i ≡ length (s ∷ ss) + i = omega arith in
     ap (λ vs. given K xs i s ∷ vs) (with_last K xs (suc i) ss ∙ ap (λ n. given_from K xs (suc i) ss ++ OneValue (BoolValue (bool_at K xs n)) ∷ []) place)
 
-form_holds : (r : Row) (K : Partial) (xs : List Argument) → row_holds (reified r) (given_values K (with_bool r.shapes) xs) ≡ (bool_at K xs (length r.shapes) =ᴮ row_holds r (given_values K r.shapes xs))
-form_holds r K xs =
-    let place : length r.shapes + 0 ≡ length r.shapes = omega arith in
-    ap (row_holds (reified r)) (with_last K xs 0 r.shapes) ∙ reified_holds r (given_values K r.shapes xs) (bool_at K xs (length r.shapes + 0)) (all_read K xs 0 r.shapes)
-    ∙ ap (λ n. bool_at K xs n =ᴮ row_holds r (given_values K r.shapes xs)) place
+pub form_shapes : (f : Form) → HasTruth f → (r : Row) → (form_at f r).shapes ≡ with_bool r.shapes
+form_shapes Base h r = absurd h
+form_shapes Reified h r = refl
+form_shapes Implied h r = refl
 
-compared_sum : (t leaves holds : Bool) → compared t (sum_outcome leaves holds) ≡ sum_outcome leaves (t =ᴮ holds)
-compared_sum t true holds = refl
-compared_sum t false holds = refl
+module _ (r : Row) (K : Partial) (xs : List Argument) where
+  said : Bool
+  said = bool_at K xs (length r.shapes)
 
--- a form with a truth value comes to whether that says what its row comes to
-pub form_outcome : (r : Row) (K : Partial) (xs : List Argument) → row_outcome (reified r) K xs ≡ compared (bool_at K xs (length r.shapes)) (row_outcome r K xs)
-unfolding row_outcome
-form_outcome r K xs =
-    let leaves = r.sums_in_128 && leaves_128 (products (ints_at K xs 0) (ints_at K xs 1)) in
-    ap (sum_outcome leaves) (form_holds r K xs) ∙ sym (compared_sum (bool_at K xs (length r.shapes)) leaves (row_holds r (given_values K r.shapes xs)))
+  holds : Bool
+  holds = row_holds r (given_values K r.shapes xs)
+
+  leaves : Bool
+  leaves = r.sums_in_128 && leaves_128 (products (ints_at K xs 0) (ints_at K xs 1))
+
+  last_given : given_values K (with_bool r.shapes) xs ≡ given_values K r.shapes xs ++ OneValue (BoolValue (bool_at K xs (length r.shapes))) ∷ []
+  last_given =
+      let place : length r.shapes + 0 ≡ length r.shapes = omega arith in
+      with_last K xs 0 r.shapes ∙ ap (λ n. given_values K r.shapes xs ++ OneValue (BoolValue (bool_at K xs n)) ∷ []) place
+
+  compared_sum : (b : Bool) → sum_outcome b (said =ᴮ holds) ≡ compared said (sum_outcome b holds)
+  compared_sum true = refl
+  compared_sum false = refl
+
+  implied_sum : (b : Bool) → sum_outcome b (not said || holds) ≡ implied_by said (sum_outcome b holds)
+  implied_sum true = refl
+  implied_sum false = refl
+
+  -- a form with a truth value comes to what that says of what its row comes to
+  pub reified_outcome : row_outcome (reified r) K xs ≡ compared (bool_at K xs (length r.shapes)) (row_outcome r K xs)
+  unfolding said holds leaves
+  reified_outcome =
+      outcome_is (reified r) K xs
+      ∙ ap (sum_outcome leaves) (ap (row_holds (reified r)) last_given ∙ reified_holds r (given_values K r.shapes xs) said (all_read K xs 0 r.shapes))
+      ∙ compared_sum leaves ∙ ap (compared said) (sym (outcome_is r K xs))
+
+  pub implied_outcome : row_outcome (implied r) K xs ≡ implied_by (bool_at K xs (length r.shapes)) (row_outcome r K xs)
+  unfolding said holds leaves
+  implied_outcome =
+      outcome_is (implied r) K xs
+      ∙ ap (sum_outcome leaves) (ap (row_holds (implied r)) last_given ∙ implied_holds r (given_values K r.shapes xs) said (all_read K xs 0 r.shapes))
+      ∙ implied_sum leaves ∙ ap (implied_by said) (sym (outcome_is r K xs))

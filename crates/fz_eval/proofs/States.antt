@@ -1,129 +1,56 @@
 -- From readiness and outcome to the state of a constraint.
-use Rattle.std.proofs.Common.{◌≡◌, Bool, true, false, ◌&&◌, ◌||◌, List, map, [], ◌∷◌, Option, Some, None, cond, refl, sym, ap, ◌∙◌}
+use Rattle.std.proofs.Common.{◌≡◌, Bool, true, false, not, ◌&&◌, ◌||◌, List, map, [], ◌∷◌, Option, Some, None, cond, refl, sym, ap, ◌∙◌}
 use Rattle.std.specs.Prelude.{is_some, find, bytes_eq}
 use Rattle.std.specs.List.{list_all, list_any}
 use Rattle.fz_meaning.specs.declared.state.State.{State}
 use Rattle.fz_meaning.specs.declared.term.Term.{Term}
 use Rattle.fz_meaning.specs.declared.state.State.TheVariants.{Holds, Fails, NoValue, TooLarge}
-use Rattle.fz_meaning.specs.Builtins.{Shape, Row, ArgValue, [I], I, B, rows, reified, leaves_128, products}
+use Rattle.fz_meaning.specs.Builtins.{Shape, Row, ArgValue, [I], builtins, leaves_128, products, row_at, rows, with_bool}
+use Rattle.fz_meaning.specs.Builtins.Shape.{ArrayOf}
 use Rattle.fz_meaning.specs.Meaning.{Argument, Partial, Posted, argument_values, fits, have_shapes, judged, judged_by, row_holds, row_of, state_of_row, state_of_values, sums_leave, values}
 use Rattle.fz_meaning.proofs.Values.{no, no', and_first, and_second}
 use Rattle.fz_meaning.specs.declared.builtin.Builtin.{Builtin}
-use Rattle.fz_meaning.specs.declared.builtin.Builtin.TheVariants.{IntEq, IntNe, IntLe, IntLt, IntLinEq, IntLinNe, IntLinLe, IntPlus, IntTimes, IntMin, IntMax, IntAbs, IntDiv, IntMod, ArrayIntElement, ArrayVarIntElement, ArrayIntMaximum, ArrayIntMinimum, FznAllDifferentInt, BoolEq, BoolLe, BoolLt, BoolNot, BoolAnd, BoolOr, BoolXor, ArrayBoolAnd, ArrayBoolOr, ArrayBoolXor, ArrayBoolElement, ArrayVarBoolElement, BoolClause, Bool2Int, BoolLinEq, BoolLinLe, SetIn, SetEq, SetNe, SetSubset, SetSuperset, SetUnion, SetIntersect, SetDiff, SetSymdiff, SetCard, ArraySetElement, ArrayVarSetElement}
+use Rattle.fz_meaning.specs.declared.kind.Kind.TheVariants.{Int as IntKind}
+use Rattle.fz_meaning.specs.declared.known.Form.{Form}
+use Rattle.fz_meaning.specs.declared.known.Form.TheVariants.{Base, Reified, Implied}
 use Rattle.fz_meaning.specs.declared.known.Known.{Known}
-use Rattle.fz_meaning.specs.Known.{name_of, row_at, known_row}
+use Rattle.fz_meaning.specs.Known.{form_at, known_row}
+use Rattle.fz_meaning.proofs.FoundRows.{each_builtin}
 use Rattle.fz_kernel.specs.of_scene.Given.{are_read, are_given, has_value, given_values, ints_at}
 use Rattle.fz_kernel.proofs.of_scene.Ready.{ready_values, values_given, values_some, wrong_kind}
 use Rattle.fz_kernel.proofs.of_scene.Sums.{sums_leave_is}
 use Rattle.fz_eval.specs.Outcomes.{row_outcome, sum_outcome, told}
+use Rattle.fz_eval.proofs.Rows.{outcome_is}
 
 -- ---- a row whose sum is added in 128 bits begins with two arrays of numbers
 
 abbrev AddsInts : Row → Type 0
 AddsInts r = r.sums_in_128 ≡ true → (ss : List Shape) × (r.shapes ≡ [I] ∷ [I] ∷ ss)
 
-base_adds_ints : (b : Builtin) → AddsInts (row_at b)
-unfolding row_at name_of
-base_adds_ints IntEq h = no h
-base_adds_ints IntNe h = no h
-base_adds_ints IntLe h = no h
-base_adds_ints IntLt h = no h
-base_adds_ints IntLinEq h = (I ∷ [], refl)
-base_adds_ints IntLinNe h = (I ∷ [], refl)
-base_adds_ints IntLinLe h = (I ∷ [], refl)
-base_adds_ints IntPlus h = no h
-base_adds_ints IntTimes h = no h
-base_adds_ints IntMin h = no h
-base_adds_ints IntMax h = no h
-base_adds_ints IntAbs h = no h
-base_adds_ints IntDiv h = no h
-base_adds_ints IntMod h = no h
-base_adds_ints ArrayIntElement h = no h
-base_adds_ints ArrayVarIntElement h = no h
-base_adds_ints ArrayIntMaximum h = no h
-base_adds_ints ArrayIntMinimum h = no h
-base_adds_ints FznAllDifferentInt h = no h
-base_adds_ints BoolEq h = no h
-base_adds_ints BoolLe h = no h
-base_adds_ints BoolLt h = no h
-base_adds_ints BoolNot h = no h
-base_adds_ints BoolAnd h = no h
-base_adds_ints BoolOr h = no h
-base_adds_ints BoolXor h = no h
-base_adds_ints ArrayBoolAnd h = no h
-base_adds_ints ArrayBoolOr h = no h
-base_adds_ints ArrayBoolXor h = no h
-base_adds_ints ArrayBoolElement h = no h
-base_adds_ints ArrayVarBoolElement h = no h
-base_adds_ints BoolClause h = no h
-base_adds_ints Bool2Int h = no h
-base_adds_ints BoolLinEq h = no h
-base_adds_ints BoolLinLe h = no h
-base_adds_ints SetIn h = no h
-base_adds_ints SetEq h = no h
-base_adds_ints SetNe h = no h
-base_adds_ints SetSubset h = no h
-base_adds_ints SetSuperset h = no h
-base_adds_ints SetUnion h = no h
-base_adds_ints SetIntersect h = no h
-base_adds_ints SetDiff h = no h
-base_adds_ints SetSymdiff h = no h
-base_adds_ints SetCard h = no h
-base_adds_ints ArraySetElement h = no h
-base_adds_ints ArrayVarSetElement h = no h
+begins_with_ints : List Shape → Bool
+begins_with_ints (ArrayOf IntKind ∷ ArrayOf IntKind ∷ ss) = true
+begins_with_ints _ = false
 
-form_adds_ints : (b : Builtin) → AddsInts (reified (row_at b))
-unfolding row_at name_of
-form_adds_ints IntEq h = no h
-form_adds_ints IntNe h = no h
-form_adds_ints IntLe h = no h
-form_adds_ints IntLt h = no h
-form_adds_ints IntLinEq h = (I ∷ B ∷ [], refl)
-form_adds_ints IntLinNe h = (I ∷ B ∷ [], refl)
-form_adds_ints IntLinLe h = (I ∷ B ∷ [], refl)
-form_adds_ints IntPlus h = no h
-form_adds_ints IntTimes h = no h
-form_adds_ints IntMin h = no h
-form_adds_ints IntMax h = no h
-form_adds_ints IntAbs h = no h
-form_adds_ints IntDiv h = no h
-form_adds_ints IntMod h = no h
-form_adds_ints ArrayIntElement h = no h
-form_adds_ints ArrayVarIntElement h = no h
-form_adds_ints ArrayIntMaximum h = no h
-form_adds_ints ArrayIntMinimum h = no h
-form_adds_ints FznAllDifferentInt h = no h
-form_adds_ints BoolEq h = no h
-form_adds_ints BoolLe h = no h
-form_adds_ints BoolLt h = no h
-form_adds_ints BoolNot h = no h
-form_adds_ints BoolAnd h = no h
-form_adds_ints BoolOr h = no h
-form_adds_ints BoolXor h = no h
-form_adds_ints ArrayBoolAnd h = no h
-form_adds_ints ArrayBoolOr h = no h
-form_adds_ints ArrayBoolXor h = no h
-form_adds_ints ArrayBoolElement h = no h
-form_adds_ints ArrayVarBoolElement h = no h
-form_adds_ints BoolClause h = no h
-form_adds_ints Bool2Int h = no h
-form_adds_ints BoolLinEq h = no h
-form_adds_ints BoolLinLe h = no h
-form_adds_ints SetIn h = no h
-form_adds_ints SetEq h = no h
-form_adds_ints SetNe h = no h
-form_adds_ints SetSubset h = no h
-form_adds_ints SetSuperset h = no h
-form_adds_ints SetUnion h = no h
-form_adds_ints SetIntersect h = no h
-form_adds_ints SetDiff h = no h
-form_adds_ints SetSymdiff h = no h
-form_adds_ints SetCard h = no h
-form_adds_ints ArraySetElement h = no h
-form_adds_ints ArrayVarSetElement h = no h
+all_begin : list_all (λ b. not (row_at b).sums_in_128 || begins_with_ints (row_at b).shapes) builtins ≡ true
+unfolding begins_with_ints row_at builtins
+all_begin = refl
+
+from_beginning : (sums : Bool) (ss : List Shape) → (not sums || begins_with_ints ss) ≡ true → sums ≡ true → (ts : List Shape) × (ss ≡ [I] ∷ [I] ∷ ts)
+unfolding begins_with_ints
+from_beginning false ss h e = no e
+from_beginning true (ArrayOf IntKind ∷ ArrayOf IntKind ∷ ss) h e = (ss, refl)
+from_beginning true _ h e = no h
+
+base_adds_ints : (b : Builtin) → AddsInts (row_at b)
+base_adds_ints b = from_beginning (row_at b).sums_in_128 (row_at b).shapes (each_builtin (λ b. not (row_at b).sums_in_128 || begins_with_ints (row_at b).shapes) all_begin b)
+
+form_adds_ints : (f : Form) (r : Row) → AddsInts r → AddsInts (form_at f r)
+form_adds_ints Base r h = h
+form_adds_ints Reified r h = λ e. let (ss, is) = h e in (with_bool ss, ap with_bool is)
+form_adds_ints Implied r h = λ e. let (ss, is) = h e in (with_bool ss, ap with_bool is)
 
 adds_ints : (k : Known) → AddsInts (known_row k)
-adds_ints k = elim k.reified as (λ b. AddsInts (cond b (reified (row_at k.builtin)) (row_at k.builtin))) [ true ↦ form_adds_ints k.builtin | false ↦ base_adds_ints k.builtin ]
+adds_ints k = form_adds_ints k.form (row_at k.builtin) (base_adds_ints k.builtin)
 
 -- ---- the sums
 
@@ -183,10 +110,9 @@ module _ (k : Known) (K : Partial) (xs : List Argument) (shaped : have_shapes (k
   told_sum false holds = refl
 
   pub of_ready : are_read K (known_row k).shapes xs ≡ true → told (row_outcome (known_row k) K xs) ≡ state_of_row K xs (Some (known_row k))
-  unfolding row_outcome
   of_ready ready =
       let vs = given_values K (known_row k).shapes xs in
-      told_sum ((known_row k).sums_in_128 && leave K xs) (row_holds (known_row k) vs)
+      ap told (outcome_is (known_row k) K xs) ∙ told_sum ((known_row k).sums_in_128 && leave K xs) (row_holds (known_row k) vs)
       ∙ by_sum vs ((known_row k).sums_in_128 && leave K xs) (row_holds (known_row k) vs) refl refl
       ∙ ap (state_of_values K xs (known_row k)) (sym (ready_values K (known_row k).shapes xs shaped ready))
 

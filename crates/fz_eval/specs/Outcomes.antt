@@ -1,13 +1,29 @@
 -- What a row comes to at the values that are given.
-use Rattle.std.specs.Prelude.{Bool, cond, ◌&&◌, List}
+use Rattle.std.specs.Prelude.{ℕ, suc, Bool, cond, not, ◌&&◌, ◌||◌, List, [], ◌∷◌}
+use Rattle.fz_meaning.specs.declared.kind.Kind.TheVariants.{Int as IntKind, Bool as BoolKind, Set as SetKind}
 use Rattle.fz_meaning.specs.declared.state.State.{State}
 use Rattle.fz_meaning.specs.declared.state.State.TheVariants.{TooLarge as TooLargeState}
 use Rattle.fz_meaning.specs.Values.{◌=ᴮ◌}
-use Rattle.fz_meaning.specs.Builtins.{Row, leaves_128, products}
-use Rattle.fz_meaning.specs.Meaning.{Argument, Partial, judged, row_holds}
-use Rattle.fz_kernel.specs.of_scene.Given.{given_values, ints_at}
+use Rattle.fz_meaning.specs.Builtins.{Of, Row, Shape, Test, leaves_128, products}
+use Rattle.fz_meaning.specs.Builtins.Shape.{ScalarOf, ArrayOf}
+use Rattle.fz_meaning.specs.Meaning.{Argument, Partial, judged}
+use Rattle.fz_kernel.specs.of_scene.Given.{int_at, bool_at, set_at, ints_at, bools_at, sets_at}
 use Rattle.fz_eval.specs.declared.outcome.Outcome.{Outcome}
 use Rattle.fz_eval.specs.declared.outcome.Outcome.TheVariants.{Truth, TooLarge}
+
+-- the argument at a place, read as the shape says
+abbrev pub argument_at : Partial → List Argument → ℕ → (s : Shape) → Of s
+argument_at K xs i (ScalarOf IntKind) = int_at K xs i
+argument_at K xs i (ScalarOf BoolKind) = bool_at K xs i
+argument_at K xs i (ScalarOf SetKind) = set_at K xs i
+argument_at K xs i (ArrayOf IntKind) = ints_at K xs i
+argument_at K xs i (ArrayOf BoolKind) = bools_at K xs i
+argument_at K xs i (ArrayOf SetKind) = sets_at K xs i
+
+-- a test at the arguments from a place on
+abbrev pub test_from : ℕ → Partial → List Argument → (ss : List Shape) → Test ss → Bool
+test_from i K xs [] t = t
+test_from i K xs (s ∷ ss) t = test_from (suc i) K xs ss (t (argument_at K xs i s))
 
 -- too large where a sum leaves 128 bits, or else a truth value
 abbrev pub sum_outcome : Bool → Bool → Outcome
@@ -15,12 +31,17 @@ sum_outcome leaves holds = cond leaves TooLarge (Truth holds)
 
 -- whether the row holds, unless its sum is added in 128 bits and leaves them
 unfoldable pub row_outcome : Row → Partial → List Argument → Outcome
-row_outcome r K xs = sum_outcome (r.sums_in_128 && leaves_128 (products (ints_at K xs 0) (ints_at K xs 1))) (row_holds r (given_values K r.shapes xs))
+row_outcome r K xs = sum_outcome (r.sums_in_128 && leaves_128 (products (ints_at K xs 0) (ints_at K xs 1))) (test_from 0 K xs r.shapes r.holds)
 
 -- whether the truth value says what the outcome is
 abbrev pub compared : Bool → Outcome → Outcome
 compared t TooLarge = TooLarge
 compared t (Truth b) = Truth (t =ᴮ b)
+
+-- whether the outcome is as the truth value asks, where that is true
+abbrev pub implied_by : Bool → Outcome → Outcome
+implied_by t TooLarge = TooLarge
+implied_by t (Truth b) = Truth (not t || b)
 
 -- the state of a constraint with that outcome
 abbrev pub told : Outcome → State

@@ -1,14 +1,15 @@
 //! Constraints.
 
-ghost use Rattle.std.specs.Prelude.{◌≡◌, IfOk, IsTrue, Some, ◌&&◌, true, map, option_map};
+ghost use Rattle.std.specs.Prelude.{◌≡◌, IfOk, IsTrue, Some, ◌&&◌, true, length, map, option_map};
 ghost use Rattle.fz_meaning.specs.Builtins.{leaves_128, products};
 ghost use Rattle.fz_meaning.specs.Meaning.{have_shapes, row_of, state_of_row};
-ghost use Rattle.fz_meaning.specs.Known.{known_row};
+ghost use Rattle.fz_meaning.specs.Builtins.{row_at};
+ghost use Rattle.fz_meaning.specs.Known.{HasTruth, known_row};
 ghost use Rattle.fz_data.specs.Parts.{constraint_view};
 ghost use Rattle.fz_kernel.specs.of_scene.Given.{are_read};
 ghost use Rattle.fz_kernel.specs.of_scene.Views.{arguments_of, assigned};
 ghost use Rattle.fz_eval.specs.Outcomes.{row_outcome};
-ghost use Rattle.fz_eval.specs.Readings.{ints};
+ghost use Rattle.fz_eval.specs.Readings.{ints, truth};
 ghost use Rattle.fz_eval.specs.Whole.{IsReady};
 
 use crate::builtins::of_builtin;
@@ -16,7 +17,7 @@ use crate::outcome::Outcome;
 use crate::sums::sums_leave;
 use fz_data::{ConstraintParts, Partial};
 use fz_kernel::fz_scene::{Readiness, Scene};
-use fz_meaning::{Known, State};
+use fz_meaning::{Form, Known, State};
 use std::alloc::{AllocError, Global};
 
 /// The state of a constraint: unknown without a row, whatever its values are; then without a value; then too large; then by its row.
@@ -75,16 +76,23 @@ fn is_too_large(known: Known, scene: &Scene<'_, '_>) -> bool
     known.sums_in_128() && sums_leave(scene)
 }
 
-// The row's outcome: of a form with a truth value, whether its last argument says what the base row comes to.
+// The row's outcome: of a form with a truth value, what that says of the base row's.
 #[inline(always)]
 fn of_known(alloc: Global, known: Known, scene: &Scene<'_, '_>) -> Result<Outcome, AllocError>
     ensures { IfOk result (λ o. o ≡ row_outcome (known_row known) (assigned scene.now) (arguments_of scene.now)) }
 {
     let outcome = of_builtin(alloc, known.builtin, scene)?;
-    if known.reified {
-        let last = known.shapes().len() - 1;
-        Ok(outcome.compared(scene.truth(last)))
-    } else {
-        Ok(outcome)
+    match known.form {
+        Form::Base => Ok(outcome),
+        Form::Reified => Ok(outcome.compared(last_truth(known, scene))),
+        Form::Implied => Ok(outcome.implied_by(last_truth(known, scene))),
     }
+}
+
+// The truth value behind the arguments of the base row.
+fn last_truth(known: Known, scene: &Scene<'_, '_>) -> bool
+    requires { HasTruth known.form }
+    ensures { result ≡ truth scene.now (length (row_at known.builtin).shapes) }
+{
+    scene.truth(known.shapes().len() - 1)
 }

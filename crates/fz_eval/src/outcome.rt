@@ -1,8 +1,8 @@
 //! What a row comes to.
 
-ghost use Rattle.std.specs.Prelude.{◌≡◌};
+ghost use Rattle.std.specs.Prelude.{◌≡◌, not, ◌||◌};
 ghost use Rattle.fz_meaning.specs.Values.{◌=ᴮ◌};
-ghost use Rattle.fz_eval.specs.Outcomes.{compared, told};
+ghost use Rattle.fz_eval.specs.Outcomes.{compared, implied_by, told};
 
 use fz_meaning::State;
 
@@ -20,6 +20,16 @@ impl Outcome {
     {
         match self {
             Outcome::Truth(holds) => Outcome::Truth(truth == holds),
+            Outcome::TooLarge => Outcome::TooLarge,
+        }
+    }
+
+    /// Whether this is as the truth value asks, where that is true.
+    pub(crate) fn implied_by(self, truth: bool) -> Outcome
+        ensures { result ≡ implied_by truth self }
+    {
+        match self {
+            Outcome::Truth(holds) => Outcome::Truth(!truth || holds),
             Outcome::TooLarge => Outcome::TooLarge,
         }
     }

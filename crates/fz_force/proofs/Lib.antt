@@ -3,7 +3,7 @@ pub mod Plain
 pub mod RowLemmas
 pub mod Reified
 pub mod RowKinds
-pub mod LeftReadings
+pub mod CountRows
 pub mod Opens
 pub mod Spots
 pub mod Gaps

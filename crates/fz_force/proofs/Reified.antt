@@ -11,11 +11,14 @@ use Rattle.fz_meaning.specs.Builtins.Shape.{ScalarOf, ArrayOf}
 use Rattle.fz_meaning.specs.Builtins.ArgValue.{OneValue}
 use Rattle.fz_meaning.specs.Meaning.{Argument, Partial, row_holds}
 use Rattle.fz_meaning.proofs.Values.{no, bool_itself}
-use Rattle.fz_meaning.specs.Known.{known_row, row_at}
+use Rattle.fz_meaning.specs.Builtins.{row_at}
+use Rattle.fz_meaning.specs.Known.{form_at, known_row}
+use Rattle.fz_meaning.specs.declared.known.Form.TheVariants.{Base as FormBase, Reified as FormReified, Implied as FormImplied}
 use Rattle.fz_meaning.specs.declared.known.Known.{Known}
 use Rattle.fz_meaning.proofs.TableRows.{plain_ints, plain_bools, plain_sets, AreRead, reified_holds}
 use Rattle.fz_eval.specs.of_scene.Given.{given, given_from, given_values, ints_at, bools_at, sets_at}
 use Rattle.fz_eval.specs.Outcomes.{row_outcome, sum_outcome}
+use Rattle.fz_eval.proofs.Rows.{outcome_is}
 use Rattle.fz_eval.specs.declared.outcome.Outcome.TheVariants.{Truth as TruthOutcome, TooLarge}
 use Rattle.fz_force.specs.Left.{IsLeft, IsOfKind, IsPlaceOf, holds_with, is_too_large, products_leave}
 use Rattle.fz_force.proofs.RowLemmas.{only_place}
@@ -56,12 +59,10 @@ large false holds e = cc
 
 module _ (r : Row) (K : Partial) (xs : List Argument) where
   pub told_truth : (t : Bool) → row_outcome r K xs ≡ TruthOutcome t → (is_too_large r K xs ≡ false) × (t ≡ row_holds r (given_values K r.shapes xs))
-  unfolding row_outcome
-  told_truth t e = told (is_too_large r K xs) (row_holds r (given_values K r.shapes xs)) t e
+  told_truth t e = told (is_too_large r K xs) (row_holds r (given_values K r.shapes xs)) t (sym (outcome_is r K xs) ∙ e)
 
   pub told_large : row_outcome r K xs ≡ TooLarge → is_too_large r K xs ≡ true
-  unfolding row_outcome
-  told_large e = large (is_too_large r K xs) (row_holds r (given_values K r.shapes xs)) e
+  told_large e = large (is_too_large r K xs) (row_holds r (given_values K r.shapes xs)) (sym (outcome_is r K xs) ∙ e)
 
 -- ---- a known row that is a form with a truth value
 
@@ -69,20 +70,23 @@ last_kind : (ss : List Shape) (k : Kind) → slice_get (with_bool ss) (length ss
 last_kind [] k e = cc
 last_kind (s ∷ ss) k e = last_kind ss k e
 
-pub form_left : (known : Known) (K : Partial) (xs : List Argument) (i : ℕ) {E : Type 0} (result : Result (Option Value) E) → known.reified ≡ true → IsPlaceOf (known_row known).result i
+pub form_left : (known : Known) (K : Partial) (xs : List Argument) (i : ℕ) {E : Type 0} (result : Result (Option Value) E) → known.form ≡ FormReified → IsPlaceOf (known_row known).result i
     → (is_too_large (row_at known.builtin) K xs ≡ false → IfOk result (λ left. IsLeft BoolKind (holds_with (reified (row_at known.builtin)) K xs i) left))
     → (k : Kind) → IsOfKind (known_row known).shapes i k → is_too_large (known_row known) K xs ≡ false → IfOk result (λ left. IsLeft k (holds_with (known_row known) K xs i) left)
 form_left known K xs i result form place h k kind fits =
     let r : Row = row_at known.builtin in
-    let is : known_row known ≡ reified r = ap (λ t. cond t (reified r) r) form in
+    let is : known_row known ≡ reified r = ap (λ f. form_at f r) form in
     let here : i ≡ length r.shapes = only_place (length r.shapes) i (subst (λ s. IsPlaceOf s.result i) is place) in
     let bool : BoolKind ≡ k = last_kind r.shapes k (subst (λ j. slice_get (with_bool r.shapes) j ≡ Some (ScalarOf k)) here (subst (λ s. IsOfKind s.shapes i k) is kind)) in
     let left : IfOk result (λ left. IsLeft BoolKind (holds_with (reified r) K xs i) left) = h (subst (λ s. is_too_large s K xs ≡ false) is fits) in
     subst₂ (λ s j. IfOk result (λ left. IsLeft j (holds_with s K xs i) left)) (sym is) bool left
 
-pub base_fits : (known : Known) (K : Partial) (xs : List Argument) (i : ℕ) → known.reified ≡ false → IsPlaceOf (known_row known).result i → is_too_large (known_row known) K xs ≡ true → ⊥
+pub base_fits : (known : Known) (K : Partial) (xs : List Argument) (i : ℕ) → known.form ≡ FormBase → IsPlaceOf (known_row known).result i → is_too_large (known_row known) K xs ≡ true → ⊥
 base_fits known K xs i base place large =
     let r : Row = row_at known.builtin in
-    let is : known_row known ≡ r = ap (λ t. cond t (reified r) r) base in
+    let is : known_row known ≡ r = ap (λ f. form_at f r) base in
     let none : r.sums_in_128 ≡ false = adds_nothing known.builtin i (subst (λ s. IsPlaceOf s.result i) is place) in
     no (ap (λ b. b && products_leave K xs) (sym none) ∙ ap (λ s. is_too_large s K xs) (sym is) ∙ large)
+
+pub no_implied : (known : Known) (i : ℕ) → known.form ≡ FormImplied → IsPlaceOf (known_row known).result i → ⊥
+no_implied known i implied place = subst (λ f. IsPlaceOf (form_at f (row_at known.builtin)).result i) implied place

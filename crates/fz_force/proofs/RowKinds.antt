@@ -1,232 +1,135 @@
 -- Which rows leave a number, a truth value or a set: those of which a scalar of that kind stands at a result place.
-use Rattle.std.proofs.Common.{◌≡◌, ℕ, false, List, [], ◌∷◌, refl, ◌⊎◌, inl, inr}
-use Rattle.std.specs.Prelude.{⊤}
+use Rattle.std.proofs.Common.{◌≡◌, ℕ, suc, zero, Bool, true, false, not, ◌||◌, List, [], ◌∷◌, slice_get, bytes_eq, Contains, refl, sym, ap, subst, ◌∙◌, ◌⊎◌, inl, inr, arith}
+use Rattle.std.specs.List.{list_all, list_any}
+use Rattle.std.specs.Option.{option_map_or}
+use Rattle.fz_meaning.specs.declared.kind.Kind.{Kind}
 use Rattle.fz_meaning.specs.declared.kind.Kind.TheVariants.{Int as IntKind, Bool as BoolKind, Set as SetKind}
-use Rattle.fz_meaning.specs.Known.{name_of, row_at}
+use Rattle.fz_meaning.specs.Values.{same_kind}
+use Rattle.fz_meaning.specs.Builtins.{Shape, Result, Row, builtins, row_at}
+use Rattle.fz_meaning.specs.Builtins.Shape.{ScalarOf, ArrayOf}
+use Rattle.fz_meaning.specs.Builtins.Result.{NoResult, Places, UnitTerm}
+use Rattle.fz_meaning.specs.Known.{name_of}
 use Rattle.fz_meaning.specs.declared.builtin.Builtin.{Builtin}
-use Rattle.fz_meaning.specs.declared.builtin.Builtin.TheVariants.{IntEq, IntNe, IntLe, IntLt, IntLinEq, IntLinNe, IntLinLe, IntPlus, IntTimes, IntMin, IntMax, IntAbs, IntDiv, IntMod, ArrayIntElement, ArrayVarIntElement, ArrayIntMaximum, ArrayIntMinimum, FznAllDifferentInt, BoolEq, BoolLe, BoolLt, BoolNot, BoolAnd, BoolOr, BoolXor, ArrayBoolAnd, ArrayBoolOr, ArrayBoolXor, ArrayBoolElement, ArrayVarBoolElement, BoolClause, Bool2Int, BoolLinEq, BoolLinLe, SetIn, SetEq, SetNe, SetSubset, SetSuperset, SetUnion, SetIntersect, SetDiff, SetSymdiff, SetCard, ArraySetElement, ArrayVarSetElement}
+use Rattle.fz_meaning.specs.declared.builtin.Builtin.TheVariants as builtin
+use Rattle.fz_meaning.proofs.Named.{same_name}
+use Rattle.fz_meaning.proofs.FoundRows.{each_builtin, own_name}
+use Rattle.fz_meaning.proofs.Values.{no}
+use Rattle.fz_force.specs.Counted.{IsNoneOf}
 use Rattle.fz_force.specs.Left.{IsOfKind, IsPlaceOf}
-use Rattle.fz_force.proofs.RowLemmas.{only_place, either_place}
 
 abbrev pub IsOneOf : Builtin → List Builtin → Type 0
 IsOneOf b [] = ⊥
 IsOneOf b (c ∷ cs) = (b ≡ c) ⊎ IsOneOf b cs
-
-abbrev pub IsNoneOf : Builtin → List Builtin → Type 0
-IsNoneOf b [] = ⊤
-IsNoneOf b (c ∷ cs) = (b ≡ c → ⊥) × IsNoneOf b cs
 
 pub not_both : (b : Builtin) (cs : List Builtin) → IsOneOf b cs → IsNoneOf b cs → ⊥
 not_both b [] is none = is
 not_both b (c ∷ cs) (inl is) none = none.0 is
 not_both b (c ∷ cs) (inr is) none = not_both b cs is none.1
 
+-- ---- what is computed of the table
+
+places : Result → List ℕ
+places NoResult = []
+places (Places is) = is
+places UnitTerm = []
+
+is_scalar_of : Kind → Shape → Bool
+is_scalar_of k (ScalarOf j) = same_kind j k
+is_scalar_of k (ArrayOf j) = false
+
+-- a scalar of the kind stands at a result place
+fills : Kind → Row → Bool
+fills k r = list_any (λ i. option_map_or (is_scalar_of k) (slice_get r.shapes i) false) (places r.result)
+
+is_one_of : Builtin → List Builtin → Bool
+is_one_of b cs = list_any (λ c. bytes_eq (name_of c) (name_of b)) cs
+
+from_name : (b : Builtin) (cs : List Builtin) → is_one_of b cs ≡ true → IsOneOf b cs
+unfolding is_one_of
+from_name b [] e = no e
+from_name b (c ∷ cs) e =
+    elim (bytes_eq (name_of c) (name_of b)) as (λ d. bytes_eq (name_of c) (name_of b) ≡ d → (d || is_one_of b cs) ≡ true → IsOneOf b (c ∷ cs)) [
+      | true ↦ λ same _. inl (own_name b c (sym (same_name (name_of c) (name_of b) same)))
+      | false ↦ λ _ e. inr (from_name b cs e)
+    ] refl e
+
+any_listed : (q : ℕ → Bool) (is : List ℕ) (i : ℕ) → Contains is i → q i ≡ true → list_any q is ≡ true
+any_listed q [] i (k, below, e) h = absurd (omega arith)
+any_listed q (j ∷ js) i (zero, below, e) h = ap (λ b. b || list_any q js) (ap q e ∙ h)
+any_listed q (j ∷ js) i (suc k, below, e) h = elim (q j) as (λ b. (b || list_any q js) ≡ true) [ true ↦ refl | false ↦ any_listed q js i (k, omega arith, e) h ]
+
+is_itself : (k : Kind) → same_kind k k ≡ true
+is_itself IntKind = refl
+is_itself BoolKind = refl
+is_itself SetKind = refl
+
+at_places : (o : Result) (i : ℕ) → IsPlaceOf o i → Contains (places o) i
+unfolding places
+at_places NoResult i place = absurd place
+at_places (Places is) i place = place
+at_places UnitTerm i place = absurd place
+
+filled : (k : Kind) (r : Row) (i : ℕ) → IsPlaceOf r.result i → IsOfKind r.shapes i k → fills k r ≡ true
+unfolding fills is_scalar_of
+filled k r i place kind = any_listed _ (places r.result) i (at_places r.result i place) (ap (λ o. option_map_or (is_scalar_of k) o false) kind ∙ is_itself k)
+
+one_way : (a b : Bool) → (not a || b) ≡ true → a ≡ true → b ≡ true
+one_way true b h e = h
+one_way false b h e = no e
+
+-- all rows that fill a scalar of the kind are these
+module _ (k : Kind) (cs : List Builtin) (all : list_all (λ b. not (fills k (row_at b)) || is_one_of b cs) builtins ≡ true) where
+  leaves : (b : Builtin) (i : ℕ) → IsPlaceOf (row_at b).result i → IsOfKind (row_at b).shapes i k → IsOneOf b cs
+  leaves b i place kind =
+      from_name b cs (one_way (fills k (row_at b)) (is_one_of b cs) (each_builtin (λ b. not (fills k (row_at b)) || is_one_of b cs) all b) (filled k (row_at b) i place kind))
+
+-- ---- the rows
+
 abbrev pub number_rows : List Builtin
-number_rows = IntEq ∷ IntPlus ∷ IntTimes ∷ IntMin ∷ IntMax ∷ IntAbs ∷ IntDiv ∷ IntMod ∷ ArrayIntElement ∷ ArrayVarIntElement ∷ ArrayIntMaximum ∷ ArrayIntMinimum ∷ Bool2Int ∷ BoolLinEq ∷ SetCard ∷ []
+number_rows = builtin.Count ∷ builtin.GecodeCount ∷ builtin.FznCountEq ∷ builtin.FznAmong ∷ builtin.FznNvalue ∷ builtin.GecodeMaximumArgIntOffset ∷ builtin.GecodeMinimumArgIntOffset ∷ builtin.IntEq ∷ builtin.IntPlus ∷ builtin.IntTimes ∷ builtin.IntMin ∷ builtin.IntMax ∷ builtin.IntAbs ∷ builtin.IntDiv ∷ builtin.IntMod ∷ builtin.ArrayIntElement ∷ builtin.ArrayVarIntElement ∷ builtin.ArrayIntMaximum ∷ builtin.ArrayIntMinimum ∷ builtin.Bool2Int ∷ builtin.BoolLinEq ∷ builtin.SetCard ∷ []
+
+all_number_rows : list_all (λ b. not (fills IntKind (row_at b)) || is_one_of b number_rows) builtins ≡ true
+unfolding row_at builtins fills is_scalar_of places is_one_of
+all_number_rows = refl
 
 pub leaves_number : (b : Builtin) (i : ℕ) → IsPlaceOf (row_at b).result i → IsOfKind (row_at b).shapes i IntKind → IsOneOf b number_rows
-unfolding row_at name_of
-leaves_number IntEq i place kind = inl refl
-leaves_number IntNe i place kind = absurd place
-leaves_number IntLe i place kind = absurd place
-leaves_number IntLt i place kind = absurd place
-leaves_number IntLinEq i place kind = absurd place
-leaves_number IntLinNe i place kind = absurd place
-leaves_number IntLinLe i place kind = absurd place
-leaves_number IntPlus i place kind = inr (inl refl)
-leaves_number IntTimes i place kind = inr (inr (inl refl))
-leaves_number IntMin i place kind = inr (inr (inr (inl refl)))
-leaves_number IntMax i place kind = inr (inr (inr (inr (inl refl))))
-leaves_number IntAbs i place kind = inr (inr (inr (inr (inr (inl refl)))))
-leaves_number IntDiv i place kind = inr (inr (inr (inr (inr (inr (inl refl))))))
-leaves_number IntMod i place kind = inr (inr (inr (inr (inr (inr (inr (inl refl)))))))
-leaves_number ArrayIntElement i place kind = inr (inr (inr (inr (inr (inr (inr (inr (inl refl))))))))
-leaves_number ArrayVarIntElement i place kind = inr (inr (inr (inr (inr (inr (inr (inr (inr (inl refl)))))))))
-leaves_number ArrayIntMaximum i place kind = inr (inr (inr (inr (inr (inr (inr (inr (inr (inr (inl refl))))))))))
-leaves_number ArrayIntMinimum i place kind = inr (inr (inr (inr (inr (inr (inr (inr (inr (inr (inr (inl refl)))))))))))
-leaves_number FznAllDifferentInt i place kind = absurd place
-leaves_number BoolEq i place kind = elim (either_place 0 1 i place) [ inl here ↦ let is = rw here at kind in cc | inr here ↦ let is = rw here at kind in cc ]
-leaves_number BoolLe i place kind = absurd place
-leaves_number BoolLt i place kind = absurd place
-leaves_number BoolNot i place kind = elim (either_place 0 1 i place) [ inl here ↦ let is = rw here at kind in cc | inr here ↦ let is = rw here at kind in cc ]
-leaves_number BoolAnd i place kind = let here : i ≡ 2 = only_place 2 i place in let is = rw here at kind in cc
-leaves_number BoolOr i place kind = let here : i ≡ 2 = only_place 2 i place in let is = rw here at kind in cc
-leaves_number BoolXor i place kind = let here : i ≡ 2 = only_place 2 i place in let is = rw here at kind in cc
-leaves_number ArrayBoolAnd i place kind = let here : i ≡ 1 = only_place 1 i place in let is = rw here at kind in cc
-leaves_number ArrayBoolOr i place kind = let here : i ≡ 1 = only_place 1 i place in let is = rw here at kind in cc
-leaves_number ArrayBoolXor i place kind = absurd place
-leaves_number ArrayBoolElement i place kind = let here : i ≡ 2 = only_place 2 i place in let is = rw here at kind in cc
-leaves_number ArrayVarBoolElement i place kind = let here : i ≡ 2 = only_place 2 i place in let is = rw here at kind in cc
-leaves_number BoolClause i place kind = absurd place
-leaves_number Bool2Int i place kind = inr (inr (inr (inr (inr (inr (inr (inr (inr (inr (inr (inr (inl refl))))))))))))
-leaves_number BoolLinEq i place kind = inr (inr (inr (inr (inr (inr (inr (inr (inr (inr (inr (inr (inr (inl refl)))))))))))))
-leaves_number BoolLinLe i place kind = absurd place
-leaves_number SetIn i place kind = absurd place
-leaves_number SetEq i place kind = elim (either_place 0 1 i place) [ inl here ↦ let is = rw here at kind in cc | inr here ↦ let is = rw here at kind in cc ]
-leaves_number SetNe i place kind = absurd place
-leaves_number SetSubset i place kind = absurd place
-leaves_number SetSuperset i place kind = absurd place
-leaves_number SetUnion i place kind = let here : i ≡ 2 = only_place 2 i place in let is = rw here at kind in cc
-leaves_number SetIntersect i place kind = let here : i ≡ 2 = only_place 2 i place in let is = rw here at kind in cc
-leaves_number SetDiff i place kind = let here : i ≡ 2 = only_place 2 i place in let is = rw here at kind in cc
-leaves_number SetSymdiff i place kind = let here : i ≡ 2 = only_place 2 i place in let is = rw here at kind in cc
-leaves_number SetCard i place kind = inr (inr (inr (inr (inr (inr (inr (inr (inr (inr (inr (inr (inr (inr (inl refl))))))))))))))
-leaves_number ArraySetElement i place kind = let here : i ≡ 2 = only_place 2 i place in let is = rw here at kind in cc
-leaves_number ArrayVarSetElement i place kind = let here : i ≡ 2 = only_place 2 i place in let is = rw here at kind in cc
+leaves_number = leaves IntKind number_rows all_number_rows
 
 abbrev pub truth_rows : List Builtin
-truth_rows = BoolEq ∷ BoolNot ∷ BoolAnd ∷ BoolOr ∷ BoolXor ∷ ArrayBoolAnd ∷ ArrayBoolOr ∷ ArrayBoolElement ∷ ArrayVarBoolElement ∷ Bool2Int ∷ []
+truth_rows = builtin.BoolEq ∷ builtin.BoolNot ∷ builtin.BoolAnd ∷ builtin.BoolOr ∷ builtin.BoolXor ∷ builtin.ArrayBoolAnd ∷ builtin.ArrayBoolOr ∷ builtin.ArrayBoolElement ∷ builtin.ArrayVarBoolElement ∷ builtin.Bool2Int ∷ []
+
+all_truth_rows : list_all (λ b. not (fills BoolKind (row_at b)) || is_one_of b truth_rows) builtins ≡ true
+unfolding row_at builtins fills is_scalar_of places is_one_of
+all_truth_rows = refl
 
 pub leaves_truth : (b : Builtin) (i : ℕ) → IsPlaceOf (row_at b).result i → IsOfKind (row_at b).shapes i BoolKind → IsOneOf b truth_rows
-unfolding row_at name_of
-leaves_truth IntEq i place kind = elim (either_place 0 1 i place) [ inl here ↦ let is = rw here at kind in cc | inr here ↦ let is = rw here at kind in cc ]
-leaves_truth IntNe i place kind = absurd place
-leaves_truth IntLe i place kind = absurd place
-leaves_truth IntLt i place kind = absurd place
-leaves_truth IntLinEq i place kind = absurd place
-leaves_truth IntLinNe i place kind = absurd place
-leaves_truth IntLinLe i place kind = absurd place
-leaves_truth IntPlus i place kind = let here : i ≡ 2 = only_place 2 i place in let is = rw here at kind in cc
-leaves_truth IntTimes i place kind = let here : i ≡ 2 = only_place 2 i place in let is = rw here at kind in cc
-leaves_truth IntMin i place kind = let here : i ≡ 2 = only_place 2 i place in let is = rw here at kind in cc
-leaves_truth IntMax i place kind = let here : i ≡ 2 = only_place 2 i place in let is = rw here at kind in cc
-leaves_truth IntAbs i place kind = let here : i ≡ 1 = only_place 1 i place in let is = rw here at kind in cc
-leaves_truth IntDiv i place kind = let here : i ≡ 2 = only_place 2 i place in let is = rw here at kind in cc
-leaves_truth IntMod i place kind = let here : i ≡ 2 = only_place 2 i place in let is = rw here at kind in cc
-leaves_truth ArrayIntElement i place kind = let here : i ≡ 2 = only_place 2 i place in let is = rw here at kind in cc
-leaves_truth ArrayVarIntElement i place kind = let here : i ≡ 2 = only_place 2 i place in let is = rw here at kind in cc
-leaves_truth ArrayIntMaximum i place kind = let here : i ≡ 0 = only_place 0 i place in let is = rw here at kind in cc
-leaves_truth ArrayIntMinimum i place kind = let here : i ≡ 0 = only_place 0 i place in let is = rw here at kind in cc
-leaves_truth FznAllDifferentInt i place kind = absurd place
-leaves_truth BoolEq i place kind = inl refl
-leaves_truth BoolLe i place kind = absurd place
-leaves_truth BoolLt i place kind = absurd place
-leaves_truth BoolNot i place kind = inr (inl refl)
-leaves_truth BoolAnd i place kind = inr (inr (inl refl))
-leaves_truth BoolOr i place kind = inr (inr (inr (inl refl)))
-leaves_truth BoolXor i place kind = inr (inr (inr (inr (inl refl))))
-leaves_truth ArrayBoolAnd i place kind = inr (inr (inr (inr (inr (inl refl)))))
-leaves_truth ArrayBoolOr i place kind = inr (inr (inr (inr (inr (inr (inl refl))))))
-leaves_truth ArrayBoolXor i place kind = absurd place
-leaves_truth ArrayBoolElement i place kind = inr (inr (inr (inr (inr (inr (inr (inl refl)))))))
-leaves_truth ArrayVarBoolElement i place kind = inr (inr (inr (inr (inr (inr (inr (inr (inl refl))))))))
-leaves_truth BoolClause i place kind = absurd place
-leaves_truth Bool2Int i place kind = inr (inr (inr (inr (inr (inr (inr (inr (inr (inl refl)))))))))
-leaves_truth BoolLinEq i place kind = let here : i ≡ 2 = only_place 2 i place in let is = rw here at kind in cc
-leaves_truth BoolLinLe i place kind = absurd place
-leaves_truth SetIn i place kind = absurd place
-leaves_truth SetEq i place kind = elim (either_place 0 1 i place) [ inl here ↦ let is = rw here at kind in cc | inr here ↦ let is = rw here at kind in cc ]
-leaves_truth SetNe i place kind = absurd place
-leaves_truth SetSubset i place kind = absurd place
-leaves_truth SetSuperset i place kind = absurd place
-leaves_truth SetUnion i place kind = let here : i ≡ 2 = only_place 2 i place in let is = rw here at kind in cc
-leaves_truth SetIntersect i place kind = let here : i ≡ 2 = only_place 2 i place in let is = rw here at kind in cc
-leaves_truth SetDiff i place kind = let here : i ≡ 2 = only_place 2 i place in let is = rw here at kind in cc
-leaves_truth SetSymdiff i place kind = let here : i ≡ 2 = only_place 2 i place in let is = rw here at kind in cc
-leaves_truth SetCard i place kind = let here : i ≡ 1 = only_place 1 i place in let is = rw here at kind in cc
-leaves_truth ArraySetElement i place kind = let here : i ≡ 2 = only_place 2 i place in let is = rw here at kind in cc
-leaves_truth ArrayVarSetElement i place kind = let here : i ≡ 2 = only_place 2 i place in let is = rw here at kind in cc
+leaves_truth = leaves BoolKind truth_rows all_truth_rows
 
 abbrev pub set_rows : List Builtin
-set_rows = SetEq ∷ SetUnion ∷ SetIntersect ∷ SetDiff ∷ SetSymdiff ∷ ArraySetElement ∷ ArrayVarSetElement ∷ []
+set_rows = builtin.SetEq ∷ builtin.SetUnion ∷ builtin.SetIntersect ∷ builtin.SetDiff ∷ builtin.SetSymdiff ∷ builtin.ArraySetElement ∷ builtin.ArrayVarSetElement ∷ []
+
+all_set_rows : list_all (λ b. not (fills SetKind (row_at b)) || is_one_of b set_rows) builtins ≡ true
+unfolding row_at builtins fills is_scalar_of places is_one_of
+all_set_rows = refl
 
 pub leaves_set : (b : Builtin) (i : ℕ) → IsPlaceOf (row_at b).result i → IsOfKind (row_at b).shapes i SetKind → IsOneOf b set_rows
-unfolding row_at name_of
-leaves_set IntEq i place kind = elim (either_place 0 1 i place) [ inl here ↦ let is = rw here at kind in cc | inr here ↦ let is = rw here at kind in cc ]
-leaves_set IntNe i place kind = absurd place
-leaves_set IntLe i place kind = absurd place
-leaves_set IntLt i place kind = absurd place
-leaves_set IntLinEq i place kind = absurd place
-leaves_set IntLinNe i place kind = absurd place
-leaves_set IntLinLe i place kind = absurd place
-leaves_set IntPlus i place kind = let here : i ≡ 2 = only_place 2 i place in let is = rw here at kind in cc
-leaves_set IntTimes i place kind = let here : i ≡ 2 = only_place 2 i place in let is = rw here at kind in cc
-leaves_set IntMin i place kind = let here : i ≡ 2 = only_place 2 i place in let is = rw here at kind in cc
-leaves_set IntMax i place kind = let here : i ≡ 2 = only_place 2 i place in let is = rw here at kind in cc
-leaves_set IntAbs i place kind = let here : i ≡ 1 = only_place 1 i place in let is = rw here at kind in cc
-leaves_set IntDiv i place kind = let here : i ≡ 2 = only_place 2 i place in let is = rw here at kind in cc
-leaves_set IntMod i place kind = let here : i ≡ 2 = only_place 2 i place in let is = rw here at kind in cc
-leaves_set ArrayIntElement i place kind = let here : i ≡ 2 = only_place 2 i place in let is = rw here at kind in cc
-leaves_set ArrayVarIntElement i place kind = let here : i ≡ 2 = only_place 2 i place in let is = rw here at kind in cc
-leaves_set ArrayIntMaximum i place kind = let here : i ≡ 0 = only_place 0 i place in let is = rw here at kind in cc
-leaves_set ArrayIntMinimum i place kind = let here : i ≡ 0 = only_place 0 i place in let is = rw here at kind in cc
-leaves_set FznAllDifferentInt i place kind = absurd place
-leaves_set BoolEq i place kind = elim (either_place 0 1 i place) [ inl here ↦ let is = rw here at kind in cc | inr here ↦ let is = rw here at kind in cc ]
-leaves_set BoolLe i place kind = absurd place
-leaves_set BoolLt i place kind = absurd place
-leaves_set BoolNot i place kind = elim (either_place 0 1 i place) [ inl here ↦ let is = rw here at kind in cc | inr here ↦ let is = rw here at kind in cc ]
-leaves_set BoolAnd i place kind = let here : i ≡ 2 = only_place 2 i place in let is = rw here at kind in cc
-leaves_set BoolOr i place kind = let here : i ≡ 2 = only_place 2 i place in let is = rw here at kind in cc
-leaves_set BoolXor i place kind = let here : i ≡ 2 = only_place 2 i place in let is = rw here at kind in cc
-leaves_set ArrayBoolAnd i place kind = let here : i ≡ 1 = only_place 1 i place in let is = rw here at kind in cc
-leaves_set ArrayBoolOr i place kind = let here : i ≡ 1 = only_place 1 i place in let is = rw here at kind in cc
-leaves_set ArrayBoolXor i place kind = absurd place
-leaves_set ArrayBoolElement i place kind = let here : i ≡ 2 = only_place 2 i place in let is = rw here at kind in cc
-leaves_set ArrayVarBoolElement i place kind = let here : i ≡ 2 = only_place 2 i place in let is = rw here at kind in cc
-leaves_set BoolClause i place kind = absurd place
-leaves_set Bool2Int i place kind = elim (either_place 0 1 i place) [ inl here ↦ let is = rw here at kind in cc | inr here ↦ let is = rw here at kind in cc ]
-leaves_set BoolLinEq i place kind = let here : i ≡ 2 = only_place 2 i place in let is = rw here at kind in cc
-leaves_set BoolLinLe i place kind = absurd place
-leaves_set SetIn i place kind = absurd place
-leaves_set SetEq i place kind = inl refl
-leaves_set SetNe i place kind = absurd place
-leaves_set SetSubset i place kind = absurd place
-leaves_set SetSuperset i place kind = absurd place
-leaves_set SetUnion i place kind = inr (inl refl)
-leaves_set SetIntersect i place kind = inr (inr (inl refl))
-leaves_set SetDiff i place kind = inr (inr (inr (inl refl)))
-leaves_set SetSymdiff i place kind = inr (inr (inr (inr (inl refl))))
-leaves_set SetCard i place kind = let here : i ≡ 1 = only_place 1 i place in let is = rw here at kind in cc
-leaves_set ArraySetElement i place kind = inr (inr (inr (inr (inr (inl refl)))))
-leaves_set ArrayVarSetElement i place kind = inr (inr (inr (inr (inr (inr (inl refl))))))
+leaves_set = leaves SetKind set_rows all_set_rows
 
 -- no row that adds up in 128 bits has a result place
+adds_or_fills : list_all (λ b. not (row_at b).sums_in_128 || list_all (λ i. false) (places (row_at b).result)) builtins ≡ true
+unfolding row_at builtins places
+adds_or_fills = refl
+
+none_filled : (o : Result) (i : ℕ) → list_all (λ i. false) (places o) ≡ true → IsPlaceOf o i → ⊥
+unfolding places
+none_filled NoResult i h place = place
+none_filled (Places []) i h (k, below, e) = absurd (omega arith)
+none_filled (Places (j ∷ js)) i h place = no h
+none_filled UnitTerm i h place = place
+
 pub adds_nothing : (b : Builtin) (i : ℕ) → IsPlaceOf (row_at b).result i → (row_at b).sums_in_128 ≡ false
-unfolding row_at name_of
-adds_nothing IntEq i place = refl
-adds_nothing IntNe i place = absurd place
-adds_nothing IntLe i place = absurd place
-adds_nothing IntLt i place = absurd place
-adds_nothing IntLinEq i place = absurd place
-adds_nothing IntLinNe i place = absurd place
-adds_nothing IntLinLe i place = absurd place
-adds_nothing IntPlus i place = refl
-adds_nothing IntTimes i place = refl
-adds_nothing IntMin i place = refl
-adds_nothing IntMax i place = refl
-adds_nothing IntAbs i place = refl
-adds_nothing IntDiv i place = refl
-adds_nothing IntMod i place = refl
-adds_nothing ArrayIntElement i place = refl
-adds_nothing ArrayVarIntElement i place = refl
-adds_nothing ArrayIntMaximum i place = refl
-adds_nothing ArrayIntMinimum i place = refl
-adds_nothing FznAllDifferentInt i place = absurd place
-adds_nothing BoolEq i place = refl
-adds_nothing BoolLe i place = absurd place
-adds_nothing BoolLt i place = absurd place
-adds_nothing BoolNot i place = refl
-adds_nothing BoolAnd i place = refl
-adds_nothing BoolOr i place = refl
-adds_nothing BoolXor i place = refl
-adds_nothing ArrayBoolAnd i place = refl
-adds_nothing ArrayBoolOr i place = refl
-adds_nothing ArrayBoolXor i place = absurd place
-adds_nothing ArrayBoolElement i place = refl
-adds_nothing ArrayVarBoolElement i place = refl
-adds_nothing BoolClause i place = absurd place
-adds_nothing Bool2Int i place = refl
-adds_nothing BoolLinEq i place = refl
-adds_nothing BoolLinLe i place = absurd place
-adds_nothing SetIn i place = absurd place
-adds_nothing SetEq i place = refl
-adds_nothing SetNe i place = absurd place
-adds_nothing SetSubset i place = absurd place
-adds_nothing SetSuperset i place = absurd place
-adds_nothing SetUnion i place = refl
-adds_nothing SetIntersect i place = refl
-adds_nothing SetDiff i place = refl
-adds_nothing SetSymdiff i place = refl
-adds_nothing SetCard i place = refl
-adds_nothing ArraySetElement i place = refl
-adds_nothing ArrayVarSetElement i place = refl
+adds_nothing b i place =
+    elim (row_at b).sums_in_128 as (λ sums. (not sums || list_all (λ i. false) (places (row_at b).result)) ≡ true → sums ≡ false) [
+      | true ↦ λ h. absurd (none_filled (row_at b).result i h place)
+      | false ↦ λ _. refl
+    ] (each_builtin (λ b. not (row_at b).sums_in_128 || list_all (λ i. false) (places (row_at b).result)) adds_or_fills b)

@@ -4,7 +4,7 @@ use Rattle.std.specs.List.{list_all}
 use Rattle.std.specs.Option.{option_map_or}
 use Rattle.fz_meaning.specs.declared.kind.Kind.{Kind}
 use Rattle.fz_meaning.specs.declared.kind.Kind.TheVariants.{Int as IntKind}
-use Rattle.fz_meaning.specs.Builtins.{Shape, Row, Result, rows, reified}
+use Rattle.fz_meaning.specs.Builtins.{Shape, Row, Result, builtins, row_at, rows}
 use Rattle.fz_meaning.specs.Builtins.Shape.{ScalarOf, ArrayOf}
 use Rattle.fz_meaning.specs.Builtins.Result.{NoResult, Places, UnitTerm}
 use Rattle.fz_meaning.specs.Meaning.{Argument, Partial, fits, have_shapes, sums_leave}
@@ -12,7 +12,9 @@ use Rattle.fz_meaning.proofs.Values.{no, and_first, and_second}
 use Rattle.fz_meaning.specs.declared.builtin.Builtin.{Builtin}
 use Rattle.fz_meaning.specs.declared.builtin.Builtin.TheVariants.{IntLinEq}
 use Rattle.fz_meaning.specs.declared.known.Known.{Known}
-use Rattle.fz_meaning.specs.Known.{name_of, row_at, known_row}
+use Rattle.fz_meaning.specs.Known.{form_at, known_row}
+use Rattle.fz_meaning.specs.declared.known.Form.{Form}
+use Rattle.fz_meaning.specs.declared.known.Form.TheVariants.{Base, Reified, Implied}
 use Rattle.fz_eval.proofs.of_scene.Sums.{sums_leave_is}
 use Rattle.fz_force.specs.Left.{IsOfKind, IsPlaceOf, is_too_large, products_leave}
 use Rattle.fz_force.specs.Forced.{IsRow}
@@ -44,7 +46,7 @@ are_scalars ss (Places is) = list_all (is_scalar_at ss) is
 are_scalars ss UnitTerm = true
 
 all_fill_scalars : list_all (λ r. are_scalars r.shapes r.result) rows ≡ true
-unfolding rows is_scalar is_scalar_at are_scalars
+unfolding rows row_at builtins is_scalar is_scalar_at are_scalars
 all_fill_scalars = refl
 
 passes_at : (q : ℕ → Bool) (is : List ℕ) (i : ℕ) → list_all q is ≡ true → Contains is i → q i ≡ true
@@ -75,7 +77,7 @@ begins_with_arrays (ArrayOf IntKind ∷ ArrayOf IntKind ∷ ss) = true
 begins_with_arrays _ = false
 
 all_sums_begin : list_all (λ r. not r.sums_in_128 || begins_with_arrays r.shapes) rows ≡ true
-unfolding rows begins_with_arrays
+unfolding rows row_at builtins begins_with_arrays
 all_sums_begin = refl
 
 same_leave : (K : Partial) (xs : List Argument) (ss : List Shape) → begins_with_arrays ss ≡ true → have_shapes ss xs ≡ true → sums_leave K xs ≡ products_leave K xs
@@ -94,21 +96,22 @@ same_sums K xs r row h = by_row r.sums_in_128 (of_row (λ r. not r.sums_in_128 |
 -- ---- the row that fills an element
 
 unit_base : (b : Builtin) → (row_at b).result ≡ UnitTerm → row_at b ≡ row_at IntLinEq
-unfolding row_at name_of
+unfolding row_at
 unit_base IntLinEq e = refl
 unit_base _ e = cc
 
-unit_form : (b : Builtin) (t : Bool) → (cond t (reified (row_at b)) (row_at b)).result ≡ UnitTerm → cond t (reified (row_at b)) (row_at b) ≡ row_at IntLinEq
-unit_form b true e = cc
-unit_form b false e = unit_base b e
+unit_form : (b : Builtin) (f : Form) → (form_at f (row_at b)).result ≡ UnitTerm → form_at f (row_at b) ≡ row_at IntLinEq
+unit_form b Base e = unit_base b e
+unit_form b Reified e = cc
+unit_form b Implied e = cc
 
 pub unit_row : (k : Known) → (known_row k).result ≡ UnitTerm → known_row k ≡ row_at IntLinEq
-unit_row k e = unit_form k.builtin k.reified e
+unit_row k e = unit_form k.builtin k.form e
 
 pub unit_shapes : (row_at IntLinEq).shapes ≡ ArrayOf IntKind ∷ ArrayOf IntKind ∷ ScalarOf IntKind ∷ []
-unfolding row_at name_of
+unfolding row_at
 unit_shapes = refl
 
 pub unit_sums : (row_at IntLinEq).sums_in_128 ≡ true
-unfolding row_at name_of
+unfolding row_at
 unit_sums = refl

@@ -17,7 +17,7 @@ use Rattle.fz_meaning.proofs.Values.{no, and_first, and_second}
 use Rattle.fz_meaning.proofs.States.{intro}
 use Rattle.fz_meaning.proofs.Steps.{is_open, term_keeps, variable_open, some_of, as_number_of}
 use Rattle.fz_meaning.specs.declared.builtin.Builtin.TheVariants.{IntLinEq}
-use Rattle.fz_meaning.specs.Known.{row_at}
+use Rattle.fz_meaning.specs.Builtins.{row_at}
 use Rattle.fz_eval.specs.of_scene.Given.{slots_at, int_in, ints_of, ints_at, given, given_values}
 use Rattle.fz_eval.proofs.of_scene.Ready.{slots_are_terms}
 use Rattle.fz_force.specs.Left.{HasUnit, IsLeft, IsReadAsNone, IsUnit, holds_with_element, is_too_large, products_leave}

@@ -1,4 +1,5 @@
 pub mod Left
+pub mod Counted
 pub mod Forced
 pub mod Kinds
 pub mod Only

@@ -5,7 +5,8 @@ ghost use Rattle.fz_base.specs.declared.value.Value.TheVariants.{Int, Bool as Tr
 ghost use Rattle.fz_meaning.specs.declared.kind.Kind.TheVariants.{Int as IntKind, Bool as BoolKind, Set as SetKind};
 ghost use Rattle.fz_meaning.specs.Builtins.{element_at};
 ghost use Rattle.fz_eval.specs.of_scene.Views.{arguments_of, assigned, sets};
-ghost use Rattle.fz_meaning.specs.Known.{row_at};
+ghost use Rattle.fz_meaning.specs.Builtins.{row_at};
+ghost use Rattle.fz_force.specs.Counted.{IsNoneOf, counting_rows};
 ghost use Rattle.fz_force.specs.Left.{IsLeft, IsOfKind, IsPlaceOf, holds_with};
 
 use crate::numbers::{
@@ -20,10 +21,11 @@ use fz_eval::fz_scene::{Elements, Scene};
 use fz_meaning::Builtin;
 use std::alloc::Global;
 
-/// The number that a row leaves where a number stands.
+/// The number that a row which doesn't count leaves where a number stands.
 pub(crate) fn left_number(builtin: Builtin, place: usize, scene: &Scene<'_, '_>) -> Option<i64>
     requires result { IsPlaceOf (row_at builtin).result place }
     requires number { IsOfKind (row_at builtin).shapes place IntKind }
+    requires other { IsNoneOf builtin counting_rows }
     ensures { IsLeft IntKind (holds_with (row_at builtin) (assigned scene.now) (arguments_of scene.now) place) (option_map Int result) }
 {
     match builtin {

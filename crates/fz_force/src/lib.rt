@@ -4,6 +4,7 @@
 #![tactic(auto)]
 
 mod base_row;
+mod counted;
 mod kinds;
 mod numbers;
 mod only;

@@ -4,7 +4,7 @@ ghost use Rattle.std.specs.Prelude.{◌≡◌, None, IsFalse, IsTrue, option_map
 ghost use Rattle.fz_base.specs.declared.value.Value.TheVariants.{Int};
 ghost use Rattle.fz_meaning.specs.declared.kind.Kind.TheVariants.{Int as IntKind};
 ghost use Rattle.fz_eval.specs.of_scene.Views.{arguments_of, assigned};
-ghost use Rattle.fz_meaning.specs.Known.{row_at};
+ghost use Rattle.fz_meaning.specs.Builtins.{row_at};
 ghost use Rattle.fz_meaning.specs.declared.builtin.Builtin.TheVariants.{IntLinEq};
 ghost use Rattle.fz_force.specs.Left.{HasUnit, IsLeft, IsReadAsNone, holds_with_element, products_leave};
 

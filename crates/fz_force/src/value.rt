@@ -4,16 +4,19 @@ ghost use Rattle.std.specs.Prelude.{◌≡◌, ℕ, length, None, IfNone, IfOk, 
 ghost use Rattle.fz_base.specs.declared.value.Value.TheVariants.{Bool as Truth};
 ghost use Rattle.fz_meaning.specs.declared.kind.Kind.{Kind};
 ghost use Rattle.fz_meaning.specs.Builtins.{reified};
-ghost use Rattle.fz_meaning.specs.declared.kind.Kind.TheVariants.{Bool as BoolKind};
+ghost use Rattle.fz_meaning.specs.declared.kind.Kind.TheVariants.{Bool as BoolKind, Int as IntKind};
 ghost use Rattle.fz_eval.specs.of_scene.Views.{arguments_of, assigned};
-ghost use Rattle.fz_meaning.specs.Known.{known_row, row_at};
+ghost use Rattle.fz_meaning.specs.Builtins.{row_at};
+ghost use Rattle.fz_meaning.specs.Known.{known_row};
 ghost use Rattle.fz_force.specs.Left.{IsLeft, IsOfKind, IsPlaceOf, holds_with, is_too_large};
 
 use crate::base_row::{left_number, left_set, left_truth};
+use crate::counted::{Tally, counted};
+use crate::numbers::narrow;
 use fz_base::{SetError, Value};
 use fz_eval::fz_scene::Scene;
 use fz_eval::{Outcome, of_builtin};
-use fz_meaning::{Builtin, Kind, Known, Shape};
+use fz_meaning::{Builtin, Form, Kind, Known, Shape};
 use std::alloc::{AllocError, Global};
 
 /// The value that a row leaves to the argument at a place that `defines_var` may fill, of the other arguments' values. None where a sum
@@ -28,14 +31,14 @@ pub(crate) fn left_value(
     ensures left { (k : Kind) → IsOfKind (known_row known).shapes place k → IsFalse (is_too_large (known_row known) (assigned scene.now) (arguments_of scene.now)) → IfOk result (λ left. IsLeft k (holds_with (known_row known) (assigned scene.now) (arguments_of scene.now) place) left) }
     ensures too_large { IsTrue (is_too_large (known_row known) (assigned scene.now) (arguments_of scene.now)) → IfOk result (λ left. left ≡ None) }
 {
-    if known.reified {
-        left_form(alloc, known.builtin, place, scene)
-    } else {
-        left_base(alloc, known.builtin, place, scene)
+    match known.form {
+        Form::Base => left_base(alloc, known.builtin, place, scene),
+        Form::Reified => left_form(alloc, known.builtin, place, scene),
+        Form::Implied => Ok(None),
     }
 }
 
-// What a form with a truth value leaves: whether the row before it holds.
+// What a form with `_reif` leaves: whether the row before it holds.
 fn left_form(
     alloc: Global,
     builtin: Builtin,
@@ -67,13 +70,32 @@ fn left_base(
         return Ok(None);
     };
     match kind {
-        Kind::Int => Ok(left_number(builtin, place, scene).map(Value::Int)),
+        Kind::Int => left_int(alloc, builtin, place, scene),
         Kind::Bool => Ok(left_truth(builtin, place, scene).map(Value::Bool)),
         Kind::Set => match left_set(alloc, builtin, place, scene) {
             Ok(set) => Ok(set.map(Value::Set)),
             Err(SetError::Memory) => Err(AllocError),
         },
     }
+}
+
+// What a base row leaves where a number stands: what it counts, or what it reckons.
+fn left_int(
+    alloc: Global,
+    builtin: Builtin,
+    place: usize,
+    scene: &Scene<'_, '_>,
+) -> Result<Option<Value>, AllocError>
+    requires result { IsPlaceOf (row_at builtin).result place }
+    requires number { IsOfKind (row_at builtin).shapes place IntKind }
+    ensures { IfOk result (λ left. IsLeft IntKind (holds_with (row_at builtin) (assigned scene.now) (arguments_of scene.now) place) left) }
+{
+    let number = match counted(alloc, builtin, scene)? {
+        Tally::Exactly(number) => narrow(number),
+        Tally::Nothing => None,
+        Tally::Other => left_number(builtin, place, scene),
+    };
+    Ok(number.map(Value::Int))
 }
 
 // The kind of the scalar that stands at a place of a base row.
@@ -83,7 +105,7 @@ fn kind_at(builtin: Builtin, place: usize) -> Option<Kind>
 {
     let base = Known {
         builtin,
-        reified: false,
+        form: Form::Base,
     };
     match base.shapes().get(place)? {
         Shape::Scalar(kind) => Some(*kind),

@@ -1,6 +1,6 @@
 -- In each row of the table an argument that `defines_var` may fill is determined by the others: two values of it with which the row
 -- holds are equal. Of `int_lin_eq` this is said of one element of the second array with the coefficient 1 or -1.
-use Rattle.std.proofs.Common.{◌≡◌, ℕ, suc, zero, ℤ, pos, negsuc, ◌+ℤ◌, ◌*ℤ◌, neg_ℤ, Bool, true, false, not, ◌&&◌, ◌||◌, cond, List, [], ◌∷◌, ◌++◌, map, length, filter, find, Option, Some, None, refl, sym, ap, subst, ◌∙◌, arith, int_le, int_div, int_rem, unsigned_abs, ◌⊎◌, inl, inr}
+use Rattle.std.proofs.Common.{◌≡◌, ℕ, suc, zero, ℤ, pos, negsuc, ◌+ℤ◌, ◌*ℤ◌, neg_ℤ, Bool, true, false, not, ◌&&◌, ◌||◌, cond, List, [], ◌∷◌, ◌++◌, map, length, find, Option, Some, None, refl, sym, ap, subst, ◌∙◌, arith, int_le, int_div, int_rem, unsigned_abs, ◌⊎◌, inl, inr}
 use Rattle.std.specs.Prelude.{⊤}
 use Rattle.std.proofs.lemmas.Int.{ints}
 use Rattle.std.proofs.Math.IntN.{*ℤ_comm, *ℤ-one, *ℤ-negsuc}
@@ -9,11 +9,14 @@ use Rattle.std.specs.Option.{option_map_or}
 use Rattle.std.specs.Int.{int_min, int_max}
 use Rattle.std.specs.FinSet as sets
 use Rattle.fz_meaning.specs.Values.{◌=ℤ◌, ◌=ᴮ◌, ◌=ˢ◌}
-use Rattle.fz_meaning.specs.Builtins.{Shape, Of, Plain, Test, Row, Result, rows, base_rows, reified, with_bool, exactly_where, products, total, as_number, is_among, element_at, where_true}
+use Rattle.fz_meaning.specs.Builtins.{Shape, Of, Plain, Test, Row, Result, base_rows, builtins, implied, reified, row_at, rows, rows_with_forms, with_bool, with_truth, products, total, as_number, is_among, element_at, where_true}
 use Rattle.fz_meaning.specs.Builtins.Shape.{ScalarOf, ArrayOf}
 use Rattle.fz_meaning.specs.Builtins.Result.{NoResult, Places, UnitTerm}
+use Rattle.fz_meaning.specs.Globals.{count_in, count_of, index_from, is_index_of_best, values_of}
 use Rattle.fz_meaning.proofs.Lists.{all_append}
-use Rattle.fz_meaning.proofs.Values.{no, and_first, and_second, same_int, same_bool, same_set_is}
+use Rattle.fz_meaning.proofs.Values.{no, and_first, and_second, int_itself, same_int, same_bool, same_set_is}
+use Rattle.fz_meaning.specs.declared.builtin.Builtin.{Builtin}
+use Rattle.fz_meaning.specs.declared.builtin.Builtin.TheVariants.{Count, GecodeCount, GecodeMaximumArgIntOffset, GecodeMinimumArgIntOffset, FznCountEq, FznAmong, FznNvalue, IntEq, IntLinEq, IntPlus, IntTimes, IntMin, IntMax, IntAbs, IntDiv, IntMod, ArrayIntElement, ArrayVarIntElement, ArrayIntMaximum, ArrayIntMinimum, BoolEq, BoolNot, BoolAnd, BoolOr, BoolXor, ArrayBoolAnd, ArrayBoolOr, ArrayBoolElement, ArrayVarBoolElement, Bool2Int, BoolLinEq, SetEq, SetUnion, SetIntersect, SetDiff, SetSymdiff, SetCard, ArraySetElement, ArrayVarSetElement}
 use Rattle.fz_meaning.specs.declared.kind.Kind.TheVariants.{Int as IntKind}
 use Rattle.fz_base.specs.Sets.{NumberSet, symmetric_difference}
 
@@ -92,6 +95,11 @@ number_both false false n d e = refl
 number_both true false n d e = let h : pos 1 ≡ pos 0 = sym (same_int n (pos 1) d) ∙ same_int n (pos 0) e in cc
 number_both false true n d e = let h : pos 0 ≡ pos 1 = sym (same_int n (pos 0) d) ∙ same_int n (pos 1) e in cc
 
+-- one element
+element_both : {A : Type 0} (same : A → A → Bool) → ((x y z : A) → same z x ≡ true → same z y ≡ true → x ≡ y) → (o : Option A) (x y : A) → option_map_or (λ w. same w x) o false ≡ true → option_map_or (λ w. same w y) o false ≡ true → x ≡ y
+element_both same is None x y d e = no d
+element_both same is (Some w) x y d e = is x y w d e
+
 -- the greatest, and the least
 module _ (below : ℤ → ℤ → Bool) (antisymmetric : (x y : ℤ) → below x y ≡ true → below y x ≡ true → x ≡ y) where
   each_at : (x : ℤ) (b : List ℤ) → list_any (λ z. z =ℤ x) b ≡ true → (t : ℤ → Bool) → list_all t b ≡ true → t x ≡ true
@@ -108,13 +116,30 @@ module _ (below : ℤ → ℤ → Bool) (antisymmetric : (x y : ℤ) → below x
       (each_at x b (and_first (is_among x b) _ d) (λ z. below z y) (and_second (is_among y b) _ e))
       (each_at y b (and_first (is_among y b) _ e) (λ z. below z x) (and_second (is_among x b) _ d))
 
+  -- the place of the best
+  any_found : (p : ℤ → Bool) (b : List ℤ) → list_any p b ≡ true → (m : ℤ) × ((p m ≡ true) × (is_among m b ≡ true))
+  any_found p [] e = no e
+  any_found p (z ∷ b) e =
+      elim (p z) as (λ r. p z ≡ r → (r || list_any p b) ≡ true → (m : ℤ) × ((p m ≡ true) × (is_among m (z ∷ b) ≡ true))) [
+        | true ↦ λ h _. (z, (h, ap (λ r. r || is_among z b) (int_itself z)))
+        | false ↦ λ _ e. let (m, (h, is)) = any_found p b e in (m, (h, behind (z =ℤ m) (is_among m b) is))
+      ] refl e
+    where
+      behind : (p q : Bool) → q ≡ true → (p || q) ≡ true
+      behind true q h = refl
+      behind false q h = h
+
+  index_both : (b : List ℤ) (o x y : ℤ) → is_index_of_best below b o x ≡ true → is_index_of_best below b o y ≡ true → x ≡ y
+  index_both b o x y d e =
+      let (m, (h, is)) = any_found (λ m. list_all (λ z. below z m) b && option_map_or (λ j. j =ℤ x) (index_from o b m) false) b d in
+      let (n, (k, also)) = any_found (λ m. list_all (λ z. below z m) b && option_map_or (λ j. j =ℤ y) (index_from o b m) false) b e in
+      let same : m ≡ n = antisymmetric m n (each_at m b is (λ z. below z n) (and_first _ _ k)) (each_at n b also (λ z. below z m) (and_first _ _ h)) in
+      element_both ◌=ℤ◌ int_both' (index_from o b n) x y
+      (subst (λ z. option_map_or (λ j. j =ℤ x) (index_from o b z) false ≡ true) same (and_second (list_all (λ z. below z m) b) _ h))
+      (and_second (list_all (λ z. below z n) b) _ k)
+
 pub int_le_antisymmetric : (x y : ℤ) → int_le x y ≡ true → int_le y x ≡ true → x ≡ y
 int_le_antisymmetric x y d e = grind (arith, ints)
-
--- one element
-element_both : {A : Type 0} (same : A → A → Bool) → ((x y z : A) → same z x ≡ true → same z y ≡ true → x ≡ y) → (o : Option A) (x y : A) → option_map_or (λ w. same w x) o false ≡ true → option_map_or (λ w. same w y) o false ≡ true → x ≡ y
-element_both same is None x y d e = no d
-element_both same is (Some w) x y d e = is x y w d e
 
 plus_assoc : (p q r : ℤ) → p +ℤ (q +ℤ r) ≡ (p +ℤ q) +ℤ r
 plus_assoc p q r = omega (arith, ints)
@@ -155,66 +180,55 @@ term_both as' bs a x cs ds y same u c d e =
 
 -- ---- the table
 
-infixr 4 ◌&◌
-abbrev ◌&◌ : {A B : Type 0} → A → B → A × B
-x & y = (x, y)
+row_determines : (b : Builtin) → RowDetermines (row_at b)
+unfolding row_at
+row_determines IntEq = ((λ x y b. int_both x y b), ((λ a x y. int_both' x y a), tt))
+row_determines IntLinEq = term_both
+row_determines IntPlus = ((λ a b x y. int_both x y (a +ℤ b)), tt)
+row_determines IntTimes = ((λ a b x y. int_both x y (a *ℤ b)), tt)
+row_determines IntMin = ((λ a b x y. int_both x y (int_min a b)), tt)
+row_determines IntMax = ((λ a b x y. int_both x y (int_max a b)), tt)
+row_determines IntAbs = ((λ a x y. int_both x y (pos (unsigned_abs a))), tt)
+row_determines IntDiv = ((λ a b x y d e. int_both x y (int_div a b) (and_second (not (b =ℤ pos 0)) _ d) (and_second (not (b =ℤ pos 0)) _ e)), tt)
+row_determines IntMod = ((λ a b x y d e. int_both x y (int_rem a b) (and_second (not (b =ℤ pos 0)) _ d) (and_second (not (b =ℤ pos 0)) _ e)), tt)
+row_determines ArrayIntElement = ((λ a b x y. element_both ◌=ℤ◌ int_both' (element_at b a) x y), tt)
+row_determines ArrayVarIntElement = ((λ a b x y. element_both ◌=ℤ◌ int_both' (element_at b a) x y), tt)
+row_determines ArrayIntMaximum = ((λ x y b. extreme_both int_le int_le_antisymmetric b x y), tt)
+row_determines ArrayIntMinimum = ((λ x y b. extreme_both (λ z w. int_le w z) (λ z w d e. int_le_antisymmetric z w e d) b x y), tt)
+row_determines BoolEq = ((λ x y b. bool_both x y b), ((λ a x y. bool_both' x y a), tt))
+row_determines BoolNot = ((λ x y b. not_both x y b), ((λ a x y. not_both' x y a), tt))
+row_determines BoolAnd = ((λ a b x y. bool_both x y (a && b)), tt)
+row_determines BoolOr = ((λ a b x y. bool_both x y (a || b)), tt)
+row_determines BoolXor = ((λ a b x y. bool_both x y (not (a =ᴮ b))), tt)
+row_determines ArrayBoolAnd = ((λ a x y. bool_both x y (list_all (λ z. z) a)), tt)
+row_determines ArrayBoolOr = ((λ a x y. bool_both x y (list_any (λ z. z) a)), tt)
+row_determines ArrayBoolElement = ((λ a b x y. element_both ◌=ᴮ◌ bool_both' (element_at b a) x y), tt)
+row_determines ArrayVarBoolElement = ((λ a b x y. element_both ◌=ᴮ◌ bool_both' (element_at b a) x y), tt)
+row_determines Bool2Int = ((λ x y b. number_both x y b), ((λ a x y. int_both x y (as_number a)), tt))
+row_determines BoolLinEq = ((λ a b x y. int_both' x y (total (where_true a b))), tt)
+row_determines SetEq = ((λ x y b. set_both x y b), ((λ a x y. set_both' x y a), tt))
+row_determines SetUnion = ((λ a b x y. set_both x y (sets.union a b)), tt)
+row_determines SetIntersect = ((λ a b x y. set_both x y (sets.intersection a b)), tt)
+row_determines SetDiff = ((λ a b x y. set_both x y (sets.difference a b)), tt)
+row_determines SetSymdiff = ((λ a b x y. set_both x y (symmetric_difference a b)), tt)
+row_determines SetCard = ((λ a x y. int_both x y (pos (sets.len a))), tt)
+row_determines ArraySetElement = ((λ a b x y. element_both ◌=ˢ◌ set_both' (element_at b a) x y), tt)
+row_determines ArrayVarSetElement = ((λ a b x y. element_both ◌=ˢ◌ set_both' (element_at b a) x y), tt)
+row_determines Count = ((λ a b x y. int_both x y (count_of a b)), tt)
+row_determines GecodeCount = ((λ a b x y. int_both x y (count_of a b)), tt)
+row_determines FznCountEq = ((λ a b x y. int_both x y (count_of a b)), tt)
+row_determines FznAmong = ((λ x y b c. int_both x y (count_in b c)), tt)
+row_determines FznNvalue = ((λ x y b. int_both x y (pos (length (values_of b)))), tt)
+row_determines GecodeMaximumArgIntOffset = ((λ a b x y. index_both int_le int_le_antisymmetric a b x y), tt)
+row_determines GecodeMinimumArgIntOffset = ((λ a b x y. index_both (λ z w. int_le w z) (λ z w d e. int_le_antisymmetric z w e d) a b x y), tt)
+row_determines _ = tt
 
-base_rows_determine : AllByRecursion RowDetermines base_rows
-base_rows_determine =
-    -- int_eq, int_ne, int_le, int_lt, int_lin_eq, int_lin_ne, int_lin_le
-    ((λ x y b. int_both x y b) & (λ a x y. int_both' x y a) & tt)
-    & tt & tt & tt
-    & term_both
-    & tt & tt
-    -- int_plus, int_times, int_min, int_max, int_abs, int_div, int_mod
-    & ((λ a b x y. int_both x y (a +ℤ b)) & tt)
-    & ((λ a b x y. int_both x y (a *ℤ b)) & tt)
-    & ((λ a b x y. int_both x y (int_min a b)) & tt)
-    & ((λ a b x y. int_both x y (int_max a b)) & tt)
-    & ((λ a x y. int_both x y (pos (unsigned_abs a))) & tt)
-    & ((λ a b x y d e. int_both x y (int_div a b) (and_second (not (b =ℤ pos 0)) _ d) (and_second (not (b =ℤ pos 0)) _ e)) & tt)
-    & ((λ a b x y d e. int_both x y (int_rem a b) (and_second (not (b =ℤ pos 0)) _ d) (and_second (not (b =ℤ pos 0)) _ e)) & tt)
-    -- array_int_element, array_var_int_element, array_int_maximum, array_int_minimum
-    & ((λ a b x y. element_both ◌=ℤ◌ int_both' (element_at b a) x y) & tt)
-    & ((λ a b x y. element_both ◌=ℤ◌ int_both' (element_at b a) x y) & tt)
-    & ((λ x y b. extreme_both int_le int_le_antisymmetric b x y) & tt)
-    & ((λ x y b. extreme_both (λ z w. int_le w z) (λ z w d e. int_le_antisymmetric z w e d) b x y) & tt)
-    -- fzn_all_different_int
-    & tt
-    -- bool_eq, bool_le, bool_lt, bool_not, bool_and, bool_or, bool_xor
-    & ((λ x y b. bool_both x y b) & (λ a x y. bool_both' x y a) & tt)
-    & tt & tt
-    & ((λ x y b. not_both x y b) & (λ a x y. not_both' x y a) & tt)
-    & ((λ a b x y. bool_both x y (a && b)) & tt)
-    & ((λ a b x y. bool_both x y (a || b)) & tt)
-    & ((λ a b x y. bool_both x y (not (a =ᴮ b))) & tt)
-    -- array_bool_and, array_bool_or, array_bool_xor, array_bool_element, array_var_bool_element, bool_clause
-    & ((λ a x y. bool_both x y (list_all (λ z. z) a)) & tt)
-    & ((λ a x y. bool_both x y (list_any (λ z. z) a)) & tt)
-    & tt
-    & ((λ a b x y. element_both ◌=ᴮ◌ bool_both' (element_at b a) x y) & tt)
-    & ((λ a b x y. element_both ◌=ᴮ◌ bool_both' (element_at b a) x y) & tt)
-    & tt
-    -- bool2int, bool_lin_eq, bool_lin_le
-    & ((λ x y b. number_both x y b) & (λ a x y. int_both x y (as_number a)) & tt)
-    & ((λ a b x y. int_both' x y (total (where_true a b))) & tt)
-    & tt
-    -- set_in, set_eq, set_ne, set_subset, set_superset
-    & tt
-    & ((λ x y b. set_both x y b) & (λ a x y. set_both' x y a) & tt)
-    & tt & tt & tt
-    -- set_union, set_intersect, set_diff, set_symdiff, set_card, array_set_element, array_var_set_element
-    & ((λ a b x y. set_both x y (sets.union a b)) & tt)
-    & ((λ a b x y. set_both x y (sets.intersection a b)) & tt)
-    & ((λ a b x y. set_both x y (sets.difference a b)) & tt)
-    & ((λ a b x y. set_both x y (symmetric_difference a b)) & tt)
-    & ((λ a x y. int_both x y (pos (sets.len a))) & tt)
-    & ((λ a b x y. element_both ◌=ˢ◌ set_both' (element_at b a) x y) & tt)
-    & ((λ a b x y. element_both ◌=ˢ◌ set_both' (element_at b a) x y) & tt)
-    & tt
+base_rows_determine : (bs : List Builtin) → AllByRecursion RowDetermines (map row_at bs)
+base_rows_determine [] = tt
+base_rows_determine (b ∷ bs) = (row_determines b, base_rows_determine bs)
 
 -- the truth value of a reified row is determined, whatever the row
-reified_determines : (ss : List Shape) (t : Test ss) → Determines (with_bool ss) (exactly_where ss t) (length ss)
+reified_determines : (ss : List Shape) (t : Test ss) → Determines (with_bool ss) (with_truth ◌=ᴮ◌ ss t) (length ss)
 reified_determines [] t = λ x y. bool_both x y t
 reified_determines (s ∷ ss) t = λ x. reified_determines ss (t x)
 
@@ -222,9 +236,15 @@ reified_rows_determine : (rs : List Row) → AllByRecursion RowDetermines (map r
 reified_rows_determine [] = tt
 reified_rows_determine (r ∷ rs) = ((reified_determines r.shapes r.holds, tt), reified_rows_determine rs)
 
+implied_rows_determine : (rs : List Row) → AllByRecursion RowDetermines (map implied rs)
+implied_rows_determine [] = tt
+implied_rows_determine (r ∷ rs) = (tt, implied_rows_determine rs)
+
 pub rows_determine : AllByRecursion RowDetermines rows
 unfolding rows
-rows_determine = all_append RowDetermines base_rows (map reified (filter (λ r. r.has_reified) base_rows)) base_rows_determine (reified_rows_determine (filter (λ r. r.has_reified) base_rows))
+rows_determine =
+    all_append RowDetermines base_rows (map reified rows_with_forms ++ map implied rows_with_forms) (base_rows_determine builtins)
+    (all_append RowDetermines (map reified rows_with_forms) (map implied rows_with_forms) (reified_rows_determine rows_with_forms) (implied_rows_determine rows_with_forms))
 
 pub at_found : {A : Type 0} (P : A → Type 0) (t : A → Bool) (xs : List A) (x : A) → AllByRecursion P xs → find t xs ≡ Some x → P x
 at_found P t [] x h e = cc

@@ -1,25 +1,23 @@
--- The rows of the table by name: each base row's name is its own, none ends in `_reif`, and each form with a truth value has its base
--- row's name with `_reif` behind.
-use Rattle.std.proofs.Common.{◌≡◌, ◌≢◌, ℕ, Bool, true, false, true≢false, not, ◌&&◌, cond, List, [], ◌∷◌, ◌++◌, map, filter, find, length, drop, take, Option, Some, None, refl, sym, ap, ap₂, subst, ◌∙◌, arith}
-use Rattle.std.specs.Prelude.{codes, bytes_eq, option_map, option_and_then, ◌-◌}
+-- The rows of the table by name: each base row's name is its own, none ends in `_reif` or `_imp`, and
+-- each form with a truth value has its base row's name with one of these behind.
+use Rattle.std.proofs.Common.{◌≡◌, ◌≢◌, ℕ, Bool, true, false, true≢false, not, ◌&&◌, cond, List, [], ◌∷◌, ◌++◌, map, filter, find, length, drop, Option, Some, None, refl, sym, ap, subst, ◌∙◌, arith}
+use Rattle.std.specs.Prelude.{◌==◌, codes, bytes_eq, option_map, option_and_then, ◌-◌}
 use Rattle.std.specs.List.{list_all}
 use Rattle.std.specs.Option.{option_or}
-use Rattle.std.proofs.lemmas.List.{append_cancel_right, take-append-drop, drop_at, length-append}
+use Rattle.std.proofs.lemmas.List.{append_cancel_right, drop_at, length-append}
 use Rattle.std.proofs.lemmas.List.Folds.{find-append}
 use Rattle.std.proofs.lemmas.Bool.Decides.{same_from_decides}
 use Rattle.std.proofs.lemmas.Slice.Eq.{bytes_eq-Decides}
-use Rattle.fz_meaning.specs.Builtins.{Row, base_rows, rows, reified}
+use Rattle.fz_meaning.specs.Builtins.{Row, base_rows, builtins, implied, reified, row_at, rows, rows_with_forms}
+use Rattle.fz_meaning.specs.declared.known.Form.{Form}
+use Rattle.fz_meaning.specs.declared.known.Form.TheVariants.{Base, Reified, Implied}
 use Rattle.fz_meaning.specs.Meaning.{Posted, fits, row_of}
-use Rattle.fz_meaning.specs.Known.{row_named}
+use Rattle.fz_meaning.specs.Known.{HasTruth, form_at, row_named, suffix_of}
 
 -- ---- a row's name is compared
 
 abbrev pub named : List ℕ → Row → Bool
 named x r = bytes_eq r.name x
-
--- the reified forms' suffix
-abbrev pub suffix : List ℕ
-suffix = codes "_reif"
 
 pub same_name : (x y : List ℕ) → bytes_eq x y ≡ true → x ≡ y
 same_name x y e = (bytes_eq-Decides x y).0 e
@@ -87,11 +85,12 @@ find_apart x u (r ∷ rs) h =
       | false ↦ λ e. find_apart x u rs parts.1
     ]) refl
 
-pub base_apart : apart base_rows ≡ true
+base_apart : apart base_rows ≡ true
+unfolding row_at builtins
 base_apart = refl
 
 pub rows_apart : apart rows ≡ true
-unfolding rows
+unfolding rows row_at builtins
 rows_apart = refl
 
 -- the row that a constraint fits is the one of its name, where it fits that
@@ -101,66 +100,104 @@ row_of_is p = find_apart p.name (λ r. fits r p.arguments) rows rows_apart
 
 -- ---- the forms with a truth value
 
--- such a form is found where its base row is
-pub find_reified : (x : List ℕ) (rs : List Row) → find (named (x ++ suffix)) (map reified rs) ≡ option_map reified (find (named x) rs)
-find_reified x [] = refl
-find_reified x (r ∷ rs) =
-    rw (suffix_drops r.name x suffix) (elim (named x r) as (λ b. cond b (Some (reified r)) (find (named (x ++ suffix)) (map reified rs)) ≡ option_map reified (cond b (Some r) (find (named x) rs))) [ true ↦ refl | false ↦ find_reified x rs ])
+-- rows whose names have a suffix more are found under that, and under no name that doesn't end so
+module _ (form : Row → Row) (suffix : List ℕ) (is : (r : Row) → (form r).name ≡ r.name ++ suffix) where
+  find_form : (x : List ℕ) (rs : List Row) → find (named (x ++ suffix)) (map form rs) ≡ option_map form (find (named x) rs)
+  find_form x [] = refl
+  find_form x (r ∷ rs) =
+      rw (ap (λ n. bytes_eq n (x ++ suffix)) (is r) ∙ suffix_drops r.name x suffix)
+      (elim (named x r) as (λ b. cond b (Some (form r)) (find (named (x ++ suffix)) (map form rs)) ≡ option_map form (cond b (Some r) (find (named x) rs))) [ true ↦ refl | false ↦ find_form x rs ])
 
--- and under its suffix only
-pub find_no_reified : (x : List ℕ) → ((front : List ℕ) → x ≢ front ++ suffix) → (rs : List Row) → find (named x) (map reified rs) ≡ None
-find_no_reified x h [] = refl
-find_no_reified x h (r ∷ rs) =
-    (elim (named x (reified r)) as (λ b. named x (reified r) ≡ b → cond b (Some (reified r)) (find (named x) (map reified rs)) ≡ None) [
-      | true ↦ λ e. absurd (h r.name (sym (same_name (r.name ++ suffix) x e)))
-      | false ↦ λ e. find_no_reified x h rs
-    ]) refl
+  find_no_form : (x : List ℕ) → ((front : List ℕ) → x ≢ front ++ suffix) → (rs : List Row) → find (named x) (map form rs) ≡ None
+  find_no_form x h [] = refl
+  find_no_form x h (r ∷ rs) =
+      (elim (named x (form r)) as (λ b. named x (form r) ≡ b → cond b (Some (form r)) (find (named x) (map form rs)) ≡ None) [
+        | true ↦ λ e. absurd (h r.name (sym (same_name (form r).name x e) ∙ is r))
+        | false ↦ λ e. find_no_form x h rs
+      ]) refl
 
--- no base row's name ends so
-abbrev pub ends_so : List ℕ → Bool
-ends_so x = bytes_eq (drop (length x - 5) x) suffix
+-- a name ends so
+ends_in : List ℕ → List ℕ → Bool
+ends_in suffix x = bytes_eq (drop (length x - length suffix) x) suffix
 
-ends_of : (front : List ℕ) → ends_so (front ++ suffix) ≡ true
-ends_of front =
-    let at_end : length front ≡ length (front ++ suffix) - 5 = simp length-append (omega arith) in
-    equal_names _ suffix (drop_at front suffix (length (front ++ suffix) - 5) at_end)
+ends_there : (suffix front : List ℕ) → ends_in suffix (front ++ suffix) ≡ true
+unfolding ends_in
+ends_there suffix front =
+    let at_end : length front ≡ length (front ++ suffix) - length suffix = simp length-append (omega arith) in
+    equal_names _ suffix (drop_at front suffix (length (front ++ suffix) - length suffix) at_end)
 
--- a name that doesn't end so has no part before the suffix, and one that does is that part with the suffix
-pub no_suffix : (x : List ℕ) → ends_so x ≡ false → (front : List ℕ) → x ≢ front ++ suffix
-no_suffix x e front h = true≢false (sym (ends_of front) ∙ sym (ap ends_so h) ∙ e)
+pub no_front : (suffix x end : List ℕ) → end ≡ drop (length x - length suffix) x → bytes_eq end suffix ≡ false → (front : List ℕ) → x ≡ front ++ suffix → ⊥
+unfolding ends_in
+no_front suffix x end is other front e = true≢false (sym (ends_there suffix front) ∙ ap (ends_in suffix) (sym e) ∙ ap (λ y. bytes_eq y suffix) (sym is) ∙ other)
 
-pub with_suffix : (x front : List ℕ) → ends_so x ≡ true → front ≡ take (length x - 5) x → x ≡ front ++ suffix
-with_suffix x front e h = sym (take-append-drop (length x - 5) x) ∙ ap₂ ◌++◌ (sym h) (same_name (drop (length x - 5) x) suffix e)
-
-no_base_ends_so : list_all (λ r. not (ends_so r.name)) base_rows ≡ true
-no_base_ends_so = refl
-
-without : (front : List ℕ) (rs : List Row) → list_all (λ r. not (ends_so r.name)) rs ≡ true → list_all (λ r. not (named (front ++ suffix) r)) rs ≡ true
-without front [] h = refl
-without front (r ∷ rs) h =
-    let parts = and_both (not (ends_so r.name)) _ h in
+none_ends_so : (suffix : List ℕ) (rs : List Row) → list_all (λ r. not (ends_in suffix r.name)) rs ≡ true → (front : List ℕ) → list_all (λ r. not (named (front ++ suffix) r)) rs ≡ true
+none_ends_so suffix [] h front = refl
+none_ends_so suffix (r ∷ rs) h front =
+    let parts = and_both (not (ends_in suffix r.name)) _ h in
     (elim (named (front ++ suffix) r) as (λ b. named (front ++ suffix) r ≡ b → (not b && list_all (λ s. not (named (front ++ suffix) s)) rs) ≡ true) [
-      | true ↦ λ e. let ends : ends_so r.name ≡ true = ap ends_so (same_name r.name (front ++ suffix) e) ∙ ends_of front in absurd (true≢false (sym ends ∙ not_true (ends_so r.name) parts.0))
-      | false ↦ λ e. without front rs parts.1
+      | true ↦ λ e. let ends : ends_in suffix r.name ≡ true = ap (ends_in suffix) (same_name r.name (front ++ suffix) e) ∙ ends_there suffix front in absurd (true≢false (sym ends ∙ not_true (ends_in suffix r.name) parts.0))
+      | false ↦ λ e. none_ends_so suffix rs parts.1 front
     ]) refl
 
--- a name with the suffix is the one of a base row's form, where the base row has it
-pub row_named_reified : (x : List ℕ) → row_named (x ++ suffix) ≡ option_map reified (option_and_then (λ r. cond r.has_reified (Some r) None) (find (named x) base_rows))
-unfolding row_named rows
-row_named_reified x =
-    find-append (named (x ++ suffix)) base_rows (map reified (filter (λ r. r.has_reified) base_rows))
-    ∙ ap (λ o. option_or o (find (named (x ++ suffix)) (map reified (filter (λ r. r.has_reified) base_rows)))) (find_none (named (x ++ suffix)) base_rows (without x base_rows no_base_ends_so))
-    ∙ find_reified x (filter (λ r. r.has_reified) base_rows)
-    ∙ ap (option_map reified) (find_filter (named x) (λ r. r.has_reified) base_rows ∙ find_apart x (λ r. r.has_reified) base_rows base_apart)
+no_base_reified : list_all (λ r. not (ends_in (codes "_reif") r.name)) base_rows ≡ true
+unfolding ends_in row_at builtins
+no_base_reified = refl
+
+no_base_implied : list_all (λ r. not (ends_in (codes "_imp") r.name)) base_rows ≡ true
+unfolding ends_in row_at builtins
+no_base_implied = refl
+
+-- what ends in the one suffix doesn't end in the other
+last : List ℕ → ℕ
+last [] = 0
+last (x ∷ []) = x
+last (x ∷ y ∷ ys) = last (y ∷ ys)
+
+last_behind : (xs : List ℕ) (y : ℕ) (ys : List ℕ) → last (xs ++ y ∷ ys) ≡ last (y ∷ ys)
+unfolding last
+last_behind [] y ys = refl
+last_behind (x ∷ []) y ys = refl
+last_behind (x ∷ z ∷ zs) y ys = last_behind (z ∷ zs) y ys
+
+pub other_suffix : (x y : List ℕ) → x ++ codes "_imp" ≢ y ++ codes "_reif"
+unfolding last
+other_suffix x y e = true≢false (ap (λ n. n == 112) (sym (last_behind x 95 (105 ∷ 109 ∷ 112 ∷ [])) ∙ ap last e ∙ last_behind y 95 (114 ∷ 101 ∷ 105 ∷ 102 ∷ [])))
 
 option_or_none : (o : Option Row) → option_or o None ≡ o
 option_or_none None = refl
 option_or_none (Some r) = refl
 
--- and any other is a base row's
-pub row_named_base : (x : List ℕ) → ((front : List ℕ) → x ≢ front ++ suffix) → row_named x ≡ find (named x) base_rows
+-- the row of a name is a base row, or one of the forms
+split : (x : List ℕ) → row_named x ≡ option_or (find (named x) base_rows) (option_or (find (named x) (map reified rows_with_forms)) (find (named x) (map implied rows_with_forms)))
 unfolding row_named rows
-row_named_base x h =
-    find-append (named x) base_rows (map reified (filter (λ r. r.has_reified) base_rows))
-    ∙ ap (option_or (find (named x) base_rows)) (find_no_reified x h (filter (λ r. r.has_reified) base_rows))
+split x = find-append (named x) base_rows _ ∙ ap (option_or (find (named x) base_rows)) (find-append (named x) (map reified rows_with_forms) (map implied rows_with_forms))
+
+found_with_forms : (x : List ℕ) → find (named x) rows_with_forms ≡ option_and_then (λ r. cond r.has_forms (Some r) None) (find (named x) base_rows)
+found_with_forms x = find_filter (named x) (λ r. r.has_forms) base_rows ∙ find_apart x (λ r. r.has_forms) base_rows base_apart
+
+-- a name with a suffix is the one of a base row's form, where the base row has forms
+pub row_named_form : (f : Form) → HasTruth f → (x : List ℕ) → row_named (x ++ suffix_of f) ≡ option_map (form_at f) (option_and_then (λ r. cond r.has_forms (Some r) None) (find (named x) base_rows))
+row_named_form Base h x = absurd h
+row_named_form Reified h x =
+    let y = x ++ codes "_reif" in
+    split y
+    ∙ ap (λ o. option_or o (option_or (find (named y) (map reified rows_with_forms)) (find (named y) (map implied rows_with_forms)))) (find_none (named y) base_rows (none_ends_so (codes "_reif") base_rows no_base_reified x))
+    ∙ ap (option_or (find (named y) (map reified rows_with_forms))) (find_no_form implied (codes "_imp") (λ r. refl) y (λ front e. other_suffix front x (sym e)) rows_with_forms)
+    ∙ option_or_none (find (named y) (map reified rows_with_forms))
+    ∙ find_form reified (codes "_reif") (λ r. refl) x rows_with_forms
+    ∙ ap (option_map reified) (found_with_forms x)
+row_named_form Implied h x =
+    let y = x ++ codes "_imp" in
+    split y
+    ∙ ap (λ o. option_or o (option_or (find (named y) (map reified rows_with_forms)) (find (named y) (map implied rows_with_forms)))) (find_none (named y) base_rows (none_ends_so (codes "_imp") base_rows no_base_implied x))
+    ∙ ap (λ o. option_or o (find (named y) (map implied rows_with_forms))) (find_no_form reified (codes "_reif") (λ r. refl) y (λ front e. other_suffix x front e) rows_with_forms)
+    ∙ find_form implied (codes "_imp") (λ r. refl) x rows_with_forms
+    ∙ ap (option_map implied) (found_with_forms x)
+
+-- and any other is a base row's
+pub row_named_base : (x : List ℕ) → ((front : List ℕ) → x ≢ front ++ codes "_reif") → ((front : List ℕ) → x ≢ front ++ codes "_imp") → row_named x ≡ find (named x) base_rows
+row_named_base x not_reified not_implied =
+    split x
+    ∙ ap (λ o. option_or (find (named x) base_rows) (option_or o (find (named x) (map implied rows_with_forms)))) (find_no_form reified (codes "_reif") (λ r. refl) x not_reified rows_with_forms)
+    ∙ ap (option_or (find (named x) base_rows)) (find_no_form implied (codes "_imp") (λ r. refl) x not_implied rows_with_forms)
     ∙ option_or_none (find (named x) base_rows)

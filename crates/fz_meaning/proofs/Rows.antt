@@ -11,7 +11,7 @@ use Rattle.fz_syntax.specs.Tree.Base.{BoolBase, IntBase}
 use Rattle.fz_meaning.specs.declared.state.State.{State}
 use Rattle.fz_meaning.specs.declared.state.State.TheVariants.{Holds, Fails, NoValue, Unknown, TooLarge}
 use Rattle.fz_meaning.specs.Values.{◌=ˢ◌, set_of}
-use Rattle.fz_meaning.specs.Builtins.{rows, leaves_128}
+use Rattle.fz_meaning.specs.Builtins.{rows, leaves_128, builtins, row_at}
 use Rattle.fz_meaning.specs.Located.{Expr, Decl, LocatedTree}
 use Rattle.fz_meaning.specs.Located.Basic.{Lit, Named}
 use Rattle.fz_meaning.specs.Located.Expr.{One, Several}
@@ -25,8 +25,8 @@ use Rattle.fz_meaning.specs.Steps.{Gives, GivesNothing, WithinLimits}
 use Rattle.fz_meaning.proofs.Values.{no, same_int, and_first, and_second, and_both}
 use Rattle.fz_meaning.proofs.Writing.{span_at, name_at, literal, whole, num, v, MIN, MAX, int_var, var_in, posts, defines, model_tree, i, is, t, ts, s, names, x, z}
 
-how_many : length rows ≡ 62
-unfolding rows
+how_many : length rows ≡ 151
+unfolding rows row_at builtins
 how_many = refl
 
 -- ---- constraints over fixed values
@@ -41,123 +41,123 @@ abbrev big : ℕ
 big = 9007199254740992
 
 div_down : state_of (codes "int_div") (i (negsuc 6) ∷ i (pos 2) ∷ i (negsuc 2) ∷ []) ≡ Holds
-unfolding rows
+unfolding rows row_at builtins
 div_down = refl
 
 mod_sign : state_of (codes "int_mod") (i (negsuc 6) ∷ i (pos 2) ∷ i (negsuc 0) ∷ []) ≡ Holds
-unfolding rows
+unfolding rows row_at builtins
 mod_sign = refl
 
 mod_by_negative : state_of (codes "int_mod") (i (pos 7) ∷ i (negsuc 1) ∷ i (pos 1) ∷ []) ≡ Holds
-unfolding rows
+unfolding rows row_at builtins
 mod_by_negative = refl
 
 div_by_zero : state_of (codes "int_div") (i (pos 1) ∷ i (pos 0) ∷ i (pos 0) ∷ []) ≡ Fails
-unfolding rows
+unfolding rows row_at builtins
 div_by_zero = refl
 
 mod_least : state_of (codes "int_mod") (i MIN ∷ i (negsuc 0) ∷ i (pos 0) ∷ []) ≡ Holds
-unfolding rows
+unfolding rows row_at builtins
 mod_least = refl
 
 div_least : state_of (codes "int_div") (i MIN ∷ i (negsuc 0) ∷ i MIN ∷ []) ≡ Fails
-unfolding rows
+unfolding rows row_at builtins
 div_least = refl
 
 abs_least : state_of (codes "int_abs") (i MIN ∷ i MAX ∷ []) ≡ Fails
-unfolding rows
+unfolding rows row_at builtins
 abs_least = refl
 
 element_0 : state_of (codes "array_int_element") (i (pos 0) ∷ is (pos 7 ∷ []) ∷ i (pos 7) ∷ []) ≡ Fails
-unfolding rows
+unfolding rows row_at builtins
 element_0 = refl
 
 sum_exact : state_of (codes "int_lin_eq") (is (pos big ∷ negsuc (big - 1) ∷ []) ∷ is (pos big ∷ pos big ∷ []) ∷ i (pos 0) ∷ []) ≡ Holds
-unfolding rows
+unfolding rows row_at builtins
 sum_exact = refl
 
 product_exact : state_of (codes "int_times") (i (pos big) ∷ i (pos big) ∷ i (pos 0) ∷ []) ≡ Fails
-unfolding rows
+unfolding rows row_at builtins
 product_exact = refl
 
 empty_sum : state_of (codes "int_lin_le") (is [] ∷ is [] ∷ i (pos 0) ∷ []) ≡ Holds
-unfolding rows
+unfolding rows row_at builtins
 empty_sum = refl
 
 empty_sum_fails : state_of (codes "int_lin_le") (is [] ∷ is [] ∷ i (negsuc 0) ∷ []) ≡ Fails
-unfolding rows
+unfolding rows row_at builtins
 empty_sum_fails = refl
 
 unequal_lengths : state_of (codes "int_lin_eq") (is (pos 1 ∷ []) ∷ is (pos 1 ∷ pos 2 ∷ []) ∷ i (pos 3) ∷ []) ≡ Unknown
-unfolding rows
+unfolding rows row_at builtins
 unequal_lengths = refl
 
 no_such_form : state_of (codes "int_div_reif") (i (pos 1) ∷ i (pos 0) ∷ i (pos 0) ∷ t true ∷ []) ≡ Unknown
-unfolding rows
+unfolding rows row_at builtins
 no_such_form = refl
 
 too_few : state_of (codes "bool_xor") (t true ∷ t true ∷ []) ≡ Unknown
-unfolding rows
+unfolding rows row_at builtins
 too_few = refl
 
 reified_false : state_of (codes "int_le_reif") (i (pos 2) ∷ i (pos 1) ∷ t false ∷ []) ≡ Holds
-unfolding rows
+unfolding rows row_at builtins
 reified_false = refl
 
 empty_and : state_of (codes "array_bool_and") (ts [] ∷ t true ∷ []) ≡ Holds
-unfolding rows
+unfolding rows row_at builtins
 empty_and = refl
 
 empty_or : state_of (codes "array_bool_or") (ts [] ∷ t false ∷ []) ≡ Holds
-unfolding rows
+unfolding rows row_at builtins
 empty_or = refl
 
 empty_xor : state_of (codes "array_bool_xor") (ts [] ∷ []) ≡ Fails
-unfolding rows
+unfolding rows row_at builtins
 empty_xor = refl
 
 empty_clause : state_of (codes "bool_clause") (ts [] ∷ ts [] ∷ []) ≡ Fails
-unfolding rows
+unfolding rows row_at builtins
 empty_clause = refl
 
 empty_maximum : state_of (codes "array_int_maximum") (i (pos 0) ∷ is [] ∷ []) ≡ Fails
-unfolding rows
+unfolding rows row_at builtins
 empty_maximum = refl
 
 greatest : state_of (codes "array_int_maximum") (i (pos 5) ∷ is (pos 3 ∷ pos 5 ∷ negsuc 2 ∷ []) ∷ []) ≡ Holds
-unfolding rows
+unfolding rows row_at builtins
 greatest = refl
 
 two_for_true : state_of (codes "bool2int") (t true ∷ i (pos 2) ∷ []) ≡ Fails
-unfolding rows
+unfolding rows row_at builtins
 two_for_true = refl
 
 element_past : state_of (codes "array_bool_element") (i (pos 3) ∷ ts (true ∷ []) ∷ t true ∷ []) ≡ Fails
-unfolding rows
+unfolding rows row_at builtins
 element_past = refl
 
 bool_sum : state_of (codes "bool_lin_le") (is (pos 3 ∷ negsuc 0 ∷ []) ∷ ts (true ∷ true ∷ []) ∷ i (pos 2) ∷ []) ≡ Holds
-unfolding rows
+unfolding rows row_at builtins
 bool_sum = refl
 
 different_none : state_of (codes "fzn_all_different_int") (is [] ∷ []) ≡ Holds
-unfolding rows
+unfolding rows row_at builtins
 different_none = refl
 
 different_same : state_of (codes "fzn_all_different_int") (is (pos 2 ∷ pos 2 ∷ []) ∷ []) ≡ Fails
-unfolding rows
+unfolding rows row_at builtins
 different_same = refl
 
 different_apart : state_of (codes "fzn_all_different_int") (is (pos 1 ∷ pos 2 ∷ pos 1 ∷ []) ∷ []) ≡ Fails
-unfolding rows
+unfolding rows row_at builtins
 different_apart = refl
 
 different_kind : state_of (codes "fzn_all_different_int") (ts (true ∷ []) ∷ []) ≡ Unknown
-unfolding rows
+unfolding rows row_at builtins
 different_kind = refl
 
 different_reified : state_of (codes "fzn_all_different_int_reif") (is (pos 1 ∷ []) ∷ t true ∷ []) ≡ Unknown
-unfolding rows
+unfolding rows row_at builtins
 different_reified = refl
 
 -- ---- sums that leave 128 bits
@@ -167,25 +167,25 @@ abbrev two_terms : LocatedTree
 two_terms = model_tree (int_var x ∷ []) (posts (codes "int_lin_le") (is (MIN ∷ MIN ∷ []) ∷ names (x ∷ x ∷ []) ∷ i (pos 0) ∷ []) [] ∷ []) Satisfy
 
 two_terms_least : state_at (Some (Int MIN) ∷ []) 1 two_terms ≡ TooLarge
-unfolding rows
+unfolding rows row_at builtins
 two_terms_least = refl
 
 two_terms_greatest : state_at (Some (Int MAX) ∷ []) 1 two_terms ≡ Holds
-unfolding rows
+unfolding rows row_at builtins
 two_terms_greatest = refl
 
 two_terms_open : state_at (None ∷ []) 1 two_terms ≡ NoValue
-unfolding rows
+unfolding rows row_at builtins
 two_terms_open = refl
 
 -- with the coefficients MIN, MAX, MIN and three times x no partial sum leaves 128 bits
 three_terms_least : state_at (Some (Int MIN) ∷ []) 1 (model_tree (int_var x ∷ []) (posts (codes "int_lin_le") (is (MIN ∷ MAX ∷ MIN ∷ []) ∷ names (x ∷ x ∷ x ∷ []) ∷ i (pos 0) ∷ []) [] ∷ []) Satisfy) ≡ Fails
-unfolding rows
+unfolding rows row_at builtins
 three_terms_least = refl
 
 -- the form with a truth value is too large likewise, bool_lin_le never is
 reified_large : state_of (codes "int_lin_le_reif") (is (MIN ∷ MIN ∷ []) ∷ is (MIN ∷ MIN ∷ []) ∷ i (pos 0) ∷ t true ∷ []) ≡ TooLarge
-unfolding rows
+unfolding rows row_at builtins
 reified_large = refl
 
 -- the bounds themselves: 2^127 - 1 and -2^127 are no fault, one more and one less are
@@ -241,7 +241,7 @@ abbrev doubled : LocatedTree
 doubled = model_tree (var_in 0 9 x None ∷ var_in 0 17 z None ∷ []) (posts (codes "int_lin_eq") (is (pos 2 ∷ negsuc 0 ∷ []) ∷ names (x ∷ z ∷ []) ∷ i (pos 0) ∷ []) (defines z) ∷ []) Satisfy
 
 doubled_gives : Gives (model_of doubled) (Some (Int (pos 4)) ∷ None ∷ []) (point_of doubled 2 nothing) 1 (Int (pos 8))
-unfolding rows
+unfolding rows row_at builtins
 doubled_gives = record {
   target = (refl, (1, refl, Fixed (Int (negsuc 0)), refl, inr refl));
   only_open = refl;
@@ -271,7 +271,7 @@ in_front = model_tree (int_var z ∷ [])
     ∷ Several (v z ∷ whole MIN ∷ whole (negsuc 9223372036854775806) ∷ whole MAX ∷ whole MAX ∷ whole MAX ∷ whole MAX ∷ whole MAX ∷ []) ∷ i (pos 2) ∷ []) (defines z) ∷ []) Satisfy
 
 in_front_gives : Gives (model_of in_front) (None ∷ []) (point_of in_front 1 nothing) 0 (Int (pos 1))
-unfolding rows
+unfolding rows row_at builtins
 in_front_gives = record {
   target = (refl, (0, refl, Fixed (Int (pos 1)), refl, inl refl));
   only_open = refl;
@@ -282,7 +282,7 @@ in_front_gives = record {
 }
 
 in_front_state : state_at (Some (Int (pos 1)) ∷ []) 1 in_front ≡ TooLarge
-unfolding rows
+unfolding rows row_at builtins
 in_front_state = refl
 
 -- ---- sets, whose operations do not compute: by the elements that they contain
@@ -318,7 +318,7 @@ same_elements u w xs ys h k all each = and_both (sets.is_subset u w) (sets.is_su
 
 -- constraint set_union({1,2},2..4,{4,3,2,1})
 union_row : state_of (codes "set_union") (s (pos 1 ∷ pos 2 ∷ []) ∷ One (Lit (literal (Range (pos 2) (pos 4)))) ∷ s (pos 4 ∷ pos 3 ∷ pos 2 ∷ pos 1 ∷ []) ∷ []) ≡ Holds
-unfolding numbers_between counting_from rows
+unfolding numbers_between counting_from rows row_at builtins
 union_row = ap judged (same_elements (set_of (pos 4 ∷ pos 3 ∷ pos 2 ∷ pos 1 ∷ [])) (sets.union (set_of (pos 1 ∷ pos 2 ∷ [])) (numbers_between (pos 2) (pos 4)))
     (pos 4 ∷ pos 3 ∷ pos 2 ∷ pos 1 ∷ []) (pos 1 ∷ pos 2 ∷ pos 2 ∷ pos 3 ∷ pos 4 ∷ [])
     (listed_elements (pos 4 ∷ pos 3 ∷ pos 2 ∷ pos 1 ∷ []))

@@ -1,6 +1,8 @@
 pub mod Values
 pub mod Located
+pub mod Relations
 pub mod Builtins
+pub mod Globals
 pub mod Meaning
 pub mod Names
 pub mod View

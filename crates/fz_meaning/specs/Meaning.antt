@@ -1,7 +1,7 @@
 -- What a model means, once its names are numbered: assignments, the value of an expression, the domains, the points, solutions, and the
 -- state of a point (MiniZinc Handbook, FlatZinc, "variable declarations" and "constraint items"; the points, their order and the states
 -- are this project's profile).
-use Rattle.std.specs.Prelude.{◌≡◌, ℕ, suc, ℤ, ◌*ℤ◌, Bool, true, false, not, cond, ◌&&◌, ◌||◌, List, [], ◌∷◌, ◌++◌, length, map, ◌==◌, int_le, Option, Some, None, bytes_eq, option_map, option_and_then, slice_get, slice_set, IsTrue, IsSomeAnd, IfSome, ⊤, ◌⊎◌, flat_map, find}
+use Rattle.std.specs.Prelude.{◌≡◌, ℕ, suc, ℤ, ◌*ℤ◌, Bool, true, false, not, cond, ◌&&◌, List, [], ◌∷◌, ◌++◌, length, map, ◌==◌, int_le, Option, Some, None, bytes_eq, option_map, option_and_then, slice_get, slice_set, IsTrue, IsSomeAnd, IfSome, ⊤, ◌⊎◌, flat_map, find}
 use Rattle.std.specs.List.{list_all, list_any, AllByRecursion}
 use Rattle.std.specs.Option.{option_map_or, option_flatten, option_or}
 use Rattle.std.specs.FinSet as sets
@@ -211,12 +211,16 @@ have_shapes [] [] = true
 have_shapes (s ∷ ss) (x ∷ xs) = has_shape s x && have_shapes ss xs
 have_shapes _ _ = false
 
-abbrev pub first_two_equally_long : List Argument → Bool
-first_two_equally_long (x ∷ y ∷ zs) = length (terms_in x) == length (terms_in y)
-first_two_equally_long _ = false
+abbrev pub length_at : List Argument → ℕ → ℕ
+length_at xs i = option_map_or (λ x. length (terms_in x)) (slice_get xs i) 0
+
+-- the arguments at these places have equal lengths
+abbrev pub equally_long : List ℕ → List Argument → Bool
+equally_long [] xs = true
+equally_long (i ∷ is) xs = list_all (λ j. length_at xs j == length_at xs i) is
 
 abbrev pub fits : Row → List Argument → Bool
-fits r xs = have_shapes r.shapes xs && (not r.equal_lengths || first_two_equally_long xs)
+fits r xs = have_shapes r.shapes xs && equally_long r.together xs
 
 -- the row that a constraint fits; a constraint is known where there is one
 abbrev pub row_of : Posted → Option Row

@@ -1,8 +1,8 @@
 //! The builtins by name.
 
-ghost use Rattle.std.specs.List.{filter};
-ghost use Rattle.std.specs.Prelude.{◌≡◌, ◌==◌, bytes_eq, find};
-ghost use Rattle.fz_meaning.specs.Known.{builtins, key_of, name_of, row_at};
+ghost use Rattle.std.specs.Prelude.{◌≡◌, List, bytes_eq, find, map, ℕ};
+ghost use Rattle.fz_meaning.specs.Builtins.{builtins};
+ghost use Rattle.fz_meaning.specs.Known.{name_of, named_so_long};
 
 use crate::text::same_text;
 
@@ -28,6 +28,8 @@ pub enum Builtin {
     ArrayIntMaximum,
     ArrayIntMinimum,
     FznAllDifferentInt,
+    GecodeAllDifferentInt,
+    GeasAllDifferentInt,
     BoolEq,
     BoolLe,
     BoolLt,
@@ -56,129 +58,279 @@ pub enum Builtin {
     SetCard,
     ArraySetElement,
     ArrayVarSetElement,
-}
-
-/// So many keys there are, from 0.
-const KEYS: usize = 64;
-
-// A number of a name that few builtins share, from its length and its last two bytes, so that a name is compared with one builtin, or
-// with three at most. A name of less than two bytes is no builtin's.
-#[inline]
-fn key_of(name: &[u8]) -> usize
-    ensures { result ≡ key_of name.now }
-{
-    let Some((_, end)) = name.split_last_chunk::<2>() else {
-        return KEYS;
-    };
-    (name.len() % KEYS * 23 + usize::from(end[0]) * 20 + usize::from(end[1]) * 11) % KEYS
+    FznAlldifferentExcept0,
+    GeasAllDifferentExcept0,
+    FznAllEqualInt,
+    Count,
+    GecodeCount,
+    FznCountEq,
+    FznCountNeq,
+    FznCountGeq,
+    FznCountGt,
+    FznCountLeq,
+    FznCountLt,
+    FznAmong,
+    FznNvalue,
+    FznAtLeastInt,
+    FznAtMostInt,
+    FznExactlyInt,
+    FznGlobalCardinality,
+    FznGlobalCardinalityClosed,
+    FznGlobalCardinalityLowUp,
+    FznGlobalCardinalityLowUpClosed,
+    FznDistribute,
+    FznCumulative,
+    Cumulatives,
+    FznDisjunctive,
+    FznDisjunctiveStrict,
+    FznDiffn,
+    FznDiffnNonstrict,
+    GecodeNooverlap,
+    GecodeCircuit,
+    FzcheckCircuit,
+    FzcheckSubcircuit,
+    InverseOffsets,
+    GecodeInverseOffsets,
+    FznTableInt,
+    GecodeTableInt,
+    GeasTableInt,
+    FznTableBool,
+    FznRegular,
+    GecodeRegular,
+    FznBinPacking,
+    GecodeBinPackingLoad,
+    FzcheckBinPackingLoad,
+    FznLexLessInt,
+    GecodeArrayIntLt,
+    FznLexLesseqInt,
+    GecodeArrayIntLq,
+    FznLexLessBool,
+    GecodeArrayBoolLt,
+    FznLexLesseqBool,
+    GecodeArrayBoolLq,
+    FznIncreasingInt,
+    FznIncreasingBool,
+    FznDecreasingInt,
+    FznDecreasingBool,
+    FznStrictlyIncreasingInt,
+    FznValuePrecedeInt,
+    GecodePrecede,
+    FznValuePrecedeChainInt,
+    FznSeqPrecedeChainInt,
+    FznSort,
+    FznMemberInt,
+    FznMemberBool,
+    GecodeMaximumArgIntOffset,
+    GecodeMinimumArgIntOffset,
+    FznSlidingSum,
+    GecodeLinkSetToBooleans,
+    GecodeIntSetChannel,
+    FznDisjoint,
+    FznPartitionSet,
+    GecodeArraySetPartition,
 }
 
 impl Builtin {
-    /// The name in the table.
-    #[tactic(auto, unfolding(crate::specs::Known::name_of))]
-    pub fn name(self) -> &'static [u8]
-        ensures { result.now ≡ name_of self }
+    // The builtins whose names are so long, each behind its name.
+    #[tactic(auto, unfolding(crate::specs::Builtins::builtins, crate::specs::Builtins::row_at))]
+    fn named_so_long(length: usize) -> &'static [(&'static [u8], Builtin)]
+        ensures { map {B = List ℕ × Builtin} (λ n. (n.0.now, n.1)) result.now ≡ map (λ b. (name_of b, b)) (named_so_long length) }
     {
-        match self {
-            Builtin::IntEq => b"int_eq",
-            Builtin::IntNe => b"int_ne",
-            Builtin::IntLe => b"int_le",
-            Builtin::IntLt => b"int_lt",
-            Builtin::IntLinEq => b"int_lin_eq",
-            Builtin::IntLinNe => b"int_lin_ne",
-            Builtin::IntLinLe => b"int_lin_le",
-            Builtin::IntPlus => b"int_plus",
-            Builtin::IntTimes => b"int_times",
-            Builtin::IntMin => b"int_min",
-            Builtin::IntMax => b"int_max",
-            Builtin::IntAbs => b"int_abs",
-            Builtin::IntDiv => b"int_div",
-            Builtin::IntMod => b"int_mod",
-            Builtin::ArrayIntElement => b"array_int_element",
-            Builtin::ArrayVarIntElement => b"array_var_int_element",
-            Builtin::ArrayIntMaximum => b"array_int_maximum",
-            Builtin::ArrayIntMinimum => b"array_int_minimum",
-            Builtin::FznAllDifferentInt => b"fzn_all_different_int",
-            Builtin::BoolEq => b"bool_eq",
-            Builtin::BoolLe => b"bool_le",
-            Builtin::BoolLt => b"bool_lt",
-            Builtin::BoolNot => b"bool_not",
-            Builtin::BoolAnd => b"bool_and",
-            Builtin::BoolOr => b"bool_or",
-            Builtin::BoolXor => b"bool_xor",
-            Builtin::ArrayBoolAnd => b"array_bool_and",
-            Builtin::ArrayBoolOr => b"array_bool_or",
-            Builtin::ArrayBoolXor => b"array_bool_xor",
-            Builtin::ArrayBoolElement => b"array_bool_element",
-            Builtin::ArrayVarBoolElement => b"array_var_bool_element",
-            Builtin::BoolClause => b"bool_clause",
-            Builtin::Bool2Int => b"bool2int",
-            Builtin::BoolLinEq => b"bool_lin_eq",
-            Builtin::BoolLinLe => b"bool_lin_le",
-            Builtin::SetIn => b"set_in",
-            Builtin::SetEq => b"set_eq",
-            Builtin::SetNe => b"set_ne",
-            Builtin::SetSubset => b"set_subset",
-            Builtin::SetSuperset => b"set_superset",
-            Builtin::SetUnion => b"set_union",
-            Builtin::SetIntersect => b"set_intersect",
-            Builtin::SetDiff => b"set_diff",
-            Builtin::SetSymdiff => b"set_symdiff",
-            Builtin::SetCard => b"set_card",
-            Builtin::ArraySetElement => b"array_set_element",
-            Builtin::ArrayVarSetElement => b"array_var_set_element",
-        }
-    }
-
-    // The builtins whose names have this key.
-    #[tactic(auto, unfolding(crate::specs::Known::builtins, crate::specs::Known::name_of))]
-    fn of_key(key: usize) -> &'static [Builtin]
-        ensures { result.now ≡ filter (λ b. key_of (name_of b) == key) builtins }
-    {
-        match key {
-            4 => &[Builtin::BoolLinLe],
-            6 => &[Builtin::SetSubset],
-            9 => &[Builtin::IntEq, Builtin::SetEq],
-            10 => &[Builtin::BoolXor],
-            12 => &[Builtin::Bool2Int],
-            13 => &[Builtin::IntPlus, Builtin::BoolLt],
-            14 => &[Builtin::ArrayVarBoolElement],
-            15 => &[Builtin::IntMin],
-            16 => &[Builtin::BoolClause],
-            17 => &[Builtin::IntLe],
-            18 => &[Builtin::SetDiff],
-            20 => &[Builtin::ArrayBoolXor],
-            21 => &[Builtin::IntLinNe],
-            23 => &[Builtin::SetSymdiff],
-            25 => &[Builtin::IntMod],
-            26 => &[Builtin::ArrayIntMaximum, Builtin::ArrayIntMinimum],
-            27 => &[Builtin::ArrayIntElement, Builtin::ArraySetElement],
-            28 => &[Builtin::BoolAnd],
-            29 => &[Builtin::IntMax],
-            32 => &[Builtin::BoolEq, Builtin::BoolNot],
-            35 => &[Builtin::SetIntersect],
-            36 => &[Builtin::IntTimes],
-            37 => &[Builtin::IntLinEq],
-            38 => &[Builtin::ArrayBoolAnd],
-            39 => &[Builtin::IntDiv],
-            40 => &[Builtin::BoolLe],
-            44 => &[Builtin::SetCard],
-            45 => &[Builtin::IntLinLe],
-            50 => &[Builtin::ArrayBoolElement],
-            51 => &[Builtin::BoolOr],
-            52 => &[Builtin::SetSuperset],
-            53 => &[Builtin::SetUnion],
-            54 => &[Builtin::IntLt],
-            55 => &[
-                Builtin::ArrayVarIntElement,
-                Builtin::FznAllDifferentInt,
-                Builtin::ArrayVarSetElement,
+        match length {
+            5 => &[(b"count", Builtin::Count)],
+            6 => &[
+                (b"int_eq", Builtin::IntEq),
+                (b"int_ne", Builtin::IntNe),
+                (b"int_le", Builtin::IntLe),
+                (b"int_lt", Builtin::IntLt),
+                (b"set_in", Builtin::SetIn),
+                (b"set_eq", Builtin::SetEq),
+                (b"set_ne", Builtin::SetNe),
             ],
-            56 => &[Builtin::SetIn],
-            57 => &[Builtin::IntNe, Builtin::SetNe],
-            58 => &[Builtin::IntAbs],
-            60 => &[Builtin::BoolLinEq],
-            61 => &[Builtin::ArrayBoolOr],
+            7 => &[
+                (b"int_min", Builtin::IntMin),
+                (b"int_max", Builtin::IntMax),
+                (b"int_abs", Builtin::IntAbs),
+                (b"int_div", Builtin::IntDiv),
+                (b"int_mod", Builtin::IntMod),
+                (b"bool_eq", Builtin::BoolEq),
+                (b"bool_le", Builtin::BoolLe),
+                (b"bool_lt", Builtin::BoolLt),
+                (b"bool_or", Builtin::BoolOr),
+            ],
+            8 => &[
+                (b"int_plus", Builtin::IntPlus),
+                (b"bool_not", Builtin::BoolNot),
+                (b"bool_and", Builtin::BoolAnd),
+                (b"bool_xor", Builtin::BoolXor),
+                (b"bool2int", Builtin::Bool2Int),
+                (b"set_diff", Builtin::SetDiff),
+                (b"set_card", Builtin::SetCard),
+                (b"fzn_sort", Builtin::FznSort),
+            ],
+            9 => &[
+                (b"int_times", Builtin::IntTimes),
+                (b"set_union", Builtin::SetUnion),
+                (b"fzn_among", Builtin::FznAmong),
+                (b"fzn_diffn", Builtin::FznDiffn),
+            ],
+            10 => &[
+                (b"int_lin_eq", Builtin::IntLinEq),
+                (b"int_lin_ne", Builtin::IntLinNe),
+                (b"int_lin_le", Builtin::IntLinLe),
+                (b"set_subset", Builtin::SetSubset),
+                (b"fzn_nvalue", Builtin::FznNvalue),
+            ],
+            11 => &[
+                (b"bool_clause", Builtin::BoolClause),
+                (b"bool_lin_eq", Builtin::BoolLinEq),
+                (b"bool_lin_le", Builtin::BoolLinLe),
+                (b"set_symdiff", Builtin::SetSymdiff),
+                (b"cumulatives", Builtin::Cumulatives),
+                (b"fzn_regular", Builtin::FznRegular),
+            ],
+            12 => &[
+                (b"set_superset", Builtin::SetSuperset),
+                (b"gecode_count", Builtin::GecodeCount),
+                (b"fzn_count_eq", Builtin::FznCountEq),
+                (b"fzn_count_gt", Builtin::FznCountGt),
+                (b"fzn_count_lt", Builtin::FznCountLt),
+                (b"fzn_disjoint", Builtin::FznDisjoint),
+            ],
+            13 => &[
+                (b"array_bool_or", Builtin::ArrayBoolOr),
+                (b"set_intersect", Builtin::SetIntersect),
+                (b"fzn_count_neq", Builtin::FznCountNeq),
+                (b"fzn_count_geq", Builtin::FznCountGeq),
+                (b"fzn_count_leq", Builtin::FznCountLeq),
+                (b"fzn_table_int", Builtin::FznTableInt),
+            ],
+            14 => &[
+                (b"array_bool_and", Builtin::ArrayBoolAnd),
+                (b"array_bool_xor", Builtin::ArrayBoolXor),
+                (b"fzn_distribute", Builtin::FznDistribute),
+                (b"fzn_cumulative", Builtin::FznCumulative),
+                (b"gecode_circuit", Builtin::GecodeCircuit),
+                (b"geas_table_int", Builtin::GeasTableInt),
+                (b"fzn_table_bool", Builtin::FznTableBool),
+                (b"gecode_regular", Builtin::GecodeRegular),
+                (b"gecode_precede", Builtin::GecodePrecede),
+                (b"fzn_member_int", Builtin::FznMemberInt),
+            ],
+            15 => &[
+                (b"fzn_at_most_int", Builtin::FznAtMostInt),
+                (b"fzn_exactly_int", Builtin::FznExactlyInt),
+                (b"fzn_disjunctive", Builtin::FznDisjunctive),
+                (b"fzcheck_circuit", Builtin::FzcheckCircuit),
+                (b"inverse_offsets", Builtin::InverseOffsets),
+                (b"fzn_bin_packing", Builtin::FznBinPacking),
+                (b"fzn_member_bool", Builtin::FznMemberBool),
+                (b"fzn_sliding_sum", Builtin::FznSlidingSum),
+            ],
+            16 => &[
+                (b"fzn_at_least_int", Builtin::FznAtLeastInt),
+                (b"gecode_nooverlap", Builtin::GecodeNooverlap),
+                (b"gecode_table_int", Builtin::GecodeTableInt),
+                (b"fzn_lex_less_int", Builtin::FznLexLessInt),
+            ],
+            17 => &[
+                (b"array_int_element", Builtin::ArrayIntElement),
+                (b"array_int_maximum", Builtin::ArrayIntMaximum),
+                (b"array_int_minimum", Builtin::ArrayIntMinimum),
+                (b"array_set_element", Builtin::ArraySetElement),
+                (b"fzn_all_equal_int", Builtin::FznAllEqualInt),
+                (b"fzn_lex_less_bool", Builtin::FznLexLessBool),
+                (b"fzn_partition_set", Builtin::FznPartitionSet),
+            ],
+            18 => &[
+                (b"array_bool_element", Builtin::ArrayBoolElement),
+                (b"fzcheck_subcircuit", Builtin::FzcheckSubcircuit),
+                (b"fzn_lex_lesseq_int", Builtin::FznLexLesseqInt),
+                (b"fzn_increasing_int", Builtin::FznIncreasingInt),
+                (b"fzn_decreasing_int", Builtin::FznDecreasingInt),
+            ],
+            19 => &[
+                (b"fzn_diffn_nonstrict", Builtin::FznDiffnNonstrict),
+                (b"gecode_array_int_lt", Builtin::GecodeArrayIntLt),
+                (b"gecode_array_int_lq", Builtin::GecodeArrayIntLq),
+                (b"fzn_lex_lesseq_bool", Builtin::FznLexLesseqBool),
+                (b"fzn_increasing_bool", Builtin::FznIncreasingBool),
+                (b"fzn_decreasing_bool", Builtin::FznDecreasingBool),
+            ],
+            20 => &[
+                (b"gecode_array_bool_lt", Builtin::GecodeArrayBoolLt),
+                (b"gecode_array_bool_lq", Builtin::GecodeArrayBoolLq),
+            ],
+            21 => &[
+                (b"array_var_int_element", Builtin::ArrayVarIntElement),
+                (b"fzn_all_different_int", Builtin::FznAllDifferentInt),
+                (b"array_var_set_element", Builtin::ArrayVarSetElement),
+                (b"fzn_value_precede_int", Builtin::FznValuePrecedeInt),
+            ],
+            22 => &[
+                (b"geas_all_different_int", Builtin::GeasAllDifferentInt),
+                (b"array_var_bool_element", Builtin::ArrayVarBoolElement),
+                (b"fzn_global_cardinality", Builtin::FznGlobalCardinality),
+                (b"fzn_disjunctive_strict", Builtin::FznDisjunctiveStrict),
+                (b"gecode_inverse_offsets", Builtin::GecodeInverseOffsets),
+                (b"gecode_int_set_channel", Builtin::GecodeIntSetChannel),
+            ],
+            23 => &[(b"gecode_bin_packing_load", Builtin::GecodeBinPackingLoad)],
+            24 => &[
+                (b"gecode_all_different_int", Builtin::GecodeAllDifferentInt),
+                (b"fzcheck_bin_packing_load", Builtin::FzcheckBinPackingLoad),
+            ],
+            25 => &[
+                (
+                    b"fzn_alldifferent_except_0",
+                    Builtin::FznAlldifferentExcept0,
+                ),
+                (b"fzn_seq_precede_chain_int", Builtin::FznSeqPrecedeChainInt),
+            ],
+            26 => &[(
+                b"gecode_array_set_partition",
+                Builtin::GecodeArraySetPartition,
+            )],
+            27 => &[
+                (
+                    b"geas_all_different_except_0",
+                    Builtin::GeasAllDifferentExcept0,
+                ),
+                (
+                    b"fzn_strictly_increasing_int",
+                    Builtin::FznStrictlyIncreasingInt,
+                ),
+                (
+                    b"fzn_value_precede_chain_int",
+                    Builtin::FznValuePrecedeChainInt,
+                ),
+                (
+                    b"gecode_link_set_to_booleans",
+                    Builtin::GecodeLinkSetToBooleans,
+                ),
+            ],
+            29 => &[
+                (
+                    b"fzn_global_cardinality_closed",
+                    Builtin::FznGlobalCardinalityClosed,
+                ),
+                (
+                    b"fzn_global_cardinality_low_up",
+                    Builtin::FznGlobalCardinalityLowUp,
+                ),
+                (
+                    b"gecode_maximum_arg_int_offset",
+                    Builtin::GecodeMaximumArgIntOffset,
+                ),
+                (
+                    b"gecode_minimum_arg_int_offset",
+                    Builtin::GecodeMinimumArgIntOffset,
+                ),
+            ],
+            36 => &[(
+                b"fzn_global_cardinality_low_up_closed",
+                Builtin::FznGlobalCardinalityLowUpClosed,
+            )],
             _ => &[],
         }
     }
@@ -187,8 +339,8 @@ impl Builtin {
     pub(crate) fn called(name: &[u8]) -> Option<Builtin>
         ensures { result ≡ find (λ b. bytes_eq (name_of b) name.now) builtins }
     {
-        for builtin in Builtin::of_key(key_of(name)) {
-            if same_text(builtin.name(), name) {
+        for (own, builtin) in Builtin::named_so_long(name.len()) {
+            if same_text(own, name) {
                 return Some(*builtin);
             }
         }

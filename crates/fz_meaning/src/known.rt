@@ -1,26 +1,40 @@
 //! A builtin or its form with a truth value.
 
-ghost use Rattle.std.specs.Prelude.{◌≡◌, ◌-◌, IfNone, IfSome, MatchOption, None, Some, bytes_eq, codes, drop, false, length, map, take, true};
-ghost use Rattle.fz_meaning.specs.Known.{known_name, known_row, result_of, row_named, shape_of};
+ghost use Rattle.std.specs.Prelude.{◌≡◌, ◌++◌, IfNone, IfSome, List, MatchOption, None, Some, ℕ, map};
+ghost use Rattle.fz_meaning.specs.Known.{HasTruth, known_row, result_of, row_named, shape_of, suffix_of};
 
 use crate::builtin::Builtin;
-use crate::row::{BaseRow, Filled, Shape, Sum};
+use crate::row::{BaseRow, Filled, Lengths, Shape};
 use crate::text::same_text;
 
-/// A row of the table: a base row, or its form with a truth value behind, which is named with `_reif`.
+/// What a constraint says of a base row.
+#[derive(Clone, Copy, Debug, PartialEq, Eq)]
+pub enum Form {
+    /// That it holds.
+    Base,
+    /// That it holds exactly where the truth value behind its arguments is true: a name with `_reif`.
+    Reified,
+    /// That it holds where that truth value is true: a name with `_imp`.
+    Implied,
+}
+
+/// A row of the table: a base row, or one of its forms with a truth value behind.
 #[derive(Clone, Copy, Debug, PartialEq, Eq)]
 pub struct Known {
     pub builtin: Builtin,
-    pub reified: bool,
+    pub form: Form,
 }
 
-/// What stands before `_reif` in a name that ends so. Five bytes are compared where they stand, with no call.
+/// What stands before the suffix in a name that ends so.
 #[inline]
-fn unreified(name: &[u8]) -> Option<&[u8]>
-    ensures cases { MatchOption result (bytes_eq (drop (length name.now - 5) name.now) (codes "_reif") ≡ false) (λ base. (bytes_eq (drop (length name.now - 5) name.now) (codes "_reif") ≡ true) × (base.now ≡ take (length name.now - 5) name.now)) }
+fn without<'n>(name: &'n [u8], suffix: &[u8]) -> Option<&'n [u8]>
+    ensures { MatchOption result ((base : List ℕ) → name.now ≡ base ++ suffix.now → ⊥) (λ base. name.now ≡ base.now ++ suffix.now) }
 {
-    let (base, end) = name.split_last_chunk::<5>()?;
-    if same_text(end, b"_reif") {
+    if name.len() < suffix.len() {
+        return None;
+    }
+    let (base, end) = name.split_at(name.len() - suffix.len());
+    if same_text(end, suffix) {
         Some(base)
     } else {
         None
@@ -30,24 +44,32 @@ fn unreified(name: &[u8]) -> Option<&[u8]>
 impl Known {
     /// What a constraint's name means, if the table has a row of that name. It is compared with few names.
     pub fn find(name: &[u8]) -> Option<Known>
-        ensures found { IfSome result (λ k. known_name k ≡ name.now) }
         ensures has_row { IfSome result (λ k. row_named name.now ≡ Some (known_row k)) }
         ensures none { IfNone result (row_named name.now ≡ None) }
     {
-        let Some(base) = unreified(name) else {
-            let builtin = Builtin::called(name)?;
-            return Some(Known {
-                builtin,
-                reified: false,
-            });
-        };
+        if let Some(base) = without(name, b"_reif") {
+            return Known::in_form(base, Form::Reified);
+        }
+        if let Some(base) = without(name, b"_imp") {
+            return Known::in_form(base, Form::Implied);
+        }
+        let builtin = Builtin::called(name)?;
+        Some(Known {
+            builtin,
+            form: Form::Base,
+        })
+    }
+
+    // A form with a truth value of the base row of this name.
+    fn in_form(base: &[u8], form: Form) -> Option<Known>
+        requires { HasTruth form }
+        ensures has_row { IfSome result (λ k. row_named (base.now ++ suffix_of form) ≡ Some (known_row k)) }
+        ensures none { IfNone result (row_named (base.now ++ suffix_of form) ≡ None) }
+    {
         let builtin = Builtin::called(base)?;
-        let BaseRow(_, _, _, has_reified) = builtin.base_row();
-        if has_reified {
-            Some(Known {
-                builtin,
-                reified: true,
-            })
+        let BaseRow(_, _, _, has_forms) = builtin.base_row();
+        if has_forms {
+            Some(Known { builtin, form })
         } else {
             None
         }
@@ -59,21 +81,21 @@ impl Known {
         ensures { map shape_of result.now ≡ (known_row self).shapes }
     {
         let BaseRow(with_truth, ..) = self.builtin.base_row();
-        if self.reified {
-            with_truth
-        } else {
-            &with_truth[..with_truth.len() - 1]
+        match self.form {
+            Form::Base => &with_truth[..with_truth.len() - 1],
+            Form::Reified | Form::Implied => with_truth,
         }
     }
 
-    /// Whether the first two arguments have to be of equal lengths.
-    pub fn equal_lengths(self) -> bool
-        ensures { result ≡ (known_row self).equal_lengths }
+    /// The places, counted from 0, of the arrays that have to be of equal lengths.
+    pub fn together(self) -> &'static [usize]
+        ensures { result.now ≡ (known_row self).together }
     {
-        let BaseRow(_, _, sum, _) = self.builtin.base_row();
-        match sum {
-            Sum::No => false,
-            Sum::Plain | Sum::In128 => true,
+        let BaseRow(_, _, lengths, _) = self.builtin.base_row();
+        match lengths {
+            Lengths::Free => &[],
+            Lengths::Equal(places) => places,
+            Lengths::Summed => &[0, 1],
         }
     }
 
@@ -81,22 +103,19 @@ impl Known {
     pub fn sums_in_128(self) -> bool
         ensures { result ≡ (known_row self).sums_in_128 }
     {
-        let BaseRow(_, _, sum, _) = self.builtin.base_row();
-        match sum {
-            Sum::No | Sum::Plain => false,
-            Sum::In128 => true,
-        }
+        let BaseRow(_, _, lengths, _) = self.builtin.base_row();
+        matches!(lengths, Lengths::Summed)
     }
 
-    /// Which arguments `defines_var` may fill: of a form with a truth value, that value.
+    /// Which arguments `defines_var` may fill: of a form with `_reif`, its truth value.
     pub fn filled(self) -> Filled
         ensures { result_of result ≡ (known_row self).result }
     {
         let BaseRow(with_truth, filled, ..) = self.builtin.base_row();
-        if self.reified {
-            Filled::At(with_truth.len() - 1)
-        } else {
-            filled
+        match self.form {
+            Form::Base => filled,
+            Form::Reified => Filled::At(with_truth.len() - 1),
+            Form::Implied => Filled::Nothing,
         }
     }
 }

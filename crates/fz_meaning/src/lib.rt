@@ -1,11 +1,10 @@
 //! What a FlatZinc model means: names, the table of builtins, points and their states, forced steps, and the leftmost fault of names.
 //! The inner crate below `fz_model`, which offers all of it.
 //!
-//! The table of builtins stands here as data too. [`Known::find`] says what a constraint's name means: a [`Builtin`], or its form with a
-//! truth value behind. A [`Known`] tells what its row asks: the kinds of its arguments, whether two arrays have to be of equal lengths,
-//! whether its sum is added in 128 bits, and which arguments may be filled. What the row holds of is the definition's: `Builtins`.
-//!
-//! A later row is a variant and one line in each of `name`, `of_key` and `base_row`.
+//! The table of builtins stands here as data too. [`Known::find`] says what a constraint's name means:
+//! a [`Builtin`], or a [`Form`] of it with a truth value behind. A [`Known`] tells what its row asks: the
+//! kinds of its arguments, which arrays have to be of equal lengths, whether its sum is added in 128 bits,
+//! and which arguments may be filled. What the row holds of is the definition's: `Builtins`.
 #![tactic(auto)]
 
 mod builtin;
@@ -24,7 +23,7 @@ ghost use Rattle.fz_meaning.specs.ReadingOrder.{SourcesAreInReadingOrder};
 pub use builtin::Builtin;
 pub use error::ModelError;
 pub use kind::Kind;
-pub use known::Known;
+pub use known::{Form, Known};
 pub use row::{Filled, Shape};
 pub use state::State;
 pub use term::{Domain, Term};

@@ -1,6 +1,6 @@
 //! What the rows of the table ask of a constraint's arguments, and which of them may be filled.
 
-ghost use Rattle.fz_meaning.specs.Known.{row_at};
+ghost use Rattle.fz_meaning.specs.Builtins.{row_at};
 ghost use Rattle.fz_meaning.specs.TableData.{IsData};
 
 use crate::builtin::Builtin;
@@ -25,21 +25,22 @@ pub enum Filled {
     UnitTerm,
 }
 
-// What a row adds up: nothing; or the products of two arrays, which have equal lengths, freely or in signed 128 bits.
+// Which arrays have to be of equal lengths: none; those at some places, counted from 0; or the first
+// two, whose products are added up in signed 128 bits.
 #[derive(Clone, Copy)]
-pub(crate) enum Sum {
-    No,
-    Plain,
-    In128,
+pub(crate) enum Lengths {
+    Free,
+    Equal(&'static [usize]),
+    Summed,
 }
 
-// The kinds of a base row's arguments with the truth value of a reified form behind, what may be filled, what is added up, and whether
-// there is a reified form.
+// The kinds of a base row's arguments with the truth value of its forms behind, what may be filled,
+// which lengths are equal, and whether there are forms with a truth value.
 #[derive(Clone, Copy)]
 pub(crate) struct BaseRow(
     pub(crate) &'static [Shape],
     pub(crate) Filled,
-    pub(crate) Sum,
+    pub(crate) Lengths,
     pub(crate) bool,
 );
 
@@ -67,65 +68,231 @@ const A_OR_B: Filled = Filled::Either(0, 1);
 
 const UNIT_TERM: Filled = Filled::UnitTerm;
 
-const REIFIED: bool = true;
+const FREE: Lengths = Lengths::Free;
+
+const FIRST_TWO: Lengths = Lengths::Equal(&[0, 1]);
+
+const SECOND_AND_THIRD: Lengths = Lengths::Equal(&[1, 2]);
+
+const FIRST_THREE: Lengths = Lengths::Equal(&[0, 1, 2]);
+
+const LAST_THREE: Lengths = Lengths::Equal(&[1, 2, 3]);
+
+const ALL_FOUR: Lengths = Lengths::Equal(&[0, 1, 2, 3]);
+
+const SUMMED: Lengths = Lengths::Summed;
+
+const FORMS: bool = true;
 
 const ALONE: bool = false;
 
 impl Builtin {
     // The row of the table.
-    #[tactic(auto, unfolding(crate::specs::Known::name_of, crate::specs::Known::row_at))]
+    #[tactic(auto, unfolding(crate::specs::Builtins::row_at))]
     #[inline(always)]
     pub(crate) fn base_row(self) -> BaseRow
         ensures { IsData result (row_at self) }
     {
         match self {
-            Builtin::IntEq => BaseRow(&[INT, INT, BOOL], A_OR_B, Sum::No, REIFIED),
-            Builtin::IntNe => BaseRow(&[INT, INT, BOOL], NONE, Sum::No, REIFIED),
-            Builtin::IntLe => BaseRow(&[INT, INT, BOOL], NONE, Sum::No, REIFIED),
-            Builtin::IntLt => BaseRow(&[INT, INT, BOOL], NONE, Sum::No, REIFIED),
-            Builtin::IntLinEq => BaseRow(&[INTS, INTS, INT, BOOL], UNIT_TERM, Sum::In128, REIFIED),
-            Builtin::IntLinNe => BaseRow(&[INTS, INTS, INT, BOOL], NONE, Sum::In128, REIFIED),
-            Builtin::IntLinLe => BaseRow(&[INTS, INTS, INT, BOOL], NONE, Sum::In128, REIFIED),
-            Builtin::IntPlus => BaseRow(&[INT, INT, INT, BOOL], C, Sum::No, ALONE),
-            Builtin::IntTimes => BaseRow(&[INT, INT, INT, BOOL], C, Sum::No, ALONE),
-            Builtin::IntMin => BaseRow(&[INT, INT, INT, BOOL], C, Sum::No, ALONE),
-            Builtin::IntMax => BaseRow(&[INT, INT, INT, BOOL], C, Sum::No, ALONE),
-            Builtin::IntAbs => BaseRow(&[INT, INT, BOOL], B, Sum::No, ALONE),
-            Builtin::IntDiv => BaseRow(&[INT, INT, INT, BOOL], C, Sum::No, ALONE),
-            Builtin::IntMod => BaseRow(&[INT, INT, INT, BOOL], C, Sum::No, ALONE),
-            Builtin::ArrayIntElement => BaseRow(&[INT, INTS, INT, BOOL], C, Sum::No, ALONE),
-            Builtin::ArrayVarIntElement => BaseRow(&[INT, INTS, INT, BOOL], C, Sum::No, ALONE),
-            Builtin::ArrayIntMaximum => BaseRow(&[INT, INTS, BOOL], A, Sum::No, ALONE),
-            Builtin::ArrayIntMinimum => BaseRow(&[INT, INTS, BOOL], A, Sum::No, ALONE),
-            Builtin::FznAllDifferentInt => BaseRow(&[INTS, BOOL], NONE, Sum::No, ALONE),
-            Builtin::BoolEq => BaseRow(&[BOOL, BOOL, BOOL], A_OR_B, Sum::No, REIFIED),
-            Builtin::BoolLe => BaseRow(&[BOOL, BOOL, BOOL], NONE, Sum::No, REIFIED),
-            Builtin::BoolLt => BaseRow(&[BOOL, BOOL, BOOL], NONE, Sum::No, REIFIED),
-            Builtin::BoolNot => BaseRow(&[BOOL, BOOL, BOOL], A_OR_B, Sum::No, ALONE),
-            Builtin::BoolAnd => BaseRow(&[BOOL, BOOL, BOOL, BOOL], C, Sum::No, ALONE),
-            Builtin::BoolOr => BaseRow(&[BOOL, BOOL, BOOL, BOOL], C, Sum::No, ALONE),
-            Builtin::BoolXor => BaseRow(&[BOOL, BOOL, BOOL, BOOL], C, Sum::No, ALONE),
-            Builtin::ArrayBoolAnd => BaseRow(&[BOOLS, BOOL, BOOL], B, Sum::No, ALONE),
-            Builtin::ArrayBoolOr => BaseRow(&[BOOLS, BOOL, BOOL], B, Sum::No, ALONE),
-            Builtin::ArrayBoolXor => BaseRow(&[BOOLS, BOOL], NONE, Sum::No, ALONE),
-            Builtin::ArrayBoolElement => BaseRow(&[INT, BOOLS, BOOL, BOOL], C, Sum::No, ALONE),
-            Builtin::ArrayVarBoolElement => BaseRow(&[INT, BOOLS, BOOL, BOOL], C, Sum::No, ALONE),
-            Builtin::BoolClause => BaseRow(&[BOOLS, BOOLS, BOOL], NONE, Sum::No, ALONE),
-            Builtin::Bool2Int => BaseRow(&[BOOL, INT, BOOL], A_OR_B, Sum::No, ALONE),
-            Builtin::BoolLinEq => BaseRow(&[INTS, BOOLS, INT, BOOL], C, Sum::Plain, ALONE),
-            Builtin::BoolLinLe => BaseRow(&[INTS, BOOLS, INT, BOOL], NONE, Sum::Plain, ALONE),
-            Builtin::SetIn => BaseRow(&[INT, SET, BOOL], NONE, Sum::No, REIFIED),
-            Builtin::SetEq => BaseRow(&[SET, SET, BOOL], A_OR_B, Sum::No, REIFIED),
-            Builtin::SetNe => BaseRow(&[SET, SET, BOOL], NONE, Sum::No, REIFIED),
-            Builtin::SetSubset => BaseRow(&[SET, SET, BOOL], NONE, Sum::No, REIFIED),
-            Builtin::SetSuperset => BaseRow(&[SET, SET, BOOL], NONE, Sum::No, REIFIED),
-            Builtin::SetUnion => BaseRow(&[SET, SET, SET, BOOL], C, Sum::No, ALONE),
-            Builtin::SetIntersect => BaseRow(&[SET, SET, SET, BOOL], C, Sum::No, ALONE),
-            Builtin::SetDiff => BaseRow(&[SET, SET, SET, BOOL], C, Sum::No, ALONE),
-            Builtin::SetSymdiff => BaseRow(&[SET, SET, SET, BOOL], C, Sum::No, ALONE),
-            Builtin::SetCard => BaseRow(&[SET, INT, BOOL], B, Sum::No, ALONE),
-            Builtin::ArraySetElement => BaseRow(&[INT, SETS, SET, BOOL], C, Sum::No, ALONE),
-            Builtin::ArrayVarSetElement => BaseRow(&[INT, SETS, SET, BOOL], C, Sum::No, ALONE),
+            Builtin::IntEq => BaseRow(&[INT, INT, BOOL], A_OR_B, FREE, FORMS),
+            Builtin::IntNe => BaseRow(&[INT, INT, BOOL], NONE, FREE, FORMS),
+            Builtin::IntLe => BaseRow(&[INT, INT, BOOL], NONE, FREE, FORMS),
+            Builtin::IntLt => BaseRow(&[INT, INT, BOOL], NONE, FREE, FORMS),
+            Builtin::IntLinEq => BaseRow(&[INTS, INTS, INT, BOOL], UNIT_TERM, SUMMED, FORMS),
+            Builtin::IntLinNe => BaseRow(&[INTS, INTS, INT, BOOL], NONE, SUMMED, FORMS),
+            Builtin::IntLinLe => BaseRow(&[INTS, INTS, INT, BOOL], NONE, SUMMED, FORMS),
+            Builtin::IntPlus => BaseRow(&[INT, INT, INT, BOOL], C, FREE, ALONE),
+            Builtin::IntTimes => BaseRow(&[INT, INT, INT, BOOL], C, FREE, ALONE),
+            Builtin::IntMin => BaseRow(&[INT, INT, INT, BOOL], C, FREE, ALONE),
+            Builtin::IntMax => BaseRow(&[INT, INT, INT, BOOL], C, FREE, ALONE),
+            Builtin::IntAbs => BaseRow(&[INT, INT, BOOL], B, FREE, ALONE),
+            Builtin::IntDiv => BaseRow(&[INT, INT, INT, BOOL], C, FREE, ALONE),
+            Builtin::IntMod => BaseRow(&[INT, INT, INT, BOOL], C, FREE, ALONE),
+            Builtin::ArrayIntElement => BaseRow(&[INT, INTS, INT, BOOL], C, FREE, ALONE),
+            Builtin::ArrayVarIntElement => BaseRow(&[INT, INTS, INT, BOOL], C, FREE, ALONE),
+            Builtin::ArrayIntMaximum => BaseRow(&[INT, INTS, BOOL], A, FREE, ALONE),
+            Builtin::ArrayIntMinimum => BaseRow(&[INT, INTS, BOOL], A, FREE, ALONE),
+            Builtin::FznAllDifferentInt => BaseRow(&[INTS, BOOL], NONE, FREE, ALONE),
+            Builtin::GecodeAllDifferentInt => BaseRow(&[INTS, BOOL], NONE, FREE, ALONE),
+            Builtin::GeasAllDifferentInt => BaseRow(&[INTS, BOOL], NONE, FREE, ALONE),
+            Builtin::BoolEq => BaseRow(&[BOOL, BOOL, BOOL], A_OR_B, FREE, FORMS),
+            Builtin::BoolLe => BaseRow(&[BOOL, BOOL, BOOL], NONE, FREE, FORMS),
+            Builtin::BoolLt => BaseRow(&[BOOL, BOOL, BOOL], NONE, FREE, FORMS),
+            Builtin::BoolNot => BaseRow(&[BOOL, BOOL, BOOL], A_OR_B, FREE, ALONE),
+            Builtin::BoolAnd => BaseRow(&[BOOL, BOOL, BOOL, BOOL], C, FREE, ALONE),
+            Builtin::BoolOr => BaseRow(&[BOOL, BOOL, BOOL, BOOL], C, FREE, ALONE),
+            Builtin::BoolXor => BaseRow(&[BOOL, BOOL, BOOL, BOOL], C, FREE, ALONE),
+            Builtin::ArrayBoolAnd => BaseRow(&[BOOLS, BOOL, BOOL], B, FREE, ALONE),
+            Builtin::ArrayBoolOr => BaseRow(&[BOOLS, BOOL, BOOL], B, FREE, ALONE),
+            Builtin::ArrayBoolXor => BaseRow(&[BOOLS, BOOL], NONE, FREE, ALONE),
+            Builtin::ArrayBoolElement => BaseRow(&[INT, BOOLS, BOOL, BOOL], C, FREE, ALONE),
+            Builtin::ArrayVarBoolElement => BaseRow(&[INT, BOOLS, BOOL, BOOL], C, FREE, ALONE),
+            Builtin::BoolClause => BaseRow(&[BOOLS, BOOLS, BOOL], NONE, FREE, FORMS),
+            Builtin::Bool2Int => BaseRow(&[BOOL, INT, BOOL], A_OR_B, FREE, ALONE),
+            Builtin::BoolLinEq => BaseRow(&[INTS, BOOLS, INT, BOOL], C, FIRST_TWO, ALONE),
+            Builtin::BoolLinLe => BaseRow(&[INTS, BOOLS, INT, BOOL], NONE, FIRST_TWO, ALONE),
+            Builtin::SetIn => BaseRow(&[INT, SET, BOOL], NONE, FREE, FORMS),
+            Builtin::SetEq => BaseRow(&[SET, SET, BOOL], A_OR_B, FREE, FORMS),
+            Builtin::SetNe => BaseRow(&[SET, SET, BOOL], NONE, FREE, FORMS),
+            Builtin::SetSubset => BaseRow(&[SET, SET, BOOL], NONE, FREE, FORMS),
+            Builtin::SetSuperset => BaseRow(&[SET, SET, BOOL], NONE, FREE, FORMS),
+            Builtin::SetUnion => BaseRow(&[SET, SET, SET, BOOL], C, FREE, ALONE),
+            Builtin::SetIntersect => BaseRow(&[SET, SET, SET, BOOL], C, FREE, ALONE),
+            Builtin::SetDiff => BaseRow(&[SET, SET, SET, BOOL], C, FREE, ALONE),
+            Builtin::SetSymdiff => BaseRow(&[SET, SET, SET, BOOL], C, FREE, ALONE),
+            Builtin::SetCard => BaseRow(&[SET, INT, BOOL], B, FREE, ALONE),
+            Builtin::ArraySetElement => BaseRow(&[INT, SETS, SET, BOOL], C, FREE, ALONE),
+            Builtin::ArrayVarSetElement => BaseRow(&[INT, SETS, SET, BOOL], C, FREE, ALONE),
+            Builtin::FznAlldifferentExcept0 => BaseRow(&[INTS, BOOL], NONE, FREE, ALONE),
+            Builtin::GeasAllDifferentExcept0 => BaseRow(&[INTS, BOOL], NONE, FREE, ALONE),
+            Builtin::FznAllEqualInt => BaseRow(&[INTS, BOOL], NONE, FREE, ALONE),
+            Builtin::Count => BaseRow(&[INTS, INT, INT, BOOL], C, FREE, ALONE),
+            Builtin::GecodeCount => BaseRow(&[INTS, INT, INT, BOOL], C, FREE, ALONE),
+            Builtin::FznCountEq => BaseRow(&[INTS, INT, INT, BOOL], C, FREE, ALONE),
+            Builtin::FznCountNeq => BaseRow(&[INTS, INT, INT, BOOL], NONE, FREE, ALONE),
+            Builtin::FznCountGeq => BaseRow(&[INTS, INT, INT, BOOL], NONE, FREE, ALONE),
+            Builtin::FznCountGt => BaseRow(&[INTS, INT, INT, BOOL], NONE, FREE, ALONE),
+            Builtin::FznCountLeq => BaseRow(&[INTS, INT, INT, BOOL], NONE, FREE, ALONE),
+            Builtin::FznCountLt => BaseRow(&[INTS, INT, INT, BOOL], NONE, FREE, ALONE),
+            Builtin::FznAmong => BaseRow(&[INT, INTS, SET, BOOL], A, FREE, ALONE),
+            Builtin::FznNvalue => BaseRow(&[INT, INTS, BOOL], A, FREE, ALONE),
+            Builtin::FznAtLeastInt => BaseRow(&[INT, INTS, INT, BOOL], NONE, FREE, ALONE),
+            Builtin::FznAtMostInt => BaseRow(&[INT, INTS, INT, BOOL], NONE, FREE, ALONE),
+            Builtin::FznExactlyInt => BaseRow(&[INT, INTS, INT, BOOL], NONE, FREE, ALONE),
+            Builtin::FznGlobalCardinality => BaseRow(
+                &[INTS, INTS, INTS, BOOL],
+                NONE,
+                SECOND_AND_THIRD,
+                ALONE,
+            ),
+            Builtin::FznGlobalCardinalityClosed => BaseRow(
+                &[INTS, INTS, INTS, BOOL],
+                NONE,
+                SECOND_AND_THIRD,
+                ALONE,
+            ),
+            Builtin::FznGlobalCardinalityLowUp => BaseRow(
+                &[INTS, INTS, INTS, INTS, BOOL],
+                NONE,
+                LAST_THREE,
+                ALONE,
+            ),
+            Builtin::FznGlobalCardinalityLowUpClosed => BaseRow(
+                &[INTS, INTS, INTS, INTS, BOOL],
+                NONE,
+                LAST_THREE,
+                ALONE,
+            ),
+            Builtin::FznDistribute => BaseRow(&[INTS, INTS, INTS, BOOL], NONE, FIRST_TWO, ALONE),
+            Builtin::FznCumulative => BaseRow(
+                &[INTS, INTS, INTS, INT, BOOL],
+                NONE,
+                FIRST_THREE,
+                ALONE,
+            ),
+            Builtin::Cumulatives => BaseRow(
+                &[INTS, INTS, INTS, INT, BOOL],
+                NONE,
+                FIRST_THREE,
+                ALONE,
+            ),
+            Builtin::FznDisjunctive => BaseRow(&[INTS, INTS, BOOL], NONE, FIRST_TWO, ALONE),
+            Builtin::FznDisjunctiveStrict => BaseRow(&[INTS, INTS, BOOL], NONE, FIRST_TWO, ALONE),
+            Builtin::FznDiffn => BaseRow(&[INTS, INTS, INTS, INTS, BOOL], NONE, ALL_FOUR, ALONE),
+            Builtin::FznDiffnNonstrict => BaseRow(
+                &[INTS, INTS, INTS, INTS, BOOL],
+                NONE,
+                ALL_FOUR,
+                ALONE,
+            ),
+            Builtin::GecodeNooverlap => BaseRow(
+                &[INTS, INTS, INTS, INTS, BOOL],
+                NONE,
+                ALL_FOUR,
+                ALONE,
+            ),
+            Builtin::GecodeCircuit => BaseRow(&[INT, INTS, BOOL], NONE, FREE, ALONE),
+            Builtin::FzcheckCircuit => BaseRow(&[INT, INTS, BOOL], NONE, FREE, ALONE),
+            Builtin::FzcheckSubcircuit => BaseRow(&[INT, INTS, BOOL], NONE, FREE, ALONE),
+            Builtin::InverseOffsets => BaseRow(&[INTS, INT, INTS, INT, BOOL], NONE, FREE, ALONE),
+            Builtin::GecodeInverseOffsets => BaseRow(
+                &[INTS, INT, INTS, INT, BOOL],
+                NONE,
+                FREE,
+                ALONE,
+            ),
+            Builtin::FznTableInt => BaseRow(&[INTS, INTS, BOOL], NONE, FREE, ALONE),
+            Builtin::GecodeTableInt => BaseRow(&[INTS, INTS, BOOL], NONE, FREE, ALONE),
+            Builtin::GeasTableInt => BaseRow(&[INTS, INTS, BOOL], NONE, FREE, ALONE),
+            Builtin::FznTableBool => BaseRow(&[BOOLS, BOOLS, BOOL], NONE, FREE, ALONE),
+            Builtin::FznRegular => BaseRow(
+                &[INTS, INT, INT, INTS, INT, SET, BOOL],
+                NONE,
+                FREE,
+                ALONE,
+            ),
+            Builtin::GecodeRegular => BaseRow(
+                &[INTS, INT, INT, INTS, INT, SET, BOOL],
+                NONE,
+                FREE,
+                ALONE,
+            ),
+            Builtin::FznBinPacking => BaseRow(
+                &[INT, INTS, INTS, BOOL],
+                NONE,
+                SECOND_AND_THIRD,
+                ALONE,
+            ),
+            Builtin::GecodeBinPackingLoad => BaseRow(
+                &[INTS, INTS, INTS, INT, BOOL],
+                NONE,
+                SECOND_AND_THIRD,
+                ALONE,
+            ),
+            Builtin::FzcheckBinPackingLoad => BaseRow(
+                &[INTS, INTS, INTS, INT, BOOL],
+                NONE,
+                SECOND_AND_THIRD,
+                ALONE,
+            ),
+            Builtin::FznLexLessInt => BaseRow(&[INTS, INTS, BOOL], NONE, FREE, ALONE),
+            Builtin::GecodeArrayIntLt => BaseRow(&[INTS, INTS, BOOL], NONE, FREE, ALONE),
+            Builtin::FznLexLesseqInt => BaseRow(&[INTS, INTS, BOOL], NONE, FREE, ALONE),
+            Builtin::GecodeArrayIntLq => BaseRow(&[INTS, INTS, BOOL], NONE, FREE, ALONE),
+            Builtin::FznLexLessBool => BaseRow(&[BOOLS, BOOLS, BOOL], NONE, FREE, ALONE),
+            Builtin::GecodeArrayBoolLt => BaseRow(&[BOOLS, BOOLS, BOOL], NONE, FREE, ALONE),
+            Builtin::FznLexLesseqBool => BaseRow(&[BOOLS, BOOLS, BOOL], NONE, FREE, ALONE),
+            Builtin::GecodeArrayBoolLq => BaseRow(&[BOOLS, BOOLS, BOOL], NONE, FREE, ALONE),
+            Builtin::FznIncreasingInt => BaseRow(&[INTS, BOOL], NONE, FREE, ALONE),
+            Builtin::FznIncreasingBool => BaseRow(&[BOOLS, BOOL], NONE, FREE, ALONE),
+            Builtin::FznDecreasingInt => BaseRow(&[INTS, BOOL], NONE, FREE, ALONE),
+            Builtin::FznDecreasingBool => BaseRow(&[BOOLS, BOOL], NONE, FREE, ALONE),
+            Builtin::FznStrictlyIncreasingInt => BaseRow(&[INTS, BOOL], NONE, FREE, ALONE),
+            Builtin::FznValuePrecedeInt => BaseRow(&[INT, INT, INTS, BOOL], NONE, FREE, ALONE),
+            Builtin::GecodePrecede => BaseRow(&[INTS, INT, INT, BOOL], NONE, FREE, ALONE),
+            Builtin::FznValuePrecedeChainInt => BaseRow(&[INTS, INTS, BOOL], NONE, FREE, ALONE),
+            Builtin::FznSeqPrecedeChainInt => BaseRow(&[INTS, BOOL], NONE, FREE, ALONE),
+            Builtin::FznSort => BaseRow(&[INTS, INTS, BOOL], NONE, FREE, ALONE),
+            Builtin::FznMemberInt => BaseRow(&[INTS, INT, BOOL], NONE, FREE, ALONE),
+            Builtin::FznMemberBool => BaseRow(&[BOOLS, BOOL, BOOL], NONE, FREE, ALONE),
+            Builtin::GecodeMaximumArgIntOffset => BaseRow(&[INTS, INT, INT, BOOL], C, FREE, ALONE),
+            Builtin::GecodeMinimumArgIntOffset => BaseRow(&[INTS, INT, INT, BOOL], C, FREE, ALONE),
+            Builtin::FznSlidingSum => BaseRow(&[INT, INT, INT, INTS, BOOL], NONE, FREE, ALONE),
+            Builtin::GecodeLinkSetToBooleans => BaseRow(
+                &[SET, BOOLS, INT, BOOL],
+                NONE,
+                FREE,
+                ALONE,
+            ),
+            Builtin::GecodeIntSetChannel => BaseRow(
+                &[INTS, INT, SETS, INT, BOOL],
+                NONE,
+                FREE,
+                ALONE,
+            ),
+            Builtin::FznDisjoint => BaseRow(&[SET, SET, BOOL], NONE, FREE, ALONE),
+            Builtin::FznPartitionSet => BaseRow(&[SETS, SET, BOOL], NONE, FREE, ALONE),
+            Builtin::GecodeArraySetPartition => BaseRow(&[SETS, SET, BOOL], NONE, FREE, ALONE),
         }
     }
 }

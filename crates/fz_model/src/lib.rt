@@ -12,6 +12,6 @@ pub use fz_force::fz_data::{
 pub use fz_force::fz_eval::{Overview, all_hold, state};
 pub use fz_force::{forced, only_number};
 pub use fz_meaning::{
-    Builtin, Domain, Filled, Kind, Known, ModelError, Shape, State, Term, located_is_bare,
+    Builtin, Domain, Filled, Form, Kind, Known, ModelError, Shape, State, Term, located_is_bare,
     numbers_agree, sources_are_in_reading_order, steps_are_forced, unknown_is_not_known,
 };

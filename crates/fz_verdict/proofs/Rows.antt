@@ -4,7 +4,7 @@ use Rattle.fz_base.specs.declared.value.Value.TheVariants.{Int}
 use Rattle.fz_model.specs.declared.Kind.TheVariants.{Int as IntKind}
 use Rattle.fz_syntax.specs.Tree.Literal.{Number, Truth as TruthWord}
 use Rattle.fz_syntax.specs.Tree.Base.{IntBase}
-use Rattle.fz_model.specs.Builtins.{rows}
+use Rattle.fz_model.specs.Builtins.{builtins, row_at, rows}
 use Rattle.fz_model.specs.Located.{LocatedTree, Literal}
 use Rattle.fz_model.specs.Located.Expr.{One, Several}
 use Rattle.fz_model.specs.Located.Goal.{Satisfy, Minimize}
@@ -50,19 +50,19 @@ abbrev small : LocatedTree
 small = model_tree (var_in 1 5 x None ∷ []) (posts (codes "int_le") (One (num 2) ∷ One (v x) ∷ []) [] ∷ []) Satisfy
 
 small_3 : verdict_of small (says x (pos 3) ∷ []) None ≡ Satisfied
-unfolding rows
+unfolding rows row_at builtins
 small_3 = refl
 
 small_1 : verdict_of small (says x (pos 1) ∷ []) None ≡ Violated (ConstraintFault 1 (codes "int_le"))
-unfolding rows
+unfolding rows row_at builtins
 small_1 = refl
 
 small_6 : verdict_of small (says x (pos 6) ∷ []) None ≡ Violated (DomainFault x)
-unfolding rows
+unfolding rows row_at builtins
 small_6 = refl
 
 small_nothing : verdict_of small [] None ≡ Undecided (NoValueFor x)
-unfolding rows
+unfolding rows row_at builtins
 small_nothing = refl
 
 -- a truth value lies in no domain with bounds, and a block that prints one has a fault
@@ -70,7 +70,7 @@ abbrev says_true : Printed
 says_true = record { name = named x; value = OneValue (record { what = TruthWord true; span = span_at 4 8 }) }
 
 small_true : verdict_of small (says_true ∷ []) None ≡ Violated (DomainFault x)
-unfolding rows
+unfolding rows row_at builtins
 small_true = refl
 
 small_true_fault : block_fault (model_of small) (record { offset = 7; text = []; items = says_true ∷ [] }) ≡ Some (record { kind = BlockFaultKind.WrongKind; at = span_at 11 15 })
@@ -86,15 +86,15 @@ abbrev doubled : LocatedTree
 doubled = model_tree (var_in 0 9 x None ∷ var_in 0 17 z None ∷ []) (posts (codes "int_lin_eq") (is (pos 2 ∷ negsuc 0 ∷ []) ∷ names (x ∷ z ∷ []) ∷ i (pos 0) ∷ []) (defines z) ∷ []) Satisfy
 
 doubled_4 : verdict_of doubled (says x (pos 4) ∷ []) None ≡ Undecided (NoValueFor z)
-unfolding rows
+unfolding rows row_at builtins
 doubled_4 = refl
 
 doubled_4_8 : verdict_of doubled (says x (pos 4) ∷ says z (pos 8) ∷ []) None ≡ Satisfied
-unfolding rows
+unfolding rows row_at builtins
 doubled_4_8 = refl
 
 doubled_9_18 : verdict_of doubled (says x (pos 9) ∷ says z (pos 18) ∷ []) None ≡ Violated (DomainFault z)
-unfolding rows
+unfolding rows row_at builtins
 doubled_9_18 = refl
 
 -- ---- printed arrays
@@ -103,11 +103,11 @@ abbrev in_row : LocatedTree
 in_row = model_tree (var_in 0 9 x None ∷ record { is_var = true; array_length = Some 2; base = IntBase None; name = named (codes "q"); notes = []; value = Some (Several (v x ∷ v x ∷ [])) } ∷ []) [] Satisfy
 
 in_row_1_2 : verdict_of in_row (says_list (codes "q") (1 ∷ 2 ∷ []) ∷ []) None ≡ Violated (PrintedFault (codes "q"))
-unfolding rows
+unfolding rows row_at builtins
 in_row_1_2 = refl
 
 in_row_3_3 : verdict_of in_row (says_list (codes "q") (3 ∷ 3 ∷ []) ∷ []) None ≡ Satisfied
-unfolding rows
+unfolding rows row_at builtins
 in_row_3_3 = refl
 
 in_row_length : block_fault (model_of in_row) (block_of (says_list (codes "q") (1 ∷ 2 ∷ 3 ∷ []) ∷ [])) ≡ Some (record { kind = BlockFaultKind.WrongLength; at = span_at 0 0 })
@@ -119,11 +119,11 @@ abbrev least : LocatedTree
 least = model_tree (var_in 0 9 x None ∷ []) [] (Minimize (v x))
 
 least_5_5 : verdict_of least (says x (pos 5) ∷ []) (Some (pos 5)) ≡ Violated (NotBetter (pos 5) (pos 5))
-unfolding rows
+unfolding rows row_at builtins
 least_5_5 = refl
 
 least_7 : verdict_of least (says x (pos 7) ∷ []) (Some (pos 9)) ≡ Satisfied
-unfolding rows
+unfolding rows row_at builtins
 least_7 = refl
 
 -- ---- unknown predicates, and sums that are too large
@@ -132,28 +132,28 @@ abbrev unheard : LocatedTree
 unheard = model_tree (var_in 1 5 x None ∷ []) (posts (codes "my_global") (names (x ∷ []) ∷ []) [] ∷ posts (codes "int_le") (One (num 2) ∷ One (v x) ∷ []) [] ∷ []) Satisfy
 
 unheard_3 : verdict_of unheard (says x (pos 3) ∷ []) None ≡ Undecided (NotKnown 1 (codes "my_global"))
-unfolding rows
+unfolding rows row_at builtins
 unheard_3 = refl
 
 unheard_1 : verdict_of unheard (says x (pos 1) ∷ []) None ≡ Violated (ConstraintFault 2 (codes "int_le"))
-unfolding rows
+unfolding rows row_at builtins
 unheard_1 = refl
 
 -- the constraint is told before a variable without value that comes later is: the first undecided point counts, and a point without value
 -- tells the first variable without one
 unheard_nothing : verdict_of unheard [] None ≡ Undecided (NoValueFor x)
-unfolding rows
+unfolding rows row_at builtins
 unheard_nothing = refl
 
 abbrev two_terms : LocatedTree
 two_terms = model_tree (int_var x ∷ []) (posts (codes "int_lin_le") (is (MIN ∷ MIN ∷ []) ∷ names (x ∷ x ∷ []) ∷ i (pos 0) ∷ []) [] ∷ []) Satisfy
 
 two_terms_least : verdict_of two_terms (says x MIN ∷ []) None ≡ Undecided (SumTooLarge 1)
-unfolding rows
+unfolding rows row_at builtins
 two_terms_least = refl
 
 two_terms_greatest : verdict_of two_terms (says x MAX ∷ []) None ≡ Satisfied
-unfolding rows
+unfolding rows row_at builtins
 two_terms_greatest = refl
 
 -- ---- the order of the steps: var 2..2: y; var 1..1: x = y;
@@ -191,7 +191,7 @@ yx_filled =
     (Ends ((λ k u g. let e = g.only_open in cc), ((λ k u g. let e = g.only_open in cc), ((λ k u g. let e = g.only_open in cc), tt)))))
 
 yx_verdict : verdict yx (Some (Int (pos 2)) ∷ Some (Int (pos 1)) ∷ []) (block_of []) None ≡ Violated (DefinitionFault x)
-unfolding rows
+unfolding rows row_at builtins
 yx_verdict = refl
 
 -- ---- the report's lines

@@ -1,14 +1,19 @@
-use Rattle.std.proofs.Common.{map, sym, ap, ◌∙◌}
+use Rattle.std.proofs.Common.{◌≡◌, ◌&&◌, true, map, sym, ap, ◌∙◌}
 use Rattle.fz_meaning.specs.Meaning as meaning
 use Rattle.fz_meaning.specs.Known.{known_row}
 use Rattle.fz_data.specs.Parts.{argument_view}
 use Rattle.fz_data.specs.Fitting.{are_equally_long}
-use Rattle.fz_data.proofs.Fitting.{fits_if_long}
+use Rattle.fz_data.proofs.Fitting.{equally_long_are}
 use Rattle.fz_data.proofs.rows.fits.Goals as goal
 
-pub returns-else-not-equal_lengths : goal.returns-else-not-equal_lengths
-returns-else-not-equal_lengths c =
-    fits_if_long c.args.cited.now.variables.now c.args.cited.now.arrays.now c.args.store.now (known_row c.args.known) c.args.arguments.now c.equally_long.result
-    (ap (λ ss. meaning.have_shapes ss (map (argument_view c.args.cited.now.variables.now c.args.cited.now.arrays.now c.args.store.now) c.args.arguments.now)) (sym c.shapes.ensures) ∙ sym c.have_shapes.ensures ∙ c.if-have_shapes.true)
-    (sym c.equal_lengths.ensures ∙ c.if-not-equal_lengths.false)
-    (c.equally_long.ensures ∙ ap (λ ss. are_equally_long c.args.cited.now.arrays.now ss c.args.arguments.now) c.deref.ensures.value)
+pub returns-then-have_shapes : goal.returns-then-have_shapes
+returns-then-have_shapes c =
+    let vs = c.args.cited.now.variables.now in
+    let xs = c.args.cited.now.arrays.now in
+    let st = c.args.store.now in
+    let r = known_row c.args.known in
+    let seen = map (argument_view vs xs st) c.args.arguments.now in
+    let shaped : meaning.have_shapes r.shapes seen ≡ true = ap (λ ss. meaning.have_shapes ss seen) (sym c.shapes.ensures) ∙ sym c.have_shapes.ensures ∙ c.if-have_shapes.true in
+    c.equally_long.ensures ∙ ap (λ ss. are_equally_long xs ss c.together.result.now c.args.arguments.now) c.deref.ensures.value
+    ∙ ap (λ is. are_equally_long xs st.slots.items is c.args.arguments.now) c.together.ensures
+    ∙ equally_long_are vs xs st r.shapes r.together c.args.arguments.now shaped ∙ sym (ap (λ b. b && meaning.equally_long r.together seen) shaped)

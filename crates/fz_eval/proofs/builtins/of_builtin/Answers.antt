@@ -1,242 +1,483 @@
-use Rattle.std.proofs.Common.{sym, ap, ◌∙◌}
-use Rattle.fz_meaning.specs.Known.{row_at}
-use Rattle.fz_kernel.specs.of_scene.Views.{arguments_of, assigned}
+use Rattle.std.proofs.Common.{ap}
+use Rattle.fz_meaning.specs.declared.builtin.Builtin.TheVariants as builtin
+use Rattle.fz_meaning.specs.Builtins.{row_at}
 use Rattle.fz_eval.specs.declared.outcome.Outcome.TheVariants.{Truth}
 use Rattle.fz_eval.specs.Outcomes.{row_outcome}
-use Rattle.fz_eval.proofs.Rows.{int_eq_is, int_ne_is, int_le_is, int_lt_is, int_lin_eq_is, int_lin_ne_is, int_lin_le_is, int_plus_is, int_times_is, int_min_is, int_max_is, int_abs_is, int_div_is, int_mod_is, array_int_element_is, array_var_int_element_is, array_int_maximum_is, array_int_minimum_is, fzn_all_different_int_is, bool_eq_is, bool_le_is, bool_lt_is, bool_not_is, bool_and_is, bool_or_is, bool_xor_is, array_bool_and_is, array_bool_or_is, array_bool_xor_is, array_bool_element_is, array_var_bool_element_is, bool_clause_is, bool2int_is, bool_lin_eq_is, bool_lin_le_is, set_in_is, set_eq_is, set_ne_is, set_subset_is, set_superset_is, set_union_is, set_intersect_is, set_diff_is, set_symdiff_is, set_card_is, array_set_element_is, array_var_set_element_is}
+use Rattle.fz_eval.proofs.Rows.{arm}
 use Rattle.fz_eval.proofs.builtins.of_builtin.Goals as goal
 
 pub returns-in-IntEq : goal.returns-in-IntEq
-returns-in-IntEq c =
-    let s = c.args.scene.now in
-    ap Truth c.int_eq.ensures ∙ sym (int_eq_is (assigned s) (arguments_of s)) ∙ ap (λ b. row_outcome (row_at b) (assigned s) (arguments_of s)) (sym c.in-IntEq.is)
+unfolding row_outcome row_at
+returns-in-IntEq c = arm builtin.IntEq c.args.scene.now c.in-IntEq.is (ap Truth c.int_eq.ensures)
 
 pub returns-in-IntNe : goal.returns-in-IntNe
-returns-in-IntNe c =
-    let s = c.args.scene.now in
-    ap Truth c.int_ne.ensures ∙ sym (int_ne_is (assigned s) (arguments_of s)) ∙ ap (λ b. row_outcome (row_at b) (assigned s) (arguments_of s)) (sym c.in-IntNe.is)
+unfolding row_outcome row_at
+returns-in-IntNe c = arm builtin.IntNe c.args.scene.now c.in-IntNe.is (ap Truth c.int_ne.ensures)
 
 pub returns-in-IntLe : goal.returns-in-IntLe
-returns-in-IntLe c =
-    let s = c.args.scene.now in
-    ap Truth c.int_le.ensures ∙ sym (int_le_is (assigned s) (arguments_of s)) ∙ ap (λ b. row_outcome (row_at b) (assigned s) (arguments_of s)) (sym c.in-IntLe.is)
+unfolding row_outcome row_at
+returns-in-IntLe c = arm builtin.IntLe c.args.scene.now c.in-IntLe.is (ap Truth c.int_le.ensures)
 
 pub returns-in-IntLt : goal.returns-in-IntLt
-returns-in-IntLt c =
-    let s = c.args.scene.now in
-    ap Truth c.int_lt.ensures ∙ sym (int_lt_is (assigned s) (arguments_of s)) ∙ ap (λ b. row_outcome (row_at b) (assigned s) (arguments_of s)) (sym c.in-IntLt.is)
+unfolding row_outcome row_at
+returns-in-IntLt c = arm builtin.IntLt c.args.scene.now c.in-IntLt.is (ap Truth c.int_lt.ensures)
 
 pub returns-in-IntLinEq : goal.returns-in-IntLinEq
-returns-in-IntLinEq c =
-    let s = c.args.scene.now in
-    c.int_lin_eq.ensures ∙ sym (int_lin_eq_is (assigned s) (arguments_of s)) ∙ ap (λ b. row_outcome (row_at b) (assigned s) (arguments_of s)) (sym c.in-IntLinEq.is)
+unfolding row_outcome row_at
+returns-in-IntLinEq c = arm builtin.IntLinEq c.args.scene.now c.in-IntLinEq.is c.int_lin_eq.ensures
 
 pub returns-in-IntLinNe : goal.returns-in-IntLinNe
-returns-in-IntLinNe c =
-    let s = c.args.scene.now in
-    c.int_lin_ne.ensures ∙ sym (int_lin_ne_is (assigned s) (arguments_of s)) ∙ ap (λ b. row_outcome (row_at b) (assigned s) (arguments_of s)) (sym c.in-IntLinNe.is)
+unfolding row_outcome row_at
+returns-in-IntLinNe c = arm builtin.IntLinNe c.args.scene.now c.in-IntLinNe.is c.int_lin_ne.ensures
 
 pub returns-in-IntLinLe : goal.returns-in-IntLinLe
-returns-in-IntLinLe c =
-    let s = c.args.scene.now in
-    c.int_lin_le.ensures ∙ sym (int_lin_le_is (assigned s) (arguments_of s)) ∙ ap (λ b. row_outcome (row_at b) (assigned s) (arguments_of s)) (sym c.in-IntLinLe.is)
+unfolding row_outcome row_at
+returns-in-IntLinLe c = arm builtin.IntLinLe c.args.scene.now c.in-IntLinLe.is c.int_lin_le.ensures
 
 pub returns-in-IntPlus : goal.returns-in-IntPlus
-returns-in-IntPlus c =
-    let s = c.args.scene.now in
-    ap Truth c.int_plus.ensures ∙ sym (int_plus_is (assigned s) (arguments_of s)) ∙ ap (λ b. row_outcome (row_at b) (assigned s) (arguments_of s)) (sym c.in-IntPlus.is)
+unfolding row_outcome row_at
+returns-in-IntPlus c = arm builtin.IntPlus c.args.scene.now c.in-IntPlus.is (ap Truth c.int_plus.ensures)
 
 pub returns-in-IntTimes : goal.returns-in-IntTimes
-returns-in-IntTimes c =
-    let s = c.args.scene.now in
-    ap Truth c.int_times.ensures ∙ sym (int_times_is (assigned s) (arguments_of s)) ∙ ap (λ b. row_outcome (row_at b) (assigned s) (arguments_of s)) (sym c.in-IntTimes.is)
+unfolding row_outcome row_at
+returns-in-IntTimes c = arm builtin.IntTimes c.args.scene.now c.in-IntTimes.is (ap Truth c.int_times.ensures)
 
 pub returns-in-IntMin : goal.returns-in-IntMin
-returns-in-IntMin c =
-    let s = c.args.scene.now in
-    ap Truth c.int_min.ensures ∙ sym (int_min_is (assigned s) (arguments_of s)) ∙ ap (λ b. row_outcome (row_at b) (assigned s) (arguments_of s)) (sym c.in-IntMin.is)
+unfolding row_outcome row_at
+returns-in-IntMin c = arm builtin.IntMin c.args.scene.now c.in-IntMin.is (ap Truth c.int_min.ensures)
 
 pub returns-in-IntMax : goal.returns-in-IntMax
-returns-in-IntMax c =
-    let s = c.args.scene.now in
-    ap Truth c.int_max.ensures ∙ sym (int_max_is (assigned s) (arguments_of s)) ∙ ap (λ b. row_outcome (row_at b) (assigned s) (arguments_of s)) (sym c.in-IntMax.is)
+unfolding row_outcome row_at
+returns-in-IntMax c = arm builtin.IntMax c.args.scene.now c.in-IntMax.is (ap Truth c.int_max.ensures)
 
 pub returns-in-IntAbs : goal.returns-in-IntAbs
-returns-in-IntAbs c =
-    let s = c.args.scene.now in
-    ap Truth c.int_abs.ensures ∙ sym (int_abs_is (assigned s) (arguments_of s)) ∙ ap (λ b. row_outcome (row_at b) (assigned s) (arguments_of s)) (sym c.in-IntAbs.is)
+unfolding row_outcome row_at
+returns-in-IntAbs c = arm builtin.IntAbs c.args.scene.now c.in-IntAbs.is (ap Truth c.int_abs.ensures)
 
 pub returns-in-IntDiv : goal.returns-in-IntDiv
-returns-in-IntDiv c =
-    let s = c.args.scene.now in
-    ap Truth c.int_div.ensures ∙ sym (int_div_is (assigned s) (arguments_of s)) ∙ ap (λ b. row_outcome (row_at b) (assigned s) (arguments_of s)) (sym c.in-IntDiv.is)
+unfolding row_outcome row_at
+returns-in-IntDiv c = arm builtin.IntDiv c.args.scene.now c.in-IntDiv.is (ap Truth c.int_div.ensures)
 
 pub returns-in-IntMod : goal.returns-in-IntMod
-returns-in-IntMod c =
-    let s = c.args.scene.now in
-    ap Truth c.int_mod.ensures ∙ sym (int_mod_is (assigned s) (arguments_of s)) ∙ ap (λ b. row_outcome (row_at b) (assigned s) (arguments_of s)) (sym c.in-IntMod.is)
+unfolding row_outcome row_at
+returns-in-IntMod c = arm builtin.IntMod c.args.scene.now c.in-IntMod.is (ap Truth c.int_mod.ensures)
 
 pub returns-in-ArrayIntElement : goal.returns-in-ArrayIntElement
-returns-in-ArrayIntElement c =
-    let s = c.args.scene.now in
-    ap Truth c.int_element.ensures ∙ sym (array_int_element_is (assigned s) (arguments_of s)) ∙ ap (λ b. row_outcome (row_at b) (assigned s) (arguments_of s)) (sym c.in-ArrayIntElement.is)
+unfolding row_outcome row_at
+returns-in-ArrayIntElement c = arm builtin.ArrayIntElement c.args.scene.now c.in-ArrayIntElement.is (ap Truth c.int_element.ensures)
 
 pub returns-in-ArrayVarIntElement : goal.returns-in-ArrayVarIntElement
-returns-in-ArrayVarIntElement c =
-    let s = c.args.scene.now in
-    ap Truth c.int_element-in-ArrayVarIntElement.ensures ∙ sym (array_var_int_element_is (assigned s) (arguments_of s)) ∙ ap (λ b. row_outcome (row_at b) (assigned s) (arguments_of s)) (sym c.in-ArrayVarIntElement.is)
+unfolding row_outcome row_at
+returns-in-ArrayVarIntElement c = arm builtin.ArrayVarIntElement c.args.scene.now c.in-ArrayVarIntElement.is (ap Truth c.int_element-in-ArrayVarIntElement.ensures)
 
 pub returns-in-ArrayIntMaximum : goal.returns-in-ArrayIntMaximum
-returns-in-ArrayIntMaximum c =
-    let s = c.args.scene.now in
-    ap Truth c.int_maximum.ensures ∙ sym (array_int_maximum_is (assigned s) (arguments_of s)) ∙ ap (λ b. row_outcome (row_at b) (assigned s) (arguments_of s)) (sym c.in-ArrayIntMaximum.is)
+unfolding row_outcome row_at
+returns-in-ArrayIntMaximum c = arm builtin.ArrayIntMaximum c.args.scene.now c.in-ArrayIntMaximum.is (ap Truth c.int_maximum.ensures)
 
 pub returns-in-ArrayIntMinimum : goal.returns-in-ArrayIntMinimum
-returns-in-ArrayIntMinimum c =
-    let s = c.args.scene.now in
-    ap Truth c.int_minimum.ensures ∙ sym (array_int_minimum_is (assigned s) (arguments_of s)) ∙ ap (λ b. row_outcome (row_at b) (assigned s) (arguments_of s)) (sym c.in-ArrayIntMinimum.is)
+unfolding row_outcome row_at
+returns-in-ArrayIntMinimum c = arm builtin.ArrayIntMinimum c.args.scene.now c.in-ArrayIntMinimum.is (ap Truth c.int_minimum.ensures)
 
 pub returns-in_ok-int_all_different-in-FznAllDifferentInt : goal.returns-in_ok-int_all_different-in-FznAllDifferentInt
-returns-in_ok-int_all_different-in-FznAllDifferentInt c =
-    let s = c.args.scene.now in
-    ap Truth c.in_ok-int_all_different-in-FznAllDifferentInt.ensures ∙ sym (fzn_all_different_int_is (assigned s) (arguments_of s)) ∙ ap (λ b. row_outcome (row_at b) (assigned s) (arguments_of s)) (sym c.in-FznAllDifferentInt.is)
+unfolding row_outcome row_at
+returns-in_ok-int_all_different-in-FznAllDifferentInt c = arm builtin.FznAllDifferentInt c.args.scene.now c.in-FznAllDifferentInt.is (ap Truth c.in_ok-int_all_different-in-FznAllDifferentInt.ensures)
+
+pub returns-in_ok-int_all_different-in-GecodeAllDifferentInt : goal.returns-in_ok-int_all_different-in-GecodeAllDifferentInt
+unfolding row_outcome row_at
+returns-in_ok-int_all_different-in-GecodeAllDifferentInt c = arm builtin.GecodeAllDifferentInt c.args.scene.now c.in-GecodeAllDifferentInt.is (ap Truth c.in_ok-int_all_different-in-GecodeAllDifferentInt.ensures)
+
+pub returns-in_ok-int_all_different-in-GeasAllDifferentInt : goal.returns-in_ok-int_all_different-in-GeasAllDifferentInt
+unfolding row_outcome row_at
+returns-in_ok-int_all_different-in-GeasAllDifferentInt c = arm builtin.GeasAllDifferentInt c.args.scene.now c.in-GeasAllDifferentInt.is (ap Truth c.in_ok-int_all_different-in-GeasAllDifferentInt.ensures)
 
 pub returns-in-BoolEq : goal.returns-in-BoolEq
-returns-in-BoolEq c =
-    let s = c.args.scene.now in
-    ap Truth c.bool_eq.ensures ∙ sym (bool_eq_is (assigned s) (arguments_of s)) ∙ ap (λ b. row_outcome (row_at b) (assigned s) (arguments_of s)) (sym c.in-BoolEq.is)
+unfolding row_outcome row_at
+returns-in-BoolEq c = arm builtin.BoolEq c.args.scene.now c.in-BoolEq.is (ap Truth c.bool_eq.ensures)
 
 pub returns-in-BoolLe : goal.returns-in-BoolLe
-returns-in-BoolLe c =
-    let s = c.args.scene.now in
-    ap Truth c.bool_le.ensures ∙ sym (bool_le_is (assigned s) (arguments_of s)) ∙ ap (λ b. row_outcome (row_at b) (assigned s) (arguments_of s)) (sym c.in-BoolLe.is)
+unfolding row_outcome row_at
+returns-in-BoolLe c = arm builtin.BoolLe c.args.scene.now c.in-BoolLe.is (ap Truth c.bool_le.ensures)
 
 pub returns-in-BoolLt : goal.returns-in-BoolLt
-returns-in-BoolLt c =
-    let s = c.args.scene.now in
-    ap Truth c.bool_lt.ensures ∙ sym (bool_lt_is (assigned s) (arguments_of s)) ∙ ap (λ b. row_outcome (row_at b) (assigned s) (arguments_of s)) (sym c.in-BoolLt.is)
+unfolding row_outcome row_at
+returns-in-BoolLt c = arm builtin.BoolLt c.args.scene.now c.in-BoolLt.is (ap Truth c.bool_lt.ensures)
 
 pub returns-in-BoolNot : goal.returns-in-BoolNot
-returns-in-BoolNot c =
-    let s = c.args.scene.now in
-    ap Truth c.bool_not.ensures ∙ sym (bool_not_is (assigned s) (arguments_of s)) ∙ ap (λ b. row_outcome (row_at b) (assigned s) (arguments_of s)) (sym c.in-BoolNot.is)
+unfolding row_outcome row_at
+returns-in-BoolNot c = arm builtin.BoolNot c.args.scene.now c.in-BoolNot.is (ap Truth c.bool_not.ensures)
 
 pub returns-in-BoolAnd : goal.returns-in-BoolAnd
-returns-in-BoolAnd c =
-    let s = c.args.scene.now in
-    ap Truth c.bool_and.ensures ∙ sym (bool_and_is (assigned s) (arguments_of s)) ∙ ap (λ b. row_outcome (row_at b) (assigned s) (arguments_of s)) (sym c.in-BoolAnd.is)
+unfolding row_outcome row_at
+returns-in-BoolAnd c = arm builtin.BoolAnd c.args.scene.now c.in-BoolAnd.is (ap Truth c.bool_and.ensures)
 
 pub returns-in-BoolOr : goal.returns-in-BoolOr
-returns-in-BoolOr c =
-    let s = c.args.scene.now in
-    ap Truth c.bool_or.ensures ∙ sym (bool_or_is (assigned s) (arguments_of s)) ∙ ap (λ b. row_outcome (row_at b) (assigned s) (arguments_of s)) (sym c.in-BoolOr.is)
+unfolding row_outcome row_at
+returns-in-BoolOr c = arm builtin.BoolOr c.args.scene.now c.in-BoolOr.is (ap Truth c.bool_or.ensures)
 
 pub returns-in-BoolXor : goal.returns-in-BoolXor
-returns-in-BoolXor c =
-    let s = c.args.scene.now in
-    ap Truth c.bool_xor.ensures ∙ sym (bool_xor_is (assigned s) (arguments_of s)) ∙ ap (λ b. row_outcome (row_at b) (assigned s) (arguments_of s)) (sym c.in-BoolXor.is)
+unfolding row_outcome row_at
+returns-in-BoolXor c = arm builtin.BoolXor c.args.scene.now c.in-BoolXor.is (ap Truth c.bool_xor.ensures)
 
 pub returns-in-ArrayBoolAnd : goal.returns-in-ArrayBoolAnd
-returns-in-ArrayBoolAnd c =
-    let s = c.args.scene.now in
-    ap Truth c.bool_all.ensures ∙ sym (array_bool_and_is (assigned s) (arguments_of s)) ∙ ap (λ b. row_outcome (row_at b) (assigned s) (arguments_of s)) (sym c.in-ArrayBoolAnd.is)
+unfolding row_outcome row_at
+returns-in-ArrayBoolAnd c = arm builtin.ArrayBoolAnd c.args.scene.now c.in-ArrayBoolAnd.is (ap Truth c.bool_all.ensures)
 
 pub returns-in-ArrayBoolOr : goal.returns-in-ArrayBoolOr
-returns-in-ArrayBoolOr c =
-    let s = c.args.scene.now in
-    ap Truth c.bool_any.ensures ∙ sym (array_bool_or_is (assigned s) (arguments_of s)) ∙ ap (λ b. row_outcome (row_at b) (assigned s) (arguments_of s)) (sym c.in-ArrayBoolOr.is)
+unfolding row_outcome row_at
+returns-in-ArrayBoolOr c = arm builtin.ArrayBoolOr c.args.scene.now c.in-ArrayBoolOr.is (ap Truth c.bool_any.ensures)
 
 pub returns-in-ArrayBoolXor : goal.returns-in-ArrayBoolXor
-returns-in-ArrayBoolXor c =
-    let s = c.args.scene.now in
-    ap Truth c.bool_odd.ensures ∙ sym (array_bool_xor_is (assigned s) (arguments_of s)) ∙ ap (λ b. row_outcome (row_at b) (assigned s) (arguments_of s)) (sym c.in-ArrayBoolXor.is)
+unfolding row_outcome row_at
+returns-in-ArrayBoolXor c = arm builtin.ArrayBoolXor c.args.scene.now c.in-ArrayBoolXor.is (ap Truth c.bool_odd.ensures)
 
 pub returns-in-ArrayBoolElement : goal.returns-in-ArrayBoolElement
-returns-in-ArrayBoolElement c =
-    let s = c.args.scene.now in
-    ap Truth c.bool_element.ensures ∙ sym (array_bool_element_is (assigned s) (arguments_of s)) ∙ ap (λ b. row_outcome (row_at b) (assigned s) (arguments_of s)) (sym c.in-ArrayBoolElement.is)
+unfolding row_outcome row_at
+returns-in-ArrayBoolElement c = arm builtin.ArrayBoolElement c.args.scene.now c.in-ArrayBoolElement.is (ap Truth c.bool_element.ensures)
 
 pub returns-in-ArrayVarBoolElement : goal.returns-in-ArrayVarBoolElement
-returns-in-ArrayVarBoolElement c =
-    let s = c.args.scene.now in
-    ap Truth c.bool_element-in-ArrayVarBoolElement.ensures ∙ sym (array_var_bool_element_is (assigned s) (arguments_of s)) ∙ ap (λ b. row_outcome (row_at b) (assigned s) (arguments_of s)) (sym c.in-ArrayVarBoolElement.is)
+unfolding row_outcome row_at
+returns-in-ArrayVarBoolElement c = arm builtin.ArrayVarBoolElement c.args.scene.now c.in-ArrayVarBoolElement.is (ap Truth c.bool_element-in-ArrayVarBoolElement.ensures)
 
 pub returns-in-BoolClause : goal.returns-in-BoolClause
-returns-in-BoolClause c =
-    let s = c.args.scene.now in
-    ap Truth c.bool_clause.ensures ∙ sym (bool_clause_is (assigned s) (arguments_of s)) ∙ ap (λ b. row_outcome (row_at b) (assigned s) (arguments_of s)) (sym c.in-BoolClause.is)
+unfolding row_outcome row_at
+returns-in-BoolClause c = arm builtin.BoolClause c.args.scene.now c.in-BoolClause.is (ap Truth c.bool_clause.ensures)
 
 pub returns-in-Bool2Int : goal.returns-in-Bool2Int
-returns-in-Bool2Int c =
-    let s = c.args.scene.now in
-    ap Truth c.bool2int.ensures ∙ sym (bool2int_is (assigned s) (arguments_of s)) ∙ ap (λ b. row_outcome (row_at b) (assigned s) (arguments_of s)) (sym c.in-Bool2Int.is)
+unfolding row_outcome row_at
+returns-in-Bool2Int c = arm builtin.Bool2Int c.args.scene.now c.in-Bool2Int.is (ap Truth c.bool2int.ensures)
 
 pub returns-in-BoolLinEq : goal.returns-in-BoolLinEq
-returns-in-BoolLinEq c =
-    let s = c.args.scene.now in
-    ap Truth c.bool_lin_eq.ensures ∙ sym (bool_lin_eq_is (assigned s) (arguments_of s)) ∙ ap (λ b. row_outcome (row_at b) (assigned s) (arguments_of s)) (sym c.in-BoolLinEq.is)
+unfolding row_outcome row_at
+returns-in-BoolLinEq c = arm builtin.BoolLinEq c.args.scene.now c.in-BoolLinEq.is (ap Truth c.bool_lin_eq.ensures)
 
 pub returns-in-BoolLinLe : goal.returns-in-BoolLinLe
-returns-in-BoolLinLe c =
-    let s = c.args.scene.now in
-    ap Truth c.bool_lin_le.ensures ∙ sym (bool_lin_le_is (assigned s) (arguments_of s)) ∙ ap (λ b. row_outcome (row_at b) (assigned s) (arguments_of s)) (sym c.in-BoolLinLe.is)
+unfolding row_outcome row_at
+returns-in-BoolLinLe c = arm builtin.BoolLinLe c.args.scene.now c.in-BoolLinLe.is (ap Truth c.bool_lin_le.ensures)
 
 pub returns-in-SetIn : goal.returns-in-SetIn
-returns-in-SetIn c =
-    let s = c.args.scene.now in
-    ap Truth c.set_in.ensures ∙ sym (set_in_is (assigned s) (arguments_of s)) ∙ ap (λ b. row_outcome (row_at b) (assigned s) (arguments_of s)) (sym c.in-SetIn.is)
+unfolding row_outcome row_at
+returns-in-SetIn c = arm builtin.SetIn c.args.scene.now c.in-SetIn.is (ap Truth c.set_in.ensures)
 
 pub returns-in-SetEq : goal.returns-in-SetEq
-returns-in-SetEq c =
-    let s = c.args.scene.now in
-    ap Truth c.set_eq.ensures ∙ sym (set_eq_is (assigned s) (arguments_of s)) ∙ ap (λ b. row_outcome (row_at b) (assigned s) (arguments_of s)) (sym c.in-SetEq.is)
+unfolding row_outcome row_at
+returns-in-SetEq c = arm builtin.SetEq c.args.scene.now c.in-SetEq.is (ap Truth c.set_eq.ensures)
 
 pub returns-in-SetNe : goal.returns-in-SetNe
-returns-in-SetNe c =
-    let s = c.args.scene.now in
-    ap Truth c.set_ne.ensures ∙ sym (set_ne_is (assigned s) (arguments_of s)) ∙ ap (λ b. row_outcome (row_at b) (assigned s) (arguments_of s)) (sym c.in-SetNe.is)
+unfolding row_outcome row_at
+returns-in-SetNe c = arm builtin.SetNe c.args.scene.now c.in-SetNe.is (ap Truth c.set_ne.ensures)
 
 pub returns-in-SetSubset : goal.returns-in-SetSubset
-returns-in-SetSubset c =
-    let s = c.args.scene.now in
-    ap Truth c.set_subset.ensures ∙ sym (set_subset_is (assigned s) (arguments_of s)) ∙ ap (λ b. row_outcome (row_at b) (assigned s) (arguments_of s)) (sym c.in-SetSubset.is)
+unfolding row_outcome row_at
+returns-in-SetSubset c = arm builtin.SetSubset c.args.scene.now c.in-SetSubset.is (ap Truth c.set_subset.ensures)
 
 pub returns-in-SetSuperset : goal.returns-in-SetSuperset
-returns-in-SetSuperset c =
-    let s = c.args.scene.now in
-    ap Truth c.set_superset.ensures ∙ sym (set_superset_is (assigned s) (arguments_of s)) ∙ ap (λ b. row_outcome (row_at b) (assigned s) (arguments_of s)) (sym c.in-SetSuperset.is)
+unfolding row_outcome row_at
+returns-in-SetSuperset c = arm builtin.SetSuperset c.args.scene.now c.in-SetSuperset.is (ap Truth c.set_superset.ensures)
 
 pub returns-in-SetUnion : goal.returns-in-SetUnion
-returns-in-SetUnion c =
-    let s = c.args.scene.now in
-    ap Truth c.set_union.ensures ∙ sym (set_union_is (assigned s) (arguments_of s)) ∙ ap (λ b. row_outcome (row_at b) (assigned s) (arguments_of s)) (sym c.in-SetUnion.is)
+unfolding row_outcome row_at
+returns-in-SetUnion c = arm builtin.SetUnion c.args.scene.now c.in-SetUnion.is (ap Truth c.set_union.ensures)
 
 pub returns-in-SetIntersect : goal.returns-in-SetIntersect
-returns-in-SetIntersect c =
-    let s = c.args.scene.now in
-    ap Truth c.set_intersect.ensures ∙ sym (set_intersect_is (assigned s) (arguments_of s)) ∙ ap (λ b. row_outcome (row_at b) (assigned s) (arguments_of s)) (sym c.in-SetIntersect.is)
+unfolding row_outcome row_at
+returns-in-SetIntersect c = arm builtin.SetIntersect c.args.scene.now c.in-SetIntersect.is (ap Truth c.set_intersect.ensures)
 
 pub returns-in-SetDiff : goal.returns-in-SetDiff
-returns-in-SetDiff c =
-    let s = c.args.scene.now in
-    ap Truth c.set_diff.ensures ∙ sym (set_diff_is (assigned s) (arguments_of s)) ∙ ap (λ b. row_outcome (row_at b) (assigned s) (arguments_of s)) (sym c.in-SetDiff.is)
+unfolding row_outcome row_at
+returns-in-SetDiff c = arm builtin.SetDiff c.args.scene.now c.in-SetDiff.is (ap Truth c.set_diff.ensures)
 
 pub returns-in-SetSymdiff : goal.returns-in-SetSymdiff
-returns-in-SetSymdiff c =
-    let s = c.args.scene.now in
-    ap Truth c.set_symdiff.ensures ∙ sym (set_symdiff_is (assigned s) (arguments_of s)) ∙ ap (λ b. row_outcome (row_at b) (assigned s) (arguments_of s)) (sym c.in-SetSymdiff.is)
+unfolding row_outcome row_at
+returns-in-SetSymdiff c = arm builtin.SetSymdiff c.args.scene.now c.in-SetSymdiff.is (ap Truth c.set_symdiff.ensures)
 
 pub returns-in-SetCard : goal.returns-in-SetCard
-returns-in-SetCard c =
-    let s = c.args.scene.now in
-    ap Truth c.set_card.ensures ∙ sym (set_card_is (assigned s) (arguments_of s)) ∙ ap (λ b. row_outcome (row_at b) (assigned s) (arguments_of s)) (sym c.in-SetCard.is)
+unfolding row_outcome row_at
+returns-in-SetCard c = arm builtin.SetCard c.args.scene.now c.in-SetCard.is (ap Truth c.set_card.ensures)
 
 pub returns-in-ArraySetElement : goal.returns-in-ArraySetElement
-returns-in-ArraySetElement c =
-    let s = c.args.scene.now in
-    ap Truth c.set_element.ensures ∙ sym (array_set_element_is (assigned s) (arguments_of s)) ∙ ap (λ b. row_outcome (row_at b) (assigned s) (arguments_of s)) (sym c.in-ArraySetElement.is)
+unfolding row_outcome row_at
+returns-in-ArraySetElement c = arm builtin.ArraySetElement c.args.scene.now c.in-ArraySetElement.is (ap Truth c.set_element.ensures)
 
 pub returns-in-ArrayVarSetElement : goal.returns-in-ArrayVarSetElement
-returns-in-ArrayVarSetElement c =
-    let s = c.args.scene.now in
-    ap Truth c.set_element-in-ArrayVarSetElement.ensures ∙ sym (array_var_set_element_is (assigned s) (arguments_of s)) ∙ ap (λ b. row_outcome (row_at b) (assigned s) (arguments_of s)) (sym c.in-ArrayVarSetElement.is)
+unfolding row_outcome row_at
+returns-in-ArrayVarSetElement c = arm builtin.ArrayVarSetElement c.args.scene.now c.in-ArrayVarSetElement.is (ap Truth c.set_element-in-ArrayVarSetElement.ensures)
+
+pub returns-in_ok-different_but_zeros-in-FznAlldifferentExcept0 : goal.returns-in_ok-different_but_zeros-in-FznAlldifferentExcept0
+unfolding row_outcome row_at
+returns-in_ok-different_but_zeros-in-FznAlldifferentExcept0 c = arm builtin.FznAlldifferentExcept0 c.args.scene.now c.in-FznAlldifferentExcept0.is (ap Truth c.in_ok-different_but_zeros-in-FznAlldifferentExcept0.ensures)
+
+pub returns-in_ok-different_but_zeros-in-GeasAllDifferentExcept0 : goal.returns-in_ok-different_but_zeros-in-GeasAllDifferentExcept0
+unfolding row_outcome row_at
+returns-in_ok-different_but_zeros-in-GeasAllDifferentExcept0 c = arm builtin.GeasAllDifferentExcept0 c.args.scene.now c.in-GeasAllDifferentExcept0.is (ap Truth c.in_ok-different_but_zeros-in-GeasAllDifferentExcept0.ensures)
+
+pub returns-in-FznAllEqualInt : goal.returns-in-FznAllEqualInt
+unfolding row_outcome row_at
+returns-in-FznAllEqualInt c = arm builtin.FznAllEqualInt c.args.scene.now c.in-FznAllEqualInt.is (ap Truth c.all_equal_int.ensures)
+
+pub returns-in-Count : goal.returns-in-Count
+unfolding row_outcome row_at
+returns-in-Count c = arm builtin.Count c.args.scene.now c.in-Count.is (ap Truth c.count_eq.ensures)
+
+pub returns-in-GecodeCount : goal.returns-in-GecodeCount
+unfolding row_outcome row_at
+returns-in-GecodeCount c = arm builtin.GecodeCount c.args.scene.now c.in-GecodeCount.is (ap Truth c.count_eq-in-GecodeCount.ensures)
+
+pub returns-in-FznCountEq : goal.returns-in-FznCountEq
+unfolding row_outcome row_at
+returns-in-FznCountEq c = arm builtin.FznCountEq c.args.scene.now c.in-FznCountEq.is (ap Truth c.count_eq-in-FznCountEq.ensures)
+
+pub returns-in-FznCountNeq : goal.returns-in-FznCountNeq
+unfolding row_outcome row_at
+returns-in-FznCountNeq c = arm builtin.FznCountNeq c.args.scene.now c.in-FznCountNeq.is (ap Truth c.count_neq.ensures)
+
+pub returns-in-FznCountGeq : goal.returns-in-FznCountGeq
+unfolding row_outcome row_at
+returns-in-FznCountGeq c = arm builtin.FznCountGeq c.args.scene.now c.in-FznCountGeq.is (ap Truth c.count_geq.ensures)
+
+pub returns-in-FznCountGt : goal.returns-in-FznCountGt
+unfolding row_outcome row_at
+returns-in-FznCountGt c = arm builtin.FznCountGt c.args.scene.now c.in-FznCountGt.is (ap Truth c.count_gt.ensures)
+
+pub returns-in-FznCountLeq : goal.returns-in-FznCountLeq
+unfolding row_outcome row_at
+returns-in-FznCountLeq c = arm builtin.FznCountLeq c.args.scene.now c.in-FznCountLeq.is (ap Truth c.count_leq.ensures)
+
+pub returns-in-FznCountLt : goal.returns-in-FznCountLt
+unfolding row_outcome row_at
+returns-in-FznCountLt c = arm builtin.FznCountLt c.args.scene.now c.in-FznCountLt.is (ap Truth c.count_lt.ensures)
+
+pub returns-in-FznAmong : goal.returns-in-FznAmong
+unfolding row_outcome row_at
+returns-in-FznAmong c = arm builtin.FznAmong c.args.scene.now c.in-FznAmong.is (ap Truth c.among.ensures)
+
+pub returns-in_ok-number_of_values-in-FznNvalue : goal.returns-in_ok-number_of_values-in-FznNvalue
+unfolding row_outcome row_at
+returns-in_ok-number_of_values-in-FznNvalue c = arm builtin.FznNvalue c.args.scene.now c.in-FznNvalue.is (ap Truth c.in_ok-number_of_values-in-FznNvalue.ensures)
+
+pub returns-in-FznAtLeastInt : goal.returns-in-FznAtLeastInt
+unfolding row_outcome row_at
+returns-in-FznAtLeastInt c = arm builtin.FznAtLeastInt c.args.scene.now c.in-FznAtLeastInt.is (ap Truth c.at_least.ensures)
+
+pub returns-in-FznAtMostInt : goal.returns-in-FznAtMostInt
+unfolding row_outcome row_at
+returns-in-FznAtMostInt c = arm builtin.FznAtMostInt c.args.scene.now c.in-FznAtMostInt.is (ap Truth c.at_most.ensures)
+
+pub returns-in-FznExactlyInt : goal.returns-in-FznExactlyInt
+unfolding row_outcome row_at
+returns-in-FznExactlyInt c = arm builtin.FznExactlyInt c.args.scene.now c.in-FznExactlyInt.is (ap Truth c.exactly.ensures)
+
+pub returns-in_ok-cardinality-in-FznGlobalCardinality : goal.returns-in_ok-cardinality-in-FznGlobalCardinality
+unfolding row_outcome row_at
+returns-in_ok-cardinality-in-FznGlobalCardinality c = arm builtin.FznGlobalCardinality c.args.scene.now c.in-FznGlobalCardinality.is (ap Truth c.in_ok-cardinality-in-FznGlobalCardinality.ensures)
+
+pub returns-in_ok-cardinality_closed-in-FznGlobalCardinalityClosed : goal.returns-in_ok-cardinality_closed-in-FznGlobalCardinalityClosed
+unfolding row_outcome row_at
+returns-in_ok-cardinality_closed-in-FznGlobalCardinalityClosed c = arm builtin.FznGlobalCardinalityClosed c.args.scene.now c.in-FznGlobalCardinalityClosed.is (ap Truth c.in_ok-cardinality_closed-in-FznGlobalCardinalityClosed.ensures)
+
+pub returns-in_ok-cardinality_between-in-FznGlobalCardinalityLowUp : goal.returns-in_ok-cardinality_between-in-FznGlobalCardinalityLowUp
+unfolding row_outcome row_at
+returns-in_ok-cardinality_between-in-FznGlobalCardinalityLowUp c = arm builtin.FznGlobalCardinalityLowUp c.args.scene.now c.in-FznGlobalCardinalityLowUp.is (ap Truth c.in_ok-cardinality_between-in-FznGlobalCardinalityLowUp.ensures)
+
+pub returns-in_ok-cardinality_between_closed-in-FznGlobalCardinalityLowUpClosed : goal.returns-in_ok-cardinality_between_closed-in-FznGlobalCardinalityLowUpClosed
+unfolding row_outcome row_at
+returns-in_ok-cardinality_between_closed-in-FznGlobalCardinalityLowUpClosed c = arm builtin.FznGlobalCardinalityLowUpClosed c.args.scene.now c.in-FznGlobalCardinalityLowUpClosed.is (ap Truth c.in_ok-cardinality_between_closed-in-FznGlobalCardinalityLowUpClosed.ensures)
+
+pub returns-in_ok-distribute-in-FznDistribute : goal.returns-in_ok-distribute-in-FznDistribute
+unfolding row_outcome row_at
+returns-in_ok-distribute-in-FznDistribute c = arm builtin.FznDistribute c.args.scene.now c.in-FznDistribute.is (ap Truth c.in_ok-distribute-in-FznDistribute.ensures)
+
+pub returns-in-FznCumulative : goal.returns-in-FznCumulative
+unfolding row_outcome row_at
+returns-in-FznCumulative c = arm builtin.FznCumulative c.args.scene.now c.in-FznCumulative.is (ap Truth c.cumulative.ensures)
+
+pub returns-in-Cumulatives : goal.returns-in-Cumulatives
+unfolding row_outcome row_at
+returns-in-Cumulatives c = arm builtin.Cumulatives c.args.scene.now c.in-Cumulatives.is (ap Truth c.cumulative-in-Cumulatives.ensures)
+
+pub returns-in-FznDisjunctive : goal.returns-in-FznDisjunctive
+unfolding row_outcome row_at
+returns-in-FznDisjunctive c = arm builtin.FznDisjunctive c.args.scene.now c.in-FznDisjunctive.is (ap Truth c.disjunctive.ensures)
+
+pub returns-in-FznDisjunctiveStrict : goal.returns-in-FznDisjunctiveStrict
+unfolding row_outcome row_at
+returns-in-FznDisjunctiveStrict c = arm builtin.FznDisjunctiveStrict c.args.scene.now c.in-FznDisjunctiveStrict.is (ap Truth c.disjunctive_strict.ensures)
+
+pub returns-in-FznDiffn : goal.returns-in-FznDiffn
+unfolding row_outcome row_at
+returns-in-FznDiffn c = arm builtin.FznDiffn c.args.scene.now c.in-FznDiffn.is (ap Truth c.diffn.ensures)
+
+pub returns-in-FznDiffnNonstrict : goal.returns-in-FznDiffnNonstrict
+unfolding row_outcome row_at
+returns-in-FznDiffnNonstrict c = arm builtin.FznDiffnNonstrict c.args.scene.now c.in-FznDiffnNonstrict.is (ap Truth c.diffn_nonstrict.ensures)
+
+pub returns-in-GecodeNooverlap : goal.returns-in-GecodeNooverlap
+unfolding row_outcome row_at
+returns-in-GecodeNooverlap c = arm builtin.GecodeNooverlap c.args.scene.now c.in-GecodeNooverlap.is (ap Truth c.nooverlap.ensures)
+
+pub returns-in-GecodeCircuit : goal.returns-in-GecodeCircuit
+unfolding row_outcome row_at
+returns-in-GecodeCircuit c = arm builtin.GecodeCircuit c.args.scene.now c.in-GecodeCircuit.is (ap Truth c.circuit.ensures)
+
+pub returns-in-FzcheckCircuit : goal.returns-in-FzcheckCircuit
+unfolding row_outcome row_at
+returns-in-FzcheckCircuit c = arm builtin.FzcheckCircuit c.args.scene.now c.in-FzcheckCircuit.is (ap Truth c.circuit-in-FzcheckCircuit.ensures)
+
+pub returns-in_ok-subcircuit-in-FzcheckSubcircuit : goal.returns-in_ok-subcircuit-in-FzcheckSubcircuit
+unfolding row_outcome row_at
+returns-in_ok-subcircuit-in-FzcheckSubcircuit c = arm builtin.FzcheckSubcircuit c.args.scene.now c.in-FzcheckSubcircuit.is (ap Truth c.in_ok-subcircuit-in-FzcheckSubcircuit.ensures)
+
+pub returns-in-InverseOffsets : goal.returns-in-InverseOffsets
+unfolding row_outcome row_at
+returns-in-InverseOffsets c = arm builtin.InverseOffsets c.args.scene.now c.in-InverseOffsets.is (ap Truth c.inverse.ensures)
+
+pub returns-in-GecodeInverseOffsets : goal.returns-in-GecodeInverseOffsets
+unfolding row_outcome row_at
+returns-in-GecodeInverseOffsets c = arm builtin.GecodeInverseOffsets c.args.scene.now c.in-GecodeInverseOffsets.is (ap Truth c.inverse-in-GecodeInverseOffsets.ensures)
+
+pub returns-in-FznTableInt : goal.returns-in-FznTableInt
+unfolding row_outcome row_at
+returns-in-FznTableInt c = arm builtin.FznTableInt c.args.scene.now c.in-FznTableInt.is (ap Truth c.table_int.ensures)
+
+pub returns-in-GecodeTableInt : goal.returns-in-GecodeTableInt
+unfolding row_outcome row_at
+returns-in-GecodeTableInt c = arm builtin.GecodeTableInt c.args.scene.now c.in-GecodeTableInt.is (ap Truth c.table_int-in-GecodeTableInt.ensures)
+
+pub returns-in-GeasTableInt : goal.returns-in-GeasTableInt
+unfolding row_outcome row_at
+returns-in-GeasTableInt c = arm builtin.GeasTableInt c.args.scene.now c.in-GeasTableInt.is (ap Truth c.table_int-in-GeasTableInt.ensures)
+
+pub returns-in-FznTableBool : goal.returns-in-FznTableBool
+unfolding row_outcome row_at
+returns-in-FznTableBool c = arm builtin.FznTableBool c.args.scene.now c.in-FznTableBool.is (ap Truth c.table_bool.ensures)
+
+pub returns-in-FznRegular : goal.returns-in-FznRegular
+unfolding row_outcome row_at
+returns-in-FznRegular c = arm builtin.FznRegular c.args.scene.now c.in-FznRegular.is (ap Truth c.regular.ensures)
+
+pub returns-in-GecodeRegular : goal.returns-in-GecodeRegular
+unfolding row_outcome row_at
+returns-in-GecodeRegular c = arm builtin.GecodeRegular c.args.scene.now c.in-GecodeRegular.is (ap Truth c.regular-in-GecodeRegular.ensures)
+
+pub returns-in-FznBinPacking : goal.returns-in-FznBinPacking
+unfolding row_outcome row_at
+returns-in-FznBinPacking c = arm builtin.FznBinPacking c.args.scene.now c.in-FznBinPacking.is (ap Truth c.bin_packing.ensures)
+
+pub returns-in-GecodeBinPackingLoad : goal.returns-in-GecodeBinPackingLoad
+unfolding row_outcome row_at
+returns-in-GecodeBinPackingLoad c = arm builtin.GecodeBinPackingLoad c.args.scene.now c.in-GecodeBinPackingLoad.is (ap Truth c.bin_packing_load.ensures)
+
+pub returns-in-FzcheckBinPackingLoad : goal.returns-in-FzcheckBinPackingLoad
+unfolding row_outcome row_at
+returns-in-FzcheckBinPackingLoad c = arm builtin.FzcheckBinPackingLoad c.args.scene.now c.in-FzcheckBinPackingLoad.is (ap Truth c.bin_packing_load-in-FzcheckBinPackingLoad.ensures)
+
+pub returns-in-FznLexLessInt : goal.returns-in-FznLexLessInt
+unfolding row_outcome row_at
+returns-in-FznLexLessInt c = arm builtin.FznLexLessInt c.args.scene.now c.in-FznLexLessInt.is (ap Truth c.lex_less_int.ensures)
+
+pub returns-in-GecodeArrayIntLt : goal.returns-in-GecodeArrayIntLt
+unfolding row_outcome row_at
+returns-in-GecodeArrayIntLt c = arm builtin.GecodeArrayIntLt c.args.scene.now c.in-GecodeArrayIntLt.is (ap Truth c.lex_less_int-in-GecodeArrayIntLt.ensures)
+
+pub returns-in-FznLexLesseqInt : goal.returns-in-FznLexLesseqInt
+unfolding row_outcome row_at
+returns-in-FznLexLesseqInt c = arm builtin.FznLexLesseqInt c.args.scene.now c.in-FznLexLesseqInt.is (ap Truth c.lex_lesseq_int.ensures)
+
+pub returns-in-GecodeArrayIntLq : goal.returns-in-GecodeArrayIntLq
+unfolding row_outcome row_at
+returns-in-GecodeArrayIntLq c = arm builtin.GecodeArrayIntLq c.args.scene.now c.in-GecodeArrayIntLq.is (ap Truth c.lex_lesseq_int-in-GecodeArrayIntLq.ensures)
+
+pub returns-in-FznLexLessBool : goal.returns-in-FznLexLessBool
+unfolding row_outcome row_at
+returns-in-FznLexLessBool c = arm builtin.FznLexLessBool c.args.scene.now c.in-FznLexLessBool.is (ap Truth c.lex_less_bool.ensures)
+
+pub returns-in-GecodeArrayBoolLt : goal.returns-in-GecodeArrayBoolLt
+unfolding row_outcome row_at
+returns-in-GecodeArrayBoolLt c = arm builtin.GecodeArrayBoolLt c.args.scene.now c.in-GecodeArrayBoolLt.is (ap Truth c.lex_less_bool-in-GecodeArrayBoolLt.ensures)
+
+pub returns-in-FznLexLesseqBool : goal.returns-in-FznLexLesseqBool
+unfolding row_outcome row_at
+returns-in-FznLexLesseqBool c = arm builtin.FznLexLesseqBool c.args.scene.now c.in-FznLexLesseqBool.is (ap Truth c.lex_lesseq_bool.ensures)
+
+pub returns-in-GecodeArrayBoolLq : goal.returns-in-GecodeArrayBoolLq
+unfolding row_outcome row_at
+returns-in-GecodeArrayBoolLq c = arm builtin.GecodeArrayBoolLq c.args.scene.now c.in-GecodeArrayBoolLq.is (ap Truth c.lex_lesseq_bool-in-GecodeArrayBoolLq.ensures)
+
+pub returns-in-FznIncreasingInt : goal.returns-in-FznIncreasingInt
+unfolding row_outcome row_at
+returns-in-FznIncreasingInt c = arm builtin.FznIncreasingInt c.args.scene.now c.in-FznIncreasingInt.is (ap Truth c.increasing_int.ensures)
+
+pub returns-in-FznIncreasingBool : goal.returns-in-FznIncreasingBool
+unfolding row_outcome row_at
+returns-in-FznIncreasingBool c = arm builtin.FznIncreasingBool c.args.scene.now c.in-FznIncreasingBool.is (ap Truth c.increasing_bool.ensures)
+
+pub returns-in-FznDecreasingInt : goal.returns-in-FznDecreasingInt
+unfolding row_outcome row_at
+returns-in-FznDecreasingInt c = arm builtin.FznDecreasingInt c.args.scene.now c.in-FznDecreasingInt.is (ap Truth c.decreasing_int.ensures)
+
+pub returns-in-FznDecreasingBool : goal.returns-in-FznDecreasingBool
+unfolding row_outcome row_at
+returns-in-FznDecreasingBool c = arm builtin.FznDecreasingBool c.args.scene.now c.in-FznDecreasingBool.is (ap Truth c.decreasing_bool.ensures)
+
+pub returns-in-FznStrictlyIncreasingInt : goal.returns-in-FznStrictlyIncreasingInt
+unfolding row_outcome row_at
+returns-in-FznStrictlyIncreasingInt c = arm builtin.FznStrictlyIncreasingInt c.args.scene.now c.in-FznStrictlyIncreasingInt.is (ap Truth c.strictly_increasing_int.ensures)
+
+pub returns-in-FznValuePrecedeInt : goal.returns-in-FznValuePrecedeInt
+unfolding row_outcome row_at
+returns-in-FznValuePrecedeInt c = arm builtin.FznValuePrecedeInt c.args.scene.now c.in-FznValuePrecedeInt.is (ap Truth c.value_precede.ensures)
+
+pub returns-in-GecodePrecede : goal.returns-in-GecodePrecede
+unfolding row_outcome row_at
+returns-in-GecodePrecede c = arm builtin.GecodePrecede c.args.scene.now c.in-GecodePrecede.is (ap Truth c.precede.ensures)
+
+pub returns-in_ok-value_precede_chain-in-FznValuePrecedeChainInt : goal.returns-in_ok-value_precede_chain-in-FznValuePrecedeChainInt
+unfolding row_outcome row_at
+returns-in_ok-value_precede_chain-in-FznValuePrecedeChainInt c = arm builtin.FznValuePrecedeChainInt c.args.scene.now c.in-FznValuePrecedeChainInt.is (ap Truth c.in_ok-value_precede_chain-in-FznValuePrecedeChainInt.ensures)
+
+pub returns-in-FznSeqPrecedeChainInt : goal.returns-in-FznSeqPrecedeChainInt
+unfolding row_outcome row_at
+returns-in-FznSeqPrecedeChainInt c = arm builtin.FznSeqPrecedeChainInt c.args.scene.now c.in-FznSeqPrecedeChainInt.is (ap Truth c.seq_precede_chain.ensures)
+
+pub returns-in_ok-sorted-in-FznSort : goal.returns-in_ok-sorted-in-FznSort
+unfolding row_outcome row_at
+returns-in_ok-sorted-in-FznSort c = arm builtin.FznSort c.args.scene.now c.in-FznSort.is (ap Truth c.in_ok-sorted-in-FznSort.ensures)
+
+pub returns-in-FznMemberInt : goal.returns-in-FznMemberInt
+unfolding row_outcome row_at
+returns-in-FznMemberInt c = arm builtin.FznMemberInt c.args.scene.now c.in-FznMemberInt.is (ap Truth c.member_int.ensures)
+
+pub returns-in-FznMemberBool : goal.returns-in-FznMemberBool
+unfolding row_outcome row_at
+returns-in-FznMemberBool c = arm builtin.FznMemberBool c.args.scene.now c.in-FznMemberBool.is (ap Truth c.member_bool.ensures)
+
+pub returns-in-GecodeMaximumArgIntOffset : goal.returns-in-GecodeMaximumArgIntOffset
+unfolding row_outcome row_at
+returns-in-GecodeMaximumArgIntOffset c = arm builtin.GecodeMaximumArgIntOffset c.args.scene.now c.in-GecodeMaximumArgIntOffset.is (ap Truth c.argument_of_maximum.ensures)
+
+pub returns-in-GecodeMinimumArgIntOffset : goal.returns-in-GecodeMinimumArgIntOffset
+unfolding row_outcome row_at
+returns-in-GecodeMinimumArgIntOffset c = arm builtin.GecodeMinimumArgIntOffset c.args.scene.now c.in-GecodeMinimumArgIntOffset.is (ap Truth c.argument_of_minimum.ensures)
+
+pub returns-in-FznSlidingSum : goal.returns-in-FznSlidingSum
+unfolding row_outcome row_at
+returns-in-FznSlidingSum c = arm builtin.FznSlidingSum c.args.scene.now c.in-FznSlidingSum.is (ap Truth c.sliding_sum.ensures)
+
+pub returns-in-GecodeLinkSetToBooleans : goal.returns-in-GecodeLinkSetToBooleans
+unfolding row_outcome row_at
+returns-in-GecodeLinkSetToBooleans c = arm builtin.GecodeLinkSetToBooleans c.args.scene.now c.in-GecodeLinkSetToBooleans.is (ap Truth c.link_set_to_booleans.ensures)
+
+pub returns-in-GecodeIntSetChannel : goal.returns-in-GecodeIntSetChannel
+unfolding row_outcome row_at
+returns-in-GecodeIntSetChannel c = arm builtin.GecodeIntSetChannel c.args.scene.now c.in-GecodeIntSetChannel.is (ap Truth c.int_set_channel.ensures)
+
+pub returns-in-FznDisjoint : goal.returns-in-FznDisjoint
+unfolding row_outcome row_at
+returns-in-FznDisjoint c = arm builtin.FznDisjoint c.args.scene.now c.in-FznDisjoint.is (ap Truth c.disjoint.ensures)
+
+pub returns-in_ok-partition_set-in-FznPartitionSet : goal.returns-in_ok-partition_set-in-FznPartitionSet
+unfolding row_outcome row_at
+returns-in_ok-partition_set-in-FznPartitionSet c = arm builtin.FznPartitionSet c.args.scene.now c.in-FznPartitionSet.is (ap Truth c.in_ok-partition_set-in-FznPartitionSet.ensures)
+
+pub returns-in_ok-partition_set-in-GecodeArraySetPartition : goal.returns-in_ok-partition_set-in-GecodeArraySetPartition
+unfolding row_outcome row_at
+returns-in_ok-partition_set-in-GecodeArraySetPartition c = arm builtin.GecodeArraySetPartition c.args.scene.now c.in-GecodeArraySetPartition.is (ap Truth c.in_ok-partition_set-in-GecodeArraySetPartition.ensures)

@@ -1,25 +1,31 @@
-use Rattle.std.proofs.Common.{◌≡◌, ◌-◌, cond, length, sym, ap, ◌∙◌, arith}
-use Rattle.fz_meaning.specs.Builtins.{reified}
-use Rattle.fz_meaning.specs.Known.{row_at, known_row}
-use Rattle.fz_meaning.proofs.WithTruth.{one_more, last_place}
-use Rattle.fz_kernel.specs.of_scene.Given.{bool_at}
+use Rattle.std.proofs.Common.{◌≡◌, length, sym, ap, ◌∙◌}
+use Rattle.fz_meaning.specs.Builtins.{row_at}
+use Rattle.fz_meaning.specs.Known.{form_at}
 use Rattle.fz_kernel.specs.of_scene.Views.{arguments_of, assigned}
-use Rattle.fz_eval.specs.Outcomes.{row_outcome, compared}
-use Rattle.fz_eval.proofs.Known.{form_outcome}
+use Rattle.fz_eval.specs.Outcomes.{row_outcome, compared, implied_by}
+use Rattle.fz_eval.specs.Readings.{truth}
+use Rattle.fz_eval.proofs.Known.{reified_outcome, implied_outcome}
 use Rattle.fz_eval.proofs.constraints.of_known.Goals as goal
 
-pub overflow_sub-last : goal.overflow_sub-last
-overflow_sub-last c =
-    let r = row_at c.args.known.builtin in
-    let e : known_row c.args.known ≡ reified r = ap (λ b. cond b (reified r) r) c.if-known.true in
-    omega (arith, one_more c.shapes.result.now r.shapes (c.shapes.ensures ∙ ap (λ q. q.shapes) e))
+pub returns-in-Base : goal.returns-in-Base
+returns-in-Base c =
+    c.in_ok-outcome.ensures
+    ∙ ap (λ f. row_outcome (form_at f (row_at c.args.known.builtin)) (assigned c.args.scene.now) (arguments_of c.args.scene.now)) (sym c.in-Base.is)
 
-pub returns-then-known : goal.returns-then-known
-returns-then-known c =
+pub returns-in-Reified : goal.returns-in-Reified
+returns-in-Reified c =
     let K = assigned c.args.scene.now in
     let xs = arguments_of c.args.scene.now in
     let r = row_at c.args.known.builtin in
-    let e : known_row c.args.known ≡ reified r = ap (λ b. cond b (reified r) r) c.if-known.true in
-    let place : length c.shapes.result.now - 1 ≡ length r.shapes = last_place c.shapes.result.now r.shapes (c.shapes.ensures ∙ ap (λ q. q.shapes) e) in
-    c.compared.ensures ∙ ap (λ t. compared t c.in_ok-outcome.outcome) (c.truth.ensures.read ∙ ap (bool_at K xs) place)
-    ∙ ap (compared (bool_at K xs (length r.shapes))) c.in_ok-outcome.ensures ∙ sym (form_outcome r K xs) ∙ ap (λ q. row_outcome q K xs) (sym e)
+    c.compared.ensures ∙ ap (λ t. compared t c.in_ok-outcome.outcome) c.last_truth.ensures
+    ∙ ap (compared (truth c.args.scene.now (length r.shapes))) c.in_ok-outcome.ensures
+    ∙ sym (reified_outcome r K xs) ∙ ap (λ f. row_outcome (form_at f r) K xs) (sym c.in-Reified.is)
+
+pub returns-in-Implied : goal.returns-in-Implied
+returns-in-Implied c =
+    let K = assigned c.args.scene.now in
+    let xs = arguments_of c.args.scene.now in
+    let r = row_at c.args.known.builtin in
+    c.implied_by.ensures ∙ ap (λ t. implied_by t c.in_ok-outcome.outcome) c.last_truth-in-Implied.ensures
+    ∙ ap (implied_by (truth c.args.scene.now (length r.shapes))) c.in_ok-outcome.ensures
+    ∙ sym (implied_outcome r K xs) ∙ ap (λ f. row_outcome (form_at f r) K xs) (sym c.in-Implied.is)

@@ -8,11 +8,11 @@ use Rattle.fz_meaning.specs.Builtins.{total, where_true, as_number}
 use Rattle.fz_meaning.proofs.Values.{int_itself}
 use Rattle.fz_eval.specs.of_scene.Given.{int_at, ints_at, bools_at}
 use Rattle.fz_eval.specs.of_scene.Views.{arguments_of, assigned, ints}
-use Rattle.fz_meaning.specs.Known.{row_at}
+use Rattle.fz_meaning.specs.Builtins.{row_at}
 use Rattle.fz_meaning.specs.declared.builtin.Builtin.TheVariants.{IntEq, IntPlus, IntTimes, IntMin, IntMax, IntAbs, IntDiv, IntMod, ArrayIntElement, ArrayVarIntElement, ArrayIntMaximum, ArrayIntMinimum, Bool2Int, BoolLinEq, SetCard}
 use Rattle.fz_force.specs.Left.{IsOfKind, IsLeftNumber}
 use Rattle.fz_force.proofs.Plain.{element_left, best_left}
-use Rattle.fz_force.proofs.LeftReadings.{ints_are, bools_are}
+use Rattle.fz_eval.proofs.ElementReadings.{ints_are, bools_are}
 use Rattle.fz_force.proofs.RowLemmas.{array_int_element_row, array_int_maximum_row, array_int_minimum_row, array_var_int_element_row, bool2int_number_row, bool_lin_eq_row, from_row, int_abs_row, int_div_row, int_eq_place, int_eq_row, int_max_row, int_min_row, int_mod_row, int_plus_row, int_times_row, passed, set_card_row}
 use Rattle.fz_force.proofs.RowKinds.{leaves_number, number_rows, not_both}
 use Rattle.fz_force.proofs.base_row.left_number.Goals as goal
@@ -207,4 +207,4 @@ returns-in-SetCard c =
 pub returns-in_default : goal.returns-in_default
 returns-in_default c =
     absurd (not_both c.args.builtin number_rows (leaves_number c.args.builtin c.args.place c.requires.result c.requires.number)
-    (c.in_default.not-IntEq, (c.in_default.not-IntPlus, (c.in_default.not-IntTimes, (c.in_default.not-IntMin, (c.in_default.not-IntMax, (c.in_default.not-IntAbs, (c.in_default.not-IntDiv, (c.in_default.not-IntMod, (c.in_default.not-ArrayIntElement, (c.in_default.not-ArrayVarIntElement, (c.in_default.not-ArrayIntMaximum, (c.in_default.not-ArrayIntMinimum, (c.in_default.not-Bool2Int, (c.in_default.not-BoolLinEq, (c.in_default.not-SetCard, tt))))))))))))))))
+    (c.requires.other.0, (c.requires.other.1.0, (c.requires.other.1.1.0, (c.requires.other.1.1.1.0, (c.requires.other.1.1.1.1.0, (c.requires.other.1.1.1.1.1.0, (c.requires.other.1.1.1.1.1.1.0, (c.in_default.not-IntEq, (c.in_default.not-IntPlus, (c.in_default.not-IntTimes, (c.in_default.not-IntMin, (c.in_default.not-IntMax, (c.in_default.not-IntAbs, (c.in_default.not-IntDiv, (c.in_default.not-IntMod, (c.in_default.not-ArrayIntElement, (c.in_default.not-ArrayVarIntElement, (c.in_default.not-ArrayIntMaximum, (c.in_default.not-ArrayIntMinimum, (c.in_default.not-Bool2Int, (c.in_default.not-BoolLinEq, (c.in_default.not-SetCard, tt)))))))))))))))))))))))

@@ -8,11 +8,11 @@ use Rattle.fz_meaning.specs.Builtins.{element_at}
 use Rattle.fz_meaning.proofs.Values.{set_itself}
 use Rattle.fz_eval.specs.of_scene.Given.{int_at}
 use Rattle.fz_eval.specs.of_scene.Views.{arguments_of, assigned, sets}
-use Rattle.fz_meaning.specs.Known.{row_at}
+use Rattle.fz_meaning.specs.Builtins.{row_at}
 use Rattle.fz_meaning.specs.declared.builtin.Builtin.TheVariants.{SetEq, SetUnion, SetIntersect, SetDiff, SetSymdiff, ArraySetElement, ArrayVarSetElement}
 use Rattle.fz_force.specs.Left.{IsLeft, holds_with}
 use Rattle.fz_force.proofs.Plain.{element_of}
-use Rattle.fz_force.proofs.LeftReadings.{sets_are}
+use Rattle.fz_eval.proofs.ElementReadings.{sets_are}
 use Rattle.fz_force.proofs.RowLemmas.{from_row, passed, ok_then, set_eq_place, set_eq_row, set_union_row, set_intersect_row, set_diff_row, set_symdiff_row, array_set_element_row, array_var_set_element_row}
 use Rattle.fz_force.proofs.RowKinds.{leaves_set, set_rows, not_both}
 use Rattle.fz_force.proofs.base_row.left_set.Goals as goal

@@ -7,11 +7,11 @@ use Rattle.fz_meaning.specs.Values.{◌=ᴮ◌}
 use Rattle.fz_meaning.proofs.Values.{bool_itself}
 use Rattle.fz_eval.specs.of_scene.Given.{bool_at, int_at}
 use Rattle.fz_eval.specs.of_scene.Views.{arguments_of, assigned, bools}
-use Rattle.fz_meaning.specs.Known.{row_at}
+use Rattle.fz_meaning.specs.Builtins.{row_at}
 use Rattle.fz_meaning.specs.declared.builtin.Builtin.TheVariants.{BoolEq, BoolNot, BoolAnd, BoolOr, BoolXor, ArrayBoolAnd, ArrayBoolOr, ArrayBoolElement, ArrayVarBoolElement, Bool2Int}
 use Rattle.fz_force.specs.Left.{IsOfKind}
 use Rattle.fz_force.proofs.Plain.{element_of}
-use Rattle.fz_force.proofs.LeftReadings.{bools_are}
+use Rattle.fz_eval.proofs.ElementReadings.{bools_are}
 use Rattle.fz_force.proofs.RowLemmas.{array_bool_and_row, array_bool_element_row, array_bool_or_row, array_var_bool_element_row, bool2int_truth_row, bool_and_row, bool_eq_place, bool_eq_row, bool_not_place, bool_not_row, bool_or_row, bool_xor_row, from_row, passed, xor_is}
 use Rattle.fz_force.proofs.RowKinds.{leaves_truth, truth_rows, not_both}
 use Rattle.fz_force.proofs.base_row.left_truth.Goals as goal

@@ -1,8 +1,8 @@
-use Rattle.std.proofs.Common.{◌≡◌, Some, None, length, slice_get, map, refl, sym, ap, subst, ◌∙◌}
+use Rattle.std.proofs.Common.{◌≡◌, Some, None, length, slice_get, map, refl, sym, subst}
 use Rattle.std.specs.Option.{option_map_or}
 use Rattle.std.proofs.lemmas.Option.{slice_get_past, slice_get_read}
 use Rattle.fz_meaning.specs.Meaning.{terms_at}
-use Rattle.fz_data.specs.Parts.{array_view, elements_of, no_array, place_view}
+use Rattle.fz_data.specs.Parts.{array_view, no_array, place_view}
 use Rattle.fz_data.specs.Slots.{slot_term}
 use Rattle.fz_force.specs.declared.only.Open.TheVariants.{Nothing}
 use Rattle.fz_force.specs.Only.{AreOpen}

@@ -4,7 +4,7 @@ use Rattle.std.proofs.lemmas.Int.{to_z-of_z}
 use Rattle.fz_meaning.specs.Builtins.{total, products}
 use Rattle.fz_eval.specs.of_scene.Given.{ints_at}
 use Rattle.fz_eval.specs.of_scene.Views.{arguments_of, assigned}
-use Rattle.fz_force.proofs.LeftReadings.{ints_are}
+use Rattle.fz_eval.proofs.ElementReadings.{ints_are}
 use Rattle.fz_force.proofs.RowLemmas.{unit_row}
 use Rattle.fz_force.proofs.unit.unit_value.Goals as goal
 

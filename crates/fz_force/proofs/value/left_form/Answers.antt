@@ -1,7 +1,7 @@
 use Rattle.std.proofs.Common.{sym, ◌∙◌}
 use Rattle.fz_meaning.proofs.Values.{no, no'}
 use Rattle.fz_eval.specs.of_scene.Views.{arguments_of, assigned}
-use Rattle.fz_meaning.specs.Known.{row_at}
+use Rattle.fz_meaning.specs.Builtins.{row_at}
 use Rattle.fz_force.proofs.Reified.{reified_row, told_large, told_truth}
 use Rattle.fz_force.proofs.value.left_form.Goals as goal
 

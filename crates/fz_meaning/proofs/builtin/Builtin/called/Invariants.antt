@@ -1,6 +1,5 @@
-use Rattle.std.proofs.Common.{◌≡◌, find, drop}
-use Rattle.fz_meaning.proofs.FoundRows.{called}
+use Rattle.std.proofs.Common.{◌≡◌, bytes_eq, find, drop}
 use Rattle.fz_meaning.proofs.builtin.Builtin.called.Given as goal
 
-abbrev pub invariant-loop-builtin : goal.invariant-loop-builtin
-invariant-loop-builtin l = find (called l.name) (drop l.builtin-index l.builtin-items) ≡ find (called l.name) l.builtin-items
+abbrev pub invariant-loop-own : goal.invariant-loop-own
+invariant-loop-own l = find (λ n. bytes_eq n.0.now l.name) (drop l.own-index l.own-items) ≡ find (λ n. bytes_eq n.0.now l.name) l.own-items

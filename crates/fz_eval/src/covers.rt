@@ -1,0 +1,65 @@
+//! The rows of cardinalities.
+
+ghost use Rattle.std.specs.Prelude.{◌≡◌, ◌&&◌, IfOk};
+ghost use Rattle.fz_meaning.specs.Globals.{counts_are, counts_lie, is_closed};
+ghost use Rattle.fz_eval.specs.Readings.{ints};
+
+use fz_kernel::cover::{counts_are, counts_lie, is_closed};
+use fz_kernel::fz_scene::Scene;
+use std::alloc::{AllocError, Global};
+
+/// Whether each value of the cover is an element as often as its number says.
+pub(crate) fn cardinality(alloc: Global, scene: &Scene<'_, '_>) -> Result<bool, AllocError>
+    ensures { IfOk result (λ r. r ≡ counts_are (ints scene.now 0) (ints scene.now 1) (ints scene.now 2)) }
+{
+    counts_are(
+        alloc,
+        &scene.elements(0),
+        &scene.elements(1),
+        &scene.elements(2),
+    )
+}
+
+/// Whether that holds, and each element is in the cover.
+pub(crate) fn cardinality_closed(alloc: Global, scene: &Scene<'_, '_>) -> Result<bool, AllocError>
+    ensures { IfOk result (λ r. r ≡ (counts_are (ints scene.now 0) (ints scene.now 1) (ints scene.now 2) && is_closed (ints scene.now 0) (ints scene.now 1))) }
+{
+    Ok(cardinality(alloc, scene)? && closed(alloc, scene)?)
+}
+
+/// Whether each value of the cover is an element as often as its bounds let it be.
+pub(crate) fn cardinality_between(alloc: Global, scene: &Scene<'_, '_>) -> Result<bool, AllocError>
+    ensures { IfOk result (λ r. r ≡ counts_lie (ints scene.now 0) (ints scene.now 1) (ints scene.now 2) (ints scene.now 3)) }
+{
+    let (least, most) = (&scene.elements(2), &scene.elements(3));
+    counts_lie(alloc, &scene.elements(0), &scene.elements(1), least, most)
+}
+
+/// Whether that holds, and each element is in the cover.
+pub(crate) fn cardinality_between_closed(
+    alloc: Global,
+    scene: &Scene<'_, '_>,
+) -> Result<bool, AllocError>
+    ensures { IfOk result (λ r. r ≡ (counts_lie (ints scene.now 0) (ints scene.now 1) (ints scene.now 2) (ints scene.now 3) && is_closed (ints scene.now 0) (ints scene.now 1))) }
+{
+    Ok(cardinality_between(alloc, scene)? && closed(alloc, scene)?)
+}
+
+/// Whether each value is an element of the third argument as often as its number in the first says.
+pub(crate) fn distribute(alloc: Global, scene: &Scene<'_, '_>) -> Result<bool, AllocError>
+    ensures { IfOk result (λ r. r ≡ counts_are (ints scene.now 2) (ints scene.now 1) (ints scene.now 0)) }
+{
+    counts_are(
+        alloc,
+        &scene.elements(2),
+        &scene.elements(1),
+        &scene.elements(0),
+    )
+}
+
+/// Whether each element is in the cover.
+fn closed(alloc: Global, scene: &Scene<'_, '_>) -> Result<bool, AllocError>
+    ensures { IfOk result (λ r. r ≡ is_closed (ints scene.now 0) (ints scene.now 1)) }
+{
+    is_closed(alloc, &scene.elements(0), &scene.elements(1))
+}

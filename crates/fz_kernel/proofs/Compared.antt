@@ -1,0 +1,36 @@
+-- What a comparison of two numbers says of the tests.
+use Rattle.std.proofs.Common.{◌≡◌, ℤ, ◌<ℤ◌, ◌≤ℤ◌, int_le, int_lt, Bool, true, false, refl, arith}
+use Rattle.std.proofs.lemmas.Int.{ints}
+use Rattle.std.proofs.lemmas.Bool.Decides.{Decides-int_eq}
+use mathlib.Core.Bool.{beq}
+use Rattle.fz_meaning.specs.Values.{◌=ℤ◌, ◌=ᴮ◌}
+
+pub is_equal : (a b : ℤ) → a ≡ b → (a =ℤ b) ≡ true
+is_equal a b same = (Decides-int_eq a b).1 same
+
+pub is_other : (a b : ℤ) → ¬ (a ≡ b) → (a =ℤ b) ≡ false
+is_other a b other = elim (a =ℤ b) as (λ s. (a =ℤ b) ≡ s → s ≡ false) [ true ↦ λ e. absurd (other ((Decides-int_eq a b).0 e)) | false ↦ λ _. refl ] refl
+
+pub above_is_other : (a b : ℤ) → a <ℤ b → (b =ℤ a) ≡ false
+above_is_other a b h = is_other b a (λ same. omega (arith, ints))
+
+pub is_less : (a b : ℤ) → a <ℤ b → int_lt a b ≡ true
+is_less a b h = grind (arith, ints)
+
+pub not_less : (a b : ℤ) → b ≤ℤ a → int_lt a b ≡ false
+not_less a b h = grind (arith, ints)
+
+pub is_at_most : (a b : ℤ) → a ≤ℤ b → int_le a b ≡ true
+is_at_most a b h = grind (arith, ints)
+
+pub not_at_most : (a b : ℤ) → b <ℤ a → int_le a b ≡ false
+not_at_most a b h = grind (arith, ints)
+
+pub at_most : (a b : ℤ) → int_le a b ≡ true → a ≤ℤ b
+at_most a b e = grind (arith, ints)
+
+pub same_truths : (a b : Bool) → beq a b ≡ (a =ᴮ b)
+same_truths true true = refl
+same_truths true false = refl
+same_truths false true = refl
+same_truths false false = refl

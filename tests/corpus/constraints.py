@@ -1,0 +1,239 @@
+"""Global constraints in the plainest way, for slow.py: the kinds of their arguments, whether they
+hold, and the places of the arrays that have to be of equal lengths.
+
+They follow docs/BUILTINS.md. Lists that lead to places are walked, cumulative looks at each start,
+and nothing is sorted but to compare."""
+
+
+def count(x, v):
+    return sum(1 for y in x if y == v)
+
+
+def all_different(x):
+    return len(set(x)) == len(x)
+
+
+def neighbours(test, x):
+    return all(test(a, b) for a, b in zip(x, x[1:]))
+
+
+def cover_counts(x, cover, low, high):
+    return all(a <= count(x, v) <= b for v, a, b in zip(cover, low, high))
+
+
+def closed(x, cover):
+    return all(v in cover for v in x)
+
+
+def cumulative(s, d, r, b):
+    if any(v < 0 for v in d + r) or (s and b < 0):
+        return False
+    tasks = list(zip(s, d, r))
+    starts = [a for a, n, use in tasks if n > 0 and use > 0]
+    return all(sum(use for a, n, use in tasks if a <= t < a + n) <= b for t in starts)
+
+
+def disjunctive(s, d, strict):
+    if any(n < 0 for n in d):
+        return False
+    tasks = [(a, n) for a, n in zip(s, d) if strict or n > 0]
+    pairs = [(p, q) for i, p in enumerate(tasks) for q in tasks[:i]]
+    return all(a + m <= b or b + n <= a for (a, m), (b, n) in pairs)
+
+
+def apart(x, y, dx, dy, strict):
+    boxes = [b for b in zip(x, y, dx, dy) if strict or (b[2] != 0 and b[3] != 0)]
+    pairs = [(p, q) for i, p in enumerate(boxes) for q in boxes[:i]]
+    return all(
+        a + n <= b or b + m <= a or c + k <= d or d + j <= c
+        for (a, c, n, k), (b, d, m, j) in pairs
+    )
+
+
+def load(b, w, v):
+    return sum(k for c, k in zip(b, w) if c == v)
+
+
+def loads(l, b, w, o):
+    n = len(l)
+    return all(o <= v < o + n for v in b) and all(load(b, w, o + j) == l[j] for j in range(n))
+
+
+def windows(low, high, k, x):
+    if k < 1:
+        return False
+    return all(low <= sum(x[i : i + k]) <= high for i in range(len(x) - k + 1))
+
+
+def cycle(x, start):
+    """The places from one on, until one comes again."""
+    seen, place = [], start
+    while place not in seen:
+        seen.append(place)
+        place = x[place]
+    return seen
+
+
+def circuit(o, x):
+    x = [v - o for v in x]
+    if any(not 0 <= v < len(x) for v in x):
+        return False
+    return not x or (len(cycle(x, 0)) == len(x) and all_different(x))
+
+
+def subcircuit(o, x):
+    x = [v - o for v in x]
+    if any(not 0 <= v < len(x) for v in x) or not all_different(x):
+        return False
+    moved = [i for i, v in enumerate(x) if v != i]
+    return not moved or len(cycle(x, moved[0])) == len(moved)
+
+
+def inverse(f, fo, g, go):
+    f, g = [v - fo for v in f], [v - go for v in g]
+
+    def leads_back(a, b):
+        return all(0 <= v < len(b) and b[v] == i for i, v in enumerate(a))
+
+    return leads_back(f, g) and leads_back(g, f)
+
+
+def is_row(x, t):
+    n = len(x)
+    return n > 0 and len(t) % n == 0 and any(t[i : i + n] == x for i in range(0, len(t), n))
+
+
+def regular(x, states, symbols, d, q, final):
+    if len(d) != states * symbols:
+        return False
+    for v in x:
+        if not (1 <= q <= states and 1 <= v <= symbols):
+            return False
+        q = d[(q - 1) * symbols + v - 1]
+    return 1 <= q <= states and q in final
+
+
+def precede(s, t, x):
+    return all(s in x[:i] for i, v in enumerate(x) if v == t)
+
+
+def rises(x):
+    return all(v <= max([0] + x[:i]) + 1 for i, v in enumerate(x))
+
+
+def index_of(best, x, o, i):
+    return bool(x) and i == o + x.index(best(x))
+
+
+def flags(s, b, o):
+    return s == {o + i for i, v in enumerate(b) if v}
+
+
+def channels(x, xo, y, yo):
+    if any(not yo <= v < yo + len(y) for v in x):
+        return False
+    return all(part == {xo + i for i, v in enumerate(x) if v == yo + j} for j, part in enumerate(y))
+
+
+def partition(parts, whole):
+    return set().union(*parts) == whole and sum(map(len, parts)) == len(whole)
+
+
+I, C, L = "[I]", "[I] I I", "[I] [I]"
+TESTS = {
+    "fzn_all_different_int": (I, all_different, ""),
+    "gecode_all_different_int": (I, all_different, ""),
+    "geas_all_different_int": (I, all_different, ""),
+    "fzn_alldifferent_except_0": (I, lambda x: all_different([v for v in x if v]), ""),
+    "geas_all_different_except_0": (I, lambda x: all_different([v for v in x if v]), ""),
+    "fzn_all_equal_int": (I, lambda x: len(set(x)) <= 1, ""),
+    "fzn_count_neq": (C, lambda x, y, c: c != count(x, y), ""),
+    "fzn_count_geq": (C, lambda x, y, c: c >= count(x, y), ""),
+    "fzn_count_gt": (C, lambda x, y, c: c > count(x, y), ""),
+    "fzn_count_leq": (C, lambda x, y, c: c <= count(x, y), ""),
+    "fzn_count_lt": (C, lambda x, y, c: c < count(x, y), ""),
+    "fzn_at_least_int": ("I [I] I", lambda n, x, v: count(x, v) >= n, ""),
+    "fzn_at_most_int": ("I [I] I", lambda n, x, v: count(x, v) <= n, ""),
+    "fzn_exactly_int": ("I [I] I", lambda n, x, v: count(x, v) == n, ""),
+    "fzn_global_cardinality": ("[I] [I] [I]", lambda x, c, k: cover_counts(x, c, k, k), "12"),
+    "fzn_global_cardinality_closed": (
+        "[I] [I] [I]",
+        lambda x, c, k: cover_counts(x, c, k, k) and closed(x, c),
+        "12",
+    ),
+    "fzn_global_cardinality_low_up": ("[I] [I] [I] [I]", cover_counts, "123"),
+    "fzn_global_cardinality_low_up_closed": (
+        "[I] [I] [I] [I]",
+        lambda x, c, l, u: cover_counts(x, c, l, u) and closed(x, c),
+        "123",
+    ),
+    "fzn_distribute": ("[I] [I] [I]", lambda k, v, x: cover_counts(x, v, k, k), "01"),
+    "fzn_cumulative": ("[I] [I] [I] I", cumulative, "012"),
+    "cumulatives": ("[I] [I] [I] I", cumulative, "012"),
+    "fzn_disjunctive": (L, lambda s, d: disjunctive(s, d, False), "01"),
+    "fzn_disjunctive_strict": (L, lambda s, d: disjunctive(s, d, True), "01"),
+    "fzn_diffn": ("[I] [I] [I] [I]", lambda *a: apart(*a, True), "0123"),
+    "fzn_diffn_nonstrict": ("[I] [I] [I] [I]", lambda *a: apart(*a, False), "0123"),
+    "gecode_nooverlap": (
+        "[I] [I] [I] [I]",
+        lambda x, dx, y, dy: apart(x, y, dx, dy, True),
+        "0123",
+    ),
+    "gecode_circuit": ("I [I]", circuit, ""),
+    "fzcheck_circuit": ("I [I]", circuit, ""),
+    "fzcheck_subcircuit": ("I [I]", subcircuit, ""),
+    "inverse_offsets": ("[I] I [I] I", inverse, ""),
+    "gecode_inverse_offsets": ("[I] I [I] I", inverse, ""),
+    "fzn_table_int": (L, is_row, ""),
+    "gecode_table_int": (L, is_row, ""),
+    "geas_table_int": (L, is_row, ""),
+    "fzn_table_bool": ("[B] [B]", is_row, ""),
+    "fzn_regular": ("[I] I I [I] I S", regular, ""),
+    "gecode_regular": ("[I] I I [I] I S", regular, ""),
+    "fzn_bin_packing": (
+        "I [I] [I]",
+        lambda c, b, w: all(load(b, w, v) <= c for v in b),
+        "12",
+    ),
+    "gecode_bin_packing_load": ("[I] [I] [I] I", loads, "12"),
+    "fzcheck_bin_packing_load": ("[I] [I] [I] I", loads, "12"),
+    "fzn_lex_less_int": (L, lambda x, y: x < y, ""),
+    "gecode_array_int_lt": (L, lambda x, y: x < y, ""),
+    "fzn_lex_lesseq_int": (L, lambda x, y: x <= y, ""),
+    "gecode_array_int_lq": (L, lambda x, y: x <= y, ""),
+    "fzn_lex_less_bool": ("[B] [B]", lambda x, y: x < y, ""),
+    "gecode_array_bool_lt": ("[B] [B]", lambda x, y: x < y, ""),
+    "fzn_lex_lesseq_bool": ("[B] [B]", lambda x, y: x <= y, ""),
+    "gecode_array_bool_lq": ("[B] [B]", lambda x, y: x <= y, ""),
+    "fzn_increasing_int": (I, lambda x: neighbours(lambda a, b: a <= b, x), ""),
+    "fzn_increasing_bool": ("[B]", lambda x: neighbours(lambda a, b: a <= b, x), ""),
+    "fzn_decreasing_int": (I, lambda x: neighbours(lambda a, b: a >= b, x), ""),
+    "fzn_decreasing_bool": ("[B]", lambda x: neighbours(lambda a, b: a >= b, x), ""),
+    "fzn_strictly_increasing_int": (I, lambda x: neighbours(lambda a, b: a < b, x), ""),
+    "fzn_value_precede_int": ("I I [I]", precede, ""),
+    "gecode_precede": (C, lambda x, s, t: precede(s, t, x), ""),
+    "fzn_value_precede_chain_int": (
+        L,
+        lambda c, x: neighbours(lambda s, t: precede(s, t, x), c),
+        "",
+    ),
+    "fzn_seq_precede_chain_int": (I, rises, ""),
+    "fzn_sort": (L, lambda x, y: sorted(x) == y, ""),
+    "fzn_member_int": ("[I] I", lambda x, y: y in x, ""),
+    "fzn_member_bool": ("[B] B", lambda x, y: y in x, ""),
+    "fzn_sliding_sum": ("I I I [I]", windows, ""),
+    "gecode_link_set_to_booleans": ("S [B] I", flags, ""),
+    "gecode_int_set_channel": ("[I] I [S] I", channels, ""),
+    "fzn_disjoint": ("S S", lambda a, b: not a & b, ""),
+    "fzn_partition_set": ("[S] S", partition, ""),
+    "gecode_array_set_partition": ("[S] S", partition, ""),
+}
+RESULTS = {
+    "count": (C, 2, count),
+    "gecode_count": (C, 2, count),
+    "fzn_count_eq": (C, 2, count),
+    "fzn_among": ("I [I] S", 0, lambda x, s: sum(1 for v in x if v in s)),
+    "fzn_nvalue": ("I [I]", 0, lambda x: len(set(x))),
+    "gecode_maximum_arg_int_offset": (C, 2, lambda x, o: o + x.index(max(x)) if x else None),
+    "gecode_minimum_arg_int_offset": (C, 2, lambda x, o: o + x.index(min(x)) if x else None),
+}
