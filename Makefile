@@ -42,6 +42,7 @@ test:
 corpus: build/fzcheck
 	tests/corpus/run.py build/fzcheck tests/corpus examples
 	tests/corpus/differ.py build/fzcheck - 300
+	tests/minizinc.sh build/fzcheck
 
 fuzz: build/fzcheck
 	tests/hostile/fuzz.py build/fzcheck $(SECONDS) $(SEED)

@@ -1,0 +1,2 @@
+% Kept as it is: docs/BUILTINS.md of fzcheck says what it means.
+predicate fzn_count_lt(array [int] of var int: x, var int: y, var int: c);
