@@ -24,6 +24,7 @@ pub mod lexical;
 pub mod numbers;
 pub mod order;
 mod ordered;
+pub mod packed;
 pub mod partition;
 pub mod precedence;
 mod reading;
