@@ -1,5 +1,5 @@
 -- From a constraint as it is kept to what its row leaves, and from there to what its point forces.
-use Rattle.std.proofs.Common.{◌≡◌, ℕ, true, false, ◌&&◌, List, [], ◌∷◌, map, flat_map, Option, Some, None, IsSomeAnd, IfSome, IsFalse, IsTrue, slice_get, is_some, refl, sym, ap, subst, ◌∙◌}
+use Rattle.std.proofs.Common.{◌≡◌, ℕ, true, false, List, [], ◌∷◌, map, flat_map, Option, Some, None, IsSomeAnd, IfSome, IsFalse, IsTrue, slice_get, is_some, refl, sym, ap, subst, ◌∙◌}
 use Rattle.std.specs.List.{AllByRecursion, list_all}
 use Rattle.std.specs.Option.{option_map_or}
 use Rattle.fz_base.specs.declared.value.Value.{Value}

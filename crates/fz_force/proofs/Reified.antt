@@ -1,5 +1,5 @@
 -- The truth value that a form with a truth value leaves: whether the row before it holds.
-use Rattle.std.proofs.Common.{◌≡◌, ℕ, suc, Bool, true, false, cond, ◌&&◌, List, [], ◌∷◌, ◌++◌, length, Option, Some, Result, IfOk, refl, sym, ap, subst, subst₂, ◌∙◌, slice_get, slice_set}
+use Rattle.std.proofs.Common.{◌≡◌, ℕ, suc, Bool, true, false, List, [], ◌∷◌, ◌++◌, length, Option, Some, Result, IfOk, refl, sym, ap, subst, subst₂, ◌∙◌, slice_get, slice_set}
 use Rattle.std.specs.Prelude.{IsSome}
 use Rattle.std.specs.List.{list_any}
 use Rattle.fz_base.specs.declared.value.Value.{Value}

@@ -1,25 +1,24 @@
 -- An element of a sum: where its coefficient is 1 or -1, and how what is given changes with its value.
-use Rattle.std.proofs.Common.{◌≡◌, ℕ, zero, suc, ◌<◌, ℤ, pos, negsuc, true, false, cond, ◌&&◌, List, [], ◌∷◌, length, map, flat_map, Option, Some, None, option_map, slice_get, slice_set, refl, sym, ap, subst, ◌∙◌, ◌⊎◌, inl, inr}
+use Rattle.std.proofs.Common.{◌≡◌, ℕ, zero, suc, ◌<◌, ℤ, pos, negsuc, true, false, cond, List, [], ◌∷◌, length, map, flat_map, Option, Some, None, option_map, slice_get, slice_set, refl, sym, ap, subst, ◌∙◌, ◌⊎◌, inl, inr, ◌||◌}
+use Rattle.std.specs.List.{list_any}
 use Rattle.fz_base.specs.declared.value.Value.{Value}
 use Rattle.fz_base.specs.declared.value.Value.TheVariants.{Int, Bool as Truth, Set}
-use Rattle.fz_meaning.specs.declared.kind.Kind.{Kind}
 use Rattle.fz_meaning.specs.declared.kind.Kind.TheVariants.{Int as IntKind}
 use Rattle.fz_meaning.specs.declared.term.Term.{Term}
 use Rattle.fz_meaning.specs.declared.term.Term.TheVariants.{Var}
 use Rattle.fz_meaning.specs.Values.{kind_of}
-use Rattle.fz_meaning.specs.Builtins.{Shape, Row}
+use Rattle.fz_meaning.specs.Builtins.{Row}
 use Rattle.fz_meaning.specs.Builtins.Shape.{ScalarOf, ArrayOf}
 use Rattle.fz_meaning.specs.Builtins.ArgValue.{ManyValues}
 use Rattle.fz_meaning.specs.Builtins.Result.{UnitTerm}
-use Rattle.fz_meaning.specs.Meaning.{Argument, Partial, value, value_at, give, has_shape, have_shapes, row_holds, sums_leave, terms_in, terms_at_argument}
+use Rattle.fz_meaning.specs.Meaning.{Argument, Partial, value, value_at, give, row_holds, sums_leave, terms_in, terms_at_argument}
 use Rattle.fz_meaning.specs.Steps.{IsResult, open_terms}
-use Rattle.fz_meaning.proofs.Values.{no, and_first, and_second}
 use Rattle.fz_meaning.proofs.States.{intro}
 use Rattle.fz_meaning.proofs.Steps.{is_open, term_keeps, variable_open, some_of, as_number_of}
 use Rattle.fz_meaning.specs.declared.builtin.Builtin.TheVariants.{IntLinEq}
 use Rattle.fz_meaning.specs.Builtins.{row_at}
-use Rattle.fz_eval.specs.of_scene.Given.{slots_at, int_in, ints_of, ints_at, given, given_values}
-use Rattle.fz_eval.proofs.of_scene.Ready.{slots_are_terms}
+use Rattle.fz_eval.specs.of_scene.Given.{slots_at, int_in, ints_of, ints_at, given, given_values, read_leave}
+use Rattle.fz_eval.proofs.of_scene.Sums.{slots_terms}
 use Rattle.fz_force.specs.Left.{HasUnit, IsLeft, IsReadAsNone, IsUnit, holds_with_element, is_too_large, products_leave}
 use Rattle.fz_force.specs.declared.only.Spot.{Spot}
 use Rattle.fz_force.specs.Forced.{IsOnlyValue, IsReady}

@@ -1,5 +1,5 @@
 -- What a point forces. `IsOnlyNumber` stands in the contract of `only_number`, and that of `forced` speaks of `Gives` alone; the rest is for private functions.
-use Rattle.std.specs.Prelude.{◌≡◌, ℕ, ℤ, ◌<◌, ◌↔◌, true, false, slice_get, ◌&&◌, List, [], ◌∷◌, length, flat_map, Option, Some, None, IsTrue, IsSomeAnd}
+use Rattle.std.specs.Prelude.{◌≡◌, ℕ, ℤ, ◌<◌, ◌↔◌, true, false, slice_get, List, [], ◌∷◌, length, flat_map, Option, Some, None, IsTrue, IsSomeAnd}
 use Rattle.fz_base.specs.declared.value.Value.{Value}
 use Rattle.fz_meaning.specs.Values.{kind_of}
 use Rattle.fz_meaning.specs.declared.term.Domain.{Domain}
