@@ -7,8 +7,8 @@ ghost use Rattle.fz_meaning.specs.Builtins.{all_different, is_among};
 ghost use Rattle.fz_meaning.specs.Globals.{count_of, count_in, values_of, is_nonzero};
 ghost use Rattle.fz_eval.specs.Readings.{int, ints, numbers, truth, truths};
 
-use fz_kernel::counts;
-use fz_kernel::counts::{count_in, count_of, is_listed, is_truth_listed, nonzero_are_different};
+use fz_globals::counts;
+use fz_globals::counts::{count_in, count_of, is_listed, is_truth_listed, nonzero_are_different};
 use fz_kernel::fz_scene::Scene;
 use std::alloc::{AllocError, Global};
 

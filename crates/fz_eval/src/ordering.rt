@@ -6,14 +6,14 @@ ghost use Rattle.fz_meaning.specs.Globals.{all_neighbours, is_sorted_form, is_be
 ghost use Rattle.fz_eval.specs.Readings.{int, ints, truths};
 
 use fz_kernel::fz_scene::Scene;
-use fz_kernel::lexical::{
+use fz_globals::lexical::{
     bools_are_before, bools_are_not_behind, ints_are_before, ints_are_not_behind,
 };
-use fz_kernel::order::{
+use fz_globals::order::{
     all_equal, is_decreasing, is_increasing, is_sorted_form, is_strictly_increasing,
     truths_decrease, truths_increase,
 };
-use fz_kernel::precedence::{precede_in_chain, precedes, rises_by_one};
+use fz_globals::precedence::{precede_in_chain, precedes, rises_by_one};
 use std::alloc::{AllocError, Global};
 
 /// Whether all elements are equal.
