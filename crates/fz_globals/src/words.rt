@@ -1,10 +1,10 @@
 //! Words that a finite automaton takes.
-ghost use Rattle.std.specs.Prelude.{◌≡◌, ◌+◌, ◌<◌, ◌≤◌, ℕ, pos, IfSome, IfNone};
+ghost use Rattle.std.specs.Prelude.{◌≡◌, ◌+◌, ◌<◌, ◌≤◌, ◌+ℤ◌, ◌*ℤ◌, ℕ, pos, IfSome, IfNone};
 ghost use Rattle.fz_meaning.specs.Builtins.{element_at};
 ghost use Rattle.fz_meaning.specs.Globals.{is_word, lies_between, run, step};
 ghost use Rattle.fz_kernel.specs.of_scene.Views.{ints};
 
-use fz_kernel::numbers::{product, product_and_more};
+use fz_kernel::numbers::product;
 use crate::reading::{number_at, number_count};
 use fz_base::IntSet;
 use fz_kernel::fz_scene::Elements;
@@ -98,4 +98,11 @@ fn place_of(index: i128, count: usize) -> Option<usize>
         return None;
     }
     Some((index - 1) as usize)
+}
+
+// The product and one number more, which 128 bits always hold.
+fn product_and_more(a: i64, b: i64, more: i64) -> i128
+    ensures exact { result ≡ ((a *ℤ b) +ℤ more) }
+{
+    product(a, b) + i128::from(more)
 }

@@ -1,8 +1,8 @@
 use Rattle.std.proofs.Common.{FitsSigned, w64, to_z, of_z, ◌*ℤ◌, ◌≡◌, sym, subst, ◌∙◌, rules}
 use Rattle.std.specs.Int.{w128}
 use Rattle.std.proofs.lemmas.Int.{to_z-of_z}
-use Rattle.fz_kernel.proofs.Followed.{fits_with_more}
-use Rattle.fz_kernel.proofs.numbers.product_and_more.Goals as goal
+use Rattle.fz_globals.proofs.Followed.{fits_with_more}
+use Rattle.fz_globals.proofs.words.product_and_more.Goals as goal
 
 pub overflow_add-result : goal.overflow_add-result
 overflow_add-result c =
