@@ -4,8 +4,8 @@ ghost use Rattle.fz_meaning.specs.Values.{◌=ℤ◌};
 ghost use Rattle.fz_meaning.specs.Globals.{index_from, is_index_of_best};
 ghost use Rattle.fz_kernel.specs.of_scene.Views.{ints};
 
-use fz_kernel::arrays::{maximum, minimum};
 use crate::indices::index_at;
+use fz_kernel::arrays::{maximum, minimum};
 use fz_kernel::fz_scene::Elements;
 
 /// The index, counted from `first`, of the first greatest element; none where there is no element.

@@ -7,10 +7,10 @@ ghost use Rattle.fz_meaning.specs.Builtins.{all_different, is_among};
 ghost use Rattle.fz_meaning.specs.Globals.{count_of, count_in, is_nonzero, values_of};
 ghost use Rattle.fz_kernel.specs.of_scene.Views.{ints, bools};
 
-use fz_kernel::arrays::stands_from;
-use fz_kernel::distinct::all_different;
 use crate::ordered::{numbers_in_order, values_in_order};
 use fz_base::IntSet;
+use fz_kernel::arrays::stands_from;
+use fz_kernel::distinct::all_different;
 use fz_kernel::fz_scene::Elements;
 use std::alloc::{AllocError, Global};
 

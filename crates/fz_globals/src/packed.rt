@@ -5,8 +5,8 @@ ghost use Rattle.fz_meaning.specs.Builtins.{leaves_128, products};
 ghost use Rattle.fz_meaning.specs.Globals.{is_knapsack, is_natural};
 ghost use Rattle.fz_kernel.specs.of_scene.Views.{ints};
 
-use fz_kernel::arrays::sum_of_products;
 use crate::reading::{is_natural_at, number_count};
+use fz_kernel::arrays::sum_of_products;
 use fz_kernel::fz_scene::Elements;
 
 /// Whether `xs` of the things weigh and profit so much; none where a sum of products on the way is no number of signed 128 bits.

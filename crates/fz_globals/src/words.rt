@@ -4,10 +4,10 @@ ghost use Rattle.fz_meaning.specs.Builtins.{element_at};
 ghost use Rattle.fz_meaning.specs.Globals.{is_word, lies_between, run, step};
 ghost use Rattle.fz_kernel.specs.of_scene.Views.{ints};
 
-use fz_kernel::numbers::product;
 use crate::reading::{number_at, number_count};
 use fz_base::IntSet;
 use fz_kernel::fz_scene::Elements;
+use fz_kernel::numbers::product;
 
 /// Whether the word leads from the first state to one of the last; the transitions stand row by row, one for each state.
 pub fn is_word(
