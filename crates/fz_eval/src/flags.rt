@@ -6,8 +6,8 @@ ghost use Rattle.fz_eval.specs.Readings.{int, ints, numbers, sets_of, truths};
 
 use fz_globals::channels::are_channelled;
 use fz_globals::flags::is_flagged;
-use fz_kernel::fz_scene::Scene;
 use fz_globals::partition::{are_disjoint, is_partition};
+use fz_kernel::fz_scene::Scene;
 use std::alloc::{AllocError, Global};
 
 /// Whether the set is that of the indices whose truth values are true.

@@ -6,10 +6,10 @@ ghost use Rattle.fz_meaning.specs.Globals.{as_places, is_circuit, is_subcircuit,
 ghost use Rattle.fz_eval.specs.Readings.{int, ints, numbers, truths};
 
 use fz_globals::best_index::{is_index_of_maximum, is_index_of_minimum};
-use fz_kernel::fz_scene::Scene;
 use fz_globals::tables::{is_bool_row, is_int_row};
 use fz_globals::tours::{are_inverse, is_circuit, is_subcircuit};
 use fz_globals::words::is_word;
+use fz_kernel::fz_scene::Scene;
 use std::alloc::{AllocError, Global};
 
 /// Whether the list leads from its first place to all, to each once, and back.

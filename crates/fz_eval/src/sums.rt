@@ -8,9 +8,9 @@ ghost use Rattle.fz_eval.specs.Outcomes.{sum_outcome};
 ghost use Rattle.fz_eval.specs.Readings.{int, ints};
 
 use crate::outcome::Outcome;
+use fz_globals::packed::is_knapsack;
 use fz_kernel::arrays::sum_of_products;
 use fz_kernel::fz_scene::Scene;
-use fz_globals::packed::is_knapsack;
 
 /// Whether the sum of products is the third argument.
 pub(crate) fn int_lin_eq(scene: &Scene<'_, '_>) -> Outcome
