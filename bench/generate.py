@@ -585,7 +585,10 @@ def make_globals(which, rand):
             "fzn_value_precede_chain_int(p,p)",
             "fzn_seq_precede_chain_int(u)",
         ]
-    lines = [f"array [1..{len(v)}] of int: {k} = [{','.join(map(str, v))}];" for k, v in arrays.items()]
+    lines = [
+        f"array [1..{len(values)}] of int: {name} = [{','.join(map(str, values))}];"
+        for name, values in arrays.items()
+    ]
     lines += ["var 1..1: x;"] + [f"constraint {post};" for post in posts]
     return "\n".join(lines) + "\nsolve satisfy;\n", "x = 1;\n----------\n"
 

@@ -57,7 +57,8 @@ class Row:
         cells = [self.name, f"{self.size / 1e6:.1f}"]
         if self.alone:
             memory = number(max(self.kilobytes[0], floor) / 1e3)
-            return "| " + " | ".join([*cells, number(self.seconds[0] * 1e3), "", "", memory, ""]) + " |"
+            cells += [number(self.seconds[0] * 1e3), "", "", memory, ""]
+            return "| " + " | ".join(cells) + " |"
         cells += [number(seconds * 1e3) for seconds in self.seconds]
         cells.append(f"{self.seconds[1] / self.seconds[0]:.2f}")
         for kilobytes in self.kilobytes:

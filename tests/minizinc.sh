@@ -14,7 +14,8 @@ fi
 folder=$(mktemp -d)
 trap 'rm -rf "$folder"' EXIT
 for model in "$here"/tests/minizinc/*.mzn; do
-  minizinc --solver "$here/minizinc/fzcheck.msc" -c "$model" --fzn "$folder/model.fzn" --no-output-ozn
+  minizinc --solver "$here/minizinc/fzcheck.msc" -c "$model" \
+    --fzn "$folder/model.fzn" --no-output-ozn
   "$program" show "$folder/model.fzn" >/dev/null
 done
 for name in fzcheck_circuit inverse_offsets fzn_cumulative fzn_table_int fzcheck_bin_packing_load \
