@@ -1,0 +1,110 @@
+//! Words that a finite automaton takes.
+ghost use Rattle.std.specs.Prelude.{◌≡◌, ◌+◌, ◌<◌, ◌≤◌, ◌+ℤ◌, ◌*ℤ◌, ℕ, pos, IfSome, IfNone};
+ghost use Rattle.fz_meaning.specs.Builtins.{element_at};
+ghost use Rattle.fz_meaning.specs.Globals.{is_word, lies_between, run, step};
+ghost use Rattle.fz_kernel.specs.of_scene.Views.{ints};
+
+use crate::reading::{number_at, number_count};
+use fz_base::IntSet;
+use fz_kernel::fz_scene::Elements;
+use fz_kernel::numbers::product;
+
+/// Whether the word leads from the first state to one of the last; the transitions stand row by
+/// row, one for each state.
+pub fn is_word(
+    xs: &Elements,
+    states: i64,
+    symbols: i64,
+    transitions: &Elements,
+    first: i64,
+    last: &IntSet,
+) -> bool
+    ensures exact { result ≡ is_word (ints xs.now) states symbols (ints transitions.now) first last.now }
+{
+    if number_count(transitions) as i128 != product(states, symbols) {
+        return false;
+    }
+    match end_of_run(states, symbols, transitions, first, xs) {
+        Some(state) => lies_from_one(states, state) && last.contains(state),
+        None => false,
+    }
+}
+
+// The state to which the word leads from a state; none where it leads nowhere.
+fn end_of_run(
+    states: i64,
+    symbols: i64,
+    transitions: &Elements,
+    from: i64,
+    xs: &Elements,
+) -> Option<i64>
+    ensures exact { result ≡ run states symbols (ints transitions.now) from (ints xs.now) }
+{
+    let mut state = from;
+    for place in 0..number_count(xs) {
+        match next_state(states, symbols, transitions, state, number_at(xs, place)) {
+            Some(next) => state = next,
+            None => return None,
+        }
+    }
+    Some(state)
+}
+
+// The state to which a symbol leads; none where it leads nowhere.
+#[inline]
+fn next_state(
+    states: i64,
+    symbols: i64,
+    transitions: &Elements,
+    state: i64,
+    symbol: i64,
+) -> Option<i64>
+    ensures exact { result ≡ step states symbols (ints transitions.now) state symbol }
+{
+    if !lies_from_one(states, state) || !lies_from_one(symbols, symbol) {
+        return None;
+    }
+    element(product_and_more(state - 1, symbols, symbol), transitions)
+}
+
+#[inline(always)]
+fn lies_from_one(most: i64, number: i64) -> bool
+    ensures { result ≡ lies_between (pos 1) most number }
+{
+    1 <= number && number <= most
+}
+
+// The element at an index counted from 1; none where that is no index.
+#[inline(always)]
+fn element(index: i128, elements: &Elements) -> Option<i64>
+    ensures exact { result ≡ element_at (ints elements.now) index }
+{
+    match place_of(index, number_count(elements)) {
+        Some(place) => Some(number_at(elements, place)),
+        None => None,
+    }
+}
+
+// The place, counted from 0, of an index that is counted from 1; none where it is no index of
+// `count` elements.
+#[inline(always)]
+fn place_of(index: i128, count: usize) -> Option<usize>
+    ensures place { IfSome result (λ place. index ≡ pos (place + 1)) }
+    ensures in_range { IfSome result (λ place. place < count) }
+    ensures none { IfNone result ((place : ℕ) → index ≡ pos (place + 1) → count ≤ place) }
+{
+    if index < 1 {
+        return None;
+    }
+    if (count as i128) < index {
+        return None;
+    }
+    Some((index - 1) as usize)
+}
+
+// The product and one number more, which 128 bits always hold.
+fn product_and_more(a: i64, b: i64, more: i64) -> i128
+    ensures exact { result ≡ ((a *ℤ b) +ℤ more) }
+{
+    product(a, b) + i128::from(more)
+}
