@@ -38,6 +38,7 @@ ghost use Rattle.fz_check.specs.View.{report_view};
 use crate::error::CheckError;
 use crate::report::{Report, answer_to};
 use fz_live::Answer;
+use fz_live::fz_judge::fz_verdict::Completion;
 use fz_live::fz_judge::{BlockError, Judge, Verdict};
 use fz_model::{LoadError, Model, ModelError, load, load_text};
 use fz_stream::{Block, Stream, StreamError, blocks};
@@ -150,7 +151,7 @@ fn judge_blocks<'a>(
     ensures block { (n : ℕ) (e : BlockFault) → result ≡ Err (CheckError.Block n e) → IsFirstFault model.now blocks.now n e }
     ensures kinds { IfErr result IsJudgingRefusal }
 {
-    let mut judge = Judge::new(model);
+    let mut judge = Judge::new(model, Completion::Off);
     let mut verdicts = Vec::new(alloc);
     for (place, block) in blocks.iter().enumerate() {
         match judge.judge(alloc, block) {

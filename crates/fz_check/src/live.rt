@@ -18,6 +18,7 @@ ghost use Rattle.fz_check.specs.Refused.{HasNameFault, HasTextFault};
 
 use crate::checking::read_model;
 use crate::error::CheckError;
+use fz_live::fz_judge::fz_verdict::Completion;
 use fz_live::{Answer, LiveError, check_parts};
 use std::alloc::Global;
 use std::io::{Read, Write};
@@ -46,6 +47,7 @@ pub fn check_stream_up_to<R: Read, W: Write>(
     reader: &mut R,
     writer: &mut W,
     reads: u64,
+    completion: Completion,
 ) -> Result<Answer, CheckError>
     // A yes is a yes: what is accepted has solutions.
     ensures accepted { IfOk result (λ a. (count : ℕ) → a ≡ Answer.Accepted count → HoldsOfStream (R.remaining reader.old) (R.remaining reader.new) (λ given. HasSolutions model.now given count)) }
@@ -73,14 +75,14 @@ pub fn check_stream_up_to<R: Read, W: Write>(
         Ok(loaded) => loaded,
         Err(error) => return Err(error),
     };
-    match check_parts(alloc, &loaded, reader, writer, reads) {
+    match check_parts(alloc, &loaded, reader, writer, reads, completion) {
         Ok(answer) => Ok(answer),
         Err(error) => Err(live_refusal(error)),
     }
 }
 
 /// The most reads of a stream.
-const MOST_READS: u64 = 4_294_967_296;
+pub const MOST_READS: u64 = 4_294_967_296;
 
 /// Judges each block of the stream that a reader gives, and writes each line of the report when it is known. At most 4,096 bytes are read
 /// at a time, in at most 4,294,967,296 reads, and one block is held.
@@ -111,5 +113,5 @@ pub fn check_stream<R: Read, W: Write>(
     ensures reads { SpendsReads most_reads 0 (R.remaining reader.old) (R.remaining reader.new) }
     ensures end_read { IfOk result (λ _. SpendsReads most_reads 1 (R.remaining reader.old) (R.remaining reader.new)) }
 {
-    check_stream_up_to(alloc, model, reader, writer, MOST_READS)
+    check_stream_up_to(alloc, model, reader, writer, MOST_READS, Completion::Off)
 }

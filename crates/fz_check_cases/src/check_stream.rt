@@ -2,7 +2,7 @@
 
 use crate::table::{Call, look_at};
 use fz_base::Span;
-use fz_check::{Answer, CheckError, check, check_stream, check_stream_up_to, refusal_text};
+use fz_check::{Answer, CheckError, check, check_stream, check_stream_up_to, refusal_text, Completion};
 use fz_stream::StreamError;
 use std::alloc::Global;
 use std::io::{self, ErrorKind, Read, Write};
@@ -64,7 +64,7 @@ impl Run<'_> {
     fn answer(mut self, alloc: Global, writer: &mut Narrow) -> Result<Answer, CheckError> {
         let model = self.model;
         match self.reads {
-            Some(reads) => check_stream_up_to(alloc, model, &mut self, writer, reads),
+            Some(reads) => check_stream_up_to(alloc, model, &mut self, writer, reads, Completion::Off),
             None => check_stream(alloc, model, &mut self, writer),
         }
     }

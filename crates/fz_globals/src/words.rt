@@ -5,7 +5,7 @@ ghost use Rattle.fz_kernel.specs.of_scene.Views.{ints};
 
 use crate::reading::{number_at, number_count};
 use fz_base::IntSet;
-use fz_kernel::arrays::int_element;
+use fz_kernel::arrays::int_element_at;
 use fz_kernel::fz_scene::Elements;
 use fz_kernel::numbers::product;
 
@@ -64,7 +64,7 @@ fn next_state(
     if !lies_from_one(states, state) || !lies_from_one(symbols, symbol) {
         return None;
     }
-    int_element(product_and_more(state - 1, symbols, symbol), transitions)
+    int_element_at(product_and_more(state - 1, symbols, symbol), transitions)
 }
 
 #[inline(always)]

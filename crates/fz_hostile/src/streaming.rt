@@ -1,7 +1,7 @@
 //! Checks over a reader and a writer, either of which may fail.
 
 use crate::outside::{file, number, tell};
-use fz_check::{Answer, CheckError, check_stream, check_stream_up_to};
+use fz_check::{Answer, CheckError, Completion, check_stream, check_stream_up_to};
 use std::alloc::Global;
 use std::io::{self, ErrorKind, Read, Stdout, Write};
 
@@ -85,7 +85,7 @@ fn answer(
     most: Option<usize>,
 ) -> Result<Answer, CheckError> {
     match most {
-        Some(most) => check_stream_up_to(alloc, model, &mut reader, &mut writer, most as u64),
+        Some(most) => check_stream_up_to(alloc, model, &mut reader, &mut writer, most as u64, Completion::Off),
         None => check_stream(alloc, model, &mut reader, &mut writer),
     }
 }

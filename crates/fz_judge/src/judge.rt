@@ -16,11 +16,13 @@ use crate::filling::filled;
 use crate::points::{objective, objective_fails, points_verdict};
 use crate::printed::printed_fails;
 use crate::start::Proposed;
-use crate::verdict::{Fault, Verdict};
+use crate::verdict::{Fault, Reason, Verdict};
 use fz_filling::Course;
-use fz_model::{Model, Overview};
+use fz_model::{Goal, Model, Overview, Partial, Term};
+use fz_search::{Search, propose};
 use fz_stream::Block;
 use fz_syntax::Printed;
+use fz_verdict::Completion;
 use std::alloc::{AllocError, Global};
 
 /// The verdict where the printed names and the points have this one, and the objective may fail.
@@ -45,38 +47,41 @@ fn with_objective<'a>(points: Verdict<'a>, objective: Option<Fault<'a>>) -> Verd
 fn disagreement<'a>(
     alloc: Global,
     model: &Model<'a>,
-    filling: &Proposed,
+    partial: &Partial,
+    agrees: bool,
     items: &[Printed<'_>],
 ) -> Result<Option<Fault<'a>>, AllocError>
     requires clean { items_fault model.now (located_items items.now) ≡ None }
-    requires agrees { IsTrue filling.now.agrees → first_some (printed_fails model.now filling.now.partial) (located_items items.now) ≡ None }
-    ensures { IfOk result (λ o. option_map fault_view o ≡ first_some (printed_fails model.now filling.now.partial) (located_items items.now)) }
+    requires agrees { IsTrue agrees → first_some (printed_fails model.now partial.now) (located_items items.now) ≡ None }
+    ensures { IfOk result (λ o. option_map fault_view o ≡ first_some (printed_fails model.now partial.now) (located_items items.now)) }
 {
-    if filling.agrees {
+    if agrees {
         return Ok(None);
     }
-    printed_fails(alloc, model, &filling.partial, items)
+    printed_fails(alloc, model, partial, items)
 }
 
-/// The verdict on a block under its filling: each point and the objective is looked at again, and each printed name unless all agreed.
+/// The verdict on a block under a partial assignment: each point and the objective is looked at
+/// again, and each printed name unless all are known to agree.
 fn verdict_under<'a>(
     alloc: Global,
     model: &Model<'a>,
     overview: &Overview,
-    filling: &Proposed,
+    partial: &Partial,
+    agrees: bool,
     block: &Block<'_>,
     before: Option<i64>,
 ) -> Result<Verdict<'a>, AllocError>
     requires overview { IsOverview model.now overview.now }
     requires clean { items_fault model.now (located_items block.now.items.items) ≡ None }
-    requires agrees { IsTrue filling.now.agrees → first_some (printed_fails model.now filling.now.partial) (located_items block.now.items.items) ≡ None }
-    ensures { IfOk result (λ v. verdict_view v ≡ verdict model.now filling.now.partial (located_block block.now) before) }
+    requires agrees { IsTrue agrees → first_some (printed_fails model.now partial.now) (located_items block.now.items.items) ≡ None }
+    ensures { IfOk result (λ v. verdict_view v ≡ verdict model.now partial.now (located_block block.now) before) }
 {
-    if let Some(fault) = disagreement(alloc, model, filling, &block.items)? {
+    if let Some(fault) = disagreement(alloc, model, partial, agrees, &block.items)? {
         return Ok(Verdict::Violated(fault));
     }
-    let points = points_verdict(alloc, model, overview, &filling.partial)?;
-    let now = objective(model, &filling.partial);
+    let points = points_verdict(alloc, model, overview, partial)?;
+    let now = objective(model, partial);
     Ok(with_objective(points, objective_fails(model.goal(), before, now)))
 }
 
@@ -95,35 +100,60 @@ fn overview_of(
     }
 }
 
-/// The verdict on a block under its filling. The overview of the model is made for the first block, and kept for the next.
+/// The verdict on a block under a partial assignment. The overview of the model is made for the
+/// first block, and kept for the next.
 fn verdict_over<'a>(
     alloc: Global,
     model: &Model<'a>,
     known: &mut Option<Overview>,
-    filling: &Proposed,
+    partial: &Partial,
+    agrees: bool,
     block: &Block<'_>,
     before: Option<i64>,
 ) -> Result<Verdict<'a>, AllocError>
     requires overview { IfSome known.old (IsOverview model.now) }
     requires clean { items_fault model.now (located_items block.now.items.items) ≡ None }
-    requires agrees { IsTrue filling.now.agrees → first_some (printed_fails model.now filling.now.partial) (located_items block.now.items.items) ≡ None }
-    ensures judged { IfOk result (λ v. verdict_view v ≡ verdict model.now filling.now.partial (located_block block.now) before) }
+    requires agrees { IsTrue agrees → first_some (printed_fails model.now partial.now) (located_items block.now.items.items) ≡ None }
+    ensures judged { IfOk result (λ v. verdict_view v ≡ verdict model.now partial.now (located_block block.now) before) }
     ensures overview { IfSome known.new (IsOverview model.now) }
 {
     let overview = overview_of(alloc, model, known.take())?;
-    let found = verdict_under(alloc, model, &overview, filling, block, before)?;
+    let found = verdict_under(alloc, model, &overview, partial, agrees, block, before)?;
     *known = Some(overview);
     Ok(found)
 }
 
-/// A model with the objective of the block that was judged last, what its fillings so far have shown of the next, what is looked at of
-/// its declarations for each block, and the last filling.
+/// The number of the variable that is minimized or maximized.
+fn objective_variable(goal: &Goal) -> Option<usize>
+{
+    match goal {
+        Goal::Minimize(Term::Var(number)) | Goal::Maximize(Term::Var(number)) => Some(*number),
+        Goal::Minimize(Term::Fixed(_)) | Goal::Maximize(Term::Fixed(_)) | Goal::Satisfy => None,
+    }
+}
+
+/// The name of the variable that is minimized or maximized; none is needed where there is none.
+fn objective_name<'a>(model: &Model<'a>) -> &'a [u8]
+{
+    match objective_variable(model.goal()) {
+        Some(number) => model.variables().get(number).map_or(&[], |variable| variable.name),
+        None => &[],
+    }
+}
+
+/// A model with the objectives of the block that was judged last, what its fillings so far have
+/// shown of the next, what is looked at of its declarations for each block, and the last filling.
 #[derive(Drop)]
 pub struct Judge<'m, 'a> {
     model: &'m Model<'a>,
+    completion: Completion,
+    /// the objective of the block before under its filling
     before: Option<i64>,
+    /// and under the values that were found for it
+    found: Option<i64>,
     course: Option<Course>,
     overview: Option<Overview>,
+    search: Option<Search>,
     /// the filling of the block before, whose room the next one takes, and where it finds its names
     spare: Option<Proposed>,
 }
@@ -149,15 +179,67 @@ impl<'m, 'a> std::marker::Model for Judge<'m, 'a> {
 
 impl<'m, 'a> Judge<'m, 'a> {
     /// A judge of a model's blocks, before the first one.
-    pub fn new(model: &'m Model<'a>) -> Judge<'m, 'a>
-        ensures { result ≡ record { model = model.now; before = None } }
+    pub fn new(model: &'m Model<'a>, completion: Completion) -> Judge<'m, 'a>
+        ensures { result ≡ record { model = model.now; completion = completion; before = None; found = None } }
     {
         Judge {
             model,
+            completion,
             before: None,
+            found: None,
             course: None,
             overview: None,
+            search: None,
             spare: None,
+        }
+    }
+
+    /// The verdict on a block that has this one under its filling, and its objective, where values
+    /// that the solver left out are looked for. What was found is judged anew, and only where it
+    /// satisfies the block it is told.
+    fn completed(
+        &mut self,
+        alloc: Global,
+        filling: &Partial,
+        block: &Block<'_>,
+        verdict: Verdict<'a>,
+    ) -> Result<(Verdict<'a>, Option<i64>), AllocError> {
+        let filled = objective(self.model, filling);
+        match verdict {
+            Verdict::Satisfied => {
+                match objective_fails(self.model.goal(), self.found, filled) {
+                    None => Ok((verdict, filled)),
+                    Some(_) => {
+                        let name = objective_name(self.model);
+                        Ok((Verdict::Undecided(Reason::NoValue(name)), filled))
+                    }
+                }
+            }
+            Verdict::Undecided(Reason::NoValue(_)) => {
+                match self.satisfying(alloc, filling, block)? {
+                    Some(found) => Ok((Verdict::Satisfied, objective(self.model, &found))),
+                    None => Ok((verdict, filled)),
+                }
+            }
+            verdict => Ok((verdict, filled)),
+        }
+    }
+
+    /// Values that satisfy a block and are better than what was found for the block before, where
+    /// the search proposes such.
+    fn satisfying(
+        &mut self,
+        alloc: Global,
+        filling: &Partial,
+        block: &Block<'_>,
+    ) -> Result<Option<Partial>, AllocError> {
+        let Some(found) = propose(alloc, self.model, filling, self.found, &mut self.search)? else {
+            return Ok(None);
+        };
+        let overview = &mut self.overview;
+        match verdict_over(alloc, self.model, overview, &found, false, block, self.found)? {
+            Verdict::Satisfied => Ok(Some(found)),
+            Verdict::Violated(_) | Verdict::Undecided(_) => Ok(None),
         }
     }
 
@@ -183,11 +265,18 @@ impl<'m, 'a> Judge<'m, 'a> {
             alloc,
             self.model,
             &mut self.overview,
-            &filling,
+            &filling.partial,
+            filling.agrees,
             block,
             self.before,
         )?;
-        self.before = objective(self.model, &filling.partial);
+        let before = objective(self.model, &filling.partial);
+        let (verdict, found) = match self.completion {
+            Completion::Off => (verdict, before),
+            Completion::On => self.completed(alloc, &filling.partial, block, verdict)?,
+        };
+        self.before = before;
+        self.found = found;
         self.spare = Some(filling);
         Ok(verdict)
     }

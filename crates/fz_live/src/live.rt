@@ -16,6 +16,7 @@ use crate::tally::Tally;
 use crate::telling::{tell_answer, tell_next};
 use crate::writing::{WriteFailed, write_whole};
 use fz_judge::Judge;
+use fz_judge::fz_verdict::Completion;
 use fz_judge::fz_model::Model;
 use std::alloc::Global;
 use std::io::{Read, Write};
@@ -33,6 +34,7 @@ pub fn check_parts<R: Read, W: Write>(
     reader: &mut R,
     writer: &mut W,
     reads: u64,
+    completion: Completion,
 ) -> Result<Answer, LiveError>
     // It reads at most so often, and before there is an answer one read finds the end.
     ensures reads { SpendsReads reads 0 (R.remaining reader.old) (R.remaining reader.new) }
@@ -47,7 +49,7 @@ pub fn check_parts<R: Read, W: Write>(
     // After any error a front of the lines for the bytes that were read was written, and nothing else.
     ensures front { OnErr result (WritesFrontOfLines model.now (R.remaining reader.old) (R.remaining reader.new) (W.contents writer.old) (W.contents writer.new)) }
 {
-    let mut judge = Judge::new(model);
+    let mut judge = Judge::new(model, completion);
     let mut tally = Tally::new();
     let mut line = Vec::new(alloc);
     let mut parts = PartReader::new(alloc, reads);

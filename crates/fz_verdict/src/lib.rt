@@ -16,6 +16,10 @@ ghost use Rattle.fz_verdict.specs.Laws.{
   ViolatedHaveNone,
 };
 
+mod completion;
+
+pub use completion::Completion;
+
 /// A satisfied block has a solution, the partial assignment that it was judged by.
 pub fn satisfied_is_solved()
     ensures { SatisfiedIsSolved }

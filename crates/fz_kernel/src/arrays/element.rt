@@ -15,14 +15,14 @@ fn place_of(index: i128, count: usize) -> Option<usize>
     ensures in_range { IfSome result (λ place. place < count) }
     ensures none { IfNone result ((place : ℕ) → index ≡ pos (place + 1) → count ≤ place) }
 {
-    if index < 1 || count as i128 < index {
+    if index < 1 || (count as i128) < index {
         return None;
     }
     Some((index - 1) as usize)
 }
 
 /// The element at an index counted from 1; none where that is no index.
-pub fn int_element(index: i128, elements: &Elements) -> Option<i64>
+pub fn int_element_at(index: i128, elements: &Elements) -> Option<i64>
     ensures exact { result ≡ element_at (ints elements.now) index }
 {
     match place_of(index, elements.len()) {
@@ -31,21 +31,28 @@ pub fn int_element(index: i128, elements: &Elements) -> Option<i64>
     }
 }
 
+/// The same of a short index.
+pub fn int_element(index: i64, elements: &Elements) -> Option<i64>
+    ensures exact { result ≡ element_at (ints elements.now) index }
+{
+    int_element_at(i128::from(index), elements)
+}
+
 /// The element at an index counted from 1; none where that is no index.
-pub fn bool_element(index: i128, elements: &Elements) -> Option<bool>
+pub fn bool_element(index: i64, elements: &Elements) -> Option<bool>
     ensures exact { result ≡ element_at (bools elements.now) index }
 {
-    match place_of(index, elements.len()) {
+    match place_of(i128::from(index), elements.len()) {
         Some(place) => Some(elements.truth(place)),
         None => None,
     }
 }
 
 /// The element at an index counted from 1; none where that is no index.
-pub fn set_element<'s>(index: i128, elements: &Elements<'s>) -> Option<&'s IntSet>
+pub fn set_element<'s>(index: i64, elements: &Elements<'s>) -> Option<&'s IntSet>
     ensures exact { option_map (λ s. s.now) result ≡ element_at (sets elements.now) index }
 {
-    match place_of(index, elements.len()) {
+    match place_of(i128::from(index), elements.len()) {
         Some(place) => Some(elements.set(place)),
         None => None,
     }
@@ -55,7 +62,7 @@ pub fn set_element<'s>(index: i128, elements: &Elements<'s>) -> Option<&'s IntSe
 pub fn is_int_element(index: i64, elements: &Elements, c: i64) -> bool
     ensures exact { result ≡ is_element ◌=ℤ◌ index (ints elements.now) c }
 {
-    match int_element(i128::from(index), elements) {
+    match int_element(index, elements) {
         Some(element) => element == c,
         None => false,
     }
@@ -65,7 +72,7 @@ pub fn is_int_element(index: i64, elements: &Elements, c: i64) -> bool
 pub fn is_bool_element(index: i64, elements: &Elements, c: bool) -> bool
     ensures exact { result ≡ is_element ◌=ᴮ◌ index (bools elements.now) c }
 {
-    match bool_element(i128::from(index), elements) {
+    match bool_element(index, elements) {
         Some(element) => element == c,
         None => false,
     }
@@ -75,7 +82,7 @@ pub fn is_bool_element(index: i64, elements: &Elements, c: bool) -> bool
 pub fn is_set_element(index: i64, elements: &Elements, c: &IntSet) -> bool
     ensures exact { result ≡ is_element ◌=ˢ◌ index (sets elements.now) c.now }
 {
-    match set_element(i128::from(index), elements) {
+    match set_element(index, elements) {
         Some(element) => same_set(element, c),
         None => false,
     }

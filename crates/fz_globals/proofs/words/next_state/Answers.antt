@@ -24,5 +24,5 @@ returns c =
     let fits_less : FitsSigned w64 (q -ℤ pos 1) = one_less states q fits_q in_states in
     let fits_index : FitsSigned w128 index = search rules in
     let is : index ≡ (((q -ℤ pos 1) *ℤ symbols) +ℤ x) = simp to_z-of_z at c.product_and_more.ensures.exact in
-    let there : c.int_element.result ≡ element_at d index = simp to_z-of_z at c.int_element.ensures.exact in
+    let there : c.int_element_at.result ≡ element_at d index = simp to_z-of_z at c.int_element_at.ensures.exact in
     record { exact = there ∙ ap (element_at d) is ∙ sym (leads states symbols d q x in_states in_symbols) }

@@ -1,5 +1,4 @@
-use Rattle.std.proofs.Common.{◌≡◌, Some, sym, ◌∙◌}
-use Rattle.std.specs.Int.{w128}
+use Rattle.std.proofs.Common.{◌≡◌, Some, w64, sym, ◌∙◌}
 use Rattle.std.proofs.lemmas.Int.{to_z-of_z}
 use Rattle.fz_meaning.specs.Builtins.{element_at}
 use Rattle.fz_scene.specs.Views.{bools}
@@ -11,7 +10,7 @@ pub returns-in-Some : goal.returns-in-Some
 returns-in-Some c =
     let xs = bools c.args.elements.now in
     let found : element_at xs c.args.index ≡ Some c.truth.result =
-    element_found xs c.args.index c.in-Some.place _ (sym (to_z-of_z w128 c.args.index c.ranges.index) ∙ c.in-Some.ensures.place) c.truth.ensures.read in
+    element_found xs c.args.index c.in-Some.place _ (sym (to_z-of_z w64 c.args.index c.ranges.index) ∙ c.in-Some.ensures.place) c.truth.ensures.read in
     record { exact = sym found }
 
 pub returns-in-None : goal.returns-in-None
@@ -19,5 +18,5 @@ returns-in-None c =
     let xs = bools c.args.elements.now in
     record {
       exact = sym (none_found xs c.args.index c.len.result (bools_counted c.args.elements.now c.len.result c.len.ensures.counted)
-          (λ k is. c.in-None.ensures.none k (to_z-of_z w128 c.args.index c.ranges.index ∙ is)));
+          (λ k is. c.in-None.ensures.none k (to_z-of_z w64 c.args.index c.ranges.index ∙ is)));
     }

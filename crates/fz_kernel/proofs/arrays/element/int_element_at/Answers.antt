@@ -5,7 +5,7 @@ use Rattle.fz_meaning.specs.Builtins.{element_at}
 use Rattle.fz_scene.specs.Views.{ints}
 use Rattle.fz_kernel.proofs.Read.{ints_counted}
 use Rattle.fz_kernel.proofs.Passed.{element_found, none_found}
-use Rattle.fz_kernel.proofs.arrays.element.int_element.Goals as goal
+use Rattle.fz_kernel.proofs.arrays.element.int_element_at.Goals as goal
 
 pub returns-in-Some : goal.returns-in-Some
 returns-in-Some c =
