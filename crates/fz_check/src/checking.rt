@@ -12,7 +12,7 @@ ghost use Rattle.fz_model.specs.Texts.{IsLoadedFrom};
 ghost use Rattle.fz_model.specs.View.{TellsFirstFault, located};
 ghost use Rattle.fz_stream.specs.declared.error.StreamError.{StreamError as StreamFault};
 ghost use Rattle.fz_stream.specs.Found.{AreInOrder, EndsWithin, HasPlaces, IsReadAs, block_of};
-ghost use Rattle.fz_verdict.specs.Verdict.{AreVerdicts};
+ghost use Rattle.fz_verdict.specs.Completed.{AreVerdicts};
 ghost use Rattle.fz_verdict.specs.View.{located_block};
 ghost use Rattle.fz_live.specs.of_judge.declared.error.BlockError.{BlockError as BlockFault};
 ghost use Rattle.fz_live.specs.of_judge.View.{verdict_view};
@@ -147,7 +147,7 @@ fn judge_blocks<'a>(
 ) -> Result<Vec<Verdict<'a>>, CheckError>
     requires places { AllByRecursion HasPlaces blocks.now }
     requires within { AllByRecursion (EndsWithin usize.MAX) blocks.now }
-    ensures judged { IfOk result (λ v. AreVerdicts model.now (map located_block blocks.now) (map verdict_view v.items)) }
+    ensures judged { IfOk result (λ v. AreVerdicts Completion.Off model.now (map located_block blocks.now) (map verdict_view v.items)) }
     ensures block { (n : ℕ) (e : BlockFault) → result ≡ Err (CheckError.Block n e) → IsFirstFault model.now blocks.now n e }
     ensures kinds { IfErr result IsJudgingRefusal }
 {
@@ -175,7 +175,7 @@ pub fn check<'a>(alloc: Global, model: &'a [u8], stream: &[u8]) -> Result<Report
     ensures accepted { IfOk result (λ r. (count : ℕ) → r.answer ≡ Answer.Accepted count → HasSolutions model.now stream.now count) }
     // The report is the one as defined, with one verdict for each block, the stream's claims and the answer that follows. What it
     // tells satisfied has a solution. A no is a no: what it tells violated has none.
-    ensures report { IfOk result (λ r. HasReport model.now stream.now (report_view r)) }
+    ensures report { IfOk result (λ r. HasReport Completion.Off model.now stream.now (report_view r)) }
     ensures in_order { IfOk result (λ r. AreInOrder 0 (vec_len r.verdicts) r.claims.items) }
     ensures short { IfOk result (λ _. length stream.now ≤ most_bytes) }
     // The model is refused only where its bytes are a text of no tree, or with the leftmost fault of its names.

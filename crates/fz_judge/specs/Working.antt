@@ -17,6 +17,7 @@ use Rattle.fz_syntax.specs.Places.{IsSpanWithin}
 use Rattle.fz_verdict.specs.Blocks.{Printed, PrintedValue, printed_values, moved}
 use Rattle.fz_verdict.specs.Blocks.PrintedValue.{OneValue, ArrayOf}
 use Rattle.fz_verdict.specs.Filling.{pairs, pairs_at}
+use Rattle.fz_verdict.specs.Completed.{name_of_aim}
 use Rattle.fz_verdict.specs.Verdict.{Fault, Reason, Verdict, not_known_at, too_large_at, verdict_by}
 use Rattle.fz_verdict.specs.Verdict.Verdict.{Satisfied, Violated, Undecided}
 use Rattle.fz_verdict.specs.Verdict.Reason.{NoValueFor}
@@ -104,6 +105,11 @@ abbrev pub with_objective : Verdict → Option Fault → Verdict
 with_objective (Violated f) o = Violated f
 with_objective (Undecided r) o = verdict_by o (Some r)
 with_objective Satisfied o = verdict_by o None
+
+-- what is told of a block that is satisfied, where its objective may not be better than one that was looked for
+abbrev pub compared : Model → Option Fault → Verdict
+compared m None = Satisfied
+compared m (Some f) = Undecided (NoValueFor (name_of_aim m m.aim))
 
 -- ---- refusals
 

@@ -1,15 +1,17 @@
 //! A judge: blocks, one after another, against a model.
 
 ghost use Rattle.std.specs.Prelude.{◌≡◌, IfErr, IfOk, IfSome, IsTrue, None, option_map};
-ghost use Rattle.fz_model.specs.Meaning.{first_some};
+ghost use Rattle.fz_model.specs.Meaning.{IsPartial, first_some};
 ghost use Rattle.fz_model.specs.Overviews.{IsOverview};
 ghost use Rattle.fz_stream.specs.Found.{EndsWithin, HasPlaces};
 ghost use Rattle.fz_verdict.specs.Blocks.{block_fault, items_fault};
-ghost use Rattle.fz_verdict.specs.Verdict.{printed_fails, verdict, verdict_by};
+ghost use Rattle.fz_verdict.specs.Completed.{IsCompleted, name_of_aim, name_of_term};
+ghost use Rattle.fz_verdict.specs.Verdict.{objective_fails, printed_fails, verdict, verdict_by};
+ghost use Rattle.fz_verdict.specs.Verdict.Verdict.{Satisfied};
 ghost use Rattle.fz_verdict.specs.View.{located_block, located_items};
 ghost use Rattle.fz_judge.specs.Judged.{IsBlockRefusal, IsJudged, TellsKind};
 ghost use Rattle.fz_judge.specs.View.{fault_view, verdict_view};
-ghost use Rattle.fz_judge.specs.Working.{with_objective};
+ghost use Rattle.fz_judge.specs.Working.{compared, with_objective};
 
 use crate::error::BlockError;
 use crate::filling::filled;
@@ -123,21 +125,39 @@ fn verdict_over<'a>(
     Ok(found)
 }
 
-/// The number of the variable that is minimized or maximized.
-fn objective_variable(goal: &Goal) -> Option<usize>
+
+/// The name of the variable that a scalar is; none is needed where it is no variable.
+fn name_of_term<'a>(model: &Model<'a>, term: &Term) -> &'a [u8]
+    ensures { result.now ≡ name_of_term model.now term.now }
 {
-    match goal {
-        Goal::Minimize(Term::Var(number)) | Goal::Maximize(Term::Var(number)) => Some(*number),
-        Goal::Minimize(Term::Fixed(_)) | Goal::Maximize(Term::Fixed(_)) | Goal::Satisfy => None,
+    match term {
+        Term::Var(number) => match model.variables().get(*number) {
+            Some(variable) => variable.name,
+            None => &[],
+        },
+        Term::Fixed(_) => &[],
     }
 }
 
-/// The name of the variable that is minimized or maximized; none is needed where there is none.
+/// The name of the variable that is minimized or maximized.
 fn objective_name<'a>(model: &Model<'a>) -> &'a [u8]
+    ensures { result.now ≡ name_of_aim model.now model.now.aim }
 {
-    match objective_variable(model.goal()) {
-        Some(number) => model.variables().get(number).map_or(&[], |variable| variable.name),
-        None => &[],
+    match model.goal() {
+        Goal::Satisfy => &[],
+        Goal::Minimize(term) => name_of_term(model, term),
+        Goal::Maximize(term) => name_of_term(model, term),
+    }
+}
+
+/// What is told of a block that is satisfied under its filling with the objective `now`, where
+/// the one kept before was looked for.
+fn compared<'a>(model: &Model<'a>, before: Option<i64>, now: Option<i64>) -> Verdict<'a>
+    ensures { verdict_view result ≡ compared model.now (objective_fails model.now.aim before now) }
+{
+    match objective_fails(model.goal(), before, now) {
+        None => Verdict::Satisfied,
+        Some(_) => Verdict::Undecided(Reason::NoValue(objective_name(model))),
     }
 }
 
@@ -172,7 +192,7 @@ impl<'m, 'a> std::marker::Model for Judge<'m, 'a> {
     ghost use Rattle.fz_model.specs.Overviews.{IsOverview};
     ghost use Rattle.fz_judge.specs.Working.{HasRoom};
 
-    ghost view = { λ j. record { model = j.model.now; before = j.before } };
+    ghost view = { λ j. record { model = j.model.now; completion = j.completion; before = j.before; found = j.found } };
 
     ghost invariant = { λ j. IfSome j.course (IsCourse j.model.now) × IfSome j.overview (IsOverview j.model.now) × IfSome j.spare (λ s. HasRoom j.model.now s.partial) };
 }
@@ -203,25 +223,23 @@ impl<'m, 'a> Judge<'m, 'a> {
         filling: &Partial,
         block: &Block<'_>,
         verdict: Verdict<'a>,
-    ) -> Result<(Verdict<'a>, Option<i64>), AllocError> {
+    ) -> Result<(Verdict<'a>, Option<i64>), AllocError>
+        requires clean { items_fault self.old.model (located_items block.now.items.items) ≡ None }
+        requires kinds { IsPartial self.old.model filling.now }
+        requires filled { verdict_view verdict ≡ verdict self.old.model filling.now (located_block block.now) self.old.before }
+        ensures told { IfOk result (λ r. IsCompleted self.old.model (located_block block.now) self.old.found filling.now (verdict_view verdict) (verdict_view r.0) r.1) }
+        ensures same { self.new ≡ self.old }
+    {
         let filled = objective(self.model, filling);
         match verdict {
-            Verdict::Satisfied => {
-                match objective_fails(self.model.goal(), self.found, filled) {
-                    None => Ok((verdict, filled)),
-                    Some(_) => {
-                        let name = objective_name(self.model);
-                        Ok((Verdict::Undecided(Reason::NoValue(name)), filled))
-                    }
-                }
-            }
+            Verdict::Satisfied => Ok((compared(self.model, self.found, filled), filled)),
             Verdict::Undecided(Reason::NoValue(_)) => {
                 match self.satisfying(alloc, filling, block)? {
                     Some(found) => Ok((Verdict::Satisfied, objective(self.model, &found))),
                     None => Ok((verdict, filled)),
                 }
             }
-            verdict => Ok((verdict, filled)),
+            Verdict::Undecided(_) | Verdict::Violated(_) => Ok((verdict, filled)),
         }
     }
 
@@ -232,7 +250,13 @@ impl<'m, 'a> Judge<'m, 'a> {
         alloc: Global,
         filling: &Partial,
         block: &Block<'_>,
-    ) -> Result<Option<Partial>, AllocError> {
+    ) -> Result<Option<Partial>, AllocError>
+        requires clean { items_fault self.old.model (located_items block.now.items.items) ≡ None }
+        requires kinds { IsPartial self.old.model filling.now }
+        ensures kinds { IfOk result (λ o. IfSome o (IsPartial self.old.model)) }
+        ensures satisfied { IfOk result (λ o. IfSome o (λ K. verdict self.old.model K (located_block block.now) self.old.found ≡ Satisfied)) }
+        ensures same { self.new ≡ self.old }
+    {
         let Some(found) = propose(alloc, self.model, filling, self.found, &mut self.search)? else {
             return Ok(None);
         };
@@ -243,16 +267,19 @@ impl<'m, 'a> Judge<'m, 'a> {
         }
     }
 
-    /// The verdict on the next block, under its filling: the first that fails of the printed names in block order, then the points, then
-    /// the objective, which is to be better than that of the block before; else the first point that is undecided. After an error the
-    /// judge is unchanged.
+    /// The verdict on the next block, under its filling: the first that fails of the printed names
+    /// in block order, then the points, then the objective, which is to be better than that of the
+    /// block before; else the first point that is undecided. Where values are looked for and only
+    /// a value is missing, a block that is satisfied under values that were found is told so. After
+    /// an error the judge is unchanged.
     ///
     /// # Errors
     ///
     /// The fault of the first printed item that has one, at its place in the stream, and want of memory.
     pub fn judge(&mut self, alloc: Global, block: &Block<'_>) -> Result<Verdict<'a>, BlockError>
-        ensures judged { IfOk result (λ v. IsJudged self.old.model (located_block block.now) self.old.before (verdict_view v) self.new.before) }
+        ensures judged { IfOk result (λ v. IsJudged self.old self.new (located_block block.now) (verdict_view v)) }
         ensures same_model { self.new.model ≡ self.old.model }
+        ensures same_completion { self.new.completion ≡ self.old.completion }
         ensures unchanged { IfErr result (λ _. self.new ≡ self.old) }
         // Of any block: it has a fault, and its first is of the kind that is told.
         ensures only { IfErr result (λ e. TellsKind e (block_fault self.old.model (located_block block.now))) }
