@@ -24,7 +24,7 @@ expect() {
   fi
 }
 
-usage='usage: fzcheck show MODEL | check MODEL [STREAM]'
+usage='usage: fzcheck show MODEL | check [--complete] MODEL [STREAM]'
 accepted=$'block 1: satisfied\naccepted: blocks 1'
 printf 'x = 1;\n----------\n' >"$folder/wrong.out"
 printf 'x = 3;\n' >"$folder/open.out"
