@@ -67,11 +67,12 @@ impl Narrow {
 impl Run<'_> {
     fn answer(mut self, alloc: Global, writer: &mut Narrow) -> Result<Answer, CheckError> {
         let model = self.model;
-        if self.reads.is_none() && self.completion == Completion::Off {
+        let completion = self.completion;
+        if self.reads.is_none() && completion == Completion::Off {
             return check_stream(alloc, model, &mut self, writer);
         }
         let reads = self.reads.unwrap_or(MOST_READS);
-        check_stream_up_to(alloc, model, &mut self, writer, reads, self.completion)
+        check_stream_up_to(alloc, model, &mut self, writer, reads, completion)
     }
 
     /// What is written, and then the line of the refusal.

@@ -62,7 +62,7 @@ var 0..9: x; var 0..9: y; constraint int_mod(x,3,y); constraint no_such(x); solv
 > x = 7; / ----------
 = block 1: undecided: no value for y / undecided: block 1
 
-var 0..9: x; var 0..9: y; constraint no_such(x); constraint int_mod(x,3,y); solve satisfy;
+var 0..9: x; constraint no_such(x); solve satisfy;
 > x = 7; / ----------
 = block 1: undecided: constraint 1 no_such not known / undecided: block 1
 ";
@@ -86,7 +86,7 @@ var 0..9: x; var 0..9: z; constraint int_lin_eq([1,-1],[z,x],0); solve minimize 
 > x = 5; / ---------- / x = 6; / z = 6; / ----------
 = block 1: satisfied / block 2: undecided: no value for z / undecided: block 2
 > x = 5; / ---------- / x = 4; / z = 4; / ---------- / x = 4; / z = 4; / ----------
-= block 1: satisfied / block 2: satisfied / \
+= block 1: satisfied / block 2: satisfied
 = block 3: violated: objective 4 not better than 4 / rejected: block 3
 
 var 0..9: x; var 0..9: z; solve maximize z;

@@ -1,6 +1,6 @@
 -- Where values are looked for, and where they aren't: what is told of the blocks is judged under some values, and what is told violated is
 -- violated under the filling.
-use Rattle.std.proofs.Common.{◌≡◌, ℕ, suc, zero, ℤ, List, [], ◌∷◌, length, Option, Some, None, refl, sym, ap, subst, ◌∙◌, slice_get, ⊤}
+use Rattle.std.proofs.Common.{◌≡◌, ℕ, suc, zero, ℤ, List, [], ◌∷◌, length, Option, Some, None, refl, sym, ap, subst, ◌∙◌, slice_get}
 use Rattle.std.specs.List.{AllByRecursion}
 use Rattle.fz_model.specs.Located.{LocatedTree}
 use Rattle.fz_model.specs.Meaning.{Model, Partial, Assignment, objective, IsPartial, IsSolution}
@@ -10,11 +10,11 @@ use Rattle.fz_verdict.specs.declared.completion.Completion.TheVariants.{Off, On}
 use Rattle.fz_verdict.specs.Blocks.{Block, Extends}
 use Rattle.fz_verdict.specs.Completed.{AreTold, AreVerdicts, IsCompleted, IsToldBy, LacksValuesAtMost}
 use Rattle.fz_verdict.specs.Completed.IsCompleted.{Found, AsFilled, NotShownBetter}
-use Rattle.fz_verdict.specs.Completed.AreTold as told
+use Rattle.fz_verdict.specs.Completed.AreTold.{NoneLeft as NoneTold, OneMore as OneTold}
 use Rattle.fz_verdict.specs.Verdict.{Verdict, Fault, verdict, AreJudged, IsFilled, answer_of}
 use Rattle.fz_verdict.specs.Verdict.Answer.{Accepted}
 use Rattle.fz_verdict.specs.Verdict.AreJudged.{NoneLeft, OneMore}
-use Rattle.fz_verdict.specs.Verdict.Verdict.{Satisfied, Violated, Undecided}
+use Rattle.fz_verdict.specs.Verdict.Verdict.{Satisfied, Violated}
 use Rattle.fz_verdict.proofs.Accepted.{Satisfies, all_satisfied, satisfied_solves}
 use Rattle.fz_verdict.proofs.Start.{filling_proposed}
 
@@ -53,14 +53,14 @@ satisfied_under On m block F filled found kept w v partial under (NotShownBetter
 -- ---- all blocks
 
 pub told_lengths : (c : Completion) (m : Model) {filled found : Option ℤ} {blocks : List Block} {vs : List Verdict} → AreTold c m filled found blocks vs → length blocks ≡ length vs
-told_lengths c m told.NoneLeft = refl
-told_lengths c m (told.OneMore F is_filled is rest) = ap suc (told_lengths c m rest)
+told_lengths c m NoneTold = refl
+told_lengths c m (OneTold F is_filled is rest) = ap suc (told_lengths c m rest)
 
 -- where all are told satisfied, they are judged so under some values
 pub told_judged : (c : Completion) (t : LocatedTree) → HasNoFault t → {filled found : Option ℤ} {blocks : List Block} {vs : List Verdict} → AreTold c (model_of t) filled found blocks vs → AllByRecursion (λ v. v ≡ Satisfied) vs
     → AreJudged (model_of t) (λ b K. IsPartial (model_of t) K) (compared c filled found) blocks vs
-told_judged c t sound told.NoneLeft h = NoneLeft
-told_judged c t sound (told.OneMore {filled = filled} {found = found} {kept = kept} {block = block} {blocks = blocks} {v = v} {vs = vs} F is_filled is rest) h =
+told_judged c t sound NoneTold h = NoneLeft
+told_judged c t sound (OneTold {filled = filled} {found = found} {kept = kept} {block = block} {blocks = blocks} {v = v} {vs = vs} F is_filled is rest) h =
     let m = model_of t in
     let P : Block → Partial → Type 0 = λ b K. IsPartial (model_of t) K in
     let s : SatisfiedUnder c m block F filled found kept = satisfied_under c m block F filled found kept _ v (filling_proposed t block F sound is_filled).partial refl is h.0 in
@@ -70,15 +70,15 @@ told_judged c t sound (told.OneMore {filled = filled} {found = found} {kept = ke
 -- one that is told satisfied has a solution
 pub told_solved : (c : Completion) (t : LocatedTree) → HasNoFault t → {filled found : Option ℤ} {blocks : List Block} {vs : List Verdict} → AreTold c (model_of t) filled found blocks vs
     → (i : ℕ) (block : Block) → slice_get blocks i ≡ Some block → slice_get vs i ≡ Some Satisfied → (A : Assignment) × Extends (model_of t) A block × IsSolution (model_of t) A
-told_solved c t sound told.NoneLeft i block at is = cc
-told_solved c t sound (told.OneMore {filled = filled} {found = found} {kept = kept} {block = b} {v = v} F is_filled is_told rest) zero block at is =
+told_solved c t sound NoneTold i block at is = cc
+told_solved c t sound (OneTold {filled = filled} {found = found} {kept = kept} {block = b} {v = v} F is_filled is_told rest) zero block at is =
     let m = model_of t in
     let same : b ≡ block = cc in
     let here : v ≡ Satisfied = cc in
     let u : SatisfiedUnder c m b F filled found kept = satisfied_under c m b F filled found kept _ v (filling_proposed t b F sound is_filled).partial refl is_told here in
     let s : Satisfies m u.values b (compared c filled found) = satisfied_solves m u.values b (compared c filled found) u.partial u.satisfied in
     (s.assignment, subst (Extends m s.assignment) same s.extends, s.solution)
-told_solved c t sound (told.OneMore F is_filled is_told rest) (suc i) block at is = told_solved c t sound rest i block at is
+told_solved c t sound (OneTold F is_filled is_told rest) (suc i) block at is = told_solved c t sound rest i block at is
 
 -- the verdicts under the fillings beside those that are told
 pub record FilledVerdicts (c : Completion) (m : Model) (filled : Option ℤ) (blocks : List Block) (vs : List Verdict) : Type 0 where
@@ -87,21 +87,21 @@ pub record FilledVerdicts (c : Completion) (m : Model) (filled : Option ℤ) (bl
   pub one_each : length verdicts ≡ length vs
   pub violated : (i : ℕ) (f : Fault) → slice_get vs i ≡ Some (Violated f) → slice_get verdicts i ≡ Some (Violated f)
 
+violated_at : (c : Completion) (m : Model) (block : Block) (before : Option ℤ) (F : Partial) (w v : Verdict) (kept : Option ℤ) (vs ws : List Verdict) → IsToldBy c m block before F w v kept
+    → ((i : ℕ) (f : Fault) → slice_get vs i ≡ Some (Violated f) → slice_get ws i ≡ Some (Violated f)) → (i : ℕ) (f : Fault) → slice_get (v ∷ vs) i ≡ Some (Violated f) → slice_get (w ∷ ws) i ≡ Some (Violated f)
+violated_at c m block before F w v kept vs ws is_told others zero f is = ap Some (violated_told c m block before F w v kept f is_told cc)
+violated_at c m block before F w v kept vs ws is_told others (suc i) f is = others i f is
+
 pub filled_verdicts : (c : Completion) (m : Model) {filled found : Option ℤ} {blocks : List Block} {vs : List Verdict} → AreTold c m filled found blocks vs → FilledVerdicts c m filled blocks vs
-filled_verdicts c m told.NoneLeft = record { verdicts = []; judged = NoneLeft; one_each = refl; violated = λ i f is. is }
-filled_verdicts c m (told.OneMore {filled = filled} {found = found} {kept = kept} {block = block} {v = v} {vs = vs} F is_filled is_told rest) =
-    let w : FilledVerdicts c m (objective m F) _ vs = filled_verdicts c m rest in
+filled_verdicts c m NoneTold = record { verdicts = []; judged = NoneLeft; one_each = refl; violated = λ i f is. is }
+filled_verdicts c m (OneTold {filled = filled} {found = found} {kept = kept} {block = block} {blocks = blocks} {v = v} {vs = vs} F is_filled is_told rest) =
+    let w : FilledVerdicts c m (objective m F) blocks vs = filled_verdicts c m rest in
     record {
       verdicts = verdict m F block filled ∷ w.verdicts;
       judged = OneMore F is_filled w.judged;
       one_each = ap suc w.one_each;
-      violated = λ i f is. both i f is w;
+      violated = violated_at c m block found F (verdict m F block filled) v kept vs w.verdicts is_told w.violated;
     }
-  where
-    both : (i : ℕ) (f : Fault) → slice_get (v ∷ vs) i ≡ Some (Violated f) → (w : FilledVerdicts c m (objective m F) _ vs) → slice_get (verdict m F block filled ∷ w.verdicts) i ≡ Some (Violated f)
-    both zero f is w = ap Some (violated_told c m block found F (verdict m F block filled) v kept f is_told cc)
-    both (suc i) f is w = w.violated i f is
-
 
 -- where a report accepts, its blocks are judged under some values
 pub accepted_judged : (c : Completion) (t : LocatedTree) → HasNoFault t → (blocks : List Block) (vs : List Verdict) (n : ℕ) → AreVerdicts c (model_of t) blocks vs → answer_of vs ≡ Accepted n
@@ -112,17 +112,22 @@ accepted_judged On t sound blocks vs n told answer = told_judged On t sound told
 -- ---- a report for which values are looked for, beside the one for which they aren't
 
 filled_told : (m : Model) {filled : Option ℤ} {blocks : List Block} {ws : List Verdict} → (found : Option ℤ) → AreJudged m (IsFilled m) filled blocks ws → AreTold Off m filled found blocks ws
-filled_told m found NoneLeft = told.NoneLeft
-filled_told m found (OneMore F is_filled rest) = told.OneMore F is_filled refl (filled_told m found rest)
+filled_told m found NoneLeft = NoneTold
+filled_told m found (OneMore F is_filled rest) = OneTold F is_filled refl (filled_told m found rest)
+
+some_is : {x y : Verdict} → Some x ≡ Some y → x ≡ y
+some_is e = cc
+
+keeps_here : (m : Model) (block : Block) (before : Option ℤ) (F : Partial) (w w' v v' : Verdict) (kept : Option ℤ) → IsCompleted m block before F w v kept → v ≡ v' → w ≡ w' → (LacksValuesAtMost w' → ⊥) → v' ≡ w'
+keeps_here m block before F w w' v v' kept is_told here there other = sym here ∙ keeps_told m block before F w v kept is_told (λ h. other (subst LacksValuesAtMost there h)) ∙ there
 
 keeps : (m : Model) {filled found : Option ℤ} {blocks : List Block} {vs : List Verdict} → (t : AreTold On m filled found blocks vs) → (i : ℕ) (v w : Verdict)
     → slice_get vs i ≡ Some v → slice_get (filled_verdicts On m t).verdicts i ≡ Some w → (LacksValuesAtMost w → ⊥) → v ≡ w
-keeps m told.NoneLeft i v w at is other = cc
-keeps m (told.OneMore {filled = filled} {found = found} {kept = kept} {block = block} {v = u} F is_filled is_told rest) zero v w at is other =
-    let here : u ≡ v = cc in
-    let there : verdict m F block filled ≡ w = cc in
-    sym here ∙ keeps_told m block found F (verdict m F block filled) u kept is_told (λ h. other (subst LacksValuesAtMost there h)) ∙ there
-keeps m (told.OneMore F is_filled is_told rest) (suc i) v w at is other = keeps m rest i v w at is other
+unfolding filled_verdicts
+keeps m NoneTold i v w at is other = cc
+keeps m (OneTold {filled = filled} {found = found} {kept = kept} {block = block} {v = u} F is_filled is_told rest) zero v w at is other =
+    keeps_here m block found F (verdict m F block filled) w u v kept is_told (some_is at) (some_is is) other
+keeps m (OneTold F is_filled is_told rest) (suc i) v w at is other = keeps m rest i v w at is other
 
 pub keeps_verdicts : (m : Model) (blocks : List Block) (vs : List Verdict) → AreVerdicts On m blocks vs
     → (ws : List Verdict) × AreVerdicts Off m blocks ws × (length ws ≡ length vs)

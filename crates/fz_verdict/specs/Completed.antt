@@ -8,7 +8,7 @@ use Rattle.fz_model.specs.Meaning.Aim.{Satisfy, Minimize, Maximize}
 use Rattle.fz_verdict.specs.declared.completion.Completion.{Completion}
 use Rattle.fz_verdict.specs.declared.completion.Completion.TheVariants.{Off, On}
 use Rattle.fz_verdict.specs.Blocks.{Block}
-use Rattle.fz_verdict.specs.Verdict.{Verdict, Reason, verdict, objective_fails, IsFilled}
+use Rattle.fz_verdict.specs.Verdict.{Verdict, verdict, objective_fails, IsFilled}
 use Rattle.fz_verdict.specs.Verdict.Reason.{NoValueFor}
 use Rattle.fz_verdict.specs.Verdict.Verdict.{Satisfied, Undecided}
 
