@@ -7,11 +7,11 @@ ghost use Rattle.fz_stream.specs.Found.{EndsWithin, HasPlaces};
 ghost use Rattle.fz_verdict.specs.Blocks.{block_fault, items_fault};
 ghost use Rattle.fz_verdict.specs.Completed.{IsCompleted, name_of_aim, name_of_term};
 ghost use Rattle.fz_verdict.specs.Verdict.{objective_fails, printed_fails, verdict, verdict_by};
-ghost use Rattle.fz_verdict.specs.Verdict.Verdict.{Satisfied};
+ghost use Rattle.fz_verdict.specs.Verdict.Verdict.{Undecided};
 ghost use Rattle.fz_verdict.specs.View.{located_block, located_items};
 ghost use Rattle.fz_judge.specs.Judged.{IsBlockRefusal, IsJudged, TellsKind};
-ghost use Rattle.fz_judge.specs.View.{fault_view, verdict_view};
-ghost use Rattle.fz_judge.specs.Working.{compared, with_objective};
+ghost use Rattle.fz_judge.specs.View.{fault_view, reason_view, verdict_view};
+ghost use Rattle.fz_judge.specs.Working.{IsFound, compared, with_objective};
 
 use crate::error::BlockError;
 use crate::filling::filled;
@@ -125,7 +125,6 @@ fn verdict_over<'a>(
     Ok(found)
 }
 
-
 /// The name of the variable that a scalar is; none is needed where it is no variable.
 fn name_of_term<'a>(model: &Model<'a>, term: &Term) -> &'a [u8]
     ensures { result.now ≡ name_of_term model.now term.now }
@@ -222,47 +221,69 @@ impl<'m, 'a> Judge<'m, 'a> {
         alloc: Global,
         filling: &Partial,
         block: &Block<'_>,
-        verdict: Verdict<'a>,
+        under: Verdict<'a>,
     ) -> Result<(Verdict<'a>, Option<i64>), AllocError>
         requires clean { items_fault self.old.model (located_items block.now.items.items) ≡ None }
         requires kinds { IsPartial self.old.model filling.now }
-        requires filled { verdict_view verdict ≡ verdict self.old.model filling.now (located_block block.now) self.old.before }
-        ensures told { IfOk result (λ r. IsCompleted self.old.model (located_block block.now) self.old.found filling.now (verdict_view verdict) (verdict_view r.0) r.1) }
+        requires filled { verdict_view under ≡ verdict self.old.model filling.now (located_block block.now) self.old.before }
+        ensures told { IfOk result (λ r. IsCompleted self.old.model (located_block block.now) self.old.found filling.now (verdict_view under.entry) (verdict_view r.0) r.1) }
         ensures same { self.new ≡ self.old }
     {
         let filled = objective(self.model, filling);
-        match verdict {
+        match under {
             Verdict::Satisfied => Ok((compared(self.model, self.found, filled), filled)),
-            Verdict::Undecided(Reason::NoValue(_)) => {
-                match self.satisfying(alloc, filling, block)? {
-                    Some(found) => Ok((Verdict::Satisfied, objective(self.model, &found))),
-                    None => Ok((verdict, filled)),
-                }
-            }
-            Verdict::Undecided(_) | Verdict::Violated(_) => Ok((verdict, filled)),
+            Verdict::Undecided(reason) => self.undecided(alloc, filling, block, reason),
+            Verdict::Violated(_) => Ok((under, filled)),
         }
     }
 
-    /// Values that satisfy a block and are better than what was found for the block before, where
-    /// the search proposes such.
-    fn satisfying(
+    /// The same of a block that is undecided under its filling.
+    fn undecided(
         &mut self,
         alloc: Global,
         filling: &Partial,
         block: &Block<'_>,
-    ) -> Result<Option<Partial>, AllocError>
+        reason: Reason<'a>,
+    ) -> Result<(Verdict<'a>, Option<i64>), AllocError>
         requires clean { items_fault self.old.model (located_items block.now.items.items) ≡ None }
         requires kinds { IsPartial self.old.model filling.now }
-        ensures kinds { IfOk result (λ o. IfSome o (IsPartial self.old.model)) }
-        ensures satisfied { IfOk result (λ o. IfSome o (λ K. verdict self.old.model K (located_block block.now) self.old.found ≡ Satisfied)) }
+        ensures told { IfOk result (λ r. IsCompleted self.old.model (located_block block.now) self.old.found filling.now (Undecided (reason_view reason.entry)) (verdict_view r.0) r.1) }
+        ensures same { self.new ≡ self.old }
+    {
+        let filled = objective(self.model, filling);
+        match reason {
+            Reason::NoValue(_) => match self.satisfied(alloc, filling, block)? {
+                Some(found) => Ok((Verdict::Satisfied, found)),
+                None => Ok((Verdict::Undecided(reason), filled)),
+            },
+            Reason::Unknown(_, _) | Reason::TooLarge(_) => {
+                Ok((Verdict::Undecided(reason), filled))
+            }
+        }
+    }
+
+    /// The objective under values that satisfy a block, and are better than what was found for the
+    /// block before, where the search proposes such.
+    fn satisfied(
+        &mut self,
+        alloc: Global,
+        filling: &Partial,
+        block: &Block<'_>,
+    ) -> Result<Option<Option<i64>>, AllocError>
+        requires clean { items_fault self.old.model (located_items block.now.items.items) ≡ None }
+        requires kinds { IsPartial self.old.model filling.now }
+        ensures found { IfOk result (λ o. IfSome o (IsFound self.old.model (located_block block.now) self.old.found)) }
         ensures same { self.new ≡ self.old }
     {
         let Some(found) = propose(alloc, self.model, filling, self.found, &mut self.search)? else {
             return Ok(None);
         };
+        let now = objective(self.model, &found);
         let overview = &mut self.overview;
-        match verdict_over(alloc, self.model, overview, &found, false, block, self.found)? {
-            Verdict::Satisfied => Ok(Some(found)),
+        match verdict_over(
+            alloc, self.model, overview, &found, false, block, self.found,
+        )? {
+            Verdict::Satisfied => Ok(Some(now)),
             Verdict::Violated(_) | Verdict::Undecided(_) => Ok(None),
         }
     }
