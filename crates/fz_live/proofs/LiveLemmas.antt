@@ -146,7 +146,7 @@ module _ (c : Completion) (m : Model) (s : ReaderState) (j : JudgeState) (t : Ta
 
   pub live_told : (j' : JudgeState) (t' : Tally) (line : List ℕ) (w'' : Option (List ℕ)) → IsTold s j j' t t' line → Appends w' w'' line → Living c m s j' t' left left' w w''
   live_told j' t' line w'' tells appends =
-      let one = tells m left' a.given a.parts a.part a.verdicts a.stands a.told in
+      let one = tells c m left' a.given a.parts a.part a.verdicts a.stands a.told in
       record {
         given = a.given;
         reads = a.reads;
@@ -159,7 +159,7 @@ module _ (c : Completion) (m : Model) (s : ReaderState) (j : JudgeState) (t : Ta
 
   pub live_refused : (n : ℕ) (e : BlockError) → IsRefused s j t n e → StopsAfterLines c m left left' w w' (λ given parts. BlockIsRefused m left' given parts n e)
   live_refused n e refuses =
-      let r = refuses m left' a.given a.parts a.part a.verdicts a.stands a.told in
+      let r = refuses c m left' a.given a.parts a.part a.verdicts a.stands a.told in
       record {
         given = a.given;
         reads = a.reads;
@@ -195,7 +195,7 @@ module _ (c : Completion) (m : Model) (s : ReaderState) (j : JudgeState) (t : Ta
 
   pub live_unwritten : (j' : JudgeState) (t' : Tally) (line : List ℕ) (w'' : Option (List ℕ)) → IsTold s j j' t t' line → WritesFront w' w'' line → WritesFrontOfLines c m left left' w w''
   live_unwritten j' t' line w'' tells f =
-      let one = tells m left' a.given a.parts a.part a.verdicts a.stands a.told in
+      let one = tells c m left' a.given a.parts a.part a.verdicts a.stands a.told in
       record {
         given = a.given;
         reads = a.reads;
