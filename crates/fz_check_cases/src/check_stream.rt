@@ -3,7 +3,8 @@
 use crate::table::{Call, look_at};
 use fz_base::Span;
 use fz_check::{
-    Answer, CheckError, Completion, MOST_READS, check, check_stream, check_stream_up_to, refusal_text,
+    Answer, CheckError, Completion, MOST_READS, check, check_stream, check_stream_up_to,
+    refusal_text,
 };
 use fz_stream::StreamError;
 use std::alloc::Global;

@@ -112,13 +112,7 @@ fn answer(
     }
 }
 
-fn tell_answer(
-    rt: &HostRuntime,
-    model: &[u8],
-    source: Source<'_>,
-    writer: Narrow,
-    bounds: Bounds,
-) {
+fn tell_answer(rt: &HostRuntime, model: &[u8], source: Source<'_>, writer: Narrow, bounds: Bounds) {
     for _ in 0..2 {
         let answer = answer(rt.alloc(), model, source, writer, bounds);
         tell(rt, &answer);

@@ -16,8 +16,8 @@ use crate::tally::Tally;
 use crate::telling::{tell_answer, tell_next};
 use crate::writing::{WriteFailed, write_whole};
 use fz_judge::Judge;
-use fz_judge::fz_verdict::Completion;
 use fz_judge::fz_model::Model;
+use fz_judge::fz_verdict::Completion;
 use std::alloc::Global;
 use std::io::{Read, Write};
 

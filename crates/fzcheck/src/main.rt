@@ -39,11 +39,13 @@ fn run(rt: &HostRuntime) -> u8 {
     };
     match read_words(rt.alloc(), &words) {
         Ok(Request::Show { model }) => show_file(rt, model),
-        Ok(Request::Check {
-            model,
-            stream,
-            completion,
-        }) => check_files(rt, model, stream, completion),
+        Ok(
+            Request::Check {
+                model,
+                stream,
+                completion,
+            },
+        ) => check_files(rt, model, stream, completion),
         Err(Refused::Usage) => refuse_usage(rt),
         Err(Refused::Memory) => refuse(rt, &CheckError::Memory),
     }
@@ -108,12 +110,7 @@ fn print_text(rt: &HostRuntime, text: &[u8]) -> u8 {
 
 /// Checks the file of a stream, or standard input, against the file of a model. Both are opened before
 /// anything is read.
-fn check_files(
-    rt: &HostRuntime,
-    model: &str,
-    stream: Option<&str>,
-    completion: Completion,
-) -> u8 {
+fn check_files(rt: &HostRuntime, model: &str, stream: Option<&str>, completion: Completion) -> u8 {
     if stream.is_none() && !has_input(rt) {
         return refuse(rt, &CheckError::Read);
     }
