@@ -33,6 +33,35 @@ constraint int_lin_le_imp([1,1],[y,z],0,b); constraint bool_clause([b],[]); solv
 > x = 0; / ----------
 = block 1: satisfied / accepted: blocks 1
 
+var 0..9: x; var 1..2: i; var 0..9: a; var 0..9: b; var 7..9: c;
+constraint array_var_int_element(i,[a,b],c); constraint int_lin_le([1],[b],7); solve satisfy;
+> i = 2; / ----------
+= block 1: satisfied / accepted: blocks 1
+
+var 1..2: x; var 1..2: y; var 0..2: p; var 0..2: q; var 0..2: r;
+constraint fzn_global_cardinality([x,y],[1,2],[p,q]); constraint int_lin_eq([1,1],[p,r],2);
+solve satisfy;
+> x = 2; / y = 2; / ----------
+= block 1: satisfied / accepted: blocks 1
+
+var 0..9: x; var 0..9: y; var int: z; constraint int_times(x,y,z); solve satisfy;
+> x = 7; / y = 6; / ----------
+= block 1: satisfied / accepted: blocks 1
+
+var 0..3: x; var set of 1..3: s; var set of 1..9: t; constraint set_card(s,x); solve satisfy;
+> x = 3; / ----------
+= block 1: satisfied / accepted: blocks 1
+
+var bool: x; var bool: b; var bool: c; var 0..1: n;
+constraint array_bool_or([b,c],true); constraint array_bool_and([b],x); constraint bool2int(c,n);
+solve satisfy;
+> x = false; / ----------
+= block 1: satisfied / accepted: blocks 1
+
+var 0..9: x; var 4..5: y; constraint int_lin_ne([1,-1],[x,y],0); solve satisfy;
+> x = 4; / ----------
+= block 1: satisfied / accepted: blocks 1
+
 var 0..9: x; var 3..5: y; var bool: b; constraint int_ne(y,x); solve satisfy;
 > x = 0; / ----------
 = block 1: satisfied / accepted: blocks 1
