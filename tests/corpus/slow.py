@@ -183,14 +183,20 @@ class Reader:
     def parameter(self):
         if self.has("array"):
             self.take("[")
-            if not self.has("int"):
-                self.size()
+            self.index_set()
+            for _ in range(5):
+                if self.has(","):
+                    self.index_set()
             self.take("]")
             self.take("of")
         self.has("var")
         self.base()
         self.take(":")
         self.take("name")
+
+    def index_set(self):
+        if not self.has("int"):
+            self.size()
 
     def notes(self):
         found = []
