@@ -37,10 +37,12 @@ test:
 	tests/program.sh build/fzcheck
 	tests/broken/run.py build/fzcheck
 	tests/corpus/run.py build/fzcheck tests/corpus examples
+	tests/corpus/left_out.py build/fzcheck
 	tests/hostile/run.py build/fzcheck crates/fz_hostile/out/fz_hostile
 
 corpus: build/fzcheck
 	tests/corpus/run.py build/fzcheck tests/corpus examples
+	tests/corpus/left_out.py build/fzcheck
 	tests/corpus/differ.py build/fzcheck - 300
 	tests/minizinc.sh build/fzcheck
 

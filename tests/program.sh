@@ -24,7 +24,7 @@ expect() {
   fi
 }
 
-usage='usage: fzcheck show MODEL | check MODEL [STREAM]'
+usage='usage: fzcheck show MODEL | check [--complete] MODEL [STREAM]'
 accepted=$'block 1: satisfied\naccepted: blocks 1'
 printf 'x = 1;\n----------\n' >"$folder/wrong.out"
 printf 'x = 3;\n' >"$folder/open.out"
@@ -54,6 +54,11 @@ expect 'the lines before a fault' 4 'block 1: satisfied' 'refused: stream: Unfin
 expect 'the lines before a block that does not fit' 4 'block 1: satisfied' 'refused: block 2: UnknownName at 18..19' "$program" check examples/first.fzn "$folder/other.out"
 expect 'the place of a number in a list' 4 '' 'refused: block 1: Kind at 19..21' "$program" check "$folder/list.fzn" "$folder/first.out"
 expect 'the place of the last number in a list' 4 '' 'refused: block 1: Kind at 25..27' "$program" check "$folder/list.fzn" "$folder/last.out"
+printf 'var 0..9: x;\nvar 0..9: y;\nconstraint int_mod(x,3,y);\nsolve satisfy;\n' >"$folder/left.fzn"
+printf 'x = 7;\n----------\n' >"$folder/left.out"
+expect 'a value that was left out' 2 $'block 1: undecided: no value for y\nundecided: block 1' '' "$program" check "$folder/left.fzn" "$folder/left.out"
+expect 'a value that is looked for' 0 "$accepted" '' "$program" check --complete "$folder/left.fzn" "$folder/left.out"
+expect 'no values for a model shown' 5 '' "$usage" "$program" show --complete "$folder/left.fzn"
 expect 'an optimisation' 0 "$(cat examples/knapsack/report.txt)" '' "$program" check examples/knapsack/model.fzn examples/knapsack/stream.txt
 expect 'a broken model' 4 '' 'refused: model: Syntax at 13..13' "$program" show "$folder/broken.fzn"
 expect 'a name declared twice' 4 '' 'refused: model: DuplicateName at 25..26' "$program" show "$folder/twice.fzn"

@@ -20,7 +20,7 @@ RESERVED = set("predicate array of var bool int float set constraint solve satis
 GRAMMAR = """
 model      = { predicate } { decl } { constraint } solve
 predicate  = "predicate" name "(" [ pparam { "," pparam } ] ")" ";"
-pparam     = [ "array" "[" ( "int" | one ".." size ) "]" "of" ] [ "var" ] base ":" name
+pparam     = [ "array" "[" pindex "]" "of" ] [ "var" ] base ":" name
 base       = "bool" | "int" | int ".." int | braces | "set" "of" ( "int" | int ".." int | braces )
 decl       = plain ":" name notes "=" literal ";"
            | prefix plain ":" name notes "=" "[" [ literal { "," literal } ] "]" ";"
@@ -44,6 +44,10 @@ note@      = name [ "(" narg@ { "," narg@ } ")" ]
 narg@      = nbasic@ | "[" [ nbasic@ { "," nbasic@ } ] "]"
 nbasic@    = literal | float | string | note+
 """
+# One to six index sets; `crowd` is what a seventh would begin with.
+INDEXES = "pindex = pset" + ' [ "," pset' * 5 + ' [ "," crowd' + " ]" * 6 + """
+pset = "int" | one ".." size
+"""
 ELEMENTS = '"[" [ literal { "," literal } ] "]" ")"'
 
 
@@ -52,6 +56,7 @@ def whole_grammar():
     for depth in range(1, DEPTH + 1):
         text += NOTE.replace("@", f"@{depth}").replace("+", f"@{depth + 1}")
     text += f"note@{DEPTH + 1} = deep\n"
+    text += INDEXES
     text += "value = literal"
     for n in range(1, 7):
         text += f' | "array{n}d" "(" ' + 'index "," ' * n + ELEMENTS
@@ -133,6 +138,8 @@ class Token:
             return self.text == terminal[1:-1] and self.kind in ("word", "mark")
         if terminal in ("name", "deep"):
             return self.kind == "word" and self.text not in RESERVED
+        if terminal == "crowd":
+            return self.kind == "whole" or self.text == "int"
         if terminal == "one":
             return self.kind == "whole" and self.value == 1
         if terminal == "size":
@@ -184,6 +191,8 @@ class Earley:
             return ("Float" if token.kind == "float" or token.text == "float" else "Syntax"), sets
         if any(t == "deep" for _, t in moved):
             return "TooDeep", sets
+        if any(t == "crowd" for _, t in moved):
+            return "TooMany", sets
         if any(t == "size" for _, t in moved) and token.value > LIMIT:
             return "TooMany", sets
         return None, sets + [self.closed([(r, d + 1, o) for (r, d, o), _ in moved], sets)]
@@ -291,6 +300,14 @@ MORE = [
     "array [1..1048577 solve",
     "array [int] of int: a = []; solve satisfy;",
     "predicate p(array [0..1] of int: a); solve satisfy;",
+    "predicate p(array [int,1..3] of int: a, array [int,int,int,int,int,int] of var bool: b); "
+    "solve satisfy;",
+    "predicate p(array [int,int,int,int,int,int,int] of int: a); solve satisfy;",
+    "predicate p(array [1..1,1..1,1..1,1..1,1..1,1..1,7] of int: a); solve satisfy;",
+    "predicate p(array [] of int: a); solve satisfy;",
+    "predicate p(array [int,] of int: a); solve satisfy;",
+    "predicate p(array [int,1..1048577] of int: a); solve satisfy;",
+    "array [1..1,1..1] of int: a = [1]; solve satisfy;",
     "solve satisfy; constraint c();", "solve satisfy; solve satisfy;", "constraint c(); var int: x; solve satisfy;",
     "var int: x; predicate p(); solve satisfy;", "constraint c(); predicate p(); solve satisfy;",
     "solve satisfy; 1.5", "solve satisfy; float", "var float: x; solve satisfy;", "var 1.5..2: x; solve satisfy;",

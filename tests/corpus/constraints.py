@@ -59,6 +59,19 @@ def loads(l, b, w, o):
     return all(o <= v < o + n for v in b) and all(load(b, w, o + j) == l[j] for j in range(n))
 
 
+def knapsack(w, p, x, weight, profit):
+    """OverflowError where a partial sum leaves 128 bits."""
+    sums = []
+    for values in (w, p):
+        s = 0
+        for a, b in zip(values, x):
+            s += a * b
+            if not -(2**127) <= s < 2**127:
+                raise OverflowError
+        sums.append(s)
+    return min([0, *x, weight, profit]) == 0 and sums == [weight, profit]
+
+
 def windows(low, high, k, x):
     if k < 1:
         return False
@@ -221,6 +234,7 @@ TESTS = {
     "fzn_sort": (L, lambda x, y: sorted(x) == y, ""),
     "fzn_member_int": ("[I] I", lambda x, y: y in x, ""),
     "fzn_member_bool": ("[B] B", lambda x, y: y in x, ""),
+    "fzn_knapsack": ("[I] [I] [I] I I", knapsack, "012"),
     "fzn_sliding_sum": ("I I I [I]", windows, ""),
     "gecode_link_set_to_booleans": ("S [B] I", flags, ""),
     "gecode_int_set_channel": ("[I] I [S] I", channels, ""),

@@ -23,7 +23,7 @@ RESERVED = set(
 )
 CLAIMS = {"=" * 10} | {"=====" + w + "=====" for w in "UNSATISFIABLE UNKNOWN UNBOUNDED UNSATorUNBOUNDED ERROR".split()}
 LEAST, MOST = -(2**63), 2**63 - 1
-MOST_SIZE, MOST_LEVELS = 1_048_576, 32
+MOST_SIZE, MOST_LEVELS, MOST_INDEXES = 1_048_576, 32, 6
 MOST_LISTED = 1_000_000
 
 
@@ -183,14 +183,23 @@ class Reader:
     def parameter(self):
         if self.has("array"):
             self.take("[")
-            if not self.has("int"):
-                self.size()
+            self.index_set()
+            count = 1
+            while self.has(","):
+                if count == MOST_INDEXES and self.next.sort in ("whole", "int"):
+                    raise Refused(self.what, "TooMany", self.next.start, self.next.end)
+                self.index_set()
+                count += 1
             self.take("]")
             self.take("of")
         self.has("var")
         self.base()
         self.take(":")
         self.take("name")
+
+    def index_set(self):
+        if not self.has("int"):
+            self.size()
 
     def notes(self):
         found = []

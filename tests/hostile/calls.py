@@ -131,7 +131,9 @@ def of_pair(model, stream):
     yield Call("check", "text", (model, stream))
     for piece in ("1", ANY):
         yield Call("live", "check_stream", (model, stream), (piece, ANY, ANY, "1"))
-    yield Call("live", "check_stream_up_to", (model, stream), (ANY, ANY, ANY, "1", ANY))
+    for completion in ("0", "1"):
+        more = ANY, ANY, ANY, "1", ANY, completion
+        yield Call("live", "check_stream_up_to", (model, stream), more)
 
 
 def calls():

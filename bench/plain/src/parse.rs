@@ -51,7 +51,7 @@ pub trait Sink {
     #[inline(always)]
     fn predicate(&mut self, name: Name) {}
     #[inline(always)]
-    fn param(&mut self, array: Option<Option<usize>>, is_var: bool, base: Base, name: Name) {}
+    fn param(&mut self, array: Option<&[Option<usize>]>, is_var: bool, base: Base, name: Name) {}
     #[inline(always)]
     fn predicate_end(&mut self) {}
     #[inline(always)]
@@ -428,12 +428,7 @@ impl<'a, S: Sink> Parser<'a, S> {
             if self.tok() == T::Array {
                 self.core.lex.next();
                 self.core.eat(T::LBrk)?;
-                if self.tok() == T::Int {
-                    self.core.lex.next();
-                    array = Some(None);
-                } else {
-                    array = Some(Some(self.one_to_size()?));
-                }
+                array = Some(self.index_sets()?);
                 self.core.eat(T::RBrk)?;
                 self.core.eat(T::Of)?;
             }
@@ -448,7 +443,7 @@ impl<'a, S: Sink> Parser<'a, S> {
                 kind: raw.kind,
                 bounds: raw.bounds.map(|w| self.core.what(w)),
             };
-            self.sink.param(array, is_var, base, name);
+            self.sink.param(array.as_deref(), is_var, base, name);
             comma = self.tok() == T::Comma;
             if !comma {
                 break;
@@ -460,6 +455,27 @@ impl<'a, S: Sink> Parser<'a, S> {
         self.core.eat(T::Semi)?;
         self.sink.predicate_end();
         Ok(())
+    }
+
+    /// The index sets of an array, one to six.
+    fn index_sets(&mut self) -> R<Vec<Option<usize>>> {
+        let mut sets = vec![self.index_set()?];
+        while self.tok() == T::Comma {
+            self.core.lex.next();
+            if sets.len() == 6 && matches!(self.tok(), T::Int | T::Whole) {
+                return Err(self.core.stop_as(FaultName::TooMany));
+            }
+            sets.push(self.index_set()?);
+        }
+        Ok(sets)
+    }
+
+    fn index_set(&mut self) -> R<Option<usize>> {
+        if self.tok() == T::Int {
+            self.core.lex.next();
+            return Ok(None);
+        }
+        Ok(Some(self.one_to_size()?))
     }
 
     /// `one ".." size`.

@@ -70,15 +70,26 @@ impl<'a> Text<'a> {
         }
     }
 
-    fn ty(&mut self, array: Option<Option<usize>>, is_var: bool, b: Base) {
-        match array {
-            None => {}
-            Some(None) => self.s("array [int] of "),
-            Some(Some(n)) => {
-                self.s("array [1..");
+    fn index_set(&mut self, set: Option<usize>) {
+        match set {
+            None => self.s("int"),
+            Some(n) => {
+                self.s("1..");
                 push_num(&mut self.out, n as i64);
-                self.s("] of ");
             }
+        }
+    }
+
+    fn ty(&mut self, array: Option<&[Option<usize>]>, is_var: bool, b: Base) {
+        if let Some(sets) = array {
+            self.s("array [");
+            for (i, set) in sets.iter().enumerate() {
+                if i > 0 {
+                    self.s(",");
+                }
+                self.index_set(*set);
+            }
+            self.s("] of ");
         }
         if is_var {
             self.s("var ");
@@ -97,7 +108,7 @@ impl<'a> Sink for Text<'a> {
         self.n(name);
         self.s("(");
     }
-    fn param(&mut self, array: Option<Option<usize>>, is_var: bool, base: Base, name: Name) {
+    fn param(&mut self, array: Option<&[Option<usize>]>, is_var: bool, base: Base, name: Name) {
         self.ty(array, is_var, base);
         self.n(name);
     }
@@ -105,7 +116,7 @@ impl<'a> Sink for Text<'a> {
         self.s(");\n");
     }
     fn decl(&mut self, is_var: bool, length: Option<usize>, base: Base, name: Name) {
-        self.ty(length.map(Some), is_var, base);
+        self.ty(length.map(Some).as_ref().map(std::slice::from_ref), is_var, base);
         self.n(name);
     }
     fn value(&mut self, list: bool) {

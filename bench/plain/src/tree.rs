@@ -43,7 +43,7 @@ pub struct TreeBase {
 }
 
 pub struct Param {
-    pub array: Option<Option<usize>>,
+    pub array: Option<Vec<Option<usize>>>,
     pub is_var: bool,
     pub base: TreeBase,
     pub name: Name,
@@ -127,9 +127,9 @@ impl Sink for TreeSink {
             params: Vec::new(),
         });
     }
-    fn param(&mut self, array: Option<Option<usize>>, is_var: bool, b: Base, name: Name) {
+    fn param(&mut self, array: Option<&[Option<usize>]>, is_var: bool, b: Base, name: Name) {
         let p = Param {
-            array,
+            array: array.map(<[_]>::to_vec),
             is_var,
             base: base(b),
             name,
@@ -349,7 +349,7 @@ fn tell_predicate<S: Sink>(p: &Predicate, sink: &mut S) {
         if i > 0 {
             sink.comma();
         }
-        sink.param(q.array, q.is_var, q.base.base(), q.name);
+        sink.param(q.array.as_deref(), q.is_var, q.base.base(), q.name);
     }
     sink.predicate_end();
 }

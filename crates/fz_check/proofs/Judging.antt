@@ -6,9 +6,11 @@ use Rattle.fz_model.specs.Meaning.{Model, objective}
 use Rattle.fz_model.proofs.Lists.{all_append}
 use Rattle.fz_stream.specs.declared.block.Block as the_block
 use Rattle.fz_verdict.specs.Blocks.{block_fault}
-use Rattle.fz_verdict.specs.Verdict.{IsFilled, AreVerdicts, verdict}
+use Rattle.fz_verdict.specs.declared.completion.Completion.TheVariants.{Off}
+use Rattle.fz_verdict.specs.Completed.{AreVerdicts}
 use Rattle.fz_verdict.specs.View.{located_block}
 use Rattle.fz_verdict.proofs.Loops.{GoesOn, goes_on_at_first, goes_on_after, goes_on_judged}
+use Rattle.fz_live.proofs.TellingLemmas.{IsJudgedAs, judged_as}
 use Rattle.fz_live.specs.of_judge.Judged.{JudgeState, IsJudged, IsBlockRefusal}
 use Rattle.fz_live.specs.of_judge.View.{verdict_view}
 use Rattle.fz_live.specs.of_judge.declared.error.BlockError.{BlockError}
@@ -24,13 +26,15 @@ IsClean m b = block_fault m (located_block b) ≡ None
 -- So many blocks of the list have been judged: whatever more comes, its verdicts go on from theirs; and none of them has a fault.
 pub record JudgedSoFar (m : Model) (blocks : List the_block.Block) (count : ℕ) (judge : JudgeState) (vs : List the_verdict.Verdict) : Type 0 where
   pub same_model : judge.model ≡ m
-  pub goes_on : GoesOn m (IsFilled m) None (map located_block (take count blocks)) (map verdict_view vs) judge.before
+  pub same_completion : judge.completion ≡ Off
+  pub goes_on : GoesOn Off m (map located_block (take count blocks)) (map verdict_view vs) judge.before judge.found
   pub clean : AllByRecursion (λ b. block_fault m (located_block b) ≡ None) (take count blocks)
 
-pub judged_none : (m : Model) (blocks : List the_block.Block) (judge : JudgeState) (vs : List the_verdict.Verdict) → judge ≡ record { model = m; before = None } → vs ≡ [] → JudgedSoFar m blocks 0 judge vs
+pub judged_none : (m : Model) (blocks : List the_block.Block) (judge : JudgeState) (vs : List the_verdict.Verdict) → judge ≡ record { model = m; completion = Off; before = None; found = None } → vs ≡ [] → JudgedSoFar m blocks 0 judge vs
 judged_none m blocks judge vs e none = record {
   same_model = ap (λ (j : JudgeState). j.model) e;
-  goes_on = subst₂ (λ (j : JudgeState) us. GoesOn m (IsFilled m) None [] (map verdict_view us) j.before) (sym e) (sym none) (goes_on_at_first m (IsFilled m) None);
+  same_completion = ap (λ (j : JudgeState). j.completion) e;
+  goes_on = subst₂ (λ (j : JudgeState) us. GoesOn Off m [] (map verdict_view us) j.before j.found) (sym e) (sym none) (goes_on_at_first Off m);
   clean = tt;
 }
 
@@ -42,26 +46,26 @@ one_more : (blocks : List the_block.Block) (i : ℕ) (b : the_block.Block) → i
 one_more blocks i b lt at = take_more blocks i b lt ∙ ap (λ w. take i blocks ++ w ∷ []) (sym at)
 
 pub judged_more : (m : Model) (blocks : List the_block.Block) (i : ℕ) (judge after : JudgeState) (vs ws : List the_verdict.Verdict) (b : the_block.Block) (v : the_verdict.Verdict) → i < length blocks → b ≡ get_or blocks i b
-    → JudgedSoFar m blocks i judge vs → IsJudged judge.model (located_block b) judge.before (verdict_view v) after.before → after.model ≡ judge.model → ws ≡ vs ++ v ∷ [] → JudgedSoFar m blocks (i + 1) after ws
-judged_more m blocks i judge after vs ws b v lt at h judged same pushed =
-    let j : IsJudged m (located_block b) judge.before (verdict_view v) after.before = subst (λ n. IsJudged n (located_block b) judge.before (verdict_view v) after.before) h.same_model judged in
-    let more : GoesOn m (IsFilled m) None (map located_block (take i blocks) ++ located_block b ∷ []) (map verdict_view vs ++ verdict m j.filling (located_block b) judge.before ∷ []) (objective m j.filling) =
-    goes_on_after m (IsFilled m) None (map located_block (take i blocks)) (map verdict_view vs) judge.before (located_block b) j.filling h.goes_on j.is_filled in
+    → JudgedSoFar m blocks i judge vs → IsJudged judge after (located_block b) (verdict_view v) → after.model ≡ judge.model → after.completion ≡ judge.completion → ws ≡ vs ++ v ∷ [] → JudgedSoFar m blocks (i + 1) after ws
+judged_more m blocks i judge after vs ws b v lt at h judged same way pushed =
+    let j : IsJudgedAs Off m judge after (located_block b) (verdict_view v) = judged_as Off m judge after (located_block b) (verdict_view v) h.same_completion h.same_model judged in
+    let more : GoesOn Off m (map located_block (take i blocks) ++ located_block b ∷ []) (map verdict_view vs ++ verdict_view v ∷ []) (objective m j.filling) after.found =
+    goes_on_after Off m (map located_block (take i blocks)) (map verdict_view vs) judge.before judge.found after.found (located_block b) (verdict_view v) j.filling h.goes_on j.is_filled j.told in
     let next : take (i + 1) blocks ≡ take i blocks ++ b ∷ [] = one_more blocks i b lt at in
     let bs : map located_block (take (i + 1) blocks) ≡ map located_block (take i blocks) ++ located_block b ∷ [] = ap (map located_block) next ∙ map-append located_block (take i blocks) (b ∷ []) in
-    let us : map verdict_view ws ≡ map verdict_view vs ++ verdict m j.filling (located_block b) judge.before ∷ [] =
-    ap (map verdict_view) pushed ∙ map-append verdict_view vs (v ∷ []) ∙ ap (λ u. map verdict_view vs ++ u ∷ []) j.verdict_is in
+    let us : map verdict_view ws ≡ map verdict_view vs ++ verdict_view v ∷ [] = ap (map verdict_view) pushed ∙ map-append verdict_view vs (v ∷ []) in
     record {
       same_model = same ∙ h.same_model;
-      goes_on = subst (GoesOn m (IsFilled m) None (map located_block (take (i + 1) blocks)) (map verdict_view ws)) (sym j.kept_is)
-          (subst₂ (λ l u. GoesOn m (IsFilled m) None l u (objective m j.filling)) (sym bs) (sym us) more);
+      same_completion = way ∙ h.same_completion;
+      goes_on = subst (λ k. GoesOn Off m (map located_block (take (i + 1) blocks)) (map verdict_view ws) k after.found) (sym j.kept_is)
+          (subst₂ (λ l u. GoesOn Off m l u (objective m j.filling) after.found) (sym bs) (sym us) more);
       clean = subst (AllByRecursion (IsClean m)) (sym next) (all_append (IsClean m) (take i blocks) (b ∷ []) h.clean (j.is_filled.no_fault, tt));
     }
 
-pub judged_all : (m : Model) (blocks : List the_block.Block) (i : ℕ) (judge : JudgeState) (vs : List the_verdict.Verdict) → length blocks ≤ i → JudgedSoFar m blocks i judge vs → AreVerdicts m (map located_block blocks) (map verdict_view vs)
+pub judged_all : (m : Model) (blocks : List the_block.Block) (i : ℕ) (judge : JudgeState) (vs : List the_verdict.Verdict) → length blocks ≤ i → JudgedSoFar m blocks i judge vs → AreVerdicts Off m (map located_block blocks) (map verdict_view vs)
 judged_all m blocks i judge vs end h =
-    subst (λ l. AreVerdicts m (map located_block l) (map verdict_view vs)) (take_all i blocks end)
-    (goes_on_judged m (IsFilled m) None (map located_block (take i blocks)) (map verdict_view vs) judge.before h.goes_on)
+    subst (λ l. AreVerdicts Off m (map located_block l) (map verdict_view vs)) (take_all i blocks end)
+    (goes_on_judged Off m (map located_block (take i blocks)) (map verdict_view vs) judge.before judge.found h.goes_on)
 
 -- ---- the first block with a fault
 

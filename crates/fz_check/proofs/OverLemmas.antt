@@ -3,16 +3,17 @@
 use Rattle.std.proofs.Common.{◌≡◌, ℕ, List, map, Option, refl, sym, ap, ◌∙◌, subst}
 use Rattle.fz_syntax.specs.SyntaxError.{SyntaxError}
 use Rattle.fz_stream.specs.declared.error.StreamError.{StreamError}
-use Rattle.fz_model.specs.Meaning.{Model, IsPartial}
+use Rattle.fz_model.specs.Meaning.{Model}
 use Rattle.fz_model.specs.Names.{model_of}
 use Rattle.fz_model.specs.Texts.{IsLoadedFrom}
 use Rattle.fz_model.specs.declared.ModelError.{ModelError}
 use Rattle.fz_model.proofs.Scope.{sound_aims}
-use Rattle.fz_verdict.specs.Verdict.{IsFilled, AreVerdicts}
+use Rattle.fz_verdict.specs.declared.completion.Completion.{Completion}
+use Rattle.fz_verdict.specs.Completed.{AreVerdicts}
 use Rattle.fz_verdict.specs.Report.{IsReport}
 use Rattle.fz_verdict.specs.View.{located_block}
-use Rattle.fz_verdict.proofs.Accepted.{accepted_solves, judged_weaker}
-use Rattle.fz_verdict.proofs.Start.{filling_proposed}
+use Rattle.fz_verdict.proofs.Accepted.{accepted_solves}
+use Rattle.fz_verdict.proofs.Completing.{accepted_judged}
 use Rattle.fz_live.specs.of_judge.declared.error.BlockError.{BlockError}
 use Rattle.fz_live.specs.declared.error.LiveError.{LiveError}
 use Rattle.fz_live.specs.declared.error.LiveError.TheVariants as live
@@ -32,15 +33,15 @@ module _ (model : List ℕ) (m : Model) (loaded : IsLoadedFrom model m) where
   pub holds_of_model : (P : Model → Type 0) → P m → HoldsOfModel model P
   holds_of_model P p = record { tree = loaded.tree; text_of_model = loaded.text; no_fault = loaded.no_fault; holds = subst P loaded.is p }
 
-  module _ (left left' written written' : Option (List ℕ)) (answer : the_answer.Answer) (w : IsAnswered m left left' written written' (answer_view answer)) where
-    here : AreVerdicts (model_of loaded.tree) (map located_block w.blocks) w.report.verdicts
-    here = subst (λ n. AreVerdicts n (map located_block w.blocks) w.report.verdicts) loaded.is w.is_report.are_verdicts
+  module _ (completion : Completion) (left left' written written' : Option (List ℕ)) (answer : the_answer.Answer) (w : IsAnswered completion m left left' written written' (answer_view answer)) where
+    here : AreVerdicts completion (model_of loaded.tree) (map located_block w.blocks) w.report.verdicts
+    here = subst (λ n. AreVerdicts completion n (map located_block w.blocks) w.report.verdicts) loaded.is w.is_report.are_verdicts
 
     -- an accepted stream has solutions
     pub accepted_over : (count : ℕ) → answer ≡ answers.Accepted count → HoldsOfStream left left' (λ given. HasSolutions model given count)
     accepted_over count accepted =
         let (solutions, counted, some) = accepted_solves (model_of loaded.tree) (map located_block w.blocks) w.report.verdicts count (sound_aims loaded.tree loaded.no_fault)
-        (judged_weaker (model_of loaded.tree) (IsFilled (model_of loaded.tree)) (λ b K. IsPartial (model_of loaded.tree) K) (λ b K filled. (filling_proposed loaded.tree b K loaded.no_fault filled).partial) here)
+        (accepted_judged completion loaded.tree loaded.no_fault (map located_block w.blocks) w.report.verdicts count here (sym w.is_report.answers ∙ sym w.answer_is ∙ ap answer_view accepted))
         (sym w.is_report.answers ∙ sym w.answer_is ∙ ap answer_view accepted) in
         record {
           given = w.given;
@@ -73,7 +74,7 @@ module _ (model : List ℕ) (m : Model) (loaded : IsLoadedFrom model m) where
     }
 
     -- the report is the one as defined
-    pub reported_over : HoldsOfStream left left' (λ given. IsReportedTo model given written written' (answer_view answer))
+    pub reported_over : HoldsOfStream left left' (λ given. IsReportedTo completion model given written written' (answer_view answer))
     reported_over = record {
       given = w.given;
       reads = w.reads;
@@ -82,8 +83,8 @@ module _ (model : List ℕ) (m : Model) (loaded : IsLoadedFrom model m) where
         report = w.report;
         has_report = record {
           checked = checked_over;
-          is_report = subst (λ n. IsReport n (map located_block w.blocks) w.parts w.report) loaded.is w.is_report;
-          borne_out = borne_out loaded.tree (map located_block w.blocks) w.report.verdicts loaded.no_fault here;
+          is_report = subst (λ n. IsReport completion n (map located_block w.blocks) w.parts w.report) loaded.is w.is_report;
+          borne_out = borne_out completion loaded.tree (map located_block w.blocks) w.report.verdicts loaded.no_fault here;
         };
         writes = w.writes;
         answer_is = w.answer_is;

@@ -9,7 +9,9 @@ use Rattle.fz_model.specs.Meaning.{Model}
 use Rattle.fz_model.specs.Names.{HasNoFault, model_of}
 use Rattle.fz_model.specs.Texts.{IsLoadedFrom}
 use Rattle.fz_verdict.specs.Blocks.{Block}
-use Rattle.fz_verdict.specs.Verdict.{Verdict, AreVerdicts, answer_of}
+use Rattle.fz_verdict.specs.declared.completion.Completion.{Completion}
+use Rattle.fz_verdict.specs.Completed.{AreVerdicts}
+use Rattle.fz_verdict.specs.Verdict.{Verdict, answer_of}
 use Rattle.fz_verdict.specs.Verdict.Verdict.{Violated}
 use Rattle.fz_verdict.specs.View.{located_block}
 use Rattle.fz_verdict.proofs.Each.{each_satisfied, each_violated, each_not_better}
@@ -33,21 +35,21 @@ checked model stream m loaded bs cs read places = record {
 }
 
 -- what the verdicts say of solutions is so
-pub borne_out : (t : LocatedTree) (blocks : List Block) (vs : List Verdict) → HasNoFault t → AreVerdicts (model_of t) blocks vs → AreBorneOut (model_of t) blocks vs
-borne_out t blocks vs sound are = record {
-  satisfied = λ i block at found. each_satisfied t blocks vs i block sound are at found;
-  violated = λ i block f at found other. each_violated (model_of t) blocks vs i block f are at found (λ now earlier e. other (now, earlier, e));
-  not_better = λ i block f at found (now, before, e). each_not_better (model_of t) blocks vs i block now before are at (found ∙ ap (λ g. Some (Violated g)) e);
+pub borne_out : (completion : Completion) (t : LocatedTree) (blocks : List Block) (vs : List Verdict) → HasNoFault t → AreVerdicts completion (model_of t) blocks vs → AreBorneOut (model_of t) blocks vs
+borne_out completion t blocks vs sound are = record {
+  satisfied = λ i block at found. each_satisfied completion t blocks vs i block sound are at found;
+  violated = λ i block f at found other. each_violated completion (model_of t) blocks vs i block f are at found (λ now earlier e. other (now, earlier, e));
+  not_better = λ i block f at found (now, before, e). each_not_better completion (model_of t) blocks vs i block now before are at (found ∙ ap (λ g. Some (Violated g)) e);
 }
 
-module _ (model stream : List ℕ) (m : Model) (loaded : IsLoadedFrom model m) (bs : List the_block.Block) (cs : List Claim) (read : IsReadAs stream (map block_of bs) cs) (places : AllByRecursion HasPlaces bs) (rs : List the_verdict.Verdict) (judged : AreVerdicts m (map located_block bs) (map verdict_view rs)) where
-  are : AreVerdicts (model_of loaded.tree) (map located_block bs) (map verdict_view rs)
-  are = subst (λ n. AreVerdicts n (map located_block bs) (map verdict_view rs)) loaded.is judged
+module _ (completion : Completion) (model stream : List ℕ) (m : Model) (loaded : IsLoadedFrom model m) (bs : List the_block.Block) (cs : List Claim) (read : IsReadAs stream (map block_of bs) cs) (places : AllByRecursion HasPlaces bs) (rs : List the_verdict.Verdict) (judged : AreVerdicts completion m (map located_block bs) (map verdict_view rs)) where
+  are : AreVerdicts completion (model_of loaded.tree) (map located_block bs) (map verdict_view rs)
+  are = subst (λ n. AreVerdicts completion n (map located_block bs) (map verdict_view rs)) loaded.is judged
 
   -- the report is the one as defined
-  pub reported : (answer : the_answer.Answer) → answer_view answer ≡ answer_of (map verdict_view rs) → HasReport model stream (record { verdicts = map verdict_view rs; claims = cs; answer = answer_view answer })
+  pub reported : (answer : the_answer.Answer) → answer_view answer ≡ answer_of (map verdict_view rs) → HasReport completion model stream (record { verdicts = map verdict_view rs; claims = cs; answer = answer_view answer })
   reported answer answers_to = record {
     checked = checked model stream m loaded bs cs read places;
     is_report = record { of_parts = blocks_are_bare bs ∙ read.blocks_are; are_verdicts = are; claims = read.claims_are; answers = answers_to };
-    borne_out = borne_out loaded.tree (map located_block bs) (map verdict_view rs) loaded.no_fault are;
+    borne_out = borne_out completion loaded.tree (map located_block bs) (map verdict_view rs) loaded.no_fault are;
   }

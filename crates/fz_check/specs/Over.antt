@@ -7,6 +7,7 @@ use Rattle.fz_model.specs.Located.{LocatedTree, bare_of}
 use Rattle.fz_model.specs.Meaning.{Model}
 use Rattle.fz_model.specs.Names.{HasNoFault, model_of}
 use Rattle.fz_verdict.specs.Report.{Report, report_bytes}
+use Rattle.fz_verdict.specs.declared.completion.Completion.{Completion}
 use Rattle.fz_verdict.specs.Verdict.{Answer}
 use Rattle.fz_check.specs.declared.error.CheckError.{CheckError}
 use Rattle.fz_check.specs.declared.error.CheckError.TheVariants as errors
@@ -24,9 +25,9 @@ pub record HoldsOfStream (left left' : Option (List ℕ)) (Holds : List ℕ → 
   pub holds : Holds given
 
 -- The writer got the text of the report on these bytes, and nothing else, and the answer is the report's.
-pub record IsReportedTo (model given : List ℕ) (written written' : Option (List ℕ)) (answer : Answer) : Type 0 where
+pub record IsReportedTo (c : Completion) (model given : List ℕ) (written written' : Option (List ℕ)) (answer : Answer) : Type 0 where
   pub report : Report
-  pub has_report : HasReport model given report
+  pub has_report : HasReport c model given report
   pub writes : Appends written written' (report_bytes report)
   pub answer_is : answer ≡ report.answer
 

@@ -8,6 +8,7 @@ use Rattle.fz_stream.specs.declared.block.Block as the_block
 use Rattle.fz_model.specs.Located.{LocatedTree, bare_of}
 use Rattle.fz_model.specs.Meaning.{Model, Assignment, IsSolution, IsKnownSolution}
 use Rattle.fz_model.specs.Names.{HasNoFault, model_of}
+use Rattle.fz_verdict.specs.declared.completion.Completion.{Completion}
 use Rattle.fz_verdict.specs.Blocks.{Block, Extends}
 use Rattle.fz_verdict.specs.Headline.{Improves}
 use Rattle.fz_verdict.specs.Report.{Report, IsReport}
@@ -54,8 +55,8 @@ pub record AreBorneOut (m : Model) (blocks : List Block) (verdicts : List Verdic
   pub not_better : (i : ℕ) (block : Block) (f : Fault) → slice_get blocks i ≡ Some block → slice_get verdicts i ≡ Some (Violated f) → IsObjective f
       → (j : ℕ) × (earlier : Block) × (i ≡ suc j) × (slice_get blocks j ≡ Some earlier) × NoneImproves m earlier block
 
--- The report is that of the tree's model on the parts, and its verdicts are borne out.
-pub record HasReport (model stream : List ℕ) (r : Report) : Type 0 where
+-- Whether values are looked for or not, the report is that of the tree's model on the parts, and its verdicts are borne out.
+pub record HasReport (c : Completion) (model stream : List ℕ) (r : Report) : Type 0 where
   pub checked : Checked model stream
-  pub is_report : IsReport (model_of checked.tree) (map located_block checked.blocks) checked.parts r
+  pub is_report : IsReport c (model_of checked.tree) (map located_block checked.blocks) checked.parts r
   pub borne_out : AreBorneOut (model_of checked.tree) (map located_block checked.blocks) r.verdicts

@@ -12,7 +12,7 @@ ghost use Rattle.fz_model.specs.Texts.{IsLoadedFrom};
 ghost use Rattle.fz_model.specs.View.{TellsFirstFault, located};
 ghost use Rattle.fz_stream.specs.declared.error.StreamError.{StreamError as StreamFault};
 ghost use Rattle.fz_stream.specs.Found.{AreInOrder, EndsWithin, HasPlaces, IsReadAs, block_of};
-ghost use Rattle.fz_verdict.specs.Verdict.{AreVerdicts};
+ghost use Rattle.fz_verdict.specs.Completed.{AreVerdicts};
 ghost use Rattle.fz_verdict.specs.View.{located_block};
 ghost use Rattle.fz_live.specs.of_judge.declared.error.BlockError.{BlockError as BlockFault};
 ghost use Rattle.fz_live.specs.of_judge.View.{verdict_view};
@@ -38,6 +38,7 @@ ghost use Rattle.fz_check.specs.View.{report_view};
 use crate::error::CheckError;
 use crate::report::{Report, answer_to};
 use fz_live::Answer;
+use fz_live::fz_judge::fz_verdict::Completion;
 use fz_live::fz_judge::{BlockError, Judge, Verdict};
 use fz_model::{LoadError, Model, ModelError, load, load_text};
 use fz_stream::{Block, Stream, StreamError, blocks};
@@ -146,11 +147,11 @@ fn judge_blocks<'a>(
 ) -> Result<Vec<Verdict<'a>>, CheckError>
     requires places { AllByRecursion HasPlaces blocks.now }
     requires within { AllByRecursion (EndsWithin usize.MAX) blocks.now }
-    ensures judged { IfOk result (λ v. AreVerdicts model.now (map located_block blocks.now) (map verdict_view v.items)) }
+    ensures judged { IfOk result (λ v. AreVerdicts Completion.Off model.now (map located_block blocks.now) (map verdict_view v.items)) }
     ensures block { (n : ℕ) (e : BlockFault) → result ≡ Err (CheckError.Block n e) → IsFirstFault model.now blocks.now n e }
     ensures kinds { IfErr result IsJudgingRefusal }
 {
-    let mut judge = Judge::new(model);
+    let mut judge = Judge::new(model, Completion::Off);
     let mut verdicts = Vec::new(alloc);
     for (place, block) in blocks.iter().enumerate() {
         match judge.judge(alloc, block) {
@@ -174,7 +175,7 @@ pub fn check<'a>(alloc: Global, model: &'a [u8], stream: &[u8]) -> Result<Report
     ensures accepted { IfOk result (λ r. (count : ℕ) → r.answer ≡ Answer.Accepted count → HasSolutions model.now stream.now count) }
     // The report is the one as defined, with one verdict for each block, the stream's claims and the answer that follows. What it
     // tells satisfied has a solution. A no is a no: what it tells violated has none.
-    ensures report { IfOk result (λ r. HasReport model.now stream.now (report_view r)) }
+    ensures report { IfOk result (λ r. HasReport Completion.Off model.now stream.now (report_view r)) }
     ensures in_order { IfOk result (λ r. AreInOrder 0 (vec_len r.verdicts) r.claims.items) }
     ensures short { IfOk result (λ _. length stream.now ≤ most_bytes) }
     // The model is refused only where its bytes are a text of no tree, or with the leftmost fault of its names.

@@ -18,6 +18,7 @@ ghost use Rattle.fz_check.specs.Refused.{HasNameFault, HasTextFault};
 
 use crate::checking::read_model;
 use crate::error::CheckError;
+use fz_live::fz_judge::fz_verdict::Completion;
 use fz_live::{Answer, LiveError, check_parts};
 use std::alloc::Global;
 use std::io::{Read, Write};
@@ -35,7 +36,9 @@ fn live_refusal(error: LiveError) -> CheckError
     }
 }
 
-/// As `check_stream`, with at most so many reads.
+/// As `check_stream`, with at most so many reads; values that the solver left out are looked for
+/// where completion is on. What is found is judged as the filling is, and only then is a block
+/// satisfied by it; none is violated by it.
 ///
 /// # Errors
 ///
@@ -46,11 +49,12 @@ pub fn check_stream_up_to<R: Read, W: Write>(
     reader: &mut R,
     writer: &mut W,
     reads: u64,
+    completion: Completion,
 ) -> Result<Answer, CheckError>
     // A yes is a yes: what is accepted has solutions.
     ensures accepted { IfOk result (λ a. (count : ℕ) → a ≡ Answer.Accepted count → HoldsOfStream (R.remaining reader.old) (R.remaining reader.new) (λ given. HasSolutions model.now given count)) }
     // The writer got the report on all that the reader gave up to its end, and nothing else.
-    ensures report { IfOk result (λ a. HoldsOfStream (R.remaining reader.old) (R.remaining reader.new) (λ given. IsReportedTo model.now given (W.contents writer.old) (W.contents writer.new) (answer_view a))) }
+    ensures report { IfOk result (λ a. HoldsOfStream (R.remaining reader.old) (R.remaining reader.new) (λ given. IsReportedTo completion model.now given (W.contents writer.old) (W.contents writer.new) (answer_view a))) }
     // The model is refused only where its bytes are a text of no tree, or with the leftmost fault of its names.
     ensures model { (e : SyntaxFault) → result ≡ Err (CheckError.Model e) → HasTextFault model.now e }
     ensures names { (e : NameFault) → result ≡ Err (CheckError.Names e) → HasNameFault model.now e }
@@ -58,13 +62,13 @@ pub fn check_stream_up_to<R: Read, W: Write>(
     ensures model_first { IfErr result (λ e. IsOfModel e → IsUntouched (R.remaining reader.old) (R.remaining reader.new) (W.contents writer.old) (W.contents writer.new)) }
     // After the other refusals the lines of all parts that ended before the fault were written, and nothing else.
     ensures fault { (e : StreamFault) → result ≡ Err (CheckError.Stream e) → IsStreamFault e × (e ≢ OfMemory) }
-    ensures stream { (e : StreamFault) → result ≡ Err (CheckError.Stream e) → HoldsOfModel model.now (λ m. StopsAfterLines m (R.remaining reader.old) (R.remaining reader.new) (W.contents writer.old) (W.contents writer.new) (λ given parts. IsRefusedAfter (R.remaining reader.new) given parts e)) }
-    ensures block { (n : ℕ) (e : BlockFault) → result ≡ Err (CheckError.Block n e) → HoldsOfModel model.now (λ m. StopsAfterLines m (R.remaining reader.old) (R.remaining reader.new) (W.contents writer.old) (W.contents writer.new) (λ given parts. BlockIsRefused m (R.remaining reader.new) given parts n e)) }
-    ensures read { result ≡ Err CheckError.Read → HoldsOfModel model.now (λ m. StopsAfterLines m (R.remaining reader.old) (R.remaining reader.new) (W.contents writer.old) (W.contents writer.new) HasNoMore) }
+    ensures stream { (e : StreamFault) → result ≡ Err (CheckError.Stream e) → HoldsOfModel model.now (λ m. StopsAfterLines completion m (R.remaining reader.old) (R.remaining reader.new) (W.contents writer.old) (W.contents writer.new) (λ given parts. IsRefusedAfter (R.remaining reader.new) given parts e)) }
+    ensures block { (n : ℕ) (e : BlockFault) → result ≡ Err (CheckError.Block n e) → HoldsOfModel model.now (λ m. StopsAfterLines completion m (R.remaining reader.old) (R.remaining reader.new) (W.contents writer.old) (W.contents writer.new) (λ given parts. BlockIsRefused m (R.remaining reader.new) given parts n e)) }
+    ensures read { result ≡ Err CheckError.Read → HoldsOfModel model.now (λ m. StopsAfterLines completion m (R.remaining reader.old) (R.remaining reader.new) (W.contents writer.old) (W.contents writer.new) HasNoMore) }
     // After a failed write a front of the lines for the bytes that were read was written, and nothing else.
-    ensures write { result ≡ Err CheckError.Write → HoldsOfModel model.now (λ m. WritesFrontOfLines m (R.remaining reader.old) (R.remaining reader.new) (W.contents writer.old) (W.contents writer.new)) }
+    ensures write { result ≡ Err CheckError.Write → HoldsOfModel model.now (λ m. WritesFrontOfLines completion m (R.remaining reader.old) (R.remaining reader.new) (W.contents writer.old) (W.contents writer.new)) }
     ensures memory { result ≡ Err CheckError.Memory → IsUntouched (R.remaining reader.old) (R.remaining reader.new) (W.contents writer.old) (W.contents writer.new)
-        ⊎ HoldsOfModel model.now (λ m. WritesFrontOfLines m (R.remaining reader.old) (R.remaining reader.new) (W.contents writer.old) (W.contents writer.new)) }
+        ⊎ HoldsOfModel model.now (λ m. WritesFrontOfLines completion m (R.remaining reader.old) (R.remaining reader.new) (W.contents writer.old) (W.contents writer.new)) }
     // It reads at most so often, 4,096 bytes at most at a time, and before there is an answer one read finds the end.
     ensures reads { SpendsReads reads 0 (R.remaining reader.old) (R.remaining reader.new) }
     ensures end_read { IfOk result (λ _. SpendsReads reads 1 (R.remaining reader.old) (R.remaining reader.new)) }
@@ -73,14 +77,14 @@ pub fn check_stream_up_to<R: Read, W: Write>(
         Ok(loaded) => loaded,
         Err(error) => return Err(error),
     };
-    match check_parts(alloc, &loaded, reader, writer, reads) {
+    match check_parts(alloc, &loaded, reader, writer, reads, completion) {
         Ok(answer) => Ok(answer),
         Err(error) => Err(live_refusal(error)),
     }
 }
 
 /// The most reads of a stream.
-const MOST_READS: u64 = 4_294_967_296;
+pub const MOST_READS: u64 = 4_294_967_296;
 
 /// Judges each block of the stream that a reader gives, and writes each line of the report when it is known. At most 4,096 bytes are read
 /// at a time, in at most 4,294,967,296 reads, and one block is held.
@@ -97,19 +101,19 @@ pub fn check_stream<R: Read, W: Write>(
     writer: &mut W,
 ) -> Result<Answer, CheckError>
     ensures accepted { IfOk result (λ a. (count : ℕ) → a ≡ Answer.Accepted count → HoldsOfStream (R.remaining reader.old) (R.remaining reader.new) (λ given. HasSolutions model.now given count)) }
-    ensures report { IfOk result (λ a. HoldsOfStream (R.remaining reader.old) (R.remaining reader.new) (λ given. IsReportedTo model.now given (W.contents writer.old) (W.contents writer.new) (answer_view a))) }
+    ensures report { IfOk result (λ a. HoldsOfStream (R.remaining reader.old) (R.remaining reader.new) (λ given. IsReportedTo Completion.Off model.now given (W.contents writer.old) (W.contents writer.new) (answer_view a))) }
     ensures model { (e : SyntaxFault) → result ≡ Err (CheckError.Model e) → HasTextFault model.now e }
     ensures names { (e : NameFault) → result ≡ Err (CheckError.Names e) → HasNameFault model.now e }
     ensures model_first { IfErr result (λ e. IsOfModel e → IsUntouched (R.remaining reader.old) (R.remaining reader.new) (W.contents writer.old) (W.contents writer.new)) }
     ensures fault { (e : StreamFault) → result ≡ Err (CheckError.Stream e) → IsStreamFault e × (e ≢ OfMemory) }
-    ensures stream { (e : StreamFault) → result ≡ Err (CheckError.Stream e) → HoldsOfModel model.now (λ m. StopsAfterLines m (R.remaining reader.old) (R.remaining reader.new) (W.contents writer.old) (W.contents writer.new) (λ given parts. IsRefusedAfter (R.remaining reader.new) given parts e)) }
-    ensures block { (n : ℕ) (e : BlockFault) → result ≡ Err (CheckError.Block n e) → HoldsOfModel model.now (λ m. StopsAfterLines m (R.remaining reader.old) (R.remaining reader.new) (W.contents writer.old) (W.contents writer.new) (λ given parts. BlockIsRefused m (R.remaining reader.new) given parts n e)) }
-    ensures read { result ≡ Err CheckError.Read → HoldsOfModel model.now (λ m. StopsAfterLines m (R.remaining reader.old) (R.remaining reader.new) (W.contents writer.old) (W.contents writer.new) HasNoMore) }
-    ensures write { result ≡ Err CheckError.Write → HoldsOfModel model.now (λ m. WritesFrontOfLines m (R.remaining reader.old) (R.remaining reader.new) (W.contents writer.old) (W.contents writer.new)) }
+    ensures stream { (e : StreamFault) → result ≡ Err (CheckError.Stream e) → HoldsOfModel model.now (λ m. StopsAfterLines Completion.Off m (R.remaining reader.old) (R.remaining reader.new) (W.contents writer.old) (W.contents writer.new) (λ given parts. IsRefusedAfter (R.remaining reader.new) given parts e)) }
+    ensures block { (n : ℕ) (e : BlockFault) → result ≡ Err (CheckError.Block n e) → HoldsOfModel model.now (λ m. StopsAfterLines Completion.Off m (R.remaining reader.old) (R.remaining reader.new) (W.contents writer.old) (W.contents writer.new) (λ given parts. BlockIsRefused m (R.remaining reader.new) given parts n e)) }
+    ensures read { result ≡ Err CheckError.Read → HoldsOfModel model.now (λ m. StopsAfterLines Completion.Off m (R.remaining reader.old) (R.remaining reader.new) (W.contents writer.old) (W.contents writer.new) HasNoMore) }
+    ensures write { result ≡ Err CheckError.Write → HoldsOfModel model.now (λ m. WritesFrontOfLines Completion.Off m (R.remaining reader.old) (R.remaining reader.new) (W.contents writer.old) (W.contents writer.new)) }
     ensures memory { result ≡ Err CheckError.Memory → IsUntouched (R.remaining reader.old) (R.remaining reader.new) (W.contents writer.old) (W.contents writer.new)
-        ⊎ HoldsOfModel model.now (λ m. WritesFrontOfLines m (R.remaining reader.old) (R.remaining reader.new) (W.contents writer.old) (W.contents writer.new)) }
+        ⊎ HoldsOfModel model.now (λ m. WritesFrontOfLines Completion.Off m (R.remaining reader.old) (R.remaining reader.new) (W.contents writer.old) (W.contents writer.new)) }
     ensures reads { SpendsReads most_reads 0 (R.remaining reader.old) (R.remaining reader.new) }
     ensures end_read { IfOk result (λ _. SpendsReads most_reads 1 (R.remaining reader.old) (R.remaining reader.new)) }
 {
-    check_stream_up_to(alloc, model, reader, writer, MOST_READS)
+    check_stream_up_to(alloc, model, reader, writer, MOST_READS, Completion::Off)
 }

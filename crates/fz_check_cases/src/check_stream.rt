@@ -2,7 +2,10 @@
 
 use crate::table::{Call, look_at};
 use fz_base::Span;
-use fz_check::{Answer, CheckError, check, check_stream, check_stream_up_to, refusal_text};
+use fz_check::{
+    Answer, CheckError, Completion, MOST_READS, check, check_stream, check_stream_up_to,
+    refusal_text,
+};
 use fz_stream::StreamError;
 use std::alloc::Global;
 use std::io::{self, ErrorKind, Read, Write};
@@ -19,6 +22,8 @@ pub(crate) struct Run<'a> {
     pub(crate) ends: bool,
     /// the most reads, where there is a bound
     pub(crate) reads: Option<u64>,
+    /// whether values that the solver left out are looked for
+    pub(crate) completion: Completion,
 }
 
 impl Read for Run<'_> {
@@ -63,10 +68,12 @@ impl Narrow {
 impl Run<'_> {
     fn answer(mut self, alloc: Global, writer: &mut Narrow) -> Result<Answer, CheckError> {
         let model = self.model;
-        match self.reads {
-            Some(reads) => check_stream_up_to(alloc, model, &mut self, writer, reads),
-            None => check_stream(alloc, model, &mut self, writer),
+        let completion = self.completion;
+        if self.reads.is_none() && completion == Completion::Off {
+            return check_stream(alloc, model, &mut self, writer);
         }
+        let reads = self.reads.unwrap_or(MOST_READS);
+        check_stream_up_to(alloc, model, &mut self, writer, reads, completion)
     }
 
     /// What is written, and then the line of the refusal.
@@ -97,7 +104,16 @@ pub(crate) fn bytewise<'a>(model: &'a [u8], stream: &'a [u8], ends: bool) -> Run
         later: 1,
         ends,
         reads: None,
+        completion: Completion::Off,
     }
+}
+
+/// A stream that is read byte by byte to its end, where values that the solver left out are looked
+/// for.
+pub(crate) fn completed<'a>(model: &'a [u8], stream: &'a [u8]) -> Run<'a> {
+    let mut run = bytewise(model, stream, true);
+    run.completion = Completion::On;
+    run
 }
 
 const IMPROVING: &[u8] = b"var 0..9: c :: output_var;\nsolve minimize c;\n";

@@ -3,7 +3,7 @@
 
 use crate::filling::read;
 use crate::table::{Call, look_at};
-use fz_check::{BlockError, CheckError, Fault, Judge, Verdict};
+use fz_check::{BlockError, CheckError, Completion, Fault, Judge, Verdict};
 use fz_model::Model;
 use std::alloc::Global;
 
@@ -30,7 +30,7 @@ pub(crate) fn verdicts(
     stream: &[u8],
 ) -> Result<Vec<u8>, CheckError> {
     let stream = read(alloc, stream)?;
-    let mut judge = Judge::new(model);
+    let mut judge = Judge::new(model, Completion::Off);
     let mut text = Vec::new(alloc);
     for block in &stream.blocks {
         text.extend_from_slice(word(judge.judge(alloc, block)))?;

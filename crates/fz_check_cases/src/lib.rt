@@ -8,6 +8,8 @@ mod check;
 #[cfg(test)]
 mod check_stream;
 #[cfg(test)]
+mod completing;
+#[cfg(test)]
 mod filling;
 #[cfg(test)]
 mod globals;

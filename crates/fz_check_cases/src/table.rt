@@ -5,7 +5,7 @@
 //! empty line ends the model. Within a line ` / ` ends a line too, and one that ends in `\` has no
 //! line feed.
 
-use crate::check_stream::bytewise;
+use crate::check_stream::{bytewise, completed};
 use crate::{filling, judge, load, points};
 use fz_check::{CheckError, check, refusal_text, report_text, show};
 use fz_model::{Model, load};
@@ -22,6 +22,8 @@ pub(crate) enum Call {
     CheckStream,
     /// the same, where a read fails in the place of the stream's end
     BrokenStream,
+    /// the same as of a stream up to its end, where values that the solver left out are looked for
+    Completed,
     /// the model's canonical text
     Show,
     /// the variable that each constraint defines
@@ -85,6 +87,7 @@ fn told(alloc: Global, call: Call, model: &[u8], stream: &[u8]) -> Result<Vec<u8
         Call::Check => report(alloc, model, stream),
         Call::CheckStream => bytewise(model, stream, true).told(alloc),
         Call::BrokenStream => bytewise(model, stream, false).told(alloc),
+        Call::Completed => completed(model, stream).told(alloc),
         Call::Show => show(alloc, model),
         _ => told_of_text(alloc, call, model, stream),
     }

@@ -1,10 +1,10 @@
 -- The tables of numbers and truth values beside the values of a partial assignment.
-use Rattle.std.proofs.Common.{◌≡◌, ℕ, ◌+◌, ◌<◌, ℤ, Bool, zero, suc, List, [], ◌∷◌, ◌++◌, length, map, take, replicate, Option, None, Some, is_some, true, false, slice_set, add-one, arith, refl, ap, ◌∙◌}
+use Rattle.std.proofs.Common.{◌≡◌, ℕ, ◌+◌, ◌<◌, ◌≤◌, ℤ, Bool, zero, suc, List, [], ◌∷◌, ◌++◌, length, map, take, replicate, Option, None, Some, is_some, true, false, slice_set, add-one, arith, refl, ap, ◌∙◌}
 use Rattle.std.proofs.Math.Seq.{take-append_seam}
 use Rattle.std.proofs.lemmas.List.{length-map}
 use Rattle.fz_base.specs.declared.value.Value.{Value}
 use Rattle.fz_meaning.specs.Meaning.{Variable, give, value_at}
-use Rattle.fz_data.specs.Partial.{IsTabled, number_in, truth_in, unset_count}
+use Rattle.fz_data.specs.Partial.{IsTabled, number_in, truth_in, unset_count, without}
 
 map_set : {A B : Type 0} (f : A → B) (xs : List A) (n : ℕ) (x : A) → slice_set (map f xs) n (f x) ≡ map f (slice_set xs n x)
 map_set f [] n x = refl
@@ -41,6 +41,39 @@ one_unset_less (None ∷ K) zero v h e = refl
 one_unset_less (Some u ∷ K) zero v h e = cc
 one_unset_less (None ∷ K) (suc n) v h e = ap suc (one_unset_less K n v (omega arith) e)
 one_unset_less (Some u ∷ K) (suc n) v h e = one_unset_less K n v (omega arith) e
+
+-- and one that is taken away leaves one more
+pub one_unset_more : (K : List (Option Value)) (n : ℕ) → is_some (value_at K n) ≡ true → unset_count (without K n) ≡ suc (unset_count K)
+one_unset_more [] n e = cc
+one_unset_more (None ∷ K) zero e = cc
+one_unset_more (Some u ∷ K) zero e = refl
+one_unset_more (None ∷ K) (suc n) e = ap suc (one_unset_more K n e)
+one_unset_more (Some u ∷ K) (suc n) e = one_unset_more K n e
+
+pub unset_fit : (K : List (Option Value)) → unset_count K ≤ length K
+unset_fit [] = omega arith
+unset_fit (None ∷ K) = omega (arith, unset_fit K)
+unset_fit (Some u ∷ K) = omega (arith, unset_fit K)
+
+-- where there is none, none is taken away
+pub none_taken : (K : List (Option Value)) (n : ℕ) → is_some (value_at K n) ≡ false → K ≡ without K n
+none_taken [] n e = refl
+none_taken (None ∷ K) zero e = refl
+none_taken (Some u ∷ K) zero e = cc
+none_taken (o ∷ K) (suc n) e = ap (λ J. o ∷ J) (none_taken K n e)
+
+pub has_place : (K : List (Option Value)) (n : ℕ) → is_some (value_at K n) ≡ true → n < length K
+has_place [] n e = cc
+has_place (o ∷ K) zero e = omega arith
+has_place (o ∷ K) (suc n) e = omega (arith, has_place K n e)
+
+pub one_less_tabled : (K : List (Option Value)) (ns : List ℤ) (bs gs : List Bool) (n : ℕ) → IsTabled K ns bs gs
+    → IsTabled (without K n) (slice_set ns n (number_in None)) (slice_set bs n (truth_in None)) (slice_set gs n false)
+one_less_tabled K ns bs gs n t = record {
+  numbers = ap (λ zs. slice_set zs n (number_in None)) t.numbers ∙ map_set number_in K n None;
+  truths = ap (λ zs. slice_set zs n (truth_in None)) t.truths ∙ map_set truth_in K n None;
+  given = ap (λ zs. slice_set zs n false) t.given ∙ map_set is_some K n None;
+}
 
 -- where nothing has a value, each one counts
 pub all_unset : {A : Type 0} (xs : List A) → unset_count (map (λ x. None) xs) ≡ length xs

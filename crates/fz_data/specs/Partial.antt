@@ -1,5 +1,5 @@
 -- The partial assignment without a value, and its values by their kinds (this project's profile).
-use Rattle.std.specs.Prelude.{◌≡◌, ℕ, suc, ℤ, pos, Bool, false, List, [], ◌∷◌, map, Option, None, Some, is_some}
+use Rattle.std.specs.Prelude.{◌≡◌, ℕ, suc, ℤ, pos, Bool, false, List, [], ◌∷◌, map, Option, None, Some, is_some, slice_set}
 use Rattle.fz_base.specs.declared.value.Value.{Value}
 use Rattle.fz_base.specs.declared.value.Value.TheVariants.{Int, Bool as Truth}
 use Rattle.fz_meaning.specs.Meaning.{Model, Partial, variables_of}
@@ -7,6 +7,10 @@ use Rattle.fz_meaning.specs.Meaning.{Model, Partial, variables_of}
 -- no variable of the model has a value
 abbrev pub nothing_for : Model → Partial
 nothing_for m = map (λ x. None) (variables_of m)
+
+-- the same, but this variable has no value
+abbrev pub without : Partial → ℕ → Partial
+without K n = slice_set K n None
 
 -- ---- a value as it is read, also where there is none of the kind
 

@@ -36,8 +36,8 @@ AreArgumentsOf s st xs g = (later : Store) → IsLonger st later → map (argume
 abbrev pub IsPostedOf : Scope → Store → meaning.Posted → Posted → Type 0
 IsPostedOf s st x p = (later : Store) → IsLonger st later → posted_view s.variables.items s.arrays.items later p ≡ x
 
--- The constraints so far have no fault, and what was found reads as they are looked up, whatever the
--- store gets behind it, each with its row.
+-- The constraints so far have no fault, and what was found reads as they are looked up, whatever
+-- the store gets behind it, each with its row.
 pub record Posts (s : Scope) (known : List Constraint) (store : Store) (found : List Posted) : Type 0 where
   pub clean : first_some (constraint_fault_in s) known ≡ None
   pub views : (later : Store) → IsLonger store later → map (posted_view s.variables.items s.arrays.items later) found ≡ map (posted_in s) known

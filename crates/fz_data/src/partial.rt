@@ -3,7 +3,7 @@
 ghost use Rattle.std.specs.Prelude.{◌≡◌, ◌<◌, IfOk, None, Some, false, is_some, length, map, option_map, pos, replicate};
 ghost use Rattle.std.specs.FinSet as sets;
 ghost use Rattle.fz_meaning.specs.Meaning.{give, value, value_at};
-ghost use Rattle.fz_data.specs.Partial.{nothing_for, number_in, truth_in, unset_count};
+ghost use Rattle.fz_data.specs.Partial.{nothing_for, number_in, truth_in, unset_count, without};
 
 use crate::model::Model;
 use fz_base::{IntSet, Value};
@@ -209,6 +209,21 @@ impl Partial {
         self.truths[number] = truth_of(&value);
         self.given[number] = true;
         put(&mut self.values[number], value);
+    }
+
+    /// Takes the value of a variable away, where it has one, and changes nothing else. It takes no
+    /// memory.
+    #[inline]
+    pub fn take_away(&mut self, number: usize)
+        ensures taken { self.new ≡ without self.old number }
+    {
+        if self.has(number) {
+            self.unset += 1;
+            self.numbers[number] = 0;
+            self.truths[number] = false;
+            self.given[number] = false;
+            empty(&mut self.values[number]);
+        }
     }
 
     /// Takes every value away, and keeps the room. It takes no memory.

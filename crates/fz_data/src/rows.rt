@@ -26,8 +26,8 @@ pub(crate) struct Cited<'m, 'a> {
     ghost kinds_are: { kinds.now ≡ kinds_among variables.now },
 }
 
-/// The row of the table that a constraint fits, by its name, the kinds of its arguments, and the lengths
-/// of the arrays that belong together. It goes over each argument once and takes no memory.
+/// The row of the table that a constraint fits, by its name, the kinds of its arguments, and the
+/// lengths of the arrays that belong together. It goes over each argument once and takes no memory.
 pub(crate) fn row_of(
     name: &[u8],
     arguments: &[Argument],

@@ -1,10 +1,11 @@
 -- The outcome of a form with a truth value.
-use Rattle.std.proofs.Common.{◌≡◌, ℕ, suc, ◌+◌, Bool, true, false, not, ◌&&◌, ◌||◌, List, [], ◌∷◌, ◌++◌, length, refl, sym, ap, ◌∙◌, arith}
+use Rattle.std.proofs.Common.{◌≡◌, ℕ, suc, ◌+◌, Bool, true, false, not, ◌||◌, List, [], ◌∷◌, ◌++◌, length, refl, sym, ap, ◌∙◌, arith}
 use Rattle.std.specs.Prelude.{IsSome}
+use Rattle.std.specs.List.{list_any}
 use Rattle.fz_base.specs.declared.value.Value.TheVariants.{Bool as BoolValue}
 use Rattle.fz_meaning.specs.declared.kind.Kind.TheVariants.{Int as IntKind, Bool as BoolKind, Set as SetKind}
 use Rattle.fz_meaning.specs.Values.{◌=ᴮ◌}
-use Rattle.fz_meaning.specs.Builtins.{Shape, Row, implied, reified, with_bool, read, leaves_128, products}
+use Rattle.fz_meaning.specs.Builtins.{Shape, Row, implied, reified, with_bool, read}
 use Rattle.fz_meaning.specs.declared.known.Form.{Form}
 use Rattle.fz_meaning.specs.declared.known.Form.TheVariants.{Base, Reified, Implied}
 use Rattle.fz_meaning.specs.Known.{HasTruth, form_at}
@@ -12,7 +13,7 @@ use Rattle.fz_meaning.specs.Builtins.Shape.{ScalarOf, ArrayOf}
 use Rattle.fz_meaning.specs.Builtins.ArgValue.{OneValue}
 use Rattle.fz_meaning.specs.Meaning.{Argument, Partial, row_holds}
 use Rattle.fz_meaning.proofs.TableRows.{AreRead, implied_holds, reified_holds, plain_ints, plain_bools, plain_sets}
-use Rattle.fz_kernel.specs.of_scene.Given.{given, given_from, given_values, bool_at, ints_at, bools_at, sets_at}
+use Rattle.fz_kernel.specs.of_scene.Given.{given, given_from, given_values, bool_at, ints_at, bools_at, sets_at, read_leave}
 use Rattle.fz_eval.specs.Outcomes.{row_outcome, sum_outcome, compared, implied_by}
 use Rattle.fz_eval.proofs.Rows.{outcome_is}
 
@@ -49,7 +50,7 @@ module _ (r : Row) (K : Partial) (xs : List Argument) where
   holds = row_holds r (given_values K r.shapes xs)
 
   leaves : Bool
-  leaves = r.sums_in_128 && leaves_128 (products (ints_at K xs 0) (ints_at K xs 1))
+  leaves = list_any (read_leave K xs) r.sums
 
   last_given : given_values K (with_bool r.shapes) xs ≡ given_values K r.shapes xs ++ OneValue (BoolValue (bool_at K xs (length r.shapes))) ∷ []
   last_given =

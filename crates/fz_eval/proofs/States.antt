@@ -5,65 +5,34 @@ use Rattle.std.specs.List.{list_all, list_any}
 use Rattle.fz_meaning.specs.declared.state.State.{State}
 use Rattle.fz_meaning.specs.declared.term.Term.{Term}
 use Rattle.fz_meaning.specs.declared.state.State.TheVariants.{Holds, Fails, NoValue, TooLarge}
-use Rattle.fz_meaning.specs.Builtins.{Shape, Row, ArgValue, [I], builtins, leaves_128, products, row_at, rows, with_bool}
-use Rattle.fz_meaning.specs.Builtins.Shape.{ArrayOf}
+use Rattle.fz_meaning.specs.Builtins.{Row, ArgValue, builtins, row_at, rows}
 use Rattle.fz_meaning.specs.Meaning.{Argument, Partial, Posted, argument_values, fits, have_shapes, judged, judged_by, row_holds, row_of, state_of_row, state_of_values, sums_leave, values}
 use Rattle.fz_meaning.proofs.Values.{no, no', and_first, and_second}
 use Rattle.fz_meaning.specs.declared.builtin.Builtin.{Builtin}
-use Rattle.fz_meaning.specs.declared.kind.Kind.TheVariants.{Int as IntKind}
 use Rattle.fz_meaning.specs.declared.known.Form.{Form}
 use Rattle.fz_meaning.specs.declared.known.Form.TheVariants.{Base, Reified, Implied}
 use Rattle.fz_meaning.specs.declared.known.Known.{Known}
 use Rattle.fz_meaning.specs.Known.{form_at, known_row}
 use Rattle.fz_meaning.proofs.FoundRows.{each_builtin}
-use Rattle.fz_kernel.specs.of_scene.Given.{are_read, are_given, has_value, given_values, ints_at}
+use Rattle.fz_kernel.specs.of_scene.Given.{are_read, are_given, has_value, given_values, read_leave}
 use Rattle.fz_kernel.proofs.of_scene.Ready.{ready_values, values_given, values_some, wrong_kind}
-use Rattle.fz_kernel.proofs.of_scene.Sums.{sums_leave_is}
+use Rattle.fz_kernel.proofs.of_scene.Sums.{are_ints, sums_leave_are, sums_with_bool}
 use Rattle.fz_eval.specs.Outcomes.{row_outcome, sum_outcome, told}
 use Rattle.fz_eval.proofs.Rows.{outcome_is}
 
--- ---- a row whose sum is added in 128 bits begins with two arrays of numbers
+-- ---- a row adds products of arrays of numbers
 
-abbrev AddsInts : Row → Type 0
-AddsInts r = r.sums_in_128 ≡ true → (ss : List Shape) × (r.shapes ≡ [I] ∷ [I] ∷ ss)
+all_sum_ints : list_all (λ b. list_all (are_ints (row_at b).shapes) (row_at b).sums) builtins ≡ true
+unfolding row_at builtins
+all_sum_ints = refl
 
-begins_with_ints : List Shape → Bool
-begins_with_ints (ArrayOf IntKind ∷ ArrayOf IntKind ∷ ss) = true
-begins_with_ints _ = false
+form_sums_ints : (f : Form) (r : Row) → list_all (are_ints r.shapes) r.sums ≡ true → list_all (are_ints (form_at f r).shapes) (form_at f r).sums ≡ true
+form_sums_ints Base r h = h
+form_sums_ints Reified r h = sums_with_bool r.shapes r.sums h
+form_sums_ints Implied r h = sums_with_bool r.shapes r.sums h
 
-all_begin : list_all (λ b. not (row_at b).sums_in_128 || begins_with_ints (row_at b).shapes) builtins ≡ true
-unfolding begins_with_ints row_at builtins
-all_begin = refl
-
-from_beginning : (sums : Bool) (ss : List Shape) → (not sums || begins_with_ints ss) ≡ true → sums ≡ true → (ts : List Shape) × (ss ≡ [I] ∷ [I] ∷ ts)
-unfolding begins_with_ints
-from_beginning false ss h e = no e
-from_beginning true (ArrayOf IntKind ∷ ArrayOf IntKind ∷ ss) h e = (ss, refl)
-from_beginning true _ h e = no h
-
-base_adds_ints : (b : Builtin) → AddsInts (row_at b)
-base_adds_ints b = from_beginning (row_at b).sums_in_128 (row_at b).shapes (each_builtin (λ b. not (row_at b).sums_in_128 || begins_with_ints (row_at b).shapes) all_begin b)
-
-form_adds_ints : (f : Form) (r : Row) → AddsInts r → AddsInts (form_at f r)
-form_adds_ints Base r h = h
-form_adds_ints Reified r h = λ e. let (ss, is) = h e in (with_bool ss, ap with_bool is)
-form_adds_ints Implied r h = λ e. let (ss, is) = h e in (with_bool ss, ap with_bool is)
-
-adds_ints : (k : Known) → AddsInts (known_row k)
-adds_ints k = form_adds_ints k.form (row_at k.builtin) (base_adds_ints k.builtin)
-
--- ---- the sums
-
--- the sums of the values that are given
-abbrev leave : Partial → List Argument → Bool
-leave K xs = leaves_128 (products (ints_at K xs 0) (ints_at K xs 1))
-
-too_large : (r : Row) (K : Partial) (xs : List Argument) → AddsInts r → have_shapes r.shapes xs ≡ true → (r.sums_in_128 && sums_leave K xs) ≡ (r.sums_in_128 && leave K xs)
-too_large r K xs adds shaped =
-    elim r.sums_in_128 as (λ b. (b ≡ true → (ss : List Shape) × (r.shapes ≡ [I] ∷ [I] ∷ ss)) → (b && sums_leave K xs) ≡ (b && leave K xs)) [
-      | true ↦ λ adds. let (ss, are) = adds refl in sums_leave_is K ss xs (ap (λ ts. have_shapes ts xs) (sym are) ∙ shaped)
-      | false ↦ λ _. refl
-    ] adds
+sums_ints : (k : Known) → list_all (are_ints (known_row k).shapes) (known_row k).sums ≡ true
+sums_ints k = form_sums_ints k.form (row_at k.builtin) (each_builtin (λ b. list_all (are_ints (row_at b).shapes) (row_at b).sums) all_sum_ints k.builtin)
 
 -- ---- an array's elements
 
@@ -92,12 +61,12 @@ module _ (k : Known) (K : Partial) (xs : List Argument) (shaped : have_shapes (k
         | Some vs ↦ λ e. no' e
       ] (values_given K xs ∙ none)
 
-  by_sum : (vs : List ArgValue) (leaves holds : Bool) → leaves ≡ ((known_row k).sums_in_128 && leave K xs) → holds ≡ row_holds (known_row k) vs
+  by_sum : (vs : List ArgValue) (leaves holds : Bool) → leaves ≡ (list_any (read_leave K xs) (known_row k).sums) → holds ≡ row_holds (known_row k) vs
       → cond leaves TooLarge (judged holds) ≡ state_of_values K xs (known_row k) (Some vs)
   by_sum vs leaves holds e f =
-      ap (λ b. cond b TooLarge (judged holds)) (e ∙ sym (too_large (known_row k) K xs (adds_ints k) shaped)) ∙ ap (λ h. cond ((known_row k).sums_in_128 && sums_leave K xs) TooLarge (judged h)) f
+      ap (λ b. cond b TooLarge (judged holds)) (e ∙ sym (sums_leave_are K (known_row k).shapes xs (known_row k).sums (sums_ints k) shaped)) ∙ ap (λ h. cond (sums_leave K xs (known_row k)) TooLarge (judged h)) f
 
-  pub of_wrong_kind : are_read K (known_row k).shapes xs ≡ false → are_given K xs ≡ true → (leaves : Bool) → leaves ≡ ((known_row k).sums_in_128 && leave K xs)
+  pub of_wrong_kind : are_read K (known_row k).shapes xs ≡ false → are_given K xs ≡ true → (leaves : Bool) → leaves ≡ (list_any (read_leave K xs) (known_row k).sums)
       → cond leaves TooLarge Fails ≡ state_of_row K xs (Some (known_row k))
   of_wrong_kind unread all leaves e =
       elim (argument_values K xs) as (λ o. argument_values K xs ≡ o → is_some o ≡ true → cond leaves TooLarge Fails ≡ state_of_values K xs (known_row k) o) [
@@ -112,8 +81,8 @@ module _ (k : Known) (K : Partial) (xs : List Argument) (shaped : have_shapes (k
   pub of_ready : are_read K (known_row k).shapes xs ≡ true → told (row_outcome (known_row k) K xs) ≡ state_of_row K xs (Some (known_row k))
   of_ready ready =
       let vs = given_values K (known_row k).shapes xs in
-      ap told (outcome_is (known_row k) K xs) ∙ told_sum ((known_row k).sums_in_128 && leave K xs) (row_holds (known_row k) vs)
-      ∙ by_sum vs ((known_row k).sums_in_128 && leave K xs) (row_holds (known_row k) vs) refl refl
+      ap told (outcome_is (known_row k) K xs) ∙ told_sum (list_any (read_leave K xs) (known_row k).sums) (row_holds (known_row k) vs)
+      ∙ by_sum vs (list_any (read_leave K xs) (known_row k).sums) (row_holds (known_row k) vs) refl refl
       ∙ ap (state_of_values K xs (known_row k)) (sym (ready_values K (known_row k).shapes xs shaped ready))
 
 -- ---- a constraint has the shapes of its row

@@ -1,13 +1,14 @@
 -- What a row comes to at the values that are given.
-use Rattle.std.specs.Prelude.{ℕ, suc, Bool, cond, not, ◌&&◌, ◌||◌, List, [], ◌∷◌}
+use Rattle.std.specs.Prelude.{ℕ, suc, Bool, cond, not, ◌||◌, List, [], ◌∷◌}
+use Rattle.std.specs.List.{list_any}
 use Rattle.fz_meaning.specs.declared.kind.Kind.TheVariants.{Int as IntKind, Bool as BoolKind, Set as SetKind}
 use Rattle.fz_meaning.specs.declared.state.State.{State}
 use Rattle.fz_meaning.specs.declared.state.State.TheVariants.{TooLarge as TooLargeState}
 use Rattle.fz_meaning.specs.Values.{◌=ᴮ◌}
-use Rattle.fz_meaning.specs.Builtins.{Of, Row, Shape, Test, leaves_128, products}
+use Rattle.fz_meaning.specs.Builtins.{Of, Row, Shape, Test}
 use Rattle.fz_meaning.specs.Builtins.Shape.{ScalarOf, ArrayOf}
 use Rattle.fz_meaning.specs.Meaning.{Argument, Partial, judged}
-use Rattle.fz_kernel.specs.of_scene.Given.{int_at, bool_at, set_at, ints_at, bools_at, sets_at}
+use Rattle.fz_kernel.specs.of_scene.Given.{int_at, bool_at, set_at, ints_at, bools_at, sets_at, read_leave}
 use Rattle.fz_eval.specs.declared.outcome.Outcome.{Outcome}
 use Rattle.fz_eval.specs.declared.outcome.Outcome.TheVariants.{Truth, TooLarge}
 
@@ -29,9 +30,9 @@ test_from i K xs (s ∷ ss) t = test_from (suc i) K xs ss (t (argument_at K xs i
 abbrev pub sum_outcome : Bool → Bool → Outcome
 sum_outcome leaves holds = cond leaves TooLarge (Truth holds)
 
--- whether the row holds, unless its sum is added in 128 bits and leaves them
+-- whether the row holds, unless a sum of it that is added in 128 bits leaves them
 unfoldable pub row_outcome : Row → Partial → List Argument → Outcome
-row_outcome r K xs = sum_outcome (r.sums_in_128 && leaves_128 (products (ints_at K xs 0) (ints_at K xs 1))) (test_from 0 K xs r.shapes r.holds)
+row_outcome r K xs = sum_outcome (list_any (read_leave K xs) r.sums) (test_from 0 K xs r.shapes r.holds)
 
 -- whether the truth value says what the outcome is
 abbrev pub compared : Bool → Outcome → Outcome

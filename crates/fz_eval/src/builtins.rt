@@ -158,6 +158,7 @@ pub fn of_builtin(
         Builtin::GecodeMinimumArgIntOffset => Ok(Outcome::Truth(places::argument_of_minimum(
             scene,
         ))),
+        Builtin::FznKnapsack => Ok(sums::knapsack(scene)),
         Builtin::FznSlidingSum => Ok(Outcome::Truth(scheduling::sliding_sum(scene))),
         Builtin::GecodeLinkSetToBooleans => Ok(Outcome::Truth(flags::link_set_to_booleans(scene))),
         Builtin::GecodeIntSetChannel => Ok(Outcome::Truth(flags::int_set_channel(scene))),

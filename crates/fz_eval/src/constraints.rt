@@ -1,20 +1,20 @@
 //! Constraints.
 
-ghost use Rattle.std.specs.Prelude.{◌≡◌, IfOk, IsTrue, Some, ◌&&◌, true, length, map, option_map};
-ghost use Rattle.fz_meaning.specs.Builtins.{leaves_128, products};
+ghost use Rattle.std.specs.Prelude.{◌≡◌, IfOk, IsTrue, Some, true, length, map, option_map};
+ghost use Rattle.std.specs.List.{list_any};
 ghost use Rattle.fz_meaning.specs.Meaning.{have_shapes, row_of, state_of_row};
 ghost use Rattle.fz_meaning.specs.Builtins.{row_at};
 ghost use Rattle.fz_meaning.specs.Known.{HasTruth, known_row};
 ghost use Rattle.fz_data.specs.Parts.{constraint_view};
-ghost use Rattle.fz_kernel.specs.of_scene.Given.{are_read};
+ghost use Rattle.fz_kernel.specs.of_scene.Given.{are_read, read_leave};
 ghost use Rattle.fz_kernel.specs.of_scene.Views.{arguments_of, assigned};
 ghost use Rattle.fz_eval.specs.Outcomes.{row_outcome};
-ghost use Rattle.fz_eval.specs.Readings.{ints, truth};
+ghost use Rattle.fz_eval.specs.Readings.{truth};
 ghost use Rattle.fz_eval.specs.Whole.{IsReady};
 
 use crate::builtins::of_builtin;
 use crate::outcome::Outcome;
-use crate::sums::sums_leave;
+use crate::sums::products_leave;
 use fz_data::{ConstraintParts, Partial};
 use fz_kernel::fz_scene::{Readiness, Scene};
 use fz_meaning::{Form, Known, State};
@@ -71,9 +71,12 @@ fn of_ready(alloc: Global, known: Known, scene: &Scene<'_, '_>) -> Result<State,
 }
 
 fn is_too_large(known: Known, scene: &Scene<'_, '_>) -> bool
-    ensures { result ≡ ((known_row known).sums_in_128 && leaves_128 (products (ints scene.now 0) (ints scene.now 1))) }
+    ensures { result ≡ list_any (read_leave (assigned scene.now) (arguments_of scene.now)) (known_row known).sums }
 {
-    known.sums_in_128() && sums_leave(scene)
+    known
+        .sums()
+        .iter()
+        .any(|places| products_leave(scene, places.0, places.1))
 }
 
 // The row's outcome: of a form with a truth value, what that says of the base row's.

@@ -7,8 +7,8 @@ ghost use Rattle.fz_meaning.specs.Builtins.{all_different, is_among};
 ghost use Rattle.fz_meaning.specs.Globals.{count_of, count_in, values_of, is_nonzero};
 ghost use Rattle.fz_eval.specs.Readings.{int, ints, numbers, truth, truths};
 
-use fz_kernel::counts;
-use fz_kernel::counts::{count_in, count_of, is_listed, is_truth_listed, nonzero_are_different};
+use fz_globals::counts;
+use fz_globals::counts::{count_in, count_of, is_listed, is_truth_listed, nonzero_are_different};
 use fz_kernel::fz_scene::Scene;
 use std::alloc::{AllocError, Global};
 
@@ -19,35 +19,35 @@ pub(crate) fn count_eq(scene: &Scene<'_, '_>) -> bool
     i128::from(scene.int(2)) == count_of(&scene.elements(0), scene.int(1))
 }
 
-/// Whether it is another number.
+/// Whether the third argument isn't how often the second is an element of the first.
 pub(crate) fn count_neq(scene: &Scene<'_, '_>) -> bool
     ensures { result ≡ not (int scene.now 2 =ℤ count_of (ints scene.now 0) (int scene.now 1)) }
 {
     i128::from(scene.int(2)) != count_of(&scene.elements(0), scene.int(1))
 }
 
-/// Whether it is that number or a greater one.
+/// Whether the third argument is at least how often the second is an element of the first.
 pub(crate) fn count_geq(scene: &Scene<'_, '_>) -> bool
     ensures { result ≡ int_le (count_of (ints scene.now 0) (int scene.now 1)) (int scene.now 2) }
 {
     i128::from(scene.int(2)) >= count_of(&scene.elements(0), scene.int(1))
 }
 
-/// Whether it is a greater number.
+/// Whether the third argument is above how often the second is an element of the first.
 pub(crate) fn count_gt(scene: &Scene<'_, '_>) -> bool
     ensures { result ≡ int_lt (count_of (ints scene.now 0) (int scene.now 1)) (int scene.now 2) }
 {
     i128::from(scene.int(2)) > count_of(&scene.elements(0), scene.int(1))
 }
 
-/// Whether it is that number or a lesser one.
+/// Whether the third argument is at most how often the second is an element of the first.
 pub(crate) fn count_leq(scene: &Scene<'_, '_>) -> bool
     ensures { result ≡ int_le (int scene.now 2) (count_of (ints scene.now 0) (int scene.now 1)) }
 {
     i128::from(scene.int(2)) <= count_of(&scene.elements(0), scene.int(1))
 }
 
-/// Whether it is a lesser number.
+/// Whether the third argument is below how often the second is an element of the first.
 pub(crate) fn count_lt(scene: &Scene<'_, '_>) -> bool
     ensures { result ≡ int_lt (int scene.now 2) (count_of (ints scene.now 0) (int scene.now 1)) }
 {
@@ -61,21 +61,21 @@ pub(crate) fn among(scene: &Scene<'_, '_>) -> bool
     i128::from(scene.int(0)) == count_in(&scene.elements(1), scene.set(2))
 }
 
-/// Whether the third argument is an element at least so often.
+/// Whether the third argument is an element at least as often as the first says.
 pub(crate) fn at_least(scene: &Scene<'_, '_>) -> bool
     ensures { result ≡ int_le (int scene.now 0) (count_of (ints scene.now 1) (int scene.now 2)) }
 {
     i128::from(scene.int(0)) <= count_of(&scene.elements(1), scene.int(2))
 }
 
-/// Whether it is an element at most so often.
+/// Whether the third argument is an element at most as often as the first says.
 pub(crate) fn at_most(scene: &Scene<'_, '_>) -> bool
     ensures { result ≡ int_le (count_of (ints scene.now 1) (int scene.now 2)) (int scene.now 0) }
 {
     i128::from(scene.int(0)) >= count_of(&scene.elements(1), scene.int(2))
 }
 
-/// Whether it is an element exactly so often.
+/// Whether the third argument is an element exactly as often as the first says.
 pub(crate) fn exactly(scene: &Scene<'_, '_>) -> bool
     ensures { result ≡ (int scene.now 0 =ℤ count_of (ints scene.now 1) (int scene.now 2)) }
 {

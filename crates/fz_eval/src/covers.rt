@@ -4,7 +4,7 @@ ghost use Rattle.std.specs.Prelude.{◌≡◌, ◌&&◌, IfOk};
 ghost use Rattle.fz_meaning.specs.Globals.{counts_are, counts_lie, is_closed};
 ghost use Rattle.fz_eval.specs.Readings.{ints};
 
-use fz_kernel::cover::{counts_are, counts_lie, is_closed};
+use fz_globals::cover::{counts_are, counts_lie, is_closed};
 use fz_kernel::fz_scene::Scene;
 use std::alloc::{AllocError, Global};
 
@@ -20,7 +20,8 @@ pub(crate) fn cardinality(alloc: Global, scene: &Scene<'_, '_>) -> Result<bool, 
     )
 }
 
-/// Whether that holds, and each element is in the cover.
+/// Whether each value of the cover is an element as often as its number says, and there is no
+/// other.
 pub(crate) fn cardinality_closed(alloc: Global, scene: &Scene<'_, '_>) -> Result<bool, AllocError>
     ensures { IfOk result (λ r. r ≡ (counts_are (ints scene.now 0) (ints scene.now 1) (ints scene.now 2) && is_closed (ints scene.now 0) (ints scene.now 1))) }
 {
@@ -35,7 +36,8 @@ pub(crate) fn cardinality_between(alloc: Global, scene: &Scene<'_, '_>) -> Resul
     counts_lie(alloc, &scene.elements(0), &scene.elements(1), least, most)
 }
 
-/// Whether that holds, and each element is in the cover.
+/// Whether each value of the cover is an element as often as its bounds let it, and there is no
+/// other.
 pub(crate) fn cardinality_between_closed(
     alloc: Global,
     scene: &Scene<'_, '_>,

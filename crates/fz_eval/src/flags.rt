@@ -4,10 +4,10 @@ ghost use Rattle.std.specs.Prelude.{◌≡◌, IfOk};
 ghost use Rattle.fz_meaning.specs.Globals.{is_flagged, are_disjoint, is_partition, are_channelled};
 ghost use Rattle.fz_eval.specs.Readings.{int, ints, numbers, sets_of, truths};
 
-use fz_kernel::channels::are_channelled;
-use fz_kernel::flags::is_flagged;
+use fz_globals::channels::are_channelled;
+use fz_globals::flags::is_flagged;
+use fz_globals::partition::{are_disjoint, is_partition};
 use fz_kernel::fz_scene::Scene;
-use fz_kernel::partition::{are_disjoint, is_partition};
 use std::alloc::{AllocError, Global};
 
 /// Whether the set is that of the indices whose truth values are true.

@@ -22,6 +22,7 @@ mod truths;
 mod whole;
 
 pub use builtins::of_builtin;
+pub use fz_globals;
 pub use fz_kernel;
 pub use fz_kernel::fz_scene;
 pub use holding::all_hold;

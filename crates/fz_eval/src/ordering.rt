@@ -5,15 +5,15 @@ ghost use Rattle.fz_meaning.specs.Values.{◌=ℤ◌, ◌=ᴮ◌};
 ghost use Rattle.fz_meaning.specs.Globals.{all_neighbours, is_sorted_form, is_before, precedes, rises_by_one};
 ghost use Rattle.fz_eval.specs.Readings.{int, ints, truths};
 
-use fz_kernel::fz_scene::Scene;
-use fz_kernel::lexical::{
+use fz_globals::lexical::{
     bools_are_before, bools_are_not_behind, ints_are_before, ints_are_not_behind,
 };
-use fz_kernel::order::{
+use fz_globals::order::{
     all_equal, is_decreasing, is_increasing, is_sorted_form, is_strictly_increasing,
     truths_decrease, truths_increase,
 };
-use fz_kernel::precedence::{precede_in_chain, precedes, rises_by_one};
+use fz_globals::precedence::{precede_in_chain, precedes, rises_by_one};
+use fz_kernel::fz_scene::Scene;
 use std::alloc::{AllocError, Global};
 
 /// Whether all elements are equal.
@@ -72,7 +72,7 @@ pub(crate) fn lex_less_int(scene: &Scene<'_, '_>) -> bool
     ints_are_before(&scene.elements(0), &scene.elements(1))
 }
 
-/// Whether it stands there, or the lists are equal.
+/// Whether the first list stands before the second, or they are equal.
 pub(crate) fn lex_lesseq_int(scene: &Scene<'_, '_>) -> bool
     ensures { result ≡ not (is_before int_lt ◌=ℤ◌ (ints scene.now 1) (ints scene.now 0)) }
 {
@@ -86,28 +86,28 @@ pub(crate) fn lex_less_bool(scene: &Scene<'_, '_>) -> bool
     bools_are_before(&scene.elements(0), &scene.elements(1))
 }
 
-/// Whether it stands there, or the lists are equal.
+/// Whether the first list stands before the second, or they are equal.
 pub(crate) fn lex_lesseq_bool(scene: &Scene<'_, '_>) -> bool
     ensures { result ≡ not (is_before (λ x y. not x && y) ◌=ᴮ◌ (truths scene.now 1) (truths scene.now 0)) }
 {
     bools_are_not_behind(&scene.elements(0), &scene.elements(1))
 }
 
-/// Whether the second value stands behind an element that is the first one, wherever it stands.
+/// Whether the second value stands only behind an element that is the first one.
 pub(crate) fn value_precede(scene: &Scene<'_, '_>) -> bool
     ensures { result ≡ precedes (int scene.now 0) (int scene.now 1) (ints scene.now 2) }
 {
     precedes(scene.int(0), scene.int(1), &scene.elements(2))
 }
 
-/// The same with the list first.
+/// Whether the third value stands only behind an element of the list that is the second one.
 pub(crate) fn precede(scene: &Scene<'_, '_>) -> bool
     ensures { result ≡ precedes (int scene.now 1) (int scene.now 2) (ints scene.now 0) }
 {
     precedes(scene.int(1), scene.int(2), &scene.elements(0))
 }
 
-/// The same of each two neighbours of a list of values.
+/// Whether of each two neighbours of a list of values the second stands only behind the first.
 pub(crate) fn value_precede_chain(alloc: Global, scene: &Scene<'_, '_>) -> Result<bool, AllocError>
     ensures { IfOk result (λ r. r ≡ all_neighbours (λ s t. precedes s t (ints scene.now 1)) (ints scene.now 0)) }
 {

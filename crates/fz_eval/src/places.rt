@@ -5,11 +5,11 @@ ghost use Rattle.fz_meaning.specs.Values.{◌=ℤ◌, ◌=ᴮ◌};
 ghost use Rattle.fz_meaning.specs.Globals.{as_places, is_circuit, is_subcircuit, are_inverse, is_row_of, is_word, is_index_of_best};
 ghost use Rattle.fz_eval.specs.Readings.{int, ints, numbers, truths};
 
-use fz_kernel::best_index::{is_index_of_maximum, is_index_of_minimum};
+use fz_globals::best_index::{is_index_of_maximum, is_index_of_minimum};
+use fz_globals::tables::{is_bool_row, is_int_row};
+use fz_globals::tours::{are_inverse, is_circuit, is_subcircuit};
+use fz_globals::words::is_word;
 use fz_kernel::fz_scene::Scene;
-use fz_kernel::tables::{is_bool_row, is_int_row};
-use fz_kernel::tours::{are_inverse, is_circuit, is_subcircuit};
-use fz_kernel::words::is_word;
 use std::alloc::{AllocError, Global};
 
 /// Whether the list leads from its first place to all, to each once, and back.

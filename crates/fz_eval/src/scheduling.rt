@@ -5,11 +5,11 @@ ghost use Rattle.std.specs.List.{list_all, zip};
 ghost use Rattle.fz_meaning.specs.Globals.{is_cumulative, is_disjunctive, is_strictly_disjunctive, boxes, overlap_nowhere, overlap_in_no_area, load_of, lies_between, loads_are, slides_between};
 ghost use Rattle.fz_eval.specs.Readings.{int, ints};
 
-use fz_kernel::bins::{loads_are_given, loads_are_within};
-use fz_kernel::boxes::{overlap_in_no_area, overlap_nowhere};
+use fz_globals::bins::{loads_are_given, loads_are_within};
+use fz_globals::boxes::{overlap_in_no_area, overlap_nowhere};
+use fz_globals::slides::slides_between;
+use fz_globals::tasks::{is_cumulative, is_disjunctive, is_strictly_disjunctive};
 use fz_kernel::fz_scene::Scene;
-use fz_kernel::slides::slides_between;
-use fz_kernel::tasks::{is_cumulative, is_disjunctive, is_strictly_disjunctive};
 
 /// Whether the tasks that run at one time never use more than there is.
 pub(crate) fn cumulative(scene: &Scene<'_, '_>) -> bool
@@ -41,7 +41,7 @@ pub(crate) fn diffn(scene: &Scene<'_, '_>) -> bool
     overlap_nowhere(&scene.elements(0), &scene.elements(1), width, height)
 }
 
-/// The same with the width behind the place along each axis.
+/// Whether no two boxes overlap, where each place along an axis comes with the size along it.
 pub(crate) fn nooverlap(scene: &Scene<'_, '_>) -> bool
     ensures { result ≡ overlap_nowhere (boxes (ints scene.now 0) (ints scene.now 2) (ints scene.now 1) (ints scene.now 3)) }
 {
@@ -72,7 +72,7 @@ pub(crate) fn bin_packing_load(scene: &Scene<'_, '_>) -> bool
     loads_are_given(scene.int(3), &scene.elements(1), &scene.elements(2), loads)
 }
 
-/// Whether so many neighbours always have a sum within the bounds.
+/// Whether each run of as many neighbours as the third argument says has a sum within the bounds.
 pub(crate) fn sliding_sum(scene: &Scene<'_, '_>) -> bool
     ensures { result ≡ slides_between (int scene.now 0) (int scene.now 1) (int scene.now 2) (ints scene.now 3) }
 {

@@ -1,12 +1,14 @@
 //! The rows that add products up in 128 bits.
 
-ghost use Rattle.std.specs.Prelude.{◌≡◌, int_le, not};
+ghost use Rattle.std.specs.Prelude.{◌≡◌, ◌||◌, int_le, not};
 ghost use Rattle.fz_meaning.specs.Values.{◌=ℤ◌};
 ghost use Rattle.fz_meaning.specs.Builtins.{leaves_128, products, total};
+ghost use Rattle.fz_meaning.specs.Globals.{is_knapsack};
 ghost use Rattle.fz_eval.specs.Outcomes.{sum_outcome};
 ghost use Rattle.fz_eval.specs.Readings.{int, ints};
 
 use crate::outcome::Outcome;
+use fz_globals::packed::is_knapsack;
 use fz_kernel::arrays::sum_of_products;
 use fz_kernel::fz_scene::Scene;
 
@@ -40,9 +42,20 @@ pub(crate) fn int_lin_le(scene: &Scene<'_, '_>) -> Outcome
     }
 }
 
-/// Whether a sum of products on the way leaves 128 bits.
-pub(crate) fn sums_leave(scene: &Scene<'_, '_>) -> bool
-    ensures { result ≡ leaves_128 (products (ints scene.now 0) (ints scene.now 1)) }
+/// Whether the things weigh as much, and bring as much, as the last two arguments say.
+pub(crate) fn knapsack(scene: &Scene<'_, '_>) -> Outcome
+    ensures { result ≡ sum_outcome (leaves_128 (products (ints scene.now 0) (ints scene.now 2)) || leaves_128 (products (ints scene.now 1) (ints scene.now 2))) (is_knapsack (ints scene.now 0) (ints scene.now 1) (ints scene.now 2) (int scene.now 3) (int scene.now 4)) }
 {
-    sum_of_products(&scene.elements(0), &scene.elements(1)).is_none()
+    let (weights, profits, numbers) = (scene.elements(0), scene.elements(1), scene.elements(2));
+    match is_knapsack(&weights, &profits, &numbers, scene.int(3), scene.int(4)) {
+        Some(holds) => Outcome::Truth(holds),
+        None => Outcome::TooLarge,
+    }
+}
+
+/// Whether a sum on the way of the products of two arrays leaves 128 bits.
+pub(crate) fn products_leave(scene: &Scene<'_, '_>, first: usize, second: usize) -> bool
+    ensures { result ≡ leaves_128 (products (ints scene.now first) (ints scene.now second)) }
+{
+    sum_of_products(&scene.elements(first), &scene.elements(second)).is_none()
 }

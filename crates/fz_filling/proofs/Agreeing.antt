@@ -1,6 +1,6 @@
 -- What a point gives rests on the values of its own scalars alone.
-use Rattle.std.proofs.Common.{◌≡◌, ℕ, suc, zero, pos, negsuc, cond, List, [], ◌∷◌, ◌++◌, length, Option, Some, None, refl, sym, ap, subst, subst₂, ◌∙◌, option_map, option_and_then, slice_get, is_none, flat_map, IsSomeAnd, IfSome, IsFalse, IsTrue, arith, ◌&&◌, ◌⊎◌}
-use Rattle.std.specs.List.{AllByRecursion}
+use Rattle.std.proofs.Common.{◌≡◌, ◌||◌, ℕ, suc, zero, pos, negsuc, cond, List, [], ◌∷◌, ◌++◌, length, Option, Some, None, refl, sym, ap, subst, subst₂, ◌∙◌, option_map, option_and_then, slice_get, is_none, flat_map, IsSomeAnd, IfSome, IsFalse, IsTrue, arith, ◌&&◌, ◌⊎◌}
+use Rattle.std.specs.List.{AllByRecursion, list_any}
 use Rattle.fz_base.specs.declared.value.Value.{Value}
 use Rattle.fz_base.specs.declared.value.Value.TheVariants.{Int}
 use Rattle.fz_model.specs.Builtins.{Row, Result, leaves_128}
@@ -8,11 +8,11 @@ use Rattle.fz_model.specs.Builtins.ArgValue.{OneValue, ManyValues}
 use Rattle.fz_model.specs.Builtins.Result.{NoResult, Places, UnitTerm}
 use Rattle.fz_model.specs.declared.Term.{Term}
 use Rattle.fz_model.specs.declared.Term.TheVariants.{Var, Fixed}
-use Rattle.fz_model.specs.Meaning.{Argument, Model, Point, Partial, value, values, value_at, give, option_cons, terms_in, argument_value, argument_values, row_of, row_holds, HoldsUnder, inside, as_int, product_before, known_products, sums_leave}
+use Rattle.fz_model.specs.Meaning.{Argument, Model, Point, Partial, value, values, value_at, give, option_cons, terms_in, argument_value, argument_values, row_of, row_holds, HoldsUnder, inside, as_int, product_before, known_products, products_leave, sums_leave, terms_at_argument}
 use Rattle.fz_model.specs.Meaning.Place.{Scalar, Array}
 use Rattle.fz_model.specs.Meaning.Argument.{One, ListOf}
 use Rattle.fz_model.specs.Meaning.Point.{DomainPoint, DefinitionPoint, ArrayPoint, ConstraintPoint}
-use Rattle.fz_model.specs.Steps.{Gives, IsResult, IsTarget, SumsFit, HasUnitCoefficient, terms_at_argument, terms_of, open_terms}
+use Rattle.fz_model.specs.Steps.{Gives, IsResult, IsTarget, SumsFit, HasUnitCoefficient, terms_of, open_terms}
 use Rattle.fz_filling.specs.Outlooks.{Agree}
 
 pub all_left : {A : Type 0} (P : A → Type 0) (xs ys : List A) → AllByRecursion P (xs ++ ys) → AllByRecursion P xs
@@ -59,22 +59,22 @@ module _ (K L : Partial) where
   products_agree (a ∷ as') [] g h = refl
   products_agree (a ∷ as') (b ∷ bs) g h = λ i. product_before (option_and_then as_int (g.0 i)) (option_and_then as_int (h.0 i)) (products_agree as' bs g.1 h.1 i)
 
-  sums_agree : (xs : List Argument) → Agree K L (flat_map terms_in xs) → sums_leave K xs ≡ sums_leave L xs
-  sums_agree [] h = refl
-  sums_agree (x ∷ []) h = refl
-  sums_agree (x ∷ y ∷ zs) h =
-      let rest : Agree K L (terms_in y ++ flat_map terms_in zs) = right_part (terms_in x) (flat_map terms_in (y ∷ zs)) h in
-      ap leaves_128 (products_agree (terms_in x) (terms_in y) (left_part (terms_in x) (flat_map terms_in (y ∷ zs)) h) (left_part (terms_in y) (flat_map terms_in zs) rest))
+  argument_at_agrees : (xs : List Argument) (i : ℕ) → Agree K L (flat_map terms_in xs) → Agree K L (terms_at_argument xs i)
+  argument_at_agrees [] i h = tt
+  argument_at_agrees (x ∷ xs) zero h = left_part (terms_in x) (flat_map terms_in xs) h
+  argument_at_agrees (x ∷ xs) (suc i) h = argument_at_agrees xs i (right_part (terms_in x) (flat_map terms_in xs) h)
+
+  sums_agree : (xs : List Argument) (ps : List (ℕ × ℕ)) → Agree K L (flat_map terms_in xs) → list_any (products_leave K xs) ps ≡ list_any (products_leave L xs) ps
+  sums_agree xs [] h = refl
+  sums_agree xs ((i, j) ∷ ps) h =
+      let products = products_agree (terms_at_argument xs i) (terms_at_argument xs j) (argument_at_agrees xs i h) (argument_at_agrees xs j h) in
+      λ k. leaves_128 (products k) || sums_agree xs ps h k
 
   -- ---- the parts of a step
 
-  first_argument : (xs : List Argument) → Agree K L (flat_map terms_in xs) → Agree K L (terms_at_argument xs 0)
-  first_argument [] h = tt
-  first_argument (x ∷ xs) h = left_part (terms_in x) (flat_map terms_in xs) h
-
   unit_agrees : (xs : List Argument) (n : ℕ) → Agree K L (flat_map terms_in xs) → HasUnitCoefficient K xs n → HasUnitCoefficient L xs n
   unit_agrees xs n h (i, stands, u, beside, is_unit) =
-      (i, stands, u, beside, subst (λ o. (o ≡ Some (Int (pos 1))) ⊎ (o ≡ Some (Int (negsuc 0)))) (agrees_at (terms_at_argument xs 0) i u (first_argument xs h) beside) is_unit)
+      (i, stands, u, beside, subst (λ o. (o ≡ Some (Int (pos 1))) ⊎ (o ≡ Some (Int (negsuc 0)))) (agrees_at (terms_at_argument xs 0) i u (argument_at_agrees xs 0 h) beside) is_unit)
 
   result_agrees : (xs : List Argument) (n : ℕ) (r : Result) → Agree K L (flat_map terms_in xs) → IsResult K xs n r → IsResult L xs n r
   result_agrees xs n NoResult h is = is
@@ -95,7 +95,11 @@ module _ (K L : Partial) where
   sums_fit_agree (DomainPoint x k) h s = tt
   sums_fit_agree (DefinitionPoint x k e) h s = tt
   sums_fit_agree (ArrayPoint name d ts) h s = tt
-  sums_fit_agree (ConstraintPoint k p) h s = subst (λ b. IfSome (row_of p) (λ r. IsFalse (r.sums_in_128 && b))) (sums_agree p.arguments h) s
+  sums_fit_agree (ConstraintPoint k p) h s = by_row (row_of p) s
+    where
+      by_row : (o : Option Row) → IfSome o (λ r. IsFalse (sums_leave K p.arguments r)) → IfSome o (λ r. IsFalse (sums_leave L p.arguments r))
+      by_row None fit = fit
+      by_row (Some r) fit = sym (sums_agree p.arguments r.sums h) ∙ fit
 
   holds_agrees : (p : Point) → Agree K L (terms_of p) → HoldsUnder K p → HoldsUnder L p
   holds_agrees (DomainPoint x k) h q = subst (λ o. IsSomeAnd o (λ v. IsTrue (inside x.domain v))) h.0 q

@@ -1,6 +1,6 @@
 -- With which numbers at their results the rows hold that count, or give an index.
-use Rattle.std.proofs.Common.{◌≡◌, ℕ, ℤ, pos, Bool, true, false, List, Option, Some, None, length, int_le, refl, sym, ap, subst, ◌∙◌, true≢false, option_map}
-use Rattle.fz_base.specs.declared.value.Value.TheVariants.{Int, Bool as Truth, Set}
+use Rattle.std.proofs.Common.{◌≡◌, ℕ, ℤ, pos, Bool, List, Option, None, length, int_le, refl, sym, subst, ◌∙◌, true≢false, option_map}
+use Rattle.fz_base.specs.declared.value.Value.TheVariants.{Int}
 use Rattle.fz_meaning.specs.declared.kind.Kind.TheVariants.{Int as IntKind}
 use Rattle.fz_meaning.specs.Values.{◌=ℤ◌}
 use Rattle.fz_meaning.specs.Builtins.{row_at}

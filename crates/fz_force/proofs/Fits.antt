@@ -13,10 +13,10 @@ use Rattle.fz_meaning.specs.Values.{kind_of, same_kind}
 use Rattle.fz_meaning.specs.Builtins.{Shape, ArgValue}
 use Rattle.fz_meaning.specs.Builtins.Shape.{ScalarOf, ArrayOf}
 use Rattle.fz_meaning.specs.Builtins.ArgValue.{OneValue, ManyValues}
-use Rattle.fz_meaning.specs.Meaning.{Argument, Partial, value, value_at, give, terms_in, has_shape, have_shapes}
+use Rattle.fz_meaning.specs.Meaning.{Argument, Partial, value, value_at, give, terms_in, has_shape, have_shapes, terms_at_argument}
 use Rattle.fz_meaning.specs.Meaning.Place.{Scalar, Array}
 use Rattle.fz_meaning.specs.Meaning.Argument.{One, ListOf}
-use Rattle.fz_meaning.specs.Steps.{open_terms, terms_at_argument}
+use Rattle.fz_meaning.specs.Steps.{open_terms}
 use Rattle.fz_meaning.proofs.Values.{no, no', and_first, and_second, and_both}
 use Rattle.fz_meaning.proofs.Scope.{same_kind_is}
 use Rattle.fz_meaning.proofs.Steps.{is_open, term_keeps, filter-none, filter-append, append-nil, append_one, append_one_left, variable_open}

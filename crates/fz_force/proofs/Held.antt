@@ -9,10 +9,10 @@ use Rattle.fz_meaning.specs.Values.{kind_of}
 use Rattle.fz_meaning.specs.Builtins.{Shape, Row, Result, rows}
 use Rattle.fz_meaning.specs.Builtins.Shape.{ScalarOf, ArrayOf}
 use Rattle.fz_meaning.specs.Builtins.Result.{NoResult, Places, UnitTerm}
-use Rattle.fz_meaning.specs.Meaning.{Argument, Partial, Posted, value_at, give, argument_values, fits, has_shape, have_shapes, row_holds, row_of, sums_leave, terms_in}
+use Rattle.fz_meaning.specs.Meaning.{Argument, Partial, Posted, value_at, give, argument_values, fits, has_shape, have_shapes, row_holds, row_of, sums_leave, terms_in, terms_at_argument}
 use Rattle.fz_meaning.specs.Meaning.Place.{Scalar, Array}
 use Rattle.fz_meaning.specs.Meaning.Argument.{One, ListOf}
-use Rattle.fz_meaning.specs.Steps.{IsResult, open_terms, terms_at_argument}
+use Rattle.fz_meaning.specs.Steps.{IsResult, open_terms}
 use Rattle.fz_meaning.proofs.Values.{no, no', and_first, and_second}
 use Rattle.fz_meaning.proofs.States.{intro}
 use Rattle.fz_meaning.proofs.Steps.{is_open, some_of, only_open_none, variable_open}
@@ -138,7 +138,7 @@ module _ (K : Partial) (xs : List Argument) (r : Row) (s : Spot) (h : IsReady K 
 
   -- ---- where sums leave 128 bits
 
-  pub too_large : (o : Option Value) → (r.sums_in_128 && sums_leave K xs) ≡ true → o ≡ None → IsOnlyValue K xs r s.variable o
+  pub too_large : (o : Option Value) → sums_leave K xs r ≡ true → o ≡ None → IsOnlyValue K xs r s.variable o
   too_large (Some v) large is = cc
   too_large None large is = λ within w f. no (sym f.sums_fit ∙ large)
 
@@ -146,7 +146,7 @@ module _ (K : Partial) (xs : List Argument) (r : Row) (s : Spot) (h : IsReady K 
 
   module _ (z : Shape) (shape : slice_get r.shapes s.argument ≡ Some z) (test : Value → Bool)
       (test_is : s.variable < length K → (w : Value) → kind_of w ≡ kind_in z → row_holds r (given_values (give K s.variable w) r.shapes xs) ≡ test w)
-      (result : IsResult K xs s.variable r.result) (sums : (r.sums_in_128 && sums_leave K xs) ≡ false) where
+      (result : IsResult K xs s.variable r.result) (sums : sums_leave K xs r ≡ false) where
     holds_kind : s.variable < length K → (w : Value) → IsSomeAnd (argument_values (give K s.variable w) xs) (λ vs. IsTrue (row_holds r vs)) → kind_of w ≡ kind_in z
     holds_kind within w g = kind_back K s.variable none within w r.shapes xs s.argument s.place z h.shaped (holds_read (give K s.variable w) xs r h.shaped g) h.stands shape
 
@@ -187,7 +187,7 @@ module _ (K : Partial) (xs : List Argument) (r : Row) (s : Spot) (h : IsReady K 
         (s.argument, place, q, at)
     result_of_place UnitTerm place = absurd place
 
-    pub scalar_left : IsPlaceOf r.result s.argument → (r.sums_in_128 && sums_leave K xs) ≡ false → (o : Option Value) → IsLeft k (holds_with r K xs s.argument) o → IsOnlyValue K xs r s.variable o
+    pub scalar_left : IsPlaceOf r.result s.argument → sums_leave K xs r ≡ false → (o : Option Value) → IsLeft k (holds_with r K xs s.argument) o → IsOnlyValue K xs r s.variable o
     scalar_left place sums = is_left (ScalarOf k) shape (holds_with r K xs s.argument) scalar_test (result_of_place r.result place) sums
 
   -- ---- where it stands in none

@@ -11,10 +11,10 @@ use Rattle.fz_meaning.specs.Values.{kind_of, same_kind}
 use Rattle.fz_meaning.specs.Builtins.{Row, Shape, Result}
 use Rattle.fz_meaning.specs.Builtins.Shape.{ScalarOf, ArrayOf}
 use Rattle.fz_meaning.specs.Builtins.Result.{NoResult, Places, UnitTerm}
-use Rattle.fz_meaning.specs.Meaning.{Argument, FitVariables, IsPartial, Model, Partial, Place, Posted, Variable, give, has_shape, have_shapes, is_term_of, row_of, terms_at, terms_in, value_at, variables_of}
+use Rattle.fz_meaning.specs.Meaning.{Argument, FitVariables, IsPartial, Model, Partial, Place, Posted, Variable, give, has_shape, have_shapes, is_term_of, row_of, terms_at, terms_in, value_at, variables_of, terms_at_argument}
 use Rattle.fz_meaning.specs.Meaning.Argument.{One, ListOf}
 use Rattle.fz_meaning.specs.Meaning.Place.{Scalar, Array}
-use Rattle.fz_meaning.specs.Steps.{IsResult, kind_at, open_terms, terms_at_argument}
+use Rattle.fz_meaning.specs.Steps.{IsResult, kind_at, open_terms}
 use Rattle.fz_meaning.proofs.Lists.{all_append, all_map, at_place}
 use Rattle.fz_meaning.proofs.Scope.{same_kind_is}
 use Rattle.fz_meaning.proofs.Steps.{is_open, only_open_none}

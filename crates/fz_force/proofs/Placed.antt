@@ -1,5 +1,5 @@
 -- From a constraint as it is kept to what its row leaves, and from there to what its point forces.
-use Rattle.std.proofs.Common.{◌≡◌, ℕ, true, false, ◌&&◌, List, [], ◌∷◌, map, flat_map, Option, Some, None, IsSomeAnd, IfSome, IsFalse, IsTrue, slice_get, is_some, refl, sym, ap, subst, ◌∙◌}
+use Rattle.std.proofs.Common.{◌≡◌, ℕ, true, false, List, [], ◌∷◌, map, flat_map, Option, Some, None, IsSomeAnd, IfSome, IsFalse, IsTrue, slice_get, is_some, refl, sym, ap, subst, ◌∙◌}
 use Rattle.std.specs.List.{AllByRecursion, list_all}
 use Rattle.std.specs.Option.{option_map_or}
 use Rattle.fz_base.specs.declared.value.Value.{Value}
@@ -92,7 +92,7 @@ module _ (m : Model) (K : Partial) (fits : IsPartial m K) (k : ℕ) (p : Posted)
   fills : (w : Value) → Gives m K (ConstraintPoint k p) n w → Fills K p.arguments r n w
   fills w g = record {
     only_open = g.only_open;
-    sums_fit = subst (λ o. IfSome o (λ q. IsFalse (q.sums_in_128 && sums_leave K p.arguments))) row g.sums_fit;
+    sums_fit = subst (λ o. IfSome o (λ q. IsFalse (sums_leave K p.arguments q))) row g.sums_fit;
     result = subst (λ o. IsSomeAnd o (λ q. IsResult K p.arguments n q.result)) row g.target.1;
     within_limits = g.within_limits;
     holds = subst (λ o. IsSomeAnd o (λ q. IsSomeAnd (argument_values (give K n w) p.arguments) (λ vs. IsTrue (row_holds q vs)))) row g.then_holds;
@@ -104,7 +104,7 @@ module _ (m : Model) (K : Partial) (fits : IsPartial m K) (k : ℕ) (p : Posted)
     only_open = f.only_open;
     of_kind = kind;
     within_limits = f.within_limits;
-    sums_fit = subst (λ o. IfSome o (λ q. IsFalse (q.sums_in_128 && sums_leave K p.arguments))) (sym row) f.sums_fit;
+    sums_fit = subst (λ o. IfSome o (λ q. IsFalse (sums_leave K p.arguments q))) (sym row) f.sums_fit;
     then_holds = intro (λ q. IsSomeAnd (argument_values (give K n w) p.arguments) (λ vs. IsTrue (row_holds q vs))) (row_of p) r row f.holds;
   }
 

@@ -1,6 +1,7 @@
 -- The truth value that a form with a truth value leaves: whether the row before it holds.
-use Rattle.std.proofs.Common.{◌≡◌, ℕ, suc, Bool, true, false, cond, ◌&&◌, List, [], ◌∷◌, ◌++◌, length, Option, Some, Result, IfOk, refl, sym, ap, subst, subst₂, ◌∙◌, slice_get, slice_set}
+use Rattle.std.proofs.Common.{◌≡◌, ℕ, suc, Bool, true, false, List, [], ◌∷◌, ◌++◌, length, Option, Some, Result, IfOk, refl, sym, ap, subst, subst₂, ◌∙◌, slice_get, slice_set}
 use Rattle.std.specs.Prelude.{IsSome}
+use Rattle.std.specs.List.{list_any}
 use Rattle.fz_base.specs.declared.value.Value.{Value}
 use Rattle.fz_base.specs.declared.value.Value.TheVariants.{Bool as Truth}
 use Rattle.fz_meaning.specs.declared.kind.Kind.{Kind}
@@ -16,11 +17,11 @@ use Rattle.fz_meaning.specs.Known.{form_at, known_row}
 use Rattle.fz_meaning.specs.declared.known.Form.TheVariants.{Base as FormBase, Reified as FormReified, Implied as FormImplied}
 use Rattle.fz_meaning.specs.declared.known.Known.{Known}
 use Rattle.fz_meaning.proofs.TableRows.{plain_ints, plain_bools, plain_sets, AreRead, reified_holds}
-use Rattle.fz_eval.specs.of_scene.Given.{given, given_from, given_values, ints_at, bools_at, sets_at}
+use Rattle.fz_eval.specs.of_scene.Given.{given, given_from, given_values, ints_at, bools_at, sets_at, read_leave}
 use Rattle.fz_eval.specs.Outcomes.{row_outcome, sum_outcome}
 use Rattle.fz_eval.proofs.Rows.{outcome_is}
 use Rattle.fz_eval.specs.declared.outcome.Outcome.TheVariants.{Truth as TruthOutcome, TooLarge}
-use Rattle.fz_force.specs.Left.{IsLeft, IsOfKind, IsPlaceOf, holds_with, is_too_large, products_leave}
+use Rattle.fz_force.specs.Left.{IsLeft, IsOfKind, IsPlaceOf, holds_with, is_too_large}
 use Rattle.fz_force.proofs.RowLemmas.{only_place}
 use Rattle.fz_force.proofs.RowKinds.{adds_nothing}
 
@@ -85,8 +86,8 @@ pub base_fits : (known : Known) (K : Partial) (xs : List Argument) (i : ℕ) →
 base_fits known K xs i base place large =
     let r : Row = row_at known.builtin in
     let is : known_row known ≡ r = ap (λ f. form_at f r) base in
-    let none : r.sums_in_128 ≡ false = adds_nothing known.builtin i (subst (λ s. IsPlaceOf s.result i) is place) in
-    no (ap (λ b. b && products_leave K xs) (sym none) ∙ ap (λ s. is_too_large s K xs) (sym is) ∙ large)
+    let none : r.sums ≡ [] = adds_nothing known.builtin i (subst (λ s. IsPlaceOf s.result i) is place) in
+    no (ap (list_any (read_leave K xs)) (sym none) ∙ ap (λ s. is_too_large s K xs) (sym is) ∙ large)
 
 pub no_implied : (known : Known) (i : ℕ) → known.form ≡ FormImplied → IsPlaceOf (known_row known).result i → ⊥
 no_implied known i implied place = subst (λ f. IsPlaceOf (form_at f (row_at known.builtin)).result i) implied place

@@ -1,5 +1,5 @@
 -- Which rows leave a number, a truth value or a set: those of which a scalar of that kind stands at a result place.
-use Rattle.std.proofs.Common.{◌≡◌, ℕ, suc, zero, Bool, true, false, not, ◌||◌, List, [], ◌∷◌, slice_get, bytes_eq, Contains, refl, sym, ap, subst, ◌∙◌, ◌⊎◌, inl, inr, arith}
+use Rattle.std.proofs.Common.{◌≡◌, ℕ, suc, zero, Bool, true, false, not, ◌||◌, List, [], ◌∷◌, slice_get, bytes_eq, Contains, refl, sym, ap, ◌∙◌, ◌⊎◌, inl, inr, arith}
 use Rattle.std.specs.List.{list_all, list_any}
 use Rattle.std.specs.Option.{option_map_or}
 use Rattle.fz_meaning.specs.declared.kind.Kind.{Kind}
@@ -116,8 +116,12 @@ pub leaves_set : (b : Builtin) (i : ℕ) → IsPlaceOf (row_at b).result i → I
 leaves_set = leaves SetKind set_rows all_set_rows
 
 -- no row that adds up in 128 bits has a result place
-adds_or_fills : list_all (λ b. not (row_at b).sums_in_128 || list_all (λ i. false) (places (row_at b).result)) builtins ≡ true
-unfolding row_at builtins places
+is_nil : List (ℕ × ℕ) → Bool
+is_nil [] = true
+is_nil (p ∷ ps) = false
+
+adds_or_fills : list_all (λ b. is_nil (row_at b).sums || list_all (λ i. false) (places (row_at b).result)) builtins ≡ true
+unfolding row_at builtins places is_nil
 adds_or_fills = refl
 
 none_filled : (o : Result) (i : ℕ) → list_all (λ i. false) (places o) ≡ true → IsPlaceOf o i → ⊥
@@ -127,9 +131,10 @@ none_filled (Places []) i h (k, below, e) = absurd (omega arith)
 none_filled (Places (j ∷ js)) i h place = no h
 none_filled UnitTerm i h place = place
 
-pub adds_nothing : (b : Builtin) (i : ℕ) → IsPlaceOf (row_at b).result i → (row_at b).sums_in_128 ≡ false
+pub adds_nothing : (b : Builtin) (i : ℕ) → IsPlaceOf (row_at b).result i → (row_at b).sums ≡ []
+unfolding is_nil
 adds_nothing b i place =
-    elim (row_at b).sums_in_128 as (λ sums. (not sums || list_all (λ i. false) (places (row_at b).result)) ≡ true → sums ≡ false) [
-      | true ↦ λ h. absurd (none_filled (row_at b).result i h place)
-      | false ↦ λ _. refl
-    ] (each_builtin (λ b. not (row_at b).sums_in_128 || list_all (λ i. false) (places (row_at b).result)) adds_or_fills b)
+    elim (row_at b).sums as (λ ps. (is_nil ps || list_all (λ i. false) (places (row_at b).result)) ≡ true → ps ≡ []) [
+      | [] ↦ λ _. refl
+      | p ∷ ps ↦ λ h. absurd (none_filled (row_at b).result i h place)
+    ] (each_builtin (λ b. is_nil (row_at b).sums || list_all (λ i. false) (places (row_at b).result)) adds_or_fills b)

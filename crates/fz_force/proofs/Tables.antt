@@ -1,5 +1,5 @@
 -- What the rows of the table have in common: where scalars are filled, which rows add sums up, and which one fills an element.
-use Rattle.std.proofs.Common.{◌≡◌, ℕ, zero, suc, Bool, true, false, not, cond, ◌&&◌, ◌||◌, List, [], ◌∷◌, find, Some, slice_get, bytes_eq, Contains, refl, sym, subst, arith}
+use Rattle.std.proofs.Common.{◌≡◌, ℕ, zero, suc, Bool, true, false, cond, ◌&&◌, List, [], ◌∷◌, find, Some, slice_get, bytes_eq, Contains, refl, sym, subst, arith}
 use Rattle.std.specs.List.{list_all}
 use Rattle.std.specs.Option.{option_map_or}
 use Rattle.fz_meaning.specs.declared.kind.Kind.{Kind}
@@ -15,8 +15,8 @@ use Rattle.fz_meaning.specs.declared.known.Known.{Known}
 use Rattle.fz_meaning.specs.Known.{form_at, known_row}
 use Rattle.fz_meaning.specs.declared.known.Form.{Form}
 use Rattle.fz_meaning.specs.declared.known.Form.TheVariants.{Base, Reified, Implied}
-use Rattle.fz_eval.proofs.of_scene.Sums.{sums_leave_is}
-use Rattle.fz_force.specs.Left.{IsOfKind, IsPlaceOf, is_too_large, products_leave}
+use Rattle.fz_eval.proofs.of_scene.Sums.{are_ints, sums_leave_are}
+use Rattle.fz_force.specs.Left.{IsOfKind, IsPlaceOf, is_too_large}
 use Rattle.fz_force.specs.Forced.{IsRow}
 
 -- what is asked of each row holds of the one that is found
@@ -70,28 +70,15 @@ scalar_filled ss UnitTerm i h place = absurd place
 pub place_is_scalar : (r : Row) → IsRow r → (i : ℕ) → IsPlaceOf r.result i → (k : Kind) × IsOfKind r.shapes i k
 place_is_scalar r row i place = scalar_filled r.shapes r.result i (of_row (λ r. are_scalars r.shapes r.result) all_fill_scalars r row) place
 
--- ---- a row that adds a sum up begins with two arrays of numbers
+-- ---- a row adds products of arrays of numbers
 
-begins_with_arrays : List Shape → Bool
-begins_with_arrays (ArrayOf IntKind ∷ ArrayOf IntKind ∷ ss) = true
-begins_with_arrays _ = false
-
-all_sums_begin : list_all (λ r. not r.sums_in_128 || begins_with_arrays r.shapes) rows ≡ true
-unfolding rows row_at builtins begins_with_arrays
-all_sums_begin = refl
-
-same_leave : (K : Partial) (xs : List Argument) (ss : List Shape) → begins_with_arrays ss ≡ true → have_shapes ss xs ≡ true → sums_leave K xs ≡ products_leave K xs
-unfolding begins_with_arrays
-same_leave K xs (ArrayOf IntKind ∷ ArrayOf IntKind ∷ ss) b h = sums_leave_is K ss xs h
-same_leave K xs _ b h = no b
+all_sum_ints : list_all (λ r. list_all (are_ints r.shapes) r.sums) rows ≡ true
+unfolding rows row_at builtins
+all_sum_ints = refl
 
 -- what leaves 128 bits, as it is read and as it is defined
-pub same_sums : (K : Partial) (xs : List Argument) (r : Row) → IsRow r → have_shapes r.shapes xs ≡ true → is_too_large r K xs ≡ (r.sums_in_128 && sums_leave K xs)
-same_sums K xs r row h = by_row r.sums_in_128 (of_row (λ r. not r.sums_in_128 || begins_with_arrays r.shapes) all_sums_begin r row)
-  where
-    by_row : (b : Bool) → (not b || begins_with_arrays r.shapes) ≡ true → (b && products_leave K xs) ≡ (b && sums_leave K xs)
-    by_row true e = sym (same_leave K xs r.shapes e h)
-    by_row false e = refl
+pub same_sums : (K : Partial) (xs : List Argument) (r : Row) → IsRow r → have_shapes r.shapes xs ≡ true → is_too_large r K xs ≡ sums_leave K xs r
+same_sums K xs r row h = sym (sums_leave_are K r.shapes xs r.sums (of_row (λ r. list_all (are_ints r.shapes) r.sums) all_sum_ints r row) h)
 
 -- ---- the row that fills an element
 
@@ -112,6 +99,6 @@ pub unit_shapes : (row_at IntLinEq).shapes ≡ ArrayOf IntKind ∷ ArrayOf IntKi
 unfolding row_at
 unit_shapes = refl
 
-pub unit_sums : (row_at IntLinEq).sums_in_128 ≡ true
+pub unit_sums : (row_at IntLinEq).sums ≡ (0, 1) ∷ []
 unfolding row_at
 unit_sums = refl

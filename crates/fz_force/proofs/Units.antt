@@ -1,25 +1,24 @@
 -- An element of a sum: where its coefficient is 1 or -1, and how what is given changes with its value.
-use Rattle.std.proofs.Common.{◌≡◌, ℕ, zero, suc, ◌<◌, ℤ, pos, negsuc, true, false, cond, ◌&&◌, List, [], ◌∷◌, length, map, flat_map, Option, Some, None, option_map, slice_get, slice_set, refl, sym, ap, subst, ◌∙◌, ◌⊎◌, inl, inr}
+use Rattle.std.proofs.Common.{◌≡◌, ℕ, zero, suc, ◌<◌, ℤ, pos, negsuc, true, false, cond, List, [], ◌∷◌, length, map, flat_map, Option, Some, None, option_map, slice_get, slice_set, refl, sym, ap, subst, ◌∙◌, ◌⊎◌, inl, inr, ◌||◌}
+use Rattle.std.specs.List.{list_any}
 use Rattle.fz_base.specs.declared.value.Value.{Value}
 use Rattle.fz_base.specs.declared.value.Value.TheVariants.{Int, Bool as Truth, Set}
-use Rattle.fz_meaning.specs.declared.kind.Kind.{Kind}
 use Rattle.fz_meaning.specs.declared.kind.Kind.TheVariants.{Int as IntKind}
 use Rattle.fz_meaning.specs.declared.term.Term.{Term}
 use Rattle.fz_meaning.specs.declared.term.Term.TheVariants.{Var}
 use Rattle.fz_meaning.specs.Values.{kind_of}
-use Rattle.fz_meaning.specs.Builtins.{Shape, Row}
+use Rattle.fz_meaning.specs.Builtins.{Row}
 use Rattle.fz_meaning.specs.Builtins.Shape.{ScalarOf, ArrayOf}
 use Rattle.fz_meaning.specs.Builtins.ArgValue.{ManyValues}
 use Rattle.fz_meaning.specs.Builtins.Result.{UnitTerm}
-use Rattle.fz_meaning.specs.Meaning.{Argument, Partial, value, value_at, give, has_shape, have_shapes, row_holds, sums_leave, terms_in}
-use Rattle.fz_meaning.specs.Steps.{IsResult, open_terms, terms_at_argument}
-use Rattle.fz_meaning.proofs.Values.{no, and_first, and_second}
+use Rattle.fz_meaning.specs.Meaning.{Argument, Partial, value, value_at, give, row_holds, sums_leave, terms_in, terms_at_argument}
+use Rattle.fz_meaning.specs.Steps.{IsResult, open_terms}
 use Rattle.fz_meaning.proofs.States.{intro}
 use Rattle.fz_meaning.proofs.Steps.{is_open, term_keeps, variable_open, some_of, as_number_of}
 use Rattle.fz_meaning.specs.declared.builtin.Builtin.TheVariants.{IntLinEq}
 use Rattle.fz_meaning.specs.Builtins.{row_at}
-use Rattle.fz_eval.specs.of_scene.Given.{slots_at, int_in, ints_of, ints_at, given, given_values}
-use Rattle.fz_eval.proofs.of_scene.Ready.{slots_are_terms}
+use Rattle.fz_eval.specs.of_scene.Given.{slots_at, int_in, ints_of, ints_at, given, given_values, read_leave}
+use Rattle.fz_eval.proofs.of_scene.Sums.{slots_terms}
 use Rattle.fz_force.specs.Left.{HasUnit, IsLeft, IsReadAsNone, IsUnit, holds_with_element, is_too_large, products_leave}
 use Rattle.fz_force.specs.declared.only.Spot.{Spot}
 use Rattle.fz_force.specs.Forced.{IsOnlyValue, IsReady}
@@ -27,12 +26,6 @@ use Rattle.fz_force.proofs.Fits.{changes, new_value, open_first, open_behind, va
 use Rattle.fz_force.proofs.Held.{is_left, none, open_here, same_spot, too_large}
 
 -- ---- the elements of an array of numbers
-
-slots_terms : (ss : List Shape) (xs : List Argument) (i : ℕ) (k : Kind) → have_shapes ss xs ≡ true → slice_get ss i ≡ Some (ArrayOf k) → slots_at xs i ≡ map Some (terms_at_argument xs i)
-slots_terms [] xs i k h e = cc
-slots_terms (s ∷ ss) [] i k h e = no h
-slots_terms (s ∷ ss) (x ∷ xs) zero k h e = let same : s ≡ ArrayOf k = cc in slots_are_terms k x (subst (λ z. has_shape z x ≡ true) same (and_first (has_shape s x) _ h))
-slots_terms (s ∷ ss) (x ∷ xs) (suc i) k h e = slots_terms ss xs i k (and_second (has_shape s x) _ h) e
 
 int_found : (K : Partial) (ts : List Term) (j : ℕ) (u : Term) → slice_get ts j ≡ Some u → slice_get (ints_of K (map Some ts)) j ≡ Some (int_in (value K u))
 int_found K [] j u e = cc
@@ -136,14 +129,14 @@ module _ (K : Partial) (xs : List Argument) (r : Row) (s : Spot) (h : IsReady K 
         (changes K s.variable (none K xs r s h) within w r.shapes xs 1 s.place (ArrayOf IntKind) h.shaped h.only_open stands_second (ap (λ ss. slice_get ss 1) shapes)
         ∙ ap (slice_set (given_values K r.shapes xs) 1) (given_element within w is))
 
-    pub element_left : r ≡ row_at IntLinEq → r.result ≡ UnitTerm → r.sums_in_128 ≡ true → is_too_large r K xs ≡ (r.sums_in_128 && sums_leave K xs) → HasUnit K xs s.place → (o : Option ℤ)
+    pub element_left : r ≡ row_at IntLinEq → r.result ≡ UnitTerm → r.sums ≡ (0, 1) ∷ [] → is_too_large r K xs ≡ sums_leave K xs r → HasUnit K xs s.place → (o : Option ℤ)
         → (products_leave K xs ≡ false → IsLeft IntKind (holds_with_element (row_at IntLinEq) K xs s.place) (option_map Int o)) → (products_leave K xs ≡ true → o ≡ None)
         → IsOnlyValue K xs r s.variable (option_map Int o)
     element_left row result sums same unit o left too =
         elim (products_leave K xs) as (λ b. products_leave K xs ≡ b → IsOnlyValue K xs r s.variable (option_map Int o)) [
-          | true ↦ λ e. too_large K xs r s h (option_map Int o) (sym same ∙ (λ i. sums i && e i)) (ap (option_map Int) (too e))
+          | true ↦ λ e. too_large K xs r s h (option_map Int o) (sym same ∙ ap (list_any (read_leave K xs)) sums ∙ ap (λ b. b || false) e) (ap (option_map Int) (too e))
           | false ↦ λ e.
               is_left K xs r s h (ArrayOf IntKind) (ap (slice_get r.shapes) second ∙ ap (λ ss. slice_get ss 1) shapes) (holds_with_element r K xs s.place) element_test
-              (subst (IsResult K xs s.variable) (sym result) (fills_element unit)) (sym same ∙ (λ i. sums i && e i)) (option_map Int o)
+              (subst (IsResult K xs s.variable) (sym result) (fills_element unit)) (sym same ∙ ap (list_any (read_leave K xs)) sums ∙ ap (λ b. b || false) e) (option_map Int o)
               (subst (λ q. IsLeft IntKind (holds_with_element q K xs s.place) (option_map Int o)) (sym row) (left e))
         ] refl

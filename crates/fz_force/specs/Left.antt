@@ -1,16 +1,17 @@
 -- What is left to a result: the value, of its kind and within the limits, with which the row holds (this project's profile).
-use Rattle.std.specs.Prelude.{◌≡◌, ℕ, ℤ, pos, negsuc, Bool, List, Option, Some, None, IsTrue, FitsSigned, ◌&&◌, map, slice_get, slice_set, Contains, IsSomeAnd, ◌⊎◌}
+use Rattle.std.specs.Prelude.{◌≡◌, ℕ, ℤ, pos, negsuc, Bool, List, Option, Some, None, IsTrue, FitsSigned, map, slice_get, slice_set, Contains, IsSomeAnd, ◌⊎◌}
 use Rattle.std.specs.Int.{w64}
+use Rattle.std.specs.List.{list_any}
 use Rattle.fz_base.specs.declared.value.Value.{Value}
 use Rattle.fz_base.specs.declared.value.Value.TheVariants.{Int}
 use Rattle.fz_meaning.specs.declared.kind.Kind.{Kind}
 use Rattle.fz_meaning.specs.Values.{kind_of}
-use Rattle.fz_meaning.specs.Builtins.{Shape, Row, Result, leaves_128, products}
+use Rattle.fz_meaning.specs.Builtins.{Shape, Row, Result}
 use Rattle.fz_meaning.specs.Builtins.Shape.{ScalarOf}
 use Rattle.fz_meaning.specs.Builtins.ArgValue.{OneValue, ManyValues}
 use Rattle.fz_meaning.specs.Builtins.Result.{NoResult, Places, UnitTerm}
 use Rattle.fz_meaning.specs.Meaning.{Argument, Partial, row_holds}
-use Rattle.fz_eval.specs.of_scene.Given.{given_values, ints_at}
+use Rattle.fz_eval.specs.of_scene.Given.{given_values, ints_at, read_leave}
 use Rattle.fz_meaning.specs.Steps.{WithinLimits}
 
 -- a coefficient with which one element of a sum is determined
@@ -42,11 +43,11 @@ IsOfKind shapes i k = slice_get shapes i ≡ Some (ScalarOf k)
 
 -- A sum of the products of the first two arguments leaves 128 bits on the way. An element without a value is read as 0, so it adds nothing.
 abbrev pub products_leave : Partial → List Argument → Bool
-products_leave K xs = leaves_128 (products (ints_at K xs 0) (ints_at K xs 1))
+products_leave K xs = read_leave K xs (0, 1)
 
--- the row adds up in 128 bits, and its sum leaves them
+-- a sum of the row that is added in 128 bits leaves them
 abbrev pub is_too_large : Row → Partial → List Argument → Bool
-is_too_large r K xs = r.sums_in_128 && products_leave K xs
+is_too_large r K xs = list_any (read_leave K xs) r.sums
 
 -- element i of the first argument is 1 or -1
 abbrev pub HasUnit : Partial → List Argument → ℕ → Type 0

@@ -7,8 +7,8 @@ ghost use Rattle.fz_eval.specs.of_scene.Views.{arguments_of, assigned};
 ghost use Rattle.fz_eval.specs.Readings.{int, ints, numbers};
 ghost use Rattle.fz_force.specs.Counted.{IsCounted, Tells};
 
-use fz_eval::fz_kernel::best_index::{index_of_maximum, index_of_minimum};
-use fz_eval::fz_kernel::counts::{count_in, count_of, number_of_values};
+use fz_eval::fz_globals::best_index::{index_of_maximum, index_of_minimum};
+use fz_eval::fz_globals::counts::{count_in, count_of, number_of_values};
 use fz_eval::fz_scene::Scene;
 use fz_meaning::Builtin;
 use std::alloc::{AllocError, Global};

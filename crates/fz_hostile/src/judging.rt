@@ -2,7 +2,7 @@
 
 use crate::loading::tell_points;
 use crate::outside::{file, tell, tell_error};
-use fz_check::{BlockError, Judge, fill};
+use fz_check::{BlockError, Completion, Judge, fill};
 use fz_model::{Model, load};
 use fz_stream::{Block, blocks};
 use fz_syntax::{Ast, parse};
@@ -95,7 +95,7 @@ fn tell_verdict(rt: &HostRuntime, judge: &mut Judge<'_, '_>, block: &Block<'_>) 
 
 /// Tells the verdicts of one judge.
 fn tell_verdicts(rt: &HostRuntime, model: &Model<'_>, given: &[Block<'_>]) -> Option<()> {
-    let mut judge = Judge::new(model);
+    let mut judge = Judge::new(model, Completion::Off);
     for block in given {
         tell_verdict(rt, &mut judge, block);
     }

@@ -1,7 +1,7 @@
 //! Checks over a reader and a writer, either of which may fail.
 
 use crate::outside::{file, number, tell};
-use fz_check::{Answer, CheckError, check_stream, check_stream_up_to};
+use fz_check::{Answer, CheckError, Completion, check_stream, check_stream_up_to};
 use std::alloc::Global;
 use std::io::{self, ErrorKind, Read, Stdout, Write};
 
@@ -55,7 +55,8 @@ impl Write for Narrow {
 
 /// Checks a stream against a model. The words behind their files are the most bytes of a read, how
 /// many reads there are before one fails, how many bytes the writer takes, whether it fails then
-/// (1) or takes nothing (0), and the bound on the reads, where there is one.
+/// (1) or takes nothing (0), the bound on the reads, where there is one, and whether values are
+/// looked for (1).
 pub fn make_call(rt: &HostRuntime, operands: &[String]) -> Option<()> {
     let model = file(rt, operands, 0)?;
     let stream = file(rt, operands, 1)?;
@@ -73,8 +74,26 @@ pub fn make_call(rt: &HostRuntime, operands: &[String]) -> Option<()> {
         room,
         fails,
     };
-    tell_answer(rt, &model, source, writer, number(operands, 6));
+    let bounds = Bounds {
+        most: number(operands, 6),
+        completion: completion(operands),
+    };
+    tell_answer(rt, &model, source, writer, bounds);
     Some(())
+}
+
+/// How many reads are made at most, where there is a bound, and whether values are looked for.
+#[derive(Clone, Copy)]
+struct Bounds {
+    most: Option<usize>,
+    completion: Completion,
+}
+
+fn completion(operands: &[String]) -> Completion {
+    match number(operands, 7) {
+        Some(1) => Completion::On,
+        _ => Completion::Off,
+    }
 }
 
 fn answer(
@@ -82,23 +101,20 @@ fn answer(
     model: &[u8],
     mut reader: Source<'_>,
     mut writer: Narrow,
-    most: Option<usize>,
+    bounds: Bounds,
 ) -> Result<Answer, CheckError> {
-    match most {
-        Some(most) => check_stream_up_to(alloc, model, &mut reader, &mut writer, most as u64),
-        None => check_stream(alloc, model, &mut reader, &mut writer),
+    let (reader, writer) = (&mut reader, &mut writer);
+    match bounds.most {
+        Some(most) => {
+            check_stream_up_to(alloc, model, reader, writer, most as u64, bounds.completion)
+        }
+        None => check_stream(alloc, model, reader, writer),
     }
 }
 
-fn tell_answer(
-    rt: &HostRuntime,
-    model: &[u8],
-    source: Source<'_>,
-    writer: Narrow,
-    most: Option<usize>,
-) {
+fn tell_answer(rt: &HostRuntime, model: &[u8], source: Source<'_>, writer: Narrow, bounds: Bounds) {
     for _ in 0..2 {
-        let answer = answer(rt.alloc(), model, source, writer, most);
+        let answer = answer(rt.alloc(), model, source, writer, bounds);
         tell(rt, &answer);
         if !matches!(answer, Err(CheckError::Memory)) {
             break;

@@ -4,21 +4,27 @@ use Rattle.fz_base.specs.declared.span.Span.{Span}
 use Rattle.fz_model.specs.Meaning.{Model, Partial, objective}
 use Rattle.fz_verdict.specs.Blocks.{Block, BlockFault, BlockFaultKind, block_fault}
 use Rattle.fz_verdict.specs.Blocks.BlockFaultKind.{UnknownName, WrongKind, WrongLength}
+use Rattle.fz_verdict.specs.declared.completion.Completion.{Completion}
+use Rattle.fz_verdict.specs.Completed.{IsToldBy}
 use Rattle.fz_verdict.specs.Verdict.{Verdict, IsFilled, verdict}
 use Rattle.fz_judge.specs.declared.error.BlockError.{BlockError}
 use Rattle.fz_judge.specs.declared.error.BlockError.TheVariants as errors
 
--- a judge: the model, and the objective of the block before
+-- a judge: the model, whether values are looked for, and the objective of the block before, under its filling and under the values for which
+-- it was told satisfied
 pub record JudgeState : Type 0 where
   pub model : Model
+  pub completion : Completion
   pub before : Option ℤ
+  pub found : Option ℤ
 
--- The verdict on a block is the one under its filling, compared with the objective before, and the objective under that filling is kept.
-pub record IsJudged (m : Model) (block : Block) (before : Option ℤ) (v : Verdict) (kept : Option ℤ) : Type 0 where
+-- What is told of a block is told by its verdict under its filling, which is compared with the objective before, and the objective under
+-- that filling is kept.
+pub record IsJudged (old new : JudgeState) (block : Block) (v : Verdict) : Type 0 where
   pub filling : Partial
-  pub is_filled : IsFilled m block filling
-  pub verdict_is : v ≡ verdict m filling block before
-  pub kept_is : kept ≡ objective m filling
+  pub is_filled : IsFilled old.model block filling
+  pub told : IsToldBy old.completion old.model block old.found filling (verdict old.model filling block old.before) v new.found
+  pub kept_is : new.before ≡ objective old.model filling
 
 -- the error tells the fault, where it is not for want of memory
 abbrev pub TellsFault : BlockError → Option BlockFault → Type 0

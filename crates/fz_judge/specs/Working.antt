@@ -1,5 +1,5 @@
 -- Only private functions use these: values taken into a partial assignment one after another, and what is asked of one scalar.
-use Rattle.std.specs.Prelude.{◌≡◌, ℕ, ◌<◌, Bool, false, true, cond, ◌&&◌, is_none, List, [], ◌∷◌, length, Option, None, Some, ⊤}
+use Rattle.std.specs.Prelude.{◌≡◌, ℕ, ℤ, ◌<◌, Bool, false, true, cond, ◌&&◌, is_none, List, [], ◌∷◌, length, Option, None, Some, ⊤}
 use Rattle.std.specs.Option.{option_map_or}
 use Rattle.fz_base.specs.declared.value.Value.{Value}
 use Rattle.fz_model.specs.declared.State.{State}
@@ -12,12 +12,13 @@ use Rattle.fz_model.specs.Names.{literal_value}
 use Rattle.fz_model.specs.Values.{same_value}
 use Rattle.fz_model.specs.Shown.{scalar_terms}
 use Rattle.fz_model.specs.Slots.{scalar_term}
-use Rattle.fz_model.specs.Meaning.{Model, Partial, PointName, give, value, value_at, variables_of, find_name}
+use Rattle.fz_model.specs.Meaning.{Model, Partial, PointName, IsPartial, give, objective, value, value_at, variables_of, find_name}
 use Rattle.fz_syntax.specs.Places.{IsSpanWithin}
-use Rattle.fz_verdict.specs.Blocks.{Printed, PrintedValue, printed_values, moved}
+use Rattle.fz_verdict.specs.Blocks.{Block, Printed, PrintedValue, printed_values, moved}
 use Rattle.fz_verdict.specs.Blocks.PrintedValue.{OneValue, ArrayOf}
 use Rattle.fz_verdict.specs.Filling.{pairs, pairs_at}
-use Rattle.fz_verdict.specs.Verdict.{Fault, Reason, Verdict, not_known_at, too_large_at, verdict_by}
+use Rattle.fz_verdict.specs.Completed.{name_of_aim}
+use Rattle.fz_verdict.specs.Verdict.{Fault, Reason, Verdict, verdict, not_known_at, too_large_at, verdict_by}
 use Rattle.fz_verdict.specs.Verdict.Verdict.{Satisfied, Violated, Undecided}
 use Rattle.fz_verdict.specs.Verdict.Reason.{NoValueFor}
 use Rattle.fz_judge.specs.declared.error.BlockError.{BlockError}
@@ -104,6 +105,15 @@ abbrev pub with_objective : Verdict → Option Fault → Verdict
 with_objective (Violated f) o = Violated f
 with_objective (Undecided r) o = verdict_by o (Some r)
 with_objective Satisfied o = verdict_by o None
+
+-- what is told of a block that is satisfied, where its objective may not be better than one that was looked for
+abbrev pub compared : Model → Option Fault → Verdict
+compared m None = Satisfied
+compared m (Some f) = Undecided (NoValueFor (name_of_aim m m.aim))
+
+-- the block is satisfied under some values, which have this objective
+abbrev pub IsFound : Model → Block → Option ℤ → Option ℤ → Type 0
+IsFound m block before kept = (K : Partial) × IsPartial m K × (verdict m K block before ≡ Satisfied) × (kept ≡ objective m K)
 
 -- ---- refusals
 

@@ -1,26 +1,30 @@
 //! A judge: blocks, one after another, against a model.
 
 ghost use Rattle.std.specs.Prelude.{◌≡◌, IfErr, IfOk, IfSome, IsTrue, None, option_map};
-ghost use Rattle.fz_model.specs.Meaning.{first_some};
+ghost use Rattle.fz_model.specs.Meaning.{IsPartial, first_some};
 ghost use Rattle.fz_model.specs.Overviews.{IsOverview};
 ghost use Rattle.fz_stream.specs.Found.{EndsWithin, HasPlaces};
 ghost use Rattle.fz_verdict.specs.Blocks.{block_fault, items_fault};
-ghost use Rattle.fz_verdict.specs.Verdict.{printed_fails, verdict, verdict_by};
+ghost use Rattle.fz_verdict.specs.Completed.{IsCompleted, name_of_aim, name_of_term};
+ghost use Rattle.fz_verdict.specs.Verdict.{objective_fails, printed_fails, verdict, verdict_by};
+ghost use Rattle.fz_verdict.specs.Verdict.Verdict.{Undecided};
 ghost use Rattle.fz_verdict.specs.View.{located_block, located_items};
 ghost use Rattle.fz_judge.specs.Judged.{IsBlockRefusal, IsJudged, TellsKind};
-ghost use Rattle.fz_judge.specs.View.{fault_view, verdict_view};
-ghost use Rattle.fz_judge.specs.Working.{with_objective};
+ghost use Rattle.fz_judge.specs.View.{fault_view, reason_view, verdict_view};
+ghost use Rattle.fz_judge.specs.Working.{IsFound, compared, with_objective};
 
 use crate::error::BlockError;
 use crate::filling::filled;
 use crate::points::{objective, objective_fails, points_verdict};
 use crate::printed::printed_fails;
 use crate::start::Proposed;
-use crate::verdict::{Fault, Verdict};
+use crate::verdict::{Fault, Reason, Verdict};
 use fz_filling::Course;
-use fz_model::{Model, Overview};
+use fz_model::{Goal, Model, Overview, Partial, Term};
+use fz_search::{Search, propose};
 use fz_stream::Block;
 use fz_syntax::Printed;
+use fz_verdict::Completion;
 use std::alloc::{AllocError, Global};
 
 /// The verdict where the printed names and the points have this one, and the objective may fail.
@@ -45,38 +49,41 @@ fn with_objective<'a>(points: Verdict<'a>, objective: Option<Fault<'a>>) -> Verd
 fn disagreement<'a>(
     alloc: Global,
     model: &Model<'a>,
-    filling: &Proposed,
+    partial: &Partial,
+    agrees: bool,
     items: &[Printed<'_>],
 ) -> Result<Option<Fault<'a>>, AllocError>
     requires clean { items_fault model.now (located_items items.now) ≡ None }
-    requires agrees { IsTrue filling.now.agrees → first_some (printed_fails model.now filling.now.partial) (located_items items.now) ≡ None }
-    ensures { IfOk result (λ o. option_map fault_view o ≡ first_some (printed_fails model.now filling.now.partial) (located_items items.now)) }
+    requires agrees { IsTrue agrees → first_some (printed_fails model.now partial.now) (located_items items.now) ≡ None }
+    ensures { IfOk result (λ o. option_map fault_view o ≡ first_some (printed_fails model.now partial.now) (located_items items.now)) }
 {
-    if filling.agrees {
+    if agrees {
         return Ok(None);
     }
-    printed_fails(alloc, model, &filling.partial, items)
+    printed_fails(alloc, model, partial, items)
 }
 
-/// The verdict on a block under its filling: each point and the objective is looked at again, and each printed name unless all agreed.
+/// The verdict on a block under a partial assignment: each point and the objective is looked at
+/// again, and each printed name unless all are known to agree.
 fn verdict_under<'a>(
     alloc: Global,
     model: &Model<'a>,
     overview: &Overview,
-    filling: &Proposed,
+    partial: &Partial,
+    agrees: bool,
     block: &Block<'_>,
     before: Option<i64>,
 ) -> Result<Verdict<'a>, AllocError>
     requires overview { IsOverview model.now overview.now }
     requires clean { items_fault model.now (located_items block.now.items.items) ≡ None }
-    requires agrees { IsTrue filling.now.agrees → first_some (printed_fails model.now filling.now.partial) (located_items block.now.items.items) ≡ None }
-    ensures { IfOk result (λ v. verdict_view v ≡ verdict model.now filling.now.partial (located_block block.now) before) }
+    requires agrees { IsTrue agrees → first_some (printed_fails model.now partial.now) (located_items block.now.items.items) ≡ None }
+    ensures { IfOk result (λ v. verdict_view v ≡ verdict model.now partial.now (located_block block.now) before) }
 {
-    if let Some(fault) = disagreement(alloc, model, filling, &block.items)? {
+    if let Some(fault) = disagreement(alloc, model, partial, agrees, &block.items)? {
         return Ok(Verdict::Violated(fault));
     }
-    let points = points_verdict(alloc, model, overview, &filling.partial)?;
-    let now = objective(model, &filling.partial);
+    let points = points_verdict(alloc, model, overview, partial)?;
+    let now = objective(model, partial);
     Ok(with_objective(points, objective_fails(model.goal(), before, now)))
 }
 
@@ -95,35 +102,77 @@ fn overview_of(
     }
 }
 
-/// The verdict on a block under its filling. The overview of the model is made for the first block, and kept for the next.
+/// The verdict on a block under a partial assignment. The overview of the model is made for the
+/// first block, and kept for the next.
 fn verdict_over<'a>(
     alloc: Global,
     model: &Model<'a>,
     known: &mut Option<Overview>,
-    filling: &Proposed,
+    partial: &Partial,
+    agrees: bool,
     block: &Block<'_>,
     before: Option<i64>,
 ) -> Result<Verdict<'a>, AllocError>
     requires overview { IfSome known.old (IsOverview model.now) }
     requires clean { items_fault model.now (located_items block.now.items.items) ≡ None }
-    requires agrees { IsTrue filling.now.agrees → first_some (printed_fails model.now filling.now.partial) (located_items block.now.items.items) ≡ None }
-    ensures judged { IfOk result (λ v. verdict_view v ≡ verdict model.now filling.now.partial (located_block block.now) before) }
+    requires agrees { IsTrue agrees → first_some (printed_fails model.now partial.now) (located_items block.now.items.items) ≡ None }
+    ensures judged { IfOk result (λ v. verdict_view v ≡ verdict model.now partial.now (located_block block.now) before) }
     ensures overview { IfSome known.new (IsOverview model.now) }
 {
     let overview = overview_of(alloc, model, known.take())?;
-    let found = verdict_under(alloc, model, &overview, filling, block, before)?;
+    let found = verdict_under(alloc, model, &overview, partial, agrees, block, before)?;
     *known = Some(overview);
     Ok(found)
 }
 
-/// A model with the objective of the block that was judged last, what its fillings so far have shown of the next, what is looked at of
-/// its declarations for each block, and the last filling.
+/// The name of the variable that a scalar is; none is needed where it is no variable.
+fn name_of_term<'a>(model: &Model<'a>, term: &Term) -> &'a [u8]
+    ensures { result.now ≡ name_of_term model.now term.now }
+{
+    match term {
+        Term::Var(number) => match model.variables().get(*number) {
+            Some(variable) => variable.name,
+            None => &[],
+        },
+        Term::Fixed(_) => &[],
+    }
+}
+
+/// The name of the variable that is minimized or maximized.
+fn objective_name<'a>(model: &Model<'a>) -> &'a [u8]
+    ensures { result.now ≡ name_of_aim model.now model.now.aim }
+{
+    match model.goal() {
+        Goal::Satisfy => &[],
+        Goal::Minimize(term) => name_of_term(model, term),
+        Goal::Maximize(term) => name_of_term(model, term),
+    }
+}
+
+/// What is told of a block that is satisfied under its filling with the objective `now`, where
+/// the one kept before was looked for.
+fn compared<'a>(model: &Model<'a>, before: Option<i64>, now: Option<i64>) -> Verdict<'a>
+    ensures { verdict_view result ≡ compared model.now (objective_fails model.now.aim before now) }
+{
+    match objective_fails(model.goal(), before, now) {
+        None => Verdict::Satisfied,
+        Some(_) => Verdict::Undecided(Reason::NoValue(objective_name(model))),
+    }
+}
+
+/// A model with the objectives of the block that was judged last, what its fillings so far have
+/// shown of the next, what is looked at of its declarations for each block, and the last filling.
 #[derive(Drop)]
 pub struct Judge<'m, 'a> {
     model: &'m Model<'a>,
+    completion: Completion,
+    /// the objective of the block before under its filling
     before: Option<i64>,
+    /// and under the values that were found for it
+    found: Option<i64>,
     course: Option<Course>,
     overview: Option<Overview>,
+    search: Option<Search>,
     /// the filling of the block before, whose room the next one takes, and where it finds its names
     spare: Option<Proposed>,
 }
@@ -142,35 +191,116 @@ impl<'m, 'a> std::marker::Model for Judge<'m, 'a> {
     ghost use Rattle.fz_model.specs.Overviews.{IsOverview};
     ghost use Rattle.fz_judge.specs.Working.{HasRoom};
 
-    ghost view = { λ j. record { model = j.model.now; before = j.before } };
+    ghost view = { λ j. record { model = j.model.now; completion = j.completion; before = j.before; found = j.found } };
 
     ghost invariant = { λ j. IfSome j.course (IsCourse j.model.now) × IfSome j.overview (IsOverview j.model.now) × IfSome j.spare (λ s. HasRoom j.model.now s.partial) };
 }
 
 impl<'m, 'a> Judge<'m, 'a> {
     /// A judge of a model's blocks, before the first one.
-    pub fn new(model: &'m Model<'a>) -> Judge<'m, 'a>
-        ensures { result ≡ record { model = model.now; before = None } }
+    pub fn new(model: &'m Model<'a>, completion: Completion) -> Judge<'m, 'a>
+        ensures { result ≡ record { model = model.now; completion = completion; before = None; found = None } }
     {
         Judge {
             model,
+            completion,
             before: None,
+            found: None,
             course: None,
             overview: None,
+            search: None,
             spare: None,
         }
     }
 
-    /// The verdict on the next block, under its filling: the first that fails of the printed names in block order, then the points, then
-    /// the objective, which is to be better than that of the block before; else the first point that is undecided. After an error the
-    /// judge is unchanged.
+    /// The verdict on a block that has this one under its filling, and its objective, where values
+    /// that the solver left out are looked for. What was found is judged anew, and only where it
+    /// satisfies the block it is told.
+    fn completed(
+        &mut self,
+        alloc: Global,
+        filling: &Partial,
+        block: &Block<'_>,
+        under: Verdict<'a>,
+    ) -> Result<(Verdict<'a>, Option<i64>), AllocError>
+        requires clean { items_fault self.old.model (located_items block.now.items.items) ≡ None }
+        requires kinds { IsPartial self.old.model filling.now }
+        requires filled { verdict_view under ≡ verdict self.old.model filling.now (located_block block.now) self.old.before }
+        ensures told { IfOk result (λ r. IsCompleted self.old.model (located_block block.now) self.old.found filling.now (verdict_view under.entry) (verdict_view r.0) r.1) }
+        ensures same { self.new ≡ self.old }
+    {
+        let filled = objective(self.model, filling);
+        match under {
+            Verdict::Satisfied => Ok((compared(self.model, self.found, filled), filled)),
+            Verdict::Undecided(reason) => self.undecided(alloc, filling, block, reason),
+            Verdict::Violated(_) => Ok((under, filled)),
+        }
+    }
+
+    /// The same of a block that is undecided under its filling.
+    fn undecided(
+        &mut self,
+        alloc: Global,
+        filling: &Partial,
+        block: &Block<'_>,
+        reason: Reason<'a>,
+    ) -> Result<(Verdict<'a>, Option<i64>), AllocError>
+        requires clean { items_fault self.old.model (located_items block.now.items.items) ≡ None }
+        requires kinds { IsPartial self.old.model filling.now }
+        ensures told { IfOk result (λ r. IsCompleted self.old.model (located_block block.now) self.old.found filling.now (Undecided (reason_view reason.entry)) (verdict_view r.0) r.1) }
+        ensures same { self.new ≡ self.old }
+    {
+        let filled = objective(self.model, filling);
+        match reason {
+            Reason::NoValue(_) => match self.satisfied(alloc, filling, block)? {
+                Some(found) => Ok((Verdict::Satisfied, found)),
+                None => Ok((Verdict::Undecided(reason), filled)),
+            },
+            Reason::Unknown(_, _) | Reason::TooLarge(_) => {
+                Ok((Verdict::Undecided(reason), filled))
+            }
+        }
+    }
+
+    /// The objective under values that satisfy a block, and are better than what was found for the
+    /// block before, where the search proposes such.
+    fn satisfied(
+        &mut self,
+        alloc: Global,
+        filling: &Partial,
+        block: &Block<'_>,
+    ) -> Result<Option<Option<i64>>, AllocError>
+        requires clean { items_fault self.old.model (located_items block.now.items.items) ≡ None }
+        requires kinds { IsPartial self.old.model filling.now }
+        ensures found { IfOk result (λ o. IfSome o (IsFound self.old.model (located_block block.now) self.old.found)) }
+        ensures same { self.new ≡ self.old }
+    {
+        let Some(found) = propose(alloc, self.model, filling, self.found, &mut self.search)? else {
+            return Ok(None);
+        };
+        let now = objective(self.model, &found);
+        let overview = &mut self.overview;
+        match verdict_over(
+            alloc, self.model, overview, &found, false, block, self.found,
+        )? {
+            Verdict::Satisfied => Ok(Some(now)),
+            Verdict::Violated(_) | Verdict::Undecided(_) => Ok(None),
+        }
+    }
+
+    /// The verdict on the next block, under its filling: the first that fails of the printed names
+    /// in block order, then the points, then the objective, which is to be better than that of the
+    /// block before; else the first point that is undecided. Where values are looked for and only
+    /// a value is missing, a block that is satisfied under values that were found is told so. After
+    /// an error the judge is unchanged.
     ///
     /// # Errors
     ///
     /// The fault of the first printed item that has one, at its place in the stream, and want of memory.
     pub fn judge(&mut self, alloc: Global, block: &Block<'_>) -> Result<Verdict<'a>, BlockError>
-        ensures judged { IfOk result (λ v. IsJudged self.old.model (located_block block.now) self.old.before (verdict_view v) self.new.before) }
+        ensures judged { IfOk result (λ v. IsJudged self.old self.new (located_block block.now) (verdict_view v)) }
         ensures same_model { self.new.model ≡ self.old.model }
+        ensures same_completion { self.new.completion ≡ self.old.completion }
         ensures unchanged { IfErr result (λ _. self.new ≡ self.old) }
         // Of any block: it has a fault, and its first is of the kind that is told.
         ensures only { IfErr result (λ e. TellsKind e (block_fault self.old.model (located_block block.now))) }
@@ -183,11 +313,18 @@ impl<'m, 'a> Judge<'m, 'a> {
             alloc,
             self.model,
             &mut self.overview,
-            &filling,
+            &filling.partial,
+            filling.agrees,
             block,
             self.before,
         )?;
-        self.before = objective(self.model, &filling.partial);
+        let before = objective(self.model, &filling.partial);
+        let (verdict, found) = match self.completion {
+            Completion::Off => (verdict, before),
+            Completion::On => self.completed(alloc, &filling.partial, block, verdict)?,
+        };
+        self.before = before;
+        self.found = found;
         self.spare = Some(filling);
         Ok(verdict)
     }

@@ -5,10 +5,10 @@ mod extremes;
 mod sums;
 mod truths;
 
-pub use different::all_elements_different;
-pub(crate) use different::{numbers_of, stands_from};
+pub use different::{all_elements_different, numbers_of, stands_from};
 pub use element::{
-    bool_element, int_element, is_bool_element, is_int_element, is_set_element, set_element,
+    bool_element, int_element, int_element_at, is_bool_element, is_int_element, is_set_element,
+    set_element,
 };
 pub use extremes::{is_maximum, is_minimum, maximum, minimum};
 pub use sums::{sum_of_products, sum_where_true};

@@ -18,13 +18,6 @@ pub fn product(a: i64, b: i64) -> i128
     i128::from(a) * i128::from(b)
 }
 
-/// The product and one number more, which 128 bits always hold.
-pub fn product_and_more(a: i64, b: i64, more: i64) -> i128
-    ensures exact { result ≡ ((a *ℤ b) +ℤ more) }
-{
-    product(a, b) + i128::from(more)
-}
-
 /// The number without its sign: up to 2^63.
 pub fn absolute(a: i64) -> i128
     ensures exact { result ≡ pos (unsigned_abs a) }

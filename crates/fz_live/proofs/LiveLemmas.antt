@@ -9,7 +9,9 @@ use Rattle.fz_stream.specs.Found.{claims_in}
 use Rattle.fz_stream.specs.Parts.{StreamPart, IsStreamText}
 use Rattle.fz_stream.specs.Splitting.{most_taken}
 use Rattle.fz_judge.specs.of_verdict.Report.{answer_line, part_lines, text_of_lines}
-use Rattle.fz_judge.specs.of_verdict.Verdict.{Verdict, Answer, AreJudged, IsFilled, answer_by, answer_of, first_number, is_undecided, is_violated}
+use Rattle.fz_judge.specs.of_verdict.declared.completion.Completion.{Completion}
+use Rattle.fz_judge.specs.of_verdict.Completed.{AreTold}
+use Rattle.fz_judge.specs.of_verdict.Verdict.{Verdict, Answer, answer_by, answer_of, first_number, is_undecided, is_violated}
 use Rattle.fz_judge.proofs.of_verdict.Loops.{goes_on_judged}
 use Rattle.fz_judge.proofs.of_verdict.Reports.{lines_of_report}
 use Rattle.fz_judge.proofs.of_verdict.Places.{blocks_are_bare}
@@ -31,21 +33,21 @@ use Rattle.fz_live.proofs.CountLemmas.{few_parts, few_blocks}
 use Rattle.fz_live.proofs.TellingLemmas.{text_of_more}
 
 -- The parts that have ended in what was read are told, and their lines are written.
-pub record Living (m : Model) (s : ReaderState) (j : JudgeState) (t : Tally) (left left' w w' : Option (List ℕ)) : Type 0 where
+pub record Living (c : Completion) (m : Model) (s : ReaderState) (j : JudgeState) (t : Tally) (left left' w w' : Option (List ℕ)) : Type 0 where
   pub given : List ℕ
   pub reads : Consumes left left' given
   pub parts : List StreamPart
   pub stands : StandsAt s left' given parts
   pub verdicts : List Verdict
-  pub told : HasTold m j t parts verdicts
+  pub told : HasTold c m j t parts verdicts
   pub writes : Appends w w' (lines_text verdicts parts)
 
 -- a reader of parts in the same state goes on alike
-pub live_same : (s s' : ReaderState) → s' ≡ s → (m : Model) (j : JudgeState) (t : Tally) (left left' w w' : Option (List ℕ)) → Living m s j t left left' w w' → Living m s' j t left left' w w'
-live_same s s' same m j t left left' w w' h = subst (λ x. Living m x j t left left' w w') (sym same) h
+pub live_same : (s s' : ReaderState) → s' ≡ s → (c : Completion) (m : Model) (j : JudgeState) (t : Tally) (left left' w w' : Option (List ℕ)) → Living c m s j t left left' w w' → Living c m s' j t left left' w w'
+live_same s s' same c m j t left left' w w' h = subst (λ x. Living c m x j t left left' w w') (sym same) h
 
-pub live_starts : (m : Model) (s : ReaderState) (j : JudgeState) (t : Tally) (left w : Option (List ℕ)) → HasRead s [] [] → j ≡ record { model = m; before = None } → t ≡ record { blocks = 0; violated = None; undecided = None } → Living m s j t left left w w
-live_starts m s j t left w read judge tally = record {
+pub live_starts : (c : Completion) (m : Model) (s : ReaderState) (j : JudgeState) (t : Tally) (left w : Option (List ℕ)) → HasRead s [] [] → j ≡ record { model = m; completion = c; before = None; found = None } → t ≡ record { blocks = 0; violated = None; undecided = None } → Living c m s j t left left w w
+live_starts c m s j t left w read judge tally = record {
   given = [];
   reads = Consumes-nil left;
   parts = [];
@@ -53,10 +55,11 @@ live_starts m s j t left w read judge tally = record {
   verdicts = [];
   told = record {
     same_model = ap (λ (k : JudgeState). k.model) judge;
+    same_completion = ap (λ (k : JudgeState). k.completion) judge;
     blocks = [];
     blocks_are = refl;
     places = tt;
-    goes_on = λ more ws judged. subst (λ b. AreJudged m (IsFilled m) b more ws) (ap (λ (k : JudgeState). k.before) judge) judged;
+    goes_on = λ more ws rest. subst (λ (k : JudgeState). AreTold c m k.before k.found more ws) judge rest;
     tallies = record {
       blocks = ap (λ (u : Tally). u.blocks) tally;
       violated = ap (λ (u : Tally). u.violated) tally;
@@ -67,8 +70,8 @@ live_starts m s j t left w read judge tally = record {
   writes = Appends-nil w;
 }
 
-have_verdicts : (m : Model) (j : JudgeState) (t : Tally) (parts : List StreamPart) (verdicts : List Verdict) → HasTold m j t parts verdicts → HaveVerdicts m parts verdicts
-have_verdicts m j t parts verdicts h = record { blocks = h.blocks; blocks_are = h.blocks_are; places = h.places; are_verdicts = goes_on_judged m (IsFilled m) None (map located_block h.blocks) verdicts j.before h.goes_on }
+have_verdicts : (c : Completion) (m : Model) (j : JudgeState) (t : Tally) (parts : List StreamPart) (verdicts : List Verdict) → HasTold c m j t parts verdicts → HaveVerdicts c m parts verdicts
+have_verdicts c m j t parts verdicts h = record { blocks = h.blocks; blocks_are = h.blocks_are; places = h.places; are_verdicts = goes_on_judged c m (map located_block h.blocks) verdicts j.before j.found h.goes_on }
 
 read_inside : (s : ReaderState) (left : Option (List ℕ)) (given more : List ℕ) (parts : List StreamPart) → HasRead s given parts → EndInside left (given ++ more) parts
 read_inside s left given more parts h = inl (h.taken, s.pending ++ more, ap (λ l. l ++ more) h.whole ∙ append_assoc h.taken s.pending more, (s.splitter.held, h.fits.holds))
@@ -79,7 +82,7 @@ stands_inside s left given parts st =
     (λ (h : IsAtEnd left × HasEnded s given parts). inr (h.0, subst (IsStreamText given) (sym h.1.parts_are) h.1.ends.text)) st
 
 -- One more part waits.
-pub record Advanced (m : Model) (s : ReaderState) (j : JudgeState) (t : Tally) (left left' w w' : Option (List ℕ)) : Type 0 where
+pub record Advanced (c : Completion) (m : Model) (s : ReaderState) (j : JudgeState) (t : Tally) (left left' w w' : Option (List ℕ)) : Type 0 where
   pub given : List ℕ
   pub reads : Consumes left left' given
   pub parts : List StreamPart
@@ -87,11 +90,11 @@ pub record Advanced (m : Model) (s : ReaderState) (j : JudgeState) (t : Tally) (
   pub inside : EndInside left' given parts
   pub stands : StandsAt s left' given (parts ++ part ∷ [])
   pub verdicts : List Verdict
-  pub told : HasTold m j t parts verdicts
+  pub told : HasTold c m j t parts verdicts
   pub writes : Appends w w' (lines_text verdicts parts)
 
-module _ (m : Model) (s : ReaderState) (j : JudgeState) (t : Tally) (left left' w w' : Option (List ℕ)) (l : Living m s j t left left' w w') (left'' : Option (List ℕ)) where
-  pub live_advanced : (next : ReaderState) → s.splitter.stage ≢ Finished → ReadsOn s left' left'' (HasOneMore next left'') → Advanced m next j t left left'' w w'
+module _ (c : Completion) (m : Model) (s : ReaderState) (j : JudgeState) (t : Tally) (left left' w w' : Option (List ℕ)) (l : Living c m s j t left left' w w') (left'' : Option (List ℕ)) where
+  pub live_advanced : (next : ReaderState) → s.splitter.stage ≢ Finished → ReadsOn s left' left'' (HasOneMore next left'') → Advanced c m next j t left left'' w w'
   live_advanced next going r =
       let more = r.then l.given l.parts l.stands in
       record {
@@ -107,28 +110,28 @@ module _ (m : Model) (s : ReaderState) (j : JudgeState) (t : Tally) (left left' 
       }
 
   -- the next part is not known
-  pub live_stops : (Why : List ℕ → List StreamPart → Type 0) → ReadsOn s left' left'' Why → StopsAfterLines m left left'' w w' Why
+  pub live_stops : (Why : List ℕ → List StreamPart → Type 0) → ReadsOn s left' left'' Why → StopsAfterLines c m left left'' w w' Why
   live_stops Why r = record {
     given = l.given ++ r.more;
     reads = Consumes-trans left left' left'' l.given r.more l.reads r.consumes;
     parts = l.parts;
     verdicts = l.verdicts;
-    have_verdicts = have_verdicts m j t l.parts l.verdicts l.told;
+    have_verdicts = have_verdicts c m j t l.parts l.verdicts l.told;
     writes = l.writes;
     why = r.then l.given l.parts l.stands;
   }
 
-  pub live_read : (next : ReaderState) → ReadsOn s left' left'' (λ given parts. HasRead next given parts × HasNoMore given parts) → StopsAfterLines m left left'' w w' HasNoMore
+  pub live_read : (next : ReaderState) → ReadsOn s left' left'' (λ given parts. HasRead next given parts × HasNoMore given parts) → StopsAfterLines c m left left'' w w' HasNoMore
   live_read next r = live_stops HasNoMore (record { more = r.more; consumes = r.consumes; then = λ given parts st. (r.then given parts st).1 })
 
-  pub live_front : s.splitter.stage ≢ Finished → ReadsOn s left' left'' (λ given parts. ⊤) → WritesFrontOfLines m left left'' w w'
+  pub live_front : s.splitter.stage ≢ Finished → ReadsOn s left' left'' (λ given parts. ⊤) → WritesFrontOfLines c m left left'' w w'
   live_front going r = record {
     given = l.given ++ r.more;
     reads = Consumes-trans left left' left'' l.given r.more l.reads r.consumes;
     parts = l.parts;
     end_inside = read_inside s left'' l.given r.more l.parts (stands_reading s left' l.given l.parts going l.stands);
     verdicts = l.verdicts;
-    have_verdicts = have_verdicts m j t l.parts l.verdicts l.told;
+    have_verdicts = have_verdicts c m j t l.parts l.verdicts l.told;
     last = [];
     are_last = inl refl;
     front = lines_text l.verdicts l.parts;
@@ -137,13 +140,13 @@ module _ (m : Model) (s : ReaderState) (j : JudgeState) (t : Tally) (left left' 
     writes = l.writes;
   }
 
-module _ (m : Model) (s : ReaderState) (j : JudgeState) (t : Tally) (left left' w w' : Option (List ℕ)) (a : Advanced m s j t left left' w w') where
+module _ (c : Completion) (m : Model) (s : ReaderState) (j : JudgeState) (t : Tally) (left left' w w' : Option (List ℕ)) (a : Advanced c m s j t left left' w w') where
   pub live_room : t.blocks < most_taken
   live_room = omega (arith, few_parts s left' a.given (a.parts ++ a.part ∷ []) a.stands, few_blocks a.parts, a.told.tallies.blocks, a.told.one_each, length-append a.parts (a.part ∷ []))
 
-  pub live_told : (j' : JudgeState) (t' : Tally) (line : List ℕ) (w'' : Option (List ℕ)) → IsTold s j j' t t' line → Appends w' w'' line → Living m s j' t' left left' w w''
+  pub live_told : (j' : JudgeState) (t' : Tally) (line : List ℕ) (w'' : Option (List ℕ)) → IsTold s j j' t t' line → Appends w' w'' line → Living c m s j' t' left left' w w''
   live_told j' t' line w'' tells appends =
-      let one = tells m left' a.given a.parts a.part a.verdicts a.stands a.told in
+      let one = tells c m left' a.given a.parts a.part a.verdicts a.stands a.told in
       record {
         given = a.given;
         reads = a.reads;
@@ -154,15 +157,15 @@ module _ (m : Model) (s : ReaderState) (j : JudgeState) (t : Tally) (left left' 
         writes = subst (Appends w w'') (sym one.lines) (Appends-trans w w' w'' (lines_text a.verdicts a.parts) line a.writes appends);
       }
 
-  pub live_refused : (n : ℕ) (e : BlockError) → IsRefused s j t n e → StopsAfterLines m left left' w w' (λ given parts. BlockIsRefused m left' given parts n e)
+  pub live_refused : (n : ℕ) (e : BlockError) → IsRefused s j t n e → StopsAfterLines c m left left' w w' (λ given parts. BlockIsRefused m left' given parts n e)
   live_refused n e refuses =
-      let r = refuses m left' a.given a.parts a.part a.verdicts a.stands a.told in
+      let r = refuses c m left' a.given a.parts a.part a.verdicts a.stands a.told in
       record {
         given = a.given;
         reads = a.reads;
         parts = a.parts;
         verdicts = a.verdicts;
-        have_verdicts = have_verdicts m j t a.parts a.verdicts a.told;
+        have_verdicts = have_verdicts c m j t a.parts a.verdicts a.told;
         writes = a.writes;
         why = record {
           block = r.block;
@@ -174,14 +177,14 @@ module _ (m : Model) (s : ReaderState) (j : JudgeState) (t : Tally) (left left' 
         };
       }
 
-  pub live_untold : WritesFrontOfLines m left left' w w'
+  pub live_untold : WritesFrontOfLines c m left left' w w'
   live_untold = record {
     given = a.given;
     reads = a.reads;
     parts = a.parts;
     end_inside = a.inside;
     verdicts = a.verdicts;
-    have_verdicts = have_verdicts m j t a.parts a.verdicts a.told;
+    have_verdicts = have_verdicts c m j t a.parts a.verdicts a.told;
     last = [];
     are_last = inl refl;
     front = lines_text a.verdicts a.parts;
@@ -190,16 +193,16 @@ module _ (m : Model) (s : ReaderState) (j : JudgeState) (t : Tally) (left left' 
     writes = a.writes;
   }
 
-  pub live_unwritten : (j' : JudgeState) (t' : Tally) (line : List ℕ) (w'' : Option (List ℕ)) → IsTold s j j' t t' line → WritesFront w' w'' line → WritesFrontOfLines m left left' w w''
+  pub live_unwritten : (j' : JudgeState) (t' : Tally) (line : List ℕ) (w'' : Option (List ℕ)) → IsTold s j j' t t' line → WritesFront w' w'' line → WritesFrontOfLines c m left left' w w''
   live_unwritten j' t' line w'' tells f =
-      let one = tells m left' a.given a.parts a.part a.verdicts a.stands a.told in
+      let one = tells c m left' a.given a.parts a.part a.verdicts a.stands a.told in
       record {
         given = a.given;
         reads = a.reads;
         parts = a.parts ++ a.part ∷ [];
         end_inside = stands_inside s left' a.given (a.parts ++ a.part ∷ []) a.stands;
         verdicts = one.more;
-        have_verdicts = have_verdicts m j' t' (a.parts ++ a.part ∷ []) one.more one.told;
+        have_verdicts = have_verdicts c m j' t' (a.parts ++ a.part ∷ []) one.more one.told;
         last = [];
         are_last = inl refl;
         front = lines_text a.verdicts a.parts ++ f.front;
@@ -213,7 +216,7 @@ answer_by_tally : (t : Tally) (vs : List Verdict) (answer : Answer) → Tallies 
 answer_by_tally t vs answer h e =
     e ∙ ap (λ v. answer_by v t.undecided t.blocks) h.violated ∙ ap (λ u. answer_by (first_number 1 is_violated vs) u t.blocks) h.undecided ∙ ap (answer_by (first_number 1 is_violated vs) (first_number 1 is_undecided vs)) h.blocks
 
-module _ (m : Model) (s : ReaderState) (j : JudgeState) (t : Tally) (left left' w w' : Option (List ℕ)) (l : Living m s j t left left' w w') (left'' : Option (List ℕ)) (r : ReadsOn s left' left'' (λ given parts. IsAtEnd left'' × IsStreamText given parts))
+module _ (c : Completion) (m : Model) (s : ReaderState) (j : JudgeState) (t : Tally) (left left' w w' : Option (List ℕ)) (l : Living c m s j t left left' w w') (left'' : Option (List ℕ)) (r : ReadsOn s left' left'' (λ given parts. IsAtEnd left'' × IsStreamText given parts))
     (answer : Answer) (is : answer ≡ answer_by t.violated t.undecided t.blocks) (w'' : Option (List ℕ)) where
   at_end : IsAtEnd left'' × IsStreamText (l.given ++ r.more) l.parts
   at_end = r.then l.given l.parts l.stands
@@ -221,9 +224,9 @@ module _ (m : Model) (s : ReaderState) (j : JudgeState) (t : Tally) (left left' 
   answered : answer ≡ answer_of l.verdicts
   answered = answer_by_tally t l.verdicts answer l.told.tallies is
 
-  pub live_answered : Appends w' w'' (text_of_lines (answer_line answer ∷ [])) → IsAnswered m left left'' w w'' answer
+  pub live_answered : Appends w' w'' (text_of_lines (answer_line answer ∷ [])) → IsAnswered c m left left'' w w'' answer
   live_answered appends =
-      let h = have_verdicts m j t l.parts l.verdicts l.told in
+      let h = have_verdicts c m j t l.parts l.verdicts l.told in
       record {
         given = l.given ++ r.more;
         reads = Consumes-trans left left' left'' l.given r.more l.reads r.consumes;
@@ -240,14 +243,14 @@ module _ (m : Model) (s : ReaderState) (j : JudgeState) (t : Tally) (left left' 
         answer_is = refl;
       }
 
-  pub live_unanswered : WritesFront w' w'' (text_of_lines (answer_line answer ∷ [])) → WritesFrontOfLines m left left'' w w''
+  pub live_unanswered : WritesFront w' w'' (text_of_lines (answer_line answer ∷ [])) → WritesFrontOfLines c m left left'' w w''
   live_unanswered f = record {
     given = l.given ++ r.more;
     reads = Consumes-trans left left' left'' l.given r.more l.reads r.consumes;
     parts = l.parts;
     end_inside = inr at_end;
     verdicts = l.verdicts;
-    have_verdicts = have_verdicts m j t l.parts l.verdicts l.told;
+    have_verdicts = have_verdicts c m j t l.parts l.verdicts l.told;
     last = answer_line answer ∷ [];
     are_last = inr (at_end.0, at_end.1, ap (λ a. answer_line a ∷ []) answered);
     front = lines_text l.verdicts l.parts ++ f.front;

@@ -1,6 +1,5 @@
 -- How many reads were made, and what they may have brought.
-use Rattle.std.proofs.Common.{◌≡◌, ◌≢◌, ℕ, suc, ◌+◌, ◌*◌, ◌≤◌, List, [], ◌++◌, length, Option, refl, sym, ap, subst, length-append, arith}
-use Rattle.std.specs.Io.KnownBytes.{Consumes}
+use Rattle.std.proofs.Common.{◌≡◌, ◌≢◌, ℕ, ◌+◌, ◌≤◌, List, [], ◌++◌, Option, refl, sym, ap, subst, length-append, arith}
 use Rattle.std.proofs.KnownBytes.{Consumes-nil, Consumes-trans}
 use Rattle.fz_stream.specs.declared.splitter.Stage.{Stage}
 use Rattle.fz_stream.specs.declared.splitter.Stage.TheVariants.{Running, Finished, Failed}

@@ -9,7 +9,9 @@ use Rattle.fz_stream.specs.Found.{HasPlaces, block_of, blocks_in}
 use Rattle.fz_stream.specs.Parts.{StreamPart, BlockPart, IsStreamText}
 use Rattle.fz_judge.specs.of_verdict.View.{located_block}
 use Rattle.fz_judge.specs.of_verdict.Report.{Report, IsReport, answer_line, part_lines, report_bytes, text_of_lines}
-use Rattle.fz_judge.specs.of_verdict.Verdict.{Verdict, Answer, AreVerdicts, answer_of}
+use Rattle.fz_judge.specs.of_verdict.declared.completion.Completion.{Completion}
+use Rattle.fz_judge.specs.of_verdict.Completed.{AreVerdicts}
+use Rattle.fz_judge.specs.of_verdict.Verdict.{Verdict, Answer, answer_of}
 use Rattle.fz_judge.specs.declared.error.BlockError.{BlockError}
 use Rattle.fz_judge.specs.declared.error.BlockError.TheVariants.{Memory}
 use Rattle.fz_judge.specs.Judged.{IsBlockRefusal}
@@ -21,14 +23,14 @@ lines_text verdicts parts = text_of_lines (part_lines 0 verdicts parts)
 
 -- These are the verdicts of the blocks among the parts, with the places where their names and literals stand in them; no block among
 -- them has a fault.
-pub record HaveVerdicts (m : Model) (parts : List StreamPart) (verdicts : List Verdict) : Type 0 where
+pub record HaveVerdicts (c : Completion) (m : Model) (parts : List StreamPart) (verdicts : List Verdict) : Type 0 where
   pub blocks : List the_block.Block
   pub blocks_are : map block_of blocks ≡ blocks_in parts
   pub places : AllByRecursion HasPlaces blocks
-  pub are_verdicts : AreVerdicts m (map located_block blocks) verdicts
+  pub are_verdicts : AreVerdicts c m (map located_block blocks) verdicts
 
 -- The reader gave these bytes up to its end, the writer got the text of their report and nothing else, and the answer is the report's.
-pub record IsAnswered (m : Model) (left left' written written' : Option (List ℕ)) (answer : Answer) : Type 0 where
+pub record IsAnswered (c : Completion) (m : Model) (left left' written written' : Option (List ℕ)) (answer : Answer) : Type 0 where
   pub given : List ℕ
   pub reads : Consumes left left' given
   pub end : IsAtEnd left'
@@ -38,17 +40,17 @@ pub record IsAnswered (m : Model) (left left' written written' : Option (List �
   pub blocks_are : map block_of blocks ≡ blocks_in parts
   pub places : AllByRecursion HasPlaces blocks
   pub report : Report
-  pub is_report : IsReport m (map located_block blocks) parts report
+  pub is_report : IsReport c m (map located_block blocks) parts report
   pub writes : Appends written written' (report_bytes report)
   pub answer_is : answer ≡ report.answer
 
 -- The reader gave these bytes, the writer got the lines of these parts and nothing else, and this holds of the bytes and the parts.
-pub record StopsAfterLines (m : Model) (left left' written written' : Option (List ℕ)) (Why : List ℕ → List StreamPart → Type 0) : Type 0 where
+pub record StopsAfterLines (c : Completion) (m : Model) (left left' written written' : Option (List ℕ)) (Why : List ℕ → List StreamPart → Type 0) : Type 0 where
   pub given : List ℕ
   pub reads : Consumes left left' given
   pub parts : List StreamPart
   pub verdicts : List Verdict
-  pub have_verdicts : HaveVerdicts m parts verdicts
+  pub have_verdicts : HaveVerdicts c m parts verdicts
   pub writes : Appends written written' (lines_text verdicts parts)
   pub why : Why given parts
 
@@ -71,13 +73,13 @@ abbrev pub AreLast : Option (List ℕ) → List ℕ → List StreamPart → List
 AreLast left given parts verdicts lines = (lines ≡ []) ⊎ (IsAtEnd left × IsStreamText given parts × (lines ≡ answer_line (answer_of verdicts) ∷ []))
 
 -- The reader gave these bytes, and the writer got a front of their lines, and nothing else.
-pub record WritesFrontOfLines (m : Model) (left left' written written' : Option (List ℕ)) : Type 0 where
+pub record WritesFrontOfLines (c : Completion) (m : Model) (left left' written written' : Option (List ℕ)) : Type 0 where
   pub given : List ℕ
   pub reads : Consumes left left' given
   pub parts : List StreamPart
   pub end_inside : EndInside left' given parts
   pub verdicts : List Verdict
-  pub have_verdicts : HaveVerdicts m parts verdicts
+  pub have_verdicts : HaveVerdicts c m parts verdicts
   pub last : List (List ℕ)
   pub are_last : AreLast left' given parts verdicts last
   pub front : List ℕ

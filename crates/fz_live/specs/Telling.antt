@@ -8,7 +8,9 @@ use Rattle.fz_stream.specs.Found.{HasPlaces, block_of, blocks_in}
 use Rattle.fz_stream.specs.Parts.{StreamPart, BlockPart}
 use Rattle.fz_judge.specs.of_verdict.Blocks.{Block}
 use Rattle.fz_judge.specs.of_verdict.View.{located_block}
-use Rattle.fz_judge.specs.of_verdict.Verdict.{Verdict, AreJudged, IsFilled, first_number, is_undecided, is_violated}
+use Rattle.fz_judge.specs.of_verdict.declared.completion.Completion.{Completion}
+use Rattle.fz_judge.specs.of_verdict.Completed.{AreTold, AreVerdicts}
+use Rattle.fz_judge.specs.of_verdict.Verdict.{Verdict, first_number, is_undecided, is_violated}
 use Rattle.fz_judge.specs.declared.error.BlockError.{BlockError}
 use Rattle.fz_judge.specs.declared.error.BlockError.TheVariants.{Memory}
 use Rattle.fz_judge.specs.Judged.{JudgeState, IsJudged, IsBlockRefusal}
@@ -24,10 +26,11 @@ pub record Tallies (t : Tally) (verdicts : List Verdict) : Type 0 where
   pub violated : t.violated ≡ first_number 1 is_violated verdicts
   pub undecided : t.undecided ≡ first_number 1 is_undecided verdicts
 
--- The judge gave the verdict on the block, and its model is the same.
+-- The judge gave the verdict on the block, and judges the next one of the same model in the same way.
 pub record JudgesBlock (old new : JudgeState) (block : Block) (v : Verdict) : Type 0 where
-  pub judged : IsJudged old.model block old.before v new.before
+  pub judged : IsJudged old new block v
   pub same_model : new.model ≡ old.model
+  pub same_completion : new.completion ≡ old.completion
 
 -- One more block was counted.
 pub record CountsOne (old new : Tally) (v : Verdict) : Type 0 where
@@ -36,19 +39,20 @@ pub record CountsOne (old new : Tally) (v : Verdict) : Type 0 where
   pub undecided : new.undecided ≡ option_or old.undecided (cond (is_undecided v) (Some (old.blocks + 1)) None)
 
 -- The blocks among the parts were judged with these verdicts, and counted. What is judged from here on goes on from them.
-pub record HasTold (m : Model) (j : JudgeState) (t : Tally) (parts : List StreamPart) (verdicts : List Verdict) : Type 0 where
+pub record HasTold (c : Completion) (m : Model) (j : JudgeState) (t : Tally) (parts : List StreamPart) (verdicts : List Verdict) : Type 0 where
   pub same_model : j.model ≡ m
+  pub same_completion : j.completion ≡ c
   pub blocks : List the_block.Block
   pub blocks_are : map block_of blocks ≡ blocks_in parts
   pub places : AllByRecursion HasPlaces blocks
-  pub goes_on : (more : List Block) (ws : List Verdict) → AreJudged m (IsFilled m) j.before more ws → AreJudged m (IsFilled m) None (map located_block blocks ++ more) (verdicts ++ ws)
+  pub goes_on : (more : List Block) (ws : List Verdict) → AreTold c m j.before j.found more ws → AreVerdicts c m (map located_block blocks ++ more) (verdicts ++ ws)
   pub tallies : Tallies t verdicts
   pub one_each : length verdicts ≡ length (blocks_in parts)
 
 -- One more part was told, by this line.
-pub record TellsOneMore (m : Model) (j : JudgeState) (t : Tally) (parts : List StreamPart) (verdicts : List Verdict) (part : StreamPart) (line : List ℕ) : Type 0 where
+pub record TellsOneMore (c : Completion) (m : Model) (j : JudgeState) (t : Tally) (parts : List StreamPart) (verdicts : List Verdict) (part : StreamPart) (line : List ℕ) : Type 0 where
   pub more : List Verdict
-  pub told : HasTold m j t (parts ++ part ∷ []) more
+  pub told : HasTold c m j t (parts ++ part ∷ []) more
   pub lines : lines_text more (parts ++ part ∷ []) ≡ lines_text verdicts parts ++ line
 
 -- The part is a block, which has the number and this fault.
@@ -75,11 +79,11 @@ IsWritingRefusal _ = ⊥
 -- Where the reader of parts stands behind some parts and one more, of which all but the last were told, the last is told too.
 abbrev pub IsTold : ReaderState → JudgeState → JudgeState → Tally → Tally → List ℕ → Type 0
 IsTold s j j' t t' line =
-    (m : Model) (left : Option (List ℕ)) (given : List ℕ) (parts : List StreamPart) (part : StreamPart) (verdicts : List Verdict) → StandsAt s left given (parts ++ part ∷ [])
-    → HasTold m j t parts verdicts → TellsOneMore m j' t' parts verdicts part line
+    (c : Completion) (m : Model) (left : Option (List ℕ)) (given : List ℕ) (parts : List StreamPart) (part : StreamPart) (verdicts : List Verdict) → StandsAt s left given (parts ++ part ∷ [])
+    → HasTold c m j t parts verdicts → TellsOneMore c m j' t' parts verdicts part line
 
 -- there the last is a block that has the number and this fault
 abbrev pub IsRefused : ReaderState → JudgeState → Tally → ℕ → BlockError → Type 0
 IsRefused s j t n e =
-    (m : Model) (left : Option (List ℕ)) (given : List ℕ) (parts : List StreamPart) (part : StreamPart) (verdicts : List Verdict) → StandsAt s left given (parts ++ part ∷ [])
-    → HasTold m j t parts verdicts → RefusesPart m parts part n e
+    (c : Completion) (m : Model) (left : Option (List ℕ)) (given : List ℕ) (parts : List StreamPart) (part : StreamPart) (verdicts : List Verdict) → StandsAt s left given (parts ++ part ∷ [])
+    → HasTold c m j t parts verdicts → RefusesPart m parts part n e

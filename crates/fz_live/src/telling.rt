@@ -7,6 +7,7 @@ ghost use Rattle.fz_stream.specs.Splitting.{most_taken};
 ghost use Rattle.fz_stream.specs.Lending.{part_of, HasPlacesOfItems, PartEndsWithin};
 ghost use Rattle.fz_judge.specs.of_verdict.Report.{answer_line, block_line, text_of_lines};
 ghost use Rattle.fz_judge.specs.of_verdict.Verdict.{Verdict as PlainVerdict};
+ghost use Rattle.fz_judge.specs.of_verdict.declared.completion.Completion.{Completion};
 ghost use Rattle.fz_judge.specs.of_verdict.View.{located_block};
 ghost use Rattle.fz_judge.specs.declared.error.BlockError.{BlockError as Refusal};
 ghost use Rattle.fz_judge.specs.Judged.{IsBlockRefusal};
@@ -59,8 +60,8 @@ pub(crate) fn tell(
     part: &Part<'_>,
 ) -> Result<(), LiveError>
     requires { tally.old.blocks < usize.MAX }
-    ensures told { OnOk result ((m : Model) (parts : List StreamPart) (verdicts : List PlainVerdict) → HasTold m judge.old tally.old parts verdicts → HasPlacesOfItems part.now → TellsOneMore m judge.new tally.new parts verdicts (part_of part.now) line.new.items) }
-    ensures refused { (n : ℕ) (e : Refusal) → result ≡ Err (LiveError.Block n e) → (m : Model) (parts : List StreamPart) (verdicts : List PlainVerdict) → HasTold m judge.old tally.old parts verdicts
+    ensures told { OnOk result ((c : Completion) (m : Model) (parts : List StreamPart) (verdicts : List PlainVerdict) → HasTold c m judge.old tally.old parts verdicts → HasPlacesOfItems part.now → TellsOneMore c m judge.new tally.new parts verdicts (part_of part.now) line.new.items) }
+    ensures refused { (n : ℕ) (e : Refusal) → result ≡ Err (LiveError.Block n e) → (c : Completion) (m : Model) (parts : List StreamPart) (verdicts : List PlainVerdict) → HasTold c m judge.old tally.old parts verdicts
         → HasPlacesOfItems part.now → PartEndsWithin most_taken part.now → RefusesPart m parts (part_of part.now) n e }
     ensures kinds { IfErr result IsTellingRefusal }
 {

@@ -1,5 +1,5 @@
--- The rows of the table by name: each base row's name is its own, none ends in `_reif` or `_imp`, and
--- each form with a truth value has its base row's name with one of these behind.
+-- The rows of the table by name: each base row's name is its own, none ends in `_reif` or `_imp`,
+-- and each form with a truth value has its base row's name with one of these behind.
 use Rattle.std.proofs.Common.{◌≡◌, ◌≢◌, ℕ, Bool, true, false, true≢false, not, ◌&&◌, cond, List, [], ◌∷◌, ◌++◌, map, filter, find, length, drop, Option, Some, None, refl, sym, ap, subst, ◌∙◌, arith}
 use Rattle.std.specs.Prelude.{◌==◌, codes, bytes_eq, option_map, option_and_then, ◌-◌}
 use Rattle.std.specs.List.{list_all}

@@ -25,7 +25,7 @@ use Rattle.fz_meaning.specs.Steps.{Gives, GivesNothing, WithinLimits}
 use Rattle.fz_meaning.proofs.Values.{no, same_int, and_first, and_second, and_both}
 use Rattle.fz_meaning.proofs.Writing.{span_at, name_at, literal, whole, num, v, MIN, MAX, int_var, var_in, posts, defines, model_tree, i, is, t, ts, s, names, x, z}
 
-how_many : length rows ≡ 151
+how_many : length rows ≡ 152
 unfolding rows row_at builtins
 how_many = refl
 

@@ -44,12 +44,12 @@ both_some (Some a) (Some b) x e = let pair : ◌≡◌ {A = Value × Value} (a, 
 pub row_state_holds : (K : Partial) (xs : List Argument) (r : Row) (o : Option (List ArgValue)) → state_of_values K xs r o ≡ Holds → (vs : List ArgValue) × (o ≡ Some vs) × (row_holds r vs ≡ true)
 row_state_holds K xs r None e = cc
 row_state_holds K xs r (Some vs) e =
-    (vs, refl, (elim (r.sums_in_128 && sums_leave K xs) as (λ b. cond b TooLarge (judged (row_holds r vs)) ≡ Holds → row_holds r vs ≡ true) [ true ↦ λ e. cc | false ↦ λ e. judged_true (row_holds r vs) e ]) e)
+    (vs, refl, (elim (sums_leave K xs r) as (λ b. cond b TooLarge (judged (row_holds r vs)) ≡ Holds → row_holds r vs ≡ true) [ true ↦ λ e. cc | false ↦ λ e. judged_true (row_holds r vs) e ]) e)
 
 pub row_state_fails : (K : Partial) (xs : List Argument) (r : Row) (o : Option (List ArgValue)) → state_of_values K xs r o ≡ Fails → (vs : List ArgValue) × (o ≡ Some vs) × (row_holds r vs ≡ false)
 row_state_fails K xs r None e = cc
 row_state_fails K xs r (Some vs) e =
-    (vs, refl, (elim (r.sums_in_128 && sums_leave K xs) as (λ b. cond b TooLarge (judged (row_holds r vs)) ≡ Fails → row_holds r vs ≡ false) [ true ↦ λ e. cc | false ↦ λ e. judged_false (row_holds r vs) e ]) e)
+    (vs, refl, (elim (sums_leave K xs r) as (λ b. cond b TooLarge (judged (row_holds r vs)) ≡ Fails → row_holds r vs ≡ false) [ true ↦ λ e. cc | false ↦ λ e. judged_false (row_holds r vs) e ]) e)
 
 -- ---- the elements of an array
 

@@ -10,7 +10,7 @@ use Rattle.fz_base.specs.Sets.{NumberSet, symmetric_difference}
 use Rattle.fz_base.specs.declared.value.Value.{Value}
 use Rattle.fz_base.specs.declared.value.Value.TheVariants.{Int, Bool as Truth, Set}
 use Rattle.fz_meaning.specs.Values.{◌=ℤ◌, ◌=ᴮ◌, ◌=ˢ◌}
-use Rattle.fz_meaning.specs.Globals.{all_neighbours, are_channelled, are_disjoint, are_inverse, as_places, boxes, count_in, count_of, counts_are, counts_lie, is_before, is_circuit, is_closed, is_cumulative, is_disjunctive, is_flagged, is_index_of_best, is_nonzero, is_partition, is_row_of, is_sorted_form, is_strictly_disjunctive, is_subcircuit, is_word, lies_between, load_of, loads_are, overlap_in_no_area, overlap_nowhere, precedes, rises_by_one, slides_between, values_of}
+use Rattle.fz_meaning.specs.Globals.{all_neighbours, are_channelled, are_disjoint, are_inverse, as_places, boxes, count_in, count_of, counts_are, counts_lie, is_before, is_circuit, is_closed, is_cumulative, is_disjunctive, is_flagged, is_index_of_best, is_knapsack, is_nonzero, is_partition, is_row_of, is_sorted_form, is_strictly_disjunctive, is_subcircuit, is_word, lies_between, load_of, loads_are, overlap_in_no_area, overlap_nowhere, precedes, rises_by_one, slides_between, values_of}
 pub use Rattle.fz_meaning.specs.Relations.{total, products, where_true, element_at, is_element, is_among, is_odd, as_number, sums_from, fits_128, leaves_128, all_different}
 use Rattle.fz_meaning.specs.declared.builtin.Builtin.{Builtin}
 use Rattle.fz_meaning.specs.declared.builtin.Builtin.TheVariants as builtin
@@ -73,8 +73,8 @@ pub record Row : Type 0 where
   pub shapes : List Shape
   -- the places, counted from 0, of the arrays that have to be of equal lengths
   pub together : List ℕ
-  -- whether its sum is added in signed 128 bits
-  pub sums_in_128 : Bool
+  -- the places of the arrays whose products are added in signed 128 bits
+  pub sums : List (ℕ × ℕ)
   pub holds : Test shapes
   pub result : Result
   -- whether there are forms with a truth value for it
@@ -82,7 +82,7 @@ pub record Row : Type 0 where
 
 -- a row with no such forms, and one with them
 abbrev pub row : (name : List ℕ) → (shapes : List Shape) → Test shapes → Result → Row
-row name shapes holds result = record { name = name; shapes = shapes; together = []; sums_in_128 = false; holds = holds; result = result; has_forms = false }
+row name shapes holds result = record { name = name; shapes = shapes; together = []; sums = []; holds = holds; result = result; has_forms = false }
 
 abbrev pub forms : Row → Row
 forms r = record r { has_forms = true }
@@ -97,7 +97,11 @@ lin r = equal (0 ∷ 1 ∷ []) r
 
 -- those of int_lin, whose sum is added in signed 128 bits
 abbrev pub int_lin : Row → Row
-int_lin r = record r { together = 0 ∷ 1 ∷ []; sums_in_128 = true }
+int_lin r = record r { together = 0 ∷ 1 ∷ []; sums = (0, 1) ∷ [] }
+
+-- weights, profits and numbers of things, of which two sums are made
+abbrev pub knapsack : Row → Row
+knapsack r = record r { together = 0 ∷ 1 ∷ 2 ∷ []; sums = (0, 2) ∷ (1, 2) ∷ [] }
 
 abbrev pub a : Result
 a = Places (0 ∷ [])
@@ -111,9 +115,9 @@ c = Places (2 ∷ [])
 abbrev pub a_or_b : Result
 a_or_b = Places (0 ∷ 1 ∷ [])
 
--- Name, kinds, holds when, result. `forms` has the forms with a truth value, `lin` and `int_lin` want
--- the first two arrays equally long, `equal` those at its places. The table is shut, so that no goal about code writes it out: a proof
--- that reads it says `unfolding row_at`.
+-- Name, kinds, holds when, result. `forms` has the forms with a truth value, `lin` and `int_lin`
+-- want the first two arrays equally long, `equal` those at its places. The table is shut, so that
+-- no goal about code writes it out: a proof that reads it says `unfolding row_at`.
 unfoldable pub row_at : Builtin → Row
 row_at builtin.IntEq = forms (row (codes "int_eq") (I ∷ I ∷ []) (λ a b. a =ℤ b) a_or_b)
 row_at builtin.IntNe = forms (row (codes "int_ne") (I ∷ I ∷ []) (λ a b. not (a =ℤ b)) NoResult)
@@ -228,6 +232,7 @@ row_at builtin.FznMemberInt = row (codes "fzn_member_int") ([I] ∷ I ∷ []) (�
 row_at builtin.FznMemberBool = row (codes "fzn_member_bool") ([B] ∷ B ∷ []) (λ a b. list_any (λ x. x =ᴮ b) a) NoResult
 row_at builtin.GecodeMaximumArgIntOffset = row (codes "gecode_maximum_arg_int_offset") ([I] ∷ I ∷ I ∷ []) (λ a b c. is_index_of_best (λ x m. int_le x m) a b c) c
 row_at builtin.GecodeMinimumArgIntOffset = row (codes "gecode_minimum_arg_int_offset") ([I] ∷ I ∷ I ∷ []) (λ a b c. is_index_of_best (λ x m. int_le m x) a b c) c
+row_at builtin.FznKnapsack = knapsack (row (codes "fzn_knapsack") ([I] ∷ [I] ∷ [I] ∷ I ∷ I ∷ []) (λ a b c d e. is_knapsack a b c d e) NoResult)
 row_at builtin.FznSlidingSum = row (codes "fzn_sliding_sum") (I ∷ I ∷ I ∷ [I] ∷ []) (λ a b c d. slides_between a b c d) NoResult
 row_at builtin.GecodeLinkSetToBooleans = row (codes "gecode_link_set_to_booleans") (S ∷ [B] ∷ I ∷ []) (λ a b c. is_flagged a b c) NoResult
 row_at builtin.GecodeIntSetChannel = row (codes "gecode_int_set_channel") ([I] ∷ I ∷ [S] ∷ I ∷ []) (λ a b c d. are_channelled a b c d) NoResult
@@ -269,9 +274,9 @@ builtins =
     builtin.FznDecreasingInt ∷ builtin.FznDecreasingBool ∷ builtin.FznStrictlyIncreasingInt ∷
     builtin.FznValuePrecedeInt ∷ builtin.GecodePrecede ∷ builtin.FznValuePrecedeChainInt ∷
     builtin.FznSeqPrecedeChainInt ∷ builtin.FznSort ∷ builtin.FznMemberInt ∷ builtin.FznMemberBool ∷
-    builtin.GecodeMaximumArgIntOffset ∷ builtin.GecodeMinimumArgIntOffset ∷ builtin.FznSlidingSum ∷
-    builtin.GecodeLinkSetToBooleans ∷ builtin.GecodeIntSetChannel ∷ builtin.FznDisjoint ∷
-    builtin.FznPartitionSet ∷ builtin.GecodeArraySetPartition ∷ []
+    builtin.GecodeMaximumArgIntOffset ∷ builtin.GecodeMinimumArgIntOffset ∷ builtin.FznKnapsack ∷
+    builtin.FznSlidingSum ∷ builtin.GecodeLinkSetToBooleans ∷ builtin.GecodeIntSetChannel ∷
+    builtin.FznDisjoint ∷ builtin.FznPartitionSet ∷ builtin.GecodeArraySetPartition ∷ []
 
 abbrev pub base_rows : List Row
 base_rows = map row_at builtins
@@ -292,7 +297,7 @@ form_of suffix says result r = record {
   name = r.name ++ suffix;
   shapes = with_bool r.shapes;
   together = r.together;
-  sums_in_128 = r.sums_in_128;
+  sums = r.sums;
   holds = with_truth says r.shapes r.holds;
   result = result;
   has_forms = false;

@@ -1,6 +1,6 @@
--- What the rows of global constraints speak of (MiniZinc Handbook, "Global constraints"; the order of
--- their arguments and what holds at their ends is this project's profile). Places of a list count
--- from 1, and an array's indices from the least one that it had in the source.
+-- What the rows of global constraints speak of (MiniZinc Handbook, "Global constraints"; the order
+-- of their arguments and what holds at their ends is this project's profile). Places of a list
+-- count from 1, and an array's indices from the least one that it had in the source.
 use Rattle.std.specs.Prelude.{ℕ, suc, zero, ◌%◌, ℤ, pos, ◌+ℤ◌, ◌*ℤ◌, ◌-ℤ◌, Bool, true, false, not, ◌&&◌, ◌||◌, if◌then◌else◌, nat_eq, List, [], ◌∷◌, drop, take, length, map, int_le, int_lt, unsigned_abs, Option, Some, None, option_and_then}
 use Rattle.std.specs.Int.{int_max}
 use Rattle.std.specs.List.{filter, list_all, list_any, zip}
@@ -172,7 +172,8 @@ lies_between low high n = int_le low n && int_le n high
 abbrev pub are_places : ℕ → List ℤ → Bool
 are_places n = list_all (lies_between (pos 1) (pos n))
 
--- so many places from one on, each the one to which the list leads from the one before; and where it leads from the last
+-- so many places from one on, each the one to which the list leads from the one before; and where
+-- it leads from the last
 abbrev pub tour : List ℤ → ℕ → ℤ → List ℤ
 tour next zero p = []
 tour next (suc k) p = p ∷ option_map_or (tour next k) (element_at next p) []

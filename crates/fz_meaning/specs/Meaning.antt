@@ -211,6 +211,10 @@ have_shapes [] [] = true
 have_shapes (s ∷ ss) (x ∷ xs) = has_shape s x && have_shapes ss xs
 have_shapes _ _ = false
 
+-- the terms of the argument at a place
+abbrev pub terms_at_argument : List Argument → ℕ → List Term
+terms_at_argument xs i = option_map_or terms_in (slice_get xs i) []
+
 abbrev pub length_at : List Argument → ℕ → ℕ
 length_at xs i = option_map_or (λ x. length (terms_in x)) (slice_get xs i) 0
 
@@ -246,11 +250,15 @@ abbrev pub known_products : Partial → List Term → List Term → List ℤ
 known_products K (a ∷ as') (b ∷ bs) = product_before (number_at K a) (number_at K b) (known_products K as' bs)
 known_products K _ _ = []
 
--- A partial sum of the products of the first two arguments, added from the left over the places that have values, leaves signed 128
--- bits. Where the whole constraint has values these are all its places, and where one element has none they are the others.
-abbrev pub sums_leave : Partial → List Argument → Bool
-sums_leave K (x ∷ y ∷ zs) = leaves_128 (known_products K (terms_in x) (terms_in y))
-sums_leave K _ = false
+-- A partial sum of the products of the arguments at two places, added from the left over the places
+-- of their elements that have values, leaves signed 128 bits. Where the whole constraint has values
+-- these are all its places, and where one element has none they are the others.
+abbrev pub products_leave : Partial → List Argument → ℕ × ℕ → Bool
+products_leave K xs at = leaves_128 (known_products K (terms_at_argument xs at.0) (terms_at_argument xs at.1))
+
+-- a sum of the row does
+abbrev pub sums_leave : Partial → List Argument → Row → Bool
+sums_leave K xs r = list_any (products_leave K xs) r.sums
 
 -- ---- points
 
@@ -336,7 +344,7 @@ is_outside K d t = option_map_or (λ v. not (inside d v)) (value K t) false
 -- Where an argument has no value, the constraint has none; then it is too large where a sum leaves 128 bits; else it holds or fails.
 abbrev pub state_of_values : Partial → List Argument → Row → Option (List ArgValue) → State
 state_of_values K xs r None = NoValue
-state_of_values K xs r (Some vs) = cond (r.sums_in_128 && sums_leave K xs) TooLarge (judged (row_holds r vs))
+state_of_values K xs r (Some vs) = cond (sums_leave K xs r) TooLarge (judged (row_holds r vs))
 
 abbrev pub state_of_row : Partial → List Argument → Option Row → State
 state_of_row K xs None = Unknown

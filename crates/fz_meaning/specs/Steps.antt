@@ -10,7 +10,7 @@ use Rattle.fz_meaning.specs.declared.kind.Kind.TheVariants.{Int as IntKind}
 use Rattle.fz_meaning.specs.Values.{kind_of}
 use Rattle.fz_meaning.specs.Builtins.{Result}
 use Rattle.fz_meaning.specs.Builtins.Result.{NoResult, Places, UnitTerm}
-use Rattle.fz_meaning.specs.Meaning.{Argument, Model, Point, Partial, variables_of, value, give, admits, terms_in, row_of, sums_leave, HoldsUnder}
+use Rattle.fz_meaning.specs.Meaning.{Argument, Model, Point, Partial, variables_of, value, give, admits, terms_at_argument, terms_in, row_of, sums_leave, HoldsUnder}
 use Rattle.fz_meaning.specs.declared.term.Term.{Term}
 use Rattle.fz_meaning.specs.declared.term.Domain.{Domain}
 use Rattle.fz_meaning.specs.declared.term.Term.TheVariants.{Var}
@@ -36,9 +36,6 @@ HasOneNumber d = (n : ℤ) × ((k : ℤ) → IsTrue (admits d k) ↔ (k ≡ n))
 -- the scalar variable stands as a name by itself in one of the places
 abbrev pub StandsAt : List Argument → ℕ → List ℕ → Type 0
 StandsAt xs n is = (i : ℕ) × Contains is i × (k : Kind) × (slice_get xs i ≡ Some (One (Scalar k (Var n))))
-
-abbrev pub terms_at_argument : List Argument → ℕ → List Term
-terms_at_argument xs i = option_map_or terms_in (slice_get xs i) []
 
 -- the variable is an element of the second array, and its coefficient is 1 or -1
 abbrev pub HasUnitCoefficient : Partial → List Argument → ℕ → Type 0
@@ -69,13 +66,13 @@ WithinLimits (Int n) = FitsSigned w64 n
 WithinLimits (Truth b) = ⊤
 WithinLimits (Set s) = ⊤
 
--- no sum that the step needs leaves 128 bits: the partial sums of an int_lin row, or of its form with a truth value, over the elements
--- that have values
+-- no sum that the step needs leaves 128 bits: the partial sums of the constraint's row over the
+-- elements that have values
 abbrev pub SumsFit : Partial → Point → Type 0
 SumsFit K (DomainPoint x n) = ⊤
 SumsFit K (DefinitionPoint x n e) = ⊤
 SumsFit K (ArrayPoint name d ts) = ⊤
-SumsFit K (ConstraintPoint k p) = IfSome (row_of p) (λ r. IsFalse (r.sums_in_128 && sums_leave K p.arguments))
+SumsFit K (ConstraintPoint k p) = IfSome (row_of p) (λ r. IsFalse (sums_leave K p.arguments r))
 
 -- The point gives the variable the value: the variable is its target, it is the point's only scalar without a value, no sum that the
 -- step needs leaves 128 bits, and with the value, which is of the variable's kind and within the limits, the point holds.

@@ -122,6 +122,7 @@ pub enum Builtin {
     FznMemberBool,
     GecodeMaximumArgIntOffset,
     GecodeMinimumArgIntOffset,
+    FznKnapsack,
     FznSlidingSum,
     GecodeLinkSetToBooleans,
     GecodeIntSetChannel,
@@ -195,6 +196,7 @@ impl Builtin {
                 (b"fzn_count_eq", Builtin::FznCountEq),
                 (b"fzn_count_gt", Builtin::FznCountGt),
                 (b"fzn_count_lt", Builtin::FznCountLt),
+                (b"fzn_knapsack", Builtin::FznKnapsack),
                 (b"fzn_disjoint", Builtin::FznDisjoint),
             ],
             13 => &[

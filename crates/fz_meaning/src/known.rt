@@ -12,7 +12,8 @@ use crate::text::same_text;
 pub enum Form {
     /// That it holds.
     Base,
-    /// That it holds exactly where the truth value behind its arguments is true: a name with `_reif`.
+    /// That it holds exactly where the truth value behind its arguments is true: a name with
+    /// `_reif`.
     Reified,
     /// That it holds where that truth value is true: a name with `_imp`.
     Implied,
@@ -96,15 +97,20 @@ impl Known {
             Lengths::Free => &[],
             Lengths::Equal(places) => places,
             Lengths::Summed => &[0, 1],
+            Lengths::Packed => &[0, 1, 2],
         }
     }
 
-    /// Whether its sum is added in signed 128 bits.
-    pub fn sums_in_128(self) -> bool
-        ensures { result ≡ (known_row self).sums_in_128 }
+    /// The places, counted from 0, of the arrays whose products are added in signed 128 bits.
+    pub fn sums(self) -> &'static [(usize, usize)]
+        ensures { result.now ≡ (known_row self).sums }
     {
         let BaseRow(_, _, lengths, _) = self.builtin.base_row();
-        matches!(lengths, Lengths::Summed)
+        match lengths {
+            Lengths::Free | Lengths::Equal(_) => &[],
+            Lengths::Summed => &[(0, 1)],
+            Lengths::Packed => &[(0, 2), (1, 2)],
+        }
     }
 
     /// Which arguments `defines_var` may fill: of a form with `_reif`, its truth value.

@@ -25,13 +25,15 @@ pub enum Filled {
     UnitTerm,
 }
 
-// Which arrays have to be of equal lengths: none; those at some places, counted from 0; or the first
-// two, whose products are added up in signed 128 bits.
+// Which arrays have to be of equal lengths: none; those at some places, counted from 0; the first
+// two, whose products are added up in signed 128 bits; or the first three, where the products of
+// each of the first two with the third are.
 #[derive(Clone, Copy)]
 pub(crate) enum Lengths {
     Free,
     Equal(&'static [usize]),
     Summed,
+    Packed,
 }
 
 // The kinds of a base row's arguments with the truth value of its forms behind, what may be filled,
@@ -81,6 +83,8 @@ const LAST_THREE: Lengths = Lengths::Equal(&[1, 2, 3]);
 const ALL_FOUR: Lengths = Lengths::Equal(&[0, 1, 2, 3]);
 
 const SUMMED: Lengths = Lengths::Summed;
+
+const PACKED: Lengths = Lengths::Packed;
 
 const FORMS: bool = true;
 
@@ -277,6 +281,9 @@ impl Builtin {
             Builtin::FznMemberBool => BaseRow(&[BOOLS, BOOL, BOOL], NONE, FREE, ALONE),
             Builtin::GecodeMaximumArgIntOffset => BaseRow(&[INTS, INT, INT, BOOL], C, FREE, ALONE),
             Builtin::GecodeMinimumArgIntOffset => BaseRow(&[INTS, INT, INT, BOOL], C, FREE, ALONE),
+            Builtin::FznKnapsack => {
+                BaseRow(&[INTS, INTS, INTS, INT, INT, BOOL], NONE, PACKED, ALONE)
+            }
             Builtin::FznSlidingSum => BaseRow(&[INT, INT, INT, INTS, BOOL], NONE, FREE, ALONE),
             Builtin::GecodeLinkSetToBooleans => BaseRow(
                 &[SET, BOOLS, INT, BOOL],

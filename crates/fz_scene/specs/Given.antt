@@ -11,7 +11,7 @@ use Rattle.fz_meaning.specs.declared.kind.Kind.{Kind}
 use Rattle.fz_meaning.specs.declared.kind.Kind.TheVariants.{Int as IntKind, Bool as BoolKind, Set as SetKind}
 use Rattle.fz_meaning.specs.declared.term.Term.{Term}
 use Rattle.fz_meaning.specs.Values.{kind_of, same_kind}
-use Rattle.fz_meaning.specs.Builtins.{Shape, ArgValue}
+use Rattle.fz_meaning.specs.Builtins.{Shape, ArgValue, leaves_128, products}
 use Rattle.fz_meaning.specs.Builtins.Shape.{ScalarOf, ArrayOf}
 use Rattle.fz_meaning.specs.Builtins.ArgValue.{OneValue, ManyValues}
 use Rattle.fz_data.specs.Partial.{number_in, truth_in}
@@ -89,6 +89,10 @@ set_at K xs i = set_of_slot K (slot_at xs i)
 
 abbrev pub ints_at : Partial → List Argument → ℕ → List ℤ
 ints_at K xs i = ints_of K (slots_at xs i)
+
+-- the products of the numbers at two places, added from the left, leave 128 bits
+abbrev pub read_leave : Partial → List Argument → ℕ × ℕ → Bool
+read_leave K xs at = leaves_128 (products (ints_at K xs at.0) (ints_at K xs at.1))
 
 abbrev pub bools_at : Partial → List Argument → ℕ → List Bool
 bools_at K xs i = bools_of K (slots_at xs i)

@@ -3,16 +3,17 @@ use Rattle.std.proofs.Common.{◌≡◌, ◌<◌, ◌≤◌, ℕ, pos, negsuc, B
 use Rattle.std.specs.Prelude.{codes, nat_le, IfSome}
 use Rattle.std.specs.List.{flat_map}
 use Rattle.std.proofs.lemmas.Bool.Decides.{Decides-int_eq, nat_tests}
-use Rattle.fz_lex.specs.declared.token.Mark.TheVariants.{OpenParen, CloseParen, OpenBracket, CloseBracket, OpenBrace, Semicolon, Colon, Equals, DotDot}
+use Rattle.fz_lex.specs.declared.token.Mark.TheVariants.{OpenParen, CloseParen, OpenBracket, CloseBracket, OpenBrace, Semicolon, Colon, Equals, DotDot, Comma}
 use Rattle.fz_lex.specs.Token.{TokenValue, Word, Whole, FloatText, StringText, Marked}
 use Rattle.fz_syntax.specs.Tree.{Literal, Range, Expr, Base, BoolBase, IntBase, SetBase, Param, Predicate, Decl, Constraint, One, Several, Tree, Goal, Satisfy, Minimize, Maximize, Solve}
-use Rattle.fz_syntax.specs.Reading.{Reader, ◌>>=◌, next_is, next_word, next_passes, any_number, mark_at, word_at, list_at, range_at, bounds_at, int_at, base_at, plain_at, is_one, one_at, size_at, index_at, array_at, any_index_at, var_at, param_prefix_at, prefix_at, param_at, predicate_at, expr_at, constraint_at, basic_at, goal_at, solve_at, type_at, value_at, may_lack_value, given_value_at, decl_at, literal_basic_at, expr_list_at, at_most, begins_literal, begins_decl, is_word, tree_at}
-use Rattle.fz_syntax.specs.Shape.{Limits, IsExpr, IsBounds, IsBase, IsPlain, IsParamArray, IsParam, IsPredicate, IsConstraint, IsGoal, IsSolve, IsBaseOf, IsValueOf, IsDecl, HasShape}
-use Rattle.fz_syntax.specs.Tokens.{mark, word, name_toks, number_toks, expr_toks, literal_toks, separated, in_parens, in_brackets, notes_toks, bounds_toks, base_toks, var_toks, index_toks, array_toks, prefix_toks, param_prefix_toks, param_toks, predicate_toks, constraint_toks, goal_toks, solve_toks, value_toks, decl_toks, toks}
+use Rattle.fz_syntax.specs.Reading.{Reader, ◌>>=◌, next_is, next_word, next_passes, any_number, mark_at, word_at, list_at, range_at, bounds_at, int_at, base_at, plain_at, is_one, one_at, size_at, index_at, array_at, any_index_at, var_at, param_prefix_at, prefix_at, param_at, predicate_at, expr_at, constraint_at, basic_at, goal_at, solve_at, type_at, value_at, may_lack_value, given_value_at, decl_at, literal_basic_at, expr_list_at, at_most, begins_literal, begins_decl, is_word, tree_at, begins_index, indexes_at, separated_at, many_at, is_mark, after_token}
+use Rattle.fz_syntax.specs.Shape.{Limits, IsExpr, IsBounds, IsBase, IsPlain, IsParamArray, IsParam, IsPredicate, IsConstraint, IsGoal, IsSolve, IsBaseOf, IsValueOf, IsDecl, HasShape, IsAnyIndex, most_indexes}
+use Rattle.fz_syntax.specs.Tokens.{mark, word, name_toks, number_toks, expr_toks, literal_toks, separated, in_parens, in_brackets, notes_toks, bounds_toks, base_toks, var_toks, index_toks, prefix_toks, param_prefix_toks, param_toks, predicate_toks, constraint_toks, goal_toks, solve_toks, value_toks, decl_toks, toks, any_index_toks}
 use Rattle.fz_syntax.proofs.Lists.{Shrinks, bind_ok, ok_is}
-use Rattle.fz_syntax.proofs.ListLaws.{Took, Takes, Always, chosen, marked_tokens, worded_tokens, mark_takes, word_takes, list_takes, many_takes}
+use Rattle.fz_syntax.proofs.ListLaws.{Took, Takes, Always, chosen, marked_tokens, worded_tokens, mark_takes, word_takes, list_takes, many_takes, separated_takes, separated_count, at_most_takes, at_most_below}
 use Rattle.fz_syntax.proofs.ExprLaws.{shortens_from, whole_takes, name_takes, braces_take, basic_takes, expr_takes, expr_some, literal_basic_takes, literal_list_takes, expr_list_takes}
 use Rattle.fz_syntax.proofs.NoteLaws.{notes_take}
+use Rattle.fz_syntax.proofs.Shorter.{at_most_shortens}
 
 pub exprs_shrink : (limits : Limits) → Shrinks (any_number (expr_at limits))
 exprs_shrink limits i = shortens_from expr_toks (IsExpr limits) (expr_at limits) (expr_takes limits) expr_some
@@ -227,36 +228,68 @@ array_takes {A} toks Is index takes tokens x e =
     sym (append_assoc (I ++ mark CloseBracket) (word (codes "of")) d.0.1 ∙ append_assoc I (mark CloseBracket) (word (codes "of") ++ d.0.1)) in
     subst (Took (λ y. in_brackets (toks y) ++ word (codes "of")) Is tokens) (ok_is made x d.2) (record { parts = chain ∙ front (mark OpenBracket) regroup; fits = tb.fits })
 
-abbrev any_index_toks : Option ℕ → List TokenValue
-any_index_toks None = word (codes "int")
-any_index_toks (Some n) = index_toks n
-
-any_index_takes : (limits : Limits) → Takes any_index_toks (λ o. IsParamArray limits (Some o)) (any_index_at limits)
+any_index_takes : (limits : Limits) → Takes any_index_toks (IsAnyIndex limits) (any_index_at limits)
 unfolding any_index_at
 any_index_takes limits tokens x e =
     elim (chosen (next_word (codes "int") tokens) _ _ (Ok x) e) [
-      | inl c ↦ subst (Took any_index_toks (λ o. IsParamArray limits (Some o)) tokens) (ok_is (None, drop 1 tokens) x c.1) (record { parts = worded_tokens (codes "int") tokens c.0; fits = tt })
+      | inl c ↦ subst (Took any_index_toks (IsAnyIndex limits) tokens) (ok_is (None, drop 1 tokens) x c.1) (record { parts = worded_tokens (codes "int") tokens c.0; fits = tt })
       | inr c ↦
           let a = bind_ok (index_at limits tokens) (λ n. Ok (Some n.0, n.1)) x c.1 in
           let t = index_takes limits tokens a.0 a.1 in
           let made : Option ℕ × List TokenValue = (Some a.0.0, a.0.1) in
-          subst (Took any_index_toks (λ o. IsParamArray limits (Some o)) tokens) (ok_is made x a.2) (record { parts = t.parts; fits = t.fits })
+          subst (Took any_index_toks (IsAnyIndex limits) tokens) (ok_is made x a.2) (record { parts = t.parts; fits = t.fits })
     ]
 
-some_any_index : (o : Option ℕ) → param_prefix_toks (Some o) ≡ array_toks (any_index_toks o)
-some_any_index None = refl
-some_any_index (Some n) = refl
+any_index_begins : (limits : Limits) (tokens : List TokenValue) (x : Option ℕ × List TokenValue) → any_index_at limits tokens ≡ Ok x → next_passes begins_index tokens ≡ true
+unfolding any_index_at index_at one_at
+any_index_begins limits [] x e = absurd cc
+any_index_begins limits (Whole n ∷ rest) x e = refl
+any_index_begins limits (Word w ∷ rest) x e =
+    elim (chosen (next_word (codes "int") (Word w ∷ rest)) _ _ (Ok x) e) [
+      | inl c ↦ c.0
+      | inr c ↦ absurd (let d = c.1 in cc)
+    ]
+any_index_begins limits (FloatText w ∷ rest) x e = absurd cc
+any_index_begins limits (StringText w ∷ rest) x e = absurd cc
+any_index_begins limits (Marked m ∷ rest) x e = absurd cc
+
+any_index_some : (o : Option ℕ) → 0 < length (any_index_toks o)
+any_index_some None = omega arith
+any_index_some (Some n) = omega arith
+
+-- an index set of a list that isn't full
+abbrev pub listed_index : Limits → ℕ → Reader (Option ℕ)
+listed_index limits = at_most most_indexes begins_index (any_index_at limits)
+
+pub indexes_shrink : (limits : Limits) → Shrinks (listed_index limits)
+indexes_shrink limits = at_most_shortens most_indexes begins_index (any_index_at limits) (shortens_from any_index_toks (IsAnyIndex limits) (any_index_at limits) (any_index_takes limits) any_index_some)
+
+-- elements with commas between them are one at least
+separated_some : {A : Type 0} (element : ℕ → Reader A) (tokens : List TokenValue) (xs : List A × List TokenValue) → separated_at element tokens ≡ Ok xs → 1 ≤ length xs.0
+unfolding separated_at
+separated_some {A} element tokens xs e =
+    let a = bind_ok (element 0 tokens) (λ first. many_at (is_mark Comma) (after_token element) 1 first.1 >>= λ others. Ok (first.0 ∷ others.0, others.1)) xs e in
+    let b = bind_ok (many_at (is_mark Comma) (after_token element) 1 a.0.1) (λ others. Ok (a.0.0 ∷ others.0, others.1)) xs a.2 in
+    let made : List A × List TokenValue = (a.0.0 ∷ b.0.0, b.0.1) in
+    subst (λ (y : List A × List TokenValue). 1 ≤ length y.0) (ok_is made xs b.2) (omega arith)
+
+indexes_takes : (limits : Limits) → Takes (separated any_index_toks) (λ is. IsParamArray limits (Some is)) (indexes_at limits)
+unfolding indexes_at
+indexes_takes limits tokens x e =
+    let t = separated_takes any_index_toks (IsAnyIndex limits) (listed_index limits) (at_most_takes any_index_toks (IsAnyIndex limits) most_indexes begins_index (any_index_at limits) (any_index_takes limits)) tokens x e in
+    let n = separated_count most_indexes (listed_index limits) (at_most_below most_indexes begins_index (any_index_at limits) (any_index_begins limits)) tokens x e in
+    record { parts = t.parts; fits = (separated_some (listed_index limits) tokens x e, n, t.fits) }
 
 pub param_prefix_takes : (limits : Limits) → Takes param_prefix_toks (IsParamArray limits) (param_prefix_at limits)
 unfolding param_prefix_at
 param_prefix_takes limits tokens x e =
     elim (chosen (next_word (codes "array") tokens) _ _ (Ok x) e) [
       | inl c ↦
-          let a = bind_ok (array_at (any_index_at limits) (drop 1 tokens)) (λ array. Ok (Some array.0, array.1)) x c.1 in
-          let t = array_takes any_index_toks (λ o. IsParamArray limits (Some o)) (any_index_at limits) (any_index_takes limits) (drop 1 tokens) a.0 a.1 in
-          let made : Option (Option ℕ) × List TokenValue = (Some a.0.0, a.0.1) in
+          let a = bind_ok (array_at (indexes_at limits) (drop 1 tokens)) (λ array. Ok (Some array.0, array.1)) x c.1 in
+          let t = array_takes (separated any_index_toks) (λ is. IsParamArray limits (Some is)) (indexes_at limits) (indexes_takes limits) (drop 1 tokens) a.0 a.1 in
+          let made : Option (List (Option ℕ)) × List TokenValue = (Some a.0.0, a.0.1) in
           subst (Took param_prefix_toks (IsParamArray limits) tokens) (ok_is made x a.2)
-          (record { parts = worded_tokens (codes "array") tokens c.0 ∙ front (word (codes "array")) t.parts ∙ ap (λ (ys : List TokenValue). ys ++ a.0.1) (sym (some_any_index a.0.0)); fits = t.fits })
+          (record { parts = worded_tokens (codes "array") tokens c.0 ∙ front (word (codes "array")) t.parts; fits = t.fits })
       | inr c ↦ subst (Took param_prefix_toks (IsParamArray limits) tokens) (ok_is (None, tokens) x c.1) (record { parts = refl; fits = tt })
     ]
 

@@ -6,7 +6,7 @@ use Rattle.std.specs.List.{AllByRecursion}
 use Rattle.fz_lex.specs.declared.error.SyntaxError.{SyntaxError}
 use Rattle.fz_syntax.specs.Tree.{Literal, Number, Truth, Range, Braces, Basic, Lit, Named, Expr, One, Several, Note, Called, NoteArgs, NoMoreArgs, MoreArgs, NoteArg, OneBasic, ListOf, NoteBasics, NoMoreBasics, MoreBasics, NoteBasic, NoteLiteral, NoteFloat, NoteString, Inner, Base, BoolBase, IntBase, SetBase, Param, Predicate, Decl, Constraint, Goal, Satisfy, Minimize, Maximize, Solve, Tree, PrintedValue, OneValue, ArrayOf, Printed}
 use Rattle.fz_syntax.specs.Tokens.{toks, itoks}
-use Rattle.fz_syntax.specs.Shape.{Limits, the_limits, IsLiteral, IsBounds, IsBasic, IsExpr, IsNote, AreArgs, IsArg, AreBasics, IsNoteBasic, AreNotes, IsBase, IsParamArray, IsParam, IsPredicate, IsLiteralBasic, IsValueOf, IsBaseOf, IsDecl, IsConstraint, IsGoal, IsSolve, HasShape, IsTree, IsPrintedValue, IsPrinted}
+use Rattle.fz_syntax.specs.Shape.{Limits, the_limits, IsLiteral, IsBounds, IsBasic, IsExpr, IsNote, AreArgs, IsArg, AreBasics, IsNoteBasic, AreNotes, IsBase, IsParamArray, IsParam, IsPredicate, IsLiteralBasic, IsValueOf, IsBaseOf, IsDecl, IsConstraint, IsGoal, IsSolve, HasShape, IsTree, IsPrintedValue, IsPrinted, IsAnyIndex}
 use Rattle.fz_syntax.specs.Text.{IsTextOfTree, IsTextOfItems}
 use Rattle.fz_syntax.specs.Reading.{Fault, tree_of}
 use Rattle.fz_syntax.specs.ReadingItems.{items_of}
@@ -80,10 +80,13 @@ base_more l m a BoolBase is = tt
 base_more l m a (IntBase o) is = optional_more l m a o is
 base_more l m a (SetBase o) is = optional_more l m a o is
 
-param_array_more : (l m : Limits) → Allow l m → (o : Option (Option ℕ)) → IsParamArray l o → IsParamArray m o
+any_index_more : (l m : Limits) → Allow l m → (o : Option ℕ) → IsAnyIndex l o → IsAnyIndex m o
+any_index_more l m a None is = tt
+any_index_more l m a (Some n) is = omega (arith, a.size, is)
+
+param_array_more : (l m : Limits) → Allow l m → (o : Option (List (Option ℕ))) → IsParamArray l o → IsParamArray m o
 param_array_more l m a None is = tt
-param_array_more l m a (Some None) is = tt
-param_array_more l m a (Some (Some n)) is = omega (arith, a.size, is)
+param_array_more l m a (Some indexes) is = (is.0, is.1, all_more (IsAnyIndex l) (IsAnyIndex m) (any_index_more l m a) indexes is.2)
 
 param_more : (l m : Limits) → Allow l m → (p : Param) → IsParam l p → IsParam m p
 param_more l m a p is = record { array = param_array_more l m a p.array is.array; base = base_more l m a p.base is.base; name = is.name }

@@ -28,6 +28,7 @@ use Rattle.fz_syntax.specs.Offering.{TreeItems, placed_all, spots_all}
 use Rattle.fz_syntax.specs.Placed.{unplaced, plain, placed_mark, placed_word, placed_basic, placed_expr, placed_literal, placed_note, placed_notes, placed_bounds, placed_base, placed_param, placed_predicate, placed_value, placed_decl, placed_constraint, placed_goal, placed_solve, placed_printed_value, placed_printed, placed_items}
 use Rattle.fz_syntax.proofs.Fits.{Fits, fits_plain, fits_skip, fits_end, fits_then, fits_separated, fits_between, fits_each, fits_literal, fits_name}
 use Rattle.fz_syntax.proofs.PlacedNotes.{fits_note}
+use Rattle.fz_syntax.specs.View.{bare_indexes}
 
 to_right : (a b c d : List Spot) → ((a ++ b) ++ c) ++ d ≡ a ++ (b ++ (c ++ d))
 to_right a b c d = append_assoc (a ++ b) c d ∙ append_assoc a b (c ++ d)
@@ -53,7 +54,7 @@ fits_base (bases.Int bounds) = fits_bounds bounds
 fits_base (bases.Set bounds) = fits_skip (placed_word (codes "set") ++ placed_word (codes "of")) (fits_bounds bounds)
 
 fits_param : (p : Param) → Fits (placed_param p) (param_spots p)
-fits_param p = fits_then (fits_end (fits_skip (plain (param_prefix_toks p.array) ++ plain (var_toks p.is_var)) (fits_base p.base)) (placed_mark Colon)) (fits_name p.name)
+fits_param p = fits_then (fits_end (fits_skip (plain (param_prefix_toks (bare_indexes p.array)) ++ plain (var_toks p.is_var)) (fits_base p.base)) (placed_mark Colon)) (fits_name p.name)
 
 fits_predicate : (p : Predicate) → Fits (placed_predicate p) (predicate_spots p)
 fits_predicate p =

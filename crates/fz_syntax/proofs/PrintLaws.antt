@@ -1,5 +1,5 @@
 -- The canonical text of each part of a tree is cut into the tokens of the part, whatever stands behind it.
-use Rattle.std.proofs.Common.{ℕ, ℤ, pos, Bool, true, false, List, [], ◌∷◌, ◌++◌, Option, Some, None, refl, sym, subst, append_assoc, arith}
+use Rattle.std.proofs.Common.{ℕ, ℤ, pos, Bool, true, false, List, [], ◌∷◌, ◌++◌, Option, Some, None, ap, refl, sym, subst, append_assoc, arith}
 use Rattle.std.specs.Prelude.{codes}
 use Rattle.std.specs.List.{flat_map, AllByRecursion}
 use Rattle.std.specs.Fmt.{signed_decimal}
@@ -13,8 +13,8 @@ use Rattle.fz_lex.proofs.Lexed.{all_right}
 use Rattle.fz_lex.proofs.Texts.{all_left}
 use Rattle.fz_lex.proofs.Printed.{ends_at_byte, ends_at_dots, blank_joins, line_feed_joins, word_joins, whole_joins, float_joins, string_joins, mark_joins}
 use Rattle.fz_syntax.specs.Tree.{Literal, Number, Truth, Range, Braces, Basic, Lit, Named, Expr, One, Several, Note, Called, NoteArgs, NoMoreArgs, MoreArgs, NoteArg, OneBasic, ListOf, NoteBasics, NoMoreBasics, MoreBasics, NoteBasic, NoteLiteral, NoteFloat, NoteString, Inner, Base, BoolBase, IntBase, SetBase, Param, Predicate, Decl, Constraint, Goal, Satisfy, Minimize, Maximize, Solve, Tree}
-use Rattle.fz_syntax.specs.Tokens.{mark, word, separated, in_parens, in_brackets, in_braces, number_toks, truth_word, literal_toks, name_toks, basic_toks, expr_toks, note_toks, args_toks, more_args_toks, arg_toks, basics_toks, more_basics_toks, note_basic_toks, notes_toks, bounds_toks, base_toks, var_toks, prefix_toks, param_prefix_toks, param_toks, predicate_toks, value_toks, decl_toks, constraint_toks, goal_toks, solve_toks, toks}
-use Rattle.fz_syntax.specs.Print.{separated_text, literal_text, basic_text, expr_text, note_text, args_text, more_args_text, arg_text, basics_text, more_basics_text, note_basic_text, notes_text, bounds_text, base_text, var_text, prefix_text, param_prefix_text, param_text, predicate_text, value_text, decl_text, constraint_text, goal_text, solve_text, tree_text}
+use Rattle.fz_syntax.specs.Tokens.{mark, word, separated, in_parens, in_brackets, in_braces, number_toks, truth_word, literal_toks, name_toks, basic_toks, expr_toks, note_toks, args_toks, more_args_toks, arg_toks, basics_toks, more_basics_toks, note_basic_toks, notes_toks, bounds_toks, base_toks, var_toks, prefix_toks, param_prefix_toks, param_toks, predicate_toks, value_toks, decl_toks, constraint_toks, goal_toks, solve_toks, toks, any_index_toks}
+use Rattle.fz_syntax.specs.Print.{separated_text, literal_text, basic_text, expr_text, note_text, args_text, more_args_text, arg_text, basics_text, more_basics_text, note_basic_text, notes_text, bounds_text, base_text, var_text, prefix_text, param_prefix_text, param_text, predicate_text, value_text, decl_text, constraint_text, goal_text, solve_text, tree_text, any_index_text}
 
 abbrev pub IsPrintable : TokenValue → Type 0
 IsPrintable t = IsTokenText t × IsTokenWithinLimit t
@@ -255,10 +255,15 @@ prefix_prints : (length : Option ℕ) → Prints Anything (prefix_text length) (
 prefix_prints None = nothing_prints
 prefix_prints (Some n) = then (free (free array_opens (then one_prints dots_print (λ rest e. ends_at_dots rest))) (number_prints (pos n))) array_closes (λ rest e. bracket_ends _)
 
-param_prefix_prints : (array : Option (Option ℕ)) → Prints Anything (param_prefix_text array) (param_prefix_toks array)
+any_index_prints : (o : Option ℕ) → Prints EndsNumber (any_index_text o) (any_index_toks o)
+any_index_prints None = name_prints (codes "int")
+any_index_prints (Some n) = free (then one_prints dots_print (λ rest e. ends_at_dots rest)) (number_prints (pos n))
+
+param_prefix_prints : (array : Option (List (Option ℕ))) → Prints Anything (param_prefix_text array) (param_prefix_toks array)
 param_prefix_prints None = nothing_prints
-param_prefix_prints (Some None) = then (free array_opens (name_prints (codes "int"))) array_closes (λ rest e. bracket_ends _)
-param_prefix_prints (Some (Some n)) = prefix_prints (Some n)
+param_prefix_prints (Some indexes) =
+    subst (Prints Anything (param_prefix_text (Some indexes))) (ap (λ ts. Word (codes "array") ∷ Marked OpenBracket ∷ ts) (sym (append_assoc (separated any_index_toks indexes) (mark CloseBracket) (word (codes "of")))))
+    (then (free array_opens (separated_prints any_index_text any_index_toks any_index_prints indexes)) array_closes (λ rest e. bracket_ends _))
 
 -- ---- items
 

@@ -43,7 +43,7 @@ restart_is = refl
 
 -- `array[int]of var set of 1..5:s`
 s_param : Param
-s_param = record { array = Some None; is_var = true; base = SetBase (Some (Range (pos 1) (pos 5))); name = codes "s" }
+s_param = record { array = Some (None ∷ []); is_var = true; base = SetBase (Some (Range (pos 1) (pos 5))); name = codes "s" }
 
 s_is : param_toks s_param ≡ Word (codes "array") ∷ Marked OpenBracket ∷ Word (codes "int") ∷ Marked CloseBracket ∷ Word (codes "of") ∷ Word (codes "var") ∷ Word (codes "set") ∷ Word (codes "of") ∷ Whole (pos 1) ∷ Marked DotDot ∷ Whole (pos 5) ∷ Marked Colon ∷ Word (codes "s") ∷ []
 unfolding s_param

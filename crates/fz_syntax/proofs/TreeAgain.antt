@@ -1,19 +1,19 @@
 -- What is spelled as a tree is read again.
-use Rattle.std.proofs.Common.{◌≡◌, ◌≤◌, ℕ, Bool, true, false, List, [], ◌∷◌, ◌++◌, length, drop, Option, Some, None, Ok, refl, sym, ap, ◌∙◌, append_assoc, arith}
+use Rattle.std.proofs.Common.{◌≡◌, ◌≤◌, ℕ, Bool, true, false, List, [], ◌∷◌, ◌++◌, length, Option, Some, None, Ok, refl, sym, ap, ◌∙◌, append_assoc, arith}
 use Rattle.std.specs.Prelude.{codes, IfSome}
 use Rattle.std.specs.List.{AllByRecursion, flat_map}
 use Rattle.std.proofs.lemmas.List.{append-nil}
 use Rattle.fz_lex.specs.declared.token.Mark.TheVariants.{OpenParen, CloseParen, OpenBracket, CloseBracket, Semicolon, Colon, ColonColon, DotDot}
 use Rattle.fz_lex.specs.Token.{TokenValue, Word, Marked}
 use Rattle.fz_syntax.specs.Tree.{Number, Truth, Range, Braces, Basic, Lit, Named, Expr, One, Several, Base, BoolBase, IntBase, SetBase, Param, Predicate, Decl, Constraint, Tree}
-use Rattle.fz_syntax.specs.Reading.{Reader, ◌>>=◌, is_word, next_is, next_word, next_passes, any_number, mark_at, word_at, list_at, at_most, begins_literal, index_at, array_at, any_index_at, var_at, param_prefix_at, prefix_at, param_at, predicate_at, constraint_at, literal_basic_at, value_at, given_value_at, type_at, decl_at, begins_decl, tree_at, ended, tree_of}
-use Rattle.fz_syntax.specs.Shape.{Limits, IsLiteralBasic, IsBase, IsPlain, IsParamArray, IsParam, IsPredicate, IsConstraint, IsBaseOf, IsValueOf, IsDecl, HasShape}
-use Rattle.fz_syntax.specs.Tokens.{mark, word, name_toks, expr_toks, basic_toks, separated, in_brackets, notes_toks, base_toks, var_toks, index_toks, prefix_toks, param_prefix_toks, param_toks, predicate_toks, value_toks, decl_toks, constraint_toks, solve_toks, toks}
+use Rattle.fz_syntax.specs.Reading.{Reader, ◌>>=◌, is_word, next_is, next_word, next_passes, any_number, mark_at, word_at, list_at, at_most, begins_literal, index_at, array_at, any_index_at, var_at, param_prefix_at, prefix_at, param_at, predicate_at, constraint_at, literal_basic_at, value_at, given_value_at, type_at, decl_at, begins_decl, tree_at, ended, tree_of, indexes_at, begins_index}
+use Rattle.fz_syntax.specs.Shape.{Limits, IsLiteralBasic, IsBase, IsPlain, IsParamArray, IsParam, IsPredicate, IsConstraint, IsBaseOf, IsValueOf, IsDecl, HasShape, IsAnyIndex, most_indexes}
+use Rattle.fz_syntax.specs.Tokens.{mark, word, name_toks, expr_toks, basic_toks, separated, in_brackets, notes_toks, base_toks, var_toks, index_toks, prefix_toks, param_prefix_toks, param_toks, predicate_toks, value_toks, decl_toks, constraint_toks, solve_toks, toks, any_index_toks}
 use Rattle.fz_syntax.proofs.ListLaws.{Always, mark_again, at_most_again}
-use Rattle.fz_syntax.proofs.ListAgain.{list_again, many_again, flat_map_first}
+use Rattle.fz_syntax.proofs.ListAgain.{list_again, many_again, flat_map_first, separated_again}
 use Rattle.fz_syntax.proofs.ExprLaws.{Ends, name_again, literal_again, basic_again, expr_list_again, literals_shrink}
 use Rattle.fz_syntax.proofs.NoteAgain.{notes_again}
-use Rattle.fz_syntax.proofs.ItemLaws.{params_shrink, predicates_shrink, decls_shrink, constraints_shrink, flat4, flat5, flat8}
+use Rattle.fz_syntax.proofs.ItemLaws.{params_shrink, predicates_shrink, decls_shrink, constraints_shrink, flat4, flat5, flat8, listed_index, indexes_shrink}
 use Rattle.fz_syntax.proofs.ItemAgain.{bounds_no_word, base_again, plain_again, index_again, constraint_again, solve_again}
 
 -- ---- the part before a type
@@ -25,21 +25,37 @@ array_again toks index x again rest =
     let regrouped : ((I ++ mark CloseBracket) ++ word (codes "of")) ++ rest ≡ I ++ (Marked CloseBracket ∷ (Word (codes "of") ∷ rest)) = append_assoc (I ++ mark CloseBracket) (word (codes "of")) rest ∙ append_assoc I (mark CloseBracket) (Word (codes "of") ∷ rest) in
     rw (mark_again OpenBracket (((I ++ mark CloseBracket) ++ word (codes "of")) ++ rest), regrouped, again (Marked CloseBracket ∷ (Word (codes "of") ∷ rest)), mark_again CloseBracket (Word (codes "of") ∷ rest)) refl
 
+-- the same where the index sets end at the bracket
+array_of_again : {A : Type 0} (toks : A → List TokenValue) (index : Reader A) (x : A) → ((rest : List TokenValue) → index (toks x ++ (Marked CloseBracket ∷ rest)) ≡ Ok (x, Marked CloseBracket ∷ rest)) → (rest : List TokenValue)
+    → array_at index ((in_brackets (toks x) ++ word (codes "of")) ++ rest) ≡ Ok (x, rest)
+unfolding array_at word_at
+array_of_again toks index x again rest =
+    let I : List TokenValue = toks x in
+    let regrouped : ((I ++ mark CloseBracket) ++ word (codes "of")) ++ rest ≡ I ++ (Marked CloseBracket ∷ (Word (codes "of") ∷ rest)) = append_assoc (I ++ mark CloseBracket) (word (codes "of")) rest ∙ append_assoc I (mark CloseBracket) (Word (codes "of") ∷ rest) in
+    rw (mark_again OpenBracket (((I ++ mark CloseBracket) ++ word (codes "of")) ++ rest), regrouped, again (Word (codes "of") ∷ rest), mark_again CloseBracket (Word (codes "of") ∷ rest)) refl
+
 prefix_again : (limits : Limits) (o : Option ℕ) (rest : List TokenValue) → IfSome o (λ n. n ≤ limits.size) → next_word (codes "array") rest ≡ false → prefix_at limits (prefix_toks o ++ rest) ≡ Ok (o, rest)
 unfolding prefix_at
 prefix_again limits None rest is other = rw other refl
 prefix_again limits (Some n) rest is other = rw (array_again index_toks (index_at limits) n (λ ts. index_again limits n ts is) rest) refl
 
-any_index_again : (limits : Limits) (o : Option ℕ) (rest : List TokenValue) → IsParamArray limits (Some o) → array_at (any_index_at limits) (drop 1 (param_prefix_toks (Some o) ++ rest)) ≡ Ok (o, rest)
+any_index_again : (limits : Limits) (o : Option ℕ) (rest : List TokenValue) → IsAnyIndex limits o → any_index_at limits (any_index_toks o ++ rest) ≡ Ok (o, rest)
 unfolding any_index_at
-any_index_again limits None rest is = array_again (λ (o : Option ℕ). word (codes "int")) (any_index_at limits) None (λ ts. refl) rest
-any_index_again limits (Some n) rest is = array_again (λ (o : Option ℕ). index_toks n) (any_index_at limits) (Some n) (λ ts. ap (λ r. r >>= λ k. Ok (Some k.0, k.1)) (index_again limits n ts is)) rest
+any_index_again limits None rest is = refl
+any_index_again limits (Some n) rest is = ap (λ r. r >>= λ k. Ok (Some k.0, k.1)) (index_again limits n rest is)
 
-param_prefix_again : (limits : Limits) (o : Option (Option ℕ)) (rest : List TokenValue) → IsParamArray limits o → next_word (codes "array") rest ≡ false → param_prefix_at limits (param_prefix_toks o ++ rest) ≡ Ok (o, rest)
+indexes_again : (limits : Limits) (x : Option ℕ) (xs : List (Option ℕ)) (rest : List TokenValue) → IsParamArray limits (Some (x ∷ xs)) → indexes_at limits (separated any_index_toks (x ∷ xs) ++ (Marked CloseBracket ∷ rest)) ≡ Ok (x ∷ xs, Marked CloseBracket ∷ rest)
+unfolding indexes_at
+indexes_again limits x xs rest is =
+    separated_again (λ ts. Unit {0}) any_index_toks (IsAnyIndex limits) (listed_index limits) (indexes_shrink limits) most_indexes
+    (λ i o ts lt fits ends. at_most_again most_indexes begins_index (any_index_at limits) i (any_index_toks o ++ ts) lt ∙ any_index_again limits o ts fits) (λ ts. tt) x xs (Marked CloseBracket ∷ rest) (omega (arith, is.1)) is.2.0 is.2.1 tt refl
+
+param_prefix_again : (limits : Limits) (o : Option (List (Option ℕ))) (rest : List TokenValue) → IsParamArray limits o → next_word (codes "array") rest ≡ false → param_prefix_at limits (param_prefix_toks o ++ rest) ≡ Ok (o, rest)
 unfolding param_prefix_at
 param_prefix_again limits None rest is other = rw other refl
-param_prefix_again limits (Some None) rest is other = ap (λ r. r >>= λ a. Ok (Some a.0, a.1)) (any_index_again limits None rest is)
-param_prefix_again limits (Some (Some n)) rest is other = ap (λ r. r >>= λ a. Ok (Some a.0, a.1)) (any_index_again limits (Some n) rest is)
+param_prefix_again limits (Some []) rest is other = absurd (omega (arith, is.0))
+param_prefix_again limits (Some (x ∷ xs)) rest is other =
+    ap (λ r. r >>= λ a. Ok (Some a.0, a.1)) (array_of_again (separated any_index_toks) (indexes_at limits) (x ∷ xs) (λ ts. indexes_again limits x xs ts is) rest)
 
 var_again : (v : Bool) (rest : List TokenValue) → next_word (codes "var") rest ≡ false → var_at (var_toks v ++ rest) ≡ Ok (v, rest)
 unfolding var_at
@@ -98,11 +114,10 @@ base_no_close limits (IntBase (Some (Range low high))) rest is = refl
 base_no_close limits (IntBase (Some (Braces numbers))) rest is = refl
 base_no_close limits (SetBase o) rest is = refl
 
-prefixed_no_close : (limits : Limits) (o : Option (Option ℕ)) (v : Bool) (b : Base) (rest : List TokenValue) → IsBase limits b → next_is CloseParen (param_prefix_toks o ++ (var_toks v ++ (base_toks b ++ rest))) ≡ false
+prefixed_no_close : (limits : Limits) (o : Option (List (Option ℕ))) (v : Bool) (b : Base) (rest : List TokenValue) → IsBase limits b → next_is CloseParen (param_prefix_toks o ++ (var_toks v ++ (base_toks b ++ rest))) ≡ false
 prefixed_no_close limits None true b rest is = refl
 prefixed_no_close limits None false b rest is = base_no_close limits b rest is
-prefixed_no_close limits (Some None) v b rest is = refl
-prefixed_no_close limits (Some (Some n)) v b rest is = refl
+prefixed_no_close limits (Some indexes) v b rest is = refl
 
 param_no_close : (limits : Limits) (p : Param) (rest : List TokenValue) → IsParam limits p → next_is CloseParen (param_toks p ++ rest) ≡ false
 param_no_close limits p rest is =

@@ -8,7 +8,7 @@ use Rattle.fz_lex.specs.declared.token.Mark.TheVariants.{OpenParen, CloseParen, 
 use Rattle.fz_lex.specs.Token.{TokenValue, Word, FloatText, StringText, Marked}
 use Rattle.fz_lex.specs.Lexing.{SpannedToken, LexesToSpanned}
 use Rattle.fz_syntax.specs.Tokens.{literal_toks, prefix_toks, param_prefix_toks, var_toks, array_word}
-use Rattle.fz_syntax.specs.View.{bare_literal}
+use Rattle.fz_syntax.specs.View.{bare_literal, bare_indexes}
 use Rattle.fz_syntax.specs.declared.tree.Literal.{Literal}
 use Rattle.fz_syntax.specs.declared.tree.Name.{Name}
 use Rattle.fz_syntax.specs.declared.tree.Basic.{Basic}
@@ -158,7 +158,7 @@ placed_base (bases.Set bounds) = placed_word (codes "set") ++ placed_word (codes
 -- ---- items
 
 abbrev pub placed_param : Param → List PlacedToken
-placed_param p = plain (param_prefix_toks p.array) ++ plain (var_toks p.is_var) ++ placed_base p.base ++ placed_mark Colon ++ placed_name p.name
+placed_param p = plain (param_prefix_toks (bare_indexes p.array)) ++ plain (var_toks p.is_var) ++ placed_base p.base ++ placed_mark Colon ++ placed_name p.name
 
 abbrev pub placed_params : List Param → List PlacedToken
 placed_params params = placed_between OpenParen CloseParen (placed_separated placed_param params)

@@ -96,11 +96,15 @@ abbrev pub prefix_text : Option ℕ → List ℕ
 prefix_text None = []
 prefix_text (Some length) = codes "array [1.." ++ signed_decimal (pos length) ++ codes "] of "
 
--- of a predicate's parameter: also an array of any length
-abbrev pub param_prefix_text : Option (Option ℕ) → List ℕ
+-- an index set of a predicate's parameter: also one of any length
+abbrev pub any_index_text : Option ℕ → List ℕ
+any_index_text None = codes "int"
+any_index_text (Some length) = codes "1.." ++ signed_decimal (pos length)
+
+-- of a predicate's parameter: no array, or one with index sets
+abbrev pub param_prefix_text : Option (List (Option ℕ)) → List ℕ
 param_prefix_text None = []
-param_prefix_text (Some None) = codes "array [int] of "
-param_prefix_text (Some (Some length)) = prefix_text (Some length)
+param_prefix_text (Some indexes) = codes "array [" ++ separated_text any_index_text indexes ++ codes "] of "
 
 -- ---- items
 

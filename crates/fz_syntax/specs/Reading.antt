@@ -9,7 +9,7 @@ use Rattle.fz_lex.specs.declared.token.Mark.TheVariants.{OpenParen, CloseParen, 
 use Rattle.fz_lex.specs.Token.{TokenValue, Word, Whole, FloatText, StringText, Marked}
 use Rattle.fz_syntax.specs.Tree.{Literal, Number, Truth, Range, Braces, Basic, Lit, Named, Expr, One, Several, Note, Called, NoteArg, OneBasic, ListOf, NoteBasic, NoteLiteral, NoteFloat, NoteString, Inner, Base, BoolBase, IntBase, SetBase, Param, Predicate, Decl, Constraint, Goal, Satisfy, Minimize, Maximize, Solve, Tree}
 use Rattle.fz_syntax.specs.View.{arg_list, basic_list}
-use Rattle.fz_syntax.specs.Shape.{is_reserved, Limits}
+use Rattle.fz_syntax.specs.Shape.{is_reserved, Limits, most_indexes}
 
 -- why a token is refused
 pub data FaultKind : Type 0 where
@@ -302,14 +302,21 @@ unfoldable pub any_index_at : Limits → Reader (Option ℕ)
 any_index_at limits tokens =
     if next_word (codes "int") tokens then Ok (None, drop 1 tokens) else (index_at limits tokens >>= λ n. Ok (Some n.0, n.1))
 
+-- what an index set begins with
+abbrev pub begins_index : TokenValue → Bool
+begins_index t = is_whole t || is_word (codes "int") t
+
+unfoldable pub indexes_at : Limits → Reader (List (Option ℕ))
+indexes_at limits tokens = separated_at (at_most most_indexes begins_index (any_index_at limits)) tokens
+
 -- ---- items
 
 unfoldable pub var_at : Reader Bool
 var_at tokens = if next_word (codes "var") tokens then Ok (true, drop 1 tokens) else Ok (false, tokens)
 
-unfoldable pub param_prefix_at : Limits → Reader (Option (Option ℕ))
+unfoldable pub param_prefix_at : Limits → Reader (Option (List (Option ℕ)))
 param_prefix_at limits tokens =
-    if next_word (codes "array") tokens then (array_at (any_index_at limits) (drop 1 tokens) >>= λ array. Ok (Some array.0, array.1)) else Ok (None, tokens)
+    if next_word (codes "array") tokens then (array_at (indexes_at limits) (drop 1 tokens) >>= λ array. Ok (Some array.0, array.1)) else Ok (None, tokens)
 
 unfoldable pub param_at : Limits → Reader Param
 param_at limits tokens = do

@@ -104,10 +104,16 @@ IsPlain BoolBase = Unit {0}
 IsPlain (IntBase bounds) = bounds ≡ None
 IsPlain (SetBase bounds) = bounds ≡ None
 
-abbrev pub IsParamArray : Limits → Option (Option ℕ) → Type 0
+abbrev pub IsAnyIndex : Limits → Option ℕ → Type 0
+IsAnyIndex limits o = IfSome o (λ length. length ≤ limits.size)
+
+-- the most index sets of an array (MiniZinc Handbook, "Arrays and Sets": one to six)
+abbrev pub most_indexes : ℕ
+most_indexes = 6
+
+abbrev pub IsParamArray : Limits → Option (List (Option ℕ)) → Type 0
 IsParamArray limits None = Unit {0}
-IsParamArray limits (Some None) = Unit {0}
-IsParamArray limits (Some (Some length)) = length ≤ limits.size
+IsParamArray limits (Some indexes) = (1 ≤ length indexes) × (length indexes ≤ most_indexes) × AllByRecursion (IsAnyIndex limits) indexes
 
 -- ---- items
 

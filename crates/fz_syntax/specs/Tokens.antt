@@ -121,11 +121,15 @@ abbrev pub prefix_toks : Option ℕ → List TokenValue
 prefix_toks None = []
 prefix_toks (Some length) = array_toks (index_toks length)
 
--- of a predicate's parameter: also an array of any length
-abbrev pub param_prefix_toks : Option (Option ℕ) → List TokenValue
+-- an index set of a predicate's parameter: also one of any length
+abbrev pub any_index_toks : Option ℕ → List TokenValue
+any_index_toks None = word (codes "int")
+any_index_toks (Some length) = index_toks length
+
+-- of a predicate's parameter: no array, or one with index sets
+abbrev pub param_prefix_toks : Option (List (Option ℕ)) → List TokenValue
 param_prefix_toks None = []
-param_prefix_toks (Some None) = array_toks (word (codes "int"))
-param_prefix_toks (Some (Some length)) = array_toks (index_toks length)
+param_prefix_toks (Some indexes) = array_toks (separated any_index_toks indexes)
 
 -- ---- items
 

@@ -58,9 +58,9 @@ pub data Base : Type 0 where
   IntBase : (bounds : Option Literal) → Base
   SetBase : (bounds : Option Literal) → Base
 
--- A parameter of a predicate item. Of an array it keeps the length, or none where `array [int]` is written.
+-- A parameter of a predicate item. Of an array it keeps the index sets: of each the length, or none where it is `int`.
 pub record Param : Type 0 where
-  pub array : Option (Option ℕ)
+  pub array : Option (List (Option ℕ))
   pub is_var : Bool
   pub base : Base
   pub name : List ℕ

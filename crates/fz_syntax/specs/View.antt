@@ -1,5 +1,6 @@
 -- What the program's tokens and trees stand for: plain tokens and trees, without places and memory.
 use Rattle.std.specs.Prelude.{ℕ, List, [], ◌∷◌, map, Option, option_map}
+use Rattle.std.specs.Global.{Vec}
 use Rattle.fz_syntax.specs.Tree as tree
 use Rattle.fz_syntax.specs.Tree.{NoMoreArgs, MoreArgs, NoMoreBasics, MoreBasics}
 use Rattle.fz_lex.specs.Token.{TokenValue}
@@ -104,8 +105,11 @@ bare_base bases.Bool = tree.BoolBase
 bare_base (bases.Int bounds) = tree.IntBase (bare_bounds bounds)
 bare_base (bases.Set bounds) = tree.SetBase (bare_bounds bounds)
 
+abbrev pub bare_indexes : Option (Vec (Option ℕ)) → Option (List (Option ℕ))
+bare_indexes o = option_map (λ v. v.items) o
+
 abbrev pub bare_param : Param → tree.Param
-bare_param p = record { array = p.array; is_var = p.is_var; base = bare_base p.base; name = bare_name p.name }
+bare_param p = record { array = bare_indexes p.array; is_var = p.is_var; base = bare_base p.base; name = bare_name p.name }
 
 abbrev pub bare_predicate : Predicate → tree.Predicate
 bare_predicate p = record { name = bare_name p.name; params = map bare_param p.params.items }

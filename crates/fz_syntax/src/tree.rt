@@ -74,10 +74,11 @@ pub enum Base {
     Set(Option<Literal>),
 }
 
-/// A parameter of a predicate item. `array` is the length of an array, or `Some(None)` for `array [int]`.
+/// A parameter of a predicate item. `array` are the index sets of an array, one to six: of each the
+/// length, or none where it is `int`.
 #[derive(Drop)]
 pub struct Param<'a> {
-    pub array: Option<Option<usize>>,
+    pub array: Option<Vec<Option<usize>>>,
     pub is_var: bool,
     pub base: Base,
     pub name: Name<'a>,

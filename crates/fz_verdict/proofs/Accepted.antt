@@ -152,6 +152,14 @@ satisfied_solves m K block before partial e =
       objective_passes = subst (λ L. objective_fails m.aim before (objective m L) ≡ None) (sym is) none_objective;
     }
 
+-- a satisfied block is satisfied after any objective that its own is better than
+pub satisfied_after : (m : Model) (K : Partial) (block : Block) (before found : Option ℤ) → verdict m K block before ≡ Satisfied → objective_fails m.aim found (objective m K) ≡ None → verdict m K block found ≡ Satisfied
+satisfied_after m K block before found e better =
+    let (no_fault, no_reason) = neither (option_or (first_some (printed_fails m K) block.items) (option_or (first_some (point_fails K) (points m)) (objective_fails m.aim before (objective m K)))) (first_some (point_undecided m K) (points m)) e in
+    let (none_printed, others) = or_none (first_some (printed_fails m K) block.items) _ no_fault in
+    let (none_point, none_objective) = or_none (first_some (point_fails K) (points m)) _ others in
+    rw (none_printed, none_point, better, no_reason) refl
+
 -- ---- the objective of an assignment
 
 has_number : (m : Model) (A : Assignment) (t : Term) → IsAssignment m A → kind_of_term m t ≡ Some IntKind → (n : ℤ) × (number_at (whole A) t ≡ Some n)
@@ -227,7 +235,7 @@ neither_is Satisfied h = refl
 neither_is (Violated f) h = no' h.0
 neither_is (Undecided r) h = no' h.1
 
-all_satisfied : (vs : List Verdict) (n : ℕ) → answer_of vs ≡ Accepted n → AllByRecursion (λ v. v ≡ Satisfied) vs
+pub all_satisfied : (vs : List Verdict) (n : ℕ) → answer_of vs ≡ Accepted n → AllByRecursion (λ v. v ≡ Satisfied) vs
 all_satisfied vs n e =
     let (none_violated, none_undecided, _, _) = answer_parts (first_number 1 is_violated vs) (first_number 1 is_undecided vs) (length vs) n e in
     all_map (λ v. (is_violated v ≡ false) × (is_undecided v ≡ false)) (λ v. v ≡ Satisfied) neither_is vs

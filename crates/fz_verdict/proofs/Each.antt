@@ -5,12 +5,13 @@ use Rattle.fz_model.specs.Meaning.{Model, Partial, Assignment, objective, IsKnow
 use Rattle.fz_model.specs.Names.{HasNoFault, model_of}
 use Rattle.fz_verdict.specs.Blocks.{Block, Extends}
 use Rattle.fz_verdict.specs.Headline.{Improves}
-use Rattle.fz_verdict.specs.Verdict.{Verdict, Fault, verdict, AreJudged, IsFilled, AreVerdicts}
+use Rattle.fz_verdict.specs.declared.completion.Completion.{Completion}
+use Rattle.fz_verdict.specs.Completed.{AreVerdicts}
+use Rattle.fz_verdict.specs.Verdict.{Verdict, Fault, verdict, AreJudged, IsFilled}
 use Rattle.fz_verdict.specs.Verdict.AreJudged.{NoneLeft, OneMore}
 use Rattle.fz_verdict.specs.Verdict.Verdict.{Satisfied, Violated}
 use Rattle.fz_verdict.specs.Verdict.Fault.{NotBetter}
-use Rattle.fz_verdict.proofs.Accepted.{Satisfies, satisfied_solves}
-use Rattle.fz_verdict.proofs.Start.{filling_proposed}
+use Rattle.fz_verdict.proofs.Completing.{FilledVerdicts, filled_verdicts, told_solved}
 use Rattle.fz_verdict.proofs.Violated.{violated_has_none, not_better_has_none, is_not_better, never_first}
 
 -- the block before the one at a place, and what was proposed for it, under which it has the objective
@@ -52,19 +53,21 @@ judged_at m P (OneMore {before = before} {block = b} K proposed rest) (suc i) bl
     }
 
 -- Block number i, counted from 0, that is violated by anything but its objective is extended by no known-solution.
-pub each_violated : (m : Model) (blocks : List Block) (vs : List Verdict) (i : ℕ) (block : Block) (f : Fault) → AreVerdicts m blocks vs → slice_get blocks i ≡ Some block → slice_get vs i ≡ Some (Violated f)
+pub each_violated : (c : Completion) (m : Model) (blocks : List Block) (vs : List Verdict) (i : ℕ) (block : Block) (f : Fault) → AreVerdicts c m blocks vs → slice_get blocks i ≡ Some block → slice_get vs i ≡ Some (Violated f)
     → ((now earlier : ℤ) → f ≡ NotBetter now earlier → ⊥) → (A : Assignment) → IsKnownSolution m A → Extends m A block → ⊥
-each_violated m blocks vs i block f are at is other =
-    let j : JudgedAt m (IsFilled m) None blocks i block (Violated f) = judged_at m (IsFilled m) are i block (Violated f) at is in
+each_violated c m blocks vs i block f are at is other =
+    let w : FilledVerdicts c m None blocks vs = filled_verdicts c m are in
+    let j : JudgedAt m (IsFilled m) None blocks i block (Violated f) = judged_at m (IsFilled m) w.judged i block (Violated f) at (w.violated i f is) in
     violated_has_none m block j.proposed j.kept f j.is_proposed.filling j.is (λ h. let (now, earlier, e) = is_not_better f h in other now earlier e)
 
 -- Where it is violated by its objective, there is a block before it, and no two known-solutions that extend the two improve.
-pub each_not_better : (m : Model) (blocks : List Block) (vs : List Verdict) (i : ℕ) (block : Block) (now before : ℤ) → AreVerdicts m blocks vs → slice_get blocks i ≡ Some block
+pub each_not_better : (c : Completion) (m : Model) (blocks : List Block) (vs : List Verdict) (i : ℕ) (block : Block) (now before : ℤ) → AreVerdicts c m blocks vs → slice_get blocks i ≡ Some block
     → slice_get vs i ≡ Some (Violated (NotBetter now before))
     → (j : ℕ) × (earlier : Block) × (i ≡ suc j) × (slice_get blocks j ≡ Some earlier)
     × ((A B : Assignment) → IsKnownSolution m A → Extends m A earlier → IsKnownSolution m B → Extends m B block → Improves m (Some A) B → ⊥)
-each_not_better m blocks vs i block now before are at is =
-    let j : JudgedAt m (IsFilled m) None blocks i block (Violated (NotBetter now before)) = judged_at m (IsFilled m) are i block (Violated (NotBetter now before)) at is in
+each_not_better c m blocks vs i block now before are at is =
+    let w : FilledVerdicts c m None blocks vs = filled_verdicts c m are in
+    let j : JudgedAt m (IsFilled m) None blocks i block (Violated (NotBetter now before)) = judged_at m (IsFilled m) w.judged i block (Violated (NotBetter now before)) at (w.violated i (NotBetter now before) is) in
     elim j.kept_from [
       | inl first ↦ absurd (never_first m j.proposed block (NotBetter now before) tt (subst (λ k. verdict m j.proposed block k ≡ Violated (NotBetter now before)) first.1 j.is))
       | inr b ↦ (
@@ -77,9 +80,6 @@ each_not_better m blocks vs i block now before are at is =
     ]
 
 -- Block number i that is satisfied has a solution that extends it.
-pub each_satisfied : (t : LocatedTree) (blocks : List Block) (vs : List Verdict) (i : ℕ) (block : Block) → HasNoFault t → AreVerdicts (model_of t) blocks vs → slice_get blocks i ≡ Some block
+pub each_satisfied : (c : Completion) (t : LocatedTree) (blocks : List Block) (vs : List Verdict) (i : ℕ) (block : Block) → HasNoFault t → AreVerdicts c (model_of t) blocks vs → slice_get blocks i ≡ Some block
     → slice_get vs i ≡ Some Satisfied → (A : Assignment) × Extends (model_of t) A block × IsSolution (model_of t) A
-each_satisfied t blocks vs i block sound are at is =
-    let j : JudgedAt (model_of t) (IsFilled (model_of t)) None blocks i block Satisfied = judged_at (model_of t) (IsFilled (model_of t)) are i block Satisfied at is in
-    let s : Satisfies (model_of t) j.proposed block j.kept = satisfied_solves (model_of t) j.proposed block j.kept (filling_proposed t block j.proposed sound j.is_proposed).partial j.is in
-    (s.assignment, s.extends, s.solution)
+each_satisfied c t blocks vs i block sound are at is = told_solved c t sound are i block at is

@@ -5,6 +5,7 @@ pub mod Accepted
 pub mod Violated
 pub mod Reports
 pub mod Places
+pub mod Completing
 pub mod Each
 pub mod Start
 pub mod Loops

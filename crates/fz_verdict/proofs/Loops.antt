@@ -9,8 +9,10 @@ use Rattle.fz_model.proofs.Lists.{all_append}
 use Rattle.fz_verdict.specs.Blocks.{Block}
 use Rattle.fz_verdict.specs.Filling.{IsFirstStep, Chain}
 use Rattle.fz_verdict.specs.Filling.Chain.{Ends, Step}
-use Rattle.fz_verdict.specs.Verdict.{Verdict, verdict, AreJudged, first_number}
-use Rattle.fz_verdict.specs.Verdict.AreJudged.{NoneLeft, OneMore}
+use Rattle.fz_verdict.specs.declared.completion.Completion.{Completion}
+use Rattle.fz_verdict.specs.Completed.{AreTold, AreVerdicts, IsToldBy}
+use Rattle.fz_verdict.specs.Completed.AreTold.{NoneLeft, OneMore}
+use Rattle.fz_verdict.specs.Verdict.{Verdict, verdict, IsFilled, first_number}
 use Rattle.fz_stream.specs.declared.line.ClaimKind.{ClaimKind}
 use Rattle.fz_stream.specs.Parts.{SolutionBlock, StreamPart, BlockPart, ClaimPart}
 use Rattle.fz_stream.specs.Found.{blocks_in}
@@ -22,20 +24,20 @@ append_nil (x ∷ xs) = ap (λ ys. x ∷ ys) (append_nil xs)
 
 -- ---- verdicts: what is judged after these blocks, with the objective kept, goes on from them
 
-abbrev pub GoesOn : (m : Model) → (Block → Partial → Type 0) → Option ℤ → List Block → List Verdict → Option ℤ → Type 0
-GoesOn m P before blocks vs kept = (more : List Block) (ws : List Verdict) → AreJudged m P kept more ws → AreJudged m P before (blocks ++ more) (vs ++ ws)
+abbrev pub GoesOn : Completion → Model → List Block → List Verdict → Option ℤ → Option ℤ → Type 0
+GoesOn c m blocks vs filled found = (more : List Block) (ws : List Verdict) → AreTold c m filled found more ws → AreVerdicts c m (blocks ++ more) (vs ++ ws)
 
-pub goes_on_at_first : (m : Model) (P : Block → Partial → Type 0) (before : Option ℤ) → GoesOn m P before [] [] before
-goes_on_at_first m P before = λ more ws judged. judged
+pub goes_on_at_first : (c : Completion) (m : Model) → GoesOn c m [] [] None None
+goes_on_at_first c m = λ more ws told. told
 
-pub goes_on_after : (m : Model) (P : Block → Partial → Type 0) (before : Option ℤ) (blocks : List Block) (vs : List Verdict) (kept : Option ℤ) (block : Block) (K : Partial)
-    → GoesOn m P before blocks vs kept → P block K → GoesOn m P before (blocks ++ block ∷ []) (vs ++ verdict m K block kept ∷ []) (objective m K)
-goes_on_after m P before blocks vs kept block K goes proposed = λ more ws judged.
-    subst₂ (λ bs us. AreJudged m P before bs us) (sym (append_assoc blocks (block ∷ []) more)) (sym (append_assoc vs (verdict m K block kept ∷ []) ws))
-    (goes (block ∷ more) (verdict m K block kept ∷ ws) (OneMore K proposed judged))
+pub goes_on_after : (c : Completion) (m : Model) (blocks : List Block) (vs : List Verdict) (filled found kept : Option ℤ) (block : Block) (v : Verdict) (F : Partial)
+    → GoesOn c m blocks vs filled found → IsFilled m block F → IsToldBy c m block found F (verdict m F block filled) v kept → GoesOn c m (blocks ++ block ∷ []) (vs ++ v ∷ []) (objective m F) kept
+goes_on_after c m blocks vs filled found kept block v F goes is_filled told = λ more ws rest.
+    subst₂ (λ bs us. AreVerdicts c m bs us) (sym (append_assoc blocks (block ∷ []) more)) (sym (append_assoc vs (v ∷ []) ws))
+    (goes (block ∷ more) (v ∷ ws) (OneMore F is_filled told rest))
 
-pub goes_on_judged : (m : Model) (P : Block → Partial → Type 0) (before : Option ℤ) (blocks : List Block) (vs : List Verdict) (kept : Option ℤ) → GoesOn m P before blocks vs kept → AreJudged m P before blocks vs
-goes_on_judged m P before blocks vs kept goes = subst₂ (λ bs us. AreJudged m P before bs us) (append_nil blocks) (append_nil vs) (goes [] [] NoneLeft)
+pub goes_on_judged : (c : Completion) (m : Model) (blocks : List Block) (vs : List Verdict) (filled found : Option ℤ) → GoesOn c m blocks vs filled found → AreVerdicts c m blocks vs
+goes_on_judged c m blocks vs filled found goes = subst₂ (λ bs us. AreVerdicts c m bs us) (append_nil blocks) (append_nil vs) (goes [] [] NoneLeft)
 
 -- ---- lines and claims
 

@@ -7,7 +7,10 @@ use Rattle.fz_model.specs.Meaning.{Model, Partial, Assignment, objective, IsPart
 use Rattle.fz_verdict.specs.Blocks.{Block, Extends, bare_of_block}
 use Rattle.fz_verdict.specs.View.{located_block}
 use Rattle.fz_verdict.specs.Filling.{HasAllOf, IsFilling}
-use Rattle.fz_verdict.specs.Verdict.{Verdict, Fault, verdict, AreJudged, IsProposed, IsFilled, AreVerdicts, answer_of}
+use Rattle.fz_verdict.specs.declared.completion.Completion.{Completion}
+use Rattle.fz_verdict.specs.declared.completion.Completion.TheVariants.{Off, On}
+use Rattle.fz_verdict.specs.Completed.{AreVerdicts, LacksValuesAtMost}
+use Rattle.fz_verdict.specs.Verdict.{Verdict, Fault, verdict, AreJudged, IsProposed, IsFilled, answer_of}
 use Rattle.fz_verdict.specs.Verdict.Verdict.{Satisfied, Violated}
 use Rattle.fz_verdict.specs.Verdict.Fault.{NotBetter}
 use Rattle.fz_verdict.specs.Verdict.Answer.{Accepted}
@@ -30,6 +33,22 @@ AcceptedHaveSolutions =
     (t : LocatedTree) (blocks : List Block) (verdicts : List Verdict) (n : ℕ) → HasNoFault t → AreJudged (model_of t) (λ b K. IsPartial (model_of t) K) None blocks verdicts
     → answer_of verdicts ≡ Accepted n → HaveSolutions t blocks × (length blocks ≡ n) × (1 ≤ n)
 
+-- Where the blocks of a report on a model's tree are accepted, whether values are looked for or not, they are judged under some partial
+-- assignments.
+abbrev pub AcceptedAreJudged : Type 0
+AcceptedAreJudged =
+    (c : Completion) (t : LocatedTree) (blocks : List Block) (verdicts : List Verdict) (n : ℕ) → HasNoFault t → AreVerdicts c (model_of t) blocks verdicts → answer_of verdicts ≡ Accepted n
+    → AreJudged (model_of t) (λ b K. IsPartial (model_of t) K) None blocks verdicts
+
+-- Where values are looked for, a report has the verdicts of the one where they aren't, but for blocks that are satisfied there or lack a
+-- value.
+abbrev pub CompletedKeepVerdicts : Type 0
+CompletedKeepVerdicts =
+    (m : Model) (blocks : List Block) (verdicts : List Verdict) → AreVerdicts On m blocks verdicts
+    → (filled : List Verdict) × AreVerdicts Off m blocks filled × (length filled ≡ length verdicts)
+    × ((i : ℕ) (v w : Verdict) → slice_get verdicts i ≡ Some v → slice_get filled i ≡ Some w → (LacksValuesAtMost w → ⊥) → v ≡ w)
+    × ((i : ℕ) (f : Fault) → slice_get verdicts i ≡ Some (Violated f) → slice_get filled i ≡ Some (Violated f))
+
 -- Where a block is violated under its filling by anything but the objective, no known-solution extends it.
 abbrev pub ViolatedHaveNone : Type 0
 ViolatedHaveNone =
@@ -46,14 +65,14 @@ NotBetterHaveNone =
 -- known-solution.
 abbrev pub EachViolatedHasNone : Type 0
 EachViolatedHasNone =
-    (m : Model) (blocks : List Block) (verdicts : List Verdict) (i : ℕ) (block : Block) (f : Fault) → AreVerdicts m blocks verdicts → slice_get blocks i ≡ Some block
+    (c : Completion) (m : Model) (blocks : List Block) (verdicts : List Verdict) (i : ℕ) (block : Block) (f : Fault) → AreVerdicts c m blocks verdicts → slice_get blocks i ≡ Some block
     → slice_get verdicts i ≡ Some (Violated f) → ((now earlier : ℤ) → f ≡ NotBetter now earlier → ⊥) → (A : Assignment) → IsKnownSolution m A → Extends m A block → ⊥
 
 -- And where it is violated by its objective, there is a block before it, and no known-solution that extends this one improves on one that
 -- extends the block before.
 abbrev pub EachNotBetterHasNone : Type 0
 EachNotBetterHasNone =
-    (m : Model) (blocks : List Block) (verdicts : List Verdict) (i : ℕ) (block : Block) (now before : ℤ) → AreVerdicts m blocks verdicts → slice_get blocks i ≡ Some block
+    (c : Completion) (m : Model) (blocks : List Block) (verdicts : List Verdict) (i : ℕ) (block : Block) (now before : ℤ) → AreVerdicts c m blocks verdicts → slice_get blocks i ≡ Some block
     → slice_get verdicts i ≡ Some (Violated (NotBetter now before))
     → (j : ℕ) × (earlier : Block) × (i ≡ suc j) × (slice_get blocks j ≡ Some earlier)
     × ((A B : Assignment) → IsKnownSolution m A → Extends m A earlier → IsKnownSolution m B → Extends m B block → Improves m (Some A) B → ⊥)
@@ -61,7 +80,7 @@ EachNotBetterHasNone =
 -- Each block of a report on a model's tree that is satisfied, whatever the others are, has a solution that extends it.
 abbrev pub EachSatisfiedHasOne : Type 0
 EachSatisfiedHasOne =
-    (t : LocatedTree) (blocks : List Block) (verdicts : List Verdict) (i : ℕ) (block : Block) → HasNoFault t → AreVerdicts (model_of t) blocks verdicts → slice_get blocks i ≡ Some block
+    (c : Completion) (t : LocatedTree) (blocks : List Block) (verdicts : List Verdict) (i : ℕ) (block : Block) → HasNoFault t → AreVerdicts c (model_of t) blocks verdicts → slice_get blocks i ≡ Some block
     → slice_get verdicts i ≡ Some Satisfied → (A : Assignment) × Extends (model_of t) A block × IsSolution (model_of t) A
 
 -- A block has one filling.

@@ -9,7 +9,9 @@ use Rattle.fz_stream.specs.declared.reading.Claim.{Claim}
 use Rattle.fz_stream.specs.Parts.{StreamPart, BlockPart, ClaimPart}
 use Rattle.fz_stream.specs.Found.{blocks_in, claims_in}
 use Rattle.fz_verdict.specs.Blocks.{Block, bare_of_block}
-use Rattle.fz_verdict.specs.Verdict.{Fault, Reason, Verdict, Answer, AreVerdicts, answer_of}
+use Rattle.fz_verdict.specs.declared.completion.Completion.{Completion}
+use Rattle.fz_verdict.specs.Completed.{AreVerdicts}
+use Rattle.fz_verdict.specs.Verdict.{Fault, Reason, Verdict, Answer, answer_of}
 use Rattle.fz_verdict.specs.Verdict.Fault.{PrintedFault, DomainFault, DefinitionFault, ConstraintFault, NotBetter}
 use Rattle.fz_verdict.specs.Verdict.Reason.{NoValueFor, NotKnown, SumTooLarge}
 use Rattle.fz_verdict.specs.Verdict.Verdict.{Satisfied, Violated, Undecided}
@@ -21,9 +23,9 @@ pub record Report : Type 0 where
   pub answer : Answer
 
 -- the report on the parts of a stream, whose blocks, with their places, are these
-pub record IsReport (m : Model) (blocks : List Block) (parts : List StreamPart) (r : Report) : Type 0 where
+pub record IsReport (c : Completion) (m : Model) (blocks : List Block) (parts : List StreamPart) (r : Report) : Type 0 where
   pub of_parts : map bare_of_block blocks ≡ blocks_in parts
-  pub are_verdicts : AreVerdicts m blocks r.verdicts
+  pub are_verdicts : AreVerdicts c m blocks r.verdicts
   pub claims : r.claims ≡ claims_in 0 parts
   pub answers : r.answer ≡ answer_of r.verdicts
 

@@ -127,10 +127,6 @@ pub record IsFilled (m : Model) (block : Block) (F : Partial) : Type 0 where
   pub no_fault : block_fault m block ≡ None
   pub filling : IsFilling m block F
 
--- the verdicts under the fillings
-abbrev pub AreVerdicts : Model → List Block → List Verdict → Type 0
-AreVerdicts m blocks vs = AreJudged m (IsFilled m) None blocks vs
-
 -- ---- the answer
 
 pub data Answer : Type 0 where

@@ -2,7 +2,9 @@
 #![tactic(auto)]
 
 ghost use Rattle.fz_verdict.specs.Laws.{
+  AcceptedAreJudged,
   AcceptedHaveSolutions,
+  CompletedKeepVerdicts,
   EachNotBetterHasNone,
   EachSatisfiedHasOne,
   EachViolatedHasNone,
@@ -16,6 +18,10 @@ ghost use Rattle.fz_verdict.specs.Laws.{
   ViolatedHaveNone,
 };
 
+mod completion;
+
+pub use completion::Completion;
+
 /// A satisfied block has a solution, the partial assignment that it was judged by.
 pub fn satisfied_is_solved()
     ensures { SatisfiedIsSolved }
@@ -24,6 +30,16 @@ pub fn satisfied_is_solved()
 /// A yes is a yes: accepted blocks have solutions that improve in turn.
 pub fn accepted_have_solutions()
     ensures { AcceptedHaveSolutions }
+{}
+
+/// What a report accepts is judged under some partial assignments.
+pub fn accepted_are_judged()
+    ensures { AcceptedAreJudged }
+{}
+
+/// A report for which values were looked for keeps the verdicts that need none.
+pub fn completed_keep_verdicts()
+    ensures { CompletedKeepVerdicts }
 {}
 
 /// A no is a no: a violated block is extended by no solution.

@@ -5,7 +5,9 @@ mod files;
 mod words;
 
 use files::read_up_to;
-use fz_check::{CheckError, check_stream, refusal_text, show, status};
+use fz_check::{
+    CheckError, Completion, MOST_READS, check_stream_up_to, refusal_text, show, status,
+};
 use std::io::{Read, Write};
 use std::os::fd::AsFd;
 use std::process::ExitCode;
@@ -37,7 +39,13 @@ fn run(rt: &HostRuntime) -> u8 {
     };
     match read_words(rt.alloc(), &words) {
         Ok(Request::Show { model }) => show_file(rt, model),
-        Ok(Request::Check { model, stream }) => check_files(rt, model, stream),
+        Ok(
+            Request::Check {
+                model,
+                stream,
+                completion,
+            },
+        ) => check_files(rt, model, stream, completion),
         Err(Refused::Usage) => refuse_usage(rt),
         Err(Refused::Memory) => refuse(rt, &CheckError::Memory),
     }
@@ -52,7 +60,7 @@ fn refuse_words(rt: &HostRuntime, kind: io::ErrorKind) -> u8 {
 }
 
 fn refuse_usage(rt: &HostRuntime) -> u8 {
-    let _ = eprintln!(rt; "usage: fzcheck show MODEL | check MODEL [STREAM]");
+    let _ = eprintln!(rt; "usage: fzcheck show MODEL | check [--complete] MODEL [STREAM]");
     WRONG_WORDS
 }
 
@@ -102,12 +110,12 @@ fn print_text(rt: &HostRuntime, text: &[u8]) -> u8 {
 
 /// Checks the file of a stream, or standard input, against the file of a model. Both are opened before
 /// anything is read.
-fn check_files(rt: &HostRuntime, model: &str, stream: Option<&str>) -> u8 {
+fn check_files(rt: &HostRuntime, model: &str, stream: Option<&str>, completion: Completion) -> u8 {
     if stream.is_none() && !has_input(rt) {
         return refuse(rt, &CheckError::Read);
     }
     match fs::open(rt, model) {
-        Ok(mut model) => check_against(rt, &mut model, stream),
+        Ok(mut model) => check_against(rt, &mut model, stream, completion),
         Err(_) => refuse(rt, &CheckError::Read),
     }
 }
@@ -118,26 +126,42 @@ fn has_input(rt: &HostRuntime) -> bool {
     rt.stdin().as_fd().try_clone_to_owned().is_ok()
 }
 
-fn check_against<M: Read>(rt: &HostRuntime, model: &mut M, stream: Option<&str>) -> u8 {
+fn check_against<M: Read>(
+    rt: &HostRuntime,
+    model: &mut M,
+    stream: Option<&str>,
+    completion: Completion,
+) -> u8 {
     match stream {
-        None => check_readers(rt, model, &mut rt.stdin()),
+        None => check_readers(rt, model, &mut rt.stdin(), completion),
         Some(stream) => match fs::open(rt, stream) {
-            Ok(mut stream) => check_readers(rt, model, &mut stream),
+            Ok(mut stream) => check_readers(rt, model, &mut stream, completion),
             Err(_) => refuse(rt, &CheckError::Read),
         },
     }
 }
 
 /// Checks what one reader gives as a stream against what the other gives as a model, and writes each line when it is known.
-fn check_readers<M: Read, S: Read>(rt: &HostRuntime, model: &mut M, stream: &mut S) -> u8 {
+fn check_readers<M: Read, S: Read>(
+    rt: &HostRuntime,
+    model: &mut M,
+    stream: &mut S,
+    completion: Completion,
+) -> u8 {
     match read_up_to(rt.alloc(), model, MOST_BYTES) {
-        Ok(model) => check_reader(rt, &model, stream),
+        Ok(model) => check_reader(rt, &model, stream, completion),
         Err(error) => refuse(rt, &error),
     }
 }
 
-fn check_reader<S: Read>(rt: &HostRuntime, model: &[u8], stream: &mut S) -> u8 {
-    match check_stream(rt.alloc(), model, stream, &mut rt.stdout()) {
+fn check_reader<S: Read>(
+    rt: &HostRuntime,
+    model: &[u8],
+    stream: &mut S,
+    completion: Completion,
+) -> u8 {
+    let mut out = rt.stdout();
+    match check_stream_up_to(rt.alloc(), model, stream, &mut out, MOST_READS, completion) {
         Ok(answer) => status(&Ok(answer)),
         Err(error) => refuse(rt, &error),
     }

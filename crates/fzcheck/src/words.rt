@@ -1,5 +1,6 @@
 use clap::error::ErrorKind;
 use clap::{Arg, ArgAction, ArgMatches, Command, Error};
+use fz_check::Completion;
 use std::alloc::{AllocError, Global};
 
 /// What the command line asks for.
@@ -13,6 +14,7 @@ pub enum Request<'a> {
     Check {
         model: &'a str,
         stream: Option<&'a str>,
+        completion: Completion,
     },
 }
 
@@ -57,6 +59,7 @@ fn request_of<'a>(matches: &ArgMatches<'a>) -> Result<Request<'a>, Refused> {
         Some(("check", given)) => Ok(Request::Check {
             model: model_of(given)?,
             stream: given.get_str("STREAM"),
+            completion: completion_of(given),
         }),
         _ => Err(Refused::Usage),
     }
@@ -65,6 +68,15 @@ fn request_of<'a>(matches: &ArgMatches<'a>) -> Result<Request<'a>, Refused> {
 /// The file of the model, which both commands require.
 fn model_of<'a>(given: &ArgMatches<'a>) -> Result<&'a str, Refused> {
     given.get_str("MODEL").ok_or(Refused::Usage)
+}
+
+/// Whether values that the solver left out are to be looked for.
+fn completion_of(given: &ArgMatches<'_>) -> Completion {
+    if given.get_flag("complete") {
+        Completion::On
+    } else {
+        Completion::Off
+    }
 }
 
 /// A word that names a file.
@@ -78,7 +90,12 @@ fn over_model<'a>(alloc: Global, name: &'a str) -> Result<Command<'a>, AllocErro
 }
 
 fn check_command<'a>(alloc: Global) -> Result<Command<'a>, AllocError> {
-    over_model(alloc, "check")?.arg(file_word(alloc, "STREAM"))
+    let complete = Arg::new(alloc, "complete")
+        .long("complete")
+        .action(ArgAction::SetTrue);
+    over_model(alloc, "check")?
+        .arg(file_word(alloc, "STREAM"))?
+        .arg(complete)
 }
 
 /// The program with the first of its commands.

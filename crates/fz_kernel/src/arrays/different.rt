@@ -22,7 +22,7 @@ pub fn all_elements_different(alloc: Global, elements: &Elements) -> Result<bool
 }
 
 // The elements as they stand.
-pub(crate) fn numbers_of(alloc: Global, elements: &Elements) -> Result<Vec<i64>, AllocError>
+pub fn numbers_of(alloc: Global, elements: &Elements) -> Result<Vec<i64>, AllocError>
     ensures { IfOk result (λ v. v.items ≡ ints elements.now) }
 {
     let mut numbers = Vec::with_capacity(alloc, elements.len())?;
@@ -44,7 +44,7 @@ fn pairs_differ(elements: &Elements) -> bool
 }
 
 // Whether the number stands at a place, or at one behind it.
-pub(crate) fn stands_from(number: i64, elements: &Elements, start: usize) -> bool
+pub fn stands_from(number: i64, elements: &Elements, start: usize) -> bool
     ensures { result ≡ is_among number (drop start (ints elements.now)) }
 {
     for place in start..elements.len() {

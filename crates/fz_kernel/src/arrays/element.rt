@@ -8,21 +8,21 @@ use crate::sets::same_set;
 use fz_base::IntSet;
 use fz_scene::Elements;
 
-// The place, counted from 0, of an index that is counted from 1; none where it is no index of `count` elements.
-fn place_of(index: i64, count: usize) -> Option<usize>
+// The place, counted from 0, of an index that is counted from 1; none where it is no index of
+// `count` elements.
+fn place_of(index: i128, count: usize) -> Option<usize>
     ensures place { IfSome result (λ place. index ≡ pos (place + 1)) }
     ensures in_range { IfSome result (λ place. place < count) }
     ensures none { IfNone result ((place : ℕ) → index ≡ pos (place + 1) → count ≤ place) }
 {
-    if index < 1 {
+    if index < 1 || (count as i128) < index {
         return None;
     }
-    let place = (index - 1) as usize;
-    if place < count { Some(place) } else { None }
+    Some((index - 1) as usize)
 }
 
 /// The element at an index counted from 1; none where that is no index.
-pub fn int_element(index: i64, elements: &Elements) -> Option<i64>
+pub fn int_element_at(index: i128, elements: &Elements) -> Option<i64>
     ensures exact { result ≡ element_at (ints elements.now) index }
 {
     match place_of(index, elements.len()) {
@@ -31,11 +31,18 @@ pub fn int_element(index: i64, elements: &Elements) -> Option<i64>
     }
 }
 
+/// The same of a short index.
+pub fn int_element(index: i64, elements: &Elements) -> Option<i64>
+    ensures exact { result ≡ element_at (ints elements.now) index }
+{
+    int_element_at(i128::from(index), elements)
+}
+
 /// The element at an index counted from 1; none where that is no index.
 pub fn bool_element(index: i64, elements: &Elements) -> Option<bool>
     ensures exact { result ≡ element_at (bools elements.now) index }
 {
-    match place_of(index, elements.len()) {
+    match place_of(i128::from(index), elements.len()) {
         Some(place) => Some(elements.truth(place)),
         None => None,
     }
@@ -45,7 +52,7 @@ pub fn bool_element(index: i64, elements: &Elements) -> Option<bool>
 pub fn set_element<'s>(index: i64, elements: &Elements<'s>) -> Option<&'s IntSet>
     ensures exact { option_map (λ s. s.now) result ≡ element_at (sets elements.now) index }
 {
-    match place_of(index, elements.len()) {
+    match place_of(i128::from(index), elements.len()) {
         Some(place) => Some(elements.set(place)),
         None => None,
     }

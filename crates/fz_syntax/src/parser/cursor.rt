@@ -7,9 +7,11 @@ ghost use Rattle.fz_lex.specs.View.{IsSpanWithin, IsPlacedWithin};
 ghost use Rattle.fz_lex.specs.Left.{left};
 ghost use Rattle.fz_syntax.specs.View.{bare_name};
 ghost use Rattle.fz_syntax.specs.Outcome.{Gives, IsRefusal, IsErrorOf, unexpected_kind};
-ghost use Rattle.fz_syntax.specs.Reading.{next_is, next_word, next_passes, is_float, mark_at, word_at, name_at, whole_at, is_name, is_whole, begins_literal, begins_basic, begins_note_basic, is_quoted, begins_decl};
+ghost use Rattle.fz_syntax.specs.Reading.{next_is, next_word, next_passes, is_float, mark_at, word_at, name_at, whole_at, is_name, is_whole, begins_index, begins_literal, begins_basic, begins_note_basic, is_quoted, begins_decl};
 
-use crate::parser::kinds::{begins_decl, begins_literal, is_float, is_name, is_quoted};
+use crate::parser::kinds::{
+    begins_decl, begins_index, begins_literal, is_float, is_name, is_quoted,
+};
 use crate::parser::refusal::Refusal;
 use crate::tree::Name;
 use fz_lex::fz_base::Span;
@@ -266,6 +268,15 @@ impl<'a> Parser<'a> {
     {
         match self.tokens.first() {
             Some(first) => begins_literal(&first),
+            None => false,
+        }
+    }
+
+    pub(crate) fn begins_index(&self) -> bool
+        ensures { result ≡ next_passes begins_index (lexemes self.now) }
+    {
+        match self.tokens.first() {
+            Some(first) => begins_index(&first),
             None => false,
         }
     }

@@ -3,7 +3,7 @@
 ghost use Rattle.std.specs.Prelude.{◌≡◌, IfSome};
 ghost use Rattle.fz_syntax.specs.View.{lexeme};
 ghost use Rattle.fz_syntax.specs.Outcome.{plain_token, plain_kind};
-ghost use Rattle.fz_syntax.specs.Reading.{is_float, is_name, begins_literal, is_quoted, may_lack_value, begins_decl};
+ghost use Rattle.fz_syntax.specs.Reading.{is_float, is_name, begins_index, begins_literal, is_quoted, may_lack_value, begins_decl};
 ghost use Rattle.fz_syntax.specs.ReadingItems.{dimensions_of, token_dimensions};
 ghost use Rattle.fz_syntax.specs.Words.{may_be_reserved};
 ghost use Rattle.fz_syntax.specs.Shape.{is_one_of, type_words, item_words, truth_words, is_reserved};
@@ -100,6 +100,16 @@ pub(crate) fn begins_literal(token: &Token<'_>) -> bool
         TokenKind::Word => { token.text == b"true".as_slice() || token.text == b"false".as_slice() }
         TokenKind::Mark(mark) => mark == Mark::OpenBrace,
         TokenKind::FloatText | TokenKind::Str => false,
+    }
+}
+
+pub(crate) fn begins_index(token: &Token<'_>) -> bool
+    ensures { result ≡ begins_index (lexeme token.now) }
+{
+    match token.kind {
+        TokenKind::Whole(_) => true,
+        TokenKind::Word => token.text == b"int".as_slice(),
+        TokenKind::Mark(_) | TokenKind::FloatText | TokenKind::Str => false,
     }
 }
 

@@ -1,11 +1,11 @@
 //! Types and the lengths of arrays.
 
 ghost use Rattle.std.specs.Prelude.{◌≡◌, ◌≤◌, length, IfOk};
-ghost use Rattle.fz_syntax.specs.View.{bare_literal, bare_bounds, bare_base};
+ghost use Rattle.fz_syntax.specs.View.{bare_literal, bare_bounds, bare_base, bare_indexes};
 ghost use Rattle.fz_syntax.specs.Outcome.{Gives};
-ghost use Rattle.fz_syntax.specs.Reading.{range_at, bounds_at, int_at, base_at, plain_at, one_at, size_at, index_at, any_index_at, param_prefix_at, prefix_at, type_at};
+ghost use Rattle.fz_syntax.specs.Reading.{range_at, bounds_at, int_at, base_at, plain_at, one_at, size_at, index_at, any_index_at, at_most, begins_index, indexes_at, param_prefix_at, prefix_at, type_at};
 ghost use Rattle.fz_lex.specs.declared.token.Mark.TheVariants.{CloseBracket};
-ghost use Rattle.fz_syntax.specs.Shape.{the_limits};
+ghost use Rattle.fz_syntax.specs.Shape.{most_indexes, the_limits};
 ghost use Rattle.fz_syntax.specs.Placed.{placed_literal, placed_bounds, placed_base};
 ghost use Rattle.fz_syntax.specs.Walk.{Passed, Walk, lexemes};
 
@@ -13,6 +13,9 @@ use crate::parser::cursor::{MAX_SIZE, Parser};
 use crate::parser::refusal::Refusal;
 use crate::tree::{Base, Literal, LiteralKind};
 use fz_lex::{Mark, TokenKind};
+
+/// The most index sets of an array.
+const MOST_INDEXES: usize = 6;
 
 impl<'a> Parser<'a> {
     /// A range whose first number starts at `start`.
@@ -183,9 +186,38 @@ impl<'a> Parser<'a> {
         }
     }
 
+    /// An index set of an array that has `count` so far.
+    fn listed_index(&mut self, count: usize) -> Result<Option<usize>, Refusal>
+        ensures read { Gives (λ n. n) result (at_most most_indexes begins_index (any_index_at the_limits) count (lexemes self.old)) (lexemes self.new) }
+        ensures shorter { length (lexemes self.new) ≤ length (lexemes self.old) }
+        ensures end { self.new.end ≡ self.old.end }
+        ensures walked { IfOk result (λ _. Passed self.old self.new) }
+    {
+        if count >= MOST_INDEXES && self.begins_index() {
+            return Err(Refusal::TooMany);
+        }
+        self.any_index()
+    }
+
+    /// The index sets of an array, up to the bracket behind them.
+    fn indexes(&mut self) -> Result<Vec<Option<usize>>, Refusal>
+        ensures read { Gives (λ v. v.items) result (indexes_at the_limits (lexemes self.old)) (lexemes self.new) }
+        ensures shorter { length (lexemes self.new) ≤ length (lexemes self.old) }
+        ensures end { self.new.end ≡ self.old.end }
+        ensures walked { IfOk result (λ _. Passed self.old self.new) }
+    {
+        let mut indexes = Vec::new(self.alloc);
+        indexes.push(self.listed_index(0)?)?;
+        while self.eat(Mark::Comma) {
+            let index = self.listed_index(indexes.len())?;
+            indexes.push(index)?;
+        }
+        Ok(indexes)
+    }
+
     #[tactic(auto, unfolding(crate::specs::Reading::param_prefix_at, crate::specs::Reading::array_at), using(crate::proofs::Walks::passed_then, crate::proofs::Walks::passed_none, crate::proofs::Walks::passed, crate::proofs::Walks::walk_none, crate::proofs::Errors::fails_unexpected, crate::proofs::Separated::fails_bind))]
-    pub(crate) fn param_prefix(&mut self) -> Result<Option<Option<usize>>, Refusal>
-        ensures read { Gives (λ n. n) result (param_prefix_at the_limits (lexemes self.old)) (lexemes self.new) }
+    pub(crate) fn param_prefix(&mut self) -> Result<Option<Vec<Option<usize>>>, Refusal>
+        ensures read { Gives bare_indexes result (param_prefix_at the_limits (lexemes self.old)) (lexemes self.new) }
         ensures shorter { length (lexemes self.new) ≤ length (lexemes self.old) }
         ensures end { self.new.end ≡ self.old.end }
         ensures walked { IfOk result (λ _. Passed self.old self.new) }
@@ -194,10 +226,10 @@ impl<'a> Parser<'a> {
             return Ok(None);
         }
         self.expect(Mark::OpenBracket)?;
-        let length = self.any_index()?;
+        let indexes = self.indexes()?;
         self.expect(Mark::CloseBracket)?;
         self.expect_word(b"of")?;
-        Ok(Some(length))
+        Ok(Some(indexes))
     }
 
     #[tactic(auto, unfolding(crate::specs::Reading::prefix_at, crate::specs::Reading::array_at), using(crate::proofs::Walks::passed_then, crate::proofs::Walks::passed_none, crate::proofs::Walks::passed, crate::proofs::Walks::walk_none, crate::proofs::Errors::fails_unexpected, crate::proofs::Separated::fails_bind))]

@@ -13,7 +13,7 @@ impl Printer {
     pub(crate) fn param(&mut self, param: &Param<'_>) -> Result<(), AllocError>
         ensures { OnOk result (self.new.text.items ≡ self.old.text.items ++ param_text (bare_param param.now)) }
     {
-        self.param_prefix(param.array)?;
+        self.param_prefix(&param.array)?;
         self.var(param.is_var)?;
         self.base(&param.base)?;
         self.put(b": ")?;

@@ -1,8 +1,8 @@
 //! Types of declarations and of parameters.
 
 ghost use Rattle.std.specs.Prelude.{◌≡◌, ◌++◌, OnOk};
-ghost use Rattle.fz_syntax.specs.View.{bare_bounds, bare_base};
-ghost use Rattle.fz_syntax.specs.Print.{bounds_text, base_text, var_text, prefix_text, param_prefix_text};
+ghost use Rattle.fz_syntax.specs.View.{bare_bounds, bare_base, bare_indexes};
+ghost use Rattle.fz_syntax.specs.Print.{any_index_text, bounds_text, base_text, var_text, prefix_text, param_prefix_text, separated_text};
 
 use crate::printer::Printer;
 use crate::tree::{Base, Literal};
@@ -54,13 +54,46 @@ impl Printer {
         self.put(b"] of ")
     }
 
-    pub(crate) fn param_prefix(&mut self, array: Option<Option<usize>>) -> Result<(), AllocError>
-        ensures { OnOk result (self.new.text.items ≡ self.old.text.items ++ param_prefix_text array) }
+    fn any_index(&mut self, index: Option<usize>) -> Result<(), AllocError>
+        ensures { OnOk result (self.new.text.items ≡ self.old.text.items ++ any_index_text index) }
+    {
+        match index {
+            None => self.put(b"int"),
+            Some(length) => {
+                let mut buffer = Buffer::new();
+                self.put(b"1..")?;
+                self.put(buffer.format(length).as_bytes())
+            }
+        }
+    }
+
+    fn indexes(&mut self, indexes: &[Option<usize>]) -> Result<(), AllocError>
+        ensures { OnOk result (self.new.text.items ≡ self.old.text.items ++ separated_text any_index_text indexes.now) }
+    {
+        if let [first, others @ ..] = indexes {
+            self.any_index(*first)?;
+            for other in others {
+                self.put(b",")?;
+                self.any_index(*other)?;
+            }
+        }
+        Ok(())
+    }
+
+    /// What stands before the type of a predicate's parameter.
+    pub(crate) fn param_prefix(
+        &mut self,
+        array: &Option<Vec<Option<usize>>>,
+    ) -> Result<(), AllocError>
+        ensures { OnOk result (self.new.text.items ≡ self.old.text.items ++ param_prefix_text (bare_indexes array.now)) }
     {
         match array {
             None => Ok(()),
-            Some(None) => self.put(b"array [int] of "),
-            Some(length) => self.prefix(length),
+            Some(indexes) => {
+                self.put(b"array [")?;
+                self.indexes(indexes)?;
+                self.put(b"] of ")
+            }
         }
     }
 }

@@ -1,5 +1,7 @@
 use Rattle.std.proofs.Common.{map, subst, ap, ◌∙◌, vec_len, Err}
-use Rattle.fz_verdict.specs.Verdict.{answer_of, AreVerdicts}
+use Rattle.fz_verdict.specs.declared.completion.Completion.TheVariants.{Off}
+use Rattle.fz_verdict.specs.Completed.{AreVerdicts}
+use Rattle.fz_verdict.specs.Verdict.{answer_of}
 use Rattle.fz_verdict.specs.View.{located_block}
 use Rattle.fz_live.specs.of_judge.View.{verdict_view}
 use Rattle.fz_check.specs.declared.error.CheckError.TheVariants as errors
@@ -13,22 +15,22 @@ use Rattle.fz_check.proofs.checking.check.Goals as goal
 
 pub returns-clause-accepted : goal.returns-clause-accepted
 returns-clause-accepted c =
-    accepted_solved c.args.model.now c.args.stream.now c.in_ok-loaded.loaded c.in_ok-loaded.ensures.loaded
+    accepted_solved Off c.args.model.now c.args.stream.now c.in_ok-loaded.loaded c.in_ok-loaded.ensures.loaded
     c.in_ok-found.found.blocks.items c.in_ok-found.found.claims.items c.in_ok-found.ensures.read c.in_ok-verdicts.verdicts.items
-    (subst (λ l. AreVerdicts c.in_ok-loaded.loaded (map located_block l) (map verdict_view c.in_ok-verdicts.verdicts.items)) c.deref.ensures.value c.in_ok-verdicts.ensures.judged)
+    (subst (λ l. AreVerdicts Off c.in_ok-loaded.loaded (map located_block l) (map verdict_view c.in_ok-verdicts.verdicts.items)) c.deref.ensures.value c.in_ok-verdicts.ensures.judged)
     c.answer_to-answer.result (c.answer_to-answer.ensures ∙ ap (λ l. answer_of (map verdict_view l)) c.deref-2.ensures.value)
 
 pub returns-clause-report : goal.returns-clause-report
 returns-clause-report c =
-    reported c.args.model.now c.args.stream.now c.in_ok-loaded.loaded c.in_ok-loaded.ensures.loaded
+    reported Off c.args.model.now c.args.stream.now c.in_ok-loaded.loaded c.in_ok-loaded.ensures.loaded
     c.in_ok-found.found.blocks.items c.in_ok-found.found.claims.items c.in_ok-found.ensures.read c.in_ok-found.ensures.places c.in_ok-verdicts.verdicts.items
-    (subst (λ l. AreVerdicts c.in_ok-loaded.loaded (map located_block l) (map verdict_view c.in_ok-verdicts.verdicts.items)) c.deref.ensures.value c.in_ok-verdicts.ensures.judged)
+    (subst (λ l. AreVerdicts Off c.in_ok-loaded.loaded (map located_block l) (map verdict_view c.in_ok-verdicts.verdicts.items)) c.deref.ensures.value c.in_ok-verdicts.ensures.judged)
     c.answer_to-answer.result (c.answer_to-answer.ensures ∙ ap (λ l. answer_of (map verdict_view l)) c.deref-2.ensures.value)
 
 pub returns-clause-in_order : goal.returns-clause-in_order
 returns-clause-in_order c =
-    in_order c.in_ok-loaded.loaded c.in_ok-found.found.blocks.items c.in_ok-verdicts.verdicts.items c.in_ok-found.found.claims.items (vec_len c.in_ok-found.found.blocks) (vec_len c.in_ok-verdicts.verdicts)
-    (subst (λ l. AreVerdicts c.in_ok-loaded.loaded (map located_block l) (map verdict_view c.in_ok-verdicts.verdicts.items)) c.deref.ensures.value c.in_ok-verdicts.ensures.judged)
+    in_order Off c.in_ok-loaded.loaded c.in_ok-found.found.blocks.items c.in_ok-verdicts.verdicts.items c.in_ok-found.found.claims.items (vec_len c.in_ok-found.found.blocks) (vec_len c.in_ok-verdicts.verdicts)
+    (subst (λ l. AreVerdicts Off c.in_ok-loaded.loaded (map located_block l) (map verdict_view c.in_ok-verdicts.verdicts.items)) c.deref.ensures.value c.in_ok-verdicts.ensures.judged)
     c.in_ok-found.found.blocks.ok.0 c.in_ok-verdicts.verdicts.ok.0 c.in_ok-found.ensures.in_order
 
 pub returns-in_err-loaded-clause-model : goal.returns-in_err-loaded-clause-model

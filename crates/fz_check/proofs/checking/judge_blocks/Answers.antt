@@ -6,7 +6,7 @@ use Rattle.fz_check.proofs.checking.judge_blocks.Goals as goal
 pub loop-place-preserved : goal.loop-place-preserved
 loop-place-preserved c =
     judged_more c.args.model.now c.args.blocks.now c.loop-place.place c.loop-place.judge c.judge.new.self c.loop-place.verdicts.items c.push.new.self.items c.index-blocks-place.result c.in-Ok.verdict
-    c.loop-place-test.true c.index-blocks-place.is c.loop-place.invariant c.in-Ok.ensures.judged c.judge.ensures.same_model c.in_ok-push-in-Ok.ensures.items
+    c.loop-place-test.true c.index-blocks-place.is c.loop-place.invariant c.in-Ok.ensures.judged c.judge.ensures.same_model c.judge.ensures.same_completion c.in_ok-push-in-Ok.ensures.items
 
 pub returns-in-Err-clause-block : goal.returns-in-Err-clause-block
 returns-in-Err-clause-block c = λ n e same.

@@ -11,11 +11,11 @@ returns-in-Err-clause-names g c = λ e same.
 
 pub returns-in-Ok-check_parts-clause-accepted : goal.returns-in-Ok-check_parts-clause-accepted
 returns-in-Ok-check_parts-clause-accepted g c =
-    accepted_over c.args.model.now c.in-Ok.loaded c.in-Ok.ensures.loaded _ _ _ _ c.in-Ok-check_parts.answer c.in-Ok-check_parts.ensures.answered
+    accepted_over c.args.model.now c.in-Ok.loaded c.in-Ok.ensures.loaded c.args.completion _ _ _ _ c.in-Ok-check_parts.answer c.in-Ok-check_parts.ensures.answered
 
 pub returns-in-Ok-check_parts-clause-report : goal.returns-in-Ok-check_parts-clause-report
 returns-in-Ok-check_parts-clause-report g c =
-    reported_over c.args.model.now c.in-Ok.loaded c.in-Ok.ensures.loaded _ _ _ _ c.in-Ok-check_parts.answer c.in-Ok-check_parts.ensures.answered
+    reported_over c.args.model.now c.in-Ok.loaded c.in-Ok.ensures.loaded c.args.completion _ _ _ _ c.in-Ok-check_parts.answer c.in-Ok-check_parts.ensures.answered
 
 pub returns-clause-model : goal.returns-clause-model
 returns-clause-model g c = λ e same.

@@ -1,9 +1,9 @@
-use Rattle.std.proofs.Common.{ap}
+use Rattle.std.proofs.Common.{ap, ◌∙◌}
 use Rattle.fz_meaning.specs.declared.builtin.Builtin.TheVariants as builtin
 use Rattle.fz_meaning.specs.Builtins.{row_at}
 use Rattle.fz_eval.specs.declared.outcome.Outcome.TheVariants.{Truth}
 use Rattle.fz_eval.specs.Outcomes.{row_outcome}
-use Rattle.fz_eval.proofs.Rows.{arm}
+use Rattle.fz_eval.proofs.Rows.{arm, one_sum, two_sums}
 use Rattle.fz_eval.proofs.builtins.of_builtin.Goals as goal
 
 pub returns-in-IntEq : goal.returns-in-IntEq
@@ -24,15 +24,15 @@ returns-in-IntLt c = arm builtin.IntLt c.args.scene.now c.in-IntLt.is (ap Truth 
 
 pub returns-in-IntLinEq : goal.returns-in-IntLinEq
 unfolding row_outcome row_at
-returns-in-IntLinEq c = arm builtin.IntLinEq c.args.scene.now c.in-IntLinEq.is c.int_lin_eq.ensures
+returns-in-IntLinEq c = arm builtin.IntLinEq c.args.scene.now c.in-IntLinEq.is (c.int_lin_eq.ensures ∙ one_sum _ _)
 
 pub returns-in-IntLinNe : goal.returns-in-IntLinNe
 unfolding row_outcome row_at
-returns-in-IntLinNe c = arm builtin.IntLinNe c.args.scene.now c.in-IntLinNe.is c.int_lin_ne.ensures
+returns-in-IntLinNe c = arm builtin.IntLinNe c.args.scene.now c.in-IntLinNe.is (c.int_lin_ne.ensures ∙ one_sum _ _)
 
 pub returns-in-IntLinLe : goal.returns-in-IntLinLe
 unfolding row_outcome row_at
-returns-in-IntLinLe c = arm builtin.IntLinLe c.args.scene.now c.in-IntLinLe.is c.int_lin_le.ensures
+returns-in-IntLinLe c = arm builtin.IntLinLe c.args.scene.now c.in-IntLinLe.is (c.int_lin_le.ensures ∙ one_sum _ _)
 
 pub returns-in-IntPlus : goal.returns-in-IntPlus
 unfolding row_outcome row_at
@@ -457,6 +457,10 @@ returns-in-GecodeMaximumArgIntOffset c = arm builtin.GecodeMaximumArgIntOffset c
 pub returns-in-GecodeMinimumArgIntOffset : goal.returns-in-GecodeMinimumArgIntOffset
 unfolding row_outcome row_at
 returns-in-GecodeMinimumArgIntOffset c = arm builtin.GecodeMinimumArgIntOffset c.args.scene.now c.in-GecodeMinimumArgIntOffset.is (ap Truth c.argument_of_minimum.ensures)
+
+pub returns-in-FznKnapsack : goal.returns-in-FznKnapsack
+unfolding row_outcome row_at
+returns-in-FznKnapsack c = arm builtin.FznKnapsack c.args.scene.now c.in-FznKnapsack.is (c.knapsack.ensures ∙ two_sums _ _ _)
 
 pub returns-in-FznSlidingSum : goal.returns-in-FznSlidingSum
 unfolding row_outcome row_at

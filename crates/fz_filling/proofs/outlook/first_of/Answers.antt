@@ -1,4 +1,4 @@
-use Rattle.std.proofs.Common.{is_some, sym, ap, ◌∙◌, arith}
+use Rattle.std.proofs.Common.{is_some, sym, ap, ◌∙◌}
 use Rattle.fz_model.specs.Slots.{slot_term}
 use Rattle.fz_filling.specs.Outlooks.{open_other}
 use Rattle.fz_filling.proofs.Searching.{some_here, none_here, none_left, first_after}

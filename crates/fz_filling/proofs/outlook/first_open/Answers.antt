@@ -1,4 +1,4 @@
-use Rattle.std.proofs.Common.{is_some, sym, ap, ◌∙◌, arith}
+use Rattle.std.proofs.Common.{is_some, sym, ap, ◌∙◌}
 use Rattle.fz_filling.specs.Outlooks.{first_other, terms_given}
 use Rattle.fz_filling.proofs.Searching.{some_here, none_here, none_left}
 use Rattle.fz_filling.proofs.outlook.first_open.Goals as goal

@@ -33,5 +33,5 @@ returns c =
     let r = known_row c.args.known in
     let row = unit_row c.args.known c.requires.unit_term in
     let shapes = ap (λ q. q.shapes) row ∙ unit_shapes in
-    element_left K xs r c.args.spot c.requires.ready shapes c.if-spot-ne1.false row c.requires.unit_term (ap (λ q. q.sums_in_128) row ∙ unit_sums)
+    element_left K xs r c.args.spot c.requires.ready shapes c.if-spot-ne1.false row c.requires.unit_term (ap (λ q. q.sums) row ∙ unit_sums)
     (same_sums K xs r c.requires.row c.requires.ready.shaped) (c.if-not-has_unit.ensures.0 refl) c.unit_value.result c.unit_value.ensures.left c.unit_value.ensures.too_large

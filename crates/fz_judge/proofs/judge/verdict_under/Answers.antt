@@ -11,7 +11,7 @@ use Rattle.fz_judge.proofs.judge.verdict_under.Goals as goal
 pub returns : goal.returns
 returns c =
     let m = c.args.model.now in
-    let K = c.args.filling.now.partial in
+    let K = c.args.partial.now in
     let failed = first_some (point_fails K) (points m) in
     let undecided = first_some (point_undecided m K) (points m) in
     let worse = objective_fails m.aim c.args.before (objective m K) in

@@ -1,0 +1,99 @@
+-- Sets of the indices of truth values.
+use Rattle.std.proofs.Common.{◌≡◌, ℕ, ◌+◌, ◌≤◌, ◌↔◌, ℤ, pos, ◌+ℤ◌, ◌-ℤ◌, ◌≤ℤ◌, Bool, true, false, ◌&&◌, List, [], ◌∷◌, drop, length, nat_eq, FitsSigned, w64, Some, slice_get, refl, sym, ap, ◌∙◌, arith}
+use Rattle.std.specs.Int.{int_min}
+use Rattle.std.specs.Ordering.{int_cmp}
+use Rattle.std.specs.Cmp.{int_cmp_total, both_ways}
+use Rattle.std.specs.FinSet.{contains, empty, is_subset, len, contains-empty, is_subset-contains, contains-is_subset, empty_of_len, len-empty}
+use Rattle.std.proofs.lemmas.Int.{ints}
+use Rattle.std.proofs.lemmas.Bool.Decides.{nat_tests}
+use Rattle.fz_base.specs.Sets.{NumberSet, numbers_between, LiesWithin, Has64Bits}
+use Rattle.fz_base.specs.Ranges.{is_between}
+use Rattle.fz_base.proofs.Numbers.{contains-numbers_between, same_numbers}
+use Rattle.fz_meaning.specs.Values.{◌=ᴮ◌}
+use Rattle.fz_meaning.specs.Globals.{flags_are, is_flagged}
+use Rattle.fz_meaning.proofs.Values.{no}
+use Rattle.fz_globals.proofs.FirstBest.{from_here, one_on}
+use Rattle.fz_kernel.proofs.Left.{next, none_left}
+
+-- ---- flags, one after another
+
+pub no_flags_yet : (o : ℤ) (bs : List Bool) (s : NumberSet) → flags_are o bs s ≡ flags_are (o +ℤ pos 0) bs s
+no_flags_yet o bs s = ap (λ i. flags_are i bs s) (from_here o)
+
+module _ (o : ℤ) (bs : List Bool) (s : NumberSet) (i : ℕ) (r : Bool) (so_far : r ≡ flags_are (o +ℤ pos i) (drop i bs) s) where
+  module _ (b : Bool) (at : slice_get bs i ≡ Some b) where
+    one : r ≡ ((b =ᴮ contains s (o +ℤ pos i)) && flags_are (o +ℤ pos (i + 1)) (drop (i + 1) bs) s)
+    one = so_far ∙ ap (λ l. flags_are (o +ℤ pos i) l s) (next bs i b at) ∙ ap (λ j. (b =ᴮ contains s (o +ℤ pos i)) && flags_are j (drop (i + 1) bs) s) (one_on o i)
+
+    pub flag_agrees : (b =ᴮ contains s (o +ℤ pos i)) ≡ true → r ≡ flags_are (o +ℤ pos (i + 1)) (drop (i + 1) bs) s
+    flag_agrees passed = one ∙ ap (λ c. c && flags_are (o +ℤ pos (i + 1)) (drop (i + 1) bs) s) passed
+
+    pub flag_differs : (b =ᴮ contains s (o +ℤ pos i)) ≡ false → false ≡ r
+    flag_differs other = sym (one ∙ ap (λ c. c && flags_are (o +ℤ pos (i + 1)) (drop (i + 1) bs) s) other)
+
+  pub all_agree : length bs ≤ i → true ≡ r
+  all_agree end = sym (so_far ∙ ap (λ l. flags_are (o +ℤ pos i) l s) (none_left bs i end))
+
+-- ---- the numbers that are indices
+
+abbrev pub last_of : ℤ → ℕ → ℤ
+last_of o n = (o +ℤ pos n) -ℤ pos 1
+
+abbrev pub greatest : ℤ
+greatest = pos 9223372036854775807
+
+fits_below : (q : ℤ) → FitsSigned w64 q → q ≤ℤ greatest
+fits_below q fits = omega (arith, ints)
+
+between_from : (o q : ℤ) (n : ℕ) → o ≤ℤ q → q ≤ℤ int_min (last_of o n) greatest → is_between o (last_of o n) q ≡ true
+between_from o q n low high = grind (arith, ints)
+
+from_between : (o q : ℤ) (n : ℕ) → is_between o (last_of o n) q ≡ true → q ≤ℤ greatest → (o ≤ℤ q) × (q ≤ℤ int_min (last_of o n) greatest)
+from_between o q n e high = (grind (arith, ints), grind (arith, ints))
+
+pub told_indices : (r : Bool) (s : NumberSet) (o last : ℤ) (n : ℕ) → (r ≡ true ↔ LiesWithin o last s) → Has64Bits s → last ≡ int_min (last_of o n) greatest → r ≡ is_subset s (numbers_between o (last_of o n))
+told_indices r s o last n h fits is =
+    both_ways r (is_subset s (numbers_between o (last_of o n)))
+    (λ e. contains-is_subset int_cmp_total s (numbers_between o (last_of o n))
+    (λ q in_s. let told = h.0 e q in_s in
+    contains-numbers_between o (last_of o n) q ∙ between_from o q n told.0 (rw is at told.1)))
+    (λ e. h.1 (λ q in_s.
+    let told = from_between o q n (sym (contains-numbers_between o (last_of o n) q) ∙ is_subset-contains int_cmp_total s (numbers_between o (last_of o n)) e q in_s) (fits_below q (fits q in_s)) in
+    rw is told))
+
+-- ---- no index
+
+none_between : (o q : ℤ) → is_between o (last_of o 0) q ≡ false
+none_between o q = grind (arith, ints)
+
+pub no_index : (o : ℤ) (s : NumberSet) → nat_eq (len s) 0 ≡ is_subset s (numbers_between o (last_of o 0))
+no_index o s =
+    both_ways (nat_eq (len s) 0) (is_subset s (numbers_between o (last_of o 0)))
+    (λ e. contains-is_subset int_cmp_total s (numbers_between o (last_of o 0))
+    (λ q in_s. no (sym (contains-empty int_cmp q) ∙ ap (λ u. contains u q) (sym (empty_of_len s (is_zero (len s) e))) ∙ in_s)))
+    (λ e.
+    let none : s ≡ empty = same_numbers s empty (λ q. elim (contains s q) as (λ b. contains s q ≡ b → b ≡ contains {R = int_cmp} empty q) [
+      | true ↦ λ in_s. no (sym (none_between o q) ∙ sym (contains-numbers_between o (last_of o 0) q) ∙ is_subset-contains int_cmp_total s (numbers_between o (last_of o 0)) e q in_s)
+      | false ↦ λ _. sym (contains-empty int_cmp q)
+    ] refl) in
+    ap (λ u. nat_eq (len u) 0) none ∙ ap (λ n. nat_eq n 0) (len-empty int_cmp))
+  where
+    is_zero : (n : ℕ) → nat_eq n 0 ≡ true → n ≡ 0
+    is_zero n e = grind (arith, nat_tests)
+
+-- ---- both together
+
+pub none_flagged : (s : NumberSet) (bs : List Bool) (o : ℤ) → length bs ≡ 0 → nat_eq (len s) 0 ≡ is_flagged s bs o
+none_flagged s [] o none = no_index o s ∙ sym (and_true (is_subset s (numbers_between o (last_of o 0))))
+  where
+    and_true : (p : Bool) → (p && true) ≡ p
+    and_true true = refl
+    and_true false = refl
+none_flagged s (b ∷ bs) o none = absurd (omega arith)
+
+module _ (s : NumberSet) (bs : List Bool) (o last : ℤ) (r : Bool) (told : r ≡ true ↔ LiesWithin o last s) (fits : Has64Bits s) (is : last ≡ int_min (last_of o (length bs)) greatest) where
+  pub within_flagged : r ≡ true → flags_are o bs s ≡ is_flagged s bs o
+  within_flagged inside = ap (λ b. b && flags_are o bs s) (sym inside ∙ told_indices r s o last (length bs) told fits is)
+
+  pub not_within : r ≡ false → false ≡ is_flagged s bs o
+  not_within outside = ap (λ b. b && flags_are o bs s) (sym outside ∙ told_indices r s o last (length bs) told fits is)

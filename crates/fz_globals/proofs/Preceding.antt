@@ -1,0 +1,67 @@
+-- Which values come before which, and neighbours that pass a test.
+use Rattle.std.proofs.Common.{◌≡◌, ℕ, ◌+◌, ◌≤◌, ℤ, pos, ◌+ℤ◌, Bool, true, false, not, ◌&&◌, ◌||◌, List, [], ◌∷◌, drop, length, int_le, Some, slice_get, refl, sym, ap, ◌∙◌, arith}
+use Rattle.std.specs.Int.{int_max}
+use Rattle.std.proofs.lemmas.List.{length-drop}
+use Rattle.std.proofs.lemmas.Bool.Decides.{Decides-int_eq}
+use Rattle.fz_meaning.specs.Values.{◌=ℤ◌}
+use Rattle.fz_meaning.specs.Globals.{all_neighbours, precedes, rises_by_one}
+use Rattle.fz_globals.proofs.Tested.{other_int}
+use Rattle.fz_kernel.proofs.Left.{next, none_left}
+
+-- ---- one value before another
+
+module _ (s t : ℤ) (xs : List ℤ) (i : ℕ) (r : Bool) (so_far : r ≡ precedes s t (drop i xs)) where
+  module _ (x : ℤ) (at : slice_get xs i ≡ Some x) where
+    one : (is_t is_s : Bool) → (x =ℤ t) ≡ is_t → (x =ℤ s) ≡ is_s → r ≡ (not is_t && (is_s || precedes s t (drop (i + 1) xs)))
+    one is_t is_s e_t e_s = so_far ∙ ap (precedes s t) (next xs i x at) ∙ (λ k. not (e_t k) && (e_s k || precedes s t (drop (i + 1) xs)))
+
+    pub second_comes : x ≡ t → false ≡ r
+    second_comes same = sym (one true (x =ℤ s) ((Decides-int_eq x t).1 same) refl)
+
+    pub first_comes : ¬ (x ≡ t) → x ≡ s → true ≡ r
+    first_comes other same = sym (one false true (other_int x t other) ((Decides-int_eq x s).1 same))
+
+    pub neither_comes : ¬ (x ≡ t) → ¬ (x ≡ s) → r ≡ precedes s t (drop (i + 1) xs)
+    neither_comes other_t other_s = one false false (other_int x t other_t) (other_int x s other_s)
+
+  pub none_comes : length xs ≤ i → true ≡ r
+  none_comes end = sym (so_far ∙ ap (precedes s t) (none_left xs i end))
+
+-- ---- neighbours
+
+few : {A : Type 0} (p : A → A → Bool) (xs : List A) → length xs ≤ 1 → all_neighbours p xs ≡ true
+few p [] h = refl
+few p (x ∷ []) h = refl
+few p (x ∷ y ∷ xs) h = absurd (omega arith)
+
+module _ {A : Type 0} (p : A → A → Bool) (xs : List A) (i j : ℕ) (follows : j ≡ i + 1) (r : Bool) (so_far : r ≡ all_neighbours p (drop i xs)) where
+  module _ (x y : A) (at_x : slice_get xs i ≡ Some x) (at_y : slice_get xs j ≡ Some y) where
+    pair : r ≡ (p x y && all_neighbours p (drop j xs))
+    pair =
+        let rest : drop (i + 1) xs ≡ y ∷ drop (j + 1) xs = ap (λ n. drop n xs) (sym follows) ∙ next xs j y at_y in
+        so_far ∙ ap (all_neighbours p) (next xs i x at_x ∙ ap (λ l. x ∷ l) rest) ∙ ap (λ l. p x y && all_neighbours p l) (sym (next xs j y at_y))
+
+    pub neighbours_pass : (k : ℕ) → k ≡ j → p x y ≡ true → r ≡ all_neighbours p (drop k xs)
+    neighbours_pass k is passed = pair ∙ ap (λ b. b && all_neighbours p (drop j xs)) passed ∙ ap (λ n. all_neighbours p (drop n xs)) (sym is)
+
+    pub neighbours_fail : p x y ≡ false → false ≡ r
+    neighbours_fail failed = sym (pair ∙ ap (λ b. b && all_neighbours p (drop j xs)) failed)
+
+  pub no_neighbours : length xs ≤ j → true ≡ r
+  no_neighbours end = sym (so_far ∙ few p (drop i xs) (omega (arith, length-drop i xs)))
+
+-- ---- values that rise
+
+module _ (most : ℤ) (xs : List ℤ) (i : ℕ) (r : Bool) (so_far : r ≡ rises_by_one most (drop i xs)) where
+  module _ (x : ℤ) (at : slice_get xs i ≡ Some x) where
+    rise : r ≡ (int_le x (most +ℤ pos 1) && rises_by_one (int_max most x) (drop (i + 1) xs))
+    rise = so_far ∙ ap (rises_by_one most) (next xs i x at)
+
+    pub rises : (n : ℤ) → n ≡ int_max most x → int_le x (most +ℤ pos 1) ≡ true → r ≡ rises_by_one n (drop (i + 1) xs)
+    rises n is passed = rise ∙ ap (λ b. b && rises_by_one (int_max most x) (drop (i + 1) xs)) passed ∙ ap (λ m. rises_by_one m (drop (i + 1) xs)) (sym is)
+
+    pub rises_too_far : int_le x (most +ℤ pos 1) ≡ false → false ≡ r
+    rises_too_far failed = sym (rise ∙ ap (λ b. b && rises_by_one (int_max most x) (drop (i + 1) xs)) failed)
+
+  pub all_rise : length xs ≤ i → true ≡ r
+  all_rise end = sym (so_far ∙ ap (rises_by_one most) (none_left xs i end))

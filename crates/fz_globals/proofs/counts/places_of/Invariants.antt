@@ -1,0 +1,7 @@
+use Rattle.fz_meaning.specs.Values.{◌=ℤ◌}
+use Rattle.fz_kernel.specs.of_scene.Views.{ints}
+use Rattle.fz_globals.proofs.Each.{IsTold}
+use Rattle.fz_globals.proofs.counts.places_of.Given as goal
+
+abbrev pub invariant-loop-place : goal.invariant-loop-place
+invariant-loop-place l = IsTold (λ x. x =ℤ l.value) (ints l.elements) l.place l.count

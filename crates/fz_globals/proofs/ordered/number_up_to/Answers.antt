@@ -1,0 +1,11 @@
+use Rattle.std.proofs.Common.{int_le, rules, of_calls}
+use Rattle.std.proofs.lemmas.Fn.{always_returns_same}
+use Rattle.fz_globals.proofs.Halving.{parted_up_to, point_counts}
+use Rattle.fz_globals.proofs.ordered.number_up_to.Goals as goal
+
+pub returns : goal.returns
+returns c =
+    let xs = c.args.sorted.now in
+    let v = c.args.value in
+    let point = c.partition_point.ensures.partitioned (λ y. int_le y v) (always_returns_same _ _ _ (λ a r f k. search (rules, of_calls))) (parted_up_to xs v c.requires) in
+    point_counts (λ y. int_le y v) xs c.partition_point.result c.partition_point.ensures.bound point

@@ -1,0 +1,7 @@
+use Rattle.std.proofs.Common.{◌≡◌, drop}
+use Rattle.fz_meaning.specs.Globals.{precedes}
+use Rattle.fz_kernel.specs.of_scene.Views.{ints}
+use Rattle.fz_globals.proofs.precedence.precedes.Given as goal
+
+abbrev pub invariant-loop-place : goal.invariant-loop-place
+invariant-loop-place l = precedes l.first l.second (ints l.elements) ≡ precedes l.first l.second (drop l.place (ints l.elements))

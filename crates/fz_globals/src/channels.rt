@@ -1,0 +1,51 @@
+// Numbers that tell in which of the sets their indices are.
+ghost use Rattle.std.specs.Prelude.{◌≡◌};
+ghost use Rattle.fz_meaning.specs.Globals.{are_channelled};
+ghost use Rattle.fz_kernel.specs.of_scene.Views.{ints, sets};
+ghost use Rattle.fz_globals.specs.Held.{are_held, is_held, size_of_all};
+
+use crate::flags::has;
+use crate::indices::{index_at, place_from};
+use fz_kernel::fz_scene::Elements;
+
+/// Whether each set has just the indices, from `first` on, of the numbers that are the set's own
+/// index, from `first_part` on. It takes no memory.
+pub fn are_channelled(numbers: &Elements, first: i64, parts: &Elements, first_part: i64) -> bool
+    ensures exact { result ≡ are_channelled (ints numbers.now) first (sets parts.now) first_part }
+{
+    // where each index is in its number's set, and there are no more elements, no set has another
+    are_held(numbers, first, parts, first_part) && size_of_all(parts) == numbers.len() as u128
+}
+
+fn are_held(numbers: &Elements, first: i64, parts: &Elements, first_part: i64) -> bool
+    ensures { result ≡ are_held first (ints numbers.now) (sets parts.now) first_part }
+{
+    for place in 0..numbers.len() {
+        let index = index_at(first, place);
+        if !is_held(index, numbers.int(place), parts, first_part) {
+            return false;
+        }
+    }
+    true
+}
+
+// Whether the index is in the set that the number is the index of.
+fn is_held(index: i128, number: i64, parts: &Elements, first_part: i64) -> bool
+    ensures { result ≡ is_held index number (sets parts.now) first_part }
+{
+    match place_from(number, first_part, parts.len()) {
+        Some(part) => has(parts.set(part), index),
+        None => false,
+    }
+}
+
+// How many elements the sets have, each with its own.
+fn size_of_all(parts: &Elements) -> u128
+    ensures { result ≡ size_of_all (sets parts.now) }
+{
+    let mut size: u128 = 0;
+    for place in 0..parts.len() {
+        size += parts.set(place).len();
+    }
+    size
+}

@@ -1,0 +1,101 @@
+// How many elements there are of a kind, and how many values.
+ghost use Rattle.std.specs.Prelude.{◌≡◌, length, pos, IfOk};
+ghost use Rattle.std.specs.List.{filter, list_any};
+ghost use Rattle.std.specs.FinSet as set;
+ghost use Rattle.fz_meaning.specs.Values.{◌=ℤ◌, ◌=ᴮ◌};
+ghost use Rattle.fz_meaning.specs.Builtins.{all_different, is_among};
+ghost use Rattle.fz_meaning.specs.Globals.{count_of, count_in, is_nonzero, values_of};
+ghost use Rattle.fz_kernel.specs.of_scene.Views.{ints, bools};
+
+use crate::ordered::{numbers_in_order, values_in_order};
+use fz_base::IntSet;
+use fz_kernel::arrays::stands_from;
+use fz_kernel::distinct::all_different;
+use fz_kernel::fz_scene::Elements;
+use std::alloc::{AllocError, Global};
+
+/// The number of places with the value.
+pub fn count_of(elements: &Elements, value: i64) -> i128
+    ensures exact { result ≡ count_of (ints elements.now) value }
+{
+    places_of(elements, value) as i128
+}
+
+fn places_of(elements: &Elements, value: i64) -> usize
+    ensures { result ≡ length (filter (λ x. x =ℤ value) (ints elements.now)) }
+{
+    let mut count: usize = 0;
+    for place in 0..elements.len() {
+        if elements.int(place) == value {
+            count += 1;
+        }
+    }
+    count
+}
+
+/// The number of places with an element of the set.
+pub fn count_in(elements: &Elements, values: &IntSet) -> i128
+    ensures exact { result ≡ count_in (ints elements.now) values.now }
+{
+    places_in(elements, values) as i128
+}
+
+fn places_in(elements: &Elements, values: &IntSet) -> usize
+    ensures { result ≡ length (filter (λ x. set.contains values.now x) (ints elements.now)) }
+{
+    let mut count: usize = 0;
+    for place in 0..elements.len() {
+        if values.contains(elements.int(place)) {
+            count += 1;
+        }
+    }
+    count
+}
+
+/// Whether the number is an element.
+pub fn is_listed(number: i64, elements: &Elements) -> bool
+    ensures exact { result ≡ is_among number (ints elements.now) }
+{
+    stands_from(number, elements, 0)
+}
+
+/// Whether the truth value is an element.
+pub fn is_truth_listed(truth: bool, elements: &Elements) -> bool
+    ensures exact { result ≡ list_any (λ x. x =ᴮ truth) (bools elements.now) }
+{
+    for place in 0..elements.len() {
+        if elements.truth(place) == truth {
+            return true;
+        }
+    }
+    false
+}
+
+/// Whether no two elements at different places are equal, unless they are 0.
+pub fn nonzero_are_different(alloc: Global, elements: &Elements) -> Result<bool, AllocError>
+    ensures exact { IfOk result (λ r. r ≡ all_different (filter is_nonzero (ints elements.now))) }
+{
+    let mut numbers = nonzero_numbers(alloc, elements)?;
+    Ok(all_different(&mut numbers))
+}
+
+fn nonzero_numbers(alloc: Global, elements: &Elements) -> Result<Vec<i64>, AllocError>
+    ensures { IfOk result (λ v. v.items ≡ filter is_nonzero (ints elements.now)) }
+{
+    let mut numbers = Vec::with_capacity(alloc, elements.len())?;
+    for place in 0..elements.len() {
+        let number = elements.int(place);
+        if number != 0 {
+            numbers.push(number)?;
+        }
+    }
+    Ok(numbers)
+}
+
+/// How many different values there are.
+pub fn number_of_values(alloc: Global, elements: &Elements) -> Result<i128, AllocError>
+    ensures exact { IfOk result (λ n. n ≡ pos (length (values_of (ints elements.now)))) }
+{
+    let numbers = numbers_in_order(alloc, elements)?;
+    Ok(values_in_order(&numbers) as i128)
+}

@@ -1,0 +1,103 @@
+// How often each value of a cover comes, and whether all elements are values of it.
+ghost use Rattle.std.specs.Prelude.{◌≡◌, int_le, IfOk};
+ghost use Rattle.std.specs.Ordering.{int_cmp};
+ghost use Rattle.std.specs.List.{list_all};
+ghost use Rattle.std.specs.List.Sorted.{IsSorted};
+ghost use Rattle.fz_meaning.specs.Values.{◌=ℤ◌};
+ghost use Rattle.fz_meaning.specs.Builtins.{is_among};
+ghost use Rattle.fz_meaning.specs.Globals.{all_both, count_of, counts_are, counts_lie, is_closed};
+ghost use Rattle.fz_kernel.specs.of_scene.Views.{ints};
+
+use crate::ordered::{count_in_order, numbers_in_order, stands_in_order};
+use fz_kernel::fz_scene::Elements;
+use std::alloc::{AllocError, Global};
+
+/// Whether each value of the cover comes as often as its number says.
+pub fn counts_are(
+    alloc: Global,
+    elements: &Elements,
+    cover: &Elements,
+    counts: &Elements,
+) -> Result<bool, AllocError>
+    ensures exact { IfOk result (λ r. r ≡ counts_are (ints elements.now) (ints cover.now) (ints counts.now)) }
+{
+    let numbers = numbers_in_order(alloc, elements)?;
+    Ok(come_as_often(&numbers, cover, counts))
+}
+
+/// Whether each value of the cover comes at least and at most so often.
+pub fn counts_lie(
+    alloc: Global,
+    elements: &Elements,
+    cover: &Elements,
+    least: &Elements,
+    most: &Elements,
+) -> Result<bool, AllocError>
+    ensures exact { IfOk result (λ r. r ≡ counts_lie (ints elements.now) (ints cover.now) (ints least.now) (ints most.now)) }
+{
+    let numbers = numbers_in_order(alloc, elements)?;
+    Ok(come_within(&numbers, cover, least, most))
+}
+
+/// Whether each element is a value of the cover.
+pub fn is_closed(alloc: Global, elements: &Elements, cover: &Elements) -> Result<bool, AllocError>
+    ensures exact { IfOk result (λ r. r ≡ is_closed (ints elements.now) (ints cover.now)) }
+{
+    let values = numbers_in_order(alloc, cover)?;
+    Ok(all_stand_in(&values, elements))
+}
+
+fn come_as_often(sorted: &[i64], cover: &Elements, counts: &Elements) -> bool
+    requires { IsSorted int_cmp sorted.now }
+    ensures { result ≡ counts_are sorted.now (ints cover.now) (ints counts.now) }
+{
+    for place in 0..cover.len().min(counts.len()) {
+        if count_in_order(sorted, cover.int(place)) != i128::from(counts.int(place)) {
+            return false;
+        }
+    }
+    true
+}
+
+fn come_within(sorted: &[i64], cover: &Elements, least: &Elements, most: &Elements) -> bool
+    requires { IsSorted int_cmp sorted.now }
+    ensures { result ≡ counts_lie sorted.now (ints cover.now) (ints least.now) (ints most.now) }
+{
+    come_at_least(sorted, cover, least) && come_at_most(sorted, cover, most)
+}
+
+fn come_at_least(sorted: &[i64], cover: &Elements, least: &Elements) -> bool
+    requires { IsSorted int_cmp sorted.now }
+    ensures { result ≡ all_both (λ v n. int_le n (count_of sorted.now v)) (ints cover.now) (ints least.now) }
+{
+    for place in 0..cover.len().min(least.len()) {
+        if count_in_order(sorted, cover.int(place)) < i128::from(least.int(place)) {
+            return false;
+        }
+    }
+    true
+}
+
+fn come_at_most(sorted: &[i64], cover: &Elements, most: &Elements) -> bool
+    requires { IsSorted int_cmp sorted.now }
+    ensures { result ≡ all_both (λ v n. int_le (count_of sorted.now v) n) (ints cover.now) (ints most.now) }
+{
+    for place in 0..cover.len().min(most.len()) {
+        if count_in_order(sorted, cover.int(place)) > i128::from(most.int(place)) {
+            return false;
+        }
+    }
+    true
+}
+
+fn all_stand_in(sorted: &[i64], elements: &Elements) -> bool
+    requires { IsSorted int_cmp sorted.now }
+    ensures { result ≡ list_all (λ x. is_among x sorted.now) (ints elements.now) }
+{
+    for place in 0..elements.len() {
+        if !stands_in_order(sorted, elements.int(place)) {
+            return false;
+        }
+    }
+    true
+}

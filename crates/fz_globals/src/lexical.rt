@@ -1,0 +1,49 @@
+//! The order of a dictionary: the first place where two arrays differ tells, and a proper front
+//! comes first.
+ghost use Rattle.std.specs.Prelude.{◌≡◌, ◌&&◌, not, int_lt};
+ghost use Rattle.fz_meaning.specs.Values.{◌=ℤ◌, ◌=ᴮ◌};
+ghost use Rattle.fz_meaning.specs.Globals.{is_before};
+ghost use Rattle.fz_kernel.specs.of_scene.Views.{bools, ints};
+
+use crate::reading::{number_at, number_count, truth_at, truth_count};
+use fz_kernel::fz_scene::Elements;
+
+/// Whether the numbers of `a` stand before those of `b`.
+pub fn ints_are_before(a: &Elements, b: &Elements) -> bool
+    ensures exact { result ≡ is_before int_lt ◌=ℤ◌ (ints a.now) (ints b.now) }
+{
+    for place in 0..number_count(a).min(number_count(b)) {
+        let (x, y) = (number_at(a, place), number_at(b, place));
+        if x != y {
+            return x < y;
+        }
+    }
+    number_count(a) < number_count(b)
+}
+
+/// Whether the numbers of `a` stand before those of `b`, or are the same.
+pub fn ints_are_not_behind(a: &Elements, b: &Elements) -> bool
+    ensures exact { result ≡ not (is_before int_lt ◌=ℤ◌ (ints b.now) (ints a.now)) }
+{
+    !ints_are_before(b, a)
+}
+
+/// Whether the truth values of `a` stand before those of `b`; false comes before true.
+pub fn bools_are_before(a: &Elements, b: &Elements) -> bool
+    ensures exact { result ≡ is_before (λ x y. not x && y) ◌=ᴮ◌ (bools a.now) (bools b.now) }
+{
+    for place in 0..truth_count(a).min(truth_count(b)) {
+        let (x, y) = (truth_at(a, place), truth_at(b, place));
+        if x != y {
+            return y;
+        }
+    }
+    truth_count(a) < truth_count(b)
+}
+
+/// Whether the truth values of `a` stand before those of `b`, or are the same.
+pub fn bools_are_not_behind(a: &Elements, b: &Elements) -> bool
+    ensures exact { result ≡ not (is_before (λ x y. not x && y) ◌=ᴮ◌ (bools b.now) (bools a.now)) }
+{
+    !bools_are_before(b, a)
+}

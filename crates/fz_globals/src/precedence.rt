@@ -1,0 +1,106 @@
+// Which values come before which in a list.
+ghost use Rattle.std.specs.Prelude.{◌≡◌, List, Some, ℤ, pos, option_map, IfOk};
+ghost use Rattle.std.specs.Ordering.{int_cmp};
+ghost use Rattle.std.specs.List.Sorted.{IsSorted};
+ghost use Rattle.fz_meaning.specs.Globals.{all_neighbours, precedes, rises_by_one};
+ghost use Rattle.fz_kernel.specs.of_scene.Views.{ints};
+ghost use Rattle.fz_globals.specs.Keys.{AreKeys, comes_before};
+
+use crate::firsts::{first_place, keys_in_order};
+use fz_kernel::fz_scene::Elements;
+use std::alloc::{AllocError, Global};
+
+// Up to so many numbers of a chain, the elements are gone over for each, which takes no memory.
+const FEW: usize = 8;
+
+/// Whether the number `second` comes only behind a `first`.
+pub fn precedes(first: i64, second: i64, elements: &Elements) -> bool
+    ensures exact { result ≡ precedes first second (ints elements.now) }
+{
+    for place in 0..elements.len() {
+        let element = elements.int(place);
+        if element == second {
+            return false;
+        }
+        if element == first {
+            return true;
+        }
+    }
+    true
+}
+
+/// Whether each number of the chain but the first comes only behind the one before it. Only for a
+/// long chain it puts a copy of the elements in order.
+pub fn precede_in_chain(
+    alloc: Global,
+    chain: &Elements,
+    elements: &Elements,
+) -> Result<bool, AllocError>
+    ensures exact { IfOk result (λ r. r ≡ all_neighbours (λ s t. precedes s t (ints elements.now)) (ints chain.now)) }
+{
+    if chain.len() <= FEW {
+        return Ok(each_precedes_next(chain, elements));
+    }
+    let keys = keys_in_order(alloc, elements)?;
+    Ok(first_places_rise(chain, &keys))
+}
+
+/// Whether each element is greater by one at most than the greatest so far, which is 0 at first.
+pub fn rises_by_one(elements: &Elements) -> bool
+    ensures exact { result ≡ rises_by_one (pos 0) (ints elements.now) }
+{
+    let mut most: i64 = 0;
+    for place in 0..elements.len() {
+        let element = elements.int(place);
+        if i128::from(element) > i128::from(most) + 1 {
+            return false;
+        }
+        most = most.max(element);
+    }
+    true
+}
+
+// The elements are gone over once for each number of the chain.
+fn each_precedes_next(chain: &Elements, elements: &Elements) -> bool
+    ensures { result ≡ all_neighbours (λ s t. precedes s t (ints elements.now)) (ints chain.now) }
+{
+    for place in 1..chain.len() {
+        if !precedes(chain.int(place - 1), chain.int(place), elements) {
+            return false;
+        }
+    }
+    true
+}
+
+// The same of the numbers whose keys are given in order.
+fn first_places_rise(chain: &Elements, keys: &[i128]) -> bool
+    requires { IsSorted int_cmp keys.now }
+    ensures { (xs : List ℤ) → AreKeys xs keys.now → result ≡ all_neighbours (λ s t. precedes s t xs) (ints chain.now) }
+{
+    for place in 1..chain.len() {
+        let first = first_place(keys, chain.int(place - 1));
+        if !comes_before(first, first_place(keys, chain.int(place))) {
+            return false;
+        }
+    }
+    true
+}
+
+// Whether the first place comes before the second, where there is a second.
+fn comes_before(first: Option<usize>, second: Option<usize>) -> bool
+    ensures { result ≡ comes_before (option_map pos first) (option_map pos second) }
+{
+    match second {
+        Some(later) => is_below(first, later),
+        None => true,
+    }
+}
+
+fn is_below(first: Option<usize>, later: usize) -> bool
+    ensures { result ≡ comes_before (option_map pos first) (Some (pos later)) }
+{
+    match first {
+        Some(place) => place < later,
+        None => false,
+    }
+}

@@ -1,0 +1,168 @@
+// Lists that lead from place to place.
+ghost use Rattle.std.specs.Prelude.{◌≡◌, ◌+◌, ◌<◌, ◌≤◌, ◌+ℤ◌, ◌-ℤ◌, ℕ, pos, true, false, [], length, slice_get, IfNone, IfOk, IfSome, Some};
+ghost use Rattle.std.specs.Option.{option_map_or};
+ghost use Rattle.fz_meaning.specs.Values.{◌=ℤ◌};
+ghost use Rattle.fz_meaning.specs.Builtins.{all_different, element_at};
+ghost use Rattle.fz_meaning.specs.Globals.{are_inverse, are_places, as_places, end_of_tour, is_circuit, is_one_tour, is_subcircuit, leads_back, lies_between, moved_from, tour};
+ghost use Rattle.fz_kernel.specs.of_scene.Views.{ints, slots_of};
+
+use crate::indices::{place_from, place_in};
+use fz_kernel::arrays::all_elements_different;
+use fz_kernel::fz_scene::Elements;
+use std::alloc::{AllocError, Global};
+
+/// Whether each list leads back from where the other leads; the indices in them begin with `fo` and
+/// `go`.
+pub fn are_inverse(f: &Elements, fo: i64, g: &Elements, go: i64) -> bool
+    ensures exact { result ≡ are_inverse (as_places fo (ints f.now)) (as_places go (ints g.now)) }
+{
+    leads_back(f, fo, g, go) && leads_back(g, go, f, fo)
+}
+
+/// Whether the list, whose indices begin with `first`, leads from the first place to all, to each
+/// once, and back. It takes no memory.
+pub fn is_circuit(first: i64, next: &Elements) -> bool
+    ensures exact { result ≡ is_circuit (as_places first (ints next.now)) }
+{
+    if next.len() == 0 {
+        return true;
+    }
+    if !are_indices(first, next) {
+        return false;
+    }
+    match walk(first, next, 0, next.len()) {
+        Some(place) => place == 0,
+        None => false,
+    }
+}
+
+/// Whether the list, whose indices begin with `first`, is a permutation that leads from one place
+/// that it moves to all that it moves.
+pub fn is_subcircuit(alloc: Global, first: i64, next: &Elements) -> Result<bool, AllocError>
+    ensures exact { IfOk result (λ r. r ≡ is_subcircuit (as_places first (ints next.now))) }
+{
+    if !are_indices(first, next) {
+        return Ok(false);
+    }
+    let different = all_elements_different(alloc, next)?;
+    if !different {
+        return Ok(false);
+    }
+    Ok(is_one_tour(first, next))
+}
+
+fn leads_back(f: &Elements, fo: i64, g: &Elements, go: i64) -> bool
+    ensures { result ≡ leads_back (pos 1) (as_places fo (ints f.now)) (as_places go (ints g.now)) }
+{
+    for place in 0..f.len() {
+        if !leads_to(f.int(place), fo, g, go, place) {
+            return false;
+        }
+    }
+    true
+}
+
+// Whether the element at an index, which is counted from `first`, leads to a place, which is
+// counted from 0.
+fn leads_to(index: i64, first: i64, g: &Elements, go: i64, place: usize) -> bool
+    ensures { result ≡ option_map_or (λ y. y =ℤ pos (place + 1)) (element_at (as_places go (ints g.now)) ((index -ℤ first) +ℤ pos 1)) false }
+{
+    match place_from(index, first, g.len()) {
+        Some(target) => place_in(g.int(target), go) == place as i128,
+        None => false,
+    }
+}
+
+// Whether each element is the index of one of them.
+fn are_indices(first: i64, next: &Elements) -> bool
+    ensures { result ≡ are_places (length (as_places first (ints next.now))) (as_places first (ints next.now)) }
+{
+    for place in 0..next.len() {
+        if !is_index(next.int(place), first, next.len()) {
+            return false;
+        }
+    }
+    true
+}
+
+fn is_index(index: i64, first: i64, count: usize) -> bool
+    ensures { result ≡ lies_between (pos 1) (pos count) ((index -ℤ first) +ℤ pos 1) }
+{
+    let place = place_in(index, first);
+    place >= 0 && place < count as i128
+}
+
+// The place to which the list leads from a place; both are counted from 0.
+fn led_to(first: i64, next: &Elements, place: usize) -> usize
+    requires indices { are_places (length (as_places first (ints next.now))) (as_places first (ints next.now)) ≡ true }
+    requires in_range { place < length (slots_of next.now) }
+    ensures within { result < length (slots_of next.now) }
+    ensures leads { element_at (as_places first (ints next.now)) (pos (place + 1)) ≡ Some (pos (result + 1)) }
+{
+    match place_from(next.int(place), first, next.len()) {
+        Some(target) => target,
+        // no element is one without a place
+        None => place,
+    }
+}
+
+// Where the list leads from a place in so many steps; none where it comes back to that place
+// before.
+fn walk(first: i64, next: &Elements, start: usize, steps: usize) -> Option<usize>
+    requires indices { are_places (length (as_places first (ints next.now))) (as_places first (ints next.now)) ≡ true }
+    requires in_range { start < length (slots_of next.now) }
+    ensures ends { IfSome result (λ p. end_of_tour (as_places first (ints next.now)) steps (pos (start + 1)) ≡ Some (pos (p + 1))) }
+    ensures goes_on { IfSome result (λ p. (k : ℕ) → 0 < k → k < steps → end_of_tour (as_places first (ints next.now)) k (pos (start + 1)) ≡ Some (pos (start + 1)) → ⊥) }
+    ensures comes_back { IfNone result (all_different (tour (as_places first (ints next.now)) steps (pos (start + 1))) ≡ false) }
+{
+    let mut place = start;
+    for step in 0..steps {
+        if step > 0 && place == start {
+            return None;
+        }
+        place = led_to(first, next, place);
+    }
+    Some(place)
+}
+
+// Whether a permutation leads from the first place that it moves to all that it moves.
+fn is_one_tour(first: i64, next: &Elements) -> bool
+    requires indices { are_places (length (as_places first (ints next.now))) (as_places first (ints next.now)) ≡ true }
+    requires different { all_different (as_places first (ints next.now)) ≡ true }
+    ensures { result ≡ is_one_tour (as_places first (ints next.now)) (moved_from (pos 1) (as_places first (ints next.now))) }
+{
+    match first_moved(first, next) {
+        Some(start) => match walk(first, next, start, count_moved(first, next)) {
+            Some(_) => true,
+            None => false,
+        },
+        None => true,
+    }
+}
+
+// The first place, counted from 0, that doesn't lead to itself.
+fn first_moved(first: i64, next: &Elements) -> Option<usize>
+    ensures in_range { IfSome result (λ p. p < length (slots_of next.now)) }
+    ensures found { IfSome result (λ p. slice_get (moved_from (pos 1) (as_places first (ints next.now))) 0 ≡ Some (pos (p + 1))) }
+    ensures none { IfNone result (moved_from (pos 1) (as_places first (ints next.now)) ≡ []) }
+{
+    for place in 0..next.len() {
+        if place_in(next.int(place), first) != place as i128 {
+            return Some(place);
+        }
+    }
+    None
+}
+
+// How many places don't lead to themselves.
+fn count_moved(first: i64, next: &Elements) -> usize
+    ensures { result ≡ length (moved_from (pos 1) (as_places first (ints next.now))) }
+{
+    let mut count = 0;
+    for place in 0..next.len() {
+        if place_in(next.int(place), first) != place as i128 {
+            count += 1;
+        }
+    }
+    count
+}

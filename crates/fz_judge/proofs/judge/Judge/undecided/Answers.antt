@@ -1,0 +1,34 @@
+use Rattle.std.proofs.Common.{◌≡◌, ℤ, Option, None, Some, IfSome, refl, sym, ap, subst, ◌∙◌}
+use Rattle.fz_model.specs.Meaning.{Model, Partial, objective}
+use Rattle.fz_verdict.specs.Blocks.{Block}
+use Rattle.fz_verdict.specs.Completed.{IsCompleted, LacksValuesAtMost}
+use Rattle.fz_verdict.specs.Completed.IsCompleted.{Found, AsFilled}
+use Rattle.fz_verdict.specs.Verdict.{Reason, Verdict}
+use Rattle.fz_verdict.specs.Verdict.Verdict.{Satisfied, Undecided}
+use Rattle.fz_verdict.specs.View.{located_block}
+use Rattle.fz_judge.specs.Judged.{JudgeState}
+use Rattle.fz_judge.specs.View.{reason_view}
+use Rattle.fz_judge.specs.Working.{IsFound}
+use Rattle.fz_judge.proofs.judge.Judge.undecided.Goals as goal
+
+found_told : (m : Model) (block : Block) (before : Option ℤ) (F : Partial) (v : Verdict) (kept : Option ℤ) (o : Option (Option ℤ)) → o ≡ Some kept → LacksValuesAtMost v → IfSome o (IsFound m block before)
+    → IsCompleted m block before F v Satisfied kept
+found_told m block before F v kept (Some k) is lacks (K, fits, satisfied, kept_is) =
+    let same : k ≡ kept = cc in
+    subst (λ n. IsCompleted m block before F v Satisfied n) (sym kept_is ∙ same) (Found K lacks fits satisfied)
+found_told m block before F v kept None is lacks found = absurd cc
+
+-- nothing is found, and the verdict stays
+stays : (s t : JudgeState) (block : Block) (F : Partial) (r : Reason) (o : Option ℤ) → s ≡ t → o ≡ objective s.model F → IsCompleted t.model block t.found F (Undecided r) (Undecided r) o
+stays s t block F r o same is = subst (λ (u : JudgeState). IsCompleted u.model block u.found F (Undecided r) (Undecided r) o) same (subst (λ n. IsCompleted s.model block s.found F (Undecided r) (Undecided r) n) (sym is) (AsFilled (λ e. cc)))
+
+pub returns-in-Some-clause-told : goal.returns-in-Some-clause-told
+returns-in-Some-clause-told c =
+    let told = ap (λ r. Undecided (reason_view r)) c.in-NoValue.is in
+    found_told c.args.self.now.model (located_block c.args.block.now) c.args.self.now.found c.args.filling.now (Undecided (reason_view c.args.reason)) c.in-Some.found _ c.in-Some.is (subst LacksValuesAtMost (sym told) tt) c.in_ok-found-in-NoValue.ensures.found
+
+pub returns-in-None-clause-told : goal.returns-in-None-clause-told
+returns-in-None-clause-told c = stays _ c.args.self.now (located_block c.args.block.now) c.args.filling.now (reason_view c.args.reason) c.objective-filled.result c.self.view_is c.objective-filled.ensures
+
+pub returns-in-Unknown : goal.returns-in-Unknown
+returns-in-Unknown c = record { told = stays _ c.args.self.now (located_block c.args.block.now) c.args.filling.now (reason_view c.args.reason) c.objective-filled.result c.self.view_is c.objective-filled.ensures; same = refl }

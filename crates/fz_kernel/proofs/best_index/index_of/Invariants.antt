@@ -1,8 +1,0 @@
-use Rattle.std.proofs.Common.{◌≡◌, ◌+ℤ◌, pos, drop}
-use Rattle.fz_meaning.specs.Globals.{index_from}
-use Rattle.fz_scene.specs.Views.{ints}
-use Rattle.fz_kernel.proofs.best_index.index_of.Given as goal
-
-abbrev pub invariant-loop-place : goal.invariant-loop-place
-invariant-loop-place l =
-    index_from l.first (ints l.elements) l.number ≡ index_from (l.first +ℤ pos l.place) (drop l.place (ints l.elements)) l.number

@@ -1,8 +1,0 @@
-use Rattle.std.specs.List.{zip}
-use Rattle.fz_meaning.specs.Values.{◌=ℤ◌}
-use Rattle.fz_scene.specs.Views.{ints}
-use Rattle.fz_kernel.proofs.Chosen.{IsChosen}
-use Rattle.fz_kernel.proofs.bins.load_of.Given as goal
-
-abbrev pub invariant-loop-place : goal.invariant-loop-place
-invariant-loop-place l = IsChosen (λ b. b =ℤ l.bin) (zip (ints l.bins) (ints l.weights)) l.place l.load

@@ -1,7 +1,0 @@
-use Rattle.std.specs.FinSet.{contains}
-use Rattle.fz_scene.specs.Views.{ints}
-use Rattle.fz_kernel.proofs.Each.{IsTold}
-use Rattle.fz_kernel.proofs.counts.places_in.Given as goal
-
-abbrev pub invariant-loop-place : goal.invariant-loop-place
-invariant-loop-place l = IsTold (contains l.values) (ints l.elements) l.place l.count

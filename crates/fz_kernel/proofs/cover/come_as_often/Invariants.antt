@@ -1,8 +1,0 @@
-use Rattle.std.proofs.Common.{◌≡◌, drop}
-use Rattle.fz_meaning.specs.Values.{◌=ℤ◌}
-use Rattle.fz_meaning.specs.Globals.{all_both, count_of}
-use Rattle.fz_scene.specs.Views.{ints}
-use Rattle.fz_kernel.proofs.cover.come_as_often.Given as goal
-
-abbrev pub invariant-loop-place : goal.invariant-loop-place
-invariant-loop-place l = all_both (λ v n. count_of l.sorted v =ℤ n) (ints l.cover) (ints l.counts) ≡ all_both (λ v n. count_of l.sorted v =ℤ n) (drop l.place (ints l.cover)) (drop l.place (ints l.counts))

@@ -1,7 +1,0 @@
-use Rattle.std.proofs.Common.{◌≡◌, ◌++◌, drop}
-use Rattle.fz_scene.specs.Views.{ints}
-use Rattle.fz_kernel.specs.Keys.{keys_from}
-use Rattle.fz_kernel.proofs.firsts.keys_of.Given as goal
-
-abbrev pub invariant-loop-place : goal.invariant-loop-place
-invariant-loop-place l = l.keys.items ++ keys_from l.place (drop l.place (ints l.elements)) ≡ keys_from 0 (ints l.elements)

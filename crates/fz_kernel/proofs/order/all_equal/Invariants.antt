@@ -1,7 +1,0 @@
-use Rattle.fz_meaning.specs.Values.{◌=ℤ◌}
-use Rattle.fz_scene.specs.Views.{ints}
-use Rattle.fz_kernel.proofs.Neighbours.{PassUpTo}
-use Rattle.fz_kernel.proofs.order.all_equal.Given as goal
-
-abbrev pub invariant-loop-place : goal.invariant-loop-place
-invariant-loop-place l = PassUpTo ◌=ℤ◌ (ints l.elements) l.place

@@ -1,5 +1,0 @@
-use Rattle.fz_kernel.proofs.Valued.{AreValued}
-use Rattle.fz_kernel.proofs.ordered.values_in_order.Given as goal
-
-abbrev pub invariant-loop-place : goal.invariant-loop-place
-invariant-loop-place l = AreValued l.sorted l.place l.count

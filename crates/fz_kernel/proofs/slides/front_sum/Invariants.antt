@@ -1,6 +1,0 @@
-use Rattle.fz_scene.specs.Views.{ints}
-use Rattle.fz_kernel.proofs.Windowed.{IsSummed}
-use Rattle.fz_kernel.proofs.slides.front_sum.Given as goal
-
-abbrev pub invariant-loop-place : goal.invariant-loop-place
-invariant-loop-place l = IsSummed (ints l.xs) l.place l.sum

@@ -1,6 +1,0 @@
-use Rattle.fz_scene.specs.Views.{ints}
-use Rattle.fz_kernel.proofs.Windowed.{Slides}
-use Rattle.fz_kernel.proofs.slides.running_sums_lie_between.Given as goal
-
-abbrev pub invariant-loop-start : goal.invariant-loop-start
-invariant-loop-start l = Slides l.low l.high l.width (ints l.xs) l.start l.sum

@@ -1,9 +1,0 @@
-use Rattle.std.proofs.Common.{◌≡◌, ◌+◌, pos, drop}
-use Rattle.fz_meaning.specs.Globals.{as_places, moved_from}
-use Rattle.fz_scene.specs.Views.{ints}
-use Rattle.fz_kernel.proofs.tours.first_moved.Given as goal
-
-abbrev pub invariant-loop-place : goal.invariant-loop-place
-invariant-loop-place l =
-    let f = as_places l.first (ints l.next) in
-    moved_from (pos 1) f ≡ moved_from (pos (l.place + 1)) (drop l.place f)

@@ -1,0 +1,108 @@
+//! What a search knows of a model: which variables stand in a point, and in which points a
+//! variable stands.
+
+use crate::builder::points_of;
+use crate::points::{Points, items_of};
+use crate::row::{Place, Product, Rule};
+use fz_model::Model;
+use std::alloc::{AllocError, Global};
+
+const NOWHERE: Place = Place {
+    point: 0,
+    coefficient: 0,
+};
+
+/// What a search knows of a model, made for the first block that needs it and kept for the next.
+#[derive(Drop)]
+pub struct Search {
+    points: Points,
+    /// where the places of each variable end
+    place_ends: Vec<usize>,
+    /// where each variable stands, one variable behind another
+    places: Vec<Place>,
+}
+
+impl Search {
+    /// What is known of a model. It goes over all its points once.
+    pub(crate) fn new(alloc: Global, model: &Model<'_>) -> Result<Search, AllocError> {
+        let points = points_of(alloc, model)?;
+        let variables = model.variables().len();
+        let (place_ends, places) = turned(alloc, &points.products, &points.ends, variables)?;
+        Ok(Search {
+            points,
+            place_ends,
+            places,
+        })
+    }
+
+    pub(crate) fn products_of(&self, point: usize) -> &[Product] {
+        self.points.products_of(point)
+    }
+
+    pub(crate) fn places_of(&self, variable: usize) -> &[Place] {
+        items_of(&self.places, &self.place_ends, variable)
+    }
+
+    pub(crate) fn rule_of(&self, point: usize) -> Rule {
+        self.points.rule_of(point)
+    }
+
+    /// How many steps it takes to look at a point.
+    pub(crate) fn cost_of(&self, point: usize) -> usize {
+        self.points.cost_of(point)
+    }
+
+    /// How many steps it takes to look at all.
+    pub(crate) fn size(&self) -> usize {
+        self.points.size()
+    }
+}
+
+/// The places of each variable, from the products of each point.
+fn turned(
+    alloc: Global,
+    products: &[Product],
+    ends: &[usize],
+    variables: usize,
+) -> Result<(Vec<usize>, Vec<Place>), AllocError> {
+    let mut next = first_places(alloc, products, variables)?;
+    let mut places = Vec::new(alloc);
+    places.resize(products.len(), NOWHERE)?;
+    for point in 0..ends.len() {
+        for product in items_of(products, ends, point) {
+            let Some(at) = next.get_mut(product.variable) else {
+                continue;
+            };
+            if let Some(place) = places.get_mut(*at) {
+                *place = Place {
+                    point,
+                    coefficient: product.coefficient,
+                };
+            }
+            *at = at.saturating_add(1);
+        }
+    }
+    Ok((next, places))
+}
+
+/// Where the places of each variable start.
+fn first_places(
+    alloc: Global,
+    products: &[Product],
+    variables: usize,
+) -> Result<Vec<usize>, AllocError> {
+    let mut counts = Vec::new(alloc);
+    counts.resize(variables, 0usize)?;
+    for product in products {
+        if let Some(count) = counts.get_mut(product.variable) {
+            *count = count.saturating_add(1);
+        }
+    }
+    let mut before = 0usize;
+    for count in counts.iter_mut() {
+        let here = *count;
+        *count = before;
+        before = before.saturating_add(here);
+    }
+    Ok(counts)
+}

@@ -1,0 +1,190 @@
+//! What linear rows leave: bounds of their variables, and truth values.
+
+use crate::ends::Ends;
+use crate::row::{Claim, Product, Relation, Row};
+use crate::stop::Stop;
+use crate::work::Work;
+use fz_base::Value;
+
+/// The number in 64 bits, or the nearest.
+fn nearest(number: i128) -> i64 {
+    match i64::try_from(number) {
+        Ok(number) => number,
+        Err(_) => if number < 0 { i64::MIN } else { i64::MAX },
+    }
+}
+
+/// How far a product may move, where it may move no more than the slack.
+fn steps_in(slack: i128, coefficient: i64) -> i128 {
+    let size = i128::from(coefficient.unsigned_abs());
+    slack.checked_div(size).unwrap_or(0)
+}
+
+/// The bounds that are left, from the low end or from the high one on.
+fn left_of(ends: Ends, steps: i128, from_low: bool) -> Ends {
+    if from_low {
+        Ends {
+            low: ends.low,
+            high: nearest(i128::from(ends.low).saturating_add(steps)),
+        }
+    } else {
+        Ends {
+            low: nearest(i128::from(ends.high).saturating_sub(steps)),
+            high: ends.high,
+        }
+    }
+}
+
+/// The number whose product is the rest, where there is one.
+fn exact(rest: i128, coefficient: i64) -> Option<i64> {
+    let size = i128::from(coefficient);
+    let number = i64::try_from(rest.checked_div(size)?).ok()?;
+    if i128::from(number).saturating_mul(size) == rest {
+        Some(number)
+    } else {
+        None
+    }
+}
+
+impl<'k, 'm, 'a> Work<'k, 'm, 'a> {
+    /// Visits a linear row.
+    pub(crate) fn visit_row(&mut self, point: usize, row: Row) -> Result<(), Stop> {
+        match row.claim {
+            Claim::Holds => self.impose(point, row.relation),
+            Claim::Fails => self.impose(point, row.relation.negated()),
+            Claim::Exactly(truth) => match self.truth(truth) {
+                Some(true) => self.impose(point, row.relation),
+                Some(false) => self.impose(point, row.relation.negated()),
+                None => match row.relation.decided(self.sums_of(point)) {
+                    Some(holds) => self.give(truth, Value::Bool(holds)),
+                    None => Ok(()),
+                },
+            },
+            Claim::Where(truth) => match self.truth(truth) {
+                Some(true) => self.impose(point, row.relation),
+                Some(false) => Ok(()),
+                None => match row.relation.decided(self.sums_of(point)) {
+                    Some(false) => self.give(truth, Value::Bool(false)),
+                    Some(true) => Ok(()),
+                    None => Ok(()),
+                },
+            },
+        }
+    }
+
+    /// The truth value of a variable, where it has one.
+    fn truth(&self, variable: usize) -> Option<bool> {
+        if self.proposal.has(variable) {
+            Some(self.proposal.values().truth(variable))
+        } else {
+            None
+        }
+    }
+
+    /// Takes from the variables of a point what can't be where a relation holds.
+    fn impose(&mut self, point: usize, relation: Relation) -> Result<(), Stop> {
+        match relation {
+            Relation::AtMost(number) => self.lower(point, number),
+            Relation::AtLeast(number) => self.raise(point, number),
+            Relation::Equal(number) => {
+                self.lower(point, number)?;
+                self.raise(point, number)
+            }
+            Relation::Unequal(number) => self.part(point, number),
+        }
+    }
+
+    /// Holds each product of a point so near its least that the sum is at most a number.
+    fn lower(&mut self, point: usize, number: i128) -> Result<(), Stop> {
+        let slack = number.saturating_sub(self.sums_of(point).least);
+        self.hold_all(point, slack, true)
+    }
+
+    /// Holds each product of a point so near its greatest that the sum is at least a number.
+    fn raise(&mut self, point: usize, number: i128) -> Result<(), Stop> {
+        let slack = self.sums_of(point).most.saturating_sub(number);
+        self.hold_all(point, slack, false)
+    }
+
+    /// Holds each product of a point within a slack of its least, or of its greatest. Where all but
+    /// one are known to move no further, only that one is looked at.
+    fn hold_all(&mut self, point: usize, slack: i128, to_least: bool) -> Result<(), Stop> {
+        if slack < 0 {
+            return Err(Stop::NothingFound);
+        }
+        let products = self.known.products_of(point);
+        let reach = self.reach_of(point);
+        if reach.others <= slack {
+            return match products.get(reach.top) {
+                Some(product) => self.hold(product, slack, to_least),
+                None => Ok(()),
+            };
+        }
+        self.spend(products.len())?;
+        for product in products {
+            self.hold(product, slack, to_least)?;
+        }
+        self.measure(point);
+        Ok(())
+    }
+
+    fn hold(&mut self, product: &Product, slack: i128, to_least: bool) -> Result<(), Stop> {
+        if product.coefficient == 0 {
+            return Ok(());
+        }
+        let ends = self.ends_of(product.variable);
+        let steps = steps_in(slack, product.coefficient);
+        if ends.width() <= steps {
+            return Ok(());
+        }
+        let left = left_of(ends, steps, (product.coefficient > 0) == to_least);
+        self.tighten(product.variable, left.low, left.high)
+    }
+
+    /// Takes the number that would make the sum this one from the only variable that has no value.
+    fn part(&mut self, point: usize, number: i128) -> Result<(), Stop> {
+        if self.open_in(point) > 1 {
+            return Ok(());
+        }
+        self.spend(self.known.cost_of(point))?;
+        let mut rest = number;
+        let mut free = None;
+        for product in self.known.products_of(point) {
+            let ends = self.ends_of(product.variable);
+            if product.coefficient == 0 {
+                continue;
+            }
+            if ends.low == ends.high {
+                let fixed = i128::from(product.coefficient).saturating_mul(i128::from(ends.low));
+                rest = rest.saturating_sub(fixed);
+            } else if free.is_some() {
+                return Ok(());
+            } else {
+                free = Some(*product);
+            }
+        }
+        match free {
+            Some(product) => match exact(rest, product.coefficient) {
+                Some(number) => self.cut(product.variable, number),
+                None => Ok(()),
+            },
+            None => if rest == 0 {
+                Err(Stop::NothingFound)
+            } else {
+                Ok(())
+            },
+        }
+    }
+
+    /// Takes a number from the bounds of a variable, where it is one of their ends.
+    fn cut(&mut self, variable: usize, number: i64) -> Result<(), Stop> {
+        let ends = self.ends_of(variable);
+        if number == ends.low {
+            self.tighten(variable, number.saturating_add(1), ends.high)
+        } else if number == ends.high {
+            self.tighten(variable, ends.low, number.saturating_sub(1))
+        } else {
+            Ok(())
+        }
+    }
+}

@@ -1,0 +1,57 @@
+//! The points of a model as a search keeps them.
+
+use crate::row::{Product, Rule};
+
+/// The points of a model: the variables of each, how it is visited, and what that costs.
+#[derive(Drop)]
+pub(crate) struct Points {
+    /// where the products of each point end
+    pub(crate) ends: Vec<usize>,
+    /// the variables of each point, each once, one point behind another
+    pub(crate) products: Vec<Product>,
+    /// how each point is visited
+    pub(crate) rules: Vec<Rule>,
+    /// one more than how many scalars each point has
+    pub(crate) costs: Vec<usize>,
+}
+
+/// The items of the list of a number, where all lists stand one behind another.
+pub(crate) fn items_of<'k, T>(items: &'k [T], ends: &[usize], number: usize) -> &'k [T] {
+    let first = match number.checked_sub(1) {
+        Some(before) => ends.get(before).copied().unwrap_or(0),
+        None => 0,
+    };
+    let end = ends.get(number).copied().unwrap_or(0);
+    if first <= end && end <= items.len() {
+        &items[first..end]
+    } else {
+        &[]
+    }
+}
+
+impl Points {
+    pub(crate) fn products_of(&self, point: usize) -> &[Product] {
+        items_of(&self.products, &self.ends, point)
+    }
+
+    pub(crate) fn rule_of(&self, point: usize) -> Rule {
+        match self.rules.get(point) {
+            Some(rule) => *rule,
+            None => Rule::Plain,
+        }
+    }
+
+    /// How many steps it takes to look at a point.
+    pub(crate) fn cost_of(&self, point: usize) -> usize {
+        self.costs.get(point).copied().unwrap_or(1)
+    }
+
+    /// How many steps it takes to look at all.
+    pub(crate) fn size(&self) -> usize {
+        let mut size = 0usize;
+        for cost in self.costs.iter() {
+            size = size.saturating_add(*cost);
+        }
+        size
+    }
+}

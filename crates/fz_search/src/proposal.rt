@@ -1,0 +1,165 @@
+//! The values so far: a partial assignment of the model at each step.
+
+ghost use Rattle.std.specs.Prelude.{◌≡◌, ◌↔◌, IfOk, IsTrue, Some};
+ghost use Rattle.fz_model.specs.Meaning.{IsPartial};
+ghost use Rattle.fz_model.specs.Steps.{kind_at};
+ghost use Rattle.fz_model.specs.Values.{kind_of};
+
+use fz_base::Value;
+use fz_model::{ConstraintParts, Kind, Model, Partial, PointParts, State, forced, state};
+use std::alloc::{AllocError, Global};
+
+/// Whether a value is of a kind.
+fn is_of(value: &Value, kind: Kind) -> bool
+    ensures { IsTrue result ↔ (kind_of value.now ≡ kind) }
+{
+    match value {
+        Value::Int(_) => matches!(kind, Kind::Int),
+        Value::Bool(_) => matches!(kind, Kind::Bool),
+        Value::Set(_) => matches!(kind, Kind::Set),
+    }
+}
+
+/// Whether a value is of the kind of the variable of a number.
+fn suits(model: &Model<'_>, number: usize, value: &Value) -> bool
+    ensures { IsTrue result → kind_at model.now number ≡ Some (kind_of value.now) }
+{
+    match model.variables().get(number) {
+        Some(variable) => is_of(value, variable.kind),
+        None => false,
+    }
+}
+
+/// Gives a variable without a value one of its kind, and tells whether it did.
+fn give(model: &Model<'_>, partial: &mut Partial, number: usize, value: Value) -> bool
+    requires fits { IsPartial model.now partial.old }
+    ensures fits { IsPartial model.now partial.new }
+{
+    if partial.has(number) || !suits(model, number, &value) {
+        return false;
+    }
+    partial.set(number, value);
+    true
+}
+
+/// No values, and room for all.
+fn nothing(alloc: Global, model: &Model<'_>) -> Result<Partial, AllocError>
+    ensures { IfOk result (IsPartial model.now) }
+{
+    let partial = Partial::new(alloc, model)?;
+    Ok(partial)
+}
+
+/// Takes the value of a variable away, where it has one.
+fn take_away(model: &Model<'_>, partial: &mut Partial, number: usize)
+    requires fits { IsPartial model.now partial.old }
+    ensures fits { IsPartial model.now partial.new }
+{
+    partial.take_away(number);
+}
+
+/// The same values, where each is of its variable's kind.
+pub(crate) fn copied(
+    alloc: Global,
+    model: &Model<'_>,
+    values: &Partial,
+) -> Result<Partial, AllocError>
+    ensures kinds { IfOk result (IsPartial model.now) }
+{
+    let mut partial = nothing(alloc, model)?;
+    for number in 0..model.variables().len() {
+        if let Some(value) = values.get(number) {
+            give(model, &mut partial, number, value.copy(alloc)?);
+        }
+    }
+    Ok(partial)
+}
+
+/// Values of some of a model's variables, each of its variable's kind.
+#[derive(Drop)]
+pub(crate) struct Proposal<'m, 'a> {
+    model: &'m Model<'a>,
+    partial: Partial,
+}
+
+impl<'m, 'a> std::marker::Model for Proposal<'m, 'a> {
+    ghost use Rattle.std.specs.Prelude.{List, Option};
+    ghost use Rattle.fz_base.specs.declared.value.Value.{Value as Held};
+    ghost use Rattle.fz_base.specs.contracts.sets.IntSet as the_set;
+    ghost use Rattle.std.specs.Coded.{codes};
+
+    ghost Value = { List (Option Held) };
+
+    ghost coded = { Prim.hlevel (codes, the_set.the_row.coded) };
+
+    ghost use Rattle.fz_model.specs.Meaning.{IsPartial};
+
+    ghost view = { λ p. p.partial };
+
+    ghost invariant = { λ p. IsPartial p.model.now p.partial };
+}
+
+impl<'m, 'a> Proposal<'m, 'a> {
+    pub(crate) fn new(
+        alloc: Global,
+        model: &'m Model<'a>,
+        filling: &Partial,
+    ) -> Result<Proposal<'m, 'a>, AllocError> {
+        let partial = copied(alloc, model, filling)?;
+        Ok(Proposal { model, partial })
+    }
+
+    pub(crate) fn model(&self) -> &'m Model<'a> {
+        self.model
+    }
+
+    pub(crate) fn values(&self) -> &Partial {
+        &self.partial
+    }
+
+    pub(crate) fn has(&self, number: usize) -> bool {
+        self.partial.has(number)
+    }
+
+    /// Gives a variable without a value one of its kind, and tells whether it did.
+    pub(crate) fn give(&mut self, number: usize, value: Value) -> bool {
+        give(self.model, &mut self.partial, number, value)
+    }
+
+    pub(crate) fn take_away(&mut self, number: usize) {
+        take_away(self.model, &mut self.partial, number);
+    }
+
+    /// The constraint that a point is, where it is one.
+    pub(crate) fn constraint(&self, point: usize) -> Option<ConstraintParts<'m, 'a>> {
+        if point >= self.model.points() {
+            return None;
+        }
+        match self.model.point_parts(point) {
+            PointParts::Constraint(parts) => Some(parts),
+            PointParts::Domain(..) | PointParts::Definition(..) | PointParts::Elements(..) => None,
+        }
+    }
+
+    /// The step that a point forces.
+    pub(crate) fn forced(
+        &self,
+        alloc: Global,
+        point: usize,
+    ) -> Result<Option<(usize, Value)>, AllocError> {
+        if point < self.model.points() {
+            forced(alloc, self.model, point, &self.partial)
+        } else {
+            Ok(None)
+        }
+    }
+
+    /// The state of a point.
+    pub(crate) fn state(&self, alloc: Global, point: usize) -> Result<State, AllocError> {
+        if point < self.model.points() {
+            state(alloc, self.model, point, &self.partial)
+        } else {
+            Ok(State::Unknown)
+        }
+    }
+}

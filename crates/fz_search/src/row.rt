@@ -1,0 +1,150 @@
+//! Linear rows: what a constraint says of a sum of products.
+
+use crate::ends::Ends;
+
+/// A variable of a point with its coefficient: 0 where it stands in no sum.
+#[derive(Clone, Copy)]
+pub(crate) struct Product {
+    pub(crate) variable: usize,
+    pub(crate) coefficient: i64,
+}
+
+/// A point of a variable, and the coefficient that the variable has there.
+#[derive(Clone, Copy)]
+pub(crate) struct Place {
+    pub(crate) point: usize,
+    pub(crate) coefficient: i64,
+}
+
+/// How a sum stands to a number.
+#[derive(Clone, Copy)]
+pub(crate) enum Relation {
+    AtMost(i128),
+    AtLeast(i128),
+    Equal(i128),
+    Unequal(i128),
+}
+
+/// What a constraint says of its relation.
+#[derive(Clone, Copy)]
+pub(crate) enum Claim {
+    Holds,
+    Fails,
+    /// that it holds exactly where this variable is true
+    Exactly(usize),
+    /// that it holds where this variable is true
+    Where(usize),
+}
+
+/// What a constraint says of the sum of its products.
+#[derive(Clone, Copy)]
+pub(crate) struct Row {
+    pub(crate) relation: Relation,
+    pub(crate) claim: Claim,
+}
+
+/// The least and the greatest that a sum can be.
+#[derive(Clone, Copy)]
+pub(crate) struct Sums {
+    pub(crate) least: i128,
+    pub(crate) most: i128,
+}
+
+/// How far the products of a sum can move: the place of the one that moves furthest, and how far
+/// each other one moves at most.
+#[derive(Clone, Copy)]
+pub(crate) struct Reach {
+    pub(crate) top: usize,
+    pub(crate) others: i128,
+}
+
+impl Sums {
+    /// The sums with the product of a coefficient and of what lies between some bounds.
+    pub(crate) fn with(self, coefficient: i64, ends: Ends) -> Sums {
+        let (low, high) = ends.times(coefficient);
+        Sums {
+            least: self.least.saturating_add(low),
+            most: self.most.saturating_add(high),
+        }
+    }
+
+    /// The sums without it.
+    pub(crate) fn without(self, coefficient: i64, ends: Ends) -> Sums {
+        let (low, high) = ends.times(coefficient);
+        Sums {
+            least: self.least.saturating_sub(low),
+            most: self.most.saturating_sub(high),
+        }
+    }
+}
+
+impl Relation {
+    /// What holds where this doesn't.
+    pub(crate) fn negated(self) -> Relation {
+        match self {
+            Relation::AtMost(number) => Relation::AtLeast(number.saturating_add(1)),
+            Relation::AtLeast(number) => Relation::AtMost(number.saturating_sub(1)),
+            Relation::Equal(number) => Relation::Unequal(number),
+            Relation::Unequal(number) => Relation::Equal(number),
+        }
+    }
+
+    /// The same of a sum without this constant in it.
+    pub(crate) fn without(self, constant: i128) -> Relation {
+        match self {
+            Relation::AtMost(number) => Relation::AtMost(number.saturating_sub(constant)),
+            Relation::AtLeast(number) => Relation::AtLeast(number.saturating_sub(constant)),
+            Relation::Equal(number) => Relation::Equal(number.saturating_sub(constant)),
+            Relation::Unequal(number) => Relation::Unequal(number.saturating_sub(constant)),
+        }
+    }
+
+    /// Whether it holds, where the bounds of the sum tell.
+    pub(crate) fn decided(self, sums: Sums) -> Option<bool> {
+        match self {
+            Relation::AtMost(number) => is_at_most(sums, number),
+            Relation::AtLeast(number) => {
+                let below = is_at_most(sums, number.saturating_sub(1))?;
+                Some(!below)
+            }
+            Relation::Equal(number) => is_equal(sums, number),
+            Relation::Unequal(number) => {
+                let equal = is_equal(sums, number)?;
+                Some(!equal)
+            }
+        }
+    }
+}
+
+fn is_at_most(sums: Sums, number: i128) -> Option<bool> {
+    if sums.most <= number {
+        Some(true)
+    } else if sums.least > number {
+        Some(false)
+    } else {
+        None
+    }
+}
+
+fn is_equal(sums: Sums, number: i128) -> Option<bool> {
+    if number < sums.least || sums.most < number {
+        Some(false)
+    } else if sums.least == sums.most {
+        Some(true)
+    } else {
+        None
+    }
+}
+
+/// How a point is visited.
+#[derive(Clone, Copy)]
+pub(crate) enum Rule {
+    /// as a linear row
+    Linear(Row),
+    /// as an element of an array of variables, by its index
+    Element,
+    /// as counts or loads, by what is counted or packed
+    Tally,
+    /// where all of its variables but one have values
+    Plain,
+}

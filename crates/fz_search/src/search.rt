@@ -1,0 +1,134 @@
+//! The search for values.
+
+ghost use Rattle.std.specs.Prelude.{IfOk, IfSome};
+ghost use Rattle.fz_model.specs.Meaning.{IsPartial};
+
+use crate::ends::End;
+use crate::index::Search;
+use crate::proposal::copied;
+use crate::row::Rule;
+use crate::stop::Stop;
+use crate::work::Work;
+use fz_model::{Goal, Model, Partial, Term};
+use std::alloc::{AllocError, Global};
+
+/// A variable whose value is to be small, or great.
+#[derive(Clone, Copy)]
+enum Objective {
+    Least(usize),
+    Greatest(usize),
+}
+
+/// The variable that is minimized or maximized.
+fn objective_of(goal: &Goal) -> Option<Objective> {
+    match goal {
+        Goal::Satisfy => None,
+        Goal::Minimize(Term::Var(number)) => Some(Objective::Least(*number)),
+        Goal::Maximize(Term::Var(number)) => Some(Objective::Greatest(*number)),
+        Goal::Minimize(Term::Fixed(_)) | Goal::Maximize(Term::Fixed(_)) => None,
+    }
+}
+
+/// From which end a variable takes its value. The worst that an objective can be leaves later
+/// blocks the most room.
+fn end_for(objective: Option<Objective>, variable: usize) -> End {
+    match objective {
+        Some(Objective::Least(number)) => {
+            if number == variable {
+                End::High
+            } else {
+                End::Low
+            }
+        }
+        Some(Objective::Greatest(_)) => End::Low,
+        None => End::Low,
+    }
+}
+
+impl<'k, 'm, 'a> Work<'k, 'm, 'a> {
+    /// Asks for an objective that is better than the one before.
+    fn improve(&mut self, objective: Option<Objective>, before: Option<i64>) -> Result<(), Stop> {
+        let Some(before) = before else {
+            return Ok(());
+        };
+        match objective {
+            Some(Objective::Least(number)) => {
+                self.tighten(number, i64::MIN, before.saturating_sub(1))
+            }
+            Some(Objective::Greatest(number)) => {
+                self.tighten(number, before.saturating_add(1), i64::MAX)
+            }
+            None => Ok(()),
+        }
+    }
+
+    /// Visits the points that wait until none does.
+    fn settle(&mut self) -> Result<(), Stop> {
+        for _ in 0..self.steps_left() {
+            let Some(point) = self.next_point() else {
+                return Ok(());
+            };
+            self.visit(1)?;
+            match self.known.rule_of(point) {
+                Rule::Linear(row) => self.visit_row(point, row)?,
+                Rule::Element => self.visit_element(point)?,
+                Rule::Tally => self.visit_tally(point)?,
+                Rule::Plain => self.visit_lone(point)?,
+            }
+        }
+        Err(Stop::NothingFound)
+    }
+
+    /// Gives each variable a value.
+    fn complete(&mut self, objective: Option<Objective>, before: Option<i64>) -> Result<(), Stop> {
+        for point in 0..self.proposal.model().points() {
+            self.wake(point)?;
+        }
+        self.improve(objective, before)?;
+        self.settle()?;
+        for variable in 0..self.proposal.model().variables().len() {
+            if !self.proposal.has(variable) {
+                self.guess(variable, end_for(objective, variable))?;
+                self.settle()?;
+            }
+        }
+        Ok(())
+    }
+}
+
+/// What is known of a model, made where it isn't known.
+fn known_of<'k>(
+    alloc: Global,
+    model: &Model<'_>,
+    known: &'k mut Option<Search>,
+) -> Result<&'k Search, AllocError> {
+    if known.is_none() {
+        *known = Some(Search::new(alloc, model)?);
+    }
+    match known {
+        Some(search) => Ok(search),
+        None => Err(AllocError),
+    }
+}
+
+/// Proposes values for the variables that have none, where it finds no contradiction on the way.
+/// Nothing is promised of them but that they are of their variables' kinds: whoever asks judges
+/// them. It never goes back, and refuses only where memory runs out.
+pub fn propose(
+    alloc: Global,
+    model: &Model<'_>,
+    filling: &Partial,
+    before: Option<i64>,
+    known: &mut Option<Search>,
+) -> Result<Option<Partial>, AllocError>
+    requires fits { IsPartial model.now filling.now }
+    ensures kinds { IfOk result (λ o. IfSome o (IsPartial model.now)) }
+{
+    let known = known_of(alloc, model, known)?;
+    let mut work = Work::new(alloc, known, model, filling)?;
+    match work.complete(objective_of(model.goal()), before) {
+        Ok(()) => Ok(Some(copied(alloc, model, work.proposal.values())?)),
+        Err(Stop::NothingFound) => Ok(None),
+        Err(Stop::Memory) => Err(AllocError),
+    }
+}

@@ -1,0 +1,23 @@
+//! Why a search ends without values.
+
+use std::alloc::{AllocError, AllocFailed};
+
+/// Why a search ends without values.
+#[derive(Clone, Copy, Debug)]
+pub(crate) enum Stop {
+    /// a contradiction was met, or the budget is spent
+    NothingFound,
+    Memory,
+}
+
+impl From<AllocError> for Stop {
+    fn from(_e: AllocError) -> Stop {
+        Stop::Memory
+    }
+}
+
+impl<T: Drop> From<AllocFailed<T>> for Stop {
+    fn from(_e: AllocFailed<T>) -> Stop {
+        Stop::Memory
+    }
+}

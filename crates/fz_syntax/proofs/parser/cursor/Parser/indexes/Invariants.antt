@@ -1,0 +1,19 @@
+use Rattle.std.proofs.Common.{◌≡◌, ◌≤◌, length}
+use Rattle.fz_lex.specs.declared.token.Mark.TheVariants.{Comma}
+use Rattle.fz_syntax.specs.Walk.{Passed, lexemes}
+use Rattle.fz_syntax.specs.Reading.{indexes_at}
+use Rattle.fz_syntax.specs.Shape.{the_limits}
+use Rattle.fz_syntax.proofs.ItemLaws.{listed_index}
+use Rattle.fz_syntax.proofs.Running.{Continues}
+use Rattle.fz_syntax.proofs.parser.cursor.Parser.indexes.Given as goal
+
+abbrev pub invariant-loop-self : goal.invariant-loop-self
+invariant-loop-self l = record {
+  continues : Continues Comma (listed_index the_limits) l.indexes.items (lexemes l.self) (indexes_at the_limits (lexemes l.fn.self));
+  shorter : length (lexemes l.self) ≤ length (lexemes l.fn.self);
+  same_end : l.self.end ≡ l.fn.self.end;
+  walked : Passed l.fn.self l.self;
+}
+
+abbrev pub decreases-loop-self : goal.decreases-loop-self
+decreases-loop-self l = length (lexemes l.self)
