@@ -1,3 +1,4 @@
+use crate::pages::VERSION;
 use clap::error::ErrorKind;
 use clap::{Arg, ArgAction, ArgMatches, Command, Error};
 use fz_check::Completion;
@@ -9,20 +10,41 @@ pub enum Request<'a> {
     /// Print the canonical text of the model in a file.
     Show {
         model: &'a str,
+        printing: Printing,
     },
     /// Check the stream in a file, or on standard input, against the model in a file.
     Check {
         model: &'a str,
         stream: Option<&'a str>,
-        completion: Completion,
+        options: CheckOptions,
     },
 }
 
-/// Why the words ask for nothing.
+/// Which variables a model that is shown asks a solver to print.
 #[derive(Clone, Copy)]
+pub enum Printing {
+    AsWritten,
+    All,
+}
+
+/// How a check goes on.
+#[derive(Clone, Copy)]
+pub struct CheckOptions {
+    /// Whether values that the solver left out are looked for.
+    pub completion: Completion,
+    /// Whether a refusal is explained.
+    pub explains: bool,
+}
+
+/// Why no command is carried out.
+#[derive(Drop)]
 pub enum Refused {
-    /// They are wrong, or ask for help.
-    Usage,
+    /// The words ask for help.
+    Help,
+    /// The words ask for the version.
+    Version,
+    /// The words are wrong, and how.
+    Wrong(Error),
     /// There is no memory to read them.
     Memory,
 }
@@ -37,7 +59,9 @@ impl From<Error> for Refused {
     fn from(error: Error) -> Refused {
         match error.kind() {
             ErrorKind::OutOfMemory => Refused::Memory,
-            _ => Refused::Usage,
+            ErrorKind::DisplayHelp => Refused::Help,
+            ErrorKind::DisplayVersion => Refused::Version,
+            _ => Refused::Wrong(error),
         }
     }
 }
@@ -55,22 +79,33 @@ fn request_of<'a>(matches: &ArgMatches<'a>) -> Result<Request<'a>, Refused> {
     match matches.subcommand() {
         Some(("show", given)) => Ok(Request::Show {
             model: model_of(given)?,
+            printing: printing_of(given),
         }),
         Some(("check", given)) => Ok(Request::Check {
             model: model_of(given)?,
             stream: given.get_str("STREAM"),
-            completion: completion_of(given),
+            options: CheckOptions {
+                completion: completion_of(given),
+                explains: given.get_flag("explain"),
+            },
         }),
-        _ => Err(Refused::Usage),
+        _ => Err(Refused::Help),
     }
 }
 
 /// The file of the model, which both commands require.
 fn model_of<'a>(given: &ArgMatches<'a>) -> Result<&'a str, Refused> {
-    given.get_str("MODEL").ok_or(Refused::Usage)
+    given.get_str("MODEL").ok_or(Refused::Help)
 }
 
-/// Whether values that the solver left out are to be looked for.
+fn printing_of(given: &ArgMatches<'_>) -> Printing {
+    if given.get_flag("print-all") {
+        Printing::All
+    } else {
+        Printing::AsWritten
+    }
+}
+
 fn completion_of(given: &ArgMatches<'_>) -> Completion {
     if given.get_flag("complete") {
         Completion::On
@@ -89,19 +124,27 @@ fn over_model<'a>(alloc: Global, name: &'a str) -> Result<Command<'a>, AllocErro
     Command::new(alloc, name).arg(file_word(alloc, "MODEL").required(true))
 }
 
+/// A word that is said or not.
+fn flag<'a>(alloc: Global, name: &'a str) -> Arg<'a> {
+    Arg::new(alloc, name).long(name).action(ArgAction::SetTrue)
+}
+
+fn show_command<'a>(alloc: Global) -> Result<Command<'a>, AllocError> {
+    over_model(alloc, "show")?.arg(flag(alloc, "print-all"))
+}
+
 fn check_command<'a>(alloc: Global) -> Result<Command<'a>, AllocError> {
-    let complete = Arg::new(alloc, "complete")
-        .long("complete")
-        .action(ArgAction::SetTrue);
     over_model(alloc, "check")?
         .arg(file_word(alloc, "STREAM"))?
-        .arg(complete)
+        .arg(flag(alloc, "complete"))?
+        .arg(flag(alloc, "explain"))
 }
 
 /// The program with the first of its commands.
 fn program<'a>(alloc: Global) -> Result<Command<'a>, AllocError> {
-    let show = over_model(alloc, "show")?;
+    let show = show_command(alloc)?;
     Command::new(alloc, "fzcheck")
+        .version(VERSION)
         .subcommand_required(true)
         .subcommand(show)
 }
