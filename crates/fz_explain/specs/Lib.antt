@@ -2,3 +2,4 @@ pub mod Firsts
 pub mod Sources
 pub mod Spots
 pub mod Told
+pub mod Explained

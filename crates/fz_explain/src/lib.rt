@@ -2,6 +2,7 @@
 //! variables in it, and where the value of each is from.
 #![tactic(auto)]
 
+mod explained;
 mod failing;
 mod giving;
 mod place;
@@ -9,7 +10,8 @@ mod printing;
 mod source;
 mod variables;
 
+pub use explained::{Explained, Explanation, FIRST_VARIABLES, explain};
 pub use failing::{Sought, first_point};
 pub use place::point_place;
-pub use source::{Source, source_of};
+pub use source::Source;
 pub use variables::variables_of;

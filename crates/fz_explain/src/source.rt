@@ -30,7 +30,7 @@ pub enum Source {
 /// # Errors
 ///
 /// Want of memory.
-pub fn source_of(
+pub(crate) fn source_of(
     alloc: Global,
     model: &Model<'_>,
     items: &[Printed<'_>],

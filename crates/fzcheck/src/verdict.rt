@@ -9,17 +9,15 @@ use crate::recent::Told;
 use crate::texts::{domain_text, help_for, value_text};
 use fz_base::Span;
 use fz_check::fill;
-use fz_explain::{Sought, Source as FromWhere, first_point, point_place, source_of, variables_of};
+use fz_explain::{
+    Explained, FIRST_VARIABLES, Sought, Source as FromWhere, explain, first_point, point_place,
+    variables_of,
+};
 use fz_model::{Goal, Model, Partial, Point, Scalar, Term, What, load_text, scalar_at};
 use fz_places::spot_of;
 use fz_stream::{Block, blocks};
 use fz_syntax::{Ast, Basic, Goal as GoalItem, Printed, parse};
 use std::alloc::{AllocError, Global};
-
-/// The most variables that are told, and how many of them from the front where there are more.
-const MOST_VARIABLES: usize = 12;
-
-const FROM_FRONT: usize = 8;
 
 /// A verdict to be explained: what the report says of the block, behind its number, and the
 /// sources.
@@ -187,37 +185,28 @@ fn add_variables(
 ) -> Result<(), AllocError>
     requires fits { IsPartial scene.now.model.now filling.old }
 {
-    let count = variables.len();
-    let is_long = count > MOST_VARIABLES;
-    for (place, variable) in variables.iter().enumerate() {
-        let is_last = place.saturating_add(MOST_VARIABLES) >= count.saturating_add(FROM_FRONT);
-        if !is_long || place < FROM_FRONT || is_last {
-            notes.add(&variable_text(alloc, scene, filling, *variable)?)?;
-        } else if place == FROM_FRONT {
-            let left = count.saturating_sub(MOST_VARIABLES);
-            notes.add(&format!(in alloc; "... and {} more ...", left)?)?;
+    let told = explain(alloc, scene.model, &scene.block.items, filling, variables)?;
+    for (place, explained) in told.variables.iter().enumerate() {
+        if place == FIRST_VARIABLES && told.left_out > 0 {
+            notes.add(&format!(in alloc; "... and {} more ...", told.left_out)?)?;
         }
+        notes.add(&explained_text(alloc, scene, explained)?)?;
     }
     Ok(())
 }
 
 /// A variable, its value, and where that is from.
-fn variable_text(
+fn explained_text(
     alloc: Global,
     scene: &Scene<'_, '_>,
-    filling: &mut Partial,
-    variable: usize,
-) -> Result<String, AllocError>
-    requires fits { IsPartial scene.now.model.now filling.old }
-    ensures same { filling.new ≡ filling.old }
-{
-    let source = source_of(alloc, scene.model, &scene.block.items, filling, variable)?;
-    let name = match scene.model.variables().get(variable) {
+    explained: &Explained,
+) -> Result<String, AllocError> {
+    let name = match scene.model.variables().get(explained.variable) {
         Some(variable) => shown(alloc, variable.name)?,
         None => String::new(alloc),
     };
-    let from = source_text(alloc, scene, source)?;
-    match filling.get(variable) {
+    let from = source_text(alloc, scene, explained.source)?;
+    match &explained.value {
         Some(value) => {
             let value = value_text(alloc, value)?;
             format!(in alloc; "{} = {}, {}", name, value, from)
@@ -286,7 +275,7 @@ fn objective_explanation(
         .model
         .goal()
     {
-        notes.add(&variable_text(alloc, scene, filling, *variable)?)?;
+        add_variables(alloc, &mut notes, scene, filling, &[*variable])?;
     }
     let before = case.told.number.saturating_sub(1);
     notes.add(&format!(in alloc; "the other value is that of block {}", before)?)?;

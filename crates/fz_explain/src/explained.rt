@@ -1,0 +1,120 @@
+//! What is told of variables: their values, and where these are from.
+
+ghost use Rattle.std.specs.Prelude.{◌≡◌, ◌-◌, IfOk, length, map};
+ghost use Rattle.std.specs.List.{AllByRecursion};
+ghost use Rattle.fz_model.specs.Meaning.{IsPartial};
+ghost use Rattle.fz_verdict.specs.View.{located_items};
+ghost use Rattle.fz_explain.specs.Explained.{IsTold, shortened};
+
+use crate::source::{Source, source_of};
+use fz_base::Value;
+use fz_model::{Model, Partial};
+use fz_syntax::Printed;
+use std::alloc::{AllocError, Global};
+
+/// The most variables that are told.
+const MOST_VARIABLES: usize = 12;
+
+/// How many of them are the first ones, where there are more; the others are the last ones.
+pub const FIRST_VARIABLES: usize = 8;
+
+/// A variable, its value where it has one, and where that is from.
+#[derive(Debug, Drop)]
+pub struct Explained {
+    pub variable: usize,
+    pub value: Option<Value>,
+    pub source: Source,
+}
+
+/// What is told of variables, in their order, and how many are left out behind the first ones.
+#[derive(Debug, Drop)]
+pub struct Explanation {
+    pub variables: Vec<Explained>,
+    pub left_out: usize,
+}
+
+/// All the variables, or of many the first ones and the last ones.
+fn shorten(alloc: Global, variables: &[usize]) -> Result<Vec<usize>, AllocError>
+    ensures { IfOk result (λ v. v.items ≡ shortened variables.now) }
+{
+    let count = variables.len();
+    if count <= MOST_VARIABLES {
+        return Vec::from_slice(alloc, variables);
+    }
+    let mut shown = Vec::from_slice(alloc, &variables[..FIRST_VARIABLES])?;
+    shown.extend_from_slice(&variables[count - (MOST_VARIABLES - FIRST_VARIABLES)..])?;
+    Ok(shown)
+}
+
+/// What is told of a variable.
+fn explain_variable(
+    alloc: Global,
+    model: &Model<'_>,
+    items: &[Printed<'_>],
+    filling: &mut Partial,
+    variable: usize,
+) -> Result<Explained, AllocError>
+    requires fits { IsPartial model.now filling.old }
+    ensures told { IfOk result (IsTold model.now (located_items items.now) filling.old variable) }
+    ensures same { filling.new ≡ filling.old }
+{
+    let source = source_of(alloc, model, items, filling, variable)?;
+    let value = match filling.get(variable) {
+        Some(value) => Some(value.copy(alloc)?),
+        None => None,
+    };
+    Ok(Explained {
+        variable,
+        value,
+        source,
+    })
+}
+
+/// What is told of each of these variables.
+fn explain_variables(
+    alloc: Global,
+    model: &Model<'_>,
+    items: &[Printed<'_>],
+    filling: &mut Partial,
+    variables: &[usize],
+) -> Result<Vec<Explained>, AllocError>
+    requires fits { IsPartial model.now filling.old }
+    ensures variables { IfOk result (λ v. map (λ e. e.variable) v.items ≡ variables.now) }
+    ensures told { IfOk result (λ v. AllByRecursion (λ e. IsTold model.now (located_items items.now) filling.old e.variable e) v.items) }
+    ensures same { filling.new ≡ filling.old }
+{
+    let mut told = Vec::new(alloc);
+    for variable in variables {
+        told.push(explain_variable(alloc, model, items, filling, *variable)?)?;
+    }
+    Ok(told)
+}
+
+/// What is told of variables under the filling of a block with these items, which is as before: of
+/// all of a dozen, or of more of the first eight and the last four.
+///
+/// # Errors
+///
+/// Want of memory.
+pub fn explain(
+    alloc: Global,
+    model: &Model<'_>,
+    items: &[Printed<'_>],
+    filling: &mut Partial,
+    variables: &[usize],
+) -> Result<Explanation, AllocError>
+    requires fits { IsPartial model.now filling.old }
+    ensures variables { IfOk result (λ x. map (λ e. e.variable) x.variables.items ≡ shortened variables.now) }
+    // Each has its value under the filling, with where that is from.
+    ensures told { IfOk result (λ x. AllByRecursion (λ e. IsTold model.now (located_items items.now) filling.old e.variable e) x.variables.items) }
+    ensures left_out { IfOk result (λ x. x.left_out ≡ length variables.now - length x.variables.items) }
+    ensures same { filling.new ≡ filling.old }
+{
+    let shown = shorten(alloc, variables)?;
+    let told = explain_variables(alloc, model, items, filling, &shown)?;
+    let left_out = variables.len().saturating_sub(told.len());
+    Ok(Explanation {
+        variables: told,
+        left_out,
+    })
+}
