@@ -8,9 +8,14 @@ use Rattle.fz_syntax.specs.View.{bare}
 use Rattle.fz_syntax.specs.declared.tree.Ast as the_ast
 use Rattle.fz_syntax.proofs.PrintBack.{read_can_be_written}
 use Rattle.fz_model.specs.Names.{HasNoFault}
+use Rattle.fz_model.specs.Located.{bare_of}
 use Rattle.fz_model.specs.View.{located}
 use Rattle.fz_model.proofs.Places.{located_is_bare}
-use Rattle.fz_check.specs.Shown.{IsShown}
+use Rattle.fz_outputs.specs.Outputs.{with_all_printed}
+use Rattle.fz_outputs.proofs.Tokens.{can_be_written}
+use Rattle.fz_outputs.proofs.Same.{same_model}
+use Rattle.fz_outputs.proofs.Sound.{no_fault_still}
+use Rattle.fz_check.specs.Shown.{IsShown, IsShownPrintingAll}
 
 pub shown_of : (model shown : List ℕ) (a : the_ast.Ast) → IsTextOfTree model (bare a) → HasNoFault (located a) → shown ≡ tree_text (bare a)
     → (CanBeWritten (bare a) → LexesWithNumbersInLimit shown (toks (bare a))) → IsShown model shown
@@ -21,3 +26,20 @@ shown_of model shown a text sound layout back = record {
   layout = layout ∙ ap tree_text (sym (located_is_bare a));
   reads_back = subst (λ t. LexesWithNumbersInLimit shown (toks t)) (sym (located_is_bare a)) (back (read_can_be_written model (bare a) text));
 }
+
+-- of a tree that was read, and of what became of it
+pub shown_printing_all : (model shown : List ℕ) (a b : the_ast.Ast) → IsTextOfTree model (bare a) → HasNoFault (located a) → located b ≡ with_all_printed (located a) → shown ≡ tree_text (bare b)
+    → (CanBeWritten (bare b) → LexesWithNumbersInLimit shown (toks (bare b))) → IsShownPrintingAll model shown
+shown_printing_all model shown a b text sound is layout back =
+    let same : bare b ≡ bare_of (with_all_printed (located a)) = sym (located_is_bare b) ∙ ap bare_of is in
+    let read : CanBeWritten (bare_of (located a)) = subst CanBeWritten (sym (located_is_bare a)) (read_can_be_written model (bare a) text) in
+    let written : CanBeWritten (bare b) = subst CanBeWritten (sym same) (can_be_written (located a) read) in
+    record {
+      tree = located a;
+      text_of_model = subst (IsTextOfTree model) (sym (located_is_bare a)) text;
+      no_fault = sound;
+      layout = layout ∙ ap tree_text same;
+      reads_back = subst (λ t. LexesWithNumbersInLimit shown (toks t)) same (back written);
+      no_fault_then = no_fault_still (located a) sound;
+      same_model = same_model (located a);
+    }

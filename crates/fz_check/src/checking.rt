@@ -20,7 +20,7 @@ ghost use Rattle.fz_check.specs.Headline.{HasSolutions};
 ghost use Rattle.fz_check.specs.Over.{HoldsOfModel};
 ghost use Rattle.fz_check.specs.Refused.{HasBlockFault, HasNameFault, HasStreamFault, HasTextFault, IsFirstFault};
 ghost use Rattle.fz_check.specs.Reported.{HasReport};
-ghost use Rattle.fz_check.specs.Shown.{IsShown};
+ghost use Rattle.fz_check.specs.Shown.{IsShown, IsShownPrintingAll};
 ghost use Rattle.fz_check.specs.Loading.{
   IsCheckRefusal,
   IsJudgingRefusal,
@@ -41,6 +41,7 @@ use fz_live::Answer;
 use fz_live::fz_judge::fz_verdict::Completion;
 use fz_live::fz_judge::{BlockError, Judge, Verdict};
 use fz_model::{LoadError, Model, ModelError, load, load_text};
+use fz_outputs::print_all;
 use fz_stream::{Block, Stream, StreamError, blocks};
 use fz_syntax::{Ast, SyntaxError, parse, to_text};
 use std::alloc::Global;
@@ -212,6 +213,29 @@ pub fn show(alloc: Global, model: &[u8]) -> Result<Vec<u8>, CheckError>
 {
     let ast = read_tree(alloc, model)?;
     load_tree(alloc, &ast)?;
+    let text = to_text(alloc, &ast)?;
+    Ok(text)
+}
+
+/// As `show`, with `:: output_var` behind each scalar variable that lacks it. A solver that runs
+/// this model prints the value of every variable, and what it prints can be checked against the
+/// first model too.
+///
+/// # Errors
+///
+/// As `show`.
+pub fn show_printing_all(alloc: Global, model: &[u8]) -> Result<Vec<u8>, CheckError>
+    // The bytes are a text of a tree without faults, and the text is that tree's, with the annotation at each scalar variable. It has
+    // the same names, domains, constraints and objective: it is a text of the same model.
+    ensures shown { IfOk result (λ text. IsShownPrintingAll model.now text.items) }
+    // It is refused only where the bytes are a text of no tree, or with the leftmost fault of its names.
+    ensures model { (e : SyntaxFault) → result ≡ Err (CheckError.Model e) → HasTextFault model.now e }
+    ensures names { (e : NameFault) → result ≡ Err (CheckError.Names e) → HasNameFault model.now e }
+    ensures kinds { IfErr result IsModelRefusal }
+{
+    let mut ast = read_tree(alloc, model)?;
+    load_tree(alloc, &ast)?;
+    print_all(alloc, &mut ast)?;
     let text = to_text(alloc, &ast)?;
     Ok(text)
 }

@@ -7,7 +7,7 @@ mod live;
 mod refusal;
 mod report;
 
-pub use checking::{check, show};
+pub use checking::{check, show, show_printing_all};
 pub use error::CheckError;
 pub use fz_live::Answer;
 pub use fz_live::fz_judge::fz_verdict::Completion;

@@ -2,19 +2,22 @@
 #![tactic(auto)]
 
 mod files;
+mod pages;
 mod words;
 
+use clap::Error;
 use files::read_up_to;
 use fz_check::{
     CheckError, Completion, MOST_READS, check_stream_up_to, refusal_text, show, status,
 };
+use pages::{HELP, USAGE, VERSION};
 use std::io::{Read, Write};
 use std::os::fd::AsFd;
 use std::process::ExitCode;
 use std::{env, fs, io};
 use words::{Refused, Request, read_words};
 
-/// The status where a model was shown.
+/// The status where a model or the version was shown.
 const SHOWN: u8 = 0;
 
 /// The status where the words of the command line are wrong.
@@ -46,7 +49,9 @@ fn run(rt: &HostRuntime) -> u8 {
                 completion,
             },
         ) => check_files(rt, model, stream, completion),
-        Err(Refused::Usage) => refuse_usage(rt),
+        Err(Refused::Help) => show_help(rt),
+        Err(Refused::Version) => show_version(rt),
+        Err(Refused::Wrong(error)) => refuse_wrong(rt, &error),
         Err(Refused::Memory) => refuse(rt, &CheckError::Memory),
     }
 }
@@ -60,8 +65,34 @@ fn refuse_words(rt: &HostRuntime, kind: io::ErrorKind) -> u8 {
 }
 
 fn refuse_usage(rt: &HostRuntime) -> u8 {
-    let _ = eprintln!(rt; "usage: fzcheck show MODEL | check [--complete] MODEL [STREAM]");
+    let _ = eprintln!(rt; "{USAGE}");
     WRONG_WORDS
+}
+
+/// Tells which words are wrong: the first paragraph of what the reader of words says, since what
+/// follows there is its own usage.
+fn refuse_wrong(rt: &HostRuntime, error: &Error) -> u8 {
+    let Ok(text) = format!(in rt.alloc(); "{error}") else {
+        return refuse(rt, &CheckError::Memory);
+    };
+    let told = match text.split_once("\n\n") {
+        Some((told, _)) => told,
+        None => text.as_str(),
+    };
+    let _ = eprintln!(rt; "{USAGE}\n{told}");
+    WRONG_WORDS
+}
+
+fn show_help(rt: &HostRuntime) -> u8 {
+    let _ = print!(rt; "{HELP}");
+    refuse_usage(rt)
+}
+
+fn show_version(rt: &HostRuntime) -> u8 {
+    match println!(rt; "{VERSION}") {
+        Ok(()) => SHOWN,
+        Err(_) => refuse(rt, &CheckError::Write),
+    }
 }
 
 /// Tells a refusal on standard error, and gives its status.

@@ -1,3 +1,4 @@
+use crate::pages::VERSION;
 use clap::error::ErrorKind;
 use clap::{Arg, ArgAction, ArgMatches, Command, Error};
 use fz_check::Completion;
@@ -18,11 +19,15 @@ pub enum Request<'a> {
     },
 }
 
-/// Why the words ask for nothing.
-#[derive(Clone, Copy)]
+/// Why no command is carried out.
+#[derive(Drop)]
 pub enum Refused {
-    /// They are wrong, or ask for help.
-    Usage,
+    /// The words ask for help.
+    Help,
+    /// The words ask for the version.
+    Version,
+    /// The words are wrong, and how.
+    Wrong(Error),
     /// There is no memory to read them.
     Memory,
 }
@@ -37,7 +42,9 @@ impl From<Error> for Refused {
     fn from(error: Error) -> Refused {
         match error.kind() {
             ErrorKind::OutOfMemory => Refused::Memory,
-            _ => Refused::Usage,
+            ErrorKind::DisplayHelp => Refused::Help,
+            ErrorKind::DisplayVersion => Refused::Version,
+            _ => Refused::Wrong(error),
         }
     }
 }
@@ -61,13 +68,13 @@ fn request_of<'a>(matches: &ArgMatches<'a>) -> Result<Request<'a>, Refused> {
             stream: given.get_str("STREAM"),
             completion: completion_of(given),
         }),
-        _ => Err(Refused::Usage),
+        _ => Err(Refused::Help),
     }
 }
 
 /// The file of the model, which both commands require.
 fn model_of<'a>(given: &ArgMatches<'a>) -> Result<&'a str, Refused> {
-    given.get_str("MODEL").ok_or(Refused::Usage)
+    given.get_str("MODEL").ok_or(Refused::Help)
 }
 
 /// Whether values that the solver left out are to be looked for.
@@ -102,6 +109,7 @@ fn check_command<'a>(alloc: Global) -> Result<Command<'a>, AllocError> {
 fn program<'a>(alloc: Global) -> Result<Command<'a>, AllocError> {
     let show = over_model(alloc, "show")?;
     Command::new(alloc, "fzcheck")
+        .version(VERSION)
         .subcommand_required(true)
         .subcommand(show)
 }

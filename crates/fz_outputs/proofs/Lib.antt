@@ -1,0 +1,5 @@
+pub mod Tokens
+pub mod Same
+pub mod Sound
+pub mod Fronts
+pub mod Notes

@@ -1,0 +1,84 @@
+//! The tree of a model that asks for every scalar variable to be printed.
+#![tactic(auto)]
+
+ghost use Rattle.std.specs.Prelude.{◌≡◌, OnOk, map};
+ghost use Rattle.std.specs.List.{list_any};
+ghost use Rattle.fz_syntax.specs.View.{bare_note, bare_notes};
+ghost use Rattle.fz_meaning.specs.Names.{is_scalar_variable};
+ghost use Rattle.fz_meaning.specs.View.{located, located_decl};
+ghost use Rattle.fz_outputs.specs.Outputs.{is_output_var, is_unprinted, printed_decl, with_all_printed};
+
+use fz_base::Span;
+use fz_syntax::{Ast, Decl, Name, Note};
+use std::alloc::{AllocError, Global};
+
+/// The name of the annotation of a variable that a solver is to print.
+const OUTPUT_VAR: &[u8] = b"output_var";
+
+/// Where an annotation stands that is in no source.
+const NOWHERE: Span = Span { start: 0, end: 0 };
+
+fn is_output_var(note: &Note<'_>) -> bool
+    ensures { result ≡ is_output_var (bare_note note.now) }
+{
+    note.name.text == OUTPUT_VAR && note.args.is_empty()
+}
+
+fn has_output_var(notes: &[Note<'_>]) -> bool
+    ensures { result ≡ list_any is_output_var (bare_notes notes.now) }
+{
+    for note in notes {
+        if is_output_var(note) {
+            return true;
+        }
+    }
+    false
+}
+
+fn is_scalar_variable(decl: &Decl<'_>) -> bool
+    ensures { result ≡ is_scalar_variable (located_decl decl.now) }
+{
+    decl.is_var && decl.length.is_none()
+}
+
+/// Whether a scalar variable is declared here that a solver isn't asked to print.
+fn is_unprinted(decl: &Decl<'_>) -> bool
+    ensures { result ≡ is_unprinted (located_decl decl.now) }
+{
+    is_scalar_variable(decl) && !has_output_var(&decl.notes)
+}
+
+/// Adds `:: output_var` to a declaration that wants it.
+fn print_decl(alloc: Global, decl: &mut Decl<'_>) -> Result<(), AllocError>
+    ensures { OnOk result (located_decl decl.new ≡ printed_decl (located_decl decl.old)) }
+{
+    if is_unprinted(decl) {
+        let name = Name {
+            text: OUTPUT_VAR,
+            span: NOWHERE,
+        };
+        let args = Vec::new(alloc);
+        decl.notes.push(Note { name, args })?;
+    }
+    Ok(())
+}
+
+fn print_decls(alloc: Global, decls: &mut [Decl<'_>]) -> Result<(), AllocError>
+    ensures { OnOk result (map located_decl decls.new ≡ map printed_decl (map located_decl decls.old)) }
+{
+    for decl in decls.iter_mut() {
+        print_decl(alloc, decl)?;
+    }
+    Ok(())
+}
+
+/// Adds `:: output_var` to each scalar variable that lacks it. All else stays as it is.
+///
+/// # Errors
+///
+/// Want of memory.
+pub fn print_all(alloc: Global, ast: &mut Ast<'_>) -> Result<(), AllocError>
+    ensures { OnOk result (located ast.new ≡ with_all_printed (located ast.old)) }
+{
+    print_decls(alloc, &mut ast.decls)
+}

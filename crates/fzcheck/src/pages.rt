@@ -1,0 +1,38 @@
+//! What the program says of itself.
+
+/// The line on standard error where the words are wrong, or ask for help.
+pub const USAGE: &str = "usage: fzcheck show MODEL | check [--complete] MODEL [STREAM]";
+
+/// The answer to `--version`: the program, its version, and the toolchain that proved it.
+pub const VERSION: &str = "fzcheck 0.4.0 (rattle-kit-13f logic dac8208d650f15bf)";
+
+/// The answer to a request for help.
+pub const HELP: &str = "\
+fzcheck: checks the output of a FlatZinc solver against its model
+
+fzcheck check [--complete] MODEL [STREAM]
+    Judges each solution block of the file STREAM, or of standard input where it is left out,
+    against the model in the file MODEL. There is a line for each block and claim, and then the
+    answer.
+    --complete  looks for values that the solver left out, and judges what it finds
+    For example: fzcheck check examples/knapsack/model.fzn examples/knapsack/stream.txt
+
+fzcheck show MODEL
+    Prints the canonical text of the model, one line an item.
+    For example: fzcheck show examples/first.fzn
+
+fzcheck --help, fzcheck --version
+    Print this page, or the version. A word that begins with a dash is an option; behind -- it is
+    a file.
+
+The status is
+    0  accepted: each block is satisfied, and each objective better than the one before;
+       or the model or the version is printed
+    1  rejected: a block is violated
+    2  undecided: no block is violated, but one at least can't be decided
+    3  no blocks
+    4  refused: the model or the stream is broken, at the place that is told, in bytes from 0
+    5  the words of the command line are wrong, or ask for help
+    6  a file can't be opened or read, or a write failed
+    7  there is no memory
+";
