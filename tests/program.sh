@@ -24,7 +24,7 @@ expect() {
   fi
 }
 
-usage='usage: fzcheck show MODEL | check [--complete] MODEL [STREAM]'
+usage='usage: fzcheck show [--print-all] MODEL | check [--complete] [--explain] MODEL [STREAM]'
 accepted=$'block 1: satisfied\naccepted: blocks 1'
 printf 'x = 1;\n----------\n' >"$folder/wrong.out"
 printf 'x = 3;\n' >"$folder/open.out"
@@ -36,15 +36,43 @@ printf 'bs = array1d(1..2,[12,true]);\n----------\n' >"$folder/first.out"
 printf 'bs = array1d(1..2,[true, -7]);\n----------\n' >"$folder/last.out"
 printf 'bool: b = true;\nvar int: b;\nsolve satisfy;\n' >"$folder/twice.fzn"
 
-expect 'no words' 5 '' "$usage" "$program"
-expect 'help' 5 '' "$usage" "$program" help
-expect 'an unknown option' 5 '' "$usage" "$program" check --fast examples/first.fzn
-expect 'no model' 5 '' "$usage" "$program" check
-expect 'a word too many' 5 '' "$usage" "$program" show examples/first.fzn examples/first.out
-expect 'a model that is not there' 6 '' 'refused: read' "$program" check "$folder/none.fzn" examples/first.out
-expect 'a stream that is not there' 6 '' 'refused: read' "$program" check examples/first.fzn "$folder/none.out"
+# wrong VALUE.. : what the words are told to be, behind the usage
+wrong() {
+  local told=$1
+  shift
+  expect "wrong words: $*" 5 '' "$usage"$'\n'"$told" "$program" "$@"
+}
+wanting=$'error: the following required arguments were not provided:\n  <MODEL>'
+wrong $'error: \'fzcheck\' requires a subcommand but one was not provided\n  [subcommands: show, check, help]'
+wrong "error: unexpected argument '--fast' found" check --fast examples/first.fzn
+wrong "error: unrecognized subcommand 'chekc'" chekc examples/first.fzn
+wrong "error: unexpected argument 'examples/first.out' found" show examples/first.fzn examples/first.out
+wrong "error: unexpected argument '--complete' found" show --complete examples/first.fzn
+wrong "error: unexpected argument '--print-all' found" check --print-all examples/first.fzn
+wrong "$wanting" check
+wrong "$wanting" check --explain
+wrong "$wanting" show
+"$program" --help >"$folder/page" 2>/dev/null
+page=$(cat "$folder/page")
+for words in help --help -h 'help check' 'check --help' 'show -h'; do
+  # shellcheck disable=SC2086
+  expect "a request for help: $words" 5 "$page" "$usage" "$program" $words
+done
+for word in check show --complete --explain --print-all --version STREAM; do
+  expect "help names $word" 0 '' '' grep -q -- "$word" "$folder/page"
+done
+version="fzcheck $(sed -n 's/^## \([0-9][0-9.]*\).*/\1/p' CHANGELOG.md | head -1)"
+toolchain=$(grep -o 'rattle-kit-[0-9a-z]* logic [0-9a-f]*' README.md | head -1)
+for word in --version -V; do
+  expect "the version: $word" 0 "$version ($toolchain)" '' "$program" "$word"
+done
+none='No such file or directory'
+expect 'a model that is not there' 6 '' $'refused: read\n'"$folder/none.fzn: $none" "$program" check "$folder/none.fzn" examples/first.out
+expect 'a stream that is not there' 6 '' $'refused: read\n'"$folder/none.out: $none" "$program" check examples/first.fzn "$folder/none.out"
+expect 'a model that is not there, shown' 6 '' $'refused: read\n'"$folder/none.fzn: $none" "$program" show "$folder/none.fzn"
+expect 'a folder, shown' 6 '' $'refused: read\n'"$folder: Is a directory" "$program" show "$folder"
 expect 'a folder for a stream, after the model' 4 '' 'refused: model: Syntax at 13..13' "$program" check "$folder/broken.fzn" "$folder"
-expect 'a folder for a stream' 6 '' 'refused: read' "$program" check examples/first.fzn "$folder"
+expect 'a folder for a stream' 6 '' $'refused: read\n'"$folder: Is a directory" "$program" check examples/first.fzn "$folder"
 expect 'the first model' 0 "$accepted" '' "$program" check examples/first.fzn examples/first.out
 expect 'the first model, by --' 0 "$accepted" '' "$program" check -- examples/first.fzn examples/first.out
 expect 'standard input without a block' 3 'no blocks' '' "$program" check examples/first.fzn
@@ -58,12 +86,42 @@ printf 'var 0..9: x;\nvar 0..9: y;\nconstraint int_mod(x,3,y);\nsolve satisfy;\n
 printf 'x = 7;\n----------\n' >"$folder/left.out"
 expect 'a value that was left out' 2 $'block 1: undecided: no value for y\nundecided: block 1' '' "$program" check "$folder/left.fzn" "$folder/left.out"
 expect 'a value that is looked for' 0 "$accepted" '' "$program" check --complete "$folder/left.fzn" "$folder/left.out"
-expect 'no values for a model shown' 5 '' "$usage" "$program" show --complete "$folder/left.fzn"
 expect 'an optimisation' 0 "$(cat examples/knapsack/report.txt)" '' "$program" check examples/knapsack/model.fzn examples/knapsack/stream.txt
 expect 'a broken model' 4 '' 'refused: model: Syntax at 13..13' "$program" show "$folder/broken.fzn"
 expect 'a name declared twice' 4 '' 'refused: model: DuplicateName at 25..26' "$program" show "$folder/twice.fzn"
 expect 'a name declared twice, checked' 4 '' 'refused: model: DuplicateName at 25..26' "$program" check "$folder/twice.fzn" examples/first.out
 expect 'a model shown' 0 "$(cat examples/first.fzn)" '' "$program" show examples/first.fzn
+
+# where a refusal stands: pages that are kept as files
+for page in tests/explained/*/; do
+  name=$(basename "$page")
+  told=$(cd "$page" && "$program" check --explain model.fzn stream.txt 2>&1 >/dev/null)
+  expect "explained: $name" 0 "$(cat "$page/told.txt")" '' printf '%s' "$told"
+  expect "the refusal alone: $name" 4 "$(cd "$page" && "$program" check model.fzn stream.txt 2>/dev/null)" \
+    "$(head -1 "$page/told.txt")" "$program" check "$page/model.fzn" "$page/stream.txt"
+done
+expect 'nothing to explain' 0 "$accepted" '' "$program" check --explain examples/first.fzn examples/first.out
+expect 'nothing to explain in a block that is undecided' 2 \
+  "$("$program" check examples/tour/model.fzn examples/tour/stream.txt)" '' \
+  "$program" check --explain examples/tour/model.fzn examples/tour/stream.txt
+# after many blocks, from a pipe: the line is counted through the whole stream
+many() { awk 'BEGIN { for (i = 0; i < 20000; i++) print "x = 3;\n----------"; print "x = 3;\ny = 4;\n----------" }' </dev/null; }
+far=$'refused: block 20001: UnknownName at 360007..360008\n(standard input):40002:1: the model declares no such name to print, in block 20001\n   40002 | y = 4;\n         | ^'
+told=$(many | "$program" check --explain examples/first.fzn 2>&1 >/dev/null)
+expect 'a fault far on in a pipe' 0 "$far" '' printf '%s' "$told"
+# a line of a megabyte: what is shown of it has at most 120 columns
+awk 'BEGIN { printf "var 0..9: x;\nconstraint int_lin_le(["; for (i = 0; i < 500000; i++) printf "1,"; print "y],[x],0);\nsolve satisfy;" }' </dev/null >"$folder/wide.fzn"
+"$program" check --explain "$folder/wide.fzn" examples/first.out 2>"$folder/told"
+expect 'a line of a megabyte' 0 $'refused: model: UnknownName at 1000036..1000037\n'"$folder/wide.fzn:2:1000024: this name isn't declared before" '' \
+  head -2 "$folder/told"
+expect 'a line of a megabyte, cut' 0 127 '' awk 'NR == 3 { print length($0) }' "$folder/told"
+
+# a model that asks for every variable, and its own stream
+"$program" show --print-all examples/knapsack/model.fzn >"$folder/all.fzn"
+expect 'a model that asks for all' 0 15 '' grep -c ':: output_var' "$folder/all.fzn"
+expect 'a model that asks for all asks for no more' 0 "$(cat "$folder/all.fzn")" '' "$program" show --print-all "$folder/all.fzn"
+expect 'a stream against a model that asks for all' 0 "$(cat examples/knapsack/report.txt)" '' \
+  "$program" check "$folder/all.fzn" examples/knapsack/stream.txt
 
 # what is shown is shown as itself, and is what is written beside it
 for model in examples/*.fzn examples/*/model.fzn tests/corpus/*/model.fzn; do

@@ -51,7 +51,7 @@ ITEMS = (b"x = 3;", b"x = 3", b"x = 1.5;", ARRAY * 9)
 NAMES = (
     "range list union intersect minus symdiff copy copy_value lex parse to_text read_items load "
     "new_partial state forced blocks feed take finish fill judge check report_text show "
-    "refusal_text check_stream check_stream_up_to"
+    "show_printing_all refusal_text check_stream check_stream_up_to"
 ).split()
 ENOUGH = "none"  # it was wanted once more, and given
 IN_MODELS = ("load", "new_partial", "points")
@@ -117,6 +117,7 @@ def of_model(model):
     yield Call("text", "parse", (model,))
     yield Call("text", "to_text", (model,))
     yield Call("check", "show", (model,))
+    yield Call("check", "show_printing_all", (model,))
     for name in IN_MODELS:
         yield Call("model", name, (model,))
 

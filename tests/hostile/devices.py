@@ -1,8 +1,8 @@
 """Reads and writes that fail, each in turn and after each number of bytes.
 
-A failed read is `refused: read`, with the lines of all parts that ended before it; a failed write,
-or one that takes nothing, is `refused: write`, with what was taken before. Both end with status
-6."""
+A failed read is `refused: read` and what the system says of the file, with the lines of all parts
+that ended before it; a failed write, or one that takes nothing, is `refused: write`, with what was
+taken before. Both end with status 6."""
 import itertools
 import tempfile
 
@@ -17,10 +17,15 @@ from beside import (
 )
 from running import FOLDER, Tally, run
 
-READ = 6, b"refused: read\n"
 WRITE = 6, b"refused: write\n"
+INPUT = "(standard input)"
 LINES = IMPROVING_REPORT.splitlines(True)
 ENDS = (18, 36, 47)  # behind the LF of each part of the improving stream
+
+
+def unread(name, written):
+    """The answer where a read of this file fails after so much was written."""
+    return 6, written, b"refused: read\n" + f"{name}: Input/output error\n".encode()
 
 
 def written_of(taken):
@@ -45,13 +50,13 @@ def failing_reads(words):
     tally.expect("one byte a read", whole.answer, (0, IMPROVING_REPORT, b""))
     for k in range(1, len(IMPROVING_STREAM) + 2):
         ran = run(words, IMPROVING_STREAM, pieces | {"REFUSE_READ": str(before + k)})
-        tally.expect(f"read {k} of single bytes", ran.answer, (READ[0], written_of(k - 1), READ[1]))
+        tally.expect(f"read {k} of single bytes", ran.answer, unread(INPUT, written_of(k - 1)))
     for k in range(1, before + 1):
         ran = run(words, IMPROVING_STREAM, pieces | {"REFUSE_READ": str(k)})
-        tally.expect(f"read {k} of the model", ran.answer, (READ[0], b"", READ[1]))
+        tally.expect(f"read {k} of the model", ran.answer, unread(words[2], b""))
     for k in range(len(IMPROVING_STREAM) + 1):
         ran = run(words, IMPROVING_STREAM, {"REFUSE_READ": "3", "REFUSE_BYTES": str(k)})
-        tally.expect(f"a read after {k} bytes", ran.answer, (READ[0], written_of(k), READ[1]))
+        tally.expect(f"a read after {k} bytes", ran.answer, unread(INPUT, written_of(k)))
     return tally
 
 
@@ -79,8 +84,8 @@ def each_read(program, name, model, stream):
         if not ran.met:
             return tally
         lines = ample[1].splitlines(True)[:-1] if number == 4 else []
-        want = READ[0], b"".join(lines), READ[1]
-        tally.expect(f"{name}: read {number}", ran.answer, want)
+        read = model if number <= 2 else stream
+        tally.expect(f"{name}: read {number}", ran.answer, unread(read, b"".join(lines)))
     return tally
 
 

@@ -7,7 +7,7 @@ from beside import FIRST_MODEL, FIRST_STREAM, content, examples
 from running import FOLDER, Tally, run
 
 ACCEPTED = 0, b"block 1: satisfied\naccepted: blocks 1\n", b""
-READ = 6, b"", b"refused: read\n"
+INPUT = "(standard input)"
 WRITE = 6, b"", b"refused: write\n"
 MEMORY = 7, b"refused: memory\n"
 NOBODY = 65_534
@@ -15,6 +15,11 @@ NOBODY = 65_534
 STACK = 64  # KB
 LEAST_MEMORY, MOST_MEMORY = 4_096, 131_072  # KB of address space
 DEEP = b"solve :: " + b"a([" * 31 + b"a" + b"])" * 31 + b" satisfy;\n"
+
+
+def unread(name, message):
+    """The answer where a file can't be opened or read, and what the system says of it."""
+    return 6, b"", f"refused: read\n{name}: {message}\n".encode()
 
 
 def in_shell(script, *words, **more):
@@ -30,7 +35,7 @@ def closed(program):
     missing = [program, "check", FIRST_MODEL + ".none"]
     show = [program, "show", FIRST_MODEL]
     for name, script, words, want in (
-        ("standard input, which is wanted", '"$@" <&-', alone, READ),
+        ("standard input, which is wanted", '"$@" <&-', alone, unread(INPUT, "Bad file descriptor")),
         ("standard input, which isn't wanted", '"$@" <&-', both, ACCEPTED),
         ("standard input, and show", '"$@" <&-', show, (0, content(FIRST_MODEL), b"")),
         ("standard output", '"$@" >&-', both, WRITE),
@@ -72,21 +77,22 @@ def files(program):
     tally = Tally()
     with tempfile.TemporaryDirectory(dir=FOLDER) as folder:
         missing = os.path.join(folder, "none")
-        for name, model, stream in (
-            ("a folder for a model", folder, FIRST_STREAM),
-            ("a folder for a stream", FIRST_MODEL, folder),
-            ("no model", missing, FIRST_STREAM),
-            ("no stream", FIRST_MODEL, missing),
-            ("a model below a file", FIRST_MODEL + "/x", FIRST_STREAM),
-            ("an empty name", "", FIRST_STREAM),
+        below, none, is_folder = FIRST_MODEL + "/x", "No such file or directory", "Is a directory"
+        for name, model, stream, want in (
+            ("a folder for a model", folder, FIRST_STREAM, unread(folder, is_folder)),
+            ("a folder for a stream", FIRST_MODEL, folder, unread(folder, is_folder)),
+            ("no model", missing, FIRST_STREAM, unread(missing, none)),
+            ("no stream", FIRST_MODEL, missing, unread(missing, none)),
+            ("a model below a file", below, FIRST_STREAM, unread(below, "Not a directory")),
+            ("an empty name", "", FIRST_STREAM, unread("", none)),
         ):
-            tally.expect(name, run([program, "check", model, stream]).answer, READ)
+            tally.expect(name, run([program, "check", model, stream]).answer, want)
         with open(os.path.join(folder, "x"), "wb"):
             pass
         here = os.open(folder, os.O_RDONLY)
         ran = run([program, "check", FIRST_MODEL], stdin=here)
         os.close(here)
-        tally.expect("a folder on standard input", ran.answer, READ)
+        tally.expect("a folder on standard input", ran.answer, unread(INPUT, is_folder))
     endless = run([program, "check", "/dev/zero", FIRST_STREAM]).answer
     tally.expect("an endless model", endless, (4, b"", b"refused: model: TooLong\n"))
     endless = run([program, "check", FIRST_MODEL, "/dev/zero"]).answer
@@ -114,7 +120,8 @@ def no_leave(program):
             return tally
         for at in (1, 2):
             os.chmod(copies[at], 0)
-            tally.expect(f"no leave to read {copies[at]}", run(words, **more).answer, READ)
+            want = unread(copies[at], "Permission denied")
+            tally.expect(f"no leave to read {copies[at]}", run(words, **more).answer, want)
             os.chmod(copies[at], 0o644)
     return tally
 

@@ -76,6 +76,16 @@ refusal errors.Write = codes "write"
 abbrev pub refusal_line : CheckError → List ℕ
 refusal_line e = codes "refused: " ++ refusal e ++ codes "\n"
 
+-- the place of the fault that a refusal tells of, where it has one: in the model's text, or in the whole stream
+abbrev pub refusal_place : CheckError → Option Span
+refusal_place (errors.Model e) = (syntax_fault e).place
+refusal_place (errors.Names e) = (model_fault e).place
+refusal_place (errors.Stream e) = (stream_fault e).place
+refusal_place (errors.Block number e) = (block_fault e).place
+refusal_place errors.Memory = None
+refusal_place errors.Read = None
+refusal_place errors.Write = None
+
 -- the program's exit status
 abbrev pub status_of : Result Answer CheckError → ℕ
 status_of (Ok (answers.Accepted n)) = 0

@@ -124,6 +124,19 @@ fn load_tree<'a>(alloc: Global, ast: &Ast<'a>) -> Result<Model<'a>, CheckError>
     }
 }
 
+/// The tree of a model's text, whose names have no fault.
+fn read_sound_tree<'a>(alloc: Global, source: &'a [u8]) -> Result<Ast<'a>, CheckError>
+    ensures text { IfOk result (λ a. IsTextOfAll source.now (items_of_tree a)) }
+    ensures no_fault { IfOk result (λ a. HasNoFault (located a)) }
+    ensures model { (e : SyntaxFault) → result ≡ Err (CheckError.Model e) → HasTextFault source.now e }
+    ensures names { (e : NameFault) → result ≡ Err (CheckError.Names e) → HasNameFault source.now e }
+    ensures kinds { IfErr result IsModelRefusal }
+{
+    let ast = read_tree(alloc, source)?;
+    load_tree(alloc, &ast)?;
+    Ok(ast)
+}
+
 /// The blocks and claims of a stream.
 fn read_stream<'s>(alloc: Global, stream: &'s [u8]) -> Result<Stream<'s>, CheckError>
     ensures read { IfOk result (λ s. IsReadAs stream.now (map block_of s.blocks.items) s.claims.items) }
@@ -211,8 +224,10 @@ pub fn show(alloc: Global, model: &[u8]) -> Result<Vec<u8>, CheckError>
     ensures names { (e : NameFault) → result ≡ Err (CheckError.Names e) → HasNameFault model.now e }
     ensures kinds { IfErr result IsModelRefusal }
 {
-    let ast = read_tree(alloc, model)?;
-    load_tree(alloc, &ast)?;
+    let ast = match read_sound_tree(alloc, model) {
+        Ok(ast) => ast,
+        Err(error) => return Err(error),
+    };
     let text = to_text(alloc, &ast)?;
     Ok(text)
 }
@@ -233,8 +248,10 @@ pub fn show_printing_all(alloc: Global, model: &[u8]) -> Result<Vec<u8>, CheckEr
     ensures names { (e : NameFault) → result ≡ Err (CheckError.Names e) → HasNameFault model.now e }
     ensures kinds { IfErr result IsModelRefusal }
 {
-    let mut ast = read_tree(alloc, model)?;
-    load_tree(alloc, &ast)?;
+    let mut ast = match read_sound_tree(alloc, model) {
+        Ok(ast) => ast,
+        Err(error) => return Err(error),
+    };
     print_all(alloc, &mut ast)?;
     let text = to_text(alloc, &ast)?;
     Ok(text)

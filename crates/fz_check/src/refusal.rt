@@ -1,7 +1,7 @@
 //! What a refusal tells its reader, and the exit status of the program.
 
 ghost use Rattle.std.specs.Prelude.{◌≡◌, ◌++◌, IfOk, OnOk};
-ghost use Rattle.fz_check.specs.Refusal.{block_fault, model_fault, named_text, refusal_line, status_of, stream_fault, syntax_fault};
+ghost use Rattle.fz_check.specs.Refusal.{block_fault, model_fault, named_text, refusal_line, refusal_place, status_of, stream_fault, syntax_fault};
 ghost use Rattle.fz_check.specs.Telling.{named};
 
 use crate::error::CheckError;
@@ -138,6 +138,21 @@ pub fn refusal_text(alloc: Global, error: &CheckError) -> Result<Vec<u8>, AllocE
     }
     push_bytes(&mut text, b"\n")?;
     Ok(text)
+}
+
+/// The place of the fault that a refusal tells of, in bytes from 0: in the model's text, or in the
+/// whole stream. A refusal for a text that is too long, for want of memory, or for a failed read or
+/// write has none.
+pub fn refusal_place(error: &CheckError) -> Option<Span>
+    ensures { result ≡ refusal_place error.now }
+{
+    match *error {
+        CheckError::Model(inner) => told_syntax(inner).place,
+        CheckError::Names(inner) => told_model(inner).place,
+        CheckError::Stream(inner) => told_stream(inner).place,
+        CheckError::Block(_, inner) => told_block(inner).place,
+        CheckError::Memory | CheckError::Read | CheckError::Write => None,
+    }
 }
 
 /// The exit status of the program for what a check answered: 0 accepted, 1 rejected, 2 undecided,

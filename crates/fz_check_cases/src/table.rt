@@ -7,7 +7,7 @@
 
 use crate::check_stream::{bytewise, completed};
 use crate::{filling, judge, load, points};
-use fz_check::{CheckError, check, refusal_text, report_text, show};
+use fz_check::{CheckError, check, refusal_text, report_text, show, show_printing_all};
 use fz_model::{Model, load};
 use fz_syntax::parse;
 use std::alloc::{AllocError, Global};
@@ -26,6 +26,8 @@ pub(crate) enum Call {
     Completed,
     /// the model's canonical text
     Show,
+    /// the same, where a solver is to print every scalar variable
+    ShowPrintingAll,
     /// the variable that each constraint defines
     Targets,
     /// the points where no variable has a value
@@ -89,6 +91,7 @@ fn told(alloc: Global, call: Call, model: &[u8], stream: &[u8]) -> Result<Vec<u8
         Call::BrokenStream => bytewise(model, stream, false).told(alloc),
         Call::Completed => completed(model, stream).told(alloc),
         Call::Show => show(alloc, model),
+        Call::ShowPrintingAll => show_printing_all(alloc, model),
         _ => told_of_text(alloc, call, model, stream),
     }
 }

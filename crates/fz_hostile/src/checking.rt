@@ -1,13 +1,15 @@
 //! Whole checks, and the texts of reports and refusals.
 
 use crate::outside::{file, is_given, tell, tell_error, tell_text};
-use fz_check::{CheckError, Report, check, refusal_text, report_text, show, status};
+use fz_check::{
+    CheckError, Report, check, refusal_text, report_text, show, show_printing_all, status,
+};
 
 /// Makes a call on the text of a model and, where it wants one, on a stream.
 pub fn make_call(rt: &HostRuntime, call: &str, operands: &[String]) -> Option<()> {
     let model = file(rt, operands, 0)?;
-    if call == "show" {
-        tell_shown(rt, &model);
+    if call == "show" || call == "show_printing_all" {
+        tell_shown(rt, call, &model);
         return Some(());
     }
     let stream = file(rt, operands, 1)?;
@@ -18,8 +20,12 @@ pub fn make_call(rt: &HostRuntime, call: &str, operands: &[String]) -> Option<()
     call_on_answer(rt, &model, &stream)
 }
 
-fn show_lacks_memory(rt: &HostRuntime, model: &[u8]) -> bool {
-    match show(rt.alloc(), model) {
+fn show_lacks_memory(rt: &HostRuntime, call: &str, model: &[u8]) -> bool {
+    let shown = match call {
+        "show" => show(rt.alloc(), model),
+        _ => show_printing_all(rt.alloc(), model),
+    };
+    match shown {
         Ok(text) => {
             tell_text(rt, &text);
             false
@@ -31,9 +37,9 @@ fn show_lacks_memory(rt: &HostRuntime, model: &[u8]) -> bool {
     }
 }
 
-fn tell_shown(rt: &HostRuntime, model: &[u8]) {
+fn tell_shown(rt: &HostRuntime, call: &str, model: &[u8]) {
     for _ in 0..2 {
-        if !show_lacks_memory(rt, model) {
+        if !show_lacks_memory(rt, call, model) {
             break;
         }
     }

@@ -1,7 +1,8 @@
 //! What the program says of itself.
 
 /// The line on standard error where the words are wrong, or ask for help.
-pub const USAGE: &str = "usage: fzcheck show MODEL | check [--complete] MODEL [STREAM]";
+pub const USAGE: &str = "\
+usage: fzcheck show [--print-all] MODEL | check [--complete] [--explain] MODEL [STREAM]";
 
 /// The answer to `--version`: the program, its version, and the toolchain that proved it.
 pub const VERSION: &str = "fzcheck 0.4.0 (rattle-kit-13f logic dac8208d650f15bf)";
@@ -10,16 +11,19 @@ pub const VERSION: &str = "fzcheck 0.4.0 (rattle-kit-13f logic dac8208d650f15bf)
 pub const HELP: &str = "\
 fzcheck: checks the output of a FlatZinc solver against its model
 
-fzcheck check [--complete] MODEL [STREAM]
+fzcheck check [--complete] [--explain] MODEL [STREAM]
     Judges each solution block of the file STREAM, or of standard input where it is left out,
     against the model in the file MODEL. There is a line for each block and claim, and then the
     answer.
     --complete  looks for values that the solver left out, and judges what it finds
+    --explain   shows on standard error where the fault stands that a refusal tells of
     For example: fzcheck check examples/knapsack/model.fzn examples/knapsack/stream.txt
 
-fzcheck show MODEL
+fzcheck show [--print-all] MODEL
     Prints the canonical text of the model, one line an item.
-    For example: fzcheck show examples/first.fzn
+    --print-all  adds output_var to each variable without it: a solver prints them all then
+    For example: fzcheck show --print-all model.fzn > all.fzn
+                 solver all.fzn | fzcheck check all.fzn
 
 fzcheck --help, fzcheck --version
     Print this page, or the version. A word that begins with a dash is an option; behind -- it is

@@ -10,13 +10,30 @@ pub enum Request<'a> {
     /// Print the canonical text of the model in a file.
     Show {
         model: &'a str,
+        printing: Printing,
     },
     /// Check the stream in a file, or on standard input, against the model in a file.
     Check {
         model: &'a str,
         stream: Option<&'a str>,
-        completion: Completion,
+        options: CheckOptions,
     },
+}
+
+/// Which variables a model that is shown asks a solver to print.
+#[derive(Clone, Copy)]
+pub enum Printing {
+    AsWritten,
+    All,
+}
+
+/// How a check goes on.
+#[derive(Clone, Copy)]
+pub struct CheckOptions {
+    /// Whether values that the solver left out are looked for.
+    pub completion: Completion,
+    /// Whether a refusal is explained.
+    pub explains: bool,
 }
 
 /// Why no command is carried out.
@@ -62,11 +79,15 @@ fn request_of<'a>(matches: &ArgMatches<'a>) -> Result<Request<'a>, Refused> {
     match matches.subcommand() {
         Some(("show", given)) => Ok(Request::Show {
             model: model_of(given)?,
+            printing: printing_of(given),
         }),
         Some(("check", given)) => Ok(Request::Check {
             model: model_of(given)?,
             stream: given.get_str("STREAM"),
-            completion: completion_of(given),
+            options: CheckOptions {
+                completion: completion_of(given),
+                explains: given.get_flag("explain"),
+            },
         }),
         _ => Err(Refused::Help),
     }
@@ -77,7 +98,14 @@ fn model_of<'a>(given: &ArgMatches<'a>) -> Result<&'a str, Refused> {
     given.get_str("MODEL").ok_or(Refused::Help)
 }
 
-/// Whether values that the solver left out are to be looked for.
+fn printing_of(given: &ArgMatches<'_>) -> Printing {
+    if given.get_flag("print-all") {
+        Printing::All
+    } else {
+        Printing::AsWritten
+    }
+}
+
 fn completion_of(given: &ArgMatches<'_>) -> Completion {
     if given.get_flag("complete") {
         Completion::On
@@ -96,18 +124,25 @@ fn over_model<'a>(alloc: Global, name: &'a str) -> Result<Command<'a>, AllocErro
     Command::new(alloc, name).arg(file_word(alloc, "MODEL").required(true))
 }
 
+/// A word that is said or not.
+fn flag<'a>(alloc: Global, name: &'a str) -> Arg<'a> {
+    Arg::new(alloc, name).long(name).action(ArgAction::SetTrue)
+}
+
+fn show_command<'a>(alloc: Global) -> Result<Command<'a>, AllocError> {
+    over_model(alloc, "show")?.arg(flag(alloc, "print-all"))
+}
+
 fn check_command<'a>(alloc: Global) -> Result<Command<'a>, AllocError> {
-    let complete = Arg::new(alloc, "complete")
-        .long("complete")
-        .action(ArgAction::SetTrue);
     over_model(alloc, "check")?
         .arg(file_word(alloc, "STREAM"))?
-        .arg(complete)
+        .arg(flag(alloc, "complete"))?
+        .arg(flag(alloc, "explain"))
 }
 
 /// The program with the first of its commands.
 fn program<'a>(alloc: Global) -> Result<Command<'a>, AllocError> {
-    let show = over_model(alloc, "show")?;
+    let show = show_command(alloc)?;
     Command::new(alloc, "fzcheck")
         .version(VERSION)
         .subcommand_required(true)

@@ -1,18 +1,13 @@
-use Rattle.std.proofs.Common.{◌∙◌, ap, Err}
+use Rattle.std.proofs.Common.{◌≡◌, ◌∙◌, ap, Err}
 use Rattle.fz_check.specs.declared.error.CheckError.TheVariants as errors
-use Rattle.fz_check.proofs.Refusals.{name_fault_on, residual_is}
 use Rattle.fz_check.proofs.Showing.{shown_of}
 use Rattle.fz_check.proofs.checking.show.Goals as goal
 
-pub returns-in_err-ast-clause-model : goal.returns-in_err-ast-clause-model
-returns-in_err-ast-clause-model c = λ e same.
-    c.read_tree.ensures.model e (c.in_err-ast.was ∙ ap Err (residual_is c.from_residual.result c.in_err-ast.field-0.0 (errors.Model e) c.from_residual.ensures.1 same))
+pub returns-in-Err-clause-model : goal.returns-in-Err-clause-model
+returns-in-Err-clause-model c = λ e same. (let told : c.in-Err.error ≡ errors.Model e = cc in c.read_sound_tree.ensures.model e (c.in-Err.is ∙ ap Err told))
 
-pub returns-in_err-load_tree-clause-names : goal.returns-in_err-load_tree-clause-names
-returns-in_err-load_tree-clause-names c = λ e same.
-    name_fault_on c.args.model.now c.in_ok-ast.ast e c.in_ok-ast.ensures.text
-    (c.load_tree.ensures.names e (c.in_err-load_tree.was ∙ ap Err (residual_is c.from_residual-in_err-load_tree.result c.in_err-load_tree.field-0.0 (errors.Names e) c.from_residual-in_err-load_tree.ensures.1 same)))
+pub returns-in-Err-clause-names : goal.returns-in-Err-clause-names
+returns-in-Err-clause-names c = λ e same. (let told : c.in-Err.error ≡ errors.Names e = cc in c.read_sound_tree.ensures.names e (c.in-Err.is ∙ ap Err told))
 
 pub returns-clause-shown : goal.returns-clause-shown
-returns-clause-shown c =
-    shown_of c.args.model.now c.in_ok-text.text.items c.in_ok-ast.ast c.in_ok-ast.ensures.text.text c.in_ok-load_tree.ensures.loaded.0 c.in_ok-text.ensures.layout c.in_ok-text.ensures.reads_back
+returns-clause-shown c = shown_of c.args.model.now c.in_ok-text.text.items c.in-Ok.ast c.in-Ok.ensures.text.text c.in-Ok.ensures.no_fault c.in_ok-text.ensures.layout c.in_ok-text.ensures.reads_back

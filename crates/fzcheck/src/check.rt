@@ -1,0 +1,123 @@
+//! The command `check`.
+
+use crate::MOST_BYTES;
+use crate::explain::Source;
+use crate::files::read_up_to;
+use crate::recent::{NOTHING, Recent};
+use crate::refuse::{refuse, refuse_at, refuse_file};
+use crate::words::CheckOptions;
+use fz_check::{CheckError, MOST_READS, check_stream_up_to, status};
+use std::io::Read;
+use std::os::fd::AsFd;
+use std::{fs, io};
+
+/// What stands for the name of the stream on standard input.
+const STANDARD_INPUT: &str = "(standard input)";
+
+/// The names of the files, and how they are checked.
+#[derive(Clone, Copy)]
+struct Task<'a> {
+    model: &'a str,
+    stream: &'a str,
+    options: CheckOptions,
+}
+
+/// Checks the file of a stream, or standard input, against the file of a model. Both are opened
+/// before anything is read.
+pub fn check_files(
+    rt: &HostRuntime,
+    model: &str,
+    stream: Option<&str>,
+    options: CheckOptions,
+) -> u8 {
+    let task = Task {
+        model,
+        stream: stream.unwrap_or(STANDARD_INPUT),
+        options,
+    };
+    if stream.is_none()
+        && let Err(failure) = find_input(rt)
+    {
+        return refuse_file(rt, &CheckError::Read, task.stream, Some(&failure));
+    }
+    let file = match fs::open(rt, model) {
+        Ok(file) => file,
+        Err(failure) => return refuse_file(rt, &CheckError::Read, model, Some(&failure)),
+    };
+    if stream.is_none() {
+        return check_readers(rt, &task, file, rt.stdin());
+    }
+    match fs::open(rt, task.stream) {
+        Ok(stream) => check_readers(rt, &task, file, stream),
+        Err(failure) => refuse_file(rt, &CheckError::Read, task.stream, Some(&failure)),
+    }
+}
+
+/// Fails where standard input isn't open. This is asked before a file is opened, since a file takes
+/// the number of a standard stream that is closed, and would be read in its place.
+fn find_input(rt: &HostRuntime) -> io::Result<()> {
+    rt.stdin().as_fd().try_clone_to_owned()?;
+    Ok(())
+}
+
+/// Checks what one reader gives as a stream against what the other gives as a model, and writes
+/// each line when it is known.
+fn check_readers<M: Read + Drop, S: Read + Drop>(
+    rt: &HostRuntime,
+    task: &Task<'_>,
+    model: M,
+    stream: S,
+) -> u8 {
+    let mut model = Recent::new(rt.alloc(), model, false);
+    match read_up_to(rt.alloc(), &mut model, MOST_BYTES) {
+        Ok(bytes) => check_stream(rt, task, &bytes, stream),
+        Err(error) => refuse_file(rt, &error, task.model, model.failure()),
+    }
+}
+
+fn check_stream<S: Read + Drop>(rt: &HostRuntime, task: &Task<'_>, model: &[u8], stream: S) -> u8 {
+    let mut stream = Recent::new(rt.alloc(), stream, task.options.explains);
+    let mut out = rt.stdout();
+    let completion = task.options.completion;
+    match check_stream_up_to(
+        rt.alloc(),
+        model,
+        &mut stream,
+        &mut out,
+        MOST_READS,
+        completion,
+    ) {
+        Ok(answer) => status(&Ok(answer)),
+        Err(error) => refuse_check(rt, task, model, &stream, &error),
+    }
+}
+
+/// Tells why there is no answer, and where that stands, if it is to be explained.
+fn refuse_check<S: Read + Drop>(
+    rt: &HostRuntime,
+    task: &Task<'_>,
+    model: &[u8],
+    stream: &Recent<S>,
+    error: &CheckError,
+) -> u8 {
+    match error {
+        CheckError::Read => refuse_file(rt, error, task.stream, stream.failure()),
+        _ if !task.options.explains => refuse(rt, error),
+        CheckError::Model(_) | CheckError::Names(_) => {
+            let source = Source {
+                name: task.model,
+                bytes: model,
+                passed: NOTHING,
+            };
+            refuse_at(rt, error, &source)
+        }
+        _ => {
+            let source = Source {
+                name: task.stream,
+                bytes: stream.bytes(),
+                passed: stream.passed(),
+            };
+            refuse_at(rt, error, &source)
+        }
+    }
+}

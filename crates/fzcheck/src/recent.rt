@@ -1,0 +1,165 @@
+//! A reader that keeps the last of what it gave, so that a fault can be shown where it stands.
+
+ghost use Rattle.std.specs.Prelude.{◌≡◌};
+ghost use Rattle.std.specs.Io.{ReadsAtMost};
+ghost use Rattle.std.specs.Io.KnownBytes.{ReadConsumes};
+
+use fz_places::spot_of;
+use std::alloc::{AllocError, Global};
+use std::io;
+use std::io::Read;
+
+/// The line that ends a block.
+const MARKER: &[u8] = b"----------";
+
+/// How many bytes, lines and blocks stand before something in a stream.
+#[derive(Clone, Copy)]
+pub struct Passed {
+    pub bytes: usize,
+    pub lines: usize,
+    pub blocks: usize,
+}
+
+/// Before anything.
+pub const NOTHING: Passed = Passed {
+    bytes: 0,
+    lines: 0,
+    blocks: 0,
+};
+
+/// A reader that gives what another one gives. Where that is asked for, it keeps what it gave since
+/// the last block ended, and it keeps why a read failed.
+#[derive(Drop)]
+pub struct Recent<R> {
+    reader: R,
+    alloc: Global,
+    keeps: bool,
+    bytes: Vec<u8>,
+    /// Where the first line begins that wasn't looked at.
+    next: usize,
+    passed: Passed,
+    failure: Option<io::Error>,
+}
+
+impl<R: Read> Recent<R> {
+    pub fn new(alloc: Global, reader: R, keeps: bool) -> Recent<R> {
+        Recent {
+            reader,
+            alloc,
+            keeps,
+            bytes: Vec::new(alloc),
+            next: 0,
+            passed: NOTHING,
+            failure: None,
+        }
+    }
+
+    /// What is kept.
+    pub fn bytes(&self) -> &[u8] {
+        &self.bytes
+    }
+
+    /// What was given before that.
+    pub fn passed(&self) -> Passed {
+        self.passed
+    }
+
+    /// Why a read failed, where one did.
+    pub fn failure(&self) -> Option<&io::Error> {
+        self.failure.as_ref()
+    }
+
+    /// Lets go of the blocks that have ended: what was given is judged before more is asked for.
+    fn let_go(&mut self)
+        ensures { self.new.reader ≡ self.old.reader }
+    {
+        if self.keeps {
+            self.keeps = self.drop_ended().is_ok();
+        }
+    }
+
+    fn drop_ended(&mut self) -> Result<(), AllocError>
+        ensures { self.new.reader ≡ self.old.reader }
+    {
+        let mut next = self.next;
+        let mut ended = 0;
+        let mut blocks = self.passed.blocks;
+        for line in behind(&self.bytes, next).split_inclusive(|byte| *byte == b'\n') {
+            if line.last() == Some(&b'\n') {
+                next = next.saturating_add(line.len());
+            }
+            if is_marker(line) {
+                ended = next;
+                blocks = blocks.saturating_add(1);
+            }
+        }
+        self.next = next.saturating_sub(ended);
+        self.passed.blocks = blocks;
+        self.drop_front(ended)
+    }
+
+    /// Keeps what stands behind this many bytes.
+    fn drop_front(&mut self, count: usize) -> Result<(), AllocError>
+        ensures { self.new.reader ≡ self.old.reader }
+    {
+        if count == 0 {
+            return Ok(());
+        }
+        let lines = spot_of(&self.bytes, count).line.saturating_sub(1);
+        self.bytes = Vec::from_slice(self.alloc, behind(&self.bytes, count))?;
+        self.passed.bytes = self.passed.bytes.saturating_add(count);
+        self.passed.lines = self.passed.lines.saturating_add(lines);
+        Ok(())
+    }
+
+    /// Keeps more bytes. Where there is no memory for them, nothing is kept any more.
+    fn keep(&mut self, bytes: &[u8])
+        ensures { self.new.reader ≡ self.old.reader }
+    {
+        if self.keeps {
+            self.keeps = self.bytes.extend_from_slice(bytes).is_ok();
+        }
+    }
+}
+
+/// How many blocks end in these bytes.
+pub fn count_blocks(bytes: &[u8]) -> usize {
+    let mut count: usize = 0;
+    for line in bytes.split_inclusive(|byte| *byte == b'\n') {
+        if is_marker(line) {
+            count = count.saturating_add(1);
+        }
+    }
+    count
+}
+
+/// What stands behind so many bytes.
+fn behind(bytes: &[u8], count: usize) -> &[u8] {
+    bytes.split_at(count.min(bytes.len())).1
+}
+
+fn is_marker(line: &[u8]) -> bool {
+    line.trim_ascii() == MARKER
+}
+
+impl<R: Read> Read for Recent<R> {
+    ghost remaining = { λ r. R.remaining r.reader };
+
+    fn read(&mut self, buf: &mut [u8]) -> io::Result<usize>
+        ensures bound { ReadsAtMost result buf.new }
+        ensures bytes { ReadConsumes (R.remaining self.old.reader) (R.remaining self.new.reader) result buf.new }
+    {
+        self.let_go();
+        match self.reader.read(buf) {
+            Ok(count) => {
+                self.keep(&buf[..count]);
+                Ok(count)
+            }
+            Err(error) => {
+                let kind = error.kind();
+                self.failure = Some(error);
+                Err(kind.into())
+            }
+        }
+    }
+}

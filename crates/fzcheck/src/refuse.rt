@@ -1,0 +1,80 @@
+//! What the program says on standard error where it carries nothing out, and its status then.
+
+use crate::explain::{Source, explanation};
+use crate::pages::USAGE;
+use clap::Error;
+use fz_check::{CheckError, refusal_text, status};
+use std::io;
+use std::io::Write;
+
+/// The status where the words of the command line are wrong, or ask for help.
+const WRONG_WORDS: u8 = 5;
+
+/// Tells how the program is used.
+pub fn refuse_usage(rt: &HostRuntime) -> u8 {
+    let _ = eprintln!(rt; "{USAGE}");
+    WRONG_WORDS
+}
+
+/// Tells which words are wrong: the first paragraph of what the reader of words says, since what
+/// follows there is its own usage.
+pub fn refuse_wrong(rt: &HostRuntime, error: &Error) -> u8 {
+    let Ok(text) = format!(in rt.alloc(); "{error}") else {
+        return refuse(rt, &CheckError::Memory);
+    };
+    let told = match text.split_once("\n\n") {
+        Some((told, _)) => told,
+        None => text.as_str(),
+    };
+    let _ = eprintln!(rt; "{USAGE}\n{told}");
+    WRONG_WORDS
+}
+
+/// Tells a refusal, and gives its status.
+pub fn refuse(rt: &HostRuntime, error: &CheckError) -> u8 {
+    match refusal_text(rt.alloc(), error) {
+        Ok(text) => {
+            let _ = rt.stderr().write_all(&text);
+            status(&Err(*error))
+        }
+        Err(_) => {
+            let _ = eprintln!(rt; "refused: memory");
+            status(&Err(CheckError::Memory))
+        }
+    }
+}
+
+/// Tells a refusal, and where its fault stands in the source.
+pub fn refuse_at(rt: &HostRuntime, error: &CheckError, source: &Source<'_>) -> u8 {
+    let status = refuse(rt, error);
+    if let Ok(Some(text)) = explanation(rt.alloc(), source, error) {
+        let _ = eprint!(rt; "{text}");
+    }
+    status
+}
+
+/// Tells a refusal, and what the system says of the file, where it says something.
+pub fn refuse_file(
+    rt: &HostRuntime,
+    error: &CheckError,
+    name: &str,
+    failure: Option<&io::Error>,
+) -> u8 {
+    let status = refuse(rt, error);
+    if let Some(failure) = failure {
+        tell_failure(rt, name, failure);
+    }
+    status
+}
+
+/// Tells what the system says of a file, without the system's number for it.
+fn tell_failure(rt: &HostRuntime, name: &str, failure: &io::Error) {
+    let Ok(text) = format!(in rt.alloc(); "{failure}") else {
+        return;
+    };
+    let told = match text.split_once(" (os error") {
+        Some((told, _)) => told,
+        None => text.as_str(),
+    };
+    let _ = eprintln!(rt; "{name}: {told}");
+}

@@ -1,0 +1,47 @@
+//! The command `show`.
+
+use crate::files::read_up_to;
+use crate::recent::Recent;
+use crate::refuse::{refuse, refuse_file};
+use crate::words::Printing;
+use crate::{MOST_BYTES, SHOWN};
+use fz_check::{CheckError, show, show_printing_all};
+use std::io::Write;
+use std::{fs, io};
+
+/// Prints the canonical text of the model in a file.
+pub fn show_file(rt: &HostRuntime, name: &str, printing: Printing) -> u8 {
+    let file = match fs::open(rt, name) {
+        Ok(file) => file,
+        Err(failure) => return refuse_file(rt, &CheckError::Read, name, Some(&failure)),
+    };
+    let mut reader = Recent::new(rt.alloc(), file, false);
+    match read_up_to(rt.alloc(), &mut reader, MOST_BYTES) {
+        Ok(model) => show_bytes(rt, &model, printing),
+        Err(error) => refuse_file(rt, &error, name, reader.failure()),
+    }
+}
+
+fn show_bytes(rt: &HostRuntime, model: &[u8], printing: Printing) -> u8 {
+    let shown = match printing {
+        Printing::AsWritten => show(rt.alloc(), model),
+        Printing::All => show_printing_all(rt.alloc(), model),
+    };
+    match shown {
+        Ok(text) => print_text(rt, &text),
+        Err(error) => refuse(rt, &error),
+    }
+}
+
+fn print_text(rt: &HostRuntime, text: &[u8]) -> u8 {
+    match write_out(rt, text) {
+        Ok(()) => SHOWN,
+        Err(_) => refuse(rt, &CheckError::Write),
+    }
+}
+
+fn write_out(rt: &HostRuntime, text: &[u8]) -> io::Result<()> {
+    let mut out = rt.stdout();
+    out.write_all(text)?;
+    out.flush()
+}
