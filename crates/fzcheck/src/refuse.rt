@@ -22,10 +22,7 @@ pub fn refuse_wrong(rt: &HostRuntime, error: &Error) -> u8 {
     let Ok(text) = format!(in rt.alloc(); "{error}") else {
         return refuse(rt, &CheckError::Memory);
     };
-    let told = match text.split_once("\n\n") {
-        Some((told, _)) => told,
-        None => text.as_str(),
-    };
+    let told = before(&text, "\n\n");
     let _ = eprintln!(rt; "{USAGE}\n{told}");
     WRONG_WORDS
 }
@@ -72,9 +69,14 @@ fn tell_failure(rt: &HostRuntime, name: &str, failure: &io::Error) {
     let Ok(text) = format!(in rt.alloc(); "{failure}") else {
         return;
     };
-    let told = match text.split_once(" (os error") {
-        Some((told, _)) => told,
-        None => text.as_str(),
-    };
+    let told = before(&text, " (os error");
     let _ = eprintln!(rt; "{name}: {told}");
+}
+
+/// What stands before the mark, or all.
+fn before<'a>(text: &'a str, mark: &str) -> &'a str {
+    match text.split_once(mark) {
+        Some((front, _)) => front,
+        None => text,
+    }
 }
