@@ -1,7 +1,9 @@
 """What stands around the program: its descriptors, its files, its stack and its memory."""
 import os
 import shutil
+import subprocess
 import tempfile
+import time
 
 from beside import FIRST_MODEL, FIRST_STREAM, content, examples
 from running import FOLDER, Tally, run
@@ -140,6 +142,32 @@ def little_stack(program):
     return tally
 
 
+def waiting(program):
+    """Where standard error is a terminal and standard output isn't, a line tells after two seconds
+    how far the check is, and is gone at the end."""
+    tally = Tally()
+    terminal, err = os.openpty()
+    block = content(FIRST_STREAM)
+    with subprocess.Popen(
+        [program, "check", FIRST_MODEL], stdin=subprocess.PIPE, stdout=subprocess.PIPE, stderr=err
+    ) as process:
+        process.stdin.write(block)
+        process.stdin.flush()
+        first = process.stdout.readline()
+        time.sleep(2.2)
+        process.stdin.write(block)
+        process.stdin.close()
+        rest = process.stdout.read()
+    os.close(err)
+    line = b"2 blocks, all satisfied so far"
+    report = b"block 1: satisfied\nblock 2: satisfied\naccepted: blocks 2\n"
+    tally.expect("a terminal: the report", first + rest, report)
+    shown = os.read(terminal, 1_000)
+    tally.expect("a terminal: the line", shown, line + b"\r" + b" " * len(line) + b"\r")
+    os.close(terminal)
+    return tally
+
+
 def large_pair(folder):
     """A model and a stream of some hundred KB, whose memory a limit can cut anywhere."""
     model, stream = os.path.join(folder, "model.fzn"), os.path.join(folder, "stream.txt")
@@ -173,5 +201,5 @@ def little_memory(program):
 
 
 def jobs(program):
-    tests = closed, full, no_reader, files, no_leave, little_stack, little_memory
+    tests = closed, full, no_reader, files, no_leave, waiting, little_stack, little_memory
     return [(test, (program,)) for test in tests]

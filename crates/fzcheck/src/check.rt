@@ -3,6 +3,7 @@
 use crate::MOST_BYTES;
 use crate::explain::Source;
 use crate::files::read_up_to;
+use crate::progress::Progress;
 use crate::recent::{NOTHING, Recent};
 use crate::refuse::{refuse, refuse_at, refuse_file};
 use crate::words::CheckOptions;
@@ -77,16 +78,18 @@ fn check_readers<M: Read + Drop, S: Read + Drop>(
 
 fn check_stream<S: Read + Drop>(rt: &HostRuntime, task: &Task<'_>, model: &[u8], stream: S) -> u8 {
     let mut stream = Recent::new(rt.alloc(), stream, task.options.explains);
-    let mut out = rt.stdout();
+    let mut out = Progress::new(rt, rt.stdout());
     let completion = task.options.completion;
-    match check_stream_up_to(
+    let outcome = check_stream_up_to(
         rt.alloc(),
         model,
         &mut stream,
         &mut out,
         MOST_READS,
         completion,
-    ) {
+    );
+    out.clear();
+    match outcome {
         Ok(answer) => status(&Ok(answer)),
         Err(error) => refuse_check(rt, task, model, &stream, &error),
     }

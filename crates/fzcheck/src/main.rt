@@ -5,6 +5,7 @@ mod check;
 mod explain;
 mod files;
 mod pages;
+mod progress;
 mod recent;
 mod refuse;
 mod show;
