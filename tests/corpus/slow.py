@@ -23,7 +23,7 @@ RESERVED = set(
 )
 CLAIMS = {"=" * 10} | {"=====" + w + "=====" for w in "UNSATISFIABLE UNKNOWN UNBOUNDED UNSATorUNBOUNDED ERROR".split()}
 LEAST, MOST = -(2**63), 2**63 - 1
-MOST_SIZE, MOST_LEVELS = 1_048_576, 32
+MOST_SIZE, MOST_LEVELS, MOST_INDEXES = 1_048_576, 32, 6
 MOST_LISTED = 1_000_000
 
 
@@ -184,9 +184,12 @@ class Reader:
         if self.has("array"):
             self.take("[")
             self.index_set()
-            for _ in range(5):
-                if self.has(","):
-                    self.index_set()
+            count = 1
+            while self.has(","):
+                if count == MOST_INDEXES and self.next.sort in ("whole", "int"):
+                    raise Refused(self.what, "TooMany", self.next.start, self.next.end)
+                self.index_set()
+                count += 1
             self.take("]")
             self.take("of")
         self.has("var")
