@@ -1,7 +1,7 @@
 # make             proves the program with all that it stands on, builds it: build/fzcheck
 # make test        the gate: every proof from nothing, the must-fail edits, the tests, the program
-# make corpus      runs the built program over tests/corpus and examples, and beside a second
-#                  checker on random models
+# make corpus      runs the built program over tests/corpus and examples, beside a second checker
+#                  on random models, and with minizinc/ where MiniZinc is installed
 # make fuzz        runs it on random broken texts beside that checker, for SECONDS (600), by SEED
 # make bench       measures the built program beside a plain program (some minutes)
 # make quick       judges examples/first.fzn with NO proof, or MODEL=FILE [STREAM=FILE]; with a
@@ -44,7 +44,7 @@ corpus: build/fzcheck
 	tests/corpus/run.py build/fzcheck tests/corpus examples
 	tests/corpus/left_out.py build/fzcheck
 	tests/corpus/differ.py build/fzcheck - 300
-	tests/minizinc.sh build/fzcheck
+	tests/minizinc.py build/fzcheck
 
 fuzz: build/fzcheck
 	tests/hostile/fuzz.py build/fzcheck $(SECONDS) $(SEED)

@@ -1,3 +1,5 @@
+% keeps: fzcheck_circuit inverse_offsets fzn_cumulative fzn_table_int fzcheck_bin_packing_load
+% keeps: fzn_all_different_int
 % Arrays whose indices begin with 0 and with 5, so that places and indices differ.
 include "globals.mzn";
 

@@ -1,0 +1,124 @@
+#!/usr/bin/env python3
+"""Compiles models with the library in minizinc/, and judges a solver's streams by what comes out.
+
+    tests/minizinc.py PROGRAM
+
+Each model of tests/minizinc names the rows that have to be kept. Where `fzn-gecode` is there too, it
+solves what the standard library makes of the model, by decompositions: its solutions must be accepted
+against both, and a solution with a value turned must not be satisfied against the one and violated
+against the other. Where MiniZinc isn't installed it says so, and nothing is tried."""
+import glob
+import os
+import random
+import re
+import shutil
+import subprocess
+import sys
+import tempfile
+
+ROOT = os.path.dirname(os.path.dirname(os.path.abspath(__file__)))
+OURS = ("--solver", os.path.join(ROOT, "minizinc", "fzcheck.msc"))
+STANDARD = ("-G", "std")
+MARKER = "----------\n"
+SOLUTIONS, TURNED = 200, 400
+VALUE = re.compile(r"\b(?:\d+|true|false)\b(?![.(])")
+
+
+def run(*words):
+    return subprocess.run(words, capture_output=True, text=True)
+
+
+def compiled(library, model, folder):
+    """The FlatZinc of a model, or what the compiler says."""
+    path = os.path.join(folder, library[-1].replace("/", "_") + ".fzn")
+    ran = run("minizinc", *library, "-c", model, "--fzn", path, "--no-output-ozn")
+    if ran.returncode != 0:
+        sys.exit(f"{model}: {ran.stderr}")
+    return path
+
+
+def kept(model):
+    """The names that a model says are kept."""
+    with open(model) as f:
+        return " ".join(re.findall(r"^% keeps: (.*)$", f.read(), re.M)).split()
+
+
+def solutions(flat):
+    """The blocks of solutions that the solver finds."""
+    blocks = run("fzn-gecode", "-n", str(SOLUTIONS), "-a", flat).stdout.split(MARKER)
+    return [block for block in blocks if block.strip() and not block.startswith("=")]
+
+
+def turn(block, rand):
+    """The block with one value turned: in the array's elements, or a scalar's."""
+    spots = [m for m in VALUE.finditer(block) if "array" not in last_line(block, m.start())]
+    spots += [m for m in VALUE.finditer(block) if "[" in last_line(block, m.start())]
+    spot = rand.choice(spots)
+    other = {"true": "false", "false": "true"}.get(spot.group())
+    other = other or str(max(0, int(spot.group()) + rand.choice((-1, 1, 2))))
+    return block[: spot.start()] + other + block[spot.end() :]
+
+
+def last_line(block, end):
+    """The line of this place up to it."""
+    return block[:end].rsplit("\n", 1)[-1]
+
+
+def judged(program, flat, blocks, folder):
+    """The verdict on each block, in one word."""
+    stream = os.path.join(folder, "stream")
+    with open(stream, "w") as f:
+        f.write("".join(block + MARKER for block in blocks))
+    ran = run(program, "check", "--complete", flat, stream)
+    lines = [line.split(": ") for line in ran.stdout.splitlines()]
+    return [line[1] for line in lines if line[0].startswith("block ")]
+
+
+def faults(program, model, folder):
+    """What isn't as it should be of a model."""
+    ours = compiled(OURS, model, folder)
+    with open(ours) as f:
+        names = set(re.findall(r"^constraint (\w+)\(", f.read(), re.M))
+    yield from (f"{name} isn't kept" for name in kept(model) if name not in names)
+    if run(program, "show", ours).returncode != 0:
+        yield "it can't be read"
+    if shutil.which("fzn-gecode"):
+        yield from faults_of_streams(program, ours, compiled(STANDARD, model, folder), folder)
+
+
+def faults_of_streams(program, ours, standard, folder):
+    blocks = solutions(standard)
+    if not blocks:
+        yield "it has no solution"
+        return
+    for flat in (ours, standard):
+        if set(judged(program, flat, blocks, folder)) != {"satisfied"}:
+            yield f"a solution isn't accepted against {flat}"
+    rand = random.Random(1)
+    turned = [turn(rand.choice(blocks), rand) for _ in range(TURNED)]
+    both = [judged(program, flat, turned, folder) for flat in (ours, standard)]
+    if any(len(verdicts) != TURNED for verdicts in both):
+        yield "a turned solution is refused"
+    for block, *verdicts in zip(turned, *both):
+        if set(verdicts) == {"satisfied", "violated"}:
+            yield f"{verdicts[0]} against ours, {verdicts[1]} against the standard library's:\n{block}"
+
+
+def main():
+    program = os.path.abspath(sys.argv[1])
+    if not shutil.which("minizinc"):
+        print("minizinc isn't installed: minizinc/ isn't tried")
+        return 0
+    passed = failed = 0
+    for model in sorted(glob.glob(os.path.join(ROOT, "tests", "minizinc", "*.mzn"))):
+        with tempfile.TemporaryDirectory() as folder:
+            found = list(faults(program, model, folder))
+        for fault in found:
+            print(f"failed: {os.path.basename(model)}: {fault}")
+        passed, failed = passed + (not found), failed + len(found)
+    print(f"{passed} passed, {failed} failed")
+    return 1 if failed else 0
+
+
+if __name__ == "__main__":
+    sys.exit(main())

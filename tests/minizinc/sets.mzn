@@ -1,0 +1,17 @@
+% keeps: fzn_disjoint fzn_partition_set gecode_int_set_channel gecode_link_set_to_booleans
+include "globals.mzn";
+
+var set of 1..4: s;
+var set of 1..4: t;
+array [1..3] of var set of 1..4: parts;
+array [1..4] of var 1..3: group;
+array [1..3] of var set of 1..4: members;
+array [1..4] of var bool: chosen;
+
+constraint disjoint(s, t);
+constraint card(s) = 2 /\ card(t) = 1;
+constraint partition_set(parts, 1..4);
+constraint int_set_channel(group, members);
+constraint link_set_to_booleans(s, chosen);
+
+solve satisfy;
