@@ -1,0 +1,6 @@
+//! What stands behind a verdict on a block, for a person to act on: where each value is from.
+#![tactic(auto)]
+
+mod giving;
+
+pub use giving::giver;
