@@ -1,15 +1,16 @@
-use Rattle.std.proofs.Common.{rules, ◌≡◌, ◌<◌, ◌↔◌, IfOk, IfSome, IsFalse, IsNone, IsTrue, Some, length, slice_get, ℕ, ◌+◌, ◌-◌, ◌*◌, ◌≤◌, ◌/◌, ◌%◌, Bool, true, false, nat_eq, nat_lt, List, [], ◌∷◌, ◌++◌, slice_index_or, slice_set, bit_and, bit_or, Fits, w8, w32, w64, Bor, MutBor}
-use Rattle.fz_base.specs.declared.value.Value.{Value}
-use Rattle.fz_model.specs.Meaning.{IsPartial, Point, points, value_at}
-use Rattle.fz_model.specs.Partial.{without}
+use Rattle.std.proofs.Common.{subst₂}
 use Rattle.fz_model.specs.Steps.{Gives}
-use Rattle.fz_explain.specs.Givers.{IsFirstGiver, NoneGives}
+use Rattle.fz_explain.proofs.Steps.{one_step}
 use Rattle.fz_explain.proofs.giving.gives.Goals as goal
 
--- src/giving.rt:42:1
 pub returns-in-Some-clause-gives : goal.returns-in-Some-clause-gives
-returns-in-Some-clause-gives c = ?
+returns-in-Some-clause-gives c = λ yes p at.
+    let same = c.is_step.ensures.0 yes in
+    subst₂ (λ n v. Gives c.args.model.now c.args.others.now p n v) same.0 same.1 ((rw c.in-Some.is at c.in_ok-number.ensures.given) p at)
 
--- src/giving.rt:42:1
 pub returns-in-Some-clause-not : goal.returns-in-Some-clause-not
-returns-in-Some-clause-not c = ?
+returns-in-Some-clause-not c = λ no p at g.
+    let given = (rw c.in-Some.is at c.in_ok-number.ensures.given) p at in
+    let one = one_step c.args.model.now c.args.others.now c.args.point c.in-Some.number c.args.variable p c.in-Some.given c.args.value.now at given g in
+    let yes = c.is_step.ensures.1 (one.variable, one.value) in
+    absurd (cc)
