@@ -1,1 +1,2 @@
 pub mod Givers
+pub mod Sources

@@ -2,5 +2,7 @@
 #![tactic(auto)]
 
 mod giving;
+mod printing;
 
 pub use giving::giver;
+pub use printing::is_printed;
