@@ -1,11 +1,16 @@
 -- Where the values of a point are from (this project's profile).
-use Rattle.std.specs.Prelude.{ℕ, Bool, false, List, ◌==◌}
+use Rattle.std.specs.Prelude.{◌≡◌, ℕ, Bool, false, true, List, ◌==◌, None, Some}
 use Rattle.std.specs.List.{list_any}
 use Rattle.std.specs.Option.{option_map_or}
-use Rattle.fz_model.specs.Meaning.{Model, find_name, terms_at}
+use Rattle.fz_base.specs.declared.value.Value.{Value}
+use Rattle.fz_model.specs.Meaning.{Model, Partial, find_name, terms_at, value_at}
+use Rattle.fz_model.specs.Partial.{without}
 use Rattle.fz_model.specs.declared.Term.{Term}
 use Rattle.fz_model.specs.declared.Term.TheVariants.{Var, Fixed}
 use Rattle.fz_verdict.specs.Blocks.{Printed}
+use Rattle.fz_explain.specs.Givers.{IsFirstGiver, NoneGives}
+use Rattle.fz_explain.specs.declared.source.Source.{Source}
+use Rattle.fz_explain.specs.declared.source.Source.TheVariants as sources
 
 abbrev pub is_variable : ℕ → Term → Bool
 is_variable n (Var k) = k == n
@@ -14,3 +19,14 @@ is_variable n (Fixed v) = false
 -- a printed name stands for the variable, alone or as an array's element
 abbrev pub prints : Model → List Printed → ℕ → Bool
 prints m items n = list_any (λ i. option_map_or (λ p. list_any (is_variable n) (terms_at p)) (find_name m i.name.text) false) items
+
+-- where the value of a variable is from under a filling of these items
+abbrev pub IsSourceOf : Model → List Printed → Partial → ℕ → Source → Type 0
+-- it is printed
+IsSourceOf m items F n sources.Printed = (v : Value) × (value_at F n ≡ Some v) × (prints m items n ≡ true)
+-- it isn't, and the point of this number is the first that gives it from the values of the others
+IsSourceOf m items F n (sources.Given k) = (v : Value) × (value_at F n ≡ Some v) × (prints m items n ≡ false) × IsFirstGiver m (without F n) n v k
+-- it isn't, and no point gives it from those
+IsSourceOf m items F n sources.Filled = (v : Value) × (value_at F n ≡ Some v) × (prints m items n ≡ false) × NoneGives m (without F n) n v
+-- there is none
+IsSourceOf m items F n sources.Nothing = value_at F n ≡ None

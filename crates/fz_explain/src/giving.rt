@@ -64,7 +64,7 @@ fn gives(
 /// # Errors
 ///
 /// Want of memory.
-pub fn giver(
+pub(crate) fn giver(
     alloc: Global,
     model: &Model<'_>,
     filling: &mut Partial,

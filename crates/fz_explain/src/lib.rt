@@ -3,6 +3,6 @@
 
 mod giving;
 mod printing;
+mod source;
 
-pub use giving::giver;
-pub use printing::is_printed;
+pub use source::{Source, source_of};

@@ -48,7 +48,7 @@ fn stands_for(model: &Model<'_>, name: &[u8], variable: usize) -> bool
 }
 
 /// Whether one of the printed names stands for the variable.
-pub fn is_printed(model: &Model<'_>, items: &[Printed<'_>], variable: usize) -> bool
+pub(crate) fn is_printed(model: &Model<'_>, items: &[Printed<'_>], variable: usize) -> bool
     ensures { result ≡ prints model.now (located_items items.now) variable }
 {
     for item in items {
