@@ -1,10 +1,11 @@
 -- Where the values of a point are from (this project's profile).
-use Rattle.std.specs.Prelude.{◌≡◌, ℕ, Bool, false, true, List, ◌==◌, None, Some}
+use Rattle.std.specs.Prelude.{◌≡◌, ℕ, Bool, false, true, cond, List, [], ◌∷◌, ◌++◌, ◌==◌, None, Some}
 use Rattle.std.specs.List.{list_any}
 use Rattle.std.specs.Option.{option_map_or}
 use Rattle.fz_base.specs.declared.value.Value.{Value}
-use Rattle.fz_model.specs.Meaning.{Model, Partial, find_name, terms_at, value_at}
+use Rattle.fz_model.specs.Meaning.{Model, Partial, Point, find_name, terms_at, value_at}
 use Rattle.fz_model.specs.Partial.{without}
+use Rattle.fz_model.specs.Steps.{terms_of}
 use Rattle.fz_model.specs.declared.Term.{Term}
 use Rattle.fz_model.specs.declared.Term.TheVariants.{Var, Fixed}
 use Rattle.fz_verdict.specs.Blocks.{Printed}
@@ -30,3 +31,22 @@ IsSourceOf m items F n (sources.Given k) = (v : Value) × (value_at F n ≡ Some
 IsSourceOf m items F n sources.Filled = (v : Value) × (value_at F n ≡ Some v) × (prints m items n ≡ false) × NoneGives m (without F n) n v
 -- there is none
 IsSourceOf m items F n sources.Nothing = value_at F n ≡ None
+
+-- ---- the variables of a point
+
+-- the number is listed
+abbrev pub is_listed : List ℕ → ℕ → Bool
+is_listed ns n = list_any (λ k. n == k) ns
+
+-- with one more scalar: a variable goes behind the others where it isn't there
+abbrev pub with_term : List ℕ → Term → List ℕ
+with_term ns (Var n) = cond (is_listed ns n) ns (ns ++ n ∷ [])
+with_term ns (Fixed v) = ns
+
+abbrev pub with_terms : List ℕ → List Term → List ℕ
+with_terms ns [] = ns
+with_terms ns (t ∷ ts) = with_terms (with_term ns t) ts
+
+-- those that stand in a point, each where it stands first
+abbrev pub variables_in : Point → List ℕ
+variables_in p = with_terms [] (terms_of p)

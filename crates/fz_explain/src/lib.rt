@@ -4,5 +4,6 @@
 mod giving;
 mod printing;
 mod source;
+mod variables;
 
 pub use source::{Source, source_of};
