@@ -1,6 +1,5 @@
 -- A point gives one value to one variable; and what becomes of a partial assignment from which a value is taken and given back.
-use Rattle.std.proofs.Common.{◌≡◌, ◌<◌, ◌≤◌, ℕ, zero, suc, List, [], ◌∷◌, Some, None, length, slice_get, slice_set, subst, sym, ap, arith, refl, ◌+◌, inl, inr}
-use Rattle.std.proofs.lemmas.Bool.{cases_lt}
+use Rattle.std.proofs.Common.{◌≡◌, ◌<◌, ℕ, zero, suc, List, [], ◌∷◌, Some, None, length, slice_get, slice_set, subst, sym, ap, arith, refl}
 use Rattle.fz_base.specs.declared.value.Value.{Value}
 use Rattle.fz_model.specs.declared.Term.TheVariants.{Var}
 use Rattle.fz_model.specs.Meaning.{FitVariables, IsPartial, Model, Partial, Point, Variable, give, points, value_at, variables_of}
@@ -10,8 +9,6 @@ use Rattle.fz_model.proofs.Lists.{at_place}
 use Rattle.fz_model.proofs.Points.{points_fit}
 use Rattle.fz_model.proofs.Steps.{PointFits}
 use Rattle.fz_filling.proofs.Reordering.{step_value}
-use Rattle.fz_filling.proofs.Stepping.{there_is}
-use Rattle.fz_explain.specs.Givers.{IsFirstGiver, NoneGives, NoneGivesBefore}
 
 pub record SameStep (n j : ℕ) (v u : Value) : Type 0 where
   pub variable : n ≡ j
@@ -22,20 +19,6 @@ one_step m K k n j p v u at g h =
     let variable : n ≡ j = (let terms : (Var n ∷ []) ≡ (Var j ∷ []) = cc in cc) in
     let moved : Gives m K p n u = subst (λ i. Gives m K p i u) (sym variable) h in
     record { variable = variable; value = step_value m K p n v u (at_place (PointFits m) (points m) k p (points_fit m) at) g moved }
-
-got_within : {A : Type 0} (xs : List A) (k : ℕ) (x : A) → slice_get xs k ≡ Some x → k < length xs
-got_within [] k x e = cc
-got_within (y ∷ ys) zero x e = omega arith
-got_within (y ∷ ys) (suc k) x e = let less = got_within ys k x e in omega (arith, less)
-
--- ---- one more number
-
-pub none_before_next : (m : Model) (K : Partial) (n : ℕ) (v : Value) (k : ℕ) → NoneGivesBefore m K n v k → ((p : Point) → slice_get (points m) k ≡ Some p → Gives m K p n v → ⊥)
-    → NoneGivesBefore m K n v (k + 1)
-none_before_next m K n v k before here = λ j p less at g. elim (cases_lt j k) [
-    | inl below ↦ before j p below at g
-    | inr above ↦ let same : j ≡ k = omega arith in here p (subst (λ i. slice_get (points m) i ≡ Some p) same at) g
-  ]
 
 -- ---- without a value, and with it again
 
@@ -64,12 +47,3 @@ given_back [] n v e = refl
 given_back (None ∷ K) zero v e = cc
 given_back (Some u ∷ K) zero v e = let same : u ≡ v = cc in ap (λ w. Some w ∷ K) (sym same)
 given_back (o ∷ K) (suc n) v e = ap (λ L. o ∷ L) (given_back K n v e)
-
-pub first_at : (m : Model) (K : Partial) (n : ℕ) (v : Value) (k end : ℕ) → k < end → end ≡ length (points m) → ((p : Point) → slice_get (points m) k ≡ Some p → Gives m K p n v)
-    → NoneGivesBefore m K n v k → IsFirstGiver m K n v k
-first_at m K n v k end less counted gives before =
-    let (p, at) = there_is (points m) k (omega (arith, less, counted)) in
-    record { point = p; at = at; gives = gives p at; first = before }
-
-pub none_at_all : (m : Model) (K : Partial) (n : ℕ) (v : Value) (k end : ℕ) → end ≤ k → end ≡ length (points m) → NoneGivesBefore m K n v k → NoneGives m K n v
-none_at_all m K n v k end over counted before = λ j p at g. let within : j < length (points m) = got_within (points m) j p at in before j p (omega (arith, within, over, counted)) at g

@@ -1,2 +1,3 @@
-pub mod Givers
+pub mod Firsts
 pub mod Sources
+pub mod Told

@@ -9,7 +9,7 @@ use Rattle.fz_model.specs.Steps.{terms_of}
 use Rattle.fz_model.specs.declared.Term.{Term}
 use Rattle.fz_model.specs.declared.Term.TheVariants.{Var, Fixed}
 use Rattle.fz_verdict.specs.Blocks.{Printed}
-use Rattle.fz_explain.specs.Givers.{IsFirstGiver, NoneGives}
+use Rattle.fz_explain.specs.Firsts.{GivesIt, IsFirst, NoPoint}
 use Rattle.fz_explain.specs.declared.source.Source.{Source}
 use Rattle.fz_explain.specs.declared.source.Source.TheVariants as sources
 
@@ -26,9 +26,9 @@ abbrev pub IsSourceOf : Model → List Printed → Partial → ℕ → Source �
 -- it is printed
 IsSourceOf m items F n sources.Printed = (v : Value) × (value_at F n ≡ Some v) × (prints m items n ≡ true)
 -- it isn't, and the point of this number is the first that gives it from the values of the others
-IsSourceOf m items F n (sources.Given k) = (v : Value) × (value_at F n ≡ Some v) × (prints m items n ≡ false) × IsFirstGiver m (without F n) n v k
+IsSourceOf m items F n (sources.Given k) = (v : Value) × (value_at F n ≡ Some v) × (prints m items n ≡ false) × IsFirst m (GivesIt m (without F n) n v) k
 -- it isn't, and no point gives it from those
-IsSourceOf m items F n sources.Filled = (v : Value) × (value_at F n ≡ Some v) × (prints m items n ≡ false) × NoneGives m (without F n) n v
+IsSourceOf m items F n sources.Filled = (v : Value) × (value_at F n ≡ Some v) × (prints m items n ≡ false) × NoPoint m (GivesIt m (without F n) n v)
 -- there is none
 IsSourceOf m items F n sources.Nothing = value_at F n ≡ None
 

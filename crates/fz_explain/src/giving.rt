@@ -5,7 +5,7 @@ ghost use Rattle.fz_base.specs.declared.value.Value.{Value};
 ghost use Rattle.fz_model.specs.Meaning.{IsPartial, Point, points, value_at};
 ghost use Rattle.fz_model.specs.Partial.{without};
 ghost use Rattle.fz_model.specs.Steps.{Gives};
-ghost use Rattle.fz_explain.specs.Givers.{IsFirstGiver, NoneGives};
+ghost use Rattle.fz_explain.specs.Firsts.{GivesIt, IsFirst, NoPoint};
 
 use fz_base::Value;
 use fz_model::{Model, Partial, forced};
@@ -20,8 +20,8 @@ fn first_giver(
     value: &Value,
 ) -> Result<Option<usize>, AllocError>
     requires fits { IsPartial model.now others.now }
-    ensures found { IfOk result (λ o. IfSome o (IsFirstGiver model.now others.now variable value.now)) }
-    ensures none { IfOk result (λ o. IsNone o → NoneGives model.now others.now variable value.now) }
+    ensures found { IfOk result (λ o. IfSome o (IsFirst model.now (GivesIt model.now others.now variable value.now))) }
+    ensures none { IfOk result (λ o. IsNone o → NoPoint model.now (GivesIt model.now others.now variable value.now)) }
 {
     for point in 0..model.points() {
         if gives(alloc, model, others, point, variable, value)? {
@@ -71,8 +71,8 @@ pub(crate) fn giver(
     variable: usize,
 ) -> Result<Option<usize>, AllocError>
     requires fits { IsPartial model.now filling.old }
-    ensures found { IfOk result (λ o. IfSome o (λ k. (v : Value) → value_at filling.old variable ≡ Some v → IsFirstGiver model.now (without filling.old variable) variable v k)) }
-    ensures none { IfOk result (λ o. IsNone o → (v : Value) → value_at filling.old variable ≡ Some v → NoneGives model.now (without filling.old variable) variable v) }
+    ensures found { IfOk result (λ o. IfSome o (λ k. (v : Value) → value_at filling.old variable ≡ Some v → IsFirst model.now (GivesIt model.now (without filling.old variable) variable v) k)) }
+    ensures none { IfOk result (λ o. IsNone o → (v : Value) → value_at filling.old variable ≡ Some v → NoPoint model.now (GivesIt model.now (without filling.old variable) variable v)) }
     ensures same { filling.new ≡ filling.old }
 {
     let value = match filling.get(variable) {

@@ -102,10 +102,7 @@ fn add_arguments(
 }
 
 /// Adds those of a point.
-fn add_point(
-    variables: &mut Variables,
-    parts: PointParts<'_, '_>,
-) -> Result<(), AllocError>
+fn add_point(variables: &mut Variables, parts: PointParts<'_, '_>) -> Result<(), AllocError>
     ensures { OnOk result (variables.new.keys ≡ with_terms variables.old.keys (terms_of (point_view parts.entry))) }
 {
     match parts {

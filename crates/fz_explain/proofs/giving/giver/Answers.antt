@@ -1,6 +1,5 @@
-use Rattle.std.proofs.Common.{◌≡◌, ◌<◌, ◌∙◌, Some, None, length, subst, sym, ap}
+use Rattle.std.proofs.Common.{◌<◌, ◌∙◌, length, subst, sym, ap}
 use Rattle.fz_model.specs.Meaning.{IsPartial, give, value_at}
-use Rattle.fz_model.specs.Partial.{without}
 use Rattle.fz_explain.proofs.Steps.{given_back, less_fits, none_there, still_long}
 use Rattle.fz_explain.proofs.giving.giver.Goals as goal
 

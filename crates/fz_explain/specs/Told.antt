@@ -1,0 +1,26 @@
+-- The point that a verdict tells of: one that fails, or one that neither holds nor fails (this project's profile).
+use Rattle.std.specs.Prelude.{◌≡◌, Bool, true, false}
+use Rattle.fz_model.specs.declared.State.{State}
+use Rattle.fz_model.specs.declared.State.TheVariants.{Holds, Fails, NoValue, Unknown, TooLarge}
+use Rattle.fz_model.specs.Meaning.{Partial, Point, state}
+use Rattle.fz_explain.specs.declared.failing.Sought.{Sought}
+use Rattle.fz_explain.specs.declared.failing.Sought.TheVariants.{Failing, Undecided}
+
+abbrev pub is_failing : Sought → Bool
+is_failing Failing = true
+is_failing Undecided = false
+
+abbrev pub is_undecided : Sought → Bool
+is_undecided Failing = false
+is_undecided Undecided = true
+
+abbrev pub is_sought : Sought → State → Bool
+is_sought s Holds = false
+is_sought s Fails = is_failing s
+is_sought s NoValue = is_undecided s
+is_sought s Unknown = is_undecided s
+is_sought s TooLarge = is_undecided s
+
+-- the point is as it is sought
+abbrev pub IsSought : Partial → Sought → Point → Type 0
+IsSought F s p = is_sought s (state F p) ≡ true

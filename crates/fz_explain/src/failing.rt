@@ -1,0 +1,54 @@
+//! The point that a verdict tells of.
+
+ghost use Rattle.std.specs.Prelude.{◌≡◌, ◌<◌, IfOk, IfSome, IsNone, Some, length, slice_get};
+ghost use Rattle.fz_model.specs.Meaning.{Point, points, state};
+ghost use Rattle.fz_explain.specs.Firsts.{IsFirst, NoPoint};
+ghost use Rattle.fz_explain.specs.Told.{IsSought, is_sought};
+
+use fz_model::{Model, Partial, State, state};
+use std::alloc::{AllocError, Global};
+
+/// Which point is looked for.
+#[derive(Clone, Copy, Debug, PartialEq, Eq)]
+pub enum Sought {
+    /// One that fails.
+    Failing,
+    /// One that neither holds nor fails.
+    Undecided,
+}
+
+impl Sought {
+    fn fits(self, state: State) -> bool
+        ensures { result ≡ is_sought self state }
+    {
+        match state {
+            State::Holds => false,
+            State::Fails => matches!(self, Sought::Failing),
+            State::NoValue | State::Unknown | State::TooLarge => {
+                matches!(self, Sought::Undecided)
+            }
+        }
+    }
+}
+
+/// The number of the first point, from 0, that is as it is sought.
+///
+/// # Errors
+///
+/// Want of memory.
+pub fn first_point(
+    alloc: Global,
+    model: &Model<'_>,
+    filling: &Partial,
+    sought: Sought,
+) -> Result<Option<usize>, AllocError>
+    ensures found { IfOk result (λ o. IfSome o (IsFirst model.now (IsSought filling.now sought))) }
+    ensures none { IfOk result (λ o. IsNone o → NoPoint model.now (IsSought filling.now sought)) }
+{
+    for number in 0..model.points() {
+        if sought.fits(state(alloc, model, number, filling)?) {
+            return Ok(Some(number));
+        }
+    }
+    Ok(None)
+}
