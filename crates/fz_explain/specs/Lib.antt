@@ -1,3 +1,4 @@
 pub mod Firsts
 pub mod Sources
+pub mod Spots
 pub mod Told

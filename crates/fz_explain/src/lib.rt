@@ -4,10 +4,12 @@
 
 mod failing;
 mod giving;
+mod place;
 mod printing;
 mod source;
 mod variables;
 
 pub use failing::{Sought, first_point};
+pub use place::point_place;
 pub use source::{Source, source_of};
 pub use variables::variables_of;

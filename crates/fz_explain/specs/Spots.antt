@@ -1,0 +1,13 @@
+-- Where the name stands by which a point is told (this project's profile).
+use Rattle.std.specs.Prelude.{ℕ, ◌-◌, Option, map, option_map, slice_get}
+use Rattle.fz_base.specs.declared.span.Span.{Span}
+use Rattle.fz_syntax.specs.declared.tree.Ast.{Ast}
+use Rattle.fz_model.specs.Names.{declaration}
+use Rattle.fz_model.specs.View.{located_decl}
+use Rattle.fz_model.specs.declared.Point.{Point}
+use Rattle.fz_model.specs.declared.Point.TheVariants as points
+
+abbrev pub point_place : Ast → Point → Option Span
+point_place a (points.Domain x) = option_map (λ d. d.name.span) (declaration (map located_decl a.decls.items) x.now)
+point_place a (points.Definition x) = option_map (λ d. d.name.span) (declaration (map located_decl a.decls.items) x.now)
+point_place a (points.Constraint k x) = option_map (λ c. c.name.span) (slice_get a.constraints.items (k - 1))

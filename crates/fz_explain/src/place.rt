@@ -1,0 +1,41 @@
+//! Where the name stands by which a point is told.
+
+ghost use Rattle.std.specs.Prelude.{◌≡◌, ◌-◌, map, option_map, slice_get};
+ghost use Rattle.fz_model.specs.Names.{declaration};
+ghost use Rattle.fz_model.specs.View.{located_decl};
+ghost use Rattle.fz_explain.specs.Spots.{point_place};
+
+use fz_base::Span;
+use fz_model::Point;
+use fz_syntax::Ast;
+
+/// The place of the predicate of the constraint with this number, from 1.
+fn constraint_place(ast: &Ast<'_>, number: usize) -> Option<Span>
+    ensures { result ≡ option_map (λ c. c.name.span) (slice_get ast.now.constraints.items (number - 1)) }
+{
+    let constraint = ast.constraints.get(number.saturating_sub(1))?;
+    Some(constraint.name.span)
+}
+
+/// The place where a name is declared.
+fn declared_place(ast: &Ast<'_>, name: &[u8]) -> Option<Span>
+    ensures { result ≡ option_map (λ d. d.name.span) (declaration (map located_decl ast.now.decls.items) name.now) }
+{
+    for decl in &ast.decls {
+        if decl.name.text == name {
+            return Some(decl.name.span);
+        }
+    }
+    None
+}
+
+/// The place of the name by which a point is told, in the text of the tree: a constraint's
+/// predicate, or a declared name.
+pub fn point_place(ast: &Ast<'_>, point: &Point<'_>) -> Option<Span>
+    ensures { result ≡ point_place ast.now point.now }
+{
+    match point {
+        Point::Domain(name) | Point::Definition(name) => declared_place(ast, name),
+        Point::Constraint(number, _) => constraint_place(ast, *number),
+    }
+}
