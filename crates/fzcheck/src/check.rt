@@ -114,13 +114,16 @@ fn refuse_check<S: Read + Drop>(
             };
             refuse_at(rt, error, &source)
         }
-        _ => {
-            let source = Source {
-                name: task.stream,
-                bytes: stream.bytes(),
-                passed: stream.passed(),
-            };
-            refuse_at(rt, error, &source)
-        }
+        _ => match stream.kept() {
+            Some((bytes, passed)) => {
+                let source = Source {
+                    name: task.stream,
+                    bytes,
+                    passed,
+                };
+                refuse_at(rt, error, &source)
+            }
+            None => refuse(rt, error),
+        },
     }
 }

@@ -54,14 +54,13 @@ impl<R: Read> Recent<R> {
         }
     }
 
-    /// What is kept.
-    pub fn bytes(&self) -> &[u8] {
-        &self.bytes
-    }
-
-    /// What was given before that.
-    pub fn passed(&self) -> Passed {
-        self.passed
+    /// What is kept, and what was given before it; nothing where there was no memory to keep it.
+    pub fn kept(&self) -> Option<(&[u8], Passed)> {
+        if self.keeps {
+            Some((&self.bytes, self.passed))
+        } else {
+            None
+        }
     }
 
     /// Why a read failed, where one did.

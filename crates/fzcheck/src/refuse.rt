@@ -41,13 +41,20 @@ pub fn refuse(rt: &HostRuntime, error: &CheckError) -> u8 {
     }
 }
 
+/// Whether this is the status of a refusal itself, and not of one for want of memory to tell it.
+fn is_told(told: u8, error: &CheckError) -> bool {
+    told == status(&Err(*error))
+}
+
 /// Tells a refusal, and where its fault stands in the source.
 pub fn refuse_at(rt: &HostRuntime, error: &CheckError, source: &Source<'_>) -> u8 {
-    let status = refuse(rt, error);
-    if let Ok(Some(text)) = explanation(rt.alloc(), source, error) {
+    let told = refuse(rt, error);
+    if is_told(told, error)
+        && let Ok(Some(text)) = explanation(rt.alloc(), source, error)
+    {
         let _ = eprint!(rt; "{text}");
     }
-    status
+    told
 }
 
 /// Tells a refusal, and what the system says of the file, where it says something.
@@ -57,11 +64,13 @@ pub fn refuse_file(
     name: &str,
     failure: Option<&io::Error>,
 ) -> u8 {
-    let status = refuse(rt, error);
-    if let Some(failure) = failure {
+    let told = refuse(rt, error);
+    if is_told(told, error)
+        && let Some(failure) = failure
+    {
         tell_failure(rt, name, failure);
     }
-    status
+    told
 }
 
 /// Tells what the system says of a file, without the system's number for it.
