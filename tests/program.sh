@@ -92,23 +92,32 @@ expect 'a name declared twice' 4 '' 'refused: model: DuplicateName at 25..26' "$
 expect 'a name declared twice, checked' 4 '' 'refused: model: DuplicateName at 25..26' "$program" check "$folder/twice.fzn" examples/first.out
 expect 'a model shown' 0 "$(cat examples/first.fzn)" '' "$program" show examples/first.fzn
 
-# where a refusal stands: pages that are kept as files
+# where a refusal stands, and what stands behind a verdict: pages that are kept as files
+report() {
+  (cd "$1" && "$program" check "${@:2}" model.fzn stream.txt 2>"$folder/told"; echo "status $?")
+}
 for page in tests/explained/*/; do
   name=$(basename "$page")
-  told=$(cd "$page" && "$program" check --explain model.fzn stream.txt 2>&1 >/dev/null)
-  expect "explained: $name" 0 "$(cat "$page/told.txt")" '' printf '%s' "$told"
-  expect "the refusal alone: $name" 4 "$(cd "$page" && "$program" check model.fzn stream.txt 2>/dev/null)" \
-    "$(head -1 "$page/told.txt")" "$program" check "$page/model.fzn" "$page/stream.txt"
+  plain=$(report "$page")
+  refusal=$(cat "$folder/told")
+  expect "the report with an explanation: $name" 0 "$plain" '' printf '%s\n' "$(report "$page" --explain)"
+  expect "explained: $name" 0 "$(cat "$page/told.txt")" '' cat "$folder/told"
+  expect "the refusal alone: $name" 0 "$(grep '^refused:' "$page/told.txt")" '' printf '%s\n' "$refusal"
 done
 expect 'nothing to explain' 0 "$accepted" '' "$program" check --explain examples/first.fzn examples/first.out
-expect 'nothing to explain in a block that is undecided' 2 \
-  "$("$program" check examples/tour/model.fzn examples/tour/stream.txt)" '' \
-  "$program" check --explain examples/tour/model.fzn examples/tour/stream.txt
 # after many blocks, from a pipe: the line is counted through the whole stream
 many() { awk 'BEGIN { for (i = 0; i < 20000; i++) print "x = 3;\n----------"; print "x = 3;\ny = 4;\n----------" }' </dev/null; }
 far=$'refused: block 20001: UnknownName at 360007..360008\n(standard input):40002:1: the model declares no such name to print, in block 20001\n   40002 | y = 4;\n         | ^'
 told=$(many | "$program" check --explain examples/first.fzn 2>&1 >/dev/null)
 expect 'a fault far on in a pipe' 0 "$far" '' printf '%s' "$told"
+# a block that is violated far on in a pipe, with undecided ones before it and others behind it
+deep() { awk 'BEGIN { for (i = 0; i < 9000; i++) print "y = 1;\n----------"; print "x = 9;\n----------"; for (i = 0; i < 9000; i++) print "x = 8;\n----------" }' </dev/null; }
+printf 'var 0..9: x;\nvar 0..9: y :: output_var;\nconstraint int_le(x,5);\nsolve satisfy;\n' >"$folder/deep.fzn"
+deep | "$program" check --explain "$folder/deep.fzn" 2>"$folder/told" >/dev/null
+expect 'a verdict far on in a pipe' 0 "$folder/deep.fzn:3:12: constraint 1 int_le fails in block 9001
+   3 | constraint int_le(x,5);
+     |            ^^^^^^
+     = x = 9, printed" '' cat "$folder/told"
 # a line of a megabyte: what is shown of it has at most 120 columns
 awk 'BEGIN { printf "var 0..9: x;\nconstraint int_lin_le(["; for (i = 0; i < 500000; i++) printf "1,"; print "y],[x],0);\nsolve satisfy;" }' </dev/null >"$folder/wide.fzn"
 "$program" check --explain "$folder/wide.fzn" examples/first.out 2>"$folder/told"

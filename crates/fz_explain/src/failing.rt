@@ -43,6 +43,7 @@ pub fn first_point(
     sought: Sought,
 ) -> Result<Option<usize>, AllocError>
     ensures found { IfOk result (λ o. IfSome o (IsFirst model.now (IsSought filling.now sought))) }
+    ensures in_range { IfOk result (λ o. IfSome o (λ k. k < length (points model.now))) }
     ensures none { IfOk result (λ o. IsNone o → NoPoint model.now (IsSought filling.now sought)) }
 {
     for number in 0..model.points() {

@@ -6,8 +6,10 @@ use crate::files::read_up_to;
 use crate::progress::Progress;
 use crate::recent::{NOTHING, Recent};
 use crate::refuse::{refuse, refuse_at, refuse_file};
+use crate::verdict::{Case, case_explanation};
 use crate::words::CheckOptions;
 use fz_check::{CheckError, MOST_READS, check_stream_up_to, status};
+use std::cell::Cell;
 use std::io::Read;
 use std::os::fd::AsFd;
 use std::{fs, io};
@@ -69,7 +71,8 @@ fn check_readers<M: Read + Drop, S: Read + Drop>(
     model: M,
     stream: S,
 ) -> u8 {
-    let mut model = Recent::new(rt.alloc(), model, false);
+    let nothing = Cell::new(0);
+    let mut model = Recent::new(rt.alloc(), model, false, &nothing);
     match read_up_to(rt.alloc(), &mut model, MOST_BYTES) {
         Ok(bytes) => check_stream(rt, task, &bytes, stream),
         Err(error) => refuse_file(rt, &error, task.model, model.failure()),
@@ -77,8 +80,10 @@ fn check_readers<M: Read + Drop, S: Read + Drop>(
 }
 
 fn check_stream<S: Read + Drop>(rt: &HostRuntime, task: &Task<'_>, model: &[u8], stream: S) -> u8 {
-    let mut stream = Recent::new(rt.alloc(), stream, task.options.explains);
-    let mut out = Progress::new(rt, rt.stdout());
+    let explains = task.options.explains;
+    let wanted = Cell::new(0);
+    let mut stream = Recent::new(rt.alloc(), stream, explains, &wanted);
+    let mut out = Progress::new(rt, rt.stdout(), explains, &wanted);
     let completion = task.options.completion;
     let outcome = check_stream_up_to(
         rt.alloc(),
@@ -90,8 +95,37 @@ fn check_stream<S: Read + Drop>(rt: &HostRuntime, task: &Task<'_>, model: &[u8],
     );
     out.clear();
     match outcome {
-        Ok(answer) => status(&Ok(answer)),
+        Ok(answer) => {
+            explain_verdict(rt, task, model, &mut stream, out.told());
+            status(&Ok(answer))
+        }
         Err(error) => refuse_check(rt, task, model, &stream, &error),
+    }
+}
+
+/// Explains the verdict that the answer names, where there is one to be explained.
+fn explain_verdict<S: Read + Drop>(
+    rt: &HostRuntime,
+    task: &Task<'_>,
+    model: &[u8],
+    stream: &mut Recent<'_, S>,
+    said: &[u8],
+) {
+    let Some(told) = stream.told() else {
+        return;
+    };
+    let case = Case {
+        said,
+        model: Source {
+            name: task.model,
+            bytes: model,
+            passed: NOTHING,
+        },
+        stream: task.stream,
+        told,
+    };
+    if let Ok(Some(text)) = case_explanation(rt.alloc(), &case) {
+        let _ = eprint!(rt; "{text}");
     }
 }
 
@@ -100,7 +134,7 @@ fn refuse_check<S: Read + Drop>(
     rt: &HostRuntime,
     task: &Task<'_>,
     model: &[u8],
-    stream: &Recent<S>,
+    stream: &Recent<'_, S>,
     error: &CheckError,
 ) -> u8 {
     match error {

@@ -2,7 +2,7 @@
 //! is wrong, and the line with the place marked.
 
 use crate::recent::{Passed, count_blocks};
-use fz_check::{BlockError, CheckError, ModelError, StreamError, SyntaxError, refusal_place};
+use fz_check::{BlockError, CheckError, ModelError, Span, StreamError, SyntaxError, refusal_place};
 use fz_places::{Spot, count_characters, spot_of};
 use std::alloc::{AllocError, Global};
 use unicode_width::UnicodeWidthChar;
@@ -21,6 +21,32 @@ pub struct Source<'a> {
     pub passed: Passed,
 }
 
+/// A message on a piece of a source, counted in its bytes from the first: file, line and column,
+/// what is said, and the line with the place marked. There is none where the place isn't there.
+///
+/// # Errors
+///
+/// Want of memory.
+pub fn message(
+    alloc: Global,
+    source: &Source<'_>,
+    place: Span,
+    said: &str,
+) -> Result<Option<String>, AllocError> {
+    let Some(start) = place.start.checked_sub(source.passed.bytes) else {
+        return Ok(None);
+    };
+    let spot = spot_of(source.bytes, start);
+    let line = source.passed.lines.saturating_add(spot.line);
+    let column = count_characters(spot.front).saturating_add(1);
+    let excerpt = excerpt(alloc, line, &spot, place.end.saturating_sub(place.start))?;
+    let text = format!(in alloc;
+        "{}:{}:{}: {}\n{}",
+        source.name, line, column, said, excerpt
+    )?;
+    Ok(Some(text))
+}
+
 /// The message of a refusal in its source. There is none where the refusal has no place.
 ///
 /// # Errors
@@ -31,27 +57,13 @@ pub fn explanation(
     source: &Source<'_>,
     error: &CheckError,
 ) -> Result<Option<String>, AllocError> {
-    let Some(span) = refusal_place(error) else {
+    let Some(place) = refusal_place(error) else {
         return Ok(None);
     };
-    let Some(start) = span.start.checked_sub(source.passed.bytes) else {
-        return Ok(None);
-    };
-    let spot = spot_of(source.bytes, start);
-    let line = source.passed.lines.saturating_add(spot.line);
-    let column = count_characters(spot.front).saturating_add(1);
+    let start = place.start.saturating_sub(source.passed.bytes);
     let block = block_text(alloc, source, start, error)?;
-    let excerpt = excerpt(alloc, line, &spot, span.end.saturating_sub(span.start))?;
-    let text = format!(in alloc;
-        "{}:{}:{}: {}{}\n{}",
-        source.name,
-        line,
-        column,
-        meaning(error),
-        block,
-        excerpt
-    )?;
-    Ok(Some(text))
+    let said = format!(in alloc; "{}{}", meaning(error), block)?;
+    message(alloc, source, place, &said)
 }
 
 /// The block that a fault stands in, where it is one of a stream.
@@ -161,7 +173,7 @@ fn excerpt(
 }
 
 /// The text of bytes as it is shown: a control character, a tab too, is a blank.
-fn shown(alloc: Global, bytes: &[u8]) -> Result<String, AllocError> {
+pub fn shown(alloc: Global, bytes: &[u8]) -> Result<String, AllocError> {
     let read = String::from_utf8_lossy(alloc, bytes)?;
     let mut text = String::new(alloc);
     for letter in read.chars() {
@@ -215,7 +227,7 @@ fn first_columns(alloc: Global, text: &str, room: usize) -> Result<String, Alloc
     Ok(kept)
 }
 
-fn repeated(alloc: Global, text: &str, count: usize) -> Result<String, AllocError> {
+pub fn repeated(alloc: Global, text: &str, count: usize) -> Result<String, AllocError> {
     let mut all = String::new(alloc);
     for _ in 0..count {
         all.push_str(text)?;

@@ -9,6 +9,7 @@ mod progress;
 mod recent;
 mod refuse;
 mod show;
+mod verdict;
 mod words;
 
 use check::check_files;

@@ -4,6 +4,7 @@ ghost use Rattle.std.specs.Io.{WritesAtMost};
 ghost use Rattle.std.specs.Io.KnownBytes.{Keeps, WriteAppends};
 
 use std::alloc::AllocError;
+use std::cell::Cell;
 use std::io;
 use std::io::{IsTerminal, Write};
 use std::time::Instant;
@@ -20,13 +21,24 @@ pub struct Progress<'r, W> {
 
 impl<'r, W: Write> Progress<'r, W> {
     /// The line is shown only where standard error is a terminal and standard output isn't.
-    pub fn new(rt: &'r HostRuntime, writer: W) -> Progress<'r, W> {
+    /// Where blocks are to be explained, the cell gets the number of the one that the answer so far
+    /// names.
+    pub fn new(
+        rt: &'r HostRuntime,
+        writer: W,
+        explains: bool,
+        wanted: &'r Cell<usize>,
+    ) -> Progress<'r, W> {
         let shows = rt.stderr().is_terminal() && !rt.stdout().is_terminal();
         let start = if shows { Instant::now(rt).ok() } else { None };
         Progress {
             writer,
             seen: Seen {
                 rt,
+                explains,
+                wanted,
+                told: Vec::new(rt.alloc()),
+                is_violated: false,
                 start,
                 due: PATIENCE,
                 line: Vec::new(rt.alloc()),
@@ -40,6 +52,11 @@ impl<'r, W: Write> Progress<'r, W> {
     /// Takes the line away.
     pub fn clear(&mut self) {
         self.seen.clear();
+    }
+
+    /// What the report says of the block that is to be explained, behind its number.
+    pub fn told(&self) -> &[u8] {
+        &self.seen.told
     }
 }
 
@@ -70,6 +87,12 @@ impl<'r, W: Write> Write for Progress<'r, W> {
 #[derive(Drop)]
 struct Seen<'r> {
     rt: &'r HostRuntime,
+    explains: bool,
+    /// The number of the block that the answer names, from 1, or 0.
+    wanted: &'r Cell<usize>,
+    /// The line of that block, behind its number.
+    told: Vec<u8>,
+    is_violated: bool,
     /// When the check began; none where nothing is to be shown.
     start: Option<Instant>,
     /// The second in which the line is due.
@@ -86,10 +109,12 @@ struct Seen<'r> {
 impl<'r> Seen<'r> {
     /// Takes note of what was written. Where there is no memory for it, nothing more is shown.
     fn note(&mut self, bytes: &[u8]) {
-        if self.start.is_some() {
+        if self.explains || self.start.is_some() {
             let noted = self.note_lines(bytes).is_ok() && self.show().is_ok();
             if !noted {
                 self.start = None;
+                self.explains = false;
+                self.wanted.set(0);
             }
         }
     }
@@ -98,20 +123,34 @@ impl<'r> Seen<'r> {
         for piece in bytes.split_inclusive(|byte| *byte == b'\n') {
             self.line.extend_from_slice(piece)?;
             if piece.last() == Some(&b'\n') {
-                self.note_line();
+                self.note_line()?;
                 self.line.clear();
             }
         }
         Ok(())
     }
 
-    fn note_line(&mut self) {
-        if self.line.starts_with(b"block ") {
-            self.blocks = self.blocks.saturating_add(1);
-            if self.other.is_none() && !self.line.ends_with(b": satisfied\n") {
-                self.other = Some(self.blocks);
-            }
+    fn note_line(&mut self) -> Result<(), AllocError> {
+        let Some(verdict) = verdict_of(&self.line) else {
+            return Ok(());
+        };
+        self.blocks = self.blocks.saturating_add(1);
+        let is_violated = verdict.starts_with(b"violated: ");
+        if verdict == b"satisfied".as_slice()
+            || self.is_violated
+            || self.other.is_some() && !is_violated
+        {
+            return Ok(());
         }
+        self.is_violated = is_violated;
+        if self.other.is_none() {
+            self.other = Some(self.blocks);
+        }
+        if self.explains {
+            self.told = Vec::from_slice(self.rt.alloc(), verdict)?;
+            self.wanted.set(self.blocks);
+        }
+        Ok(())
     }
 
     /// Shows the line where it is due.
@@ -158,4 +197,18 @@ impl<'r> Seen<'r> {
             self.columns = 0;
         }
     }
+}
+
+/// What the line of a block says behind the block's number; none where it is another line.
+fn verdict_of(line: &[u8]) -> Option<&[u8]> {
+    let numbered = line.strip_prefix(b"block ")?;
+    let mut count: usize = 0;
+    for byte in numbered {
+        if !byte.is_ascii_digit() {
+            break;
+        }
+        count = count.saturating_add(1);
+    }
+    let said = numbered.get(count..)?.strip_prefix(b": ")?;
+    Some(said.strip_suffix(b"\n").unwrap_or(said))
 }

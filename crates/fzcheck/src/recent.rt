@@ -6,6 +6,7 @@ ghost use Rattle.std.specs.Io.KnownBytes.{ReadConsumes};
 
 use fz_places::spot_of;
 use std::alloc::{AllocError, Global};
+use std::cell::Cell;
 use std::io;
 use std::io::Read;
 
@@ -27,11 +28,22 @@ pub const NOTHING: Passed = Passed {
     blocks: 0,
 };
 
-/// A reader that gives what another one gives. Where that is asked for, it keeps what it gave since
-/// the last block ended, and it keeps why a read failed.
+/// A block that is to be explained: its text, and what stands before it.
 #[derive(Drop)]
-pub struct Recent<R> {
+pub struct Told {
+    pub number: usize,
+    pub bytes: Vec<u8>,
+    pub passed: Passed,
+}
+
+/// A reader that gives what another one gives. Where that is asked for, it keeps what it gave since
+/// the last block ended, and the block whose number stands in a cell; and it keeps why a read
+/// failed.
+#[derive(Drop)]
+pub struct Recent<'c, R> {
     reader: R,
+    wanted: &'c Cell<usize>,
+    told: Option<Told>,
     alloc: Global,
     keeps: bool,
     bytes: Vec<u8>,
@@ -41,10 +53,13 @@ pub struct Recent<R> {
     failure: Option<io::Error>,
 }
 
-impl<R: Read> Recent<R> {
-    pub fn new(alloc: Global, reader: R, keeps: bool) -> Recent<R> {
+impl<'c, R: Read> Recent<'c, R> {
+    /// The cell has the number of the block to be told, from 1, or 0 where there is none so far.
+    pub fn new(alloc: Global, reader: R, keeps: bool, wanted: &'c Cell<usize>) -> Recent<'c, R> {
         Recent {
             reader,
+            wanted,
+            told: None,
             alloc,
             keeps,
             bytes: Vec::new(alloc),
@@ -73,8 +88,42 @@ impl<R: Read> Recent<R> {
         ensures { self.new.reader ≡ self.old.reader }
     {
         if self.keeps {
-            self.keeps = self.drop_ended().is_ok();
+            self.keeps = self.tell_wanted().is_ok() && self.drop_ended().is_ok();
         }
+    }
+
+    /// The block that is to be explained, after the last read.
+    pub fn told(&mut self) -> Option<&Told> {
+        if self.keeps {
+            self.keeps = self.tell_wanted().is_ok();
+        }
+        if self.keeps { self.told.as_ref() } else { None }
+    }
+
+    /// Keeps the block that is wanted, where that isn't kept already.
+    fn tell_wanted(&mut self) -> Result<(), AllocError>
+        ensures { self.new.reader ≡ self.old.reader }
+    {
+        let number = self.wanted.get();
+        let is_told = match &self.told {
+            Some(told) => told.number == number,
+            None => number == 0,
+        };
+        if !is_told {
+            let (start, end) = block_ends(&self.bytes, number.saturating_sub(self.passed.blocks));
+            let text = behind(&self.bytes, start);
+            let lines = spot_of(&self.bytes, start).line.saturating_sub(1);
+            self.told = Some(Told {
+                number,
+                bytes: Vec::from_slice(self.alloc, before(text, end.saturating_sub(start)))?,
+                passed: Passed {
+                    bytes: self.passed.bytes.saturating_add(start),
+                    lines: self.passed.lines.saturating_add(lines),
+                    blocks: number.saturating_sub(1),
+                },
+            });
+        }
+        Ok(())
     }
 
     fn drop_ended(&mut self) -> Result<(), AllocError>
@@ -132,6 +181,29 @@ pub fn count_blocks(bytes: &[u8]) -> usize {
     count
 }
 
+/// Where the block with this number, from 1, begins in the bytes, and where it ends with its marker.
+fn block_ends(bytes: &[u8], number: usize) -> (usize, usize) {
+    let mut at: usize = 0;
+    let mut start = 0;
+    let mut count: usize = 0;
+    for line in bytes.split_inclusive(|byte| *byte == b'\n') {
+        at = at.saturating_add(line.len());
+        if is_marker(line) {
+            count = count.saturating_add(1);
+            if count == number {
+                return (start, at);
+            }
+            start = at;
+        }
+    }
+    (start, at)
+}
+
+/// What stands in the first bytes.
+fn before(bytes: &[u8], count: usize) -> &[u8] {
+    bytes.split_at(count.min(bytes.len())).0
+}
+
 /// What stands behind so many bytes.
 fn behind(bytes: &[u8], count: usize) -> &[u8] {
     bytes.split_at(count.min(bytes.len())).1
@@ -141,7 +213,7 @@ fn is_marker(line: &[u8]) -> bool {
     line.trim_ascii() == MARKER
 }
 
-impl<R: Read> Read for Recent<R> {
+impl<'c, R: Read> Read for Recent<'c, R> {
     ghost remaining = { λ r. R.remaining r.reader };
 
     fn read(&mut self, buf: &mut [u8]) -> io::Result<usize>

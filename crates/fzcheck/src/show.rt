@@ -6,6 +6,7 @@ use crate::refuse::{refuse, refuse_file};
 use crate::words::Printing;
 use crate::{MOST_BYTES, SHOWN};
 use fz_check::{CheckError, show, show_printing_all};
+use std::cell::Cell;
 use std::io::Write;
 use std::{fs, io};
 
@@ -15,7 +16,8 @@ pub fn show_file(rt: &HostRuntime, name: &str, printing: Printing) -> u8 {
         Ok(file) => file,
         Err(failure) => return refuse_file(rt, &CheckError::Read, name, Some(&failure)),
     };
-    let mut reader = Recent::new(rt.alloc(), file, false);
+    let nothing = Cell::new(0);
+    let mut reader = Recent::new(rt.alloc(), file, false, &nothing);
     match read_up_to(rt.alloc(), &mut reader, MOST_BYTES) {
         Ok(model) => show_bytes(rt, &model, printing),
         Err(error) => refuse_file(rt, &error, name, reader.failure()),

@@ -1,0 +1,431 @@
+//! What stands behind the verdict that the answer names: the point, the variables in it, their values
+//! and where these are from.
+
+ghost use Rattle.std.specs.Prelude.{◌≡◌, ◌<◌, length};
+ghost use Rattle.fz_model.specs.Meaning.{IsPartial, points};
+
+use crate::explain::{Source, message, repeated, shown};
+use crate::recent::Told;
+use fz_base::{IntSet, Span, Value};
+use fz_check::fill;
+use fz_explain::{Sought, Source as FromWhere, first_point, point_place, source_of, variables_of};
+use fz_model::{
+    Domain, Goal, Model, Partial, Point, PointParts, Scalar, Term, What, load_text, scalar_at,
+};
+use fz_places::spot_of;
+use fz_stream::{Block, blocks};
+use fz_syntax::{Ast, Basic, Goal as GoalItem, Printed, parse};
+use std::alloc::{AllocError, Global};
+
+/// The most variables that are told, and how many of them from the front where there are more.
+const MOST_VARIABLES: usize = 12;
+
+const FROM_FRONT: usize = 8;
+
+/// The greatest number of a set whose numbers are told.
+const GREATEST: i64 = 63;
+
+/// A verdict to be explained: what the report says of the block, behind its number, and the sources.
+#[derive(Clone, Copy)]
+pub struct Case<'a> {
+    pub said: &'a [u8],
+    pub model: Source<'a>,
+    pub stream: &'a str,
+    pub told: &'a Told,
+}
+
+/// What is read again of a case.
+#[derive(Clone, Copy)]
+struct Scene<'s, 'a> {
+    case: &'s Case<'a>,
+    model: &'s Model<'a>,
+    ast: &'s Ast<'a>,
+    block: &'s Block<'a>,
+}
+
+/// The explanation of a case; there is none where one of its sources can't be read again.
+///
+/// # Errors
+///
+/// Want of memory.
+pub fn case_explanation(alloc: Global, case: &Case<'_>) -> Result<Option<String>, AllocError> {
+    let (Ok(model), Ok(ast), Ok(stream)) = (
+        load_text(alloc, case.model.bytes),
+        parse(alloc, case.model.bytes),
+        blocks(alloc, &case.told.bytes),
+    ) else {
+        return Ok(None);
+    };
+    let Some(block) = stream.blocks.first() else {
+        return Ok(None);
+    };
+    let Ok(mut filling) = fill(alloc, &model, block) else {
+        return Ok(None);
+    };
+    let scene = Scene {
+        case,
+        model: &model,
+        ast: &ast,
+        block,
+    };
+    scene_explanation(alloc, &scene, &mut filling)
+}
+
+fn scene_explanation(
+    alloc: Global,
+    scene: &Scene<'_, '_>,
+    filling: &mut Partial,
+) -> Result<Option<String>, AllocError>
+    requires fits { IsPartial scene.now.model.now filling.old }
+{
+    let case = scene.case;
+    let said = case.said;
+    if let Some(name) = said.strip_prefix(b"violated: printed ") {
+        return printed_explanation(alloc, scene, filling, name);
+    }
+    if said.starts_with(b"violated: objective ") {
+        return objective_explanation(alloc, scene, filling);
+    }
+    let sought = if said.starts_with(b"violated: ") {
+        Sought::Failing
+    } else {
+        Sought::Undecided
+    };
+    match first_point(alloc, scene.model, filling, sought)? {
+        Some(point) if point < scene.model.points() => {
+            point_explanation(alloc, scene, filling, point)
+        }
+        _ => Ok(None),
+    }
+}
+
+/// A message with lines below, of which each begins with `=` under the bar.
+#[derive(Drop)]
+struct Notes {
+    text: String,
+    indent: String,
+}
+
+impl Notes {
+    /// The message alone, on a piece of a source.
+    fn new(
+        alloc: Global,
+        source: &Source<'_>,
+        place: Span,
+        said: &str,
+    ) -> Result<Option<Notes>, AllocError> {
+        let Some(text) = message(alloc, source, place, said)? else {
+            return Ok(None);
+        };
+        let start = place.start.saturating_sub(source.passed.bytes);
+        let line = source
+            .passed
+            .lines
+            .saturating_add(spot_of(source.bytes, start).line);
+        let digits = format!(in alloc; "{}", line)?.len();
+        let indent = repeated(alloc, " ", digits.saturating_add(3))?;
+        Ok(Some(Notes { text, indent }))
+    }
+
+    fn add(&mut self, note: &str) -> Result<(), AllocError> {
+        self.text.push_str(&self.indent)?;
+        self.text.push_str(" = ")?;
+        self.text.push_str(note)?;
+        self.text.push_str("\n")
+    }
+}
+
+/// What the report says of the block, in a sentence.
+fn sentence(alloc: Global, case: &Case<'_>) -> Result<String, AllocError> {
+    let said = shown(alloc, case.said)?;
+    let number = case.told.number;
+    if let Some(fault) = said.strip_prefix("violated: objective ") {
+        return format!(in alloc; "objective {} in block {}", fault, number);
+    }
+    if let Some(name) = said.strip_prefix("violated: printed ") {
+        return format!(in alloc; "printed {} differs in block {}", name, number);
+    }
+    match said.split_once(": ") {
+        Some(("violated", fault)) => format!(in alloc; "{} fails in block {}", fault, number),
+        Some((_, reason)) => format!(in alloc; "{} in block {}", reason, number),
+        None => format!(in alloc; "{} in block {}", said, number),
+    }
+}
+
+fn point_explanation(
+    alloc: Global,
+    scene: &Scene<'_, '_>,
+    filling: &mut Partial,
+    point: usize,
+) -> Result<Option<String>, AllocError>
+    requires in_range { point < length (points scene.now.model.now) }
+    requires fits { IsPartial scene.now.model.now filling.old }
+{
+    let Some(place) = point_place(scene.ast, &scene.model.point(point)) else {
+        return Ok(None);
+    };
+    let case = scene.case;
+    let said = sentence(alloc, case)?;
+    let Some(mut notes) = Notes::new(alloc, &case.model, place, &said)? else {
+        return Ok(None);
+    };
+    let variables = variables_of(alloc, scene.model, point)?;
+    add_variables(alloc, &mut notes, scene, filling, &variables)?;
+    if let Some(text) = domain_text(alloc, scene.model, point)? {
+        notes.add(&text)?;
+    }
+    if let Some(help) = help_for(case.said) {
+        notes.add(help)?;
+    }
+    Ok(Some(notes.text))
+}
+
+/// A line for each variable; of many some at the front and at the end.
+fn add_variables(
+    alloc: Global,
+    notes: &mut Notes,
+    scene: &Scene<'_, '_>,
+    filling: &mut Partial,
+    variables: &[usize],
+) -> Result<(), AllocError>
+    requires fits { IsPartial scene.now.model.now filling.old }
+{
+    let count = variables.len();
+    let is_long = count > MOST_VARIABLES;
+    for (place, variable) in variables.iter().enumerate() {
+        let is_last = place.saturating_add(MOST_VARIABLES) >= count.saturating_add(FROM_FRONT);
+        if !is_long || place < FROM_FRONT || is_last {
+            notes.add(&variable_text(alloc, scene, filling, *variable)?)?;
+        } else if place == FROM_FRONT {
+            let left = count.saturating_sub(MOST_VARIABLES);
+            notes.add(&format!(in alloc; "... and {} more ...", left)?)?;
+        }
+    }
+    Ok(())
+}
+
+/// A variable, its value, and where that is from.
+fn variable_text(
+    alloc: Global,
+    scene: &Scene<'_, '_>,
+    filling: &mut Partial,
+    variable: usize,
+) -> Result<String, AllocError>
+    requires fits { IsPartial scene.now.model.now filling.old }
+    ensures same { filling.new ≡ filling.old }
+{
+    let source = source_of(alloc, scene.model, &scene.block.items, filling, variable)?;
+    let name = match scene.model.variables().get(variable) {
+        Some(variable) => shown(alloc, variable.name)?,
+        None => String::new(alloc),
+    };
+    let from = source_text(alloc, scene, source)?;
+    match filling.get(variable) {
+        Some(value) => {
+            let value = value_text(alloc, value)?;
+            format!(in alloc; "{} = {}, {}", name, value, from)
+        }
+        None => format!(in alloc; "{} = none: {}", name, from),
+    }
+}
+
+fn source_text(
+    alloc: Global,
+    scene: &Scene<'_, '_>,
+    source: FromWhere,
+) -> Result<String, AllocError> {
+    match source {
+        FromWhere::Printed => String::from_str(alloc, "printed"),
+        FromWhere::Given(point) if point < scene.model.points() => {
+            point_text(alloc, scene, &scene.model.point(point))
+        }
+        FromWhere::Given(_) | FromWhere::Filled => String::from_str(alloc, "filled in"),
+        FromWhere::Nothing => String::from_str(alloc, "no rule gives it one; print it"),
+    }
+}
+
+/// What a point is, and its line.
+fn point_text(
+    alloc: Global,
+    scene: &Scene<'_, '_>,
+    point: &Point<'_>,
+) -> Result<String, AllocError> {
+    let case = scene.case;
+    let text = case.model.bytes;
+    let line = match point_place(scene.ast, point) {
+        Some(place) => spot_of(text, place.start).line,
+        None => 0,
+    };
+    match point {
+        Point::Domain(_) => String::from_str(alloc, "by its domain"),
+        Point::Definition(name) => {
+            let name = shown(alloc, name)?;
+            format!(in alloc; "by definition of {}, line {}", name, line)
+        }
+        Point::Constraint(number, name) => {
+            let name = shown(alloc, name)?;
+            format!(in alloc; "by constraint {} {}, line {}", number, name, line)
+        }
+    }
+}
+
+fn value_text(alloc: Global, value: &Value) -> Result<String, AllocError> {
+    match value {
+        Value::Int(number) => format!(in alloc; "{}", number),
+        Value::Bool(truth) => format!(in alloc; "{}", truth),
+        Value::Set(set) => set_text(alloc, set),
+    }
+}
+
+/// The numbers of a set, or how many they are where not all are from 0 to 63.
+fn set_text(alloc: Global, set: &IntSet) -> Result<String, AllocError> {
+    let mut text = String::from_str(alloc, "{")?;
+    let mut count: u128 = 0;
+    for number in 0..=GREATEST {
+        if set.contains(number) {
+            if count > 0 {
+                text.push_str(",")?;
+            }
+            text.push_str(&format!(in alloc; "{}", number)?)?;
+            count = count.saturating_add(1);
+        }
+    }
+    if count < set.len() {
+        return format!(in alloc; "a set of {} numbers", set.len());
+    }
+    text.push_str("}")?;
+    Ok(text)
+}
+
+/// The bounds that are declared, where the point is a domain.
+fn domain_text(alloc: Global, model: &Model<'_>, point: usize) -> Result<Option<String>, AllocError>
+    requires in_range { point < length (points model.now) }
+{
+    let domain = match model.point_parts(point) {
+        PointParts::Domain(variable, _) => &variable.domain,
+        PointParts::Elements(_, domain, _) => domain,
+        PointParts::Definition(_, _, _) | PointParts::Constraint(_) => return Ok(None),
+    };
+    match domain {
+        Domain::All => Ok(None),
+        Domain::Within(lo, hi) => { Ok(Some(format!(in alloc; "the domain is {}..{}", lo, hi)?)) }
+        Domain::Among(set) => {
+            let set = set_text(alloc, set)?;
+            Ok(Some(format!(in alloc; "the domain is {}", set)?))
+        }
+    }
+}
+
+/// What to do about a block that is undecided.
+fn help_for(said: &[u8]) -> Option<&'static str> {
+    if said.starts_with(b"undecided: no value for ") {
+        return Some("let the solver run `fzcheck show --print-all`, or look for it by --complete");
+    }
+    if said.ends_with(b" not known") {
+        return Some("compile with the library in minizinc/, or with the standard one");
+    }
+    if said.ends_with(b" too large") {
+        return Some("a sum leaves 128 bits: tighten the domains");
+    }
+    None
+}
+
+fn objective_explanation(
+    alloc: Global,
+    scene: &Scene<'_, '_>,
+    filling: &mut Partial,
+) -> Result<Option<String>, AllocError>
+    requires fits { IsPartial scene.now.model.now filling.old }
+{
+    let place = match &scene.ast.solve.goal {
+        GoalItem::Minimize(basic) | GoalItem::Maximize(basic) => basic_place(basic),
+        GoalItem::Satisfy => return Ok(None),
+    };
+    let case = scene.case;
+    let said = sentence(alloc, case)?;
+    let Some(mut notes) = Notes::new(alloc, &case.model, place, &said)? else {
+        return Ok(None);
+    };
+    if let Goal::Minimize(Term::Var(variable)) | Goal::Maximize(Term::Var(variable)) = scene
+        .model
+        .goal()
+    {
+        notes.add(&variable_text(alloc, scene, filling, *variable)?)?;
+    }
+    let before = case.told.number.saturating_sub(1);
+    notes.add(&format!(in alloc; "the other value is that of block {}", before)?)?;
+    Ok(Some(notes.text))
+}
+
+fn basic_place(basic: &Basic<'_>) -> Span {
+    match basic {
+        Basic::Lit(literal) => literal.span,
+        Basic::Named(name) => name.span,
+    }
+}
+
+fn printed_explanation(
+    alloc: Global,
+    scene: &Scene<'_, '_>,
+    filling: &mut Partial,
+    name: &[u8],
+) -> Result<Option<String>, AllocError>
+    requires fits { IsPartial scene.now.model.now filling.old }
+{
+    let Some(place) = printed_place(&scene.block.items, name) else {
+        return Ok(None);
+    };
+    let case = scene.case;
+    let told = case.told;
+    let source = Source {
+        name: case.stream,
+        bytes: &told.bytes,
+        passed: told.passed,
+    };
+    let from = told.passed.bytes.saturating_add(scene.block.offset);
+    let place = Span {
+        start: from.saturating_add(place.start),
+        end: from.saturating_add(place.end),
+    };
+    let said = sentence(alloc, case)?;
+    let Some(mut notes) = Notes::new(alloc, &source, place, &said)? else {
+        return Ok(None);
+    };
+    let variables = variables_named(alloc, scene.model, name)?;
+    add_variables(alloc, &mut notes, scene, filling, &variables)?;
+    Ok(Some(notes.text))
+}
+
+/// Where a name is printed.
+fn printed_place(items: &[Printed<'_>], name: &[u8]) -> Option<Span> {
+    for item in items {
+        if item.name.text == name {
+            return Some(item.name.span);
+        }
+    }
+    None
+}
+
+/// The variables that a name stands for.
+fn variables_named(
+    alloc: Global,
+    model: &Model<'_>,
+    name: &[u8],
+) -> Result<Vec<usize>, AllocError> {
+    let mut variables = Vec::new(alloc);
+    let Some(found) = model.find(name) else {
+        return Ok(variables);
+    };
+    match found.what {
+        What::Scalar(Scalar::Variable(number)) => variables.push(number)?,
+        What::Scalar(_) => {}
+        What::Array(_, scalars) => {
+            for slot in scalars.slots {
+                if let Scalar::Variable(number) = scalar_at(scalars.constants, *slot) {
+                    variables.push(number)?;
+                }
+            }
+        }
+    }
+    Ok(variables)
+}
