@@ -1,13 +1,14 @@
 """Each growth of the program's memory refused in turn, by itself and with all that follow.
 
 Every run answers want of memory, or what it answers with ample memory; what it wrote before is a
-front of what it writes then. What explains a refusal, behind its line, may be left out."""
+front of what it writes then. What explains a refusal or a verdict may be left out."""
 import itertools
 
 from beside import CORPUS, FIRST_MODEL, FIRST_STREAM, content, examples, pairs
 from running import Tally, run
 
 WANT = 7, b"refused: memory\n"
+REFUSED = 4  # the least status of a refusal
 MOST_BYTES = 4_000  # of a model: longer ones of the corpus have the same growths, more of them
 
 
@@ -25,16 +26,18 @@ def words_of_runs():
     yield "a broken model", ["show", FIRST_STREAM], b""
     explain = ["check", "--explain", FIRST_MODEL]
     yield "a cut stream, explained", explain, content(FIRST_STREAM) + b"x = 4;\n"
+    for name, model, stream in examples():
+        yield f"{name} explained", ["check", "--explain", model, stream], b""
     yield "a broken model, explained", ["check", "--explain", FIRST_STREAM, FIRST_STREAM], b""
     yield "no such file", ["check", FIRST_MODEL + ".none"], b""
     yield "wrong words", ["check", "--fast"], b""
     yield "no words", [], b""
 
 
-def fronts(text):
-    """A refusal's line, and each longer front of its lines."""
+def fronts(text, is_refusal):
+    """Each front of the lines; of a refusal its own line stands in each."""
     lines = text.splitlines(True)
-    return [b"".join(lines[:count]) for count in range(1, len(lines) + 1)]
+    return [b"".join(lines[:count]) for count in range(int(is_refusal), len(lines) + 1)]
 
 
 def each_refused(name, words, stdin, onward):
@@ -48,7 +51,7 @@ def each_refused(name, words, stdin, onward):
             tally.expect(f"{name}: no growth {number}", ran.answer, ample)
             return tally
         wants = (ran.status, ran.err) == WANT and ample[1].startswith(ran.out)
-        fewer = ran.answer[:2] == ample[:2] and ran.err in fronts(ample[2])
+        fewer = ran.answer[:2] == ample[:2] and ran.err in fronts(ample[2], ample[0] >= REFUSED)
         tally.check(f"{name}: growth {number}", wants or fewer or ran.answer == ample, ran)
 
 

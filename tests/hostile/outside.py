@@ -133,7 +133,11 @@ def little_stack(program):
     tally = Tally()
     limited = f'ulimit -s {STACK}; exec env -i "$@"'
     for name, model, stream in examples():
-        for words in ([program, "check", model, stream], [program, "show", model]):
+        for words in (
+            [program, "check", model, stream],
+            [program, "check", "--explain", model, stream],
+            [program, "show", model],
+        ):
             ran = in_shell(limited, *words)
             tally.expect(f"{STACK} KB of stack: {name}", ran.answer, run(words).answer)
     for words in ([program, "check", "/dev/stdin", FIRST_STREAM], [program, "show", "/dev/stdin"]):
