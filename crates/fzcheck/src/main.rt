@@ -1,4 +1,5 @@
-//! The program `fzcheck`: its words, its files and its exit status. All judging is done by `fz_check`.
+//! The program `fzcheck`: its words, its files, its messages and its exit status. All judging is done
+//! by `fz_check`.
 #![tactic(auto)]
 
 mod check;
@@ -9,6 +10,7 @@ mod progress;
 mod recent;
 mod refuse;
 mod show;
+mod texts;
 mod verdict;
 mod words;
 

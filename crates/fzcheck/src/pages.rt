@@ -16,7 +16,8 @@ fzcheck check [--complete] [--explain] MODEL [STREAM]
     against the model in the file MODEL. There is a line for each block and claim, and then the
     answer.
     --complete  looks for values that the solver left out, and judges what it finds
-    --explain   shows on standard error where the fault stands that a refusal tells of
+    --explain   shows on standard error what stands behind the verdict that the answer names,
+                or where the fault stands that a refusal tells of
     For example: fzcheck check examples/knapsack/model.fzn examples/knapsack/stream.txt
 
 fzcheck show [--print-all] MODEL

@@ -181,7 +181,8 @@ pub fn count_blocks(bytes: &[u8]) -> usize {
     count
 }
 
-/// Where the block with this number, from 1, begins in the bytes, and where it ends with its marker.
+/// Where the block with this number, from 1, begins in the bytes, and where it ends with its
+/// marker.
 fn block_ends(bytes: &[u8], number: usize) -> (usize, usize) {
     let mut at: usize = 0;
     let mut start = 0;

@@ -1,17 +1,16 @@
-//! What stands behind the verdict that the answer names: the point, the variables in it, their values
-//! and where these are from.
+//! What stands behind the verdict that the answer names: the point, the variables in it, their
+//! values and where these are from.
 
 ghost use Rattle.std.specs.Prelude.{◌≡◌, ◌<◌, length};
 ghost use Rattle.fz_model.specs.Meaning.{IsPartial, points};
 
 use crate::explain::{Source, message, repeated, shown};
 use crate::recent::Told;
-use fz_base::{IntSet, Span, Value};
+use crate::texts::{domain_text, help_for, value_text};
+use fz_base::Span;
 use fz_check::fill;
 use fz_explain::{Sought, Source as FromWhere, first_point, point_place, source_of, variables_of};
-use fz_model::{
-    Domain, Goal, Model, Partial, Point, PointParts, Scalar, Term, What, load_text, scalar_at,
-};
+use fz_model::{Goal, Model, Partial, Point, Scalar, Term, What, load_text, scalar_at};
 use fz_places::spot_of;
 use fz_stream::{Block, blocks};
 use fz_syntax::{Ast, Basic, Goal as GoalItem, Printed, parse};
@@ -22,10 +21,8 @@ const MOST_VARIABLES: usize = 12;
 
 const FROM_FRONT: usize = 8;
 
-/// The greatest number of a set whose numbers are told.
-const GREATEST: i64 = 63;
-
-/// A verdict to be explained: what the report says of the block, behind its number, and the sources.
+/// A verdict to be explained: what the report says of the block, behind its number, and the
+/// sources.
 #[derive(Clone, Copy)]
 pub struct Case<'a> {
     pub said: &'a [u8],
@@ -267,67 +264,6 @@ fn point_text(
             format!(in alloc; "by constraint {} {}, line {}", number, name, line)
         }
     }
-}
-
-fn value_text(alloc: Global, value: &Value) -> Result<String, AllocError> {
-    match value {
-        Value::Int(number) => format!(in alloc; "{}", number),
-        Value::Bool(truth) => format!(in alloc; "{}", truth),
-        Value::Set(set) => set_text(alloc, set),
-    }
-}
-
-/// The numbers of a set, or how many they are where not all are from 0 to 63.
-fn set_text(alloc: Global, set: &IntSet) -> Result<String, AllocError> {
-    let mut text = String::from_str(alloc, "{")?;
-    let mut count: u128 = 0;
-    for number in 0..=GREATEST {
-        if set.contains(number) {
-            if count > 0 {
-                text.push_str(",")?;
-            }
-            text.push_str(&format!(in alloc; "{}", number)?)?;
-            count = count.saturating_add(1);
-        }
-    }
-    if count < set.len() {
-        return format!(in alloc; "a set of {} numbers", set.len());
-    }
-    text.push_str("}")?;
-    Ok(text)
-}
-
-/// The bounds that are declared, where the point is a domain.
-fn domain_text(alloc: Global, model: &Model<'_>, point: usize) -> Result<Option<String>, AllocError>
-    requires in_range { point < length (points model.now) }
-{
-    let domain = match model.point_parts(point) {
-        PointParts::Domain(variable, _) => &variable.domain,
-        PointParts::Elements(_, domain, _) => domain,
-        PointParts::Definition(_, _, _) | PointParts::Constraint(_) => return Ok(None),
-    };
-    match domain {
-        Domain::All => Ok(None),
-        Domain::Within(lo, hi) => { Ok(Some(format!(in alloc; "the domain is {}..{}", lo, hi)?)) }
-        Domain::Among(set) => {
-            let set = set_text(alloc, set)?;
-            Ok(Some(format!(in alloc; "the domain is {}", set)?))
-        }
-    }
-}
-
-/// What to do about a block that is undecided.
-fn help_for(said: &[u8]) -> Option<&'static str> {
-    if said.starts_with(b"undecided: no value for ") {
-        return Some("let the solver run `fzcheck show --print-all`, or look for it by --complete");
-    }
-    if said.ends_with(b" not known") {
-        return Some("compile with the library in minizinc/, or with the standard one");
-    }
-    if said.ends_with(b" too large") {
-        return Some("a sum leaves 128 bits: tighten the domains");
-    }
-    None
 }
 
 fn objective_explanation(
