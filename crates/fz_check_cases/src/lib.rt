@@ -10,6 +10,8 @@ mod check_stream;
 #[cfg(test)]
 mod completing;
 #[cfg(test)]
+mod explaining;
+#[cfg(test)]
 mod filling;
 #[cfg(test)]
 mod globals;

@@ -33,7 +33,7 @@ pub(crate) fn push_value(text: &mut Vec<u8>, value: &Value) -> Result<(), AllocE
     }
 }
 
-fn push_point(text: &mut Vec<u8>, point: Point<'_>) -> Result<(), AllocError> {
+pub(crate) fn push_point(text: &mut Vec<u8>, point: Point<'_>) -> Result<(), AllocError> {
     match point {
         Point::Domain(name) => push_all(text, &[b"domain of ", name]),
         Point::Definition(name) => push_all(text, &[b"definition of ", name]),

@@ -6,6 +6,7 @@
 //! line feed.
 
 use crate::check_stream::{bytewise, completed};
+use crate::explaining::explained;
 use crate::{filling, judge, load, points};
 use fz_check::{CheckError, check, refusal_text, report_text, show, show_printing_all};
 use fz_model::{Model, load};
@@ -38,6 +39,8 @@ pub(crate) enum Call {
     Fill,
     /// the verdicts of one judge
     Judge,
+    /// what stands behind the verdict on the stream's first block
+    Explained,
 }
 
 /// Adds these bytes, one after another.
@@ -92,6 +95,7 @@ fn told(alloc: Global, call: Call, model: &[u8], stream: &[u8]) -> Result<Vec<u8
         Call::Completed => completed(model, stream).told(alloc),
         Call::Show => show(alloc, model),
         Call::ShowPrintingAll => show_printing_all(alloc, model),
+        Call::Explained => explained(alloc, model, stream),
         _ => told_of_text(alloc, call, model, stream),
     }
 }
