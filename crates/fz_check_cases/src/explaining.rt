@@ -1,6 +1,6 @@
 //! What stands behind a verdict: the point, the variables in it, and where their values are from.
 
-ghost use Rattle.std.specs.Prelude.{◌<◌, length};
+ghost use Rattle.std.specs.Prelude.{◌≡◌, ◌<◌, length};
 ghost use Rattle.fz_model.specs.Meaning.{IsPartial, points};
 
 use crate::points::{push_point, push_value};
@@ -35,6 +35,7 @@ fn push_variable(
     variable: usize,
 ) -> Result<(), AllocError>
     requires fits { IsPartial model.now filling.old }
+    ensures same { filling.new ≡ filling.old }
 {
     let source = source_of(alloc, model, &block.items, filling, variable)?;
     if let Some(variable) = model.variables().get(variable) {
@@ -59,6 +60,7 @@ fn push_explained(
 ) -> Result<(), AllocError>
     requires in_range { point < length (points model.now) }
     requires fits { IsPartial model.now filling.old }
+    ensures same { filling.new ≡ filling.old }
 {
     let name = model.point(point);
     push_point(text, name)?;
@@ -73,6 +75,25 @@ fn push_explained(
     Ok(())
 }
 
+/// Adds what stands behind the first point that is as it is sought.
+fn push_sought(
+    alloc: Global,
+    text: &mut Vec<u8>,
+    ast: &Ast<'_>,
+    model: &Model<'_>,
+    block: &Block<'_>,
+    filling: &mut Partial,
+    sought: Sought,
+) -> Result<(), AllocError>
+    requires fits { IsPartial model.now filling.old }
+    ensures same { filling.new ≡ filling.old }
+{
+    match first_point(alloc, model, filling, sought)? {
+        Some(point) => push_explained(alloc, text, ast, model, block, filling, point),
+        None => Ok(()),
+    }
+}
+
 /// What stands behind the verdict on a stream's first block.
 fn push_block(
     alloc: Global,
@@ -85,13 +106,24 @@ fn push_block(
         Ok(filling) => filling,
         Err(error) => return Err(CheckError::Block(1, error)),
     };
-    for sought in [Sought::Failing, Sought::Undecided] {
-        if let Some(point) = first_point(alloc, model, &filling, sought)?
-            && point < model.points()
-        {
-            push_explained(alloc, text, ast, model, block, &mut filling, point)?;
-        }
-    }
+    push_sought(
+        alloc,
+        text,
+        ast,
+        model,
+        block,
+        &mut filling,
+        Sought::Failing,
+    )?;
+    push_sought(
+        alloc,
+        text,
+        ast,
+        model,
+        block,
+        &mut filling,
+        Sought::Undecided,
+    )?;
     Ok(())
 }
 
