@@ -3,9 +3,10 @@
 Every run answers want of memory, or what it answers with ample memory; what it wrote before is a
 front of what it writes then. What explains a refusal or a verdict may be left out."""
 import itertools
+import os
 
 from beside import CORPUS, FIRST_MODEL, FIRST_STREAM, content, examples, pairs
-from running import Tally, run
+from running import ROOT, Tally, run
 
 WANT = 7, b"refused: memory\n"
 REFUSED = 4  # the least status of a refusal
@@ -28,6 +29,9 @@ def words_of_runs():
     yield "a cut stream, explained", explain, content(FIRST_STREAM) + b"x = 4;\n"
     for name, model, stream in examples():
         yield f"{name} explained", ["check", "--explain", model, stream], b""
+    page = os.path.join(ROOT, "tests", "explained", "undecided_then_violated")
+    pair = os.path.join(page, "model.fzn"), os.path.join(page, "stream.txt")
+    yield "undecided and then violated, explained", ["check", "--explain", *pair], b""
     yield "a broken model, explained", ["check", "--explain", FIRST_STREAM, FIRST_STREAM], b""
     yield "no such file", ["check", FIRST_MODEL + ".none"], b""
     yield "wrong words", ["check", "--fast"], b""
