@@ -1,4 +1,5 @@
--- How the crate keeps a set: as ranges in order, with a gap between each two. A reader need not believe this file: no public clause speaks of it.
+-- How the crate keeps a set: as ranges in order, with a gap between each two. Of this file a public clause speaks of
+-- `AreInOrder`, `covers` and `lowest` alone, and a reader need not believe the rest.
 use Rattle.std.specs.Prelude.{◌≡◌, ◌↔◌, ℤ, pos, negsuc, ◌+ℤ◌, ◌≤ℤ◌, Bool, true, false, not, ◌&&◌, ◌||◌, List, [], ◌∷◌, int_le}
 use Rattle.std.specs.List.{flat_map}
 use Rattle.std.specs.FinSet.{from_list}

@@ -105,6 +105,16 @@ impl Numbers {
         }
     }
 
+    /// The ranges of the numbers, in a list of their own.
+    pub fn ranges(&self, alloc: Global) -> Result<Vec<Range>, AllocError>
+        requires kept { AreKept self.now }
+        ensures in_order { IfOk result (λ v. AreInOrder lowest v.items) }
+        ensures same { IfOk result (λ v. (x : ℤ) → covers v.items x ≡ has self.now x) }
+    {
+        let held = self.held();
+        Vec::from_slice(alloc, held.ranges())
+    }
+
     /// Whether the number is among them.
     #[inline]
     pub fn contain(&self, number: i64) -> bool

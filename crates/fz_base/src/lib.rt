@@ -15,6 +15,7 @@ mod span;
 mod storage;
 mod value;
 
+pub use ranges::Range;
 pub use sets::{IntSet, SetError};
 pub use span::Span;
 pub use value::Value;

@@ -2,10 +2,11 @@
 ghost use Rattle.std.specs.Prelude.{◌≡◌, ◌≤◌, ◌^◌, ◌↔◌, ℤ, IsTrue, IfNone, IfOk, IfSome};
 ghost use Rattle.std.specs.FinSet as set;
 ghost use Rattle.fz_base.specs.Keeping.{set_of, AreKept};
+ghost use Rattle.fz_base.specs.Ranges.{lowest, AreInOrder, covers};
 ghost use Rattle.fz_base.specs.Sets.{numbers_between, symmetric_difference, LiesWithin, Has64Bits, IsOnly};
 
 use crate::kept::{self, Numbers};
-use crate::ranges::Rule;
+use crate::ranges::{Range, Rule};
 use std::alloc::{AllocError, Global};
 use std::marker::Model;
 use thiserror::Error;
@@ -111,6 +112,18 @@ impl IntSet {
         ensures none { IfNone result ((n : ℤ) → IsOnly n self.now → ⊥) }
     {
         self.kept().only()
+    }
+
+    /// The numbers as ranges in order, with a gap between each two. This call takes memory.
+    ///
+    /// # Errors
+    ///
+    /// Want of memory.
+    pub fn ranges(&self, alloc: Global) -> Result<Vec<Range>, AllocError>
+        ensures in_order { IfOk result (λ v. AreInOrder lowest v.items) }
+        ensures same { IfOk result (λ v. (x : ℤ) → covers v.items x ≡ set.contains self.now x) }
+    {
+        self.kept().ranges(alloc)
     }
 
     /// Whether each number of this set is in the other.

@@ -3,6 +3,7 @@ use Rattle.std.proofs.Common.{◌≡◌, ◌<◌, ◌+◌, ℕ, List, [], ◌∷
 use Rattle.std.specs.List.{AllByRecursion}
 use Rattle.std.proofs.lemmas.List.{map-append, take_more}
 use Rattle.fz_model.specs.Meaning.{Model, Partial}
+use Rattle.fz_model.proofs.Lists.{all_append}
 use Rattle.fz_verdict.specs.Blocks.{Printed}
 use Rattle.fz_explain.specs.Explained.{IsTold}
 use Rattle.fz_explain.specs.declared.explained.Explained.{Explained}
@@ -13,10 +14,6 @@ pub record Telling (m : Model) (items : List Printed) (F G : Partial) (told : Li
   pub each : AllByRecursion (λ e. IsTold m items F e.variable e) told
   pub same : G ≡ F
 
-all_push : {X : Type 0} (P : X → Type 0) (xs : List X) (x : X) → AllByRecursion P xs → P x → AllByRecursion P (xs ++ x ∷ [])
-all_push P [] x h k = (k, tt)
-all_push P (y ∷ ys) x h k = (h.0, all_push P ys x h.1 k)
-
 -- one more
 pub told_next : (m : Model) (items : List Printed) (F G H : Partial) (told more : List Explained) (e : Explained) (ns : List ℕ) (k d : ℕ) → Telling m items F G told (take k ns) → k < length ns
     → more ≡ told ++ e ∷ [] → IsTold m items G (slice_index_or ns k d) e → H ≡ G → Telling m items F H more (take (k + 1) ns)
@@ -24,6 +21,6 @@ told_next m items F G H told more e ns k d so_far less longer t same =
     let whole : IsTold m items F e.variable e = subst₂ (λ K n. IsTold m items K n e) so_far.same (sym t.variable) t in
     record {
       variables = ap (map (λ x. x.variable)) longer ∙ map-append (λ x. x.variable) told (e ∷ []) ∙ (λ i. so_far.variables i ++ t.variable i ∷ []) ∙ sym (take_more ns k d less);
-      each = subst (AllByRecursion (λ x. IsTold m items F x.variable x)) (sym longer) (all_push (λ x. IsTold m items F x.variable x) told e so_far.each whole);
+      each = subst (AllByRecursion (λ x. IsTold m items F x.variable x)) (sym longer) (all_append (λ x. IsTold m items F x.variable x) told (e ∷ []) so_far.each (whole, tt));
       same = same ∙ so_far.same;
     }

@@ -1,24 +1,5 @@
--- What a walk over a list has done so far: looked for one, and turned each in its place.
-use Rattle.std.proofs.Common.{◌≡◌, ◌<◌, ◌≤◌, ◌+◌, ℕ, zero, suc, Bool, true, false, ◌||◌, List, [], ◌∷◌, map, length, drop, slice_set, slice_index_or, add-one, refl, sym, ap, subst, ◌∙◌, arith}
-use Rattle.std.specs.List.{list_any}
-
--- ---- one that is looked for
-
-any_at : {A B : Type 0} (p : A → Bool) (view : B → A) (xs : List B) (n : ℕ) (x : B) → n < length xs → x ≡ slice_index_or xs n x
-    → list_any p (map view (drop n xs)) ≡ (p (view x) || list_any p (map view (drop (suc n) xs)))
-any_at p view [] n x h e = absurd (omega arith)
-any_at p view (y ∷ ys) zero x h e = ap (λ z. p (view z) || list_any p (map view ys)) (sym e)
-any_at p view (y ∷ ys) (suc n) x h e = any_at p view ys n x (omega arith) e
-
-pub any_from : {A B : Type 0} (p : A → Bool) (view : B → A) (xs : List B) (n : ℕ) (x : B) → n < length xs → x ≡ slice_index_or xs n x
-    → list_any p (map view (drop n xs)) ≡ (p (view x) || list_any p (map view (drop (n + 1) xs)))
-any_from p view xs n x h e = any_at p view xs n x h e ∙ ap (λ k. p (view x) || list_any p (map view (drop k xs))) (sym (add-one n))
-
-pub none_behind : {A B : Type 0} (p : A → Bool) (view : B → A) (xs : List B) (n : ℕ) → length xs ≤ n → list_any p (map view (drop n xs)) ≡ false
-none_behind p view [] zero h = refl
-none_behind p view [] (suc n) h = refl
-none_behind p view (y ∷ ys) zero h = absurd (omega arith)
-none_behind p view (y ∷ ys) (suc n) h = none_behind p view ys n (omega arith)
+-- What a walk over a list has turned so far, each in its place.
+use Rattle.std.proofs.Common.{◌≡◌, ◌<◌, ◌≤◌, ◌+◌, ℕ, zero, suc, List, [], ◌∷◌, map, length, slice_set, slice_index_or, add-one, refl, sym, ap, subst, ◌∙◌, arith}
 
 -- ---- the first n turned
 

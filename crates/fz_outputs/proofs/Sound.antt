@@ -1,5 +1,6 @@
 -- A tree without faults has none where it asks for every scalar variable either.
 use Rattle.std.proofs.Common.{◌≡◌, ℕ, Bool, List, [], ◌∷◌, ◌++◌, map, Option, Some, None, refl, ap, sym, subst, ◌∙◌, IsTrue, IsFalse, flat_map, inl, inr, find, option_map, IsSomeAnd}
+use Rattle.std.proofs.lemmas.List.{map-append}
 use Rattle.fz_base.specs.declared.span.Span.{Span}
 use Rattle.fz_meaning.specs.declared.kind.Kind.{Kind}
 use Rattle.fz_meaning.specs.Located.{Basic, Decl, LocatedTree}
@@ -13,11 +14,6 @@ of_mapped : {A B : Type 0} (f : A → B) (P : B → Type 0) (Q : A → Type 0) �
 of_mapped f P Q turn [] h = h
 of_mapped f P Q turn (x ∷ xs) (inl h) = inl (turn x h)
 of_mapped f P Q turn (x ∷ xs) (inr h) = inr (of_mapped f P Q turn xs h)
-
-map_append : {A B : Type 0} (f : A → B) (xs ys : List A) → map f (xs ++ ys) ≡ map f xs ++ map f ys
-map_append f [] ys = refl
-map_append f (x ∷ xs) ys = ap (λ rest. f x ∷ rest) (map_append f xs ys)
-
 -- a place in the order of declarations, and a use, after the declarations were taken for those with annotations
 abbrev order_printed : InOrder → InOrder
 order_printed o = record { before = map printed_decl o.before; here = printed_decl o.here }
@@ -29,7 +25,7 @@ order_still : (before ds : List Decl) → in_order_after (map printed_decl befor
 order_still before [] = refl
 order_still before (d ∷ ds) =
     ap (λ rest. order_printed (record { before = before; here = d }) ∷ rest)
-    (ap (λ front. in_order_after front (map printed_decl ds)) (sym (map_append printed_decl before (d ∷ []))) ∙ order_still (before ++ d ∷ []) ds)
+    (ap (λ front. in_order_after front (map printed_decl ds)) (sym (map-append printed_decl before (d ∷ []))) ∙ order_still (before ++ d ∷ []) ds)
 
 abbrev made_of : List Decl → Option Kind → List Basic → List Use
 made_of known wanted bs = map (use_of known wanted) bs
@@ -45,11 +41,11 @@ all_declared_still : (os : List InOrder) → flat_map of_declared (map order_pri
 all_declared_still [] = refl
 all_declared_still (o ∷ os) =
     (λ i. made_still o.before (Some (kind_of_base o.here.base)) (parts o.here.value) i ++ all_declared_still os i)
-    ∙ sym (map_append use_printed (of_declared o) (flat_map of_declared os))
+    ∙ sym (map-append use_printed (of_declared o) (flat_map of_declared os))
 
 flat_still : {A : Type 0} (g f : A → List Use) → ((a : A) → g a ≡ map use_printed (f a)) → (xs : List A) → flat_map g xs ≡ map use_printed (flat_map f xs)
 flat_still g f same [] = refl
-flat_still g f same (x ∷ xs) = (λ i. same x i ++ flat_still g f same xs i) ∙ sym (map_append use_printed (f x) (flat_map f xs))
+flat_still g f same (x ∷ xs) = (λ i. same x i ++ flat_still g f same xs i) ∙ sym (map-append use_printed (f x) (flat_map f xs))
 
 uses_still : (t : LocatedTree) → uses (with_all_printed t) ≡ map use_printed (uses t)
 uses_still t =
@@ -60,7 +56,7 @@ uses_still t =
     ((ap (flat_map of_declared) (order_still [] t.decls) ∙ all_declared_still (in_order t)) i
     ++ flat_still (λ c. made_of (map printed_decl t.decls) None (parts_of_arguments c.args)) (λ c. made_of t.decls None (parts_of_arguments c.args)) (λ c. made_still t.decls None (parts_of_arguments c.args)) t.constraints i)
     ++ made_still t.decls (Some Kind.Int) (goal_parts t.solve.goal) i)
-    ∙ sym (map_append use_printed (declared ++ posted) aimed ∙ ap (λ front. front ++ map use_printed aimed) (map_append use_printed declared posted))
+    ∙ sym (map-append use_printed (declared ++ posted) aimed ∙ ap (λ front. front ++ map use_printed aimed) (map-append use_printed declared posted))
 
 unknown_still : (at : Span) (u : Use) → UnknownAt (map printed_decl u.known) u.what at → UnknownAt u.known u.what at
 unknown_still at u h = elim u.what as (λ b. UnknownAt (map printed_decl u.known) b at → UnknownAt u.known b at) [

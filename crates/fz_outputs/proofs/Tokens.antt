@@ -8,6 +8,7 @@ use Rattle.fz_syntax.specs.Print.{CanBeWritten}
 use Rattle.fz_syntax.specs.Tree as tree
 use Rattle.fz_syntax.specs.Tokens.{decl_toks, predicate_toks, constraint_toks, solve_toks, notes_toks, note_toks, value_toks, prefix_toks, toks, var_toks, base_toks, name_toks, mark}
 use Rattle.fz_meaning.specs.Located.{Decl, LocatedTree, bare_decl, bare_constraint, bare_solve, bare_of}
+use Rattle.fz_meaning.proofs.Lists.{all_append}
 use Rattle.fz_outputs.specs.Outputs.{output_var, is_unprinted, printed_decl, with_all_printed}
 
 pub record Both {X : Type 0} (P : X → Type 0) (xs ys : List X) : Type 0 where
@@ -18,17 +19,13 @@ split : {X : Type 0} (P : X → Type 0) (xs ys : List X) → AllByRecursion P (x
 split P [] ys h = record { left = tt; right = h }
 split P (x ∷ xs) ys h = let rest = split P xs ys h.1 in record { left = (h.0, rest.left); right = rest.right }
 
-join : {X : Type 0} (P : X → Type 0) (xs ys : List X) → AllByRecursion P xs → AllByRecursion P ys → AllByRecursion P (xs ++ ys)
-join P [] ys h k = k
-join P (x ∷ xs) ys h k = (h.0, join P xs ys h.1 k)
-
 -- what stands behind is taken for something else
 behind : {X : Type 0} (P : X → Type 0) (xs ys zs : List X) → (AllByRecursion P ys → AllByRecursion P zs) → AllByRecursion P (xs ++ ys) → AllByRecursion P (xs ++ zs)
 behind P [] ys zs turn h = turn h
 behind P (x ∷ xs) ys zs turn h = (h.0, behind P xs ys zs turn h.1)
 
 in_front : {X : Type 0} (P : X → Type 0) (xs ys zs : List X) → (AllByRecursion P xs → AllByRecursion P ys) → AllByRecursion P (xs ++ zs) → AllByRecursion P (ys ++ zs)
-in_front P xs ys zs turn h = let parts = split P xs zs h in join P ys zs (turn parts.left) parts.right
+in_front P xs ys zs turn h = let parts = split P xs zs h in all_append P ys zs (turn parts.left) parts.right
 
 -- of a promise that the annotation's two tokens keep
 module _ (P : TokenValue → Type 0) (colons : P (Marked ColonColon)) (word : P (Word (codes "output_var"))) where
@@ -36,7 +33,7 @@ module _ (P : TokenValue → Type 0) (colons : P (Marked ColonColon)) (word : P 
   notes_kept [] h = (colons, (word, tt))
   notes_kept (n ∷ notes) h =
       let parts = split P (Marked ColonColon ∷ note_toks n) (notes_toks notes) h in
-      join P (Marked ColonColon ∷ note_toks n) (notes_toks (notes ++ output_var ∷ [])) parts.left (notes_kept notes parts.right)
+      all_append P (Marked ColonColon ∷ note_toks n) (notes_toks (notes ++ output_var ∷ [])) parts.left (notes_kept notes parts.right)
 
   noted_kept : (d : Decl) → AllByRecursion P (notes_toks d.notes) → AllByRecursion P (notes_toks (printed_decl d).notes)
   noted_kept d h = elim (is_unprinted d) as (λ b. AllByRecursion P (notes_toks (cond b (d.notes ++ output_var ∷ []) d.notes))) [
@@ -54,7 +51,7 @@ module _ (P : TokenValue → Type 0) (colons : P (Marked ColonColon)) (word : P 
   decls_kept [] h = tt
   decls_kept (d ∷ ds) h =
       let parts = split P (decl_toks (bare_decl d)) (flat_map decl_toks (map bare_decl ds)) h in
-      join P (decl_toks (bare_decl (printed_decl d))) (flat_map decl_toks (map bare_decl (map printed_decl ds))) (decl_kept d parts.left) (decls_kept ds parts.right)
+      all_append P (decl_toks (bare_decl (printed_decl d))) (flat_map decl_toks (map bare_decl (map printed_decl ds))) (decl_kept d parts.left) (decls_kept ds parts.right)
 
   tree_kept : (t : LocatedTree) → AllByRecursion P (toks (bare_of t)) → AllByRecursion P (toks (bare_of (with_all_printed t)))
   tree_kept t =

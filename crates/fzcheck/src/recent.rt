@@ -97,7 +97,11 @@ impl<'c, R: Read> Recent<'c, R> {
         if self.keeps {
             self.keeps = self.tell_wanted().is_ok();
         }
-        if self.keeps { self.told.as_ref() } else { None }
+        if self.keeps && self.wanted.get() > 0 {
+            self.told.as_ref()
+        } else {
+            None
+        }
     }
 
     /// Keeps the block that is wanted, where that isn't kept already.
@@ -107,9 +111,9 @@ impl<'c, R: Read> Recent<'c, R> {
         let number = self.wanted.get();
         let is_told = match &self.told {
             Some(told) => told.number == number,
-            None => number == 0,
+            None => false,
         };
-        if !is_told {
+        if number > 0 && !is_told {
             let (start, end) = block_ends(&self.bytes, number.saturating_sub(self.passed.blocks));
             let text = behind(&self.bytes, start);
             let lines = spot_of(&self.bytes, start).line.saturating_sub(1);

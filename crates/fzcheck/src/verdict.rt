@@ -13,7 +13,7 @@ use fz_explain::{
     Explained, FIRST_VARIABLES, Sought, Source as FromWhere, explain, first_point, point_place,
     variables_of,
 };
-use fz_model::{Goal, Model, Partial, Point, Scalar, Term, What, load_text, scalar_at};
+use fz_model::{Goal, Model, Partial, Point, Scalar, Term, What, load, scalar_at};
 use fz_places::spot_of;
 use fz_stream::{Block, blocks};
 use fz_syntax::{Ast, Basic, Goal as GoalItem, Printed, parse};
@@ -44,11 +44,13 @@ struct Scene<'s, 'a> {
 ///
 /// Want of memory.
 pub fn case_explanation(alloc: Global, case: &Case<'_>) -> Result<Option<String>, AllocError> {
-    let (Ok(model), Ok(ast), Ok(stream)) = (
-        load_text(alloc, case.model.bytes),
+    let (Ok(ast), Ok(stream)) = (
         parse(alloc, case.model.bytes),
         blocks(alloc, &case.told.bytes),
     ) else {
+        return Ok(None);
+    };
+    let Ok(model) = load(alloc, &ast) else {
         return Ok(None);
     };
     let Some(block) = stream.blocks.first() else {
