@@ -14,6 +14,7 @@ of_mapped : {A B : Type 0} (f : A → B) (P : B → Type 0) (Q : A → Type 0) �
 of_mapped f P Q turn [] h = h
 of_mapped f P Q turn (x ∷ xs) (inl h) = inl (turn x h)
 of_mapped f P Q turn (x ∷ xs) (inr h) = inr (of_mapped f P Q turn xs h)
+
 -- a place in the order of declarations, and a use, after the declarations were taken for those with annotations
 abbrev order_printed : InOrder → InOrder
 order_printed o = record { before = map printed_decl o.before; here = printed_decl o.here }
