@@ -1,0 +1,4 @@
+pub mod Columns
+pub mod Excerpt
+pub mod Values
+pub mod Message

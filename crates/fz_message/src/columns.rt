@@ -1,0 +1,111 @@
+//! Columns of a text, and texts cut to them.
+
+ghost use Rattle.std.specs.Prelude.{◌≡◌, ◌≤◌, IfOk};
+ghost use Rattle.fz_message.specs.Columns.{columns, cut_end, cut_front, end_within, front_within, shown, visible, width};
+
+use std::alloc::{AllocError, Global};
+use unicode_width::UnicodeWidthChar;
+
+/// The most columns of a line that is shown.
+pub const MOST_COLUMNS: usize = 120;
+
+/// What stands for the part of a line that is left out.
+const CUT: [char; 3] = ['.', '.', '.'];
+
+/// The character as it is shown: a control character, a tab too, is a blank.
+fn visible(letter: char) -> char
+    ensures { result ≡ visible letter }
+{
+    if letter.is_control() { ' ' } else { letter }
+}
+
+/// The characters of bytes as they are shown. What isn't UTF-8 is shown by a replacement character.
+///
+/// # Errors
+///
+/// Want of memory.
+pub fn shown(alloc: Global, bytes: &[u8]) -> Result<Vec<char>, AllocError>
+    ensures { IfOk result (λ letters. letters.items ≡ shown bytes.now) }
+{
+    let text = String::from_utf8_lossy(alloc, bytes)?;
+    let mut letters = Vec::new(alloc);
+    for letter in text.chars() {
+        letters.push(visible(letter))?;
+    }
+    Ok(letters)
+}
+
+/// How many columns a character takes.
+fn width(letter: char) -> usize
+    ensures width { result ≡ width letter }
+    ensures narrow { result ≤ 3 }
+{
+    letter.width().unwrap_or(0)
+}
+
+/// How many columns characters take; of more than are shown, one more than that.
+pub fn columns(letters: &[char]) -> usize
+    ensures { result ≡ columns letters.now }
+{
+    let mut count: usize = 0;
+    for letter in letters {
+        count = (count + width(*letter)).min(MOST_COLUMNS + 1);
+    }
+    count
+}
+
+/// The longest front that has room in so many columns.
+fn front_within(letters: &[char], room: usize) -> &[char]
+    ensures { result.now ≡ front_within room letters.now }
+{
+    let mut left = room;
+    for (place, letter) in letters.iter().enumerate() {
+        let width = width(*letter);
+        if left < width {
+            return &letters[..place];
+        }
+        left -= width;
+    }
+    letters
+}
+
+/// The longest end that has room in so many columns.
+fn end_within(letters: &[char], room: usize) -> &[char]
+    ensures { result.now ≡ end_within room letters.now }
+{
+    let mut left = room;
+    let mut start = letters.len();
+    while start > 0 {
+        let width = width(letters[start - 1]);
+        if left < width {
+            break;
+        }
+        left -= width;
+        start -= 1;
+    }
+    &letters[start..]
+}
+
+/// The text where it has room, or as much of its end as has.
+pub fn cut_front(alloc: Global, letters: &[char], room: usize) -> Result<Vec<char>, AllocError>
+    ensures { IfOk result (λ cut. cut.items ≡ cut_front room letters.now) }
+{
+    if columns(letters) <= room {
+        return Vec::from_slice(alloc, letters);
+    }
+    let mut cut = Vec::from_slice(alloc, &CUT)?;
+    cut.extend_from_slice(end_within(letters, room.saturating_sub(CUT.len())))?;
+    Ok(cut)
+}
+
+/// The text where it has room, or as much of its front as has.
+pub fn cut_end(alloc: Global, letters: &[char], room: usize) -> Result<Vec<char>, AllocError>
+    ensures { IfOk result (λ cut. cut.items ≡ cut_end room letters.now) }
+{
+    if columns(letters) <= room {
+        return Vec::from_slice(alloc, letters);
+    }
+    let mut cut = Vec::from_slice(alloc, front_within(letters, room.saturating_sub(CUT.len())))?;
+    cut.extend_from_slice(&CUT)?;
+    Ok(cut)
+}
