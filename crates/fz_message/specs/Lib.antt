@@ -2,3 +2,4 @@ pub mod Columns
 pub mod Excerpt
 pub mod Values
 pub mod Message
+pub mod Place

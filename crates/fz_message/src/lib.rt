@@ -6,10 +6,12 @@ mod columns;
 mod excerpt;
 mod message;
 mod note;
+mod place;
 mod values;
 
 pub use columns::shown;
 pub use excerpt::Excerpt;
 pub use message::{Message, message_text};
 pub use note::{Help, Note, Origin};
+pub use place::{Source, message_at};
 pub use values::{ShownSet, ShownValue, shown_set, shown_value};

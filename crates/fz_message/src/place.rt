@@ -1,0 +1,49 @@
+//! A message on a place of a source.
+
+ghost use Rattle.std.specs.Prelude.{◌<◌, IfOk, IfSome, IsNone, string_bytes};
+ghost use Rattle.fz_message.specs.Place.{IsMessageAt};
+
+use crate::excerpt::Excerpt;
+use crate::message::Message;
+use fz_base::Span;
+use fz_places::{count_characters, spot_of};
+use std::alloc::{AllocError, Global};
+
+/// A file or a stream, or a part of one, and how many bytes and lines stand before the part.
+#[derive(Clone, Copy, Debug)]
+pub struct Source<'a> {
+    pub name: &'a str,
+    pub bytes: &'a [u8],
+    pub bytes_before: usize,
+    pub lines_before: usize,
+}
+
+/// A message without notes on a piece of a source, whose bytes are counted from the first of the
+/// whole file or stream. There is none where the piece begins before the part that is given.
+///
+/// # Errors
+///
+/// Want of memory.
+pub fn message_at(
+    alloc: Global,
+    source: &Source<'_>,
+    place: Span,
+    said: String,
+) -> Result<Option<Message>, AllocError>
+    ensures found { IfOk result (λ o. IfSome o (IsMessageAt source.now place (string_bytes said))) }
+    ensures none { IfOk result (λ o. IsNone o → place.start < source.now.bytes_before) }
+{
+    let Some(start) = place.start.checked_sub(source.bytes_before) else {
+        return Ok(None);
+    };
+    let spot = spot_of(source.bytes, start);
+    let marked = place.end.saturating_sub(place.start);
+    Ok(Some(Message {
+        source: String::from_str(alloc, source.name)?,
+        line: source.lines_before.saturating_add(spot.line),
+        column: count_characters(spot.front) + 1,
+        said,
+        excerpt: Excerpt::new(alloc, spot.front, spot.behind, marked)?,
+        notes: Vec::new(alloc),
+    }))
+}
