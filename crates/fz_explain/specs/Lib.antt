@@ -3,3 +3,4 @@ pub mod Sources
 pub mod Spots
 pub mod Told
 pub mod Explained
+pub mod Notes

@@ -5,6 +5,7 @@
 mod explained;
 mod failing;
 mod giving;
+mod notes;
 mod place;
 mod printing;
 mod source;
@@ -12,6 +13,7 @@ mod variables;
 
 pub use explained::{Explained, Explanation, FIRST_VARIABLES, explain};
 pub use failing::{Sought, first_point};
+pub use notes::{Loaded, bounds_note, notes_of};
 pub use place::point_place;
 pub use source::Source;
 pub use variables::variables_of;

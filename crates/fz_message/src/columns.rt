@@ -1,6 +1,6 @@
 //! Columns of a text, and texts cut to them.
 
-ghost use Rattle.std.specs.Prelude.{◌≡◌, ◌≤◌, IfOk};
+ghost use Rattle.std.specs.Prelude.{◌≡◌, ◌≤◌, ◌++◌, IfOk, OnOk, encode_utf8_all, string_bytes};
 ghost use Rattle.fz_message.specs.Columns.{columns, cut_end, cut_front, end_within, front_within, shown, visible, width};
 
 use std::alloc::{AllocError, Global};
@@ -24,7 +24,7 @@ fn visible(letter: char) -> char
 /// # Errors
 ///
 /// Want of memory.
-pub fn shown(alloc: Global, bytes: &[u8]) -> Result<Vec<char>, AllocError>
+pub(crate) fn shown(alloc: Global, bytes: &[u8]) -> Result<Vec<char>, AllocError>
     ensures { IfOk result (λ letters. letters.items ≡ shown bytes.now) }
 {
     let text = String::from_utf8_lossy(alloc, bytes)?;
@@ -33,6 +33,29 @@ pub fn shown(alloc: Global, bytes: &[u8]) -> Result<Vec<char>, AllocError>
         letters.push(visible(letter))?;
     }
     Ok(letters)
+}
+
+/// The text of bytes as it is shown.
+///
+/// # Errors
+///
+/// Want of memory.
+pub fn shown_text(alloc: Global, bytes: &[u8]) -> Result<String, AllocError>
+    ensures { IfOk result (λ text. string_bytes text ≡ encode_utf8_all (shown bytes.now)) }
+{
+    let mut text = String::new(alloc);
+    push_letters(&mut text, &shown(alloc, bytes)?)?;
+    Ok(text)
+}
+
+/// Adds characters to a text.
+pub(crate) fn push_letters(text: &mut String, letters: &[char]) -> Result<(), AllocError>
+    ensures { OnOk result (string_bytes text.new ≡ string_bytes text.old ++ encode_utf8_all letters.now) }
+{
+    for letter in letters {
+        text.push(*letter)?;
+    }
+    Ok(())
 }
 
 /// How many columns a character takes.

@@ -9,7 +9,7 @@ mod note;
 mod place;
 mod values;
 
-pub use columns::shown;
+pub use columns::shown_text;
 pub use excerpt::Excerpt;
 pub use message::{Message, message_text};
 pub use note::{Help, Note, Origin};

@@ -1,9 +1,9 @@
 //! A message as a compiler writes it.
 
-ghost use Rattle.std.specs.Prelude.{◌≡◌, ◌++◌, IfOk, OnOk, encode_utf8_all, flat_map, string_bytes};
+ghost use Rattle.std.specs.Prelude.{◌≡◌, ◌++◌, IfOk, OnOk, flat_map, string_bytes};
 ghost use Rattle.fz_message.specs.Message.{head_line, mark_line, message_text, note_line, repeated, source_line};
 
-use crate::columns::columns;
+use crate::columns::{columns, push_letters};
 use crate::excerpt::Excerpt;
 use crate::note::{Note, push_note};
 use std::alloc::{AllocError, Global};
@@ -25,15 +25,6 @@ fn push_repeated(text: &mut String, piece: &str, count: usize) -> Result<(), All
 {
     for _ in 0..count {
         text.push_str(piece)?;
-    }
-    Ok(())
-}
-
-fn push_letters(text: &mut String, letters: &[char]) -> Result<(), AllocError>
-    ensures { OnOk result (string_bytes text.new ≡ string_bytes text.old ++ encode_utf8_all letters.now) }
-{
-    for letter in letters {
-        text.push(*letter)?;
     }
     Ok(())
 }

@@ -1,7 +1,7 @@
 //! The command `check`.
 
 use crate::MOST_BYTES;
-use crate::explain::Source;
+use crate::explain::source_behind;
 use crate::files::read_up_to;
 use crate::progress::Progress;
 use crate::recent::{NOTHING, Recent};
@@ -116,11 +116,7 @@ fn explain_verdict<S: Read + Drop>(
     };
     let case = Case {
         said,
-        model: Source {
-            name: task.model,
-            bytes: model,
-            passed: NOTHING,
-        },
+        model: source_behind(task.model, model, NOTHING),
         stream: task.stream,
         told,
     };
@@ -141,22 +137,10 @@ fn refuse_check<S: Read + Drop>(
         CheckError::Read => refuse_file(rt, error, task.stream, stream.failure()),
         _ if !task.options.explains => refuse(rt, error),
         CheckError::Model(_) | CheckError::Names(_) => {
-            let source = Source {
-                name: task.model,
-                bytes: model,
-                passed: NOTHING,
-            };
-            refuse_at(rt, error, &source)
+            refuse_at(rt, error, task.model, model, NOTHING)
         }
         _ => match stream.kept() {
-            Some((bytes, passed)) => {
-                let source = Source {
-                    name: task.stream,
-                    bytes,
-                    passed,
-                };
-                refuse_at(rt, error, &source)
-            }
+            Some((bytes, passed)) => refuse_at(rt, error, task.stream, bytes, passed),
             None => refuse(rt, error),
         },
     }

@@ -10,7 +10,6 @@ mod progress;
 mod recent;
 mod refuse;
 mod show;
-mod texts;
 mod verdict;
 mod words;
 

@@ -1,7 +1,8 @@
 //! What the program says on standard error where it carries nothing out, and its status then.
 
-use crate::explain::{Source, explanation};
+use crate::explain::explanation;
 use crate::pages::USAGE;
+use crate::recent::Passed;
 use clap::Error;
 use fz_check::{CheckError, refusal_text, status};
 use std::io;
@@ -46,11 +47,18 @@ fn is_told(told: u8, error: &CheckError) -> bool {
     told == status(&Err(*error))
 }
 
-/// Tells a refusal, and where its fault stands in the source.
-pub fn refuse_at(rt: &HostRuntime, error: &CheckError, source: &Source<'_>) -> u8 {
+/// Tells a refusal, and where its fault stands in the source that has this name and, behind what
+/// has passed, these bytes.
+pub fn refuse_at(
+    rt: &HostRuntime,
+    error: &CheckError,
+    name: &str,
+    bytes: &[u8],
+    passed: Passed,
+) -> u8 {
     let told = refuse(rt, error);
     if is_told(told, error)
-        && let Ok(Some(text)) = explanation(rt.alloc(), source, error)
+        && let Ok(Some(text)) = explanation(rt.alloc(), name, bytes, passed, error)
     {
         let _ = eprint!(rt; "{text}");
     }

@@ -4,17 +4,15 @@
 ghost use Rattle.std.specs.Prelude.{◌≡◌, ◌<◌, length};
 ghost use Rattle.fz_model.specs.Meaning.{IsPartial, points};
 
-use crate::explain::{Source, message, repeated, shown};
+use crate::explain::source_behind;
 use crate::recent::Told;
-use crate::texts::{domain_text, help_for, value_text};
 use fz_base::Span;
 use fz_check::fill;
 use fz_explain::{
-    Explained, FIRST_VARIABLES, Sought, Source as FromWhere, explain, first_point, point_place,
-    variables_of,
+    Loaded, Sought, bounds_note, explain, first_point, notes_of, point_place, variables_of,
 };
-use fz_model::{Goal, Model, Partial, Point, Scalar, Term, What, load, scalar_at};
-use fz_places::spot_of;
+use fz_message::{Help, Message, Note, Source, message_at, message_text, shown_text};
+use fz_model::{Goal, Model, Partial, Scalar, Term, What, load, scalar_at};
 use fz_stream::{Block, blocks};
 use fz_syntax::{Ast, Basic, Goal as GoalItem, Printed, parse};
 use std::alloc::{AllocError, Global};
@@ -65,14 +63,17 @@ pub fn case_explanation(alloc: Global, case: &Case<'_>) -> Result<Option<String>
         ast: &ast,
         block,
     };
-    scene_explanation(alloc, &scene, &mut filling)
+    match scene_message(alloc, &scene, &mut filling)? {
+        Some(message) => Ok(Some(message_text(alloc, &message)?)),
+        None => Ok(None),
+    }
 }
 
-fn scene_explanation(
+fn scene_message(
     alloc: Global,
     scene: &Scene<'_, '_>,
     filling: &mut Partial,
-) -> Result<Option<String>, AllocError>
+) -> Result<Option<Message>, AllocError>
     requires fits { IsPartial scene.now.model.now filling.old }
 {
     let case = scene.case;
@@ -96,45 +97,9 @@ fn scene_explanation(
     }
 }
 
-/// A message with lines below, of which each begins with `=` under the bar.
-#[derive(Drop)]
-struct Notes {
-    text: String,
-    indent: String,
-}
-
-impl Notes {
-    /// The message alone, on a piece of a source.
-    fn new(
-        alloc: Global,
-        source: &Source<'_>,
-        place: Span,
-        said: &str,
-    ) -> Result<Option<Notes>, AllocError> {
-        let Some(text) = message(alloc, source, place, said)? else {
-            return Ok(None);
-        };
-        let start = place.start.saturating_sub(source.passed.bytes);
-        let line = source
-            .passed
-            .lines
-            .saturating_add(spot_of(source.bytes, start).line);
-        let digits = format!(in alloc; "{}", line)?.len();
-        let indent = repeated(alloc, " ", digits.saturating_add(3))?;
-        Ok(Some(Notes { text, indent }))
-    }
-
-    fn add(&mut self, note: &str) -> Result<(), AllocError> {
-        self.text.push_str(&self.indent)?;
-        self.text.push_str(" = ")?;
-        self.text.push_str(note)?;
-        self.text.push_str("\n")
-    }
-}
-
 /// What the report says of the block, in a sentence.
 fn sentence(alloc: Global, case: &Case<'_>) -> Result<String, AllocError> {
-    let said = shown(alloc, case.said)?;
+    let said = shown_text(alloc, case.said)?;
     let number = case.told.number;
     if let Some(fault) = said.strip_prefix("violated: objective ") {
         return format!(in alloc; "objective {} in block {}", fault, number);
@@ -154,134 +119,94 @@ fn point_explanation(
     scene: &Scene<'_, '_>,
     filling: &mut Partial,
     point: usize,
-) -> Result<Option<String>, AllocError>
+) -> Result<Option<Message>, AllocError>
     requires in_range { point < length (points scene.now.model.now) }
     requires fits { IsPartial scene.now.model.now filling.old }
 {
     let Some(place) = point_place(scene.ast, &scene.model.point(point)) else {
         return Ok(None);
     };
-    let case = scene.case;
-    let said = sentence(alloc, case)?;
-    let Some(mut notes) = Notes::new(alloc, &case.model, place, &said)? else {
+    let variables = variables_of(alloc, scene.model, point)?;
+    let source = scene.case.model;
+    let Some(mut message) = variables_message(alloc, scene, filling, source, place, &variables)?
+    else {
         return Ok(None);
     };
-    let variables = variables_of(alloc, scene.model, point)?;
-    add_variables(alloc, &mut notes, scene, filling, &variables)?;
-    if let Some(text) = domain_text(alloc, scene.model, point)? {
-        notes.add(&text)?;
+    if let Some(note) = bounds_note(alloc, scene.model, point)? {
+        message.notes.push(note)?;
     }
-    if let Some(help) = help_for(case.said) {
-        notes.add(help)?;
+    if let Some(help) = help_for(scene.case.said) {
+        message.notes.push(Note::Help(help))?;
     }
-    Ok(Some(notes.text))
+    Ok(Some(message))
 }
 
-/// A line for each variable; of many some at the front and at the end.
-fn add_variables(
+/// The message on a piece of a source, with a note on each of the variables; of many on some at the
+/// front and at the end.
+fn variables_message(
     alloc: Global,
-    notes: &mut Notes,
     scene: &Scene<'_, '_>,
     filling: &mut Partial,
+    source: Source<'_>,
+    place: Span,
     variables: &[usize],
-) -> Result<(), AllocError>
+) -> Result<Option<Message>, AllocError>
     requires fits { IsPartial scene.now.model.now filling.old }
 {
+    let said = sentence(alloc, scene.case)?;
+    let Some(mut message) = message_at(alloc, &source, place, said)? else {
+        return Ok(None);
+    };
     let told = explain(alloc, scene.model, &scene.block.items, filling, variables)?;
-    for (place, explained) in told.variables.iter().enumerate() {
-        if place == FIRST_VARIABLES && told.left_out > 0 {
-            notes.add(&format!(in alloc; "... and {} more ...", told.left_out)?)?;
-        }
-        notes.add(&explained_text(alloc, scene, explained)?)?;
-    }
-    Ok(())
-}
-
-/// A variable, its value, and where that is from.
-fn explained_text(
-    alloc: Global,
-    scene: &Scene<'_, '_>,
-    explained: &Explained,
-) -> Result<String, AllocError> {
-    let name = match scene.model.variables().get(explained.variable) {
-        Some(variable) => shown(alloc, variable.name)?,
-        None => String::new(alloc),
+    let loaded = Loaded {
+        model: scene.model,
+        ast: scene.ast,
+        text: scene.case.model.bytes,
     };
-    let from = source_text(alloc, scene, explained.source)?;
-    match &explained.value {
-        Some(value) => {
-            let value = value_text(alloc, value)?;
-            format!(in alloc; "{} = {}, {}", name, value, from)
-        }
-        None => format!(in alloc; "{} = none: {}", name, from),
-    }
+    message.notes = notes_of(alloc, loaded, &told)?;
+    Ok(Some(message))
 }
 
-fn source_text(
-    alloc: Global,
-    scene: &Scene<'_, '_>,
-    source: FromWhere,
-) -> Result<String, AllocError> {
-    match source {
-        FromWhere::Printed => String::from_str(alloc, "printed"),
-        FromWhere::Given(point) if point < scene.model.points() => {
-            point_text(alloc, scene, &scene.model.point(point))
-        }
-        FromWhere::Given(_) | FromWhere::Filled => String::from_str(alloc, "filled in"),
-        FromWhere::Nothing => String::from_str(alloc, "no rule gives it one; print it"),
+/// What to do about a block that is undecided.
+fn help_for(said: &[u8]) -> Option<Help> {
+    if said.starts_with(b"undecided: no value for ") {
+        return Some(Help::PrintAll);
     }
-}
-
-/// What a point is, and its line.
-fn point_text(
-    alloc: Global,
-    scene: &Scene<'_, '_>,
-    point: &Point<'_>,
-) -> Result<String, AllocError> {
-    let case = scene.case;
-    let text = case.model.bytes;
-    let line = match point_place(scene.ast, point) {
-        Some(place) => spot_of(text, place.start).line,
-        None => 0,
-    };
-    match point {
-        Point::Domain(_) => String::from_str(alloc, "by its domain"),
-        Point::Definition(name) => {
-            let name = shown(alloc, name)?;
-            format!(in alloc; "by definition of {}, line {}", name, line)
-        }
-        Point::Constraint(number, name) => {
-            let name = shown(alloc, name)?;
-            format!(in alloc; "by constraint {} {}, line {}", number, name, line)
-        }
+    if said.ends_with(b" not known") {
+        return Some(Help::UseLibrary);
     }
+    if said.ends_with(b" too large") {
+        return Some(Help::TightenDomains);
+    }
+    None
 }
 
 fn objective_explanation(
     alloc: Global,
     scene: &Scene<'_, '_>,
     filling: &mut Partial,
-) -> Result<Option<String>, AllocError>
+) -> Result<Option<Message>, AllocError>
     requires fits { IsPartial scene.now.model.now filling.old }
 {
     let place = match &scene.ast.solve.goal {
         GoalItem::Minimize(basic) | GoalItem::Maximize(basic) => basic_place(basic),
         GoalItem::Satisfy => return Ok(None),
     };
-    let case = scene.case;
-    let said = sentence(alloc, case)?;
-    let Some(mut notes) = Notes::new(alloc, &case.model, place, &said)? else {
-        return Ok(None);
-    };
-    if let Goal::Minimize(Term::Var(variable)) | Goal::Maximize(Term::Var(variable)) = scene
+    let mut variables = Vec::new(alloc);
+    if let Goal::Minimize(Term::Var(number)) | Goal::Maximize(Term::Var(number)) = scene
         .model
         .goal()
     {
-        add_variables(alloc, &mut notes, scene, filling, &[*variable])?;
+        variables.push(*number)?;
     }
-    let before = case.told.number.saturating_sub(1);
-    notes.add(&format!(in alloc; "the other value is that of block {}", before)?)?;
-    Ok(Some(notes.text))
+    let source = scene.case.model;
+    let Some(mut message) = variables_message(alloc, scene, filling, source, place, &variables)?
+    else {
+        return Ok(None);
+    };
+    let before = scene.case.told.number.saturating_sub(1);
+    message.notes.push(Note::OtherBlock(before))?;
+    Ok(Some(message))
 }
 
 fn basic_place(basic: &Basic<'_>) -> Span {
@@ -296,31 +221,21 @@ fn printed_explanation(
     scene: &Scene<'_, '_>,
     filling: &mut Partial,
     name: &[u8],
-) -> Result<Option<String>, AllocError>
+) -> Result<Option<Message>, AllocError>
     requires fits { IsPartial scene.now.model.now filling.old }
 {
     let Some(place) = printed_place(&scene.block.items, name) else {
         return Ok(None);
     };
-    let case = scene.case;
-    let told = case.told;
-    let source = Source {
-        name: case.stream,
-        bytes: &told.bytes,
-        passed: told.passed,
-    };
+    let told = scene.case.told;
     let from = told.passed.bytes.saturating_add(scene.block.offset);
     let place = Span {
         start: from.saturating_add(place.start),
         end: from.saturating_add(place.end),
     };
-    let said = sentence(alloc, case)?;
-    let Some(mut notes) = Notes::new(alloc, &source, place, &said)? else {
-        return Ok(None);
-    };
+    let source = source_behind(scene.case.stream, &told.bytes, told.passed);
     let variables = variables_named(alloc, scene.model, name)?;
-    add_variables(alloc, &mut notes, scene, filling, &variables)?;
-    Ok(Some(notes.text))
+    variables_message(alloc, scene, filling, source, place, &variables)
 }
 
 /// Where a name is printed.

@@ -1,6 +1,6 @@
 use Rattle.std.proofs.Common.{string_bytes, arith}
 use Rattle.fz_message.proofs.Pieces.{letters_next}
-use Rattle.fz_message.proofs.message.push_letters.Goals as goal
+use Rattle.fz_message.proofs.columns.push_letters.Goals as goal
 
 pub loop-letter-preserved : goal.loop-letter-preserved
 loop-letter-preserved c =

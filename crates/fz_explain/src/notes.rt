@@ -1,0 +1,170 @@
+//! What is told of variables, as notes of a message.
+
+ghost use Rattle.std.specs.Prelude.{◌≡◌, ◌<◌, ◌++◌, List, IfOk, OnOk, length, slice_get};
+ghost use Rattle.fz_model.specs.Meaning.{Point, points};
+ghost use Rattle.fz_message.specs.declared.note.Note.{Note};
+ghost use Rattle.fz_explain.specs.Notes.{AreNotesOf, AreNotesOfAll, IsBoundsNote, IsDomainNote, IsOriginAt, IsOriginOf, IsVariableNote, line_of, name_at};
+
+use crate::explained::{Explained, Explanation, FIRST_VARIABLES};
+use crate::place::point_place;
+use crate::source::Source;
+use fz_message::{Note, Origin, shown_set, shown_text, shown_value};
+use fz_model::{Domain, Model, Point, PointParts};
+use fz_places::spot_of;
+use fz_syntax::Ast;
+use std::alloc::{AllocError, Global};
+
+/// A model with the tree and the text that it was loaded from.
+#[derive(Clone, Copy)]
+pub struct Loaded<'s, 'a> {
+    pub model: &'s Model<'a>,
+    pub ast: &'s Ast<'a>,
+    pub text: &'s [u8],
+}
+
+/// The line of the name by which a point is told, from 1.
+fn line_of(loaded: Loaded<'_, '_>, point: &Point<'_>) -> usize
+    ensures { result ≡ line_of loaded.ast.now loaded.text.now point.now }
+{
+    match point_place(loaded.ast, point) {
+        Some(place) => spot_of(loaded.text, place.start).line,
+        None => 0,
+    }
+}
+
+/// A point that gives a value.
+fn point_origin(
+    alloc: Global,
+    loaded: Loaded<'_, '_>,
+    point: &Point<'_>,
+) -> Result<Origin, AllocError>
+    ensures { IfOk result (IsOriginAt loaded.ast.now loaded.text.now point.now) }
+{
+    let line = line_of(loaded, point);
+    match point {
+        Point::Domain(_) => Ok(Origin::Domain),
+        Point::Definition(name) => Ok(Origin::Definition(shown_text(alloc, name)?, line)),
+        Point::Constraint(number, name) => {
+            let name = shown_text(alloc, name)?;
+            Ok(Origin::Constraint(*number, name, line))
+        }
+    }
+}
+
+/// Where a value is from.
+fn origin_of(
+    alloc: Global,
+    loaded: Loaded<'_, '_>,
+    source: Source,
+) -> Result<Origin, AllocError>
+    ensures { IfOk result (IsOriginOf loaded.model.now loaded.ast.now loaded.text.now source) }
+{
+    match source {
+        Source::Printed => Ok(Origin::Printed),
+        Source::Given(point) => {
+            if point < loaded.model.points() {
+                point_origin(alloc, loaded, &loaded.model.point(point))
+            } else {
+                Ok(Origin::Filled)
+            }
+        }
+        Source::Filled => Ok(Origin::Filled),
+        Source::Nothing => Ok(Origin::Nothing),
+    }
+}
+
+/// The name of a variable, or none where there is no such variable.
+fn name_at<'m>(model: &'m Model<'_>, variable: usize) -> &'m [u8]
+    ensures { result.now ≡ name_at model.now variable }
+{
+    match model.variables().get(variable) {
+        Some(variable) => variable.name,
+        None => b"",
+    }
+}
+
+/// The note on a variable.
+fn variable_note(
+    alloc: Global,
+    loaded: Loaded<'_, '_>,
+    explained: &Explained,
+) -> Result<Note, AllocError>
+    ensures { IfOk result (IsVariableNote loaded.model.now loaded.ast.now loaded.text.now explained.now) }
+{
+    let name = shown_text(alloc, name_at(loaded.model, explained.variable))?;
+    let origin = origin_of(alloc, loaded, explained.source)?;
+    let value = match &explained.value {
+        Some(value) => Some(shown_value(alloc, value)?),
+        None => None,
+    };
+    Ok(Note::Variable(name, value, origin))
+}
+
+/// Adds a note on each of the variables.
+fn push_variables(
+    alloc: Global,
+    loaded: Loaded<'_, '_>,
+    notes: &mut Vec<Note>,
+    variables: &[Explained],
+) -> Result<(), AllocError>
+    ensures { OnOk result ((added : List Note) × (notes.new.items ≡ notes.old.items ++ added) × AreNotesOf loaded.model.now loaded.ast.now loaded.text.now variables.now added) }
+{
+    for explained in variables {
+        notes.push(variable_note(alloc, loaded, explained)?)?;
+    }
+    Ok(())
+}
+
+/// The notes on what was explained: one on each variable, and one on those that are left out, where
+/// they are.
+///
+/// # Errors
+///
+/// Want of memory.
+pub fn notes_of(
+    alloc: Global,
+    loaded: Loaded<'_, '_>,
+    explanation: &Explanation,
+) -> Result<Vec<Note>, AllocError>
+    ensures { IfOk result (λ notes. AreNotesOfAll loaded.model.now loaded.ast.now loaded.text.now explanation.now notes.items) }
+{
+    let count = explanation.variables.len().min(FIRST_VARIABLES);
+    let mut notes = Vec::new(alloc);
+    push_variables(alloc, loaded, &mut notes, &explanation.variables[..count])?;
+    if explanation.left_out > 0 {
+        notes.push(Note::LeftOut(explanation.left_out))?;
+    }
+    push_variables(alloc, loaded, &mut notes, &explanation.variables[count..])?;
+    Ok(notes)
+}
+
+/// The note on a domain; there is none on one that takes any value.
+fn domain_note(alloc: Global, domain: &Domain) -> Result<Option<Note>, AllocError>
+    ensures { IfOk result (IsDomainNote domain.now) }
+{
+    match domain {
+        Domain::All => Ok(None),
+        Domain::Within(lo, hi) => Ok(Some(Note::Bounds(*lo, *hi))),
+        Domain::Among(set) => Ok(Some(Note::Among(shown_set(alloc, set)?))),
+    }
+}
+
+/// The note on the bounds that are declared, where the point of this number, from 0, is a domain.
+///
+/// # Errors
+///
+/// Want of memory.
+pub fn bounds_note(
+    alloc: Global,
+    model: &Model<'_>,
+    point: usize,
+) -> Result<Option<Note>, AllocError>
+    requires in_range { point < length (points model.now) }
+    ensures { IfOk result (λ note. (p : Point) → slice_get (points model.now) point ≡ Some p → IsBoundsNote p note) }
+{
+    match model.point_parts(point) {
+        PointParts::Domain(variable, _) => domain_note(alloc, &variable.domain),
+        PointParts::Elements(_, domain, _) => domain_note(alloc, domain),
+        PointParts::Definition(_, _, _) | PointParts::Constraint(_) => Ok(None),
+    }
+}
