@@ -49,10 +49,11 @@ LEXED = (
 ARRAY = b"x = array2d(1..2,{1,2},[1,{3,1},true,1..4]); y = -1..2;"
 ITEMS = (b"x = 3;", b"x = 3", b"x = 1.5;", ARRAY * 9)
 NAMES = (
-    "range list union intersect minus symdiff copy copy_value lex parse to_text read_items load "
+    "range list union intersect minus symdiff copy copy_value ranges lex parse to_text read_items load "
     "new_partial state forced blocks feed take finish fill judge check report_text show "
     "show_printing_all refusal_text check_stream check_stream_up_to"
 ).split()
+SET_CALLS = "make union intersect minus symdiff copy copy_value ranges".split()
 ENOUGH = "none"  # it was wanted once more, and given
 IN_MODELS = ("load", "new_partial", "points")
 OVER_BLOCKS = ("fill", "judge", "points")
@@ -139,7 +140,7 @@ def of_pair(model, stream):
 
 def calls():
     for text in SETS:
-        for name in ("make", "union", "intersect", "minus", "symdiff", "copy", "copy_value"):
+        for name in SET_CALLS:
             yield Call("sets", name, (text,))
     for text in LEXED:
         yield Call("text", "lex", (text,))

@@ -52,11 +52,7 @@ fn point_origin(
 }
 
 /// Where a value is from.
-fn origin_of(
-    alloc: Global,
-    loaded: Loaded<'_, '_>,
-    source: Source,
-) -> Result<Origin, AllocError>
+fn origin_of(alloc: Global, loaded: Loaded<'_, '_>, source: Source) -> Result<Origin, AllocError>
     ensures { IfOk result (IsOriginOf loaded.model.now loaded.ast.now loaded.text.now source) }
 {
     match source {

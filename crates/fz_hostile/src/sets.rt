@@ -16,6 +16,7 @@ pub fn make_call(rt: &HostRuntime, call: &str, operands: &[String]) -> Option<()
     match call {
         "make" => tell_made(rt, first),
         "copy_value" => copy_value(rt, first),
+        "ranges" => tell_ranges(rt, first),
         "ask" => ask(rt, first, second),
         _ => combine(rt, call, first, second),
     }
@@ -64,6 +65,22 @@ fn copy_value(rt: &HostRuntime, literal: &LiteralKind) -> Option<()> {
         }
     }
     tell(rt, &value);
+    Some(())
+}
+
+/// Tells the ranges of a set, and then the set.
+fn tell_ranges(rt: &HostRuntime, literal: &LiteralKind) -> Option<()> {
+    let Ok(set) = made(rt.alloc(), literal) else {
+        return None;
+    };
+    for _ in 0..2 {
+        let ranges = set.ranges(rt.alloc());
+        tell(rt, &ranges);
+        if ranges.is_ok() {
+            break;
+        }
+    }
+    tell(rt, &set);
     Some(())
 }
 

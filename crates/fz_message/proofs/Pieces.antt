@@ -13,5 +13,5 @@ pub letters_next : (cs : List ℕ) (k c : ℕ) (old so_far new : List ℕ) → k
 letters_next cs k c old so_far new h is before e =
     let front = take k cs in
     let whole : encode_utf8_all (take (k + 1) cs) ≡ encode_utf8_all front ++ encode_utf8 c =
-        ap encode_utf8_all (take_more cs k c h ∙ ap (λ x. front ++ x ∷ []) (sym is)) ∙ encodes-append front (c ∷ []) ∙ ap (λ t. encode_utf8_all front ++ t) (append-nil (encode_utf8 c)) in
+    ap encode_utf8_all (take_more cs k c h ∙ ap (λ x. front ++ x ∷ []) (sym is)) ∙ encodes-append front (c ∷ []) ∙ ap (λ t. encode_utf8_all front ++ t) (append-nil (encode_utf8 c)) in
     e ∙ ap (λ t. t ++ encode_utf8 c) before ∙ append_assoc old (encode_utf8_all front) (encode_utf8 c) ∙ ap (λ t. old ++ t) (sym whole)

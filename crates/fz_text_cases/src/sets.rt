@@ -140,6 +140,39 @@ fn sizes_and_bounds(rt: HostRuntime) -> Result<(), Fail> {
     Ok(())
 }
 
+/// Listed numbers, and the ranges of the set of them, each by its ends.
+const IN_RANGES: [(&[i64], &[(i64, i64)]); 5] = [
+    (&[], &[]),
+    (&[7], &[(7, 7)]),
+    (&[2, 0, 1, 63, 1], &[(0, 2), (63, 63)]),
+    (&[64, 63, -2, -3], &[(-3, -2), (63, 64)]),
+    (
+        &[i64::MAX, i64::MIN],
+        &[(i64::MIN, i64::MIN), (i64::MAX, i64::MAX)],
+    ),
+];
+
+/// Whether the set of the listed numbers has these ranges.
+fn has_ranges(alloc: Global, listed: &[i64], wanted: &[(i64, i64)]) -> Result<bool, SetError> {
+    let ranges = made(alloc, Making::List(listed))?.ranges(alloc)?;
+    for (range, (lo, hi)) in ranges.iter().zip(wanted) {
+        if range.lo != *lo || range.hi != *hi {
+            return Ok(false);
+        }
+    }
+    Ok(ranges.len() == wanted.len())
+}
+
+#[test]
+fn ranges_of_sets(rt: HostRuntime) -> Result<(), Fail> {
+    for (listed, wanted) in IN_RANGES {
+        assert!(rt; has_ranges(rt.alloc(), listed, wanted)?, "{listed:?}");
+    }
+    let all = IntSet::range(rt.alloc(), i64::MIN, i64::MAX)?.ranges(rt.alloc())?;
+    assert!(rt; all.len() == 1 && all[0].lo == i64::MIN && all[0].hi == i64::MAX);
+    Ok(())
+}
+
 /// Numbers of which no two are neighbours: a set of the first of them has as many ranges as
 /// numbers. A word can have the low ones.
 const LOW: [i64; 6] = [0, 3, 5, 7, 9, 63];

@@ -14,7 +14,7 @@ returns-clause-found c =
     let marked : c.saturating_sub-marked.result ≡ c.args.place.end - c.args.place.start = c.saturating_sub-marked.ensures in
     let cut = c.in_ok-new.field-0 in
     let kept : IsExcerpt (last_line (take (c.args.place.start - c.args.source.now.bytes_before) bytes)) (first_line (drop (c.args.place.start - c.args.source.now.bytes_before) bytes)) (c.args.place.end - c.args.place.start) cut =
-        subst₂ (λ f b. IsExcerpt f b (c.args.place.end - c.args.place.start) cut) front behind (subst (λ n. IsExcerpt spot.result.front.now spot.result.behind.now n cut) marked c.in_ok-new.ensures) in
+    subst₂ (λ f b. IsExcerpt f b (c.args.place.end - c.args.place.start) cut) front behind (subst (λ n. IsExcerpt spot.result.front.now spot.result.behind.now n cut) marked c.in_ok-new.ensures) in
     let line = c.saturating_add.ensures ∙ ap (λ n. min (c.args.source.now.lines_before + n) 18446744073709551615) before in
     let column = add-one c.count_characters.result ∙ ap suc (c.count_characters.ensures.count ∙ ap characters front) in
     ((c.in_ok-from_str.ensures.ok, line, column, kept, c.new-2.ensures.items), refl)
