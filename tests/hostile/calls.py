@@ -49,8 +49,8 @@ LEXED = (
 ARRAY = b"x = array2d(1..2,{1,2},[1,{3,1},true,1..4]); y = -1..2;"
 ITEMS = (b"x = 3;", b"x = 3", b"x = 1.5;", ARRAY * 9)
 NAMES = (
-    "range list union intersect minus symdiff copy copy_value ranges lex parse to_text read_items load "
-    "new_partial state forced blocks feed take finish fill judge check report_text show "
+    "range list union intersect minus symdiff copy copy_value ranges lex parse to_text read_items "
+    "load new_partial state forced blocks feed take finish fill judge check report_text show "
     "show_printing_all refusal_text check_stream check_stream_up_to"
 ).split()
 SET_CALLS = "make union intersect minus symdiff copy copy_value ranges".split()
