@@ -4,3 +4,4 @@ pub mod Spots
 pub mod Told
 pub mod Explained
 pub mod Notes
+pub mod Leaving

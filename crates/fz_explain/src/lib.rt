@@ -8,7 +8,9 @@ mod giving;
 mod notes;
 mod place;
 mod printing;
+mod scalars;
 mod source;
+mod sums;
 mod variables;
 
 pub use explained::{Explained, Explanation, FIRST_VARIABLES, explain};
@@ -16,4 +18,5 @@ pub use failing::{Sought, first_point};
 pub use notes::{Loaded, bounds_note, notes_of};
 pub use place::point_place;
 pub use source::Source;
+pub use sums::too_large_at;
 pub use variables::variables_of;

@@ -61,7 +61,7 @@ origin_text origins.Nothing = codes "no rule gives it one; print it"
 abbrev pub help_text : Help → List ℕ
 help_text PrintAll = codes "let the solver run `fzcheck show --print-all`, or look for it by --complete"
 help_text UseLibrary = codes "compile with the library in minizinc/, or with the standard one"
-help_text TightenDomains = codes "a sum leaves 128 bits: tighten the domains"
+help_text TightenDomains = codes "tighten the domains, so that no sum leaves 128 bits"
 
 abbrev pub variable_text : List ℕ → Option ShownValue → Origin → List ℕ
 variable_text x (Some v) o = x ++ codes " = " ++ value_text v ++ codes ", " ++ origin_text o
@@ -73,6 +73,7 @@ note_text (notes.LeftOut n) = codes "... and " ++ decimal n ++ codes " more ..."
 note_text (notes.Bounds lo hi) = codes "the domain is " ++ signed_decimal lo ++ codes ".." ++ signed_decimal hi
 note_text (notes.Among s) = codes "the domain is " ++ set_text s
 note_text (notes.OtherBlock n) = codes "the other value is that of block " ++ decimal n
+note_text (notes.LeavesAt n) = codes "the sum leaves 128 bits at element " ++ decimal n
 note_text (notes.Help h) = help_text h
 
 -- ---- the message

@@ -48,6 +48,8 @@ pub enum Note {
     Among(ShownSet),
     /// The block that has the other value.
     OtherBlock(usize),
+    /// The element of the lists, from 1, at which a sum of products leaves 128 bits.
+    LeavesAt(usize),
     Help(Help),
 }
 
@@ -131,7 +133,7 @@ impl Help {
                 "let the solver run `fzcheck show --print-all`, or look for it by --complete"
             }
             Help::UseLibrary => "compile with the library in minizinc/, or with the standard one",
-            Help::TightenDomains => "a sum leaves 128 bits: tighten the domains",
+            Help::TightenDomains => "tighten the domains, so that no sum leaves 128 bits",
         }
     }
 }
@@ -169,6 +171,7 @@ pub(crate) fn push_note(text: &mut String, note: &Note) -> Result<(), AllocError
             push_set(text, set)
         }
         Note::OtherBlock(number) => write!(text, "the other value is that of block {number}"),
+        Note::LeavesAt(place) => write!(text, "the sum leaves 128 bits at element {place}"),
         Note::Help(help) => text.push_str(help.text()),
     }
 }

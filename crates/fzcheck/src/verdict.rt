@@ -9,7 +9,8 @@ use crate::recent::Told;
 use fz_base::Span;
 use fz_check::fill;
 use fz_explain::{
-    Loaded, Sought, bounds_note, explain, first_point, notes_of, point_place, variables_of,
+    Loaded, Sought, bounds_note, explain, first_point, notes_of, point_place, too_large_at,
+    variables_of,
 };
 use fz_message::{Help, Message, Note, Source, message_at, message_text, shown_text};
 use fz_model::{Goal, Model, Partial, Scalar, Term, What, load, scalar_at};
@@ -134,6 +135,9 @@ fn point_explanation(
     };
     if let Some(note) = bounds_note(alloc, scene.model, point)? {
         message.notes.push(note)?;
+    }
+    if let Some(place) = too_large_at(alloc, scene.model, filling, point)? {
+        message.notes.push(Note::LeavesAt(place))?;
     }
     if let Some(help) = help_for(scene.case.said) {
         message.notes.push(Note::Help(help))?;

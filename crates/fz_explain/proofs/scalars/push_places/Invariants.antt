@@ -1,0 +1,10 @@
+use Rattle.std.proofs.Common.{◌≡◌, ◌++◌, flat_map, map, take}
+use Rattle.fz_model.specs.Meaning.{terms_at}
+use Rattle.fz_model.specs.Parts.{place_view}
+use Rattle.fz_model.specs.Slots.{scalar_term}
+use Rattle.fz_explain.proofs.scalars.push_places.Given as goal
+
+abbrev pub invariant-loop-slot : goal.invariant-loop-slot
+invariant-loop-slot l =
+    map scalar_term l.scalars.items
+    ≡ map scalar_term l.fn.scalars.items ++ flat_map terms_at (map (place_view l.parts.variables.now l.parts.arrays.now l.parts.store.now.constants.items) (take l.slot-index l.slots))
