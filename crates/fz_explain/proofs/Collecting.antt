@@ -1,5 +1,8 @@
 -- Variables that are collected part by part.
-use Rattle.std.proofs.Common.{◌≡◌, ◌<◌, ◌+◌, ℕ, zero, suc, List, [], ◌∷◌, ◌++◌, map, flat_map, length, drop, slice_index_or, add-one, refl, sym, ap, ◌∙◌, arith}
+use Rattle.std.proofs.Common.{◌≡◌, ◌<◌, ◌≤◌, ◌+◌, ℕ, zero, suc, List, [], ◌∷◌, ◌++◌, map, flat_map, length, drop, slice_index_or, add-one, refl, sym, ap, ◌∙◌, arith}
+use Rattle.fz_model.specs.Meaning.{terms_at}
+use Rattle.fz_model.specs.Parts.{array_at}
+use Rattle.fz_model.specs.declared.Array.{Array}
 use Rattle.fz_model.specs.declared.Term.{Term}
 use Rattle.fz_explain.specs.Sources.{with_term, with_terms}
 
@@ -18,3 +21,9 @@ pub one_more : {A B : Type 0} (f : B → List Term) (view : A → B) (xs : List 
     → with_terms ns (flat_map f (map view (drop n xs))) ≡ with_terms ms (flat_map f (map view (drop (n + 1) xs)))
 one_more f view xs n d ns ms h took =
     next f view xs n d ns h ∙ ap (λ ks. with_terms ks (flat_map f (map view (drop (suc n) xs)))) (sym took) ∙ ap (λ k. with_terms ms (flat_map f (map view (drop k xs)))) (sym (add-one n))
+
+-- of an array that isn't there
+pub no_terms : (xs : List Array) (n : ℕ) → length xs ≤ n → terms_at (array_at xs n) ≡ []
+no_terms [] n h = refl
+no_terms (x ∷ xs) zero h = absurd (omega (arith, h))
+no_terms (x ∷ xs) (suc n) h = no_terms xs n (omega (arith, h))

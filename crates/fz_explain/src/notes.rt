@@ -1,9 +1,9 @@
 //! What is told of variables, as notes of a message.
 
 ghost use Rattle.std.specs.Prelude.{◌≡◌, ◌<◌, ◌++◌, List, IfOk, OnOk, length, slice_get};
-ghost use Rattle.fz_model.specs.Meaning.{Point, points};
+ghost use Rattle.fz_model.specs.Meaning.{Point as ModelPoint, points};
 ghost use Rattle.fz_message.specs.declared.note.Note.{Note};
-ghost use Rattle.fz_explain.specs.Notes.{AreNotesOf, AreNotesOfAll, IsBoundsNote, IsDomainNote, IsOriginAt, IsOriginOf, IsVariableNote, line_of, name_at};
+ghost use Rattle.fz_explain.specs.Notes.{AreNotesOf, AreNotesOfAll, IsBoundsNote, IsDomainNote, IsOriginAt, IsOriginOf, IsVariableNote, left_out_notes, line_of, name_at};
 
 use crate::explained::{Explained, Explanation, FIRST_VARIABLES};
 use crate::place::point_place;
@@ -24,7 +24,7 @@ pub struct Loaded<'s, 'a> {
 
 /// The line of the name by which a point is told, from 1.
 fn line_of(loaded: Loaded<'_, '_>, point: &Point<'_>) -> usize
-    ensures { result ≡ line_of loaded.ast.now loaded.text.now point.now }
+    ensures { result ≡ line_of loaded.entry.ast.now loaded.entry.text.now point.now }
 {
     match point_place(loaded.ast, point) {
         Some(place) => spot_of(loaded.text, place.start).line,
@@ -38,7 +38,7 @@ fn point_origin(
     loaded: Loaded<'_, '_>,
     point: &Point<'_>,
 ) -> Result<Origin, AllocError>
-    ensures { IfOk result (IsOriginAt loaded.ast.now loaded.text.now point.now) }
+    ensures { IfOk result (IsOriginAt loaded.entry.ast.now loaded.entry.text.now point.now) }
 {
     let line = line_of(loaded, point);
     match point {
@@ -53,7 +53,7 @@ fn point_origin(
 
 /// Where a value is from.
 fn origin_of(alloc: Global, loaded: Loaded<'_, '_>, source: Source) -> Result<Origin, AllocError>
-    ensures { IfOk result (IsOriginOf loaded.model.now loaded.ast.now loaded.text.now source) }
+    ensures { IfOk result (IsOriginOf loaded.entry.model.now loaded.entry.ast.now loaded.entry.text.now source) }
 {
     match source {
         Source::Printed => Ok(Origin::Printed),
@@ -85,7 +85,7 @@ fn variable_note(
     loaded: Loaded<'_, '_>,
     explained: &Explained,
 ) -> Result<Note, AllocError>
-    ensures { IfOk result (IsVariableNote loaded.model.now loaded.ast.now loaded.text.now explained.now) }
+    ensures { IfOk result (IsVariableNote loaded.entry.model.now loaded.entry.ast.now loaded.entry.text.now explained.now) }
 {
     let name = shown_text(alloc, name_at(loaded.model, explained.variable))?;
     let origin = origin_of(alloc, loaded, explained.source)?;
@@ -103,10 +103,20 @@ fn push_variables(
     notes: &mut Vec<Note>,
     variables: &[Explained],
 ) -> Result<(), AllocError>
-    ensures { OnOk result ((added : List Note) × (notes.new.items ≡ notes.old.items ++ added) × AreNotesOf loaded.model.now loaded.ast.now loaded.text.now variables.now added) }
+    ensures { OnOk result ((added : List Note) × (notes.new.items ≡ notes.old.items ++ added) × AreNotesOf loaded.entry.model.now loaded.entry.ast.now loaded.entry.text.now variables.now added) }
 {
     for explained in variables {
         notes.push(variable_note(alloc, loaded, explained)?)?;
+    }
+    Ok(())
+}
+
+/// Adds the note on those that are left out, where there are any.
+fn push_left_out(notes: &mut Vec<Note>, left_out: usize) -> Result<(), AllocError>
+    ensures { OnOk result (notes.new.items ≡ notes.old.items ++ left_out_notes left_out) }
+{
+    if left_out > 0 {
+        notes.push(Note::LeftOut(left_out))?;
     }
     Ok(())
 }
@@ -122,14 +132,12 @@ pub fn notes_of(
     loaded: Loaded<'_, '_>,
     explanation: &Explanation,
 ) -> Result<Vec<Note>, AllocError>
-    ensures { IfOk result (λ notes. AreNotesOfAll loaded.model.now loaded.ast.now loaded.text.now explanation.now notes.items) }
+    ensures { IfOk result (λ notes. AreNotesOfAll loaded.entry.model.now loaded.entry.ast.now loaded.entry.text.now explanation.now notes.items) }
 {
     let count = explanation.variables.len().min(FIRST_VARIABLES);
     let mut notes = Vec::new(alloc);
     push_variables(alloc, loaded, &mut notes, &explanation.variables[..count])?;
-    if explanation.left_out > 0 {
-        notes.push(Note::LeftOut(explanation.left_out))?;
-    }
+    push_left_out(&mut notes, explanation.left_out)?;
     push_variables(alloc, loaded, &mut notes, &explanation.variables[count..])?;
     Ok(notes)
 }
@@ -156,7 +164,7 @@ pub fn bounds_note(
     point: usize,
 ) -> Result<Option<Note>, AllocError>
     requires in_range { point < length (points model.now) }
-    ensures { IfOk result (λ note. (p : Point) → slice_get (points model.now) point ≡ Some p → IsBoundsNote p note) }
+    ensures { IfOk result (λ note. (p : ModelPoint) → slice_get (points model.now) point ≡ Some p → IsBoundsNote p note) }
 {
     match model.point_parts(point) {
         PointParts::Domain(variable, _) => domain_note(alloc, &variable.domain),

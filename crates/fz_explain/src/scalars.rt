@@ -38,7 +38,7 @@ fn push_place<'m>(
             None => Ok(()),
         },
         Slot::Variable(_) | Slot::Number(_) | Slot::Truth(_) | Slot::Constant(_) => {
-            scalars.push(scalar_at(constants, slot))
+            Ok(scalars.push(scalar_at(constants, slot))?)
         }
     }
 }

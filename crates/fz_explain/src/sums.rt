@@ -1,7 +1,7 @@
 //! Where a sum leaves 128 bits.
 
-ghost use Rattle.std.specs.Prelude.{◌≡◌, ◌<◌, IfOk, Some, length, map, slice_get};
-ghost use Rattle.fz_model.specs.Meaning.{Point, known_products, number_at, points};
+ghost use Rattle.std.specs.Prelude.{◌≡◌, ◌<◌, ◌++◌, [], IfOk, OnOk, Some, length, map, slice_get};
+ghost use Rattle.fz_model.specs.Meaning.{Point, known_products, number_at, points, product_before};
 ghost use Rattle.fz_model.specs.Parts.{constraint_view};
 ghost use Rattle.fz_model.specs.Slots.{scalar_term};
 ghost use Rattle.fz_explain.specs.Leaving.{first_leaving, leaving_in, leaving_of};
@@ -13,7 +13,7 @@ use std::alloc::{AllocError, Global};
 
 /// The number that a scalar has.
 fn number_at(filling: &Partial, scalar: Scalar<'_>) -> Option<i64>
-    ensures { result ≡ number_at filling.now (scalar_term scalar) }
+    ensures { result ≡ number_at filling.now (scalar_term scalar.entry) }
 {
     match scalar {
         Scalar::Variable(number) => match filling.get(number) {
@@ -25,23 +25,48 @@ fn number_at(filling: &Partial, scalar: Scalar<'_>) -> Option<i64>
     }
 }
 
-/// The number, from 1, of the first product with which the sum of products of two lists leaves
-/// signed 128 bits.
-fn first_leaving(filling: &Partial, a: &[Scalar<'_>], b: &[Scalar<'_>]) -> Option<usize>
-    ensures { result ≡ first_leaving (known_products filling.now (map scalar_term a.now) (map scalar_term b.now)) }
+/// Adds a product where both numbers are there.
+fn push_product(
+    products: &mut Vec<i128>,
+    left: Option<i64>,
+    right: Option<i64>,
+) -> Result<(), AllocError>
+    ensures { OnOk result (products.new.items ≡ products.old.items ++ product_before left right []) }
 {
-    let mut sum: i128 = 0;
-    let mut count = 0;
+    match (left, right) {
+        (Some(left), Some(right)) => Ok(products.push(i128::from(left) * i128::from(right))?),
+        _ => Ok(()),
+    }
+}
+
+/// The products of two lists, at each place where both have a number.
+fn products_of(
+    alloc: Global,
+    filling: &Partial,
+    a: &[Scalar<'_>],
+    b: &[Scalar<'_>],
+) -> Result<Vec<i128>, AllocError>
+    ensures { IfOk result (λ v. v.items ≡ known_products filling.now (map scalar_term a.now) (map scalar_term b.now)) }
+{
+    let mut products = Vec::new(alloc);
     for place in 0..a.len().min(b.len()) {
         let left = number_at(filling, a[place]);
         let right = number_at(filling, b[place]);
-        if let (Some(left), Some(right)) = (left, right) {
-            count += 1;
-            sum = match sum.checked_add(i128::from(left) * i128::from(right)) {
-                Some(more) => more,
-                None => return Some(count),
-            };
-        }
+        push_product(&mut products, left, right)?;
+    }
+    Ok(products)
+}
+
+/// The number, from 1, of the first of the numbers with which their sum leaves signed 128 bits.
+fn first_leaving(numbers: &[i128]) -> Option<usize>
+    ensures { result ≡ first_leaving numbers.now }
+{
+    let mut sum: i128 = 0;
+    for (place, number) in numbers.iter().enumerate() {
+        sum = match sum.checked_add(*number) {
+            Some(more) => more,
+            None => return Some(place + 1),
+        };
     }
     None
 }
@@ -58,7 +83,7 @@ fn leaving_of(
     for &(first, second) in sums {
         let a = scalars_at(alloc, parts, first)?;
         let b = scalars_at(alloc, parts, second)?;
-        if let Some(count) = first_leaving(filling, &a, &b) {
+        if let Some(count) = first_leaving(&products_of(alloc, filling, &a, &b)?) {
             return Ok(Some(count));
         }
     }
