@@ -20,6 +20,8 @@ mod judge;
 #[cfg(test)]
 mod load;
 #[cfg(test)]
+mod messages;
+#[cfg(test)]
 mod points;
 #[cfg(test)]
 mod report;

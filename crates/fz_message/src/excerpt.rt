@@ -50,7 +50,7 @@ impl Excerpt {
     /// # Errors
     ///
     /// Want of memory.
-    pub fn new(
+    pub(crate) fn new(
         alloc: Global,
         front: &[u8],
         behind: &[u8],
