@@ -25,7 +25,7 @@ pub fn push_count(text: &mut Vec<u8>, number: usize) -> Result<(), AllocError>
 }
 
 /// Adds a number in decimal, with `-` where it is negative, to the end of a text.
-pub(crate) fn push_number(text: &mut Vec<u8>, number: i64) -> Result<(), AllocError>
+pub fn push_number(text: &mut Vec<u8>, number: i64) -> Result<(), AllocError>
     ensures { OnOk result (text.new.items ≡ text.old.items ++ signed_decimal number) }
 {
     let mut buffer = Buffer::new();
