@@ -86,8 +86,9 @@ pub fn check_stream_up_to<R: Read, W: Write>(
 /// The most reads of a stream.
 pub const MOST_READS: u64 = 4_294_967_296;
 
-/// Judges each block of the stream that a reader gives, and writes each line of the report when it is known. At most 4,096 bytes are read
-/// at a time, in at most 4,294,967,296 reads, and one block is held.
+/// Judges each block of the stream that a reader gives, and writes the lines of the report. Those of
+/// all that was read so far are written before the next read, and before any answer. At most 4,096
+/// bytes are read at a time, in at most 4,294,967,296 reads, and one block is held.
 ///
 /// # Errors
 ///

@@ -7,7 +7,8 @@ use fz_check::{
     refusal_text,
 };
 use fz_stream::StreamError;
-use std::alloc::Global;
+use std::alloc::{AllocError, Global};
+use std::cell::Cell;
 use std::io::{self, ErrorKind, Read, Write};
 
 /// A model and the reader of a stream.
@@ -221,4 +222,122 @@ fn first_bytes_of_a_stream(rt: HostRuntime) {
             "at {count}"
         );
     }
+}
+
+/// A reader that sees, whenever it is asked for more, how much was written.
+#[derive(Clone, Copy)]
+struct Watching<'a> {
+    stream: &'a [u8],
+    /// the most bytes of a read
+    piece: usize,
+    given: usize,
+    written: &'a Cell<usize>,
+    /// whether the lines of all parts that had ended were written before each read, and no more
+    in_time: bool,
+}
+
+impl Read for Watching<'_> {
+    fn read(&mut self, buf: &mut [u8]) -> io::Result<usize> {
+        if self.written.get() != known_after(self.given) {
+            self.in_time = false;
+        }
+        let count = self.piece.min(self.stream.len()).min(buf.len());
+        buf[..count].copy_from_slice(&self.stream[..count]);
+        self.stream = &self.stream[count..];
+        self.given = self.given.saturating_add(count);
+        Ok(count)
+    }
+}
+
+/// How many bytes the lines take of the parts that end in the first bytes of the improving stream.
+fn known_after(count: usize) -> usize {
+    match count {
+        0..=17 => 0,
+        18..=35 => 19,
+        36..=46 => 38,
+        _ => 67,
+    }
+}
+
+/// Takes all that it is given, and counts the writes.
+#[derive(Clone, Copy)]
+struct Counting<'a> {
+    written: &'a Cell<usize>,
+    writes: usize,
+}
+
+impl Write for Counting<'_> {
+    fn write(&mut self, buf: &[u8]) -> io::Result<usize> {
+        self.written
+            .set(self.written.get().saturating_add(buf.len()));
+        self.writes = self.writes.saturating_add(1);
+        Ok(buf.len())
+    }
+
+    fn flush(&mut self) -> io::Result<()> {
+        Ok(())
+    }
+}
+
+/// Whether no line of the improving stream that was known waited for a read, of which each gives so
+/// many bytes at most, and how many writes brought the report.
+fn watch(alloc: Global, model: &[u8], stream: &[u8], piece: usize) -> (bool, usize) {
+    let written = Cell::new(0);
+    let mut reader = Watching {
+        stream,
+        piece,
+        given: 0,
+        written: &written,
+        in_time: true,
+    };
+    let mut writer = Counting {
+        written: &written,
+        writes: 0,
+    };
+    let _ = check_stream(alloc, model, &mut reader, &mut writer);
+    (reader.in_time, writer.writes)
+}
+
+#[test]
+fn known_lines_wait_for_no_read(rt: HostRuntime) {
+    let alloc = rt.alloc();
+    for piece in 1..=BETTER.len() {
+        let (in_time, _) = watch(alloc, IMPROVING, BETTER, piece);
+        assert!(rt; in_time, "at {piece}");
+    }
+}
+
+/// The third block is refused.
+const REFUSED: &[u8] = b"c = 7;\n----------\nc = 5;\n----------\nd = 1;\n----------\n";
+
+/// The lines of all that one read brought are one write, the answer's too where no read follows.
+#[test]
+fn lines_of_a_read_are_one_write(rt: HostRuntime) {
+    let alloc = rt.alloc();
+    assert!(rt; watch(alloc, IMPROVING, BETTER, 1) == (true, 4));
+    assert!(rt; watch(alloc, IMPROVING, BETTER, 40) == (true, 3));
+    assert!(rt; watch(alloc, IMPROVING, BETTER, BETTER.len()) == (true, 2));
+    assert!(rt; watch(alloc, IMPROVING, &BETTER[..17], 17) == (true, 1));
+    assert!(rt; watch(alloc, IMPROVING, REFUSED, REFUSED.len()) == (true, 1));
+}
+
+/// Four blocks that print nothing.
+const EMPTY: &[u8] = b"----------\n----------\n----------\n----------\n";
+
+/// How many writes bring the report on these blocks, where each has a line with a name so long.
+fn writes_with_names(alloc: Global, length: usize) -> Result<usize, AllocError> {
+    let mut model = Vec::from_slice(alloc, b"var 0..9: ")?;
+    model.resize(model.len().saturating_add(length), b'n')?;
+    model.extend_from_slice(b";\nsolve satisfy;\n")?;
+    let (_, writes) = watch(alloc, &model, EMPTY, EMPTY.len());
+    Ok(writes)
+}
+
+/// Long lines don't all wait for the next read.
+#[test]
+fn long_lines_wait_for_few(rt: HostRuntime) {
+    let alloc = rt.alloc();
+    assert!(rt; matches!(writes_with_names(alloc, 1_000), Ok(2)));
+    assert!(rt; matches!(writes_with_names(alloc, 30_000), Ok(3)));
+    assert!(rt; matches!(writes_with_names(alloc, 70_000), Ok(5)));
 }

@@ -14,5 +14,6 @@ part_refusal e = errors.Stream e
 -- what is answered where the next part is not known
 abbrev pub live_refusal : PartError → LiveError
 live_refusal errors.Read = live.Read
+live_refusal errors.Write = live.Write
 live_refusal (errors.Stream e) = live.Stream e
 live_refusal errors.Memory = live.Memory

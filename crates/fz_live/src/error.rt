@@ -11,6 +11,9 @@ pub enum PartError {
     /// A read failed, or as many were made as may be.
     #[error("read")]
     Read,
+    /// A write failed, or took nothing.
+    #[error("write")]
+    Write,
     /// The stream's bytes are refused. The fault is not `Memory`.
     #[error("{0}")]
     Stream(StreamError),
@@ -53,6 +56,7 @@ pub(crate) fn live_refusal(error: PartError) -> LiveError
 {
     match error {
         PartError::Read => LiveError::Read,
+        PartError::Write => LiveError::Write,
         PartError::Stream(error) => LiveError::Stream(error),
         PartError::Memory => LiveError::Memory,
     }

@@ -5,13 +5,15 @@ ghost use Rattle.fz_stream.specs.Faults.{IsStreamFault};
 ghost use Rattle.fz_stream.specs.Parts.{StreamPart, IsStreamText};
 ghost use Rattle.fz_stream.specs.Releasing.{AreOfWaiting};
 ghost use Rattle.fz_stream.specs.Splitting.{Fits, Lends, IsPartOfItems, most_taken};
+ghost use Rattle.fz_live.specs.Writing.{WritesFront, Wrote};
 ghost use Rattle.fz_live.specs.Reading.{StandsAt, HasRead, HasEnded, ReadsOn, HasOneMore, HasNoMore, IsRefusedInside, IsRefusedAfter, SpendsReads, piece_size, steps_left, without_bytes};
 
 use crate::error::{PartError, part_refusal};
 use crate::pieces::{Pieces, ReadFailed};
+use crate::writing::{WriteFailed, write_lines};
 use fz_stream::{KeptItems, Part, Splitter, StreamError};
 use std::alloc::Global;
-use std::io::Read;
+use std::io::{Read, Write};
 use std::marker::Model;
 
 /// The parts of a stream whose bytes a reader gives, one after another. At most 4,096 bytes are read at a time, and one block is held.
@@ -116,14 +118,22 @@ impl PartReader {
         }
     }
 
-    /// Reads on until the next part has ended, or the stream has, and tells whether a part waits. After `Read` a further call reads on; after
-    /// any other error the reader has failed for good.
+    /// Goes on until the next part has ended, or the stream has, and tells whether a part waits.
+    /// Before each read all of the lines are written and let go of, so that none waits for bytes.
+    /// After `Read` or `Write` a further call goes on; after any other error the reader has failed
+    /// for good.
     ///
     /// # Errors
     ///
-    /// `Read` where a read fails, or where the last one that may be made brings no end of the stream; the stream's first fault; want of
+    /// `Read` where a read fails, or where the last one that may be made brings no end of the
+    /// stream; `Write` where a write fails or takes nothing; the stream's first fault; want of
     /// memory.
-    pub fn advance<R: Read>(&mut self, reader: &mut R) -> Result<bool, PartError>
+    pub fn advance<R: Read, W: Write>(
+        &mut self,
+        reader: &mut R,
+        writer: &mut W,
+        lines: &mut Vec<u8>,
+    ) -> Result<bool, PartError>
         // A further part has ended and waits.
         ensures more { result ≡ Ok true → ReadsOn self.old (R.remaining reader.old) (R.remaining reader.new) (HasOneMore self.new (R.remaining reader.new)) }
         ensures waits { result ≡ Ok true → IsSome self.new.splitter.waits }
@@ -138,8 +148,13 @@ impl PartReader {
         ensures refused { (e : StreamError) → result ≡ Err (PartError.Stream e) → ReadsOn self.old (R.remaining reader.old) (R.remaining reader.new) (λ given parts. IsRefusedAfter (R.remaining reader.new) given parts e) }
         ensures fault { (e : StreamError) → result ≡ Err (PartError.Stream e) → (e ≢ StreamError.Memory) × (self.old.splitter.stage ≢ FailedStage → IsStreamFault e) }
         ensures ended { self.old.splitter.stage ≡ Finished → result ≡ Ok false }
-        ensures failed { OnErr result (result ≢ Err PartError.Read → self.new.splitter.stage ≡ FailedStage) }
+        ensures failed { OnErr result (result ≢ Err PartError.Read → result ≢ Err PartError.Write → self.new.splitter.stage ≡ FailedStage) }
         ensures other { OnErr result (ReadsOn self.old (R.remaining reader.old) (R.remaining reader.new) (λ given parts. ⊤)) }
+        // The lines that aren't left were written, and all are where a read was made.
+        ensures written { result ≢ Err PartError.Write → Wrote (W.contents writer.old) (W.contents writer.new) lines.old.items lines.new.items }
+        ensures none_left { self.new.reads < self.old.reads → lines.new.items ≡ [] }
+        // After a failed write a front of them was written, and none is left.
+        ensures unwritten { result ≡ Err PartError.Write → WritesFront (W.contents writer.old) (W.contents writer.new) lines.old.items × (lines.new.items ≡ []) }
     {
         if self.has_ended {
             return Ok(false);
@@ -149,6 +164,10 @@ impl PartReader {
                 Ok(true) => return Ok(true),
                 Ok(false) => {}
                 Err(e) => return Err(part_refusal(e)),
+            }
+            match write_lines(writer, lines) {
+                Ok(()) => {}
+                Err(WriteFailed) => return Err(PartError::Write),
             }
             match self.read(reader) {
                 Ok(true) => {}
@@ -162,25 +181,6 @@ impl PartReader {
         }
     }
 
-    /// Lends the part that waits, as often as it is called. Want of memory changes nothing.
-    ///
-    /// # Errors
-    ///
-    /// Want of memory.
-    pub fn part(&self) -> Result<Part<'_>, PartError>
-        requires { IsSome self.now.splitter.waits }
-        ensures lent { IfOk result (λ part. Lends self.now.splitter.waits (Some (part_of part))) }
-        ensures items { IfOk result (λ part. IsPartOfItems (part_of part)) }
-        ensures places { IfOk result HasPlacesOfItems }
-        ensures within { IfOk result (PartEndsWithin most_taken) }
-        // It is the last of the parts, whatever was read before.
-        ensures given { IfOk result (λ part. (left : Option (List ℕ)) (given : List ℕ) (parts : List StreamPart) → StandsAt self.now left given parts →
-            (front : List StreamPart) × (parts ≡ front ++ part_of part ∷ [])) }
-        ensures refused { IfErr result (λ e. e ≡ PartError.Memory) }
-    {
-        self.lend(None)
-    }
-
     /// Takes the items of the block that waits out, so that `lend` moves them and copies none. Where no block waits, or its items were taken
     /// out before, it answers none.
     pub fn release(&mut self) -> Option<KeptItems>
@@ -190,7 +190,8 @@ impl PartReader {
         self.splitter.release()
     }
 
-    /// Lends the part that waits, as `part` does, and moves into it the items that were released, if they are given back.
+    /// Lends the part that waits, as often as it is called, and moves into it the items that were
+    /// released, if they are given back. Want of memory changes nothing.
     ///
     /// # Errors
     ///

@@ -1,4 +1,4 @@
-ghost use Rattle.std.specs.Prelude.{◌≡◌, ◌≢◌, ℕ, suc, ◌<◌, ◌+◌, List, [], ◌∷◌, ◌++◌, Err, IfErr, OnOk, OnErr, IsSome, cond, Some, None};
+ghost use Rattle.std.specs.Prelude.{◌≡◌, ◌≢◌, ℕ, suc, ◌<◌, ◌+◌, List, [], ◌∷◌, ◌++◌, Option, Err, IfErr, OnOk, OnErr, IsSome, cond, Some, None};
 ghost use Rattle.std.specs.Option.{option_or};
 ghost use Rattle.fz_judge.specs.of_model.Meaning.{Model};
 ghost use Rattle.fz_stream.specs.Found.{EndsWithin, HasPlaces};
@@ -13,18 +13,20 @@ ghost use Rattle.fz_judge.specs.declared.error.BlockError.{BlockError as Refusal
 ghost use Rattle.fz_judge.specs.Judged.{IsBlockRefusal};
 ghost use Rattle.fz_live.specs.Telling.{CountsOne, HasTold, IsRefused, IsTellingRefusal, IsTold, IsWritingRefusal, JudgesBlock, RefusesPart, TellsOneMore};
 ghost use Rattle.fz_live.specs.View.{answer_view};
-ghost use Rattle.fz_live.specs.Writing.{WritesFront};
-ghost use Rattle.std.specs.Io.KnownBytes.{Appends};
+ghost use Rattle.fz_live.specs.Writing.{WritesFront, Wrote};
 
 use crate::error::LiveError;
 use crate::line::{Answer, push_answer, push_block, push_claim};
 use crate::reader::PartReader;
 use crate::tally::Tally;
-use crate::writing::{WriteFailed, write_whole};
+use crate::writing::{WriteFailed, write_lines};
 use fz_judge::{BlockError, Judge};
 use fz_stream::{Block, Part};
 use std::alloc::Global;
 use std::io::Write;
+
+/// So many bytes of lines don't wait for the next read.
+const MOST_WAITING: usize = 65_536;
 
 /// Judges a block, counts it and adds its line.
 fn tell_block(
@@ -98,23 +100,48 @@ pub(crate) fn tell_next(
     tell(alloc, judge, tally, line, &part)
 }
 
-/// Writes the line of the answer.
-pub(crate) fn tell_answer<W: Write>(
-    line: &mut Vec<u8>,
+/// Lets the line wait with the others, or writes them all where they are many: lines with long
+/// names would fill the memory. Where there is no memory for the line, the others wait as before.
+pub(crate) fn gather<W: Write>(
     writer: &mut W,
+    lines: &mut Vec<u8>,
+    line: &[u8],
+) -> Result<(), LiveError>
+    ensures gathered { OnOk result (Wrote (W.contents writer.old) (W.contents writer.new) (lines.old.items ++ line.now) lines.new.items) }
+    // Once a front of those that are left is written, it is one of all.
+    ensures front { OnErr result ((next : Option (List ℕ)) → WritesFront (W.contents writer.new) next lines.new.items → WritesFront (W.contents writer.old) next (lines.old.items ++ line.now)) }
+    ensures kinds { IfErr result IsWritingRefusal }
+{
+    match lines.extend_from_slice(line) {
+        Ok(()) => {}
+        Err(_) => return Err(LiveError::Memory),
+    }
+    if lines.len() < MOST_WAITING {
+        return Ok(());
+    }
+    match write_lines(writer, lines) {
+        Ok(()) => Ok(()),
+        Err(WriteFailed) => Err(LiveError::Write),
+    }
+}
+
+/// Tells the answer: its line waits with the others.
+pub(crate) fn tell_answer(
+    line: &mut Vec<u8>,
+    lines: &mut Vec<u8>,
     answer: Answer,
 ) -> Result<(), LiveError>
-    ensures whole { OnOk result (Appends (W.contents writer.old) (W.contents writer.new) (text_of_lines (answer_line (answer_view answer) ∷ []))) }
-    ensures front { OnErr result (WritesFront (W.contents writer.old) (W.contents writer.new) (text_of_lines (answer_line (answer_view answer) ∷ []))) }
-    ensures kinds { IfErr result IsWritingRefusal }
+    ensures told { OnOk result (lines.new.items ≡ lines.old.items ++ text_of_lines (answer_line (answer_view answer) ∷ [])) }
+    ensures untold { OnErr result (lines.new.items ≡ lines.old.items) }
+    ensures kinds { IfErr result (λ e. e ≡ LiveError.Memory) }
 {
     line.clear();
     match push_answer(line, answer) {
         Ok(()) => {}
         Err(_) => return Err(LiveError::Memory),
     }
-    match write_whole(writer, line) {
+    match lines.extend_from_slice(line) {
         Ok(()) => Ok(()),
-        Err(WriteFailed) => Err(LiveError::Write),
+        Err(_) => Err(LiveError::Memory),
     }
 }

@@ -1,4 +1,4 @@
-ghost use Rattle.std.specs.Prelude.{◌≡◌, ℕ, List, ◌++◌, OnOk, OnErr};
+ghost use Rattle.std.specs.Prelude.{◌≡◌, ℕ, List, [], ◌++◌, OnOk, OnErr};
 ghost use Rattle.std.specs.Io.KnownBytes.{Appends};
 ghost use Rattle.fz_live.specs.Writing.{WritesFront};
 
@@ -27,4 +27,19 @@ pub fn write_whole<W: Write>(writer: &mut W, bytes: &[u8]) -> Result<(), WriteFa
         }
     }
     Ok(())
+}
+
+/// Writes all of the lines, as `write_whole` does, and lets go of them.
+///
+/// # Errors
+///
+/// A write failed, or took nothing.
+pub(crate) fn write_lines<W: Write>(writer: &mut W, lines: &mut Vec<u8>) -> Result<(), WriteFailed>
+    ensures whole { OnOk result (Appends (W.contents writer.old) (W.contents writer.new) lines.old.items) }
+    ensures front { OnErr result (WritesFront (W.contents writer.old) (W.contents writer.new) lines.old.items) }
+    ensures none_left { lines.new.items ≡ [] }
+{
+    let outcome = write_whole(writer, lines);
+    lines.clear();
+    outcome
 }

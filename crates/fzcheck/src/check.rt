@@ -64,7 +64,7 @@ fn find_input(rt: &HostRuntime) -> io::Result<()> {
 }
 
 /// Checks what one reader gives as a stream against what the other gives as a model, and writes
-/// each line when it is known.
+/// what is known before each read.
 fn check_readers<M: Read + Drop, S: Read + Drop>(
     rt: &HostRuntime,
     task: &Task<'_>,

@@ -1,107 +1,14 @@
-use Rattle.fz_live.proofs.AdvanceLemmas.{stands_unfailed}
-use Rattle.std.proofs.Common.{◌≡◌, ◌≢◌, ◌∙◌, sym, ap, subst, true, false, Ok, Err, arith}
-use Rattle.std.specs.Io.KnownBytes.{Appends}
-use Rattle.fz_stream.specs.declared.splitter.Stage.TheVariants.{Running, Finished}
-use Rattle.fz_live.specs.declared.error.LiveError.TheVariants as live
-use Rattle.fz_live.specs.Writing.{WritesFront}
-use Rattle.fz_live.specs.View.{answer_view}
-use Rattle.fz_live.proofs.LiveLemmas.{live_starts, live_advanced, live_stops, live_read, live_front, live_room, live_told, live_same, live_refused, live_untold, live_unwritten, live_answered, live_unanswered, told_read, told_stream}
-use Rattle.fz_live.proofs.SpendingLemmas.{not_more, one_at_least, spends_fewer, spends_none, spends_on, spends_same}
+use Rattle.fz_live.proofs.LiveLemmas.{answered_then, front_then}
 use Rattle.fz_live.proofs.live.check_parts.Goals as goal
 
-pub loop-error-init : goal.loop-error-init
-loop-error-init g c =
-    let going : c.new-parts.result.splitter.stage ≢ Finished = λ f. (let no : Running ≡ Finished = sym c.new-parts.ensures.nothing.fits.running ∙ f in cc) in
-    record {
-      living = live_starts c.args.completion c.args.model.now c.new-parts.result c.new-judge.result c.new-tally.result _ _ c.new-parts.ensures.nothing c.new-judge.ensures c.new-tally.ensures;
-      spends = spends_none c.args.reads _ _ (not_more c.new-parts.result c.args.reads going (omega (arith, c.new-parts.ensures.reads)));
-    }
+pub returns-in-Ok-clause-answered : goal.returns-in-Ok-clause-answered
+returns-in-Ok-clause-answered g c = answered_then _ _ _ _ _ _ _ _ c.in-Ok.ensures.whole c.tell_parts-outcome.result c.tell_parts-outcome.ensures.answered
 
-pub returns-in-Err-clause-stream : goal.returns-in-Err-clause-stream
-returns-in-Err-clause-stream g c = λ e is.
-    (let told = told_stream c.in-Err.error e (sym c.live_refusal.ensures ∙ cc) in
-    live_stops _ _ _ _ _ _ _ _ _ c.loop-error.invariant.living _ _ (c.advance.ensures.refused e (c.in-Err.is ∙ ap Err told)))
+pub returns-in-Ok-clause-front : goal.returns-in-Ok-clause-front
+returns-in-Ok-clause-front g c = front_then _ _ _ _ _ _ _ _ c.in-Ok.ensures.whole c.tell_parts-outcome.result c.tell_parts-outcome.ensures.front
 
-pub returns-in-Err-clause-read : goal.returns-in-Err-clause-read
-returns-in-Err-clause-read g c = λ is.
-    (let told = told_read c.in-Err.error (sym c.live_refusal.ensures ∙ cc) in
-    live_read _ _ _ _ _ _ _ _ _ c.loop-error.invariant.living _ c.advance.new.self (c.advance.ensures.read (c.in-Err.is ∙ ap Err told)))
+pub returns-in-Ok-clause-stream : goal.returns-in-Ok-clause-stream
+returns-in-Ok-clause-stream g c = λ e is. c.tell_parts-outcome.ensures.stream e is _ c.in-Ok.ensures.whole
 
-pub returns-in-Err-clause-front : goal.returns-in-Err-clause-front
-returns-in-Err-clause-front g c =
-    let going : c.loop-error.parts.splitter.stage ≢ Finished = λ f. (let no : Err c.in-Err.error ≡ Ok false = sym c.in-Err.is ∙ c.advance.ensures.ended f in cc) in
-    live_front _ _ _ _ _ _ _ _ _ c.loop-error.invariant.living _ going c.in-Err.ensures.other
-
-pub tell_next-requires-clause-room : goal.tell_next-requires-clause-room
-tell_next-requires-clause-room g c =
-    let is = c.in-Ok-true.is ∙ ap Ok c.in-Ok-true.field-0-test in
-    let going : c.loop-error.parts.splitter.stage ≢ Finished = λ f. (let no : Ok true ≡ Ok false = sym is ∙ c.advance.ensures.ended f in cc) in
-    let room = live_room _ _ _ _ _ _ _ _ _ (live_advanced _ _ _ _ _ _ _ _ _ c.loop-error.invariant.living _ c.advance.new.self going (c.advance.ensures.more is)) in
-    omega (arith, room)
-
-pub returns-in-Err-tell_next-clause-block : goal.returns-in-Err-tell_next-clause-block
-returns-in-Err-tell_next-clause-block g c = λ n e told.
-    (let is = c.in-Ok-true.is ∙ ap Ok c.in-Ok-true.field-0-test in
-    let going : c.loop-error.parts.splitter.stage ≢ Finished = λ f. (let no : Ok true ≡ Ok false = sym is ∙ c.advance.ensures.ended f in cc) in
-    let same : c.in-Err-tell_next.error ≡ live.Block n e = cc in
-    live_refused _ _ _ _ _ _ _ _ _ (live_advanced _ _ _ _ _ _ _ _ _ c.loop-error.invariant.living _ c.advance.new.self going (c.advance.ensures.more is)) n e
-    (c.tell_next.ensures.refused n e (c.in-Err-tell_next.is ∙ ap Err same)))
-
-pub returns-in-Err-tell_next-clause-front : goal.returns-in-Err-tell_next-clause-front
-returns-in-Err-tell_next-clause-front g c =
-    let is = c.in-Ok-true.is ∙ ap Ok c.in-Ok-true.field-0-test in
-    let going : c.loop-error.parts.splitter.stage ≢ Finished = λ f. (let no : Ok true ≡ Ok false = sym is ∙ c.advance.ensures.ended f in cc) in
-    live_untold _ _ _ _ _ _ _ _ _ (live_advanced _ _ _ _ _ _ _ _ _ c.loop-error.invariant.living _ c.advance.new.self going (c.advance.ensures.more is))
-
-pub loop-error-preserved : goal.loop-error-preserved
-loop-error-preserved g c =
-    let is = c.in-Ok-true.is ∙ ap Ok c.in-Ok-true.field-0-test in
-    let going : c.loop-error.parts.splitter.stage ≢ Finished = λ f. (let no : Ok true ≡ Ok false = sym is ∙ c.advance.ensures.ended f in cc) in
-    record {
-      living = live_same _ _ c.tell_next.ensures.same _ _ _ _ _ _ _ _ (live_told _ _ _ _ _ _ _ _ _ (live_advanced _ _ _ _ _ _ _ _ _ c.loop-error.invariant.living _ c.advance.new.self going (c.advance.ensures.more is)) c.tell_next.new.judge c.tell_next.new.tally c.tell_next.new.line.items _
-          c.in-Ok.ensures.told (subst (Appends (g.W.Write.contents c.loop-error.writer) (g.W.Write.contents c.write_whole.new.writer)) c.deref.ensures.value c.in-Ok-write_whole.ensures.whole));
-      spends = spends_same _ _ c.tell_next.ensures.same _ _ _ (spends_on _ _ _ _ _ _ c.loop-error.invariant.spends c.advance.ensures.spends);
-    }
-
-pub returns-in-Err-write_whole-clause-front : goal.returns-in-Err-write_whole-clause-front
-returns-in-Err-write_whole-clause-front g c =
-    let is = c.in-Ok-true.is ∙ ap Ok c.in-Ok-true.field-0-test in
-    let going : c.loop-error.parts.splitter.stage ≢ Finished = λ f. (let no : Ok true ≡ Ok false = sym is ∙ c.advance.ensures.ended f in cc) in
-    live_unwritten _ _ _ _ _ _ _ _ _ (live_advanced _ _ _ _ _ _ _ _ _ c.loop-error.invariant.living _ c.advance.new.self going (c.advance.ensures.more is)) c.tell_next.new.judge c.tell_next.new.tally c.tell_next.new.line.items _
-    c.in-Ok.ensures.told (subst (WritesFront (g.W.Write.contents c.loop-error.writer) (g.W.Write.contents c.write_whole.new.writer)) c.deref.ensures.value c.in-Err-write_whole.ensures.front)
-
-pub returns-in-Ok-tell_answer-clause-answered : goal.returns-in-Ok-tell_answer-clause-answered
-returns-in-Ok-tell_answer-clause-answered g c =
-    live_answered _ _ _ _ _ _ _ _ _ c.loop-error.invariant.living _ (c.advance.ensures.end (c.in-Ok-false.is ∙ ap Ok c.in-Ok-false.field-0-test)) (answer_view c.answer-answer.result) c.answer-answer.ensures _ c.in-Ok-tell_answer.ensures.whole
-
-pub returns-clause-front : goal.returns-clause-front
-returns-clause-front g c =
-    live_unanswered _ _ _ _ _ _ _ _ _ c.loop-error.invariant.living _ (c.advance.ensures.end (c.in-Ok-false.is ∙ ap Ok c.in-Ok-false.field-0-test)) (answer_view c.answer-answer.result) c.answer-answer.ensures _ c.in-Err-tell_answer.ensures.front
-
-pub returns-in-Err-clause-fault : goal.returns-in-Err-clause-fault
-returns-in-Err-clause-fault g c = λ e is.
-    (let told = told_stream c.in-Err.error e (sym c.live_refusal.ensures ∙ cc) in
-    let fault = c.advance.ensures.fault e (c.in-Err.is ∙ ap Err told) in
-    (fault.1 (stands_unfailed _ _ _ _ c.loop-error.invariant.living.stands), fault.0))
-
--- ---- the reads that were made
-
-pub returns-in-Err-clause-reads : goal.returns-in-Err-clause-reads
-returns-in-Err-clause-reads g c = spends_fewer _ _ _ _ _ (spends_on _ _ _ _ _ _ c.loop-error.invariant.spends c.advance.ensures.spends) (omega arith)
-
-pub returns-in-Err-tell_next-clause-reads : goal.returns-in-Err-tell_next-clause-reads
-returns-in-Err-tell_next-clause-reads g c = spends_fewer _ _ _ _ _ (spends_on _ _ _ _ _ _ c.loop-error.invariant.spends c.advance.ensures.spends) (omega arith)
-
-pub returns-in-Err-write_whole-clause-reads : goal.returns-in-Err-write_whole-clause-reads
-returns-in-Err-write_whole-clause-reads g c = spends_fewer _ _ _ _ _ (spends_on _ _ _ _ _ _ c.loop-error.invariant.spends c.advance.ensures.spends) (omega arith)
-
-pub returns-in-Ok-tell_answer-clause-reads : goal.returns-in-Ok-tell_answer-clause-reads
-returns-in-Ok-tell_answer-clause-reads g c = spends_fewer _ _ _ _ _ (spends_on _ _ _ _ _ _ c.loop-error.invariant.spends c.advance.ensures.spends) (omega arith)
-
-pub returns-clause-reads : goal.returns-clause-reads
-returns-clause-reads g c = spends_fewer _ _ _ _ _ (spends_on _ _ _ _ _ _ c.loop-error.invariant.spends c.advance.ensures.spends) (omega arith)
-
-pub returns-in-Ok-tell_answer-clause-end_read : goal.returns-in-Ok-tell_answer-clause-end_read
-returns-in-Ok-tell_answer-clause-end_read g c =
-    spends_fewer _ _ _ _ _ (spends_on _ _ _ _ _ _ c.loop-error.invariant.spends c.advance.ensures.spends)
-    (one_at_least c.advance.new.self (c.advance.ensures.at_end (c.in-Ok-false.is ∙ ap Ok c.in-Ok-false.field-0-test)))
+pub returns-in-Ok-clause-block : goal.returns-in-Ok-clause-block
+returns-in-Ok-clause-block g c = λ n e is. c.tell_parts-outcome.ensures.block n e is _ c.in-Ok.ensures.whole

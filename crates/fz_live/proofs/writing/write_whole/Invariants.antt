@@ -1,5 +1,5 @@
 use Rattle.std.proofs.Common.{length}
-use Rattle.fz_live.proofs.WritingLemmas.{Wrote}
+use Rattle.fz_live.specs.Writing.{Wrote}
 use Rattle.fz_live.proofs.writing.write_whole.Given as goal
 
 abbrev pub invariant-loop-rest : goal.invariant-loop-rest

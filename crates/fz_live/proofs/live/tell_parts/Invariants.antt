@@ -1,10 +1,10 @@
 use Rattle.fz_live.specs.Reading.{SpendsReads, steps_left, without_bytes}
 use Rattle.fz_live.proofs.LiveLemmas.{Living}
-use Rattle.fz_live.proofs.live.check_parts.Given as goal
+use Rattle.fz_live.proofs.live.tell_parts.Given as goal
 
 abbrev pub invariant-loop-error : goal.invariant-loop-error
 invariant-loop-error g l = record {
-  living : Living l.fn.completion l.model l.parts l.judge l.tally (g.R.Read.remaining l.fn.reader) (g.R.Read.remaining l.reader) (g.W.Write.contents l.fn.writer) (g.W.Write.contents l.writer);
+  living : Living l.fn.completion l.model l.parts l.judge l.tally (g.R.Read.remaining l.fn.reader) (g.R.Read.remaining l.reader) (g.W.Write.contents l.fn.writer) (g.W.Write.contents l.writer) l.lines.items;
   spends : SpendsReads l.reads (without_bytes l.parts) (g.R.Read.remaining l.fn.reader) (g.R.Read.remaining l.reader);
 }
 
