@@ -118,6 +118,13 @@ expect 'a verdict far on in a pipe' 0 "$folder/deep.fzn:3:12: constraint 1 int_l
    3 | constraint int_le(x,5);
      |            ^^^^^^
      = x = 9, printed" '' cat "$folder/told"
+# reads that end right behind the dashes: no block is counted twice
+torn() { printf 'x = 3;\n----------'; sleep 0.3; printf '\nx = 4;\n----------'; sleep 0.3; printf '\nx = 9;\n----------\n'; sleep 0.3; printf 'x = 2;\n----------\n'; }
+torn | "$program" check --explain "$folder/deep.fzn" 2>"$folder/told" >/dev/null
+expect 'a verdict in a stream that comes in torn pieces' 0 "$folder/deep.fzn:3:12: constraint 1 int_le fails in block 3
+   3 | constraint int_le(x,5);
+     |            ^^^^^^
+     = x = 9, printed" '' cat "$folder/told"
 # a line of a megabyte: what is shown of it has at most 120 columns
 awk 'BEGIN { printf "var 0..9: x;\nconstraint int_lin_le(["; for (i = 0; i < 500000; i++) printf "1,"; print "y],[x],0);\nsolve satisfy;" }' </dev/null >"$folder/wide.fzn"
 "$program" check --explain "$folder/wide.fzn" examples/first.out 2>"$folder/told"

@@ -137,9 +137,11 @@ impl<'c, R: Read> Recent<'c, R> {
         let mut ended = 0;
         let mut blocks = self.passed.blocks;
         for line in behind(&self.bytes, next).split_inclusive(|byte| *byte == b'\n') {
-            if line.last() == Some(&b'\n') {
-                next = next.saturating_add(line.len());
+            // The last line may go on: it is looked at again when more has come.
+            if line.last() != Some(&b'\n') {
+                break;
             }
+            next = next.saturating_add(line.len());
             if is_marker(line) {
                 ended = next;
                 blocks = blocks.saturating_add(1);
