@@ -127,8 +127,9 @@ fn point_explanation(
     let Some(place) = point_place(scene.ast, &scene.model.point(point)) else {
         return Ok(None);
     };
+    let case = scene.case;
     let variables = variables_of(alloc, scene.model, point)?;
-    let source = scene.case.model;
+    let source = case.model;
     let Some(mut message) = variables_message(alloc, scene, filling, source, place, &variables)?
     else {
         return Ok(None);
@@ -139,7 +140,7 @@ fn point_explanation(
     if let Some(place) = too_large_at(alloc, scene.model, filling, point)? {
         message.notes.push(Note::LeavesAt(place))?;
     }
-    if let Some(help) = help_for(scene.case.said) {
+    if let Some(help) = help_for(case.said) {
         message.notes.push(Note::Help(help))?;
     }
     Ok(Some(message))
@@ -157,7 +158,8 @@ fn variables_message(
 ) -> Result<Option<Message>, AllocError>
     requires fits { IsPartial scene.now.model.now filling.old }
 {
-    let said = sentence(alloc, scene.case)?;
+    let case = scene.case;
+    let said = sentence(alloc, case)?;
     let Some(mut message) = message_at(alloc, &source, place, said)? else {
         return Ok(None);
     };
@@ -165,7 +167,7 @@ fn variables_message(
     let loaded = Loaded {
         model: scene.model,
         ast: scene.ast,
-        text: scene.case.model.bytes,
+        text: case.model.bytes,
     };
     message.notes = notes_of(alloc, loaded, &told)?;
     Ok(Some(message))
@@ -203,12 +205,14 @@ fn objective_explanation(
     {
         variables.push(*number)?;
     }
-    let source = scene.case.model;
+    let case = scene.case;
+    let source = case.model;
     let Some(mut message) = variables_message(alloc, scene, filling, source, place, &variables)?
     else {
         return Ok(None);
     };
-    let before = scene.case.told.number.saturating_sub(1);
+    let told = case.told;
+    let before = told.number.saturating_sub(1);
     message.notes.push(Note::OtherBlock(before))?;
     Ok(Some(message))
 }
@@ -231,13 +235,14 @@ fn printed_explanation(
     let Some(place) = printed_place(&scene.block.items, name) else {
         return Ok(None);
     };
-    let told = scene.case.told;
+    let case = scene.case;
+    let told = case.told;
     let from = told.passed.bytes.saturating_add(scene.block.offset);
     let place = Span {
         start: from.saturating_add(place.start),
         end: from.saturating_add(place.end),
     };
-    let source = source_behind(scene.case.stream, &told.bytes, told.passed);
+    let source = source_behind(case.stream, &told.bytes, told.passed);
     let variables = variables_named(alloc, scene.model, name)?;
     variables_message(alloc, scene, filling, source, place, &variables)
 }
