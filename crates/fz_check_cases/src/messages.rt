@@ -22,8 +22,8 @@ fn point_message(
     filling: &mut Partial,
     point: usize,
 ) -> Result<Option<Message>, AllocError>
-    requires in_range { point < length (points loaded.entry.model.now) }
-    requires fits { IsPartial loaded.entry.model.now filling.old }
+    requires in_range { point < length (points loaded.model.now) }
+    requires fits { IsPartial loaded.model.now filling.old }
 {
     let Some(place) = point_place(loaded.ast, &loaded.model.point(point)) else {
         return Ok(None);
