@@ -10,6 +10,7 @@ writes FOLDER/SORT-MEGABYTES.fzn and FOLDER/SORT-MEGABYTES.out, the same bytes f
     stream   a stream of that size, of blocks of 1,500 bytes that get better and a claim, and a model for it
     chain    a model of that size whose definitions are posted in reverse order of their dependence, and a
              stream that prints the first value alone
+    lines    a stream of that size, of blocks of one line, and a model of a variable
     long     a stream of that size, of 200 blocks that get better, and a model over the whole table for it, at
              90 MB one of 16 MB
 
@@ -593,7 +594,19 @@ def make_globals(which, rand):
     return "\n".join(lines) + "\nsolve satisfy;\n", "x = 1;\n----------\n"
 
 
-SORTS = {"model": make_model, "stream": make_stream, "chain": make_chain, "long": make_long}
+def make_lines(size, rand):
+    """Blocks of one line, which print nothing."""
+    line = "----------\n"
+    return "var 3..3: x :: output_var;\nsolve satisfy;\n", line * (size // len(line))
+
+
+SORTS = {
+    "model": make_model,
+    "stream": make_stream,
+    "chain": make_chain,
+    "lines": make_lines,
+    "long": make_long,
+}
 
 
 def main():

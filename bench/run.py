@@ -18,7 +18,7 @@ import time
 
 HERE = os.path.dirname(os.path.abspath(__file__))
 TURNS = 5
-SORTS = ["model", "stream", "chain"]
+SORTS = ["model", "stream", "chain", "lines"]
 REAL = ["clauses", "queens", "reified", "recurrence"]
 GLOBALS = ["lists", "tasks"]
 LONG = "90"  # megabytes of the stream that comes through a pipe
