@@ -7,7 +7,7 @@ use crate::points::{push_point, push_value};
 use crate::table::{Call, look_at};
 use fz_check::{CheckError, fill};
 use fz_explain::{Explained, Sought, Source, explain, first_point, point_place, variables_of};
-use fz_model::{Model, Partial, load};
+use fz_model::{Held, Model, Partial, load};
 use fz_stream::{Block, blocks};
 use fz_syntax::{Ast, parse};
 use std::alloc::{AllocError, Global};
@@ -35,7 +35,7 @@ fn push_variable(
         text.extend_from_slice(variable.name)?;
     }
     if let Some(value) = &explained.value {
-        push_value(text, value)?;
+        push_value(text, Held::of(value))?;
     }
     push_source(text, model, explained.source)?;
     text.extend_from_slice(b"\n")

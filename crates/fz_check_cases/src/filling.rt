@@ -5,9 +5,8 @@ ghost use Rattle.fz_model.specs.Meaning.{IsPartial};
 
 use crate::points::push_value;
 use crate::table::{Call, look_at};
-use fz_base::Value;
 use fz_check::{CheckError, fill};
-use fz_model::{Model, Partial};
+use fz_model::{Held, Model, Partial};
 use fz_stream::{Stream, blocks};
 use std::alloc::{AllocError, Global};
 
@@ -33,7 +32,7 @@ pub(crate) fn filled(alloc: Global, model: &Model<'_>, stream: &[u8]) -> Result<
 }
 
 /// Adds the value of a variable, where it has one.
-fn push_given(text: &mut Vec<u8>, value: Option<&Value>) -> Result<(), AllocError> {
+fn push_given(text: &mut Vec<u8>, value: Option<Held<'_>>) -> Result<(), AllocError> {
     match value {
         Some(value) => push_value(text, value),
         None => Ok(()),

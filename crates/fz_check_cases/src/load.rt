@@ -4,7 +4,7 @@
 use crate::table::{Call, look_at, push_all};
 use fz_base::Value;
 use fz_check::CheckError;
-use fz_model::{Model, Partial, Scalar, Term, Variable, What, load};
+use fz_model::{Held, Model, Partial, Scalar, Term, Variable, What, load};
 use fz_syntax::parse;
 use std::alloc::Global;
 use std::test::Fail;
@@ -81,7 +81,7 @@ fn values_are_given_and_taken_away(rt: HostRuntime) -> Result<(), Fail> {
     let tree = parse(rt.alloc(), MIXED)?;
     let model = load(rt.alloc(), &tree)?;
     let mut values = Partial::new(rt.alloc(), &model)?;
-    assert_eq!(rt; values.values().len(), 2);
+    assert_eq!(rt; values.len(), 2);
     assert_eq!(rt; values.unset(), 2);
     assert!(rt; values.get(1).is_none());
     values.set(1, Value::Int(7));
@@ -91,12 +91,12 @@ fn values_are_given_and_taken_away(rt: HostRuntime) -> Result<(), Fail> {
     assert!(rt;
         values
             .get(1)
-            .is_some_and(|value| value.equals(&Value::Int(7)))
+            .is_some_and(|value| value.equals(Held::Int(7)))
     );
     assert!(rt; values.value(&Term::Var(1)).is_some());
     assert!(rt; values.value(&Term::Fixed(Value::Bool(true))).is_some());
     values.clear();
-    assert_eq!(rt; values.values().len(), 2);
+    assert_eq!(rt; values.len(), 2);
     assert_eq!(rt; values.unset(), 2);
     assert!(rt; values.get(1).is_none());
     assert!(rt; !values.has(1));

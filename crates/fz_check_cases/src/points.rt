@@ -8,7 +8,7 @@ use crate::filling::filled;
 use crate::table::{Call, look_at, push_all};
 use fz_base::Value;
 use fz_check::CheckError;
-use fz_model::{Kind, Model, Partial, Point, State, Variable, forced, load, state};
+use fz_model::{Held, Kind, Model, Partial, Point, State, Variable, forced, load, state};
 use fz_syntax::parse;
 use std::alloc::{AllocError, Global};
 use std::test::Fail;
@@ -23,13 +23,13 @@ fn push_digit(text: &mut Vec<u8>, number: i128) -> Result<(), AllocError> {
 }
 
 /// Adds ` = VALUE`.
-pub(crate) fn push_value(text: &mut Vec<u8>, value: &Value) -> Result<(), AllocError> {
+pub(crate) fn push_value(text: &mut Vec<u8>, value: Held<'_>) -> Result<(), AllocError> {
     text.extend_from_slice(b" = ")?;
     match value {
-        Value::Int(number) => push_digit(text, *number as i128),
-        Value::Bool(true) => text.extend_from_slice(b"true"),
-        Value::Bool(false) => text.extend_from_slice(b"false"),
-        Value::Set(_) => text.extend_from_slice(b"a set"),
+        Held::Int(number) => push_digit(text, number as i128),
+        Held::Bool(true) => text.extend_from_slice(b"true"),
+        Held::Bool(false) => text.extend_from_slice(b"false"),
+        Held::Set(_) => text.extend_from_slice(b"a set"),
     }
 }
 
@@ -67,7 +67,7 @@ fn push_forced(
     if let Some(variable) = variables.get(number) {
         push_all(text, &[b", so ", variable.name])?;
     }
-    push_value(text, &value)
+    push_value(text, Held::of(&value))
 }
 
 /// Adds the line of the point of a number.

@@ -3,6 +3,7 @@ pub mod Parts
 pub mod Kinds
 pub mod Layout
 pub mod Shown
+pub mod Held
 pub mod Partial
 pub mod Fitting
 pub mod Scope

@@ -1,8 +1,12 @@
 -- The partial assignment without a value, and its values by their kinds (this project's profile).
-use Rattle.std.specs.Prelude.{◌≡◌, ℕ, suc, ℤ, pos, Bool, false, List, [], ◌∷◌, map, Option, None, Some, is_some, slice_set}
+use Rattle.std.specs.Prelude.{◌≡◌, ℕ, suc, ℤ, pos, Bool, false, true, List, [], ◌∷◌, map, length, Option, None, Some, slice_set}
 use Rattle.fz_base.specs.declared.value.Value.{Value}
-use Rattle.fz_base.specs.declared.value.Value.TheVariants.{Int, Bool as Truth}
+use Rattle.std.specs.Ordering.{int_cmp}
+use Rattle.std.specs.FinSet.{FinSet}
+use Rattle.fz_base.specs.declared.value.Value.TheVariants.{Int, Bool as Truth, Set}
 use Rattle.fz_meaning.specs.Meaning.{Model, Partial, variables_of}
+use Rattle.fz_data.specs.declared.partial.Sort.{Sort}
+use Rattle.fz_data.specs.declared.partial.Sort.TheVariants as sorts
 
 -- no variable of the model has a value
 abbrev pub nothing_for : Model → Partial
@@ -22,11 +26,26 @@ abbrev pub truth_in : Option Value → Bool
 truth_in (Some (Truth b)) = b
 truth_in _ = false
 
--- each value's number, its truth value, and whether there is one stand in tables of their own
-pub record IsTabled (K : List (Option Value)) (ns : List ℤ) (bs gs : List Bool) : Type 0 where
-  pub numbers : ns ≡ map number_in K
-  pub truths : bs ≡ map truth_in K
-  pub given : gs ≡ map is_some K
+-- ---- values in three tables
+
+-- the value that a variable of a sort has, if any, by its places in the tables of numbers and sets
+abbrev pub value_of : Sort → ℤ → FinSet int_cmp → Option Value
+value_of sorts.Nothing n s = None
+value_of sorts.Number n s = Some (Int n)
+value_of sorts.False n s = Some (Truth false)
+value_of sorts.True n s = Some (Truth true)
+value_of sorts.Set n s = Some (Set s)
+
+-- those of all variables
+abbrev pub values_of : List Sort → List ℤ → List (FinSet int_cmp) → List (Option Value)
+values_of (c ∷ cs) (n ∷ ns) (s ∷ ss) = value_of c n s ∷ values_of cs ns ss
+values_of _ _ _ = []
+
+-- each variable has a place in each table, and that of numbers has 0 where no number is
+pub record AreTables (cs : List Sort) (ns : List ℤ) (ss : List (FinSet int_cmp)) : Type 0 where
+  pub numbered : length ns ≡ length cs
+  pub room : length ss ≡ length cs
+  pub numbers : ns ≡ map number_in (values_of cs ns ss)
 
 -- how many variables have no value
 abbrev pub unset_count : List (Option Value) → ℕ

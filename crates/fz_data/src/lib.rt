@@ -5,6 +5,7 @@
 mod declaring;
 mod error;
 mod found;
+mod held;
 mod hashing;
 mod loading;
 mod model;
@@ -24,7 +25,8 @@ pub use error::LoadError;
 pub use found::{Found, Scalars, What};
 pub use loading::load;
 pub use model::Model;
-pub use partial::{Partial, number_of, truth_of};
+pub use held::Held;
+pub use partial::Partial;
 pub use parts::{Array, Goal, Posted, ScalarList, Variable};
 pub use point::{ConstraintParts, Constraints, Point, PointParts};
 pub use store::{Argument, Scalar, Segment, Slot, Store, item_at, part, scalar_at};

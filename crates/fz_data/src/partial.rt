@@ -3,25 +3,35 @@
 ghost use Rattle.std.specs.Prelude.{◌≡◌, ◌<◌, IfOk, None, Some, false, is_some, length, map, option_map, pos, replicate};
 ghost use Rattle.std.specs.FinSet as sets;
 ghost use Rattle.fz_meaning.specs.Meaning.{give, value, value_at};
+ghost use Rattle.fz_data.specs.Held.{held_value};
 ghost use Rattle.fz_data.specs.Partial.{nothing_for, number_in, truth_in, unset_count, without};
 
+use crate::held::Held;
 use crate::model::Model;
 use fz_base::{IntSet, Value};
 use fz_meaning::Term;
 use std::alloc::{AllocError, Global};
-use std::mem;
+
+/// What a variable has. A truth value is told by this alone.
+#[derive(Clone, Copy, Debug)]
+enum Sort {
+    Nothing,
+    Number,
+    False,
+    True,
+    Set,
+}
 
 /// Values of some of a model's scalar variables, by their numbers. A contract sees the list of all variables' values, each there
 /// or not.
 #[derive(Drop)]
 pub struct Partial {
-    values: Vec<Option<Value>>,
-    /// the numbers among the values, and 0 in all other places: a third as wide, so that most reads find them in a near cache
+    /// a byte a variable, so that most reads find it in a near cache
+    sorts: Vec<Sort>,
+    /// the number of each variable that has one, and 0 in all other places
     numbers: Vec<i64>,
-    /// the truth values among them, and `false` in all other places
-    truths: Vec<bool>,
-    /// whether each variable has a value
-    given: Vec<bool>,
+    /// the set of each variable that has one; what stands in all other places is never read
+    sets: Vec<IntSet>,
     /// how many variables have no value
     unset: usize,
     /// the empty set, made once, since making one takes memory: it is read where there is no other set
@@ -30,95 +40,41 @@ pub struct Partial {
 
 impl std::marker::Model for Partial {
     ghost use Rattle.std.specs.Prelude.{List, Option};
-    ghost use Rattle.fz_base.specs.declared.value.Value.{Value as Held};
+    ghost use Rattle.fz_base.specs.declared.value.Value.{Value as Given};
     ghost use Rattle.fz_base.specs.contracts.sets.IntSet as the_set;
     ghost use Rattle.std.specs.Coded.{codes};
 
-    ghost Value = { List (Option Held) };
+    ghost Value = { List (Option Given) };
 
     ghost coded = { Prim.hlevel (codes, the_set.the_row.coded) };
 
     ghost use Rattle.std.specs.Prelude.{◌≡◌};
-    ghost use Rattle.std.specs.FinSet as sets;
+    ghost use Rattle.std.specs.FinSet as finite;
+    ghost use Rattle.fz_data.specs.Partial.{AreTables, unset_count, values_of};
 
-    ghost view = { λ p. p.values.items };
+    ghost view = { λ p. values_of p.sorts.items p.numbers.items p.sets.items };
 
-    ghost use Rattle.fz_data.specs.Partial.{IsTabled, unset_count};
-
-    ghost invariant = { λ p. (p.empty ≡ sets.empty)
-        × IsTabled p.values.items p.numbers.items p.truths.items p.given.items
-        × (p.unset ≡ unset_count p.values.items) };
+    ghost invariant = { λ p. (p.empty ≡ finite.empty)
+        × AreTables p.sorts.items p.numbers.items p.sets.items
+        × (p.unset ≡ unset_count (values_of p.sorts.items p.numbers.items p.sets.items)) };
 }
 
-/// The number that a value is, and 0 where it is none. It takes no memory.
-#[inline(always)]
-pub fn number_of(value: &Value) -> i64
-    ensures read { result ≡ number_in (Some value.now) }
-{
-    match value {
-        Value::Int(number) => *number,
-        Value::Bool(_) | Value::Set(_) => 0,
-    }
-}
-
-/// The truth value that a value is, and `false` where it is none. It takes no memory.
-#[inline(always)]
-pub fn truth_of(value: &Value) -> bool
-    ensures read { result ≡ truth_in (Some value.now) }
-{
-    match value {
-        Value::Bool(truth) => *truth,
-        Value::Int(_) | Value::Set(_) => false,
-    }
-}
-
+/// The empty set.
 fn no_numbers(alloc: Global) -> Result<IntSet, AllocError>
     ensures { IfOk result (λ s. s ≡ sets.empty) }
 {
     IntSet::list(alloc, &[]).map_err(|_| AllocError)
 }
 
-fn zeros(alloc: Global, count: usize) -> Result<Vec<i64>, AllocError>
-    ensures { IfOk result (λ v. v.items ≡ replicate count (pos 0)) }
+/// As many empty sets.
+fn no_sets(alloc: Global, count: usize) -> Result<Vec<IntSet>, AllocError>
+    ensures { IfOk result (λ v. length v.items ≡ count) }
 {
-    let mut numbers = Vec::new(alloc);
-    numbers.resize(count, 0)?;
-    Ok(numbers)
-}
-
-fn no_truths(alloc: Global, count: usize) -> Result<Vec<bool>, AllocError>
-    ensures { IfOk result (λ v. v.items ≡ replicate count false) }
-{
-    let mut truths = Vec::new(alloc);
-    truths.resize(count, false)?;
-    Ok(truths)
-}
-
-/// Takes a value away. Where there is none, nothing is written.
-#[inline(always)]
-fn empty(place: &mut Option<Value>)
-    ensures gone { place.new ≡ None }
-{
-    if place.is_some() {
-        *place = None;
+    let mut sets = Vec::with_capacity(alloc, count)?;
+    for _ in 0..count {
+        sets.push(no_numbers(alloc)?)?;
     }
-}
-
-/// Takes away each value that is there.
-fn forget(values: &mut [Option<Value>])
-    ensures forgotten { values.new ≡ map (λ v. None) values.old }
-{
-    for value in values.iter_mut() {
-        empty(value);
-    }
-}
-
-/// Puts a value where none is. What lies there needn't be read to be dropped, so nobody waits for it.
-#[inline(always)]
-fn put(place: &mut Option<Value>, value: Value)
-    ensures there { place.new ≡ Some value }
-{
-    mem::forget(mem::replace(place, Some(value)));
+    Ok(sets)
 }
 
 impl Partial {
@@ -127,40 +83,49 @@ impl Partial {
         ensures empty { IfOk result (λ p. p ≡ nothing_for model.now) }
     {
         let count = model.variables().len();
-        let mut values = Vec::with_capacity(alloc, count)?;
-        for _ in 0..count {
-            values.push(None)?;
-        }
-        let numbers = zeros(alloc, count)?;
-        let truths = no_truths(alloc, count)?;
-        let given = no_truths(alloc, count)?;
-        let empty = no_numbers(alloc)?;
+        let mut sorts = Vec::new(alloc);
+        sorts.resize(count, Sort::Nothing)?;
+        let mut numbers = Vec::new(alloc);
+        numbers.resize(count, 0)?;
         Ok(Partial {
-            values,
+            sorts,
             numbers,
-            truths,
-            given,
+            sets: no_sets(alloc, count)?,
             unset: count,
-            empty,
+            empty: no_numbers(alloc)?,
         })
+    }
+
+    /// How many variables there are.
+    #[inline]
+    pub fn len(&self) -> usize
+        ensures { result ≡ length self.now }
+    {
+        self.sorts.len()
     }
 
     /// The value of the variable of a number: none where it has none, or where the number is no variable's. It takes no memory.
     #[inline(always)]
-    pub fn get(&self, number: usize) -> Option<&Value>
-        ensures looked_up { option_map (λ v. v.now) result ≡ value_at self.now number }
+    pub fn get(&self, number: usize) -> Option<Held<'_>>
+        ensures looked_up { option_map held_value result ≡ value_at self.now number }
     {
-        self.values.get(number)?.as_ref()
+        match self.sorts.get(number)? {
+            Sort::Nothing => None,
+            Sort::Number => Some(Held::Int(self.numbers[number])),
+            Sort::False => Some(Held::Bool(false)),
+            Sort::True => Some(Held::Bool(true)),
+            Sort::Set => Some(Held::Set(&self.sets[number])),
+        }
     }
 
     /// The value of a scalar, where it has one. It takes no memory.
     #[inline(always)]
-    pub fn value<'p>(&'p self, term: &'p Term) -> Option<&'p Value>
-        ensures valued { option_map (λ v. v.now) result ≡ value self.now term.now }
+    pub fn value<'p>(&'p self, term: &'p Term) -> Option<Held<'p>>
+        ensures valued { option_map held_value result ≡ value self.now term.now }
     {
         match term {
             Term::Var(number) => self.get(*number),
-            Term::Fixed(value) => Some(value),
+            Term::Fixed(value) => Some(Held::of(value)),
         }
     }
 
@@ -169,8 +134,8 @@ impl Partial {
     pub fn has(&self, number: usize) -> bool
         ensures given { result ≡ is_some (value_at self.now number) }
     {
-        match self.given.get(number) {
-            Some(given) => *given,
+        match self.sorts.get(number) {
+            Some(sort) => !matches!(sort, Sort::Nothing),
             None => false,
         }
     }
@@ -191,8 +156,8 @@ impl Partial {
     pub fn truth(&self, number: usize) -> bool
         ensures read { result ≡ truth_in (value_at self.now number) }
     {
-        match self.truths.get(number) {
-            Some(truth) => *truth,
+        match self.sorts.get(number) {
+            Some(sort) => matches!(sort, Sort::True),
             None => false,
         }
     }
@@ -205,10 +170,19 @@ impl Partial {
         ensures given { self.new ≡ give self.old number value }
     {
         self.unset -= 1;
-        self.numbers[number] = number_of(&value);
-        self.truths[number] = truth_of(&value);
-        self.given[number] = true;
-        put(&mut self.values[number], value);
+        self.sorts[number] = match value {
+            Value::Int(whole) => {
+                self.numbers[number] = whole;
+                Sort::Number
+            }
+            Value::Bool(truth) => {
+                if truth { Sort::True } else { Sort::False }
+            }
+            Value::Set(set) => {
+                self.sets[number] = set;
+                Sort::Set
+            }
+        };
     }
 
     /// Takes the value of a variable away, where it has one, and changes nothing else. It takes no
@@ -219,10 +193,8 @@ impl Partial {
     {
         if self.has(number) {
             self.unset += 1;
+            self.sorts[number] = Sort::Nothing;
             self.numbers[number] = 0;
-            self.truths[number] = false;
-            self.given[number] = false;
-            empty(&mut self.values[number]);
         }
     }
 
@@ -230,11 +202,9 @@ impl Partial {
     pub fn clear(&mut self)
         ensures cleared { self.new ≡ map (λ v. None) self.old }
     {
-        forget(&mut self.values);
+        self.sorts.fill(Sort::Nothing);
         self.numbers.fill(0);
-        self.truths.fill(false);
-        self.given.fill(false);
-        self.unset = self.values.len();
+        self.unset = self.sorts.len();
     }
 
     /// How many variables have no value. It takes no memory.
@@ -250,12 +220,5 @@ impl Partial {
         ensures empty { result.now ≡ sets.empty }
     {
         &self.empty
-    }
-
-    /// The values by variable number. It takes no memory.
-    pub fn values(&self) -> &[Option<Value>]
-        ensures all { result.now ≡ self.now }
-    {
-        &self.values
     }
 }

@@ -6,12 +6,13 @@ ghost use Rattle.std.specs.FinSet as sets;
 ghost use Rattle.fz_meaning.specs.declared.state.State.TheVariants.{Fails};
 ghost use Rattle.fz_meaning.specs.Values.{same_value};
 ghost use Rattle.fz_meaning.specs.Meaning.{admits, both, inside, is_outside, judged, judged_by, values};
+ghost use Rattle.fz_data.specs.Held.{held_value};
 ghost use Rattle.fz_data.specs.Shown.{scalar_terms};
 ghost use Rattle.fz_data.specs.Slots.{scalar_term, slot_term};
 ghost use Rattle.fz_kernel.specs.of_scene.Given.{has_value};
 
-use fz_base::{IntSet, Value};
-use fz_data::{Partial, Scalar, Scalars, scalar_at};
+use fz_base::IntSet;
+use fz_data::{Held, Partial, Scalar, Scalars, scalar_at};
 use fz_meaning::{Domain, State};
 
 fn judged(holds: bool) -> State
@@ -21,8 +22,8 @@ fn judged(holds: bool) -> State
 }
 
 /// The state of a variable's domain, where it has this value.
-pub(crate) fn of_domain(domain: &Domain, value: Option<&Value>) -> State
-    ensures { result ≡ judged_by (inside domain.now) (option_map (λ v. v.now) value.entry) }
+pub(crate) fn of_domain(domain: &Domain, value: Option<Held<'_>>) -> State
+    ensures { result ≡ judged_by (inside domain.now) (option_map held_value value) }
 {
     match value {
         Some(value) => judged(is_inside(domain, value)),
@@ -31,8 +32,8 @@ pub(crate) fn of_domain(domain: &Domain, value: Option<&Value>) -> State
 }
 
 /// The state of a definition, where its sides have these values.
-pub(crate) fn of_definition(left: Option<&Value>, right: Option<&Value>) -> State
-    ensures { result ≡ judged_by (λ (v, w). same_value v w) (both (option_map (λ v. v.now) left.entry) (option_map (λ v. v.now) right.entry)) }
+pub(crate) fn of_definition(left: Option<Held<'_>>, right: Option<Held<'_>>) -> State
+    ensures { result ≡ judged_by (λ (v, w). same_value v w) (both (option_map held_value left) (option_map held_value right)) }
 {
     let Some(left) = left else {
         return State::NoValue;
@@ -95,21 +96,21 @@ fn has_value(partial: &Partial, scalar: Scalar<'_>) -> bool
     }
 }
 
-fn is_same(left: &Value, right: &Value) -> bool
-    ensures { result ≡ same_value left.now right.now }
+fn is_same(left: Held<'_>, right: Held<'_>) -> bool
+    ensures { result ≡ same_value (held_value left) (held_value right) }
 {
     left.equals(right)
 }
 
 /// Whether the value lies in the domain. No truth value lies in a domain with bounds.
 #[inline]
-pub(crate) fn is_inside(domain: &Domain, value: &Value) -> bool
-    ensures { result ≡ inside domain.now value.now }
+pub(crate) fn is_inside(domain: &Domain, value: Held<'_>) -> bool
+    ensures { result ≡ inside domain.now (held_value value) }
 {
     match value {
-        Value::Int(number) => admits(domain, *number),
-        Value::Set(set) => admits_each(domain, set),
-        Value::Bool(_) => matches!(domain, Domain::All),
+        Held::Int(number) => admits(domain, number),
+        Held::Set(set) => admits_each(domain, set),
+        Held::Bool(_) => matches!(domain, Domain::All),
     }
 }
 

@@ -131,7 +131,7 @@ pub fn all_hold(
     ensures exact { IfOk result (λ b. b ≡ list_all (point_holds partial.now) (points model.now)) }
 {
     let declared = model.points() - model.constraints().posted.len();
-    let inside = lie_inside(&overview.bounds, model.variables(), partial.values());
+    let inside = lie_inside(&overview.bounds, model.variables(), partial);
     if !declared_hold(alloc, model, overview, declared, partial, inside)? {
         return Ok(false);
     }

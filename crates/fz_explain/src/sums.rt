@@ -7,8 +7,7 @@ ghost use Rattle.fz_model.specs.Slots.{scalar_term};
 ghost use Rattle.fz_explain.specs.Leaving.{first_leaving, leaving_in, leaving_of};
 
 use crate::scalars::scalars_at;
-use fz_base::Value;
-use fz_model::{ConstraintParts, Model, Partial, PointParts, Scalar};
+use fz_model::{ConstraintParts, Held, Model, Partial, PointParts, Scalar};
 use std::alloc::{AllocError, Global};
 
 /// The number that a scalar has.
@@ -17,7 +16,7 @@ fn number_at(filling: &Partial, scalar: Scalar<'_>) -> Option<i64>
 {
     match scalar {
         Scalar::Variable(number) => match filling.get(number) {
-            Some(Value::Int(number)) => Some(*number),
+            Some(Held::Int(number)) => Some(number),
             _ => None,
         },
         Scalar::Number(number) => Some(number),

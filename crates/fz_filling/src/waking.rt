@@ -117,7 +117,7 @@ pub(crate) fn fill_woken(
     ensures filled { OnOk result (Chain model.now partial.old start partial.new) }
     ensures kinds { OnOk result (IsPartial model.now partial.new) }
 {
-    let mut watch = Watch::new(alloc, model.points(), partial.values().len())?;
+    let mut watch = Watch::new(alloc, model.points(), partial.len())?;
     let mut from = start;
     'steps: while partial.unset() > 0 {
         let Some(step) = next_step(alloc, model, partial, &mut watch, from)? else {

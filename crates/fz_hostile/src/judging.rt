@@ -1,6 +1,6 @@
 //! Blocks against a model: they are filled and judged.
 
-use crate::loading::tell_points;
+use crate::loading::{tell_points, tell_values};
 use crate::outside::{file, tell, tell_error};
 use fz_check::{BlockError, Completion, Judge, fill};
 use fz_model::{Model, load};
@@ -49,7 +49,7 @@ fn fill_lacks_memory(rt: &HostRuntime, call: &str, model: &Model<'_>, block: &Bl
     match fill(rt.alloc(), model, block) {
         Ok(partial) => {
             if call == "fill" {
-                tell(rt, &partial.values());
+                tell_values(rt, &partial);
             } else {
                 tell_points(rt, model, &partial);
             }

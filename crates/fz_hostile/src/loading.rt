@@ -70,10 +70,17 @@ fn tell_loaded(rt: &HostRuntime, tree: &Ast<'_>) {
     }
 }
 
+/// Tells the values by variable number.
+pub fn tell_values(rt: &HostRuntime, partial: &Partial) {
+    for number in 0..partial.len() {
+        tell(rt, &partial.get(number));
+    }
+}
+
 fn has_room(rt: &HostRuntime, model: &Model<'_>) -> bool {
     match Partial::new(rt.alloc(), model) {
         Ok(partial) => {
-            tell(rt, &partial.values());
+            tell_values(rt, &partial);
             true
         }
         Err(error) => {
@@ -114,7 +121,7 @@ fn ask(rt: &HostRuntime, model: &Model<'_>, partial: &mut Partial) {
         let point = model.point(number);
         tell(rt, &point);
     }
-    if !partial.values().is_empty() && partial.get(0).is_none() {
+    if partial.len() > 0 && partial.get(0).is_none() {
         partial.set(0, Value::Int(4));
     }
     tell(

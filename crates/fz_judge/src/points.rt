@@ -10,8 +10,7 @@ ghost use Rattle.fz_judge.specs.View.{fault_view, reason_view, verdict_view};
 ghost use Rattle.fz_judge.specs.Working.{holds, is_failed, reason_named};
 
 use crate::verdict::{Fault, Reason, Verdict};
-use fz_base::Value;
-use fz_model::{Goal, Model, Overview, Partial, Point, State, Term, Variable, all_hold, state};
+use fz_model::{Goal, Held, Model, Overview, Partial, Point, State, Term, Variable, all_hold, state};
 use std::alloc::{AllocError, Global};
 
 /// The fault of a point that fails.
@@ -26,12 +25,12 @@ fn fault_named(point: Point<'_>) -> Fault<'_>
 }
 
 /// The name of the first variable without a value, in source order; none is needed where each has one.
-fn first_unset<'a>(variables: &[Variable<'a>], values: &[Option<Value>]) -> &'a [u8]
-    ensures { result.now ≡ first_unset (map variable_view variables.now) values.now }
+fn first_unset<'a>(variables: &[Variable<'a>], partial: &Partial) -> &'a [u8]
+    ensures { result.now ≡ first_unset (map variable_view variables.now) partial.now }
 {
-    for (variable, value) in variables.iter().zip(values) {
-        if value.is_none() {
-            return variable.name;
+    for number in 0..variables.len() {
+        if !partial.has(number) {
+            return variables[number].name;
         }
     }
     &[]
@@ -69,7 +68,7 @@ fn undecided<'a>(
     ensures { option_map reason_view result ≡ reason_named (first_unset (variables_of model.now) partial.now) (point_name point.entry) state }
 {
     match state {
-        State::NoValue => Some(Reason::NoValue(first_unset(model.variables(), partial.values()))),
+        State::NoValue => Some(Reason::NoValue(first_unset(model.variables(), partial))),
         State::Unknown => not_known(point),
         State::TooLarge => too_large(point),
         State::Holds => None,
@@ -131,9 +130,9 @@ fn number_of(partial: &Partial, term: &Term) -> Option<i64>
     ensures { result ≡ number_at partial.now term.now }
 {
     match partial.value(term)? {
-        Value::Int(number) => Some(*number),
-        Value::Bool(_) => None,
-        Value::Set(_) => None,
+        Held::Int(number) => Some(number),
+        Held::Bool(_) => None,
+        Held::Set(_) => None,
     }
 }
 

@@ -1,12 +1,13 @@
 //! Whether a value is the one of a literal, without making the literal's value where none has to be made.
 
 ghost use Rattle.std.specs.Prelude.{◌≡◌, IfOk};
+ghost use Rattle.fz_model.specs.Held.{held_value};
 ghost use Rattle.fz_model.specs.Names.{literal_value};
 ghost use Rattle.fz_model.specs.Values.{same_value};
 ghost use Rattle.fz_syntax.specs.View.{bare_literal_kind};
 
 use fz_base::{IntSet, Value};
-use fz_model::literal_value;
+use fz_model::{Held, literal_value};
 use fz_syntax::LiteralKind;
 use std::alloc::{AllocError, Global};
 
@@ -52,14 +53,14 @@ pub(crate) fn is_set(alloc: Global, set: &IntSet, literal: &LiteralKind) -> Resu
 #[inline]
 pub(crate) fn is_of_literal(
     alloc: Global,
-    value: &Value,
+    value: Held<'_>,
     literal: &LiteralKind,
 ) -> Result<bool, AllocError>
-    ensures { IfOk result (λ b. b ≡ same_value value.now (literal_value (bare_literal_kind literal.now))) }
+    ensures { IfOk result (λ b. b ≡ same_value (held_value value) (literal_value (bare_literal_kind literal.now))) }
 {
     match value {
-        Value::Int(number) => Ok(is_number(*number, literal)),
-        Value::Bool(truth) => Ok(is_truth(*truth, literal)),
-        Value::Set(set) => is_set(alloc, set, literal),
+        Held::Int(number) => Ok(is_number(number, literal)),
+        Held::Bool(truth) => Ok(is_truth(truth, literal)),
+        Held::Set(set) => is_set(alloc, set, literal),
     }
 }

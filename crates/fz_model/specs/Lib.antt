@@ -9,6 +9,7 @@ pub use Rattle.fz_meaning.specs.Laws
 pub use Rattle.fz_force.specs.of_data.Slots
 pub use Rattle.fz_force.specs.of_data.Parts
 pub use Rattle.fz_force.specs.of_data.Shown
+pub use Rattle.fz_force.specs.of_data.Held
 pub use Rattle.fz_force.specs.of_data.Partial
 pub use Rattle.fz_force.specs.of_data.Kinds
 pub use Rattle.fz_force.specs.of_data.Texts

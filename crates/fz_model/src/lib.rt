@@ -5,7 +5,7 @@
 #![tactic(auto)]
 
 pub use fz_force::fz_data::{
-    Argument, Array, ConstraintParts, Constraints, Found, Goal, LoadError, Model, Partial, Point,
+    Argument, Array, ConstraintParts, Constraints, Found, Goal, Held, LoadError, Model, Partial, Point,
     PointParts, Posted, Scalar, ScalarList, Scalars, Segment, Slot, Store, Variable, What, item_at,
     kind_of, literal_kind, literal_value, load, load_text, part, same_kind, scalar_at,
 };

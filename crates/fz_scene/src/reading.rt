@@ -4,10 +4,12 @@ ghost use Rattle.std.specs.Prelude.{◌≡◌, Some, false, option_map};
 ghost use Rattle.std.specs.Option.{option_map_or};
 ghost use Rattle.std.specs.FinSet as sets;
 ghost use Rattle.fz_meaning.specs.Values.{kind_of, same_kind};
+ghost use Rattle.fz_data.specs.Held.{held_value};
+ghost use Rattle.fz_data.specs.Partial.{number_in, truth_in};
 ghost use Rattle.fz_scene.specs.Given.{bool_in, int_in, set_in};
 
 use fz_base::{IntSet, Value};
-use fz_data::{number_of, truth_of};
+use fz_data::Held;
 use fz_meaning::Kind;
 
 /// Whether the arguments of a constraint can be read as its row's shapes ask: each scalar has a value of the kind; each has a value, and
@@ -20,13 +22,35 @@ pub enum Readiness {
 }
 
 #[inline(always)]
-fn set_of<'s>(value: &'s Value, empty: &'s IntSet) -> &'s IntSet
+pub(crate) fn set_of<'s>(value: Held<'s>, empty: &'s IntSet) -> &'s IntSet
     requires { empty.now ≡ sets.empty }
-    ensures { result.now ≡ set_in (Some value.now) }
+    ensures { result.now ≡ set_in (Some (held_value value)) }
 {
     match value {
-        Value::Set(set) => set,
-        Value::Int(_) | Value::Bool(_) => empty,
+        Held::Set(set) => set,
+        Held::Int(_) | Held::Bool(_) => empty,
+    }
+}
+
+/// The number that a value is, and 0 where it is none.
+#[inline(always)]
+fn number_of(value: &Value) -> i64
+    ensures { result ≡ number_in (Some value.now) }
+{
+    match value {
+        Value::Int(number) => *number,
+        Value::Bool(_) | Value::Set(_) => 0,
+    }
+}
+
+/// The truth value that a value is, and `false` where it is none.
+#[inline(always)]
+fn truth_of(value: &Value) -> bool
+    ensures { result ≡ truth_in (Some value.now) }
+{
+    match value {
+        Value::Bool(truth) => *truth,
+        Value::Int(_) | Value::Set(_) => false,
     }
 }
 
@@ -54,9 +78,9 @@ pub(crate) fn bool_in(value: Option<&Value>) -> bool
 
 /// The set that a scalar is read as.
 #[inline(always)]
-pub(crate) fn set_in<'s>(value: Option<&'s Value>, empty: &'s IntSet) -> &'s IntSet
+pub(crate) fn set_in<'s>(value: Option<Held<'s>>, empty: &'s IntSet) -> &'s IntSet
     requires { empty.now ≡ sets.empty }
-    ensures { result.now ≡ set_in (option_map (λ v. v.now) value.entry) }
+    ensures { result.now ≡ set_in (option_map held_value value) }
 {
     match value {
         Some(value) => set_of(value, empty),
@@ -66,8 +90,8 @@ pub(crate) fn set_in<'s>(value: Option<&'s Value>, empty: &'s IntSet) -> &'s Int
 
 /// Whether there is a value of the kind.
 #[inline(always)]
-pub(crate) fn is_of(value: Option<&Value>, kind: Kind) -> bool
-    ensures { result ≡ option_map_or (λ v. same_kind (kind_of v) kind) (option_map (λ v. v.now) value.entry) false }
+pub(crate) fn is_of(value: Option<Held<'_>>, kind: Kind) -> bool
+    ensures { result ≡ option_map_or (λ v. same_kind (kind_of v) kind) (option_map held_value value) false }
 {
     match value {
         Some(value) => has_kind(value, kind),
@@ -76,12 +100,12 @@ pub(crate) fn is_of(value: Option<&Value>, kind: Kind) -> bool
 }
 
 #[inline(always)]
-pub(crate) fn has_kind(value: &Value, kind: Kind) -> bool
-    ensures { result ≡ same_kind (kind_of value.now) kind }
+pub(crate) fn has_kind(value: Held<'_>, kind: Kind) -> bool
+    ensures { result ≡ same_kind (kind_of (held_value value)) kind }
 {
     match value {
-        Value::Int(_) => matches!(kind, Kind::Int),
-        Value::Bool(_) => matches!(kind, Kind::Bool),
-        Value::Set(_) => matches!(kind, Kind::Set),
+        Held::Int(_) => matches!(kind, Kind::Int),
+        Held::Bool(_) => matches!(kind, Kind::Bool),
+        Held::Set(_) => matches!(kind, Kind::Set),
     }
 }

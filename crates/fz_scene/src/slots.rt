@@ -9,9 +9,9 @@ ghost use Rattle.fz_data.specs.Slots.{constant_at};
 ghost use Rattle.fz_scene.specs.Given.{bool_of, int_of, is_read, set_in, set_of_slot};
 ghost use Rattle.fz_scene.specs.Views.{slot_read};
 
-use crate::reading::{bool_in, has_kind, int_in, is_of, set_in};
+use crate::reading::{bool_in, has_kind, int_in, is_of, set_in, set_of};
 use fz_base::{IntSet, Value};
-use fz_data::{Partial, Slot};
+use fz_data::{Held, Partial, Slot};
 use fz_meaning::Kind;
 
 /// The number of a constant.
@@ -36,7 +36,10 @@ fn constant_set<'s>(constants: &'s [Value], place: u32, empty: &'s IntSet) -> &'
     requires { empty.now ≡ sets.empty }
     ensures { result.now ≡ set_in (Some (constant_at constants.now place)) }
 {
-    set_in(constants.get(place as usize), empty)
+    match constants.get(place as usize) {
+        Some(value) => set_of(Held::of(value), empty),
+        None => empty,
+    }
 }
 
 /// Whether a constant is of the kind.
@@ -45,7 +48,7 @@ fn constant_is_of(constants: &[Value], place: u32, kind: Kind) -> bool
     ensures { result ≡ same_kind (kind_of (constant_at constants.now place)) kind }
 {
     match constants.get(place as usize) {
-        Some(value) => has_kind(value, kind),
+        Some(value) => has_kind(Held::of(value), kind),
         None => matches!(kind, Kind::Int),
     }
 }

@@ -1,7 +1,7 @@
 //! Bounds of variables. A truth value is 0 or 1 there.
 
 use fz_base::{IntSet, Value};
-use fz_model::{Domain, Kind};
+use fz_model::{Domain, Held, Kind};
 
 /// The numbers from one to another; none where the first is above the second.
 #[derive(Clone, Copy)]
@@ -72,11 +72,11 @@ const ALL: Ends = Ends {
 };
 
 /// The number that a value is read as, where it is no set.
-pub(crate) fn number_of(value: &Value) -> Option<i64> {
+pub(crate) fn number_in(value: Held<'_>) -> Option<i64> {
     match value {
-        Value::Int(number) => Some(*number),
-        Value::Bool(truth) => Some(i64::from(*truth)),
-        Value::Set(_) => None,
+        Held::Int(number) => Some(number),
+        Held::Bool(truth) => Some(i64::from(truth)),
+        Held::Set(_) => None,
     }
 }
 

@@ -1,6 +1,6 @@
 //! What is known of variables and points as a search begins.
 
-use crate::ends::{Ends, ends_of, number_of};
+use crate::ends::{Ends, ends_of, number_in};
 use crate::index::Search;
 use crate::row::{Reach, Sums};
 use fz_model::{Domain, Model, Partial, PointParts, Slot};
@@ -16,7 +16,7 @@ pub(crate) fn all_ends(
     let variables = model.variables();
     for number in 0..variables.len() {
         let there = match values.get(number) {
-            Some(value) => number_of(value),
+            Some(value) => number_in(value),
             None => None,
         };
         let here = match there {

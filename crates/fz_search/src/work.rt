@@ -1,14 +1,14 @@
 //! A search under way: the values and bounds so far, and the points that are to be visited.
 
 use crate::agenda::Agenda;
-use crate::ends::{Ends, admits, number_of, value_of};
+use crate::ends::{Ends, admits, number_in, value_of};
 use crate::index::Search;
 use crate::proposal::Proposal;
 use crate::row::{Reach, Rule, Sums};
 use crate::stop::Stop;
 use crate::tables::{all_ends, all_open, all_sums, no_reaches};
 use fz_base::Value;
-use fz_model::{Domain, Kind, Model, Partial, Scalar};
+use fz_model::{Domain, Held, Kind, Model, Partial, Scalar};
 use std::alloc::{AllocError, Global};
 
 /// So many visits are made at most for each point of the model. A value that is tried is one too.
@@ -208,7 +208,7 @@ impl<'k, 'm, 'a> Work<'k, 'm, 'a> {
 
     /// Puts a value that its domain and bounds admit in place, and tells whether they do.
     pub(crate) fn put(&mut self, variable: usize, value: Value) -> bool {
-        let inside = match number_of(&value) {
+        let inside = match number_in(Held::of(&value)) {
             Some(number) => self.ends_of(variable).has(number),
             None => true,
         };
@@ -222,7 +222,7 @@ impl<'k, 'm, 'a> Work<'k, 'm, 'a> {
     /// Keeps the value that was put in place.
     pub(crate) fn keep(&mut self, variable: usize) -> Result<(), Stop> {
         let number = match self.proposal.values().get(variable) {
-            Some(value) => number_of(value),
+            Some(value) => number_in(value),
             None => None,
         };
         if let Some(number) = number {
