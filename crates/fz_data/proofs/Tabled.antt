@@ -1,35 +1,115 @@
--- The tables of numbers and truth values beside the values of a partial assignment.
-use Rattle.std.proofs.Common.{◌≡◌, ℕ, ◌+◌, ◌<◌, ◌≤◌, ℤ, Bool, zero, suc, List, [], ◌∷◌, ◌++◌, length, map, take, replicate, Option, None, Some, is_some, true, false, slice_set, add-one, arith, refl, ap, ◌∙◌}
-use Rattle.std.proofs.Math.Seq.{take-append_seam}
+-- The tables of sorts, numbers and sets of a partial assignment.
+use Rattle.std.proofs.Common.{◌≡◌, ℕ, ◌<◌, ◌≤◌, ℤ, pos, Bool, zero, suc, List, [], ◌∷◌, length, map, replicate, Option, None, Some, is_some, true, false, slice_index_or, slice_set, int_cmp, arith, refl, ap, sym, ◌∙◌}
+use Rattle.std.specs.FinSet.{FinSet}
 use Rattle.std.proofs.lemmas.List.{length-map}
 use Rattle.fz_base.specs.declared.value.Value.{Value}
-use Rattle.fz_meaning.specs.Meaning.{Variable, give, value_at}
-use Rattle.fz_data.specs.Partial.{IsTabled, number_in, truth_in, unset_count, without}
+use Rattle.fz_base.specs.declared.value.Value.TheVariants.{Int, Bool as Truth, Set}
+use Rattle.fz_meaning.specs.Meaning.{give, value_at}
+use Rattle.fz_data.specs.declared.partial.Sort.{Sort}
+use Rattle.fz_data.specs.declared.partial.Sort.TheVariants as sorts
+use Rattle.fz_data.specs.Partial.{AreTables, number_in, sort_in, sort_of, unset_count, value_of, values_of, with_set, without}
+
+-- ---- what is read
+
+pub set_read : (cs : List Sort) (ns : List ℤ) (ss : List (FinSet int_cmp)) (n : ℕ) (s : FinSet int_cmp)
+    → s ≡ slice_index_or ss n s → sorts.Set ≡ sort_in (value_at (values_of cs ns ss) n) → Some (Set s) ≡ value_at (values_of cs ns ss) n
+set_read [] ns ss n s at is = cc
+set_read (c ∷ cs) [] ss n s at is = cc
+set_read (c ∷ cs) (x ∷ ns) [] n s at is = cc
+set_read (sorts.Nothing ∷ cs) (x ∷ ns) (t ∷ ss) zero s at is = cc
+set_read (sorts.Number ∷ cs) (x ∷ ns) (t ∷ ss) zero s at is = cc
+set_read (sorts.False ∷ cs) (x ∷ ns) (t ∷ ss) zero s at is = cc
+set_read (sorts.True ∷ cs) (x ∷ ns) (t ∷ ss) zero s at is = cc
+set_read (sorts.Set ∷ cs) (x ∷ ns) (t ∷ ss) zero s at is = ap (λ u. Some (Set u)) at
+set_read (c ∷ cs) (x ∷ ns) (t ∷ ss) (suc n) s at is = set_read cs ns ss n s at is
+
+-- the tables are as long as the list of values
+pub numbered : (cs : List Sort) (ns : List ℤ) (ss : List (FinSet int_cmp)) → AreTables cs ns ss → length ns ≡ length cs
+numbered cs ns ss t = ap length t.numbers ∙ length-map (values_of cs ns ss) number_in ∙ sym (ap length t.sorts ∙ length-map (values_of cs ns ss) sort_in)
+
+-- ---- what is written
 
 map_set : {A B : Type 0} (f : A → B) (xs : List A) (n : ℕ) (x : A) → slice_set (map f xs) n (f x) ≡ map f (slice_set xs n x)
 map_set f [] n x = refl
 map_set f (y ∷ xs) zero x = refl
 map_set f (y ∷ xs) (suc n) x = ap (λ ys. f y ∷ ys) (map_set f xs n x)
 
+-- a value at one place, where no set is written
+written : (cs : List Sort) (ns : List ℤ) (ss : List (FinSet int_cmp)) (n : ℕ) (c : Sort) (x : ℤ) (o : Option Value) → ((s : FinSet int_cmp) → value_of c x s ≡ o)
+    → length ns ≡ length cs → length ss ≡ length cs → values_of (slice_set cs n c) (slice_set ns n x) ss ≡ slice_set (values_of cs ns ss) n o
+written [] ns ss n c x o is e f = refl
+written (d ∷ cs) [] ss n c x o is e f = absurd (omega (arith, e))
+written (d ∷ cs) (y ∷ ns) [] n c x o is e f = absurd (omega (arith, f))
+written (d ∷ cs) (y ∷ ns) (s ∷ ss) zero c x o is e f = ap (λ p. p ∷ values_of cs ns ss) (is s)
+written (d ∷ cs) (y ∷ ns) (s ∷ ss) (suc n) c x o is e f = ap (λ K. value_of d y s ∷ K) (written cs ns ss n c x o is (omega (arith, e)) (omega (arith, f)))
+
+set_written : (cs : List Sort) (ns : List ℤ) (ss : List (FinSet int_cmp)) (n : ℕ) (s : FinSet int_cmp)
+    → length ns ≡ length cs → length ss ≡ length cs → values_of (slice_set cs n sorts.Set) (slice_set ns n (pos 0)) (slice_set ss n s) ≡ give (values_of cs ns ss) n (Set s)
+set_written [] ns ss n s e f = refl
+set_written (d ∷ cs) [] ss n s e f = absurd (omega (arith, e))
+set_written (d ∷ cs) (y ∷ ns) [] n s e f = absurd (omega (arith, f))
+set_written (d ∷ cs) (y ∷ ns) (t ∷ ss) zero s e f = refl
+set_written (d ∷ cs) (y ∷ ns) (t ∷ ss) (suc n) s e f = ap (λ K. value_of d y t ∷ K) (set_written cs ns ss n s (omega (arith, e)) (omega (arith, f)))
+
 -- one more value
-pub still_tabled : (K : List (Option Value)) (ns : List ℤ) (bs gs : List Bool) (n : ℕ) (v : Value) → IsTabled K ns bs gs
-    → IsTabled (slice_set K n (Some v)) (slice_set ns n (number_in (Some v))) (slice_set bs n (truth_in (Some v))) (slice_set gs n true)
-still_tabled K ns bs gs n v t = record {
-  numbers = ap (λ zs. slice_set zs n (number_in (Some v))) t.numbers ∙ map_set number_in K n (Some v);
-  truths = ap (λ zs. slice_set zs n (truth_in (Some v))) t.truths ∙ map_set truth_in K n (Some v);
-  given = ap (λ zs. slice_set zs n true) t.given ∙ map_set is_some K n (Some v);
+pub given : (cs : List Sort) (ns : List ℤ) (ss : List (FinSet int_cmp)) (n : ℕ) (v : Value) → AreTables cs ns ss
+    → values_of (slice_set cs n (sort_of v)) (slice_set ns n (number_in (Some v))) (with_set ss n v) ≡ give (values_of cs ns ss) n v
+given cs ns ss n (Int x) t = written cs ns ss n sorts.Number x (Some (Int x)) (λ s. refl) (numbered cs ns ss t) t.room
+given cs ns ss n (Truth false) t = written cs ns ss n sorts.False (pos 0) (Some (Truth false)) (λ s. refl) (numbered cs ns ss t) t.room
+given cs ns ss n (Truth true) t = written cs ns ss n sorts.True (pos 0) (Some (Truth true)) (λ s. refl) (numbered cs ns ss t) t.room
+given cs ns ss n (Set s) t = set_written cs ns ss n s (numbered cs ns ss t) t.room
+
+-- one that is taken away
+pub taken : (cs : List Sort) (ns : List ℤ) (ss : List (FinSet int_cmp)) (n : ℕ) → AreTables cs ns ss
+    → values_of (slice_set cs n sorts.Nothing) (slice_set ns n (pos 0)) ss ≡ without (values_of cs ns ss) n
+taken cs ns ss n t = written cs ns ss n sorts.Nothing (pos 0) None (λ s. refl) (numbered cs ns ss t) t.room
+
+length_set : {A : Type 0} (xs : List A) (n : ℕ) (x : A) → length (slice_set xs n x) ≡ length xs
+length_set [] n x = refl
+length_set (y ∷ xs) zero x = refl
+length_set (y ∷ xs) (suc n) x = ap suc (length_set xs n x)
+
+pub same_room : (ss : List (FinSet int_cmp)) (n : ℕ) (v : Value) → length (with_set ss n v) ≡ length ss
+same_room ss n (Int x) = refl
+same_room ss n (Truth b) = refl
+same_room ss n (Set s) = length_set ss n s
+
+-- they are tables still
+pub still_tables : (cs : List Sort) (ns : List ℤ) (ss ts : List (FinSet int_cmp)) (n : ℕ) (o : Option Value) → AreTables cs ns ss → length ts ≡ length ss
+    → values_of (slice_set cs n (sort_in o)) (slice_set ns n (number_in o)) ts ≡ slice_set (values_of cs ns ss) n o
+    → AreTables (slice_set cs n (sort_in o)) (slice_set ns n (number_in o)) ts
+still_tables cs ns ss ts n o t same now = record {
+  sorts = ap (λ zs. slice_set zs n (sort_in o)) t.sorts ∙ map_set sort_in (values_of cs ns ss) n o ∙ ap (map sort_in) (sym now);
+  numbers = ap (λ zs. slice_set zs n (number_in o)) t.numbers ∙ map_set number_in (values_of cs ns ss) n o ∙ ap (map number_in) (sym now);
+  room = same ∙ t.room ∙ sym (length_set cs n (sort_in o));
 }
 
-all_nothing : {A B : Type 0} (f : Option Value → B) (xs : List A) → replicate (length xs) (f None) ≡ map f (map (λ x. None) xs)
-all_nothing f [] = refl
-all_nothing f (x ∷ xs) = ap (λ ys. f None ∷ ys) (all_nothing f xs)
+-- none at all
+pub no_values : {A : Type 0} (xs : List A) (n m : ℕ) (ss : List (FinSet int_cmp)) → n ≡ length xs → m ≡ length xs → length ss ≡ length xs
+    → values_of (replicate n sorts.Nothing) (replicate m (pos 0)) ss ≡ map (λ x. None) xs
+no_values [] zero m ss e f g = refl
+no_values [] (suc n) m ss e f g = absurd (omega (arith, e))
+no_values (x ∷ xs) zero m ss e f g = absurd (omega (arith, e))
+no_values (x ∷ xs) (suc n) zero ss e f g = absurd (omega (arith, f))
+no_values (x ∷ xs) (suc n) (suc m) [] e f g = absurd (omega (arith, g))
+no_values (x ∷ xs) (suc n) (suc m) (s ∷ ss) e f g = ap (λ K. None ∷ K) (no_values xs n m ss (omega (arith, e)) (omega (arith, f)) (omega (arith, g)))
 
--- none yet
-pub none_tabled : (xs : List Variable) (n : ℕ) → n ≡ length xs → IsTabled (map (λ x. None) xs) (replicate n (number_in None)) (replicate n (truth_in None)) (replicate n false)
-none_tabled xs n e = record {
-  numbers = ap (λ k. replicate k (number_in None)) e ∙ all_nothing number_in xs;
-  truths = ap (λ k. replicate k (truth_in None)) e ∙ all_nothing truth_in xs;
-  given = ap (λ k. replicate k false) e ∙ all_nothing is_some xs;
+length_replicate : {A : Type 0} (n : ℕ) (x : A) → length (replicate n x) ≡ n
+length_replicate zero x = refl
+length_replicate (suc n) x = ap suc (length_replicate n x)
+
+all_same : {A B : Type 0} (f : Option Value → B) (xs : List A) (m : ℕ) → m ≡ length xs → replicate m (f None) ≡ map f (map (λ x. None) xs)
+all_same f [] zero e = refl
+all_same f [] (suc m) e = absurd (omega (arith, e))
+all_same f (x ∷ xs) zero e = absurd (omega (arith, e))
+all_same f (x ∷ xs) (suc m) e = ap (λ zs. f None ∷ zs) (all_same f xs m (omega (arith, e)))
+
+pub none_tabled : {A : Type 0} (xs : List A) (n m : ℕ) (ss : List (FinSet int_cmp)) → n ≡ length xs → m ≡ length xs → length ss ≡ length xs
+    → AreTables (replicate n sorts.Nothing) (replicate m (pos 0)) ss
+none_tabled xs n m ss e f g = record {
+  sorts = all_same sort_in xs n e ∙ ap (map sort_in) (sym (no_values xs n m ss e f g));
+  numbers = all_same number_in xs m f ∙ ap (map number_in) (sym (no_values xs n m ss e f g));
+  room = g ∙ sym e ∙ sym (length_replicate n sorts.Nothing);
 }
 
 -- ---- how many have no value
@@ -67,51 +147,7 @@ has_place [] n e = cc
 has_place (o ∷ K) zero e = omega arith
 has_place (o ∷ K) (suc n) e = omega (arith, has_place K n e)
 
-pub one_less_tabled : (K : List (Option Value)) (ns : List ℤ) (bs gs : List Bool) (n : ℕ) → IsTabled K ns bs gs
-    → IsTabled (without K n) (slice_set ns n (number_in None)) (slice_set bs n (truth_in None)) (slice_set gs n false)
-one_less_tabled K ns bs gs n t = record {
-  numbers = ap (λ zs. slice_set zs n (number_in None)) t.numbers ∙ map_set number_in K n None;
-  truths = ap (λ zs. slice_set zs n (truth_in None)) t.truths ∙ map_set truth_in K n None;
-  given = ap (λ zs. slice_set zs n false) t.given ∙ map_set is_some K n None;
-}
-
 -- where nothing has a value, each one counts
 pub all_unset : {A : Type 0} (xs : List A) → unset_count (map (λ x. None) xs) ≡ length xs
 all_unset [] = refl
 all_unset (x ∷ xs) = ap suc (all_unset xs)
-
--- the tables of values that are all taken away
-pub cleared_tabled : (K : List (Option Value)) (ns : List ℤ) (bs gs : List Bool) (n m k : ℕ) → IsTabled K ns bs gs → n ≡ length ns → m ≡ length bs → k ≡ length gs
-    → IsTabled (map (λ v. None) K) (replicate n (number_in None)) (replicate m (truth_in None)) (replicate k false)
-cleared_tabled K ns bs gs n m k t e f g = record {
-  numbers = ap (λ i. replicate i (number_in None)) (e ∙ ap length t.numbers ∙ length-map K number_in) ∙ all_nothing number_in K;
-  truths = ap (λ i. replicate i (truth_in None)) (f ∙ ap length t.truths ∙ length-map K truth_in) ∙ all_nothing truth_in K;
-  given = ap (λ i. replicate i false) (g ∙ ap length t.given ∙ length-map K is_some) ∙ all_nothing is_some K;
-}
-
--- what is written over the whole of a list is all that is left
-pub all_written : {A : Type 0} (written rest : List A) (n : ℕ) → n ≡ length written → take n (written ++ rest) ≡ written
-all_written written rest n e = ap (λ k. take k (written ++ rest)) e ∙ take-append_seam written rest
-
--- ---- values taken away one after another
-
--- the first so many values taken away
-abbrev pub forgotten : ℕ → List (Option Value) → List (Option Value)
-forgotten zero K = K
-forgotten (suc n) [] = []
-forgotten (suc n) (o ∷ K) = None ∷ forgotten n K
-
-pub forgets_next : (K : List (Option Value)) (n : ℕ) → n < length K → slice_set (forgotten n K) n None ≡ forgotten (n + 1) K
-forgets_next K n h = rw add-one (next K n h)
-  where
-    next : (K : List (Option Value)) (n : ℕ) → n < length K → slice_set (forgotten n K) n None ≡ forgotten (suc n) K
-    next [] n h = absurd (omega arith)
-    next (o ∷ K) zero h = refl
-    next (o ∷ K) (suc n) h = ap (λ J. None ∷ J) (next K n (omega arith))
-
-pub forgets_all : (K : List (Option Value)) (n : ℕ) → n ≡ length K → forgotten n K ≡ map (λ v. None) K
-forgets_all K n e = ap (λ k. forgotten k K) e ∙ all K
-  where
-    all : (K : List (Option Value)) → forgotten (length K) K ≡ map (λ v. None) K
-    all [] = refl
-    all (o ∷ K) = ap (λ J. None ∷ J) (all K)

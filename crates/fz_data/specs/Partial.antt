@@ -28,7 +28,7 @@ truth_in _ = false
 
 -- ---- values in three tables
 
--- the value that a variable of a sort has, if any, by its places in the tables of numbers and sets
+-- the value, if any, of a variable of a sort, by its places in the tables of numbers and sets
 abbrev pub value_of : Sort → ℤ → FinSet int_cmp → Option Value
 value_of sorts.Nothing n s = None
 value_of sorts.Number n s = Some (Int n)
@@ -36,16 +36,31 @@ value_of sorts.False n s = Some (Truth false)
 value_of sorts.True n s = Some (Truth true)
 value_of sorts.Set n s = Some (Set s)
 
--- those of all variables
+abbrev pub sort_of : Value → Sort
+sort_of (Int n) = sorts.Number
+sort_of (Truth false) = sorts.False
+sort_of (Truth true) = sorts.True
+sort_of (Set s) = sorts.Set
+
+abbrev pub sort_in : Option Value → Sort
+sort_in (Some v) = sort_of v
+sort_in None = sorts.Nothing
+
+-- the sets with that which a value is at its place
+abbrev pub with_set : List (FinSet int_cmp) → ℕ → Value → List (FinSet int_cmp)
+with_set ss n (Set s) = slice_set ss n s
+with_set ss n v = ss
+
+-- the values of all variables
 abbrev pub values_of : List Sort → List ℤ → List (FinSet int_cmp) → List (Option Value)
 values_of (c ∷ cs) (n ∷ ns) (s ∷ ss) = value_of c n s ∷ values_of cs ns ss
 values_of _ _ _ = []
 
 -- each variable has a place in each table, and that of numbers has 0 where no number is
 pub record AreTables (cs : List Sort) (ns : List ℤ) (ss : List (FinSet int_cmp)) : Type 0 where
-  pub numbered : length ns ≡ length cs
-  pub room : length ss ≡ length cs
+  pub sorts : cs ≡ map sort_in (values_of cs ns ss)
   pub numbers : ns ≡ map number_in (values_of cs ns ss)
+  pub room : length ss ≡ length cs
 
 -- how many variables have no value
 abbrev pub unset_count : List (Option Value) → ℕ

@@ -31,4 +31,4 @@ pub use parts::{Array, Goal, Posted, ScalarList, Variable};
 pub use point::{ConstraintParts, Constraints, Point, PointParts};
 pub use store::{Argument, Scalar, Segment, Slot, Store, item_at, part, scalar_at};
 pub use text::load_text;
-pub use values::{kind_of, literal_kind, literal_value, same_kind};
+pub use values::{literal_kind, literal_value, same_kind};

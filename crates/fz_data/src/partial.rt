@@ -4,7 +4,7 @@ ghost use Rattle.std.specs.Prelude.{◌≡◌, ◌<◌, IfOk, None, Some, false,
 ghost use Rattle.std.specs.FinSet as sets;
 ghost use Rattle.fz_meaning.specs.Meaning.{give, value, value_at};
 ghost use Rattle.fz_data.specs.Held.{held_value};
-ghost use Rattle.fz_data.specs.Partial.{nothing_for, number_in, truth_in, unset_count, without};
+ghost use Rattle.fz_data.specs.Partial.{nothing_for, number_in, sort_in, sort_of, truth_in, unset_count, with_set, without};
 
 use crate::held::Held;
 use crate::model::Model;
@@ -59,6 +59,47 @@ impl std::marker::Model for Partial {
         × (p.unset ≡ unset_count (values_of p.sorts.items p.numbers.items p.sets.items)) };
 }
 
+/// The sort of a variable with this value.
+#[inline(always)]
+fn sort_of(value: &Value) -> Sort
+    ensures { result ≡ sort_of value.now }
+{
+    match value {
+        Value::Int(_) => Sort::Number,
+        Value::Bool(truth) => { if *truth { Sort::True } else { Sort::False } }
+        Value::Set(_) => Sort::Set,
+    }
+}
+
+/// The number that a value is, and 0 where it is none.
+#[inline(always)]
+fn number_of(value: &Value) -> i64
+    ensures { result ≡ number_in (Some value.now) }
+{
+    match value {
+        Value::Int(number) => *number,
+        Value::Bool(_) | Value::Set(_) => 0,
+    }
+}
+
+/// Keeps the set that a value is at its place; no other value.
+#[inline(always)]
+fn keep_set(sets: &mut Vec<IntSet>, number: usize, value: Value)
+    requires in_range { number < length sets.old.items }
+    ensures kept { sets.new.items ≡ with_set sets.old.items number value }
+{
+    if let Value::Set(set) = value {
+        put(&mut sets[number], set);
+    }
+}
+
+#[inline(always)]
+fn put(place: &mut IntSet, set: IntSet)
+    ensures there { place.new ≡ set }
+{
+    *place = set;
+}
+
 /// The empty set.
 fn no_numbers(alloc: Global) -> Result<IntSet, AllocError>
     ensures { IfOk result (λ s. s ≡ sets.empty) }
@@ -104,14 +145,24 @@ impl Partial {
         self.sorts.len()
     }
 
+    #[inline(always)]
+    fn sort(&self, number: usize) -> Sort
+        ensures read { result ≡ sort_in (value_at self.now number) }
+    {
+        match self.sorts.get(number) {
+            Some(sort) => *sort,
+            None => Sort::Nothing,
+        }
+    }
+
     /// The value of the variable of a number: none where it has none, or where the number is no variable's. It takes no memory.
     #[inline(always)]
     pub fn get(&self, number: usize) -> Option<Held<'_>>
         ensures looked_up { option_map held_value result ≡ value_at self.now number }
     {
-        match self.sorts.get(number)? {
+        match self.sort(number) {
             Sort::Nothing => None,
-            Sort::Number => Some(Held::Int(self.numbers[number])),
+            Sort::Number => Some(Held::Int(self.number(number))),
             Sort::False => Some(Held::Bool(false)),
             Sort::True => Some(Held::Bool(true)),
             Sort::Set => Some(Held::Set(&self.sets[number])),
@@ -134,10 +185,7 @@ impl Partial {
     pub fn has(&self, number: usize) -> bool
         ensures given { result ≡ is_some (value_at self.now number) }
     {
-        match self.sorts.get(number) {
-            Some(sort) => !matches!(sort, Sort::Nothing),
-            None => false,
-        }
+        !matches!(self.sort(number), Sort::Nothing)
     }
 
     /// The number that the variable of a number has: 0 where it has none. It takes no memory.
@@ -156,10 +204,7 @@ impl Partial {
     pub fn truth(&self, number: usize) -> bool
         ensures read { result ≡ truth_in (value_at self.now number) }
     {
-        match self.sorts.get(number) {
-            Some(sort) => matches!(sort, Sort::True),
-            None => false,
-        }
+        matches!(self.sort(number), Sort::True)
     }
 
     /// Gives a variable a value, and changes nothing else. It takes no memory.
@@ -170,19 +215,9 @@ impl Partial {
         ensures given { self.new ≡ give self.old number value }
     {
         self.unset -= 1;
-        self.sorts[number] = match value {
-            Value::Int(whole) => {
-                self.numbers[number] = whole;
-                Sort::Number
-            }
-            Value::Bool(truth) => {
-                if truth { Sort::True } else { Sort::False }
-            }
-            Value::Set(set) => {
-                self.sets[number] = set;
-                Sort::Set
-            }
-        };
+        self.sorts[number] = sort_of(&value);
+        self.numbers[number] = number_of(&value);
+        keep_set(&mut self.sets, number, value);
     }
 
     /// Takes the value of a variable away, where it has one, and changes nothing else. It takes no

@@ -10,9 +10,10 @@ ghost use Rattle.fz_data.specs.Parts.{argument_view, kind_of_term};
 ghost use Rattle.fz_data.specs.Fitting.{are_equally_long, array_kind, is_array_of, is_array_slot, is_of_kind, is_scalar_of, kinds_among, length_at, length_of, slot_length};
 ghost use Rattle.fz_data.specs.Slots.{constant_at};
 
+use crate::held::Held;
 use crate::parts::{Array, Variable};
 use crate::store::{Argument, Slot, Store, part};
-use crate::values::{kind_of, same_kind};
+use crate::values::same_kind;
 use fz_base::Value;
 use fz_meaning::{Kind, Known, Shape, Term};
 
@@ -132,7 +133,7 @@ fn constant_kind(constants: &[Value], place: usize) -> Kind
     ensures { result ≡ kind_of (constant_at constants.now place) }
 {
     match constants.get(place) {
-        Some(value) => kind_of(value),
+        Some(value) => Held::of(value).kind(),
         None => Kind::Int,
     }
 }
@@ -225,6 +226,6 @@ pub(crate) fn term_kind(term: &Term, cited: &Cited<'_, '_>) -> Kind
 {
     match term {
         Term::Var(number) => variable_kind(*number, cited),
-        Term::Fixed(value) => kind_of(value),
+        Term::Fixed(value) => Held::of(value).kind(),
     }
 }

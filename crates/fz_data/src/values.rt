@@ -10,18 +10,6 @@ use fz_meaning::{Domain, Kind, Term};
 use fz_syntax::{Base, Literal, LiteralKind};
 use std::alloc::{AllocError, Global};
 
-/// The kind of a value. It takes no memory.
-#[inline]
-pub fn kind_of(value: &Value) -> Kind
-    ensures { result ≡ kind_of value.now }
-{
-    match value {
-        Value::Int(_) => Kind::Int,
-        Value::Bool(_) => Kind::Bool,
-        Value::Set(_) => Kind::Set,
-    }
-}
-
 /// Whether the two kinds are the same. It takes no memory. Their numbers are compared, since a branch on a kind is guessed wrong where
 /// kinds come in any order.
 #[inline]

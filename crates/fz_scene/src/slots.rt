@@ -1,17 +1,18 @@
 //! Reading one slot. Nothing is read of an array's.
 
-ghost use Rattle.std.specs.Prelude.{◌≡◌, Some};
+ghost use Rattle.std.specs.Prelude.{◌≡◌, Some, false};
 ghost use Rattle.std.specs.List.{list_all};
+ghost use Rattle.std.specs.Option.{option_map_or};
 ghost use Rattle.std.specs.FinSet as sets;
+ghost use Rattle.fz_meaning.specs.Meaning.{value_at};
 ghost use Rattle.fz_meaning.specs.Values.{kind_of, same_kind};
 ghost use Rattle.fz_data.specs.Partial.{number_in, truth_in};
 ghost use Rattle.fz_data.specs.Slots.{constant_at};
 ghost use Rattle.fz_scene.specs.Given.{bool_of, int_of, is_read, set_in, set_of_slot};
 ghost use Rattle.fz_scene.specs.Views.{slot_read};
 
-use crate::reading::{bool_in, has_kind, int_in, is_of, set_in, set_of};
 use fz_base::{IntSet, Value};
-use fz_data::{Held, Partial, Slot};
+use fz_data::{Held, Partial, Slot, same_kind};
 use fz_meaning::Kind;
 
 /// The number of a constant.
@@ -19,7 +20,10 @@ use fz_meaning::Kind;
 fn constant_int(constants: &[Value], place: u32) -> i64
     ensures { result ≡ number_in (Some (constant_at constants.now place)) }
 {
-    int_in(constants.get(place as usize))
+    match constants.get(place as usize) {
+        Some(Value::Int(number)) => *number,
+        _ => 0,
+    }
 }
 
 /// The truth value of a constant.
@@ -27,7 +31,10 @@ fn constant_int(constants: &[Value], place: u32) -> i64
 fn constant_truth(constants: &[Value], place: u32) -> bool
     ensures { result ≡ truth_in (Some (constant_at constants.now place)) }
 {
-    bool_in(constants.get(place as usize))
+    match constants.get(place as usize) {
+        Some(Value::Bool(truth)) => *truth,
+        _ => false,
+    }
 }
 
 /// The set of a constant.
@@ -37,8 +44,8 @@ fn constant_set<'s>(constants: &'s [Value], place: u32, empty: &'s IntSet) -> &'
     ensures { result.now ≡ set_in (Some (constant_at constants.now place)) }
 {
     match constants.get(place as usize) {
-        Some(value) => set_of(Held::of(value), empty),
-        None => empty,
+        Some(Value::Set(set)) => set,
+        _ => empty,
     }
 }
 
@@ -48,8 +55,30 @@ fn constant_is_of(constants: &[Value], place: u32, kind: Kind) -> bool
     ensures { result ≡ same_kind (kind_of (constant_at constants.now place)) kind }
 {
     match constants.get(place as usize) {
-        Some(value) => has_kind(Held::of(value), kind),
+        Some(value) => same_kind(Held::of(value).kind(), kind),
         None => matches!(kind, Kind::Int),
+    }
+}
+
+/// The set that the variable of a number has, and the empty one where it has none.
+#[inline(always)]
+fn set_of(partial: &Partial, number: usize) -> &IntSet
+    ensures { result.now ≡ set_in (value_at partial.now number) }
+{
+    match partial.get(number) {
+        Some(Held::Set(set)) => set,
+        _ => partial.no_numbers(),
+    }
+}
+
+/// Whether the variable of a number has a value of the kind.
+#[inline(always)]
+fn is_of(partial: &Partial, number: usize, kind: Kind) -> bool
+    ensures { result ≡ option_map_or (λ v. same_kind (kind_of v) kind) (value_at partial.now number) false }
+{
+    match partial.get(number) {
+        Some(value) => same_kind(value.kind(), kind),
+        None => false,
     }
 }
 
@@ -87,7 +116,7 @@ pub(crate) fn slot_set<'s>(partial: &'s Partial, constants: &'s [Value], slot: &
     ensures { result.now ≡ set_of_slot partial.now (slot_read constants.now slot.now) }
 {
     match slot {
-        Slot::Variable(number) => set_in(partial.get(*number as usize), partial.no_numbers()),
+        Slot::Variable(number) => set_of(partial, *number as usize),
         Slot::Number(_) => partial.no_numbers(),
         Slot::Truth(_) => partial.no_numbers(),
         Slot::Constant(place) => constant_set(constants, *place, partial.no_numbers()),
@@ -101,7 +130,7 @@ pub(crate) fn slot_is_read(partial: &Partial, constants: &[Value], kind: Kind, s
     ensures { result ≡ is_read partial.now kind (slot_read constants.now slot.now) }
 {
     match slot {
-        Slot::Variable(number) => is_of(partial.get(*number as usize), kind),
+        Slot::Variable(number) => is_of(partial, *number as usize, kind),
         Slot::Number(_) => matches!(kind, Kind::Int),
         Slot::Truth(_) => matches!(kind, Kind::Bool),
         Slot::Constant(place) => constant_is_of(constants, *place, kind),

@@ -1,9 +1,9 @@
-use Rattle.std.proofs.Common.{◌≡◌, ℕ, ◌<◌, FitsSigned, List, Option, None, Some, arith, length, rules, slice_set, subst, subst₂, suc, sym, true, w64}
+use Rattle.std.proofs.Common.{◌≡◌, ◌<◌, FitsSigned, List, Option, None, Some, arith, ap, length, rules, subst, suc, sym, w64, ℕ, ◌∙◌}
 use Rattle.std.proofs.lemmas.Int.{to_z-of_z}
 use Rattle.fz_base.specs.declared.value.Value.{Value}
 use Rattle.fz_meaning.specs.Meaning.{give, value_at}
-use Rattle.fz_data.specs.Partial.{IsTabled, unset_count}
-use Rattle.fz_data.proofs.Tabled.{one_unset_less, still_tabled}
+use Rattle.fz_data.specs.Partial.{unset_count, values_of}
+use Rattle.fz_data.proofs.Tabled.{given, one_unset_less, same_room, still_tables}
 use Rattle.fz_data.proofs.partial.Partial.set.Goals as goal
 
 -- the fields' values are those that the clauses speak of
@@ -13,17 +13,23 @@ counted_down K J n v seen within none = one_unset_less K n v (subst (λ L. n < l
 pub overflow_sub-self : goal.overflow_sub-self
 overflow_sub-self c =
     let p = c.self.inside in
-    let less : unset_count p.values.items ≡ suc (unset_count (give p.values.items c.args.number c.args.value)) = counted_down p.values.items c.args.self.now c.args.number c.args.value c.self.view_is c.requires.in_range c.requires.unset in
-    omega (arith, c.self.invariant.2)
+    let less = counted_down (values_of p.sorts.items p.numbers.items p.sets.items) c.args.self.now c.args.number c.args.value c.self.view_is c.requires.in_range c.requires.unset in
+    omega (arith, c.self.invariant.2, less)
 
 pub invariant_of-self : goal.invariant_of-self
 invariant_of-self c =
     let p = c.self.inside in
     let fits : FitsSigned w64 c.number_of.result = search rules in
-    let less : unset_count p.values.items ≡ suc (unset_count (give p.values.items c.args.number c.args.value)) = counted_down p.values.items c.args.self.now c.args.number c.args.value c.self.view_is c.requires.in_range c.requires.unset in (
+    let less = counted_down (values_of p.sorts.items p.numbers.items p.sets.items) c.args.self.now c.args.number c.args.value c.self.view_is c.requires.in_range c.requires.unset in
+    let now = given p.sorts.items p.numbers.items p.sets.items c.args.number c.args.value c.self.invariant.1 in
+    rw (to_z-of_z, c.sort_of.ensures, c.number_of.ensures, c.keep_set.ensures.kept) (
       c.self.invariant.0,
-      rw (to_z-of_z, c.put.ensures.there)
-          (subst₂ (λ a b. IsTabled (slice_set p.values.items c.args.number (Some c.args.value)) (slice_set p.numbers.items c.args.number a) (slice_set p.truths.items c.args.number b) (slice_set p.given.items c.args.number true))
-          (sym c.number_of.ensures.read) (sym c.truth_of.ensures.read) (still_tabled p.values.items p.numbers.items p.truths.items p.given.items c.args.number c.args.value c.self.invariant.1)),
-      rw (c.put.ensures.there) (omega (arith, c.self.invariant.2, less)),
+      still_tables p.sorts.items p.numbers.items p.sets.items _ c.args.number (Some c.args.value) c.self.invariant.1 (same_room p.sets.items c.args.number c.args.value) now,
+      rw now (omega (arith, c.self.invariant.2, less)),
     )
+
+pub returns : goal.returns
+returns c =
+    let p = c.self.inside in
+    let fits : FitsSigned w64 c.number_of.result = search rules in
+    record { given = rw (to_z-of_z, c.sort_of.ensures, c.number_of.ensures, c.keep_set.ensures.kept) (given p.sorts.items p.numbers.items p.sets.items c.args.number c.args.value c.self.invariant.1 ∙ ap (λ K. give K c.args.number c.args.value) c.self.view_is) }

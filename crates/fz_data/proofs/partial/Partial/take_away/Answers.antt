@@ -1,9 +1,9 @@
-use Rattle.std.proofs.Common.{◌≡◌, ℕ, List, Option, arith, is_some, length, suc, sym, ap, true, ◌∙◌}
+use Rattle.std.proofs.Common.{◌≡◌, ℕ, List, Option, None, arith, is_some, length, suc, sym, ap, refl, true, ◌∙◌}
 use Rattle.std.proofs.lemmas.List.{length-map}
 use Rattle.fz_base.specs.declared.value.Value.{Value}
 use Rattle.fz_meaning.specs.Meaning.{value_at}
-use Rattle.fz_data.specs.Partial.{number_in, truth_in, unset_count, without}
-use Rattle.fz_data.proofs.Tabled.{has_place, none_taken, one_less_tabled, one_unset_more, unset_fit}
+use Rattle.fz_data.specs.Partial.{number_in, sort_in, unset_count, values_of, without}
+use Rattle.fz_data.proofs.Tabled.{has_place, none_taken, numbered, one_unset_more, still_tables, taken, unset_fit}
 use Rattle.fz_data.proofs.partial.Partial.take_away.Goals as goal
 
 -- it has a value
@@ -13,46 +13,46 @@ given K J n b seen is told = ap (λ L. is_some (value_at L n)) seen ∙ sym told
 pub overflow_add-self : goal.overflow_add-self
 overflow_add-self c =
     let p = c.self.inside in
-    let there = given p.values.items c.args.self.now c.args.number _ c.self.view_is c.if-has.true c.has.ensures.given in
-    let more = one_unset_more p.values.items c.args.number there in
-    let all = unset_fit p.values.items in
-    let place = has_place p.values.items c.args.number there in
-    omega (arith, c.self.invariant.2, p.values.ok.0)
+    let K = values_of p.sorts.items p.numbers.items p.sets.items in
+    let there = given K c.args.self.now c.args.number _ c.self.view_is c.if-has.true c.has.ensures.given in
+    let more = one_unset_more K c.args.number there in
+    let all = unset_fit K in
+    let as_long : length p.sorts.items ≡ length K = ap length c.self.invariant.1.sorts ∙ length-map K sort_in in
+    let place = has_place K c.args.number there in
+    omega (arith, c.self.invariant.2, p.sorts.ok.0, as_long, all)
 
 pub index_mut-requires : goal.index_mut-requires
 index_mut-requires c =
     let p = c.self.inside in
-    let place = has_place p.values.items c.args.number (given p.values.items c.args.self.now c.args.number _ c.self.view_is c.if-has.true c.has.ensures.given) in
-    let same : length p.numbers.items ≡ length p.values.items = ap length c.self.invariant.1.numbers ∙ length-map p.values.items number_in in
-    omega (arith, p.numbers.ok.0)
+    let K = values_of p.sorts.items p.numbers.items p.sets.items in
+    let place = has_place K c.args.number (given K c.args.self.now c.args.number _ c.self.view_is c.if-has.true c.has.ensures.given) in
+    let as_long : length p.sorts.items ≡ length K = ap length c.self.invariant.1.sorts ∙ length-map K sort_in in
+    omega (arith, p.sorts.ok.0, as_long, place)
 
 pub index_mut-requires-then-has : goal.index_mut-requires-then-has
 index_mut-requires-then-has c =
     let p = c.self.inside in
-    let place = has_place p.values.items c.args.number (given p.values.items c.args.self.now c.args.number _ c.self.view_is c.if-has.true c.has.ensures.given) in
-    let same : length p.truths.items ≡ length p.values.items = ap length c.self.invariant.1.truths ∙ length-map p.values.items truth_in in
-    omega (arith, p.truths.ok.0)
-
-pub index_mut-requires-then-has-2 : goal.index_mut-requires-then-has-2
-index_mut-requires-then-has-2 c =
-    let p = c.self.inside in
-    let place = has_place p.values.items c.args.number (given p.values.items c.args.self.now c.args.number _ c.self.view_is c.if-has.true c.has.ensures.given) in
-    let same : length p.given.items ≡ length p.values.items = ap length c.self.invariant.1.given ∙ length-map p.values.items is_some in
-    omega (arith, p.given.ok.0)
-
-pub index_mut-requires-then-has-3 : goal.index_mut-requires-then-has-3
-index_mut-requires-then-has-3 c =
-    let p = c.self.inside in
-    let place = has_place p.values.items c.args.number (given p.values.items c.args.self.now c.args.number _ c.self.view_is c.if-has.true c.has.ensures.given) in
-    omega (arith, p.values.ok.0)
+    let K = values_of p.sorts.items p.numbers.items p.sets.items in
+    let place = has_place K c.args.number (given K c.args.self.now c.args.number _ c.self.view_is c.if-has.true c.has.ensures.given) in
+    let as_long : length p.numbers.items ≡ length K = ap length c.self.invariant.1.numbers ∙ length-map K number_in in
+    omega (arith, p.numbers.ok.0, as_long, place)
 
 pub invariant_of-self : goal.invariant_of-self
 invariant_of-self c =
     let p = c.self.inside in
-    let there = given p.values.items c.args.self.now c.args.number _ c.self.view_is c.if-has.true c.has.ensures.given in
-    let more : unset_count (without p.values.items c.args.number) ≡ suc (unset_count p.values.items) = one_unset_more p.values.items c.args.number there in
-    rw (c.empty.ensures.gone)
-    (c.self.invariant.0, one_less_tabled p.values.items p.numbers.items p.truths.items p.given.items c.args.number c.self.invariant.1, omega (arith, c.self.invariant.2, more))
+    let K = values_of p.sorts.items p.numbers.items p.sets.items in
+    let there = given K c.args.self.now c.args.number _ c.self.view_is c.if-has.true c.has.ensures.given in
+    let more = one_unset_more K c.args.number there in
+    let now = taken p.sorts.items p.numbers.items p.sets.items c.args.number c.self.invariant.1 in (
+      c.self.invariant.0,
+      still_tables p.sorts.items p.numbers.items p.sets.items p.sets.items c.args.number None c.self.invariant.1 refl now,
+      rw now (omega (arith, c.self.invariant.2, more)),
+    )
+
+pub returns-then-has : goal.returns-then-has
+returns-then-has c =
+    let p = c.self.inside in
+    record { taken = taken p.sorts.items p.numbers.items p.sets.items c.args.number c.self.invariant.1 ∙ ap (λ K. without K c.args.number) c.self.view_is }
 
 pub returns-else-has : goal.returns-else-has
 returns-else-has c = record { taken = none_taken c.args.self.now c.args.number (sym c.has.ensures.given ∙ c.if-has.false) }
