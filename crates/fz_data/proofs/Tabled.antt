@@ -1,5 +1,5 @@
 -- The tables of sorts, numbers and sets of a partial assignment.
-use Rattle.std.proofs.Common.{◌≡◌, ℕ, ◌<◌, ◌≤◌, ℤ, pos, Bool, zero, suc, List, [], ◌∷◌, length, map, replicate, Option, None, Some, is_some, true, false, slice_index_or, slice_set, int_cmp, arith, refl, ap, sym, ◌∙◌}
+use Rattle.std.proofs.Common.{◌≡◌, ℕ, ◌<◌, ◌≤◌, ℤ, pos, zero, suc, List, [], ◌∷◌, length, map, replicate, Option, None, Some, is_some, true, false, slice_index_or, slice_set, int_cmp, arith, refl, ap, sym, ◌∙◌}
 use Rattle.std.specs.FinSet.{FinSet}
 use Rattle.std.proofs.lemmas.List.{length-map}
 use Rattle.fz_base.specs.declared.value.Value.{Value}

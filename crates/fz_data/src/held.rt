@@ -32,7 +32,7 @@ impl<'v> Held<'v> {
     /// The kind of the value. It takes no memory.
     #[inline]
     pub fn kind(self) -> Kind
-        ensures { result ≡ kind_of (held_value self) }
+        ensures { result ≡ kind_of (held_value self.entry) }
     {
         match self {
             Held::Int(_) => Kind::Int,
@@ -44,7 +44,7 @@ impl<'v> Held<'v> {
     /// Whether both have the same kind and are the same number, truth value or set. It takes no
     /// memory.
     pub fn equals(self, other: Held<'_>) -> bool
-        ensures { IsTrue result ↔ (held_value self ≡ held_value other) }
+        ensures { IsTrue result ↔ (held_value self.entry ≡ held_value other.entry) }
     {
         match (self, other) {
             (Held::Int(a), Held::Int(b)) => a == b,
@@ -56,7 +56,7 @@ impl<'v> Held<'v> {
 
     /// The value, to be kept elsewhere. It refuses only where memory runs out.
     pub fn copy(self, alloc: Global) -> Result<Value, AllocError>
-        ensures { IfOk result (λ v. v ≡ held_value self) }
+        ensures { IfOk result (λ v. v ≡ held_value self.entry) }
     {
         match self {
             Held::Int(number) => Ok(Value::Int(number)),

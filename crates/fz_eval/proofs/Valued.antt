@@ -36,9 +36,9 @@ use Rattle.fz_eval.proofs.States.{row_fits}
 
 -- ---- what was seen of a model's variables
 
-pub seen_inside : (m : Model) (K : Partial) (xs : List meaning.Variable) (L : Partial) (b : Bool) → xs ≡ variables_of m → L ≡ K → b ≡ lie_inside xs L → b ≡ true
+pub seen_inside : (m : Model) (K : Partial) (xs : List meaning.Variable) (b : Bool) → xs ≡ variables_of m → b ≡ lie_inside xs K → b ≡ true
     → lie_inside (variables_of m) K ≡ true
-seen_inside m K xs L b same same' is seen = sym (is ∙ (λ i. lie_inside (same i) (same' i))) ∙ seen
+seen_inside m K xs b same is seen = sym (is ∙ ap (λ ys. lie_inside ys K) same) ∙ seen
 
 -- ---- a variable's value
 
@@ -166,6 +166,11 @@ not_as_many [] [] h = absurd (h refl)
 not_as_many [] (o ∷ K) h = refl
 not_as_many (v ∷ vs) [] h = refl
 not_as_many (v ∷ vs) (o ∷ K) h = sym (and_false (has_own v o)) ∙ ap (λ b. has_own v o && b) (not_as_many vs K (λ e. h (ap suc e)))
+
+pub stands : (K : Partial) (k : ℕ) → k < length K → value_at K k ≡ get_or K k (value_at K k)
+stands [] k h = absurd (omega arith)
+stands (o ∷ K) zero h = refl
+stands (o ∷ K) (suc k) h = stands K k (omega (arith, h))
 
 module _ (vs : List Variable) (K : Partial) (k : ℕ) where
   module _ (v : Variable) (o : Option Value) (lt : k < length vs) (lt' : k < length K) (at : v ≡ get_or vs k v) (at' : o ≡ get_or K k o)

@@ -23,7 +23,7 @@ fn judged(holds: bool) -> State
 
 /// The state of a variable's domain, where it has this value.
 pub(crate) fn of_domain(domain: &Domain, value: Option<Held<'_>>) -> State
-    ensures { result ≡ judged_by (inside domain.now) (option_map held_value value) }
+    ensures { result ≡ judged_by (inside domain.now) (option_map held_value value.entry) }
 {
     match value {
         Some(value) => judged(is_inside(domain, value)),
@@ -33,7 +33,7 @@ pub(crate) fn of_domain(domain: &Domain, value: Option<Held<'_>>) -> State
 
 /// The state of a definition, where its sides have these values.
 pub(crate) fn of_definition(left: Option<Held<'_>>, right: Option<Held<'_>>) -> State
-    ensures { result ≡ judged_by (λ (v, w). same_value v w) (both (option_map held_value left) (option_map held_value right)) }
+    ensures { result ≡ judged_by (λ (v, w). same_value v w) (both (option_map held_value left.entry) (option_map held_value right.entry)) }
 {
     let Some(left) = left else {
         return State::NoValue;
@@ -97,7 +97,7 @@ fn has_value(partial: &Partial, scalar: Scalar<'_>) -> bool
 }
 
 fn is_same(left: Held<'_>, right: Held<'_>) -> bool
-    ensures { result ≡ same_value (held_value left) (held_value right) }
+    ensures { result ≡ same_value (held_value left.entry) (held_value right.entry) }
 {
     left.equals(right)
 }
@@ -105,7 +105,7 @@ fn is_same(left: Held<'_>, right: Held<'_>) -> bool
 /// Whether the value lies in the domain. No truth value lies in a domain with bounds.
 #[inline]
 pub(crate) fn is_inside(domain: &Domain, value: Held<'_>) -> bool
-    ensures { result ≡ inside domain.now (held_value value) }
+    ensures { result ≡ inside domain.now (held_value value.entry) }
 {
     match value {
         Held::Int(number) => admits(domain, number),

@@ -18,7 +18,7 @@ use fz_meaning::Domain;
 /// Whether the value is a number from one end to the other.
 #[inline]
 fn is_between(low: i64, high: i64, value: Held<'_>) -> bool
-    ensures { result ≡ (same_kind (kind_of (held_value value)) IntKind && inside (Within low high) (held_value value)) }
+    ensures { result ≡ (same_kind (kind_of (held_value value.entry)) IntKind && inside (Within low high) (held_value value.entry)) }
 {
     match value {
         Held::Int(number) => low <= number && number <= high,
@@ -30,7 +30,7 @@ fn is_between(low: i64, high: i64, value: Held<'_>) -> bool
 /// Whether the value is a set of numbers from one end to the other.
 #[inline]
 fn is_set_between(low: i64, high: i64, value: Held<'_>) -> bool
-    ensures { result ≡ (same_kind (kind_of (held_value value)) SetKind && inside (Within low high) (held_value value)) }
+    ensures { result ≡ (same_kind (kind_of (held_value value.entry)) SetKind && inside (Within low high) (held_value value.entry)) }
 {
     match value {
         Held::Set(set) => admits_each(&Domain::Within(low, high), set),
@@ -43,7 +43,7 @@ fn is_set_between(low: i64, high: i64, value: Held<'_>) -> bool
 #[inline]
 fn meets(bounds: &Bounds, variable: &Variable<'_>, value: Held<'_>) -> bool
     requires bounds { bounds.now ≡ bounds_of (variable_view variable.now) }
-    ensures { result ≡ (same_kind (kind_of (held_value value)) variable.now.kind && inside variable.now.domain (held_value value)) }
+    ensures { result ≡ (same_kind (kind_of (held_value value.entry)) variable.now.kind && inside variable.now.domain (held_value value.entry)) }
 {
     match bounds {
         Bounds::Any(kind) => same_kind(value.kind(), *kind),
@@ -59,7 +59,7 @@ fn meets(bounds: &Bounds, variable: &Variable<'_>, value: Held<'_>) -> bool
 #[inline]
 fn lies_inside(bounds: &Bounds, variable: &Variable<'_>, value: Option<Held<'_>>) -> bool
     requires bounds { bounds.now ≡ bounds_of (variable_view variable.now) }
-    ensures { result ≡ lies_inside (variable_view variable.now) (option_map held_value value) }
+    ensures { result ≡ lies_inside (variable_view variable.now) (option_map held_value value.entry) }
 {
     match value {
         Some(value) => meets(bounds, variable, value),

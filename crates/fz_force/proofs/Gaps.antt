@@ -45,9 +45,9 @@ module _ (m : Model) (K : Partial) (p : Point) (ps : List Point) (k : ℕ) (at :
   forces_nothing (Ok o) h = gives_nothing o h
 
 -- what is found to be none
-pub gone : {A : Type 0} (o : Option (Bor A)) (p : Option A) → false ≡ is_some o → option_map (λ x. x.now) o ≡ p → p ≡ None
-gone None p none e = sym e
-gone (Some x) p none e = no none
+pub gone : {A B : Type 0} (f : A → B) (o : Option A) (p : Option B) → false ≡ is_some o → option_map f o ≡ p → p ≡ None
+gone f None p none e = sym e
+gone f (Some x) p none e = no none
 
 pub nothing_there : {A : Type 0} (o : Option A) → false ≡ is_some o → o ≡ None
 nothing_there None e = refl

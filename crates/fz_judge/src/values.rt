@@ -56,7 +56,7 @@ pub(crate) fn is_of_literal(
     value: Held<'_>,
     literal: &LiteralKind,
 ) -> Result<bool, AllocError>
-    ensures { IfOk result (λ b. b ≡ same_value (held_value value) (literal_value (bare_literal_kind literal.now))) }
+    ensures { IfOk result (λ b. b ≡ same_value (held_value value.entry) (literal_value (bare_literal_kind literal.now))) }
 {
     match value {
         Held::Int(number) => Ok(is_number(number, literal)),

@@ -14,7 +14,7 @@ overflow_sub-declared c =
 
 pub declared_hold-requires-clause-inside : goal.declared_hold-requires-clause-inside
 declared_hold-requires-clause-inside c = λ inside.
-    seen_inside c.args.model.now c.args.partial.now _ _ _ c.variables.ensures.all c.values.ensures.all c.lie_inside-inside.ensures inside
+    seen_inside c.args.model.now c.args.partial.now _ _ c.variables.ensures.all c.lie_inside-inside.ensures inside
 
 pub declared_hold-requires-clause-counted : goal.declared_hold-requires-clause-counted
 declared_hold-requires-clause-counted c =
@@ -29,4 +29,4 @@ returns-then-not-branch c = record {
 
 pub rest_holds-requires-clause-whole : goal.rest_holds-requires-clause-whole
 rest_holds-requires-clause-whole c = λ inside.
-    seen_inside c.args.model.now c.args.partial.now _ _ _ c.variables.ensures.all c.values.ensures.all c.lie_inside-inside.ensures inside
+    seen_inside c.args.model.now c.args.partial.now _ _ c.variables.ensures.all c.lie_inside-inside.ensures inside

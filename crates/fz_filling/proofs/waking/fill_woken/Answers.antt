@@ -12,7 +12,7 @@ steps-init c = record {
   in_range = c.requires.in_range;
   fits = c.requires.fits;
   kept = kept_at_first c.args.model.now c.args.partial.now c.in_ok-watch.watch (c.in_ok-watch.ensures.pending ∙ ap (λ (n : ℕ). replicate n 1) c.points.ensures.counted)
-      (c.in_ok-watch.ensures.blocks ∙ ap (λ (n : ℕ). replicate (n / 512 + 1) 1) c.points.ensures.counted) (c.in_ok-watch.ensures.as_many ∙ ap length c.values.ensures.all) c.in_ok-watch.ensures.none_waits;
+      (c.in_ok-watch.ensures.blocks ∙ ap (λ (n : ℕ). replicate (n / 512 + 1) 1) c.points.ensures.counted) (c.in_ok-watch.ensures.as_many ∙ c.len.ensures) c.in_ok-watch.ensures.none_waits;
 }
 
 pub returns-in_default-clause-filled : goal.returns-in_default-clause-filled

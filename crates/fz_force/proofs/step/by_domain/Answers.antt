@@ -8,6 +8,6 @@ use Rattle.fz_force.proofs.step.by_domain.Goals as goal
 pub returns : goal.returns
 returns c =
     let fits : FitsSigned w64 c.in_ok-only.only = search rules in
-    let none = gone c.get.result _ c.if-is_some.ensures c.get.ensures.looked_up in
+    let none = gone _ c.get.result _ c.if-is_some.ensures c.get.ensures.looked_up in
     rw to_z-of_z
     (λ m partial own. domain_forces m c.args.partial.now partial (variable_view c.args.variable.now) c.args.number c.in_ok-only.only own (c.if-not-is_int.ensures.0 refl) none fits c.in_ok-only.ensures.exact)

@@ -1,6 +1,5 @@
-use Rattle.std.proofs.Common.{◌≡◌, None, Option, arith, ap, length, map, sym, ◌∙◌}
+use Rattle.std.proofs.Common.{◌≡◌, None, arith, ap, length, map, sym, ◌∙◌}
 use Rattle.std.proofs.lemmas.List.{length-map}
-use Rattle.fz_base.specs.declared.value.Value.{Value}
 use Rattle.fz_data.specs.Partial.{number_in, sort_in, unset_count, values_of}
 use Rattle.fz_data.proofs.Tabled.{all_unset, no_values, none_tabled}
 use Rattle.fz_data.proofs.partial.Partial.clear.Goals as goal

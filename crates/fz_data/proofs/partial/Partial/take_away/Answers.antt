@@ -1,9 +1,9 @@
-use Rattle.std.proofs.Common.{◌≡◌, ℕ, List, Option, None, arith, is_some, length, suc, sym, ap, refl, true, ◌∙◌}
+use Rattle.std.proofs.Common.{◌≡◌, ℕ, List, Option, None, arith, is_some, length, sym, ap, refl, true, ◌∙◌}
 use Rattle.std.proofs.lemmas.List.{length-map}
 use Rattle.fz_base.specs.declared.value.Value.{Value}
 use Rattle.fz_meaning.specs.Meaning.{value_at}
-use Rattle.fz_data.specs.Partial.{number_in, sort_in, unset_count, values_of, without}
-use Rattle.fz_data.proofs.Tabled.{has_place, none_taken, numbered, one_unset_more, still_tables, taken, unset_fit}
+use Rattle.fz_data.specs.Partial.{number_in, sort_in, values_of, without}
+use Rattle.fz_data.proofs.Tabled.{has_place, none_taken, one_unset_more, still_tables, taken, unset_fit}
 use Rattle.fz_data.proofs.partial.Partial.take_away.Goals as goal
 
 -- it has a value
