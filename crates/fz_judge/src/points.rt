@@ -28,7 +28,7 @@ fn fault_named(point: Point<'_>) -> Fault<'_>
 fn first_unset<'a>(variables: &[Variable<'a>], partial: &Partial) -> &'a [u8]
     ensures { result.now ≡ first_unset (map variable_view variables.now) partial.now }
 {
-    for number in 0..variables.len() {
+    for number in 0..variables.len().min(partial.len()) {
         if !partial.has(number) {
             return variables[number].name;
         }

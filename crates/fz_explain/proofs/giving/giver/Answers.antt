@@ -1,5 +1,6 @@
 use Rattle.std.proofs.Common.{◌<◌, ◌∙◌, length, subst, sym, ap}
 use Rattle.fz_model.specs.Meaning.{IsPartial, give, value_at}
+use Rattle.fz_model.specs.Held.{held_value}
 use Rattle.fz_explain.proofs.Steps.{given_back, less_fits, none_there, still_long}
 use Rattle.fz_explain.proofs.giving.giver.Goals as goal
 
@@ -8,7 +9,7 @@ first_giver-found-requires c = record { fits = subst (IsPartial c.args.model.now
 
 pub set-requires-clause-in_range : goal.set-requires-clause-in_range
 set-requires-clause-in_range c =
-    let less = still_long c.args.filling.now c.args.variable c.in-Some.value.now (sym c.in-Some.ensures.looked_up) in
+    let less = still_long c.args.filling.now c.args.variable (held_value c.in-Some.value) (sym c.in-Some.ensures.looked_up) in
     subst (λ K. c.args.variable < length K) (sym c.take_away.ensures.taken) less
 
 pub set-requires-clause-unset : goal.set-requires-clause-unset
@@ -17,4 +18,4 @@ set-requires-clause-unset c = ap (λ K. value_at K c.args.variable) c.take_away.
 pub returns-clause-same : goal.returns-clause-same
 returns-clause-same c =
     c.set.ensures.given ∙ (λ i. give (c.take_away.ensures.taken i) c.args.variable (c.in_ok-value-in-Some.ensures i))
-    ∙ given_back c.args.filling.now c.args.variable c.in-Some.value.now (sym c.in-Some.ensures.looked_up)
+    ∙ given_back c.args.filling.now c.args.variable (held_value c.in-Some.value) (sym c.in-Some.ensures.looked_up)

@@ -1,16 +1,29 @@
-use Rattle.std.proofs.Common.{◌≡◌, List, [], ◌∷◌, length, map, refl, sym, ◌∙◌}
-use Rattle.std.proofs.lemmas.Slice.Zip.{zip_end}
-use Rattle.fz_model.specs.declared.Variable.{Variable}
-use Rattle.fz_model.specs.Parts.{variable_view}
-use Rattle.fz_verdict.specs.Verdict.{first_unset}
-use Rattle.fz_judge.proofs.Lists.{both_end}
+use Rattle.std.proofs.Common.{◌≡◌, ◌<◌, ◌≤◌, add-one, ap, arith, length, min, sym, ◌∙◌}
+use Rattle.fz_judge.proofs.Unset.{none_here, none_left, one_here}
 use Rattle.fz_judge.proofs.points.first_unset.Goals as goal
 
-no_values : (xs : List Variable) → first_unset (map variable_view xs) [] ≡ []
-no_values [] = refl
-no_values (x ∷ xs) = refl
+pub returns-then-not-has : goal.returns-then-not-has
+returns-then-not-has c =
+    let n = c.loop-number.number in
+    let xs = c.args.variables.now in
+    let K = c.args.partial.now in
+    let lt : n < length xs = omega (arith, c.loop-number-test.true, c.min-number-end.ensures) in
+    let lt' : n < length K = omega (arith, c.loop-number-test.true, c.min-number-end.ensures, c.len.ensures) in
+    let here = none_here xs K n c.index-variables-number.result lt lt' c.index-variables-number.is (sym c.has.ensures.given ∙ c.if-not-has.true) in
+    ap (λ z. z.name.now) (sym c.index-variables-number.is) ∙ here ∙ sym c.loop-number.invariant
+
+pub loop-number-preserved : goal.loop-number-preserved
+loop-number-preserved c =
+    let n = c.loop-number.number in
+    let xs = c.args.variables.now in
+    let K = c.args.partial.now in
+    let lt : n < length xs = omega (arith, c.loop-number-test.true, c.min-number-end.ensures) in
+    let lt' : n < length K = omega (arith, c.loop-number-test.true, c.min-number-end.ensures, c.len.ensures) in
+    c.loop-number.invariant ∙ rw add-one (one_here xs K n lt lt' (sym c.has.ensures.given ∙ c.if-not-has.false))
 
 pub returns : goal.returns
 returns c =
-    let e = zip_end c.args.variables.now c.args.values.now c.loop-variable.yielded c.into_iter-variable-iterator.result c.loop-variable.variable-iterator c.next.new.self c.next.result (cc) (cc) c.loop-variable.yielded_by c.in-None.is c.next.ensures.steps in
-    sym (c.loop-variable.invariant ∙ both_end (λ (xs : List Variable) K. first_unset (map variable_view xs) K) [] (λ K. refl) no_values c.args.variables.now c.args.values.now (length c.loop-variable.yielded) e)
+    let xs = c.args.variables.now in
+    let K = c.args.partial.now in
+    let past : min (length xs) (length K) ≤ c.loop-number.number = omega (arith, c.loop-number-test.false, c.min-number-end.ensures, c.len.ensures) in
+    none_left xs K c.loop-number.number past ∙ sym c.loop-number.invariant

@@ -1,7 +1,6 @@
-use Rattle.std.proofs.Common.{◌≡◌, drop, length, map}
-use Rattle.fz_model.specs.Parts.{variable_view}
-use Rattle.fz_verdict.specs.Verdict.{first_unset}
+use Rattle.std.proofs.Common.{◌≡◌, drop}
+use Rattle.fz_judge.proofs.Unset.{first}
 use Rattle.fz_judge.proofs.points.first_unset.Given as goal
 
-abbrev pub invariant-loop-variable : goal.invariant-loop-variable
-invariant-loop-variable l = first_unset (map variable_view l.variables) l.values ≡ first_unset (map variable_view (drop (length l.yielded) l.variables)) (drop (length l.yielded) l.values)
+abbrev pub invariant-loop-number : goal.invariant-loop-number
+invariant-loop-number l = first l.variables l.partial ≡ first (drop l.number l.variables) (drop l.number l.partial)
