@@ -1,4 +1,4 @@
-use Rattle.std.proofs.Common.{◌≡◌, ◌∙◌, sym, ap, subst}
+use Rattle.std.proofs.Common.{◌≡◌, ◌∙◌, sym, ap, rules, subst}
 use Rattle.fz_judge.specs.Judged.{JudgeState}
 use Rattle.fz_judge.specs.Working.{HasRoom}
 use Rattle.fz_judge.proofs.Starting.{has_room}
@@ -10,3 +10,10 @@ invariant_of-self-2 c =
     let same : c.match-self.self.model ≡ c.self.inside.model.now = elim c.match-self.branch [ in-Off w ↦ ap (λ (s : JudgeState). s.model) w.self-is | in-On+in_ok-verdict-in-On w ↦ ap (λ (s : JudgeState). s.model) (w.self-is ∙ w.completed.ensures.same) ] in
     let later : c.self-2.inside.model.now ≡ c.self.inside.model.now = ap (λ (s : JudgeState). s.model) c.self-2.view_is ∙ same in
     (c.self-2.invariant.0, c.self-2.invariant.1, subst (λ m. HasRoom m c.in_ok-filling.filling.partial) (sym later) (has_room c.self.inside.model.now c.in_ok-filling.filling.partial c.in_ok-filling.ensures.kinds))
+
+pub returns-clause-judged : goal.returns-clause-judged
+returns-clause-judged c =
+    elim c.match-self.branch [
+      | in-Off w ↦ record { filling = c.in_ok-filling.filling.partial; is_filled = search rules; told = search rules; kept_is = search rules }
+      | in-On+in_ok-verdict-in-On w ↦ record { filling = c.in_ok-filling.filling.partial; is_filled = search rules; told = search rules; kept_is = search rules }
+    ]
