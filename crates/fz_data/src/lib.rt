@@ -5,8 +5,8 @@
 mod declaring;
 mod error;
 mod found;
-mod held;
 mod hashing;
+mod held;
 mod loading;
 mod model;
 mod names;
@@ -23,9 +23,9 @@ mod values;
 
 pub use error::LoadError;
 pub use found::{Found, Scalars, What};
+pub use held::Held;
 pub use loading::load;
 pub use model::Model;
-pub use held::Held;
 pub use partial::Partial;
 pub use parts::{Array, Goal, Posted, ScalarList, Variable};
 pub use point::{ConstraintParts, Constraints, Point, PointParts};

@@ -1,5 +1,5 @@
 -- From readiness and outcome to the state of a constraint.
-use Rattle.std.proofs.Common.{◌≡◌, Bool, true, false, not, ◌&&◌, ◌||◌, List, map, [], ◌∷◌, Option, Some, None, cond, refl, sym, ap, ◌∙◌}
+use Rattle.std.proofs.Common.{◌≡◌, Bool, true, false, ◌&&◌, ◌||◌, List, map, [], ◌∷◌, Option, Some, None, cond, refl, sym, ap, ◌∙◌}
 use Rattle.std.specs.Prelude.{is_some, find, bytes_eq}
 use Rattle.std.specs.List.{list_all, list_any}
 use Rattle.fz_meaning.specs.declared.state.State.{State}
@@ -8,7 +8,6 @@ use Rattle.fz_meaning.specs.declared.state.State.TheVariants.{Holds, Fails, NoVa
 use Rattle.fz_meaning.specs.Builtins.{Row, ArgValue, builtins, row_at, rows}
 use Rattle.fz_meaning.specs.Meaning.{Argument, Partial, Posted, argument_values, fits, have_shapes, judged, judged_by, row_holds, row_of, state_of_row, state_of_values, sums_leave, values}
 use Rattle.fz_meaning.proofs.Values.{no, no', and_first, and_second}
-use Rattle.fz_meaning.specs.declared.builtin.Builtin.{Builtin}
 use Rattle.fz_meaning.specs.declared.known.Form.{Form}
 use Rattle.fz_meaning.specs.declared.known.Form.TheVariants.{Base, Reified, Implied}
 use Rattle.fz_meaning.specs.declared.known.Known.{Known}

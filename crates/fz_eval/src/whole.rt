@@ -68,11 +68,7 @@ fn lies_inside(bounds: &Bounds, variable: &Variable<'_>, value: Option<Held<'_>>
 }
 
 /// Whether every variable has a value of its kind that lies in its domain, and there are no other values.
-pub(crate) fn lie_inside(
-    bounds: &[Bounds],
-    variables: &[Variable<'_>],
-    partial: &Partial,
-) -> bool
+pub(crate) fn lie_inside(bounds: &[Bounds], variables: &[Variable<'_>], partial: &Partial) -> bool
     requires bounds { bounds.now ≡ map bounds_of (map variable_view variables.now) }
     ensures { result ≡ lie_inside (map variable_view variables.now) partial.now }
 {

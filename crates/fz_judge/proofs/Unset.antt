@@ -1,5 +1,5 @@
 -- The first variable without a value, looked for one after another.
-use Rattle.std.proofs.Common.{◌≡◌, ◌<◌, ◌≤◌, ℕ, zero, suc, List, [], ◌∷◌, Some, None, true, false, drop, get_or, is_some, length, map, min, refl, sym, ap, arith}
+use Rattle.std.proofs.Common.{◌≡◌, ◌<◌, ◌≤◌, ℕ, zero, suc, List, [], ◌∷◌, Some, None, true, false, drop, get_or, is_some, length, map, min, refl, ap, arith}
 use Rattle.fz_model.specs.declared.Variable.{Variable}
 use Rattle.fz_model.specs.Meaning.{Partial, value_at}
 use Rattle.fz_model.specs.Parts.{variable_view}

@@ -10,7 +10,9 @@ ghost use Rattle.fz_judge.specs.View.{fault_view, reason_view, verdict_view};
 ghost use Rattle.fz_judge.specs.Working.{holds, is_failed, reason_named};
 
 use crate::verdict::{Fault, Reason, Verdict};
-use fz_model::{Goal, Held, Model, Overview, Partial, Point, State, Term, Variable, all_hold, state};
+use fz_model::{
+    Goal, Held, Model, Overview, Partial, Point, State, Term, Variable, all_hold, state,
+};
 use std::alloc::{AllocError, Global};
 
 /// The fault of a point that fails.

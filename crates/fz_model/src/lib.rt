@@ -5,9 +5,9 @@
 #![tactic(auto)]
 
 pub use fz_force::fz_data::{
-    Argument, Array, ConstraintParts, Constraints, Found, Goal, Held, LoadError, Model, Partial, Point,
-    PointParts, Posted, Scalar, ScalarList, Scalars, Segment, Slot, Store, Variable, What, item_at,
-    literal_kind, literal_value, load, load_text, part, same_kind, scalar_at,
+    Argument, Array, ConstraintParts, Constraints, Found, Goal, Held, LoadError, Model, Partial,
+    Point, PointParts, Posted, Scalar, ScalarList, Scalars, Segment, Slot, Store, Variable, What,
+    item_at, literal_kind, literal_value, load, load_text, part, same_kind, scalar_at,
 };
 pub use fz_force::fz_eval::{Overview, all_hold, state};
 pub use fz_force::{forced, only_number};

@@ -1,4 +1,4 @@
-use Rattle.std.proofs.Common.{◌≡◌, ◌<◌, ◌≤◌, add-one, ap, arith, length, min, sym, ◌∙◌}
+use Rattle.std.proofs.Common.{◌<◌, ◌≤◌, add-one, ap, arith, length, min, sym, ◌∙◌}
 use Rattle.fz_judge.proofs.Unset.{none_here, none_left, one_here}
 use Rattle.fz_judge.proofs.points.first_unset.Goals as goal
 

@@ -1,4 +1,4 @@
-use Rattle.std.proofs.Common.{None, option_and_then, sym, ap, ◌∙◌}
+use Rattle.std.proofs.Common.{option_and_then, sym, ap, ◌∙◌}
 use Rattle.fz_scene.specs.Given.{bool_of}
 use Rattle.fz_scene.specs.Views.{assigned, slot_read}
 use Rattle.fz_scene.proofs.scene.Scene.truth.Goals as goal
