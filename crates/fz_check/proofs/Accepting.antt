@@ -15,12 +15,12 @@ use Rattle.fz_verdict.specs.View.{located_block}
 use Rattle.fz_verdict.proofs.Accepted.{accepted_solves}
 use Rattle.fz_verdict.proofs.Completing.{accepted_judged, told_lengths}
 use Rattle.fz_verdict.proofs.Places.{blocks_are_bare}
-use Rattle.fz_live.specs.of_judge.declared.verdict.Verdict as the_verdict
-use Rattle.fz_live.specs.of_judge.View.{verdict_view}
-use Rattle.fz_live.specs.declared.line.Answer as the_answer
-use Rattle.fz_live.specs.declared.line.Answer.TheVariants as answers
+use Rattle.fz_streaming.specs.of_judge.declared.verdict.Verdict as the_verdict
+use Rattle.fz_streaming.specs.of_judge.View.{verdict_view}
+use Rattle.fz_streaming.specs.declared.line.Answer as the_answer
+use Rattle.fz_streaming.specs.declared.line.Answer.TheVariants as answers
 use Rattle.fz_check.specs.Headline.{HasSolutions}
-use Rattle.fz_live.specs.View.{answer_view}
+use Rattle.fz_streaming.specs.View.{answer_view}
 
 -- an accepted stream has solutions
 pub accepted_solved : (completion : Completion) (model stream : List ℕ) (m : Model) → IsLoadedFrom model m

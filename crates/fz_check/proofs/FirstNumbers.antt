@@ -2,8 +2,8 @@
 use Rattle.std.proofs.Common.{◌≡◌, ℕ, suc, ◌+◌, ◌<◌, Bool, true, false, cond, List, [], ◌∷◌, ◌++◌, length, map, take, drop, get_or, Some, None, sym, ap, ◌∙◌, arith}
 use Rattle.std.proofs.lemmas.List.{take_more, drop_more, take-append-drop, map-append, length-map, length-take}
 use Rattle.fz_verdict.specs.Verdict.{Verdict, first_number}
-use Rattle.fz_live.specs.of_judge.declared.verdict.Verdict as the_verdict
-use Rattle.fz_live.specs.of_judge.View.{verdict_view}
+use Rattle.fz_streaming.specs.of_judge.declared.verdict.Verdict as the_verdict
+use Rattle.fz_streaming.specs.of_judge.View.{verdict_view}
 
 -- where the front has none, the search goes on behind it
 skip : (n : ℕ) (is : Verdict → Bool) (xs ys : List Verdict) → first_number n is xs ≡ None → first_number n is (xs ++ ys) ≡ first_number (length xs + n) is ys

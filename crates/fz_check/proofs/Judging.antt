@@ -10,12 +10,12 @@ use Rattle.fz_verdict.specs.declared.completion.Completion.TheVariants.{Off}
 use Rattle.fz_verdict.specs.Completed.{AreVerdicts}
 use Rattle.fz_verdict.specs.View.{located_block}
 use Rattle.fz_verdict.proofs.Loops.{GoesOn, goes_on_at_first, goes_on_after, goes_on_judged}
-use Rattle.fz_live.proofs.TellingLemmas.{IsJudgedAs, judged_as}
-use Rattle.fz_live.specs.of_judge.Judged.{JudgeState, IsJudged, IsBlockRefusal}
-use Rattle.fz_live.specs.of_judge.View.{verdict_view}
-use Rattle.fz_live.specs.of_judge.declared.error.BlockError.{BlockError}
-use Rattle.fz_live.specs.of_judge.declared.error.BlockError.TheVariants as block
-use Rattle.fz_live.specs.of_judge.declared.verdict.Verdict as the_verdict
+use Rattle.fz_streaming.proofs.TellingLemmas.{IsJudgedAs, judged_as}
+use Rattle.fz_streaming.specs.of_judge.Judged.{JudgeState, IsJudged, IsBlockRefusal}
+use Rattle.fz_streaming.specs.of_judge.View.{verdict_view}
+use Rattle.fz_streaming.specs.of_judge.declared.error.BlockError.{BlockError}
+use Rattle.fz_streaming.specs.of_judge.declared.error.BlockError.TheVariants as block
+use Rattle.fz_streaming.specs.of_judge.declared.verdict.Verdict as the_verdict
 use Rattle.fz_check.specs.declared.error.CheckError.TheVariants as errors
 use Rattle.fz_check.specs.Loading.{block_refusal}
 use Rattle.fz_check.specs.Refused.{IsFirstFault}

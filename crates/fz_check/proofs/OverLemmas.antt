@@ -14,16 +14,16 @@ use Rattle.fz_verdict.specs.Report.{IsReport}
 use Rattle.fz_verdict.specs.View.{located_block}
 use Rattle.fz_verdict.proofs.Accepted.{accepted_solves}
 use Rattle.fz_verdict.proofs.Completing.{accepted_judged}
-use Rattle.fz_live.specs.of_judge.declared.error.BlockError.{BlockError}
-use Rattle.fz_live.specs.declared.error.LiveError.{LiveError}
-use Rattle.fz_live.specs.declared.error.LiveError.TheVariants as live
-use Rattle.fz_live.specs.declared.line.Answer as the_answer
-use Rattle.fz_live.specs.declared.line.Answer.TheVariants as answers
-use Rattle.fz_live.specs.Live.{IsAnswered}
-use Rattle.fz_live.specs.View.{answer_view}
+use Rattle.fz_streaming.specs.of_judge.declared.error.BlockError.{BlockError}
+use Rattle.fz_streaming.specs.declared.error.StreamingError.{StreamingError}
+use Rattle.fz_streaming.specs.declared.error.StreamingError.TheVariants as streaming
+use Rattle.fz_streaming.specs.declared.line.Answer as the_answer
+use Rattle.fz_streaming.specs.declared.line.Answer.TheVariants as answers
+use Rattle.fz_streaming.specs.Streaming.{IsAnswered}
+use Rattle.fz_streaming.specs.View.{answer_view}
 use Rattle.fz_check.specs.declared.error.CheckError.TheVariants as errors
 use Rattle.fz_check.specs.Headline.{HasSolutions}
-use Rattle.fz_check.specs.Loading.{live_refusal}
+use Rattle.fz_check.specs.Loading.{streaming_refusal}
 use Rattle.fz_check.specs.Over.{HoldsOfModel, HoldsOfStream, IsOfModel, IsReportedTo}
 use Rattle.fz_check.specs.Reported.{Checked}
 use Rattle.fz_check.proofs.Reporting.{borne_out}
@@ -93,44 +93,44 @@ module _ (model : List ℕ) (m : Model) (loaded : IsLoadedFrom model m) where
 
 -- ---- which error was met
 
-pub told_model : (e : LiveError) (told : SyntaxError) → live_refusal e ≡ errors.Model told → ⊥
-told_model live.Read told h = cc
-told_model live.Write told h = cc
-told_model (live.Stream f) told h = cc
-told_model (live.Block n f) told h = cc
-told_model live.Memory told h = cc
+pub told_model : (e : StreamingError) (told : SyntaxError) → streaming_refusal e ≡ errors.Model told → ⊥
+told_model streaming.Read told h = cc
+told_model streaming.Write told h = cc
+told_model (streaming.Stream f) told h = cc
+told_model (streaming.Block n f) told h = cc
+told_model streaming.Memory told h = cc
 
-pub told_names : (e : LiveError) (told : ModelError) → live_refusal e ≡ errors.Names told → ⊥
-told_names live.Read told h = cc
-told_names live.Write told h = cc
-told_names (live.Stream f) told h = cc
-told_names (live.Block n f) told h = cc
-told_names live.Memory told h = cc
+pub told_names : (e : StreamingError) (told : ModelError) → streaming_refusal e ≡ errors.Names told → ⊥
+told_names streaming.Read told h = cc
+told_names streaming.Write told h = cc
+told_names (streaming.Stream f) told h = cc
+told_names (streaming.Block n f) told h = cc
+told_names streaming.Memory told h = cc
 
-pub told_stream : (e : LiveError) (told : StreamError) → live_refusal e ≡ errors.Stream told → e ≡ live.Stream told
-told_stream live.Read told h = cc
-told_stream live.Write told h = cc
-told_stream (live.Stream f) told h = cc
-told_stream (live.Block n f) told h = cc
-told_stream live.Memory told h = cc
+pub told_stream : (e : StreamingError) (told : StreamError) → streaming_refusal e ≡ errors.Stream told → e ≡ streaming.Stream told
+told_stream streaming.Read told h = cc
+told_stream streaming.Write told h = cc
+told_stream (streaming.Stream f) told h = cc
+told_stream (streaming.Block n f) told h = cc
+told_stream streaming.Memory told h = cc
 
-pub told_block : (e : LiveError) (number : ℕ) (told : BlockError) → live_refusal e ≡ errors.Block number told → e ≡ live.Block number told
-told_block live.Read number told h = cc
-told_block live.Write number told h = cc
-told_block (live.Stream f) number told h = cc
-told_block (live.Block n f) number told h = cc
-told_block live.Memory number told h = cc
+pub told_block : (e : StreamingError) (number : ℕ) (told : BlockError) → streaming_refusal e ≡ errors.Block number told → e ≡ streaming.Block number told
+told_block streaming.Read number told h = cc
+told_block streaming.Write number told h = cc
+told_block (streaming.Stream f) number told h = cc
+told_block (streaming.Block n f) number told h = cc
+told_block streaming.Memory number told h = cc
 
-pub told_read : (e : LiveError) → live_refusal e ≡ errors.Read → e ≡ live.Read
-told_read live.Read h = refl
-told_read live.Write h = cc
-told_read (live.Stream f) h = cc
-told_read (live.Block n f) h = cc
-told_read live.Memory h = cc
+pub told_read : (e : StreamingError) → streaming_refusal e ≡ errors.Read → e ≡ streaming.Read
+told_read streaming.Read h = refl
+told_read streaming.Write h = cc
+told_read (streaming.Stream f) h = cc
+told_read (streaming.Block n f) h = cc
+told_read streaming.Memory h = cc
 
-pub never_of_model : (e : LiveError) → IsOfModel (live_refusal e) → ⊥
-never_of_model live.Read h = h
-never_of_model live.Write h = h
-never_of_model (live.Stream f) h = h
-never_of_model (live.Block n f) h = h
-never_of_model live.Memory h = h
+pub never_of_model : (e : StreamingError) → IsOfModel (streaming_refusal e) → ⊥
+never_of_model streaming.Read h = h
+never_of_model streaming.Write h = h
+never_of_model (streaming.Stream f) h = h
+never_of_model (streaming.Block n f) h = h
+never_of_model streaming.Memory h = h

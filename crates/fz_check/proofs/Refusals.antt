@@ -27,7 +27,7 @@ use Rattle.fz_model.specs.Names.{IsInReadingOrder}
 use Rattle.fz_model.specs.Texts.{IsLoadedFrom}
 use Rattle.fz_model.specs.View.{TellsFirstFault, located}
 use Rattle.fz_model.proofs.Reading.{in_reading_order}
-use Rattle.fz_live.specs.of_judge.declared.error.BlockError.{BlockError}
+use Rattle.fz_streaming.specs.of_judge.declared.error.BlockError.{BlockError}
 use Rattle.fz_check.proofs.Reporting.{checked}
 use Rattle.fz_check.specs.Refused.{HasBlockFault, HasNameFault, HasStreamFault, HasTextFault, IsBroken, IsFirstFault}
 use Rattle.fz_check.specs.declared.error.CheckError.{CheckError}

@@ -7,8 +7,8 @@ use Rattle.fz_stream.specs.declared.reading.Claim.{Claim}
 use Rattle.fz_stream.specs.Found.{AreInOrder}
 use Rattle.fz_verdict.specs.Report.{block_line, claim_line, claim_lines, lines_from, text_of_lines}
 use Rattle.fz_verdict.specs.Verdict.{Verdict}
-use Rattle.fz_live.specs.of_judge.declared.verdict.Verdict as the_verdict
-use Rattle.fz_live.specs.of_judge.View.{verdict_view}
+use Rattle.fz_streaming.specs.of_judge.declared.verdict.Verdict as the_verdict
+use Rattle.fz_streaming.specs.of_judge.View.{verdict_view}
 use Rattle.fz_check.specs.Lines.{BeginsElsewhere, IsPushing, IsPushed, IsWritten}
 
 -- ---- the claims at the front

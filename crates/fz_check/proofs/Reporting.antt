@@ -16,11 +16,11 @@ use Rattle.fz_verdict.specs.Verdict.Verdict.{Violated}
 use Rattle.fz_verdict.specs.View.{located_block}
 use Rattle.fz_verdict.proofs.Each.{each_satisfied, each_violated, each_not_better}
 use Rattle.fz_verdict.proofs.Places.{blocks_are_bare}
-use Rattle.fz_live.specs.of_judge.declared.verdict.Verdict as the_verdict
-use Rattle.fz_live.specs.of_judge.View.{verdict_view}
-use Rattle.fz_live.specs.declared.line.Answer as the_answer
+use Rattle.fz_streaming.specs.of_judge.declared.verdict.Verdict as the_verdict
+use Rattle.fz_streaming.specs.of_judge.View.{verdict_view}
+use Rattle.fz_streaming.specs.declared.line.Answer as the_answer
 use Rattle.fz_check.specs.Reported.{Checked, HasReport, AreBorneOut}
-use Rattle.fz_live.specs.View.{answer_view}
+use Rattle.fz_streaming.specs.View.{answer_view}
 
 abbrev pub checked : (model stream : List ℕ) (m : Model) → IsLoadedFrom model m → (bs : List the_block.Block) (cs : List Claim) → IsReadAs stream (map block_of bs) cs → AllByRecursion HasPlaces bs → Checked model stream
 checked model stream m loaded bs cs read places = record {

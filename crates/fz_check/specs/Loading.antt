@@ -6,10 +6,10 @@ use Rattle.fz_model.specs.declared.ModelError.{ModelError}
 use Rattle.fz_model.specs.declared.ModelError.TheVariants as names
 use Rattle.fz_stream.specs.declared.error.StreamError.{StreamError}
 use Rattle.fz_stream.specs.declared.error.StreamError.TheVariants as stream
-use Rattle.fz_live.specs.of_judge.declared.error.BlockError.{BlockError}
-use Rattle.fz_live.specs.of_judge.declared.error.BlockError.TheVariants as block
-use Rattle.fz_live.specs.declared.error.LiveError.{LiveError}
-use Rattle.fz_live.specs.declared.error.LiveError.TheVariants as live
+use Rattle.fz_streaming.specs.of_judge.declared.error.BlockError.{BlockError}
+use Rattle.fz_streaming.specs.of_judge.declared.error.BlockError.TheVariants as block
+use Rattle.fz_streaming.specs.declared.error.StreamingError.{StreamingError}
+use Rattle.fz_streaming.specs.declared.error.StreamingError.TheVariants as streaming
 use Rattle.fz_check.specs.declared.error.CheckError.{CheckError}
 use Rattle.fz_check.specs.declared.error.CheckError.TheVariants as errors
 
@@ -65,9 +65,9 @@ abbrev pub block_refusal : ℕ → BlockError → CheckError
 block_refusal number block.Memory = errors.Memory
 block_refusal number e = errors.Block number e
 
-abbrev pub live_refusal : LiveError → CheckError
-live_refusal live.Read = errors.Read
-live_refusal live.Write = errors.Write
-live_refusal (live.Stream e) = errors.Stream e
-live_refusal (live.Block n e) = errors.Block n e
-live_refusal live.Memory = errors.Memory
+abbrev pub streaming_refusal : StreamingError → CheckError
+streaming_refusal streaming.Read = errors.Read
+streaming_refusal streaming.Write = errors.Write
+streaming_refusal (streaming.Stream e) = errors.Stream e
+streaming_refusal (streaming.Block n e) = errors.Block n e
+streaming_refusal streaming.Memory = errors.Memory

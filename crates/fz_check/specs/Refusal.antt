@@ -7,12 +7,12 @@ use Rattle.fz_model.specs.declared.ModelError.{ModelError}
 use Rattle.fz_model.specs.declared.ModelError.TheVariants as model
 use Rattle.fz_stream.specs.declared.error.StreamError.{StreamError}
 use Rattle.fz_stream.specs.declared.error.StreamError.TheVariants as stream
-use Rattle.fz_live.specs.of_judge.declared.error.BlockError.{BlockError}
-use Rattle.fz_live.specs.of_judge.declared.error.BlockError.TheVariants as block
+use Rattle.fz_streaming.specs.of_judge.declared.error.BlockError.{BlockError}
+use Rattle.fz_streaming.specs.of_judge.declared.error.BlockError.TheVariants as block
 use Rattle.fz_check.specs.declared.error.CheckError.{CheckError}
 use Rattle.fz_check.specs.declared.error.CheckError.TheVariants as errors
-use Rattle.fz_live.specs.declared.line.Answer.{Answer}
-use Rattle.fz_live.specs.declared.line.Answer.TheVariants as answers
+use Rattle.fz_streaming.specs.declared.line.Answer.{Answer}
+use Rattle.fz_streaming.specs.declared.line.Answer.TheVariants as answers
 
 -- the name of a fault, and its place where it has one
 pub record Named : Type 0 where

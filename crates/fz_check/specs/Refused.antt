@@ -20,9 +20,9 @@ use Rattle.fz_model.specs.declared.ModelError.{ModelError}
 use Rattle.fz_model.specs.declared.ModelError.TheVariants.{Memory as NameMemory}
 use Rattle.fz_verdict.specs.Blocks.{block_fault}
 use Rattle.fz_verdict.specs.View.{located_block}
-use Rattle.fz_live.specs.of_judge.Judged.{IsBlockRefusal}
-use Rattle.fz_live.specs.of_judge.declared.error.BlockError.{BlockError}
-use Rattle.fz_live.specs.of_judge.declared.error.BlockError.TheVariants.{Memory as BlockMemory}
+use Rattle.fz_streaming.specs.of_judge.Judged.{IsBlockRefusal}
+use Rattle.fz_streaming.specs.of_judge.declared.error.BlockError.{BlockError}
+use Rattle.fz_streaming.specs.of_judge.declared.error.BlockError.TheVariants.{Memory as BlockMemory}
 use Rattle.fz_check.specs.Reported.{Checked}
 
 -- The model's bytes are a text of no tree, and the fault tells of them: it is that they are too many just where they are, else it comes

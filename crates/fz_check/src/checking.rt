@@ -14,8 +14,8 @@ ghost use Rattle.fz_stream.specs.declared.error.StreamError.{StreamError as Stre
 ghost use Rattle.fz_stream.specs.Found.{AreInOrder, EndsWithin, HasPlaces, IsReadAs, block_of};
 ghost use Rattle.fz_verdict.specs.Completed.{AreVerdicts};
 ghost use Rattle.fz_verdict.specs.View.{located_block};
-ghost use Rattle.fz_live.specs.of_judge.declared.error.BlockError.{BlockError as BlockFault};
-ghost use Rattle.fz_live.specs.of_judge.View.{verdict_view};
+ghost use Rattle.fz_streaming.specs.of_judge.declared.error.BlockError.{BlockError as BlockFault};
+ghost use Rattle.fz_streaming.specs.of_judge.View.{verdict_view};
 ghost use Rattle.fz_check.specs.Headline.{HasSolutions};
 ghost use Rattle.fz_check.specs.Over.{HoldsOfModel};
 ghost use Rattle.fz_check.specs.Refused.{HasBlockFault, HasNameFault, HasStreamFault, HasTextFault, IsFirstFault};
@@ -37,12 +37,12 @@ ghost use Rattle.fz_check.specs.View.{report_view};
 
 use crate::error::CheckError;
 use crate::report::{Report, answer_to};
-use fz_live::Answer;
-use fz_live::fz_judge::fz_verdict::Completion;
-use fz_live::fz_judge::{BlockError, Judge, Verdict};
 use fz_model::{LoadError, Model, ModelError, load, load_text};
 use fz_outputs::print_all;
 use fz_stream::{Block, Stream, StreamError, blocks};
+use fz_streaming::Answer;
+use fz_streaming::fz_judge::fz_verdict::Completion;
+use fz_streaming::fz_judge::{BlockError, Judge, Verdict};
 use fz_syntax::{Ast, SyntaxError, parse, to_text};
 use std::alloc::Global;
 

@@ -1,6 +1,6 @@
-use fz_live::fz_judge::BlockError;
 use fz_model::ModelError;
 use fz_stream::StreamError;
+use fz_streaming::fz_judge::BlockError;
 use fz_syntax::SyntaxError;
 use std::alloc::{AllocError, AllocFailed};
 use thiserror::Error;

@@ -3,19 +3,19 @@
 
 mod checking;
 mod error;
-mod live;
 mod refusal;
 mod report;
+mod streaming;
 
 pub use checking::{check, show, show_printing_all};
 pub use error::CheckError;
 pub use fz_base::Span;
-pub use fz_live::Answer;
-pub use fz_live::fz_judge::fz_verdict::Completion;
-pub use fz_live::fz_judge::{BlockError, Fault, Judge, Reason, Verdict, fill};
 pub use fz_model::ModelError;
 pub use fz_stream::StreamError;
+pub use fz_streaming::Answer;
+pub use fz_streaming::fz_judge::fz_verdict::Completion;
+pub use fz_streaming::fz_judge::{BlockError, Fault, Judge, Reason, Verdict, fill};
 pub use fz_syntax::SyntaxError;
-pub use live::{MOST_READS, check_stream, check_stream_up_to};
 pub use refusal::{refusal_place, refusal_text, status};
 pub use report::{Report, report_text};
+pub use streaming::{MOST_READS, check_stream, check_stream_up_to};

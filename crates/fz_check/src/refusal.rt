@@ -6,10 +6,10 @@ ghost use Rattle.fz_check.specs.Telling.{named};
 
 use crate::error::CheckError;
 use fz_base::Span;
-use fz_live::fz_judge::BlockError;
-use fz_live::{Answer, push_bytes, push_count};
 use fz_model::ModelError;
 use fz_stream::StreamError;
+use fz_streaming::fz_judge::BlockError;
+use fz_streaming::{Answer, push_bytes, push_count};
 use fz_syntax::SyntaxError;
 use std::alloc::{AllocError, Global};
 

@@ -143,8 +143,8 @@ pub(crate) fn explained(alloc: Global, model: &[u8], stream: &[u8]) -> Result<Ve
     Ok(text)
 }
 
-// Values that are printed, alone and in an array, or given by a constraint, a definition or a domain;
-// of two constraints that give one value the first is told. A variable stands once.
+// Values that are printed, alone and in an array, or given by a constraint, a definition or a
+// domain; of two constraints that give one value the first is told. A variable stands once.
 const EXPLAINED: &str = "
 var 0..9: x;
 var 0..9: y;

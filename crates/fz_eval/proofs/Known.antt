@@ -13,7 +13,7 @@ use Rattle.fz_meaning.specs.Builtins.Shape.{ScalarOf, ArrayOf}
 use Rattle.fz_meaning.specs.Builtins.ArgValue.{OneValue}
 use Rattle.fz_meaning.specs.Meaning.{Argument, Partial, row_holds}
 use Rattle.fz_meaning.proofs.TableRows.{AreRead, implied_holds, reified_holds, plain_ints, plain_bools, plain_sets}
-use Rattle.fz_kernel.specs.of_scene.Given.{given, given_from, given_values, bool_at, ints_at, bools_at, sets_at, read_leave}
+use Rattle.fz_kernel.specs.of_view.Given.{given, given_from, given_values, bool_at, ints_at, bools_at, sets_at, read_leave}
 use Rattle.fz_eval.specs.Outcomes.{row_outcome, sum_outcome, compared, implied_by}
 use Rattle.fz_eval.proofs.Rows.{outcome_is}
 

@@ -9,9 +9,9 @@ use Rattle.fz_meaning.specs.Builtins.{row_at, Row, Shape, Test, passes, read}
 use Rattle.fz_meaning.specs.Builtins.Shape.{ScalarOf, ArrayOf}
 use Rattle.fz_meaning.specs.Meaning.{Argument, Partial, row_holds}
 use Rattle.fz_meaning.proofs.TableRows.{plain_ints, plain_bools, plain_sets}
-use Rattle.fz_kernel.specs.of_scene.Given.{given, given_from, given_values, ints_at, bools_at, sets_at, read_leave}
-use Rattle.fz_kernel.specs.of_scene.Views.{arguments_of, assigned}
-use Rattle.fz_kernel.specs.of_scene.declared.scene.Scene.{Scene}
+use Rattle.fz_kernel.specs.of_view.Given.{given, given_from, given_values, ints_at, bools_at, sets_at, read_leave}
+use Rattle.fz_kernel.specs.of_view.Views.{arguments_of, assigned}
+use Rattle.fz_kernel.specs.of_view.declared.view.ArgumentView.{ArgumentView}
 use Rattle.fz_eval.specs.Outcomes.{argument_at, row_outcome, sum_outcome, test_from}
 
 reads : (K : Partial) (xs : List Argument) (i : ℕ) (s : Shape) → read s (given K xs i s) ≡ Some (argument_at K xs i s)
@@ -31,7 +31,7 @@ unfolding row_outcome
 outcome_is r K xs = ap (sum_outcome (list_any (read_leave K xs) r.sums)) (passes_at K xs 0 r.shapes r.holds)
 
 -- the outcome of a builtin is that of the one which it is known to be
-pub arm : {b : Builtin} (d : Builtin) {o : Outcome} (s : Scene) → b ≡ d → o ≡ row_outcome (row_at d) (assigned s) (arguments_of s) → o ≡ row_outcome (row_at b) (assigned s) (arguments_of s)
+pub arm : {b : Builtin} (d : Builtin) {o : Outcome} (s : ArgumentView) → b ≡ d → o ≡ row_outcome (row_at d) (assigned s) (arguments_of s) → o ≡ row_outcome (row_at b) (assigned s) (arguments_of s)
 arm d s is e = e ∙ ap (λ z. row_outcome (row_at z) (assigned s) (arguments_of s)) (sym is)
 
 -- where a row has one sum, or two

@@ -29,7 +29,7 @@ use Rattle.fz_data.specs.declared.point.PointParts.{PointParts}
 use Rattle.fz_data.specs.declared.point.PointParts.TheVariants as parts
 use Rattle.fz_data.specs.Parts.{constraint_view, variable_view}
 use Rattle.fz_data.specs.Shown.{IfConstraint}
-use Rattle.fz_kernel.specs.of_scene.Given.{slot_of, is_read, argument_is_read, are_read}
+use Rattle.fz_kernel.specs.of_view.Given.{slot_of, is_read, argument_is_read, are_read}
 use Rattle.fz_eval.specs.Holding.{is_held, point_holds}
 use Rattle.fz_eval.specs.Whole.{IsReady, is_domain, lies_inside, lie_inside}
 use Rattle.fz_eval.proofs.States.{row_fits}

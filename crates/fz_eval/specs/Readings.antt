@@ -1,24 +1,24 @@
--- The arguments of a scene by their places, counted from 0.
+-- The arguments of a view by their places, counted from 0.
 use Rattle.std.specs.Prelude.{ℕ, ℤ, Bool, List}
 use Rattle.fz_base.specs.Sets.{NumberSet}
-use Rattle.fz_kernel.specs.of_scene.declared.scene.Scene.{Scene}
-use Rattle.fz_kernel.specs.of_scene.Views.{arguments_of, assigned}
-use Rattle.fz_kernel.specs.of_scene.Given.{int_at, bool_at, set_at, ints_at, bools_at, sets_at}
+use Rattle.fz_kernel.specs.of_view.declared.view.ArgumentView.{ArgumentView}
+use Rattle.fz_kernel.specs.of_view.Views.{arguments_of, assigned}
+use Rattle.fz_kernel.specs.of_view.Given.{int_at, bool_at, set_at, ints_at, bools_at, sets_at}
 
-abbrev pub int : Scene → ℕ → ℤ
+abbrev pub int : ArgumentView → ℕ → ℤ
 int s i = int_at (assigned s) (arguments_of s) i
 
-abbrev pub truth : Scene → ℕ → Bool
+abbrev pub truth : ArgumentView → ℕ → Bool
 truth s i = bool_at (assigned s) (arguments_of s) i
 
-abbrev pub numbers : Scene → ℕ → NumberSet
+abbrev pub numbers : ArgumentView → ℕ → NumberSet
 numbers s i = set_at (assigned s) (arguments_of s) i
 
-abbrev pub ints : Scene → ℕ → List ℤ
+abbrev pub ints : ArgumentView → ℕ → List ℤ
 ints s i = ints_at (assigned s) (arguments_of s) i
 
-abbrev pub truths : Scene → ℕ → List Bool
+abbrev pub truths : ArgumentView → ℕ → List Bool
 truths s i = bools_at (assigned s) (arguments_of s) i
 
-abbrev pub sets_of : Scene → ℕ → List NumberSet
+abbrev pub sets_of : ArgumentView → ℕ → List NumberSet
 sets_of s i = sets_at (assigned s) (arguments_of s) i

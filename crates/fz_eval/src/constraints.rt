@@ -6,8 +6,8 @@ ghost use Rattle.fz_meaning.specs.Meaning.{have_shapes, row_of, state_of_row};
 ghost use Rattle.fz_meaning.specs.Builtins.{row_at};
 ghost use Rattle.fz_meaning.specs.Known.{HasTruth, known_row};
 ghost use Rattle.fz_data.specs.Parts.{constraint_view};
-ghost use Rattle.fz_kernel.specs.of_scene.Given.{are_read, read_leave};
-ghost use Rattle.fz_kernel.specs.of_scene.Views.{arguments_of, assigned};
+ghost use Rattle.fz_kernel.specs.of_view.Given.{are_read, read_leave};
+ghost use Rattle.fz_kernel.specs.of_view.Views.{arguments_of, assigned};
 ghost use Rattle.fz_eval.specs.Outcomes.{row_outcome};
 ghost use Rattle.fz_eval.specs.Readings.{truth};
 ghost use Rattle.fz_eval.specs.Whole.{IsReady};
@@ -16,7 +16,7 @@ use crate::builtins::of_builtin;
 use crate::outcome::Outcome;
 use crate::sums::products_leave;
 use fz_data::{ConstraintParts, Partial};
-use fz_kernel::fz_scene::{Readiness, Scene};
+use fz_kernel::fz_arguments::{ArgumentView, Readiness};
 use fz_meaning::{Form, Known, State};
 use std::alloc::{AllocError, Global};
 
@@ -36,66 +36,66 @@ pub(crate) fn of_constraint(
     let Some(known) = parts.posted.known else {
         return Ok(State::Unknown);
     };
-    let scene = Scene::new(parts, partial);
+    let view = ArgumentView::new(parts, partial);
     if ready {
-        of_ready(alloc, known, &scene)
+        of_ready(alloc, known, &view)
     } else {
-        of_scene(alloc, known, &scene)
+        of_view(alloc, known, &view)
     }
 }
 
 #[inline]
-fn of_scene(alloc: Global, known: Known, scene: &Scene<'_, '_>) -> Result<State, AllocError>
-    requires fits { have_shapes (known_row known).shapes (arguments_of scene.now) ≡ true }
-    ensures { IfOk result (λ s. s ≡ state_of_row (assigned scene.now) (arguments_of scene.now) (Some (known_row known))) }
+fn of_view(alloc: Global, known: Known, view: &ArgumentView<'_, '_>) -> Result<State, AllocError>
+    requires fits { have_shapes (known_row known).shapes (arguments_of view.now) ≡ true }
+    ensures { IfOk result (λ s. s ≡ state_of_row (assigned view.now) (arguments_of view.now) (Some (known_row known))) }
 {
-    match scene.readiness(known.shapes()) {
+    match view.readiness(known.shapes()) {
         Readiness::Missing => Ok(State::NoValue),
-        Readiness::WrongKind => Ok(if is_too_large(known, scene) {
+        Readiness::WrongKind => Ok(if is_too_large(known, view) {
             State::TooLarge
         } else {
             State::Fails
         }),
-        Readiness::Ready => of_ready(alloc, known, scene),
+        Readiness::Ready => of_ready(alloc, known, view),
     }
 }
 
 /// The state of a constraint whose scalars have values of the kinds that its row asks for.
 #[inline(always)]
-fn of_ready(alloc: Global, known: Known, scene: &Scene<'_, '_>) -> Result<State, AllocError>
-    requires fits { have_shapes (known_row known).shapes (arguments_of scene.now) ≡ true }
-    requires ready { are_read (assigned scene.now) (known_row known).shapes (arguments_of scene.now) ≡ true }
-    ensures { IfOk result (λ s. s ≡ state_of_row (assigned scene.now) (arguments_of scene.now) (Some (known_row known))) }
+fn of_ready(alloc: Global, known: Known, view: &ArgumentView<'_, '_>) -> Result<State, AllocError>
+    requires fits { have_shapes (known_row known).shapes (arguments_of view.now) ≡ true }
+    requires ready { are_read (assigned view.now) (known_row known).shapes (arguments_of view.now) ≡ true }
+    ensures { IfOk result (λ s. s ≡ state_of_row (assigned view.now) (arguments_of view.now) (Some (known_row known))) }
 {
-    Ok(of_known(alloc, known, scene)?.told())
+    Ok(of_known(alloc, known, view)?.told())
 }
 
-fn is_too_large(known: Known, scene: &Scene<'_, '_>) -> bool
-    ensures { result ≡ list_any (read_leave (assigned scene.now) (arguments_of scene.now)) (known_row known).sums }
+fn is_too_large(known: Known, view: &ArgumentView<'_, '_>) -> bool
+    ensures { result ≡ list_any (read_leave (assigned view.now) (arguments_of view.now)) (known_row known).sums }
 {
     known
         .sums()
         .iter()
-        .any(|places| products_leave(scene, places.0, places.1))
+        .any(|places| products_leave(view, places.0, places.1))
 }
 
 // The row's outcome: of a form with a truth value, what that says of the base row's.
 #[inline(always)]
-fn of_known(alloc: Global, known: Known, scene: &Scene<'_, '_>) -> Result<Outcome, AllocError>
-    ensures { IfOk result (λ o. o ≡ row_outcome (known_row known) (assigned scene.now) (arguments_of scene.now)) }
+fn of_known(alloc: Global, known: Known, view: &ArgumentView<'_, '_>) -> Result<Outcome, AllocError>
+    ensures { IfOk result (λ o. o ≡ row_outcome (known_row known) (assigned view.now) (arguments_of view.now)) }
 {
-    let outcome = of_builtin(alloc, known.builtin, scene)?;
+    let outcome = of_builtin(alloc, known.builtin, view)?;
     match known.form {
         Form::Base => Ok(outcome),
-        Form::Reified => Ok(outcome.compared(last_truth(known, scene))),
-        Form::Implied => Ok(outcome.implied_by(last_truth(known, scene))),
+        Form::Reified => Ok(outcome.compared(last_truth(known, view))),
+        Form::Implied => Ok(outcome.implied_by(last_truth(known, view))),
     }
 }
 
 // The truth value behind the arguments of the base row.
-fn last_truth(known: Known, scene: &Scene<'_, '_>) -> bool
+fn last_truth(known: Known, view: &ArgumentView<'_, '_>) -> bool
     requires { HasTruth known.form }
-    ensures { result ≡ truth scene.now (length (row_at known.builtin).shapes) }
+    ensures { result ≡ truth view.now (length (row_at known.builtin).shapes) }
 {
-    scene.truth(known.shapes().len() - 1)
+    view.truth(known.shapes().len() - 1)
 }

@@ -7,38 +7,38 @@ ghost use Rattle.fz_eval.specs.Readings.{int, ints, numbers, sets_of, truths};
 use fz_globals::channels::are_channelled;
 use fz_globals::flags::is_flagged;
 use fz_globals::partition::{are_disjoint, is_partition};
-use fz_kernel::fz_scene::Scene;
+use fz_kernel::fz_arguments::ArgumentView;
 use std::alloc::{AllocError, Global};
 
 /// Whether the set is that of the indices whose truth values are true.
-pub(crate) fn link_set_to_booleans(scene: &Scene<'_, '_>) -> bool
-    ensures { result ≡ is_flagged (numbers scene.now 0) (truths scene.now 1) (int scene.now 2) }
+pub(crate) fn link_set_to_booleans(view: &ArgumentView<'_, '_>) -> bool
+    ensures { result ≡ is_flagged (numbers view.now 0) (truths view.now 1) (int view.now 2) }
 {
-    is_flagged(scene.set(0), &scene.elements(1), scene.int(2))
+    is_flagged(view.set(0), &view.elements(1), view.int(2))
 }
 
 /// Whether the sets have no common element.
-pub(crate) fn disjoint(scene: &Scene<'_, '_>) -> bool
-    ensures { result ≡ are_disjoint (numbers scene.now 0) (numbers scene.now 1) }
+pub(crate) fn disjoint(view: &ArgumentView<'_, '_>) -> bool
+    ensures { result ≡ are_disjoint (numbers view.now 0) (numbers view.now 1) }
 {
-    are_disjoint(scene.set(0), scene.set(1))
+    are_disjoint(view.set(0), view.set(1))
 }
 
 /// Whether no two sets have a common element, and all together are the second argument.
-pub(crate) fn partition_set(alloc: Global, scene: &Scene<'_, '_>) -> Result<bool, AllocError>
-    ensures { IfOk result (λ r. r ≡ is_partition (sets_of scene.now 0) (numbers scene.now 1)) }
+pub(crate) fn partition_set(alloc: Global, view: &ArgumentView<'_, '_>) -> Result<bool, AllocError>
+    ensures { IfOk result (λ r. r ≡ is_partition (sets_of view.now 0) (numbers view.now 1)) }
 {
-    is_partition(alloc, &scene.elements(0), scene.set(1))
+    is_partition(alloc, &view.elements(0), view.set(1))
 }
 
 /// Whether each set has the indices where its own index stands in the list.
-pub(crate) fn int_set_channel(scene: &Scene<'_, '_>) -> bool
-    ensures { result ≡ are_channelled (ints scene.now 0) (int scene.now 1) (sets_of scene.now 2) (int scene.now 3) }
+pub(crate) fn int_set_channel(view: &ArgumentView<'_, '_>) -> bool
+    ensures { result ≡ are_channelled (ints view.now 0) (int view.now 1) (sets_of view.now 2) (int view.now 3) }
 {
     are_channelled(
-        &scene.elements(0),
-        scene.int(1),
-        &scene.elements(2),
-        scene.int(3),
+        &view.elements(0),
+        view.int(1),
+        &view.elements(2),
+        view.int(3),
     )
 }

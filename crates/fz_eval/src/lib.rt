@@ -24,7 +24,7 @@ mod whole;
 pub use builtins::of_builtin;
 pub use fz_globals;
 pub use fz_kernel;
-pub use fz_kernel::fz_scene;
+pub use fz_kernel::fz_arguments;
 pub use holding::all_hold;
 pub use outcome::Outcome;
 pub use overview::Overview;

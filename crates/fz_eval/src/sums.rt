@@ -10,52 +10,52 @@ ghost use Rattle.fz_eval.specs.Readings.{int, ints};
 use crate::outcome::Outcome;
 use fz_globals::packed::is_knapsack;
 use fz_kernel::arrays::sum_of_products;
-use fz_kernel::fz_scene::Scene;
+use fz_kernel::fz_arguments::ArgumentView;
 
 /// Whether the sum of products is the third argument.
-pub(crate) fn int_lin_eq(scene: &Scene<'_, '_>) -> Outcome
-    ensures { result ≡ sum_outcome (leaves_128 (products (ints scene.now 0) (ints scene.now 1))) (total (products (ints scene.now 0) (ints scene.now 1)) =ℤ int scene.now 2) }
+pub(crate) fn int_lin_eq(view: &ArgumentView<'_, '_>) -> Outcome
+    ensures { result ≡ sum_outcome (leaves_128 (products (ints view.now 0) (ints view.now 1))) (total (products (ints view.now 0) (ints view.now 1)) =ℤ int view.now 2) }
 {
-    match sum_of_products(&scene.elements(0), &scene.elements(1)) {
-        Some(sum) => Outcome::Truth(sum == i128::from(scene.int(2))),
+    match sum_of_products(&view.elements(0), &view.elements(1)) {
+        Some(sum) => Outcome::Truth(sum == i128::from(view.int(2))),
         None => Outcome::TooLarge,
     }
 }
 
 /// Whether the sum of products is not the third argument.
-pub(crate) fn int_lin_ne(scene: &Scene<'_, '_>) -> Outcome
-    ensures { result ≡ sum_outcome (leaves_128 (products (ints scene.now 0) (ints scene.now 1))) (not (total (products (ints scene.now 0) (ints scene.now 1)) =ℤ int scene.now 2)) }
+pub(crate) fn int_lin_ne(view: &ArgumentView<'_, '_>) -> Outcome
+    ensures { result ≡ sum_outcome (leaves_128 (products (ints view.now 0) (ints view.now 1))) (not (total (products (ints view.now 0) (ints view.now 1)) =ℤ int view.now 2)) }
 {
-    match sum_of_products(&scene.elements(0), &scene.elements(1)) {
-        Some(sum) => Outcome::Truth(sum != i128::from(scene.int(2))),
+    match sum_of_products(&view.elements(0), &view.elements(1)) {
+        Some(sum) => Outcome::Truth(sum != i128::from(view.int(2))),
         None => Outcome::TooLarge,
     }
 }
 
 /// Whether the sum of products is at most the third argument.
-pub(crate) fn int_lin_le(scene: &Scene<'_, '_>) -> Outcome
-    ensures { result ≡ sum_outcome (leaves_128 (products (ints scene.now 0) (ints scene.now 1))) (int_le (total (products (ints scene.now 0) (ints scene.now 1))) (int scene.now 2)) }
+pub(crate) fn int_lin_le(view: &ArgumentView<'_, '_>) -> Outcome
+    ensures { result ≡ sum_outcome (leaves_128 (products (ints view.now 0) (ints view.now 1))) (int_le (total (products (ints view.now 0) (ints view.now 1))) (int view.now 2)) }
 {
-    match sum_of_products(&scene.elements(0), &scene.elements(1)) {
-        Some(sum) => Outcome::Truth(sum <= i128::from(scene.int(2))),
+    match sum_of_products(&view.elements(0), &view.elements(1)) {
+        Some(sum) => Outcome::Truth(sum <= i128::from(view.int(2))),
         None => Outcome::TooLarge,
     }
 }
 
 /// Whether the things weigh as much, and bring as much, as the last two arguments say.
-pub(crate) fn knapsack(scene: &Scene<'_, '_>) -> Outcome
-    ensures { result ≡ sum_outcome (leaves_128 (products (ints scene.now 0) (ints scene.now 2)) || leaves_128 (products (ints scene.now 1) (ints scene.now 2))) (is_knapsack (ints scene.now 0) (ints scene.now 1) (ints scene.now 2) (int scene.now 3) (int scene.now 4)) }
+pub(crate) fn knapsack(view: &ArgumentView<'_, '_>) -> Outcome
+    ensures { result ≡ sum_outcome (leaves_128 (products (ints view.now 0) (ints view.now 2)) || leaves_128 (products (ints view.now 1) (ints view.now 2))) (is_knapsack (ints view.now 0) (ints view.now 1) (ints view.now 2) (int view.now 3) (int view.now 4)) }
 {
-    let (weights, profits, numbers) = (scene.elements(0), scene.elements(1), scene.elements(2));
-    match is_knapsack(&weights, &profits, &numbers, scene.int(3), scene.int(4)) {
+    let (weights, profits, numbers) = (view.elements(0), view.elements(1), view.elements(2));
+    match is_knapsack(&weights, &profits, &numbers, view.int(3), view.int(4)) {
         Some(holds) => Outcome::Truth(holds),
         None => Outcome::TooLarge,
     }
 }
 
 /// Whether a sum on the way of the products of two arrays leaves 128 bits.
-pub(crate) fn products_leave(scene: &Scene<'_, '_>, first: usize, second: usize) -> bool
-    ensures { result ≡ leaves_128 (products (ints scene.now first) (ints scene.now second)) }
+pub(crate) fn products_leave(view: &ArgumentView<'_, '_>, first: usize, second: usize) -> bool
+    ensures { result ≡ leaves_128 (products (ints view.now first) (ints view.now second)) }
 {
-    sum_of_products(&scene.elements(first), &scene.elements(second)).is_none()
+    sum_of_products(&view.elements(first), &view.elements(second)).is_none()
 }

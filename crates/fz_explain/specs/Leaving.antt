@@ -1,11 +1,13 @@
--- Where a sum of products leaves signed 128 bits, when the products are added from the left (this project's profile).
+-- Where a sum of products leaves signed 128 bits, when the products are added from the left (this
+-- project's profile).
 use Rattle.std.specs.Prelude.{ℕ, suc, ℤ, pos, ◌+ℤ◌, List, [], ◌∷◌, Option, Some, None, cond}
 use Rattle.std.specs.Option.{option_map_or, option_or}
 use Rattle.fz_model.specs.Builtins.{fits_128}
 use Rattle.fz_model.specs.Meaning.{Argument, Partial, Point, known_products, row_of, terms_at_argument}
 use Rattle.fz_model.specs.Meaning.Point.{DomainPoint, DefinitionPoint, ArrayPoint, ConstraintPoint}
 
--- the number of the first of them with which it does, where so many stand before them that add up to s
+-- the number of the first of them with which it does, where so many stand before them that add up
+-- to s
 abbrev pub leaving_from : ℕ → ℤ → List ℤ → Option ℕ
 leaving_from k s [] = None
 leaving_from k s (n ∷ ns) = cond (fits_128 (s +ℤ n)) (leaving_from (suc k) (s +ℤ n) ns) (Some (suc k))

@@ -32,7 +32,8 @@ line_of a text p = option_map_or (λ s. suc (line_ends (take s.start text))) (po
 abbrev pub IsShownText : List ℕ → List ℕ → Type 0
 IsShownText bytes text = text ≡ encode_utf8_all (shown bytes)
 
--- a value that a point gives is told by the point's name and line; a domain's has no line of its own
+-- a value that a point gives is told by the point's name and line; a domain's has no line of its
+-- own
 abbrev pub IsOriginAt : Ast → List ℕ → told.Point → Origin → Type 0
 IsOriginAt a text (told_points.Domain x) o = o ≡ origins.Domain
 IsOriginAt a text (told_points.Definition x) (origins.Definition y line) = IsShownText x.now (string_bytes y) × (line ≡ line_of a text (told_points.Definition x))

@@ -1,4 +1,5 @@
--- The point that a verdict tells of: one that fails, or one that neither holds nor fails (this project's profile).
+-- The point that a verdict tells of: one that fails, or one that neither holds nor fails (this
+-- project's profile).
 use Rattle.std.specs.Prelude.{◌≡◌, Bool, true, false}
 use Rattle.fz_model.specs.declared.State.{State}
 use Rattle.fz_model.specs.declared.State.TheVariants.{Holds, Fails, NoValue, Unknown, TooLarge}

@@ -16,7 +16,7 @@ use std::alloc::{AllocError, Global};
 const MOST_VARIABLES: usize = 12;
 
 /// How many of them are the first ones, where there are more; the others are the last ones.
-pub const FIRST_VARIABLES: usize = 8;
+pub(crate) const FIRST_VARIABLES: usize = 8;
 
 /// A variable, its value where it has one, and where that is from.
 #[derive(Debug, Drop)]

@@ -13,7 +13,7 @@ mod source;
 mod sums;
 mod variables;
 
-pub use explained::{Explained, Explanation, FIRST_VARIABLES, explain};
+pub use explained::{Explained, Explanation, explain};
 pub use failing::{Sought, first_point};
 pub use notes::{Loaded, bounds_note, notes_of};
 pub use place::point_place;

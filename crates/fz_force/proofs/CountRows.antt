@@ -9,7 +9,7 @@ use Rattle.fz_meaning.specs.Meaning.{Argument, Partial}
 use Rattle.fz_meaning.specs.declared.builtin.Builtin.{Builtin}
 use Rattle.fz_meaning.specs.declared.builtin.Builtin.TheVariants.{Count, GecodeCount, FznCountEq, FznAmong, FznNvalue, GecodeMaximumArgIntOffset, GecodeMinimumArgIntOffset}
 use Rattle.fz_meaning.proofs.TableRows.{plain_ints}
-use Rattle.fz_eval.specs.of_scene.Given.{int_at, ints_at, set_at}
+use Rattle.fz_eval.specs.of_view.Given.{int_at, ints_at, set_at}
 use Rattle.fz_force.specs.declared.counted.Tally.{Tally}
 use Rattle.fz_force.specs.declared.counted.Tally.TheVariants.{Exactly, Nothing, Other}
 use Rattle.fz_force.specs.Counted.{IsCounted, Tells}

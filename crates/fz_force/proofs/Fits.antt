@@ -20,8 +20,8 @@ use Rattle.fz_meaning.specs.Steps.{open_terms}
 use Rattle.fz_meaning.proofs.Values.{no, no', and_first, and_second, and_both}
 use Rattle.fz_meaning.proofs.Scope.{same_kind_is}
 use Rattle.fz_meaning.proofs.Steps.{is_open, term_keeps, filter-none, filter-append, append-nil, append_one, append_one_left, variable_open}
-use Rattle.fz_eval.specs.of_scene.Given.{slot_in, slots_in, slot_at, value_of, int_in, bool_in, set_in, given, given_values, is_read, argument_is_read, are_read}
-use Rattle.fz_eval.proofs.of_scene.Ready.{slots_are_terms, given_first, given_next, given_later}
+use Rattle.fz_eval.specs.of_view.Given.{slot_in, slots_in, slot_at, value_of, int_in, bool_in, set_in, given, given_values, is_read, argument_is_read, are_read}
+use Rattle.fz_eval.proofs.of_view.Ready.{slots_are_terms, given_first, given_next, given_later}
 use Rattle.fz_force.specs.Kinds.{kind_in, kind_fits, each_fits}
 use Rattle.fz_force.proofs.Gaps.{value_at_new}
 

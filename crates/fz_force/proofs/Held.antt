@@ -16,8 +16,8 @@ use Rattle.fz_meaning.specs.Steps.{IsResult, open_terms}
 use Rattle.fz_meaning.proofs.Values.{no, no', and_first, and_second}
 use Rattle.fz_meaning.proofs.States.{intro}
 use Rattle.fz_meaning.proofs.Steps.{is_open, some_of, only_open_none, variable_open}
-use Rattle.fz_eval.specs.of_scene.Given.{given_values, are_read}
-use Rattle.fz_eval.proofs.of_scene.Ready.{ready_values, wrong_kind}
+use Rattle.fz_eval.specs.of_view.Given.{given_values, are_read}
+use Rattle.fz_eval.proofs.of_view.Ready.{ready_values, wrong_kind}
 use Rattle.fz_force.specs.declared.only.Spot.{Spot}
 use Rattle.fz_force.specs.Forced.{IsOnlyValue, IsReady}
 use Rattle.fz_force.specs.Kinds.{kind_in}

@@ -17,7 +17,7 @@ use Rattle.fz_meaning.specs.Known.{form_at, known_row}
 use Rattle.fz_meaning.specs.declared.known.Form.TheVariants.{Base as FormBase, Reified as FormReified, Implied as FormImplied}
 use Rattle.fz_meaning.specs.declared.known.Known.{Known}
 use Rattle.fz_meaning.proofs.TableRows.{plain_ints, plain_bools, plain_sets, AreRead, reified_holds}
-use Rattle.fz_eval.specs.of_scene.Given.{given, given_from, given_values, ints_at, bools_at, sets_at, read_leave}
+use Rattle.fz_eval.specs.of_view.Given.{given, given_from, given_values, ints_at, bools_at, sets_at, read_leave}
 use Rattle.fz_eval.specs.Outcomes.{row_outcome, sum_outcome}
 use Rattle.fz_eval.proofs.Rows.{outcome_is}
 use Rattle.fz_eval.specs.declared.outcome.Outcome.TheVariants.{Truth as TruthOutcome, TooLarge}

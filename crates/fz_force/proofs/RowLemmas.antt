@@ -17,7 +17,7 @@ use Rattle.fz_meaning.specs.Builtins.{row_at}
 use Rattle.fz_meaning.specs.declared.builtin.Builtin.{Builtin}
 use Rattle.fz_meaning.specs.declared.builtin.Builtin.TheVariants.{IntEq, IntLinEq, IntPlus, IntTimes, IntMin, IntMax, IntAbs, IntDiv, IntMod, ArrayIntElement, ArrayVarIntElement, ArrayIntMaximum, ArrayIntMinimum, BoolEq, BoolNot, BoolAnd, BoolOr, BoolXor, ArrayBoolAnd, ArrayBoolOr, ArrayBoolElement, ArrayVarBoolElement, Bool2Int, BoolLinEq, SetEq, SetUnion, SetIntersect, SetDiff, SetSymdiff, SetCard, ArraySetElement, ArrayVarSetElement}
 use Rattle.fz_meaning.proofs.TableRows.{plain_ints, plain_bools, plain_sets, int_lin_eq_holds}
-use Rattle.fz_eval.specs.of_scene.Given.{int_at, bool_at, set_at, ints_at, bools_at, sets_at}
+use Rattle.fz_eval.specs.of_view.Given.{int_at, bool_at, set_at, ints_at, bools_at, sets_at}
 use Rattle.fz_meaning.proofs.Values.{same_int, int_itself, bool_itself, set_itself, same_truth}
 use Rattle.fz_force.specs.Left.{IsLeft, IsLeftNumber, IsLeftPlain, IsPlaceOf, IsOfKind, holds_with, holds_with_element}
 use Rattle.fz_force.proofs.Plain.{total_with}

@@ -15,7 +15,7 @@ use Rattle.fz_meaning.specs.declared.known.Known.{Known}
 use Rattle.fz_meaning.specs.Known.{form_at, known_row}
 use Rattle.fz_meaning.specs.declared.known.Form.{Form}
 use Rattle.fz_meaning.specs.declared.known.Form.TheVariants.{Base, Reified, Implied}
-use Rattle.fz_eval.proofs.of_scene.Sums.{are_ints, sums_leave_are}
+use Rattle.fz_eval.proofs.of_view.Sums.{are_ints, sums_leave_are}
 use Rattle.fz_force.specs.Left.{IsOfKind, IsPlaceOf, is_too_large}
 use Rattle.fz_force.specs.Forced.{IsRow}
 

@@ -17,8 +17,8 @@ use Rattle.fz_meaning.proofs.States.{intro}
 use Rattle.fz_meaning.proofs.Steps.{is_open, term_keeps, variable_open, some_of, as_number_of}
 use Rattle.fz_meaning.specs.declared.builtin.Builtin.TheVariants.{IntLinEq}
 use Rattle.fz_meaning.specs.Builtins.{row_at}
-use Rattle.fz_eval.specs.of_scene.Given.{slots_at, int_in, ints_of, ints_at, given, given_values, read_leave}
-use Rattle.fz_eval.proofs.of_scene.Sums.{slots_terms}
+use Rattle.fz_eval.specs.of_view.Given.{slots_at, int_in, ints_of, ints_at, given, given_values, read_leave}
+use Rattle.fz_eval.proofs.of_view.Sums.{slots_terms}
 use Rattle.fz_force.specs.Left.{HasUnit, IsLeft, IsReadAsNone, IsUnit, holds_with_element, is_too_large, products_leave}
 use Rattle.fz_force.specs.declared.only.Spot.{Spot}
 use Rattle.fz_force.specs.Forced.{IsOnlyValue, IsReady}

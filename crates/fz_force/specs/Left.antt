@@ -11,7 +11,7 @@ use Rattle.fz_meaning.specs.Builtins.Shape.{ScalarOf}
 use Rattle.fz_meaning.specs.Builtins.ArgValue.{OneValue, ManyValues}
 use Rattle.fz_meaning.specs.Builtins.Result.{NoResult, Places, UnitTerm}
 use Rattle.fz_meaning.specs.Meaning.{Argument, Partial, row_holds}
-use Rattle.fz_eval.specs.of_scene.Given.{given_values, ints_at, read_leave}
+use Rattle.fz_eval.specs.of_view.Given.{given_values, ints_at, read_leave}
 use Rattle.fz_meaning.specs.Steps.{WithinLimits}
 
 -- a coefficient with which one element of a sum is determined

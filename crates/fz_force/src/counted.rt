@@ -3,13 +3,13 @@
 ghost use Rattle.std.specs.Prelude.{◌≡◌, IfOk, int_le, length, pos};
 ghost use Rattle.fz_meaning.specs.Values.{◌=ℤ◌};
 ghost use Rattle.fz_meaning.specs.Globals.{count_in, count_of, is_index_of_best, values_of};
-ghost use Rattle.fz_eval.specs.of_scene.Views.{arguments_of, assigned};
+ghost use Rattle.fz_eval.specs.of_view.Views.{arguments_of, assigned};
 ghost use Rattle.fz_eval.specs.Readings.{int, ints, numbers};
 ghost use Rattle.fz_force.specs.Counted.{IsCounted, Tells};
 
+use fz_eval::fz_arguments::ArgumentView;
 use fz_eval::fz_globals::best_index::{index_of_maximum, index_of_minimum};
 use fz_eval::fz_globals::counts::{count_in, count_of, number_of_values};
-use fz_eval::fz_scene::Scene;
 use fz_meaning::Builtin;
 use std::alloc::{AllocError, Global};
 
@@ -28,53 +28,53 @@ pub(crate) enum Tally {
 pub(crate) fn counted(
     alloc: Global,
     builtin: Builtin,
-    scene: &Scene<'_, '_>,
+    view: &ArgumentView<'_, '_>,
 ) -> Result<Tally, AllocError>
-    ensures { IfOk result (λ o. IsCounted builtin (assigned scene.now) (arguments_of scene.now) o) }
+    ensures { IfOk result (λ o. IsCounted builtin (assigned view.now) (arguments_of view.now) o) }
 {
     match builtin {
-        Builtin::Count => Ok(of_value(scene)),
-        Builtin::GecodeCount => Ok(of_value(scene)),
-        Builtin::FznCountEq => Ok(of_value(scene)),
-        Builtin::FznAmong => Ok(in_set(scene)),
-        Builtin::FznNvalue => Ok(values(alloc, scene)?),
-        Builtin::GecodeMaximumArgIntOffset => Ok(of_maximum(scene)),
-        Builtin::GecodeMinimumArgIntOffset => Ok(of_minimum(scene)),
+        Builtin::Count => Ok(of_value(view)),
+        Builtin::GecodeCount => Ok(of_value(view)),
+        Builtin::FznCountEq => Ok(of_value(view)),
+        Builtin::FznAmong => Ok(in_set(view)),
+        Builtin::FznNvalue => Ok(values(alloc, view)?),
+        Builtin::GecodeMaximumArgIntOffset => Ok(of_maximum(view)),
+        Builtin::GecodeMinimumArgIntOffset => Ok(of_minimum(view)),
         _ => Ok(Tally::Other),
     }
 }
 
-fn of_value(scene: &Scene<'_, '_>) -> Tally
-    ensures { Tells (λ v. v =ℤ count_of (ints scene.now 0) (int scene.now 1)) result }
+fn of_value(view: &ArgumentView<'_, '_>) -> Tally
+    ensures { Tells (λ v. v =ℤ count_of (ints view.now 0) (int view.now 1)) result }
 {
-    Tally::Exactly(count_of(&scene.elements(0), scene.int(1)))
+    Tally::Exactly(count_of(&view.elements(0), view.int(1)))
 }
 
-fn in_set(scene: &Scene<'_, '_>) -> Tally
-    ensures { Tells (λ v. v =ℤ count_in (ints scene.now 1) (numbers scene.now 2)) result }
+fn in_set(view: &ArgumentView<'_, '_>) -> Tally
+    ensures { Tells (λ v. v =ℤ count_in (ints view.now 1) (numbers view.now 2)) result }
 {
-    Tally::Exactly(count_in(&scene.elements(1), scene.set(2)))
+    Tally::Exactly(count_in(&view.elements(1), view.set(2)))
 }
 
-fn values(alloc: Global, scene: &Scene<'_, '_>) -> Result<Tally, AllocError>
-    ensures { IfOk result (λ o. Tells (λ v. v =ℤ pos (length (values_of (ints scene.now 1)))) o) }
+fn values(alloc: Global, view: &ArgumentView<'_, '_>) -> Result<Tally, AllocError>
+    ensures { IfOk result (λ o. Tells (λ v. v =ℤ pos (length (values_of (ints view.now 1)))) o) }
 {
-    Ok(Tally::Exactly(number_of_values(alloc, &scene.elements(1))?))
+    Ok(Tally::Exactly(number_of_values(alloc, &view.elements(1))?))
 }
 
-fn of_maximum(scene: &Scene<'_, '_>) -> Tally
-    ensures { Tells (λ i. is_index_of_best (λ x m. int_le x m) (ints scene.now 0) (int scene.now 1) i) result }
+fn of_maximum(view: &ArgumentView<'_, '_>) -> Tally
+    ensures { Tells (λ i. is_index_of_best (λ x m. int_le x m) (ints view.now 0) (int view.now 1) i) result }
 {
-    match index_of_maximum(&scene.elements(0), scene.int(1)) {
+    match index_of_maximum(&view.elements(0), view.int(1)) {
         Some(index) => Tally::Exactly(index),
         None => Tally::Nothing,
     }
 }
 
-fn of_minimum(scene: &Scene<'_, '_>) -> Tally
-    ensures { Tells (λ i. is_index_of_best (λ x m. int_le m x) (ints scene.now 0) (int scene.now 1) i) result }
+fn of_minimum(view: &ArgumentView<'_, '_>) -> Tally
+    ensures { Tells (λ i. is_index_of_best (λ x m. int_le m x) (ints view.now 0) (int view.now 1) i) result }
 {
-    match index_of_minimum(&scene.elements(0), scene.int(1)) {
+    match index_of_minimum(&view.elements(0), view.int(1)) {
         Some(index) => Tally::Exactly(index),
         None => Tally::Nothing,
     }

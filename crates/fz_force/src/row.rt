@@ -8,7 +8,7 @@ ghost use Rattle.fz_meaning.specs.Meaning.Point.{ConstraintPoint};
 ghost use Rattle.fz_meaning.specs.Known.{known_row, result_of};
 ghost use Rattle.fz_data.specs.Kinds.{PostedFits};
 ghost use Rattle.fz_data.specs.Parts.{constraint_view};
-ghost use Rattle.fz_eval.specs.of_scene.Views.{arguments_of, assigned};
+ghost use Rattle.fz_eval.specs.of_view.Views.{arguments_of, assigned};
 ghost use Rattle.fz_force.specs.Left.{HasUnit, IsPlaceOf};
 ghost use Rattle.fz_force.specs.Forced.{IsForced, IsOnlyValue, IsReady, IsRow};
 ghost use Rattle.fz_force.specs.Kinds.{each_fits};
@@ -18,7 +18,7 @@ use crate::unit::unit_value;
 use crate::value::left_value;
 use fz_base::Value;
 use fz_data::{ConstraintParts, Partial};
-use fz_eval::fz_scene::Scene;
+use fz_eval::fz_arguments::ArgumentView;
 use fz_meaning::{Filled, Known};
 use std::alloc::{AllocError, Global};
 
@@ -65,7 +65,7 @@ fn only_value(
     let Some(spot) = only_open(parts.arguments(), &parts, target, partial) else {
         return Ok(None);
     };
-    value_at(alloc, known, spot, &Scene::new(parts, partial))
+    value_at(alloc, known, spot, &ArgumentView::new(parts, partial))
 }
 
 // The value of the variable at the spot with which the row holds.
@@ -74,39 +74,39 @@ fn value_at(
     alloc: Global,
     known: Known,
     spot: Spot,
-    scene: &Scene<'_, '_>,
+    view: &ArgumentView<'_, '_>,
 ) -> Result<Option<Value>, AllocError>
     requires row { IsRow (known_row known) }
-    requires ready { IsReady (assigned scene.now) (arguments_of scene.now) (known_row known) spot }
-    ensures { IfOk result (λ o. IsOnlyValue (assigned scene.now) (arguments_of scene.now) (known_row known) spot.variable o) }
+    requires ready { IsReady (assigned view.now) (arguments_of view.now) (known_row known) spot }
+    ensures { IfOk result (λ o. IsOnlyValue (assigned view.now) (arguments_of view.now) (known_row known) spot.variable o) }
 {
     if is_unit_term(known.filled()) {
-        return Ok(element_left(known, spot, scene).map(Value::Int));
+        return Ok(element_left(known, spot, view).map(Value::Int));
     }
     if is_place(known.filled(), spot.argument) {
-        return left_value(alloc, known, spot.argument, scene);
+        return left_value(alloc, known, spot.argument, view);
     }
     Ok(None)
 }
 
 // The value of an element of a sum, where its coefficient is 1 or -1.
-fn element_left(known: Known, spot: Spot, scene: &Scene<'_, '_>) -> Option<i64>
+fn element_left(known: Known, spot: Spot, view: &ArgumentView<'_, '_>) -> Option<i64>
     requires row { IsRow (known_row known) }
     requires unit_term { (known_row known).result ≡ UnitTerm }
-    requires ready { IsReady (assigned scene.now) (arguments_of scene.now) (known_row known) spot }
-    ensures { IsOnlyValue (assigned scene.now) (arguments_of scene.now) (known_row known) spot.variable (option_map Int result) }
+    requires ready { IsReady (assigned view.now) (arguments_of view.now) (known_row known) spot }
+    ensures { IsOnlyValue (assigned view.now) (arguments_of view.now) (known_row known) spot.variable (option_map Int result) }
 {
-    if spot.argument != 1 || !has_unit(scene, spot.place) {
+    if spot.argument != 1 || !has_unit(view, spot.place) {
         return None;
     }
-    unit_value(scene, spot.place)
+    unit_value(view, spot.place)
 }
 
 // Whether an element has the coefficient 1 or -1.
-fn has_unit(scene: &Scene<'_, '_>, place: usize) -> bool
-    ensures { IsTrue result ↔ HasUnit (assigned scene.now) (arguments_of scene.now) place }
+fn has_unit(view: &ArgumentView<'_, '_>, place: usize) -> bool
+    ensures { IsTrue result ↔ HasUnit (assigned view.now) (arguments_of view.now) place }
 {
-    let coefficients = scene.elements(0);
+    let coefficients = view.elements(0);
     if place >= coefficients.len() {
         return false;
     }

@@ -3,24 +3,24 @@
 ghost use Rattle.std.specs.Prelude.{◌≡◌, None, IsFalse, IsTrue, option_map};
 ghost use Rattle.fz_base.specs.declared.value.Value.TheVariants.{Int};
 ghost use Rattle.fz_meaning.specs.declared.kind.Kind.TheVariants.{Int as IntKind};
-ghost use Rattle.fz_eval.specs.of_scene.Views.{arguments_of, assigned};
+ghost use Rattle.fz_eval.specs.of_view.Views.{arguments_of, assigned};
 ghost use Rattle.fz_meaning.specs.Builtins.{row_at};
 ghost use Rattle.fz_meaning.specs.declared.builtin.Builtin.TheVariants.{IntLinEq};
 ghost use Rattle.fz_force.specs.Left.{HasUnit, IsLeft, IsReadAsNone, holds_with_element, products_leave};
 
 use crate::numbers::made_up;
+use fz_eval::fz_arguments::ArgumentView;
 use fz_eval::fz_kernel::arrays::sum_of_products;
-use fz_eval::fz_scene::Scene;
 
 /// The number that `int_lin_eq` leaves to an element of its second array that has no value, by its place counted from 0, where its
 /// coefficient is 1 or -1. None where a sum of the other products leaves 128 bits on the way. It takes no memory.
-pub(crate) fn unit_value(scene: &Scene<'_, '_>, index: usize) -> Option<i64>
-    requires unit { HasUnit (assigned scene.now) (arguments_of scene.now) index }
-    requires open { IsReadAsNone (assigned scene.now) (arguments_of scene.now) index }
-    ensures left { IsFalse (products_leave (assigned scene.now) (arguments_of scene.now)) → IsLeft IntKind (holds_with_element (row_at IntLinEq) (assigned scene.now) (arguments_of scene.now) index) (option_map Int result) }
-    ensures too_large { IsTrue (products_leave (assigned scene.now) (arguments_of scene.now)) → result ≡ None }
+pub(crate) fn unit_value(view: &ArgumentView<'_, '_>, index: usize) -> Option<i64>
+    requires unit { HasUnit (assigned view.now) (arguments_of view.now) index }
+    requires open { IsReadAsNone (assigned view.now) (arguments_of view.now) index }
+    ensures left { IsFalse (products_leave (assigned view.now) (arguments_of view.now)) → IsLeft IntKind (holds_with_element (row_at IntLinEq) (assigned view.now) (arguments_of view.now) index) (option_map Int result) }
+    ensures too_large { IsTrue (products_leave (assigned view.now) (arguments_of view.now)) → result ≡ None }
 {
-    let coefficients = scene.elements(0);
-    let others = sum_of_products(&coefficients, &scene.elements(1))?;
-    made_up(others, coefficients.int(index), scene.int(2))
+    let coefficients = view.elements(0);
+    let others = sum_of_products(&coefficients, &view.elements(1))?;
+    made_up(others, coefficients.int(index), view.int(2))
 }

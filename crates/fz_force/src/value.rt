@@ -5,7 +5,7 @@ ghost use Rattle.fz_base.specs.declared.value.Value.TheVariants.{Bool as Truth};
 ghost use Rattle.fz_meaning.specs.declared.kind.Kind.{Kind};
 ghost use Rattle.fz_meaning.specs.Builtins.{reified};
 ghost use Rattle.fz_meaning.specs.declared.kind.Kind.TheVariants.{Bool as BoolKind, Int as IntKind};
-ghost use Rattle.fz_eval.specs.of_scene.Views.{arguments_of, assigned};
+ghost use Rattle.fz_eval.specs.of_view.Views.{arguments_of, assigned};
 ghost use Rattle.fz_meaning.specs.Builtins.{row_at};
 ghost use Rattle.fz_meaning.specs.Known.{known_row};
 ghost use Rattle.fz_force.specs.Left.{IsLeft, IsOfKind, IsPlaceOf, holds_with, is_too_large};
@@ -14,7 +14,7 @@ use crate::base_row::{left_number, left_set, left_truth};
 use crate::counted::{Tally, counted};
 use crate::numbers::narrow;
 use fz_base::{SetError, Value};
-use fz_eval::fz_scene::Scene;
+use fz_eval::fz_arguments::ArgumentView;
 use fz_eval::{Outcome, of_builtin};
 use fz_meaning::{Builtin, Form, Kind, Known, Shape};
 use std::alloc::{AllocError, Global};
@@ -25,15 +25,15 @@ pub(crate) fn left_value(
     alloc: Global,
     known: Known,
     place: usize,
-    scene: &Scene<'_, '_>,
+    view: &ArgumentView<'_, '_>,
 ) -> Result<Option<Value>, AllocError>
     requires result { IsPlaceOf (known_row known).result place }
-    ensures left { (k : Kind) → IsOfKind (known_row known).shapes place k → IsFalse (is_too_large (known_row known) (assigned scene.now) (arguments_of scene.now)) → IfOk result (λ left. IsLeft k (holds_with (known_row known) (assigned scene.now) (arguments_of scene.now) place) left) }
-    ensures too_large { IsTrue (is_too_large (known_row known) (assigned scene.now) (arguments_of scene.now)) → IfOk result (λ left. left ≡ None) }
+    ensures left { (k : Kind) → IsOfKind (known_row known).shapes place k → IsFalse (is_too_large (known_row known) (assigned view.now) (arguments_of view.now)) → IfOk result (λ left. IsLeft k (holds_with (known_row known) (assigned view.now) (arguments_of view.now) place) left) }
+    ensures too_large { IsTrue (is_too_large (known_row known) (assigned view.now) (arguments_of view.now)) → IfOk result (λ left. left ≡ None) }
 {
     match known.form {
-        Form::Base => left_base(alloc, known.builtin, place, scene),
-        Form::Reified => left_form(alloc, known.builtin, place, scene),
+        Form::Base => left_base(alloc, known.builtin, place, view),
+        Form::Reified => left_form(alloc, known.builtin, place, view),
         Form::Implied => Ok(None),
     }
 }
@@ -43,13 +43,13 @@ fn left_form(
     alloc: Global,
     builtin: Builtin,
     place: usize,
-    scene: &Scene<'_, '_>,
+    view: &ArgumentView<'_, '_>,
 ) -> Result<Option<Value>, AllocError>
     requires { place ≡ length (row_at builtin).shapes }
-    ensures left { IsFalse (is_too_large (row_at builtin) (assigned scene.now) (arguments_of scene.now)) → IfOk result (λ left. IsLeft BoolKind (holds_with (reified (row_at builtin)) (assigned scene.now) (arguments_of scene.now) place) left) }
-    ensures too_large { IsTrue (is_too_large (row_at builtin) (assigned scene.now) (arguments_of scene.now)) → IfOk result (λ left. left ≡ None) }
+    ensures left { IsFalse (is_too_large (row_at builtin) (assigned view.now) (arguments_of view.now)) → IfOk result (λ left. IsLeft BoolKind (holds_with (reified (row_at builtin)) (assigned view.now) (arguments_of view.now) place) left) }
+    ensures too_large { IsTrue (is_too_large (row_at builtin) (assigned view.now) (arguments_of view.now)) → IfOk result (λ left. left ≡ None) }
 {
-    match of_builtin(alloc, builtin, scene)? {
+    match of_builtin(alloc, builtin, view)? {
         Outcome::Truth(truth) => Ok(Some(Value::Bool(truth))),
         Outcome::TooLarge => Ok(None),
     }
@@ -61,18 +61,18 @@ fn left_base(
     alloc: Global,
     builtin: Builtin,
     place: usize,
-    scene: &Scene<'_, '_>,
+    view: &ArgumentView<'_, '_>,
 ) -> Result<Option<Value>, AllocError>
     requires { IsPlaceOf (row_at builtin).result place }
-    ensures { (k : Kind) → IsOfKind (row_at builtin).shapes place k → IfOk result (λ left. IsLeft k (holds_with (row_at builtin) (assigned scene.now) (arguments_of scene.now) place) left) }
+    ensures { (k : Kind) → IsOfKind (row_at builtin).shapes place k → IfOk result (λ left. IsLeft k (holds_with (row_at builtin) (assigned view.now) (arguments_of view.now) place) left) }
 {
     let Some(kind) = kind_at(builtin, place) else {
         return Ok(None);
     };
     match kind {
-        Kind::Int => left_int(alloc, builtin, place, scene),
-        Kind::Bool => Ok(left_truth(builtin, place, scene).map(Value::Bool)),
-        Kind::Set => match left_set(alloc, builtin, place, scene) {
+        Kind::Int => left_int(alloc, builtin, place, view),
+        Kind::Bool => Ok(left_truth(builtin, place, view).map(Value::Bool)),
+        Kind::Set => match left_set(alloc, builtin, place, view) {
             Ok(set) => Ok(set.map(Value::Set)),
             Err(SetError::Memory) => Err(AllocError),
         },
@@ -84,16 +84,16 @@ fn left_int(
     alloc: Global,
     builtin: Builtin,
     place: usize,
-    scene: &Scene<'_, '_>,
+    view: &ArgumentView<'_, '_>,
 ) -> Result<Option<Value>, AllocError>
     requires result { IsPlaceOf (row_at builtin).result place }
     requires number { IsOfKind (row_at builtin).shapes place IntKind }
-    ensures { IfOk result (λ left. IsLeft IntKind (holds_with (row_at builtin) (assigned scene.now) (arguments_of scene.now) place) left) }
+    ensures { IfOk result (λ left. IsLeft IntKind (holds_with (row_at builtin) (assigned view.now) (arguments_of view.now) place) left) }
 {
-    let number = match counted(alloc, builtin, scene)? {
+    let number = match counted(alloc, builtin, view)? {
         Tally::Exactly(number) => narrow(number),
         Tally::Nothing => None,
-        Tally::Other => left_number(builtin, place, scene),
+        Tally::Other => left_number(builtin, place, view),
     };
     Ok(number.map(Value::Int))
 }

@@ -2,11 +2,11 @@
 ghost use Rattle.std.specs.Prelude.{◌≡◌, ℤ, false, int_le, IfSome, IfNone};
 ghost use Rattle.fz_meaning.specs.Values.{◌=ℤ◌};
 ghost use Rattle.fz_meaning.specs.Globals.{index_from, is_index_of_best};
-ghost use Rattle.fz_kernel.specs.of_scene.Views.{ints};
+ghost use Rattle.fz_kernel.specs.of_view.Views.{ints};
 
 use crate::indices::index_at;
 use fz_kernel::arrays::{maximum, minimum};
-use fz_kernel::fz_scene::Elements;
+use fz_kernel::fz_arguments::Elements;
 
 /// The index, counted from `first`, of the first greatest element; none where there is no element.
 pub fn index_of_maximum(elements: &Elements, first: i64) -> Option<i128>

@@ -3,11 +3,11 @@ ghost use Rattle.std.specs.Prelude.{◌≡◌, ◌&&◌, ◌+ℤ◌, ◌-ℤ◌,
 ghost use Rattle.std.specs.List.{list_all};
 ghost use Rattle.fz_meaning.specs.Values.{◌=ℤ◌};
 ghost use Rattle.fz_meaning.specs.Globals.{lies_between, load_of, loads_are};
-ghost use Rattle.fz_kernel.specs.of_scene.Views.{ints};
+ghost use Rattle.fz_kernel.specs.of_view.Views.{ints};
 ghost use Rattle.fz_globals.specs.Places.{number_at};
 
 use crate::reading::{common_places, number_at, number_count};
-use fz_kernel::fz_scene::Elements;
+use fz_kernel::fz_arguments::Elements;
 
 /// Whether the load of each bin that something lies in is at most the capacity.
 pub fn loads_are_within(bins: &Elements, weights: &Elements, capacity: i64) -> bool

@@ -3,12 +3,12 @@ ghost use Rattle.std.specs.Prelude.{◌≡◌, ◌<◌, ◌+◌, ◌||◌, pos, 
 ghost use Rattle.std.specs.List.{list_all};
 ghost use Rattle.fz_meaning.specs.Values.{◌=ℤ◌};
 ghost use Rattle.fz_meaning.specs.Globals.{all_pairs, boxes, overlap_in_no_area, overlap_nowhere};
-ghost use Rattle.fz_kernel.specs.of_scene.Views.{ints};
+ghost use Rattle.fz_kernel.specs.of_view.Views.{ints};
 ghost use Rattle.fz_globals.specs.Places.{box_at, number_at, stand_apart};
 
 use crate::reading::{common_places, is_zero_at};
 use crate::spans::are_apart;
-use fz_kernel::fz_scene::Elements;
+use fz_kernel::fz_arguments::Elements;
 
 /// Whether no two boxes overlap; one with no area takes its place too.
 pub fn overlap_nowhere(x: &Elements, y: &Elements, width: &Elements, height: &Elements) -> bool

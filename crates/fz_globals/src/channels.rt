@@ -1,12 +1,12 @@
 // Numbers that tell in which of the sets their indices are.
 ghost use Rattle.std.specs.Prelude.{◌≡◌};
 ghost use Rattle.fz_meaning.specs.Globals.{are_channelled};
-ghost use Rattle.fz_kernel.specs.of_scene.Views.{ints, sets};
+ghost use Rattle.fz_kernel.specs.of_view.Views.{ints, sets};
 ghost use Rattle.fz_globals.specs.Held.{are_held, is_held, size_of_all};
 
 use crate::flags::has;
 use crate::indices::{index_at, place_from};
-use fz_kernel::fz_scene::Elements;
+use fz_kernel::fz_arguments::Elements;
 
 /// Whether each set has just the indices, from `first` on, of the numbers that are the set's own
 /// index, from `first_part` on. It takes no memory.

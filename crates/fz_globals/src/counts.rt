@@ -5,13 +5,13 @@ ghost use Rattle.std.specs.FinSet as set;
 ghost use Rattle.fz_meaning.specs.Values.{◌=ℤ◌, ◌=ᴮ◌};
 ghost use Rattle.fz_meaning.specs.Builtins.{all_different, is_among};
 ghost use Rattle.fz_meaning.specs.Globals.{count_of, count_in, is_nonzero, values_of};
-ghost use Rattle.fz_kernel.specs.of_scene.Views.{ints, bools};
+ghost use Rattle.fz_kernel.specs.of_view.Views.{ints, bools};
 
 use crate::ordered::{numbers_in_order, values_in_order};
 use fz_base::IntSet;
 use fz_kernel::arrays::stands_from;
 use fz_kernel::distinct::all_different;
-use fz_kernel::fz_scene::Elements;
+use fz_kernel::fz_arguments::Elements;
 use std::alloc::{AllocError, Global};
 
 /// The number of places with the value.

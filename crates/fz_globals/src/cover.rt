@@ -6,10 +6,10 @@ ghost use Rattle.std.specs.List.Sorted.{IsSorted};
 ghost use Rattle.fz_meaning.specs.Values.{◌=ℤ◌};
 ghost use Rattle.fz_meaning.specs.Builtins.{is_among};
 ghost use Rattle.fz_meaning.specs.Globals.{all_both, count_of, counts_are, counts_lie, is_closed};
-ghost use Rattle.fz_kernel.specs.of_scene.Views.{ints};
+ghost use Rattle.fz_kernel.specs.of_view.Views.{ints};
 
 use crate::ordered::{count_in_order, numbers_in_order, stands_in_order};
-use fz_kernel::fz_scene::Elements;
+use fz_kernel::fz_arguments::Elements;
 use std::alloc::{AllocError, Global};
 
 /// Whether each value of the cover comes as often as its number says.

@@ -3,10 +3,10 @@ ghost use Rattle.std.specs.Prelude.{◌≡◌, ◌+◌, ◌<◌, ◌≤◌, ◌+
 ghost use Rattle.std.specs.Ordering.{int_cmp};
 ghost use Rattle.std.specs.List.Sorted.{IsSorted};
 ghost use Rattle.fz_meaning.specs.Globals.{index_from};
-ghost use Rattle.fz_kernel.specs.of_scene.Views.{ints};
+ghost use Rattle.fz_kernel.specs.of_view.Views.{ints};
 ghost use Rattle.fz_globals.specs.Keys.{key, AreKeys};
 
-use fz_kernel::fz_scene::Elements;
+use fz_kernel::fz_arguments::Elements;
 use std::alloc::{AllocError, Global};
 
 /// The elements with their places, each pair as one number, in order.

@@ -3,10 +3,10 @@
 ghost use Rattle.std.specs.Prelude.{◌≡◌, ◌&&◌, not, int_lt};
 ghost use Rattle.fz_meaning.specs.Values.{◌=ℤ◌, ◌=ᴮ◌};
 ghost use Rattle.fz_meaning.specs.Globals.{is_before};
-ghost use Rattle.fz_kernel.specs.of_scene.Views.{bools, ints};
+ghost use Rattle.fz_kernel.specs.of_view.Views.{bools, ints};
 
 use crate::reading::{number_at, number_count, truth_at, truth_count};
-use fz_kernel::fz_scene::Elements;
+use fz_kernel::fz_arguments::Elements;
 
 /// Whether the numbers of `a` stand before those of `b`.
 pub fn ints_are_before(a: &Elements, b: &Elements) -> bool

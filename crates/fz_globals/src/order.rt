@@ -2,10 +2,10 @@
 ghost use Rattle.std.specs.Prelude.{◌≡◌, not, ◌||◌, int_le, int_lt, IfOk};
 ghost use Rattle.fz_meaning.specs.Values.{◌=ℤ◌};
 ghost use Rattle.fz_meaning.specs.Globals.{all_neighbours, is_same_list, is_sorted_form};
-ghost use Rattle.fz_kernel.specs.of_scene.Views.{ints, bools};
+ghost use Rattle.fz_kernel.specs.of_view.Views.{ints, bools};
 
 use crate::ordered::numbers_in_order;
-use fz_kernel::fz_scene::Elements;
+use fz_kernel::fz_arguments::Elements;
 use std::alloc::{AllocError, Global};
 
 /// Whether all numbers are equal.

@@ -5,10 +5,10 @@ ghost use Rattle.std.specs.List.{filter};
 ghost use Rattle.std.specs.List.Sorted.{IsSorted, IsPermutation};
 ghost use Rattle.fz_meaning.specs.Builtins.{is_among};
 ghost use Rattle.fz_meaning.specs.Globals.{count_of, values_of};
-ghost use Rattle.fz_kernel.specs.of_scene.Views.{ints};
+ghost use Rattle.fz_kernel.specs.of_view.Views.{ints};
 
 use fz_kernel::arrays::numbers_of;
-use fz_kernel::fz_scene::Elements;
+use fz_kernel::fz_arguments::Elements;
 use std::alloc::{AllocError, Global};
 
 /// The elements in ascending order.

@@ -3,11 +3,11 @@ ghost use Rattle.std.specs.Prelude.{◌≡◌, ◌||◌, true, false, IfSome, If
 ghost use Rattle.std.specs.List.{list_all};
 ghost use Rattle.fz_meaning.specs.Builtins.{leaves_128, products};
 ghost use Rattle.fz_meaning.specs.Globals.{is_knapsack, is_natural};
-ghost use Rattle.fz_kernel.specs.of_scene.Views.{ints};
+ghost use Rattle.fz_kernel.specs.of_view.Views.{ints};
 
 use crate::reading::{is_natural_at, number_count};
 use fz_kernel::arrays::sum_of_products;
-use fz_kernel::fz_scene::Elements;
+use fz_kernel::fz_arguments::Elements;
 
 /// Whether `xs` of the things weigh and profit so much; none where a sum of products on the way is
 /// no number of signed 128 bits.

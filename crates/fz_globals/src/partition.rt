@@ -2,10 +2,10 @@
 ghost use Rattle.std.specs.Prelude.{◌≡◌, IfOk};
 ghost use Rattle.std.specs.FinSet.{difference};
 ghost use Rattle.fz_meaning.specs.Globals.{are_disjoint, is_partition};
-ghost use Rattle.fz_kernel.specs.of_scene.Views.{sets};
+ghost use Rattle.fz_kernel.specs.of_view.Views.{sets};
 
 use fz_base::{IntSet, SetError};
-use fz_kernel::fz_scene::Elements;
+use fz_kernel::fz_arguments::Elements;
 use std::alloc::{AllocError, Global};
 
 /// Whether the sets have no element in common. It takes no memory.

@@ -3,11 +3,11 @@ ghost use Rattle.std.specs.Prelude.{◌≡◌, List, Some, ℤ, pos, option_map,
 ghost use Rattle.std.specs.Ordering.{int_cmp};
 ghost use Rattle.std.specs.List.Sorted.{IsSorted};
 ghost use Rattle.fz_meaning.specs.Globals.{all_neighbours, precedes, rises_by_one};
-ghost use Rattle.fz_kernel.specs.of_scene.Views.{ints};
+ghost use Rattle.fz_kernel.specs.of_view.Views.{ints};
 ghost use Rattle.fz_globals.specs.Keys.{AreKeys, comes_before};
 
 use crate::firsts::{first_place, keys_in_order};
-use fz_kernel::fz_scene::Elements;
+use fz_kernel::fz_arguments::Elements;
 use std::alloc::{AllocError, Global};
 
 // Up to so many numbers of a chain, the elements are gone over for each, which takes no memory.

@@ -3,10 +3,10 @@ ghost use Rattle.std.specs.Prelude.{◌≡◌, false, pos, length, slice_index_o
 ghost use Rattle.std.specs.List.{zip};
 ghost use Rattle.fz_meaning.specs.Values.{◌=ℤ◌};
 ghost use Rattle.fz_meaning.specs.Globals.{is_natural};
-ghost use Rattle.fz_kernel.specs.of_scene.Views.{bools, ints};
+ghost use Rattle.fz_kernel.specs.of_view.Views.{bools, ints};
 ghost use Rattle.fz_globals.specs.Places.{number_at};
 
-use fz_kernel::fz_scene::Elements;
+use fz_kernel::fz_arguments::Elements;
 
 /// The number at a place; 0 past the end.
 #[inline(always)]

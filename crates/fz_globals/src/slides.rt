@@ -3,10 +3,10 @@ ghost use Rattle.std.specs.Prelude.{◌≡◌, ◌≤◌, ◌<◌, length, take}
 ghost use Rattle.std.specs.List.{list_all};
 ghost use Rattle.fz_meaning.specs.Builtins.{total};
 ghost use Rattle.fz_meaning.specs.Globals.{lies_between, slides_between, windows};
-ghost use Rattle.fz_kernel.specs.of_scene.Views.{ints};
+ghost use Rattle.fz_kernel.specs.of_view.Views.{ints};
 
 use crate::reading::{number_at, number_count};
-use fz_kernel::fz_scene::Elements;
+use fz_kernel::fz_arguments::Elements;
 
 /// Whether the sum of each run of `width` neighbours lies from `low` to `high`; false where the
 /// width is below 1.

@@ -2,11 +2,11 @@
 ghost use Rattle.std.specs.Prelude.{◌≡◌, ◌<◌, ◌+◌, drop, length};
 ghost use Rattle.std.specs.List.{list_all, zip};
 ghost use Rattle.fz_meaning.specs.Globals.{all_pairs, are_apart, ends_before, last_naturally, runs_at};
-ghost use Rattle.fz_kernel.specs.of_scene.Views.{ints};
+ghost use Rattle.fz_kernel.specs.of_view.Views.{ints};
 ghost use Rattle.fz_globals.specs.Places.{keep_apart, span_at};
 
 use crate::reading::{common_places, is_natural_at, is_zero_at, number_at};
-use fz_kernel::fz_scene::Elements;
+use fz_kernel::fz_arguments::Elements;
 use fz_kernel::numbers::sum;
 
 /// Whether the span at a place covers the number.

@@ -2,9 +2,9 @@
 ghost use Rattle.std.specs.Prelude.{◌≡◌, ◌+◌, ◌*◌, ◌%◌, ◌≤◌, ◌<◌, false, drop, length, nat_eq, take, IfNone, IfSome};
 ghost use Rattle.fz_meaning.specs.Values.{◌=ℤ◌, ◌=ᴮ◌};
 ghost use Rattle.fz_meaning.specs.Globals.{is_row_of, is_same_list};
-ghost use Rattle.fz_kernel.specs.of_scene.Views.{bools, ints, slots_of};
+ghost use Rattle.fz_kernel.specs.of_view.Views.{bools, ints, slots_of};
 
-use fz_kernel::fz_scene::Elements;
+use fz_kernel::fz_arguments::Elements;
 
 /// Whether the elements are a row of the table; none is where there is no element. A row is left at
 /// the first element that differs.

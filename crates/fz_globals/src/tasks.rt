@@ -2,12 +2,12 @@
 ghost use Rattle.std.specs.Prelude.{◌≡◌, ◌&&◌, length};
 ghost use Rattle.std.specs.List.{list_all, zip};
 ghost use Rattle.fz_meaning.specs.Globals.{is_cumulative, is_disjunctive, is_natural, is_strictly_disjunctive, used_at};
-ghost use Rattle.fz_kernel.specs.of_scene.Views.{ints};
+ghost use Rattle.fz_kernel.specs.of_view.Views.{ints};
 ghost use Rattle.fz_globals.specs.Places.{keeps_within, number_at, span_at};
 
 use crate::reading::{common_places, is_natural_at, is_zero_at, number_at, number_count};
 use crate::spans::{all_keep_apart, last_naturally, runs_at};
-use fz_kernel::fz_scene::Elements;
+use fz_kernel::fz_arguments::Elements;
 
 /// Whether no two tasks that last run at one time, and none lasts less than no time.
 pub fn is_disjunctive(starts: &Elements, durations: &Elements) -> bool

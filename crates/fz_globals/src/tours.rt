@@ -4,11 +4,11 @@ ghost use Rattle.std.specs.Option.{option_map_or};
 ghost use Rattle.fz_meaning.specs.Values.{◌=ℤ◌};
 ghost use Rattle.fz_meaning.specs.Builtins.{all_different, element_at};
 ghost use Rattle.fz_meaning.specs.Globals.{are_inverse, are_places, as_places, end_of_tour, is_circuit, is_one_tour, is_subcircuit, leads_back, lies_between, moved_from, tour};
-ghost use Rattle.fz_kernel.specs.of_scene.Views.{ints, slots_of};
+ghost use Rattle.fz_kernel.specs.of_view.Views.{ints, slots_of};
 
 use crate::indices::{place_from, place_in};
 use fz_kernel::arrays::all_elements_different;
-use fz_kernel::fz_scene::Elements;
+use fz_kernel::fz_arguments::Elements;
 use std::alloc::{AllocError, Global};
 
 /// Whether each list leads back from where the other leads; the indices in them begin with `fo` and

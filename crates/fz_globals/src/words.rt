@@ -1,12 +1,12 @@
 //! Words that a finite automaton takes.
 ghost use Rattle.std.specs.Prelude.{◌≡◌, ◌+ℤ◌, ◌*ℤ◌, pos};
 ghost use Rattle.fz_meaning.specs.Globals.{is_word, lies_between, run, step};
-ghost use Rattle.fz_kernel.specs.of_scene.Views.{ints};
+ghost use Rattle.fz_kernel.specs.of_view.Views.{ints};
 
 use crate::reading::{number_at, number_count};
 use fz_base::IntSet;
 use fz_kernel::arrays::int_element_at;
-use fz_kernel::fz_scene::Elements;
+use fz_kernel::fz_arguments::Elements;
 use fz_kernel::numbers::product;
 
 /// Whether the word leads from the first state to one of the last; the transitions stand row by

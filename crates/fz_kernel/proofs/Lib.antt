@@ -5,4 +5,4 @@ pub mod Added
 pub mod Best
 pub mod Passed
 pub mod Read
-pub use Rattle.fz_scene.proofs as of_scene
+pub use Rattle.fz_arguments.proofs as of_view

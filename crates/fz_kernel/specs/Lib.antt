@@ -1,1 +1,1 @@
-pub use Rattle.fz_scene.specs as of_scene
+pub use Rattle.fz_arguments.specs as of_view

@@ -13,4 +13,4 @@ pub mod distinct;
 pub mod numbers;
 pub mod sets;
 
-pub use fz_scene;
+pub use fz_arguments;

@@ -42,7 +42,8 @@ end_is_longest room (c ∷ cs) zero h less = without_first room c cs less ∙ wh
 end_is_longest room (c ∷ cs) (suc k) h less =
     without_first room c cs (omega (arith, less, end_is_narrower cs k)) ∙ end_is_longest room cs k h less
 
--- of a search from the end that stopped at a place: at the front, or before a character that has no room
+-- of a search from the end that stopped at a place: at the front, or before a character that has no
+-- room
 pub end_found : (room left start : ℕ) (cs : List ℕ) → start ≤ length cs → all_columns (drop start cs) + left ≡ room
     → (0 < start → (d : ℕ) × (left < width (slice_index_or cs (start - 1) d))) → take (length cs - start) (drop start cs) ≡ end_within room cs
 end_found room left zero cs within so_far stopped = take_all (length cs - 0) cs (omega arith) ∙ sym (whole_end room cs (omega (arith, so_far)))

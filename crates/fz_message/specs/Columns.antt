@@ -1,5 +1,6 @@
--- Columns of a text, and texts cut to them (this project's profile). A character takes as many columns as the library unicode_width says, which
--- follows Unicode Standard Annex 11; a control character is shown as a blank.
+-- Columns of a text, and texts cut to them (this project's profile). A character takes as many
+-- columns as the library unicode_width says, which follows Unicode Standard Annex 11; a control
+-- character is shown as a blank.
 use Rattle.std.specs.Prelude.{ℕ, suc, ◌+◌, ◌-◌, List, [], ◌∷◌, ◌++◌, map, codes, cond, unwrap_or, false, nat_le, min}
 use Rattle.std.specs.Char.{is_control}
 use Rattle.std.specs.Str.{chars}
@@ -9,7 +10,8 @@ use Rattle.unicode_width.specs.Width.{char_width}
 abbrev pub visible : ℕ → ℕ
 visible c = cond (is_control c) 32 c
 
--- the characters of bytes as a message shows them: a replacement character stands for what isn't UTF-8
+-- the characters of bytes as a message shows them: a replacement character stands for what isn't
+-- UTF-8
 abbrev pub shown : List ℕ → List ℕ
 shown bytes = map visible (chars (utf8_lossy bytes))
 

@@ -1,5 +1,5 @@
--- The text of a message (this project's profile): its first line is a compiler's, then come the line of the source with its number, marks below
--- it, and a line for each note.
+-- The text of a message (this project's profile): its first line is a compiler's, then come the
+-- line of the source with its number, marks below it, and a line for each note.
 use Rattle.std.specs.Prelude.{ℕ, zero, suc, ◌+◌, List, [], ◌∷◌, ◌++◌, codes, cond, decimal, encode_utf8_all, flat_map, length, string_bytes, Option, Some, None, Bool}
 use Rattle.std.specs.Fmt.{signed_decimal}
 use Rattle.std.specs.Ordering.{int_eq}

@@ -1,4 +1,5 @@
--- A message on a piece of a source (this project's profile). Lines are counted from 1, and columns in characters of the line, from 1.
+-- A message on a piece of a source (this project's profile). Lines are counted from 1, and columns
+-- in characters of the line, from 1.
 use Rattle.std.specs.Prelude.{◌≡◌, ℕ, suc, ◌+◌, ◌-◌, List, [], take, drop, min, string_bytes}
 use Rattle.fz_base.specs.declared.span.Span.{Span}
 use Rattle.fz_places.specs.Lines.{characters, first_line, last_line, line_ends}

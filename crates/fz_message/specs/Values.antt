@@ -10,7 +10,8 @@ use Rattle.fz_message.specs.declared.values.ShownSet.{ShownSet}
 use Rattle.fz_message.specs.declared.values.ShownValue.{ShownValue}
 use Rattle.fz_message.specs.declared.values.ShownValue.TheVariants as shown
 
--- the first eight of the ranges that the set consists of, in order and with a gap between each two, and how many are left out
+-- the first eight of the ranges that the set consists of, in order and with a gap between each two,
+-- and how many are left out
 abbrev pub IsShownSet : NumberSet → ShownSet → Type 0
 IsShownSet s t = (rs : List Range) × AreInOrder lowest rs × ((x : ℤ) → covers rs x ≡ contains s x)
     × (t.ranges.items ≡ take 8 rs) × (t.left_out ≡ length rs - 8)

@@ -1,6 +1,6 @@
 //! A message on a place of a source.
 
-ghost use Rattle.std.specs.Prelude.{◌<◌, IfOk, IfSome, IsNone, string_bytes};
+ghost use Rattle.std.specs.Prelude.{◌<◌, ◌≤◌, IfOk, IfSome, IsNone, string_bytes};
 ghost use Rattle.fz_message.specs.Place.{IsMessageAt};
 
 use crate::excerpt::Excerpt;
@@ -31,6 +31,7 @@ pub fn message_at(
     said: String,
 ) -> Result<Option<Message>, AllocError>
     ensures found { IfOk result (λ o. IfSome o (IsMessageAt source.now place (string_bytes said))) }
+    ensures given { IfOk result (λ o. IfSome o (λ _. source.now.bytes_before ≤ place.start)) }
     ensures none { IfOk result (λ o. IsNone o → place.start < source.now.bytes_before) }
 {
     let Some(start) = place.start.checked_sub(source.bytes_before) else {

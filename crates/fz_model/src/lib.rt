@@ -1,6 +1,6 @@
 //! Models of FlatZinc: names, kinds and lengths, and what they mean. The inner crate `fz_meaning`
 //! has the definitions, the table of builtins and the theory of faults, `fz_data` the loaded model;
-//! `fz_scene`, `fz_kernel` and `fz_eval` tell the state of a point, `fz_force` the step that it
+//! `fz_arguments`, `fz_kernel` and `fz_eval` tell the state of a point, `fz_force` the step that it
 //! forces.
 #![tactic(auto)]
 

@@ -30,7 +30,7 @@ pub struct Case<'a> {
 
 /// What is read again of a case.
 #[derive(Clone, Copy)]
-struct Scene<'s, 'a> {
+struct Reading<'s, 'a> {
     case: &'s Case<'a>,
     model: &'s Model<'a>,
     ast: &'s Ast<'a>,
@@ -58,41 +58,41 @@ pub fn case_explanation(alloc: Global, case: &Case<'_>) -> Result<Option<String>
     let Ok(mut filling) = fill(alloc, &model, block) else {
         return Ok(None);
     };
-    let scene = Scene {
+    let reading = Reading {
         case,
         model: &model,
         ast: &ast,
         block,
     };
-    match scene_message(alloc, &scene, &mut filling)? {
+    match verdict_message(alloc, &reading, &mut filling)? {
         Some(message) => Ok(Some(message_text(alloc, &message)?)),
         None => Ok(None),
     }
 }
 
-fn scene_message(
+fn verdict_message(
     alloc: Global,
-    scene: &Scene<'_, '_>,
+    reading: &Reading<'_, '_>,
     filling: &mut Partial,
 ) -> Result<Option<Message>, AllocError>
-    requires fits { IsPartial scene.now.model.now filling.old }
+    requires fits { IsPartial reading.now.model.now filling.old }
 {
-    let case = scene.case;
+    let case = reading.case;
     let said = case.said;
     if let Some(name) = said.strip_prefix(b"violated: printed ") {
-        return printed_explanation(alloc, scene, filling, name);
+        return printed_explanation(alloc, reading, filling, name);
     }
     if said.starts_with(b"violated: objective ") {
-        return objective_explanation(alloc, scene, filling);
+        return objective_explanation(alloc, reading, filling);
     }
     let sought = if said.starts_with(b"violated: ") {
         Sought::Failing
     } else {
         Sought::Undecided
     };
-    match first_point(alloc, scene.model, filling, sought)? {
-        Some(point) if point < scene.model.points() => {
-            point_explanation(alloc, scene, filling, point)
+    match first_point(alloc, reading.model, filling, sought)? {
+        Some(point) if point < reading.model.points() => {
+            point_explanation(alloc, reading, filling, point)
         }
         _ => Ok(None),
     }
@@ -117,27 +117,27 @@ fn sentence(alloc: Global, case: &Case<'_>) -> Result<String, AllocError> {
 
 fn point_explanation(
     alloc: Global,
-    scene: &Scene<'_, '_>,
+    reading: &Reading<'_, '_>,
     filling: &mut Partial,
     point: usize,
 ) -> Result<Option<Message>, AllocError>
-    requires in_range { point < length (points scene.now.model.now) }
-    requires fits { IsPartial scene.now.model.now filling.old }
+    requires in_range { point < length (points reading.now.model.now) }
+    requires fits { IsPartial reading.now.model.now filling.old }
 {
-    let Some(place) = point_place(scene.ast, &scene.model.point(point)) else {
+    let Some(place) = point_place(reading.ast, &reading.model.point(point)) else {
         return Ok(None);
     };
-    let case = scene.case;
-    let variables = variables_of(alloc, scene.model, point)?;
+    let case = reading.case;
+    let variables = variables_of(alloc, reading.model, point)?;
     let source = case.model;
-    let Some(mut message) = variables_message(alloc, scene, filling, source, place, &variables)?
+    let Some(mut message) = variables_message(alloc, reading, filling, source, place, &variables)?
     else {
         return Ok(None);
     };
-    if let Some(note) = bounds_note(alloc, scene.model, point)? {
+    if let Some(note) = bounds_note(alloc, reading.model, point)? {
         message.notes.push(note)?;
     }
-    if let Some(place) = too_large_at(alloc, scene.model, filling, point)? {
+    if let Some(place) = too_large_at(alloc, reading.model, filling, point)? {
         message.notes.push(Note::LeavesAt(place))?;
     }
     if let Some(help) = help_for(case.said) {
@@ -150,23 +150,29 @@ fn point_explanation(
 /// front and at the end.
 fn variables_message(
     alloc: Global,
-    scene: &Scene<'_, '_>,
+    reading: &Reading<'_, '_>,
     filling: &mut Partial,
     source: Source<'_>,
     place: Span,
     variables: &[usize],
 ) -> Result<Option<Message>, AllocError>
-    requires fits { IsPartial scene.now.model.now filling.old }
+    requires fits { IsPartial reading.now.model.now filling.old }
 {
-    let case = scene.case;
+    let case = reading.case;
     let said = sentence(alloc, case)?;
     let Some(mut message) = message_at(alloc, &source, place, said)? else {
         return Ok(None);
     };
-    let told = explain(alloc, scene.model, &scene.block.items, filling, variables)?;
+    let told = explain(
+        alloc,
+        reading.model,
+        &reading.block.items,
+        filling,
+        variables,
+    )?;
     let loaded = Loaded {
-        model: scene.model,
-        ast: scene.ast,
+        model: reading.model,
+        ast: reading.ast,
         text: case.model.bytes,
     };
     message.notes = notes_of(alloc, loaded, &told)?;
@@ -189,25 +195,25 @@ fn help_for(said: &[u8]) -> Option<Help> {
 
 fn objective_explanation(
     alloc: Global,
-    scene: &Scene<'_, '_>,
+    reading: &Reading<'_, '_>,
     filling: &mut Partial,
 ) -> Result<Option<Message>, AllocError>
-    requires fits { IsPartial scene.now.model.now filling.old }
+    requires fits { IsPartial reading.now.model.now filling.old }
 {
-    let place = match &scene.ast.solve.goal {
+    let place = match &reading.ast.solve.goal {
         GoalItem::Minimize(basic) | GoalItem::Maximize(basic) => basic_place(basic),
         GoalItem::Satisfy => return Ok(None),
     };
     let mut variables = Vec::new(alloc);
-    if let Goal::Minimize(Term::Var(number)) | Goal::Maximize(Term::Var(number)) = scene
+    if let Goal::Minimize(Term::Var(number)) | Goal::Maximize(Term::Var(number)) = reading
         .model
         .goal()
     {
         variables.push(*number)?;
     }
-    let case = scene.case;
+    let case = reading.case;
     let source = case.model;
-    let Some(mut message) = variables_message(alloc, scene, filling, source, place, &variables)?
+    let Some(mut message) = variables_message(alloc, reading, filling, source, place, &variables)?
     else {
         return Ok(None);
     };
@@ -226,25 +232,25 @@ fn basic_place(basic: &Basic<'_>) -> Span {
 
 fn printed_explanation(
     alloc: Global,
-    scene: &Scene<'_, '_>,
+    reading: &Reading<'_, '_>,
     filling: &mut Partial,
     name: &[u8],
 ) -> Result<Option<Message>, AllocError>
-    requires fits { IsPartial scene.now.model.now filling.old }
+    requires fits { IsPartial reading.now.model.now filling.old }
 {
-    let Some(place) = printed_place(&scene.block.items, name) else {
+    let Some(place) = printed_place(&reading.block.items, name) else {
         return Ok(None);
     };
-    let case = scene.case;
+    let case = reading.case;
     let told = case.told;
-    let from = told.passed.bytes.saturating_add(scene.block.offset);
+    let from = told.passed.bytes.saturating_add(reading.block.offset);
     let place = Span {
         start: from.saturating_add(place.start),
         end: from.saturating_add(place.end),
     };
     let source = source_behind(case.stream, &told.bytes, told.passed);
-    let variables = variables_named(alloc, scene.model, name)?;
-    variables_message(alloc, scene, filling, source, place, &variables)
+    let variables = variables_named(alloc, reading.model, name)?;
+    variables_message(alloc, reading, filling, source, place, &variables)
 }
 
 /// Where a name is printed.

@@ -1,10 +1,10 @@
 // Whether elements are all different.
 ghost use Rattle.std.specs.Prelude.{◌≡◌, ◌≤◌, drop, length, IfOk};
 ghost use Rattle.fz_meaning.specs.Builtins.{is_among, all_different};
-ghost use Rattle.fz_scene.specs.Views.{ints};
+ghost use Rattle.fz_arguments.specs.Views.{ints};
 
 use crate::distinct::all_different;
-use fz_scene::Elements;
+use fz_arguments::Elements;
 use std::alloc::{AllocError, Global};
 
 // Up to so many elements each pair is compared, which takes no memory.

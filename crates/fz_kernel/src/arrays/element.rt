@@ -2,11 +2,11 @@
 ghost use Rattle.std.specs.Prelude.{◌≡◌, ◌+◌, ◌≤◌, ◌<◌, ℕ, pos, IfSome, IfNone, option_map};
 ghost use Rattle.fz_meaning.specs.Values.{◌=ℤ◌, ◌=ᴮ◌, ◌=ˢ◌};
 ghost use Rattle.fz_meaning.specs.Builtins.{element_at, is_element};
-ghost use Rattle.fz_scene.specs.Views.{ints, bools, sets};
+ghost use Rattle.fz_arguments.specs.Views.{ints, bools, sets};
 
 use crate::sets::same_set;
+use fz_arguments::Elements;
 use fz_base::IntSet;
-use fz_scene::Elements;
 
 // The place, counted from 0, of an index that is counted from 1; none where it is no index of
 // `count` elements.

@@ -2,9 +2,9 @@
 ghost use Rattle.std.specs.Prelude.{◌≡◌, true, [], ◌&&◌, int_le, IfSome, IfNone};
 ghost use Rattle.std.specs.List.{list_all};
 ghost use Rattle.fz_meaning.specs.Builtins.{is_among};
-ghost use Rattle.fz_scene.specs.Views.{ints};
+ghost use Rattle.fz_arguments.specs.Views.{ints};
 
-use fz_scene::Elements;
+use fz_arguments::Elements;
 
 /// The greatest element; none where there is no element.
 #[inline(always)]

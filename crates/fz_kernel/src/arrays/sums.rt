@@ -1,10 +1,10 @@
 // Sums over arrays.
 ghost use Rattle.std.specs.Prelude.{◌≡◌, true, false, IfSome, IfNone};
 ghost use Rattle.fz_meaning.specs.Builtins.{total, products, where_true, leaves_128};
-ghost use Rattle.fz_scene.specs.Views.{ints, bools};
+ghost use Rattle.fz_arguments.specs.Views.{ints, bools};
 
 use crate::numbers::product;
-use fz_scene::Elements;
+use fz_arguments::Elements;
 
 /// The sum of `a[i] * b[i]`, added from the left; none where a sum on the way is no number of signed 128 bits.
 #[inline(always)]

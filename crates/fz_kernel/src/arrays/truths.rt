@@ -2,9 +2,9 @@
 ghost use Rattle.std.specs.Prelude.{◌≡◌, not, ◌||◌, length};
 ghost use Rattle.std.specs.List.{list_all, list_any, filter};
 ghost use Rattle.fz_meaning.specs.Builtins.{is_odd};
-ghost use Rattle.fz_scene.specs.Views.{bools};
+ghost use Rattle.fz_arguments.specs.Views.{bools};
 
-use fz_scene::Elements;
+use fz_arguments::Elements;
 
 /// Whether all are true.
 pub fn all_true(elements: &Elements) -> bool

@@ -1,8 +1,8 @@
 use Rattle.std.proofs.Common.{ap, ◌∙◌, arith}
 use Rattle.fz_meaning.specs.Builtins.{row_at}
 use Rattle.fz_meaning.proofs.WithTruth.{last_place, one_more}
-use Rattle.fz_kernel.specs.of_scene.Given.{bool_at}
-use Rattle.fz_kernel.specs.of_scene.Views.{arguments_of, assigned}
+use Rattle.fz_kernel.specs.of_view.Given.{bool_at}
+use Rattle.fz_kernel.specs.of_view.Views.{arguments_of, assigned}
 use Rattle.fz_eval.proofs.Known.{form_shapes}
 use Rattle.fz_eval.proofs.constraints.last_truth.Goals as goal
 
@@ -14,4 +14,4 @@ overflow_sub-shapes c =
 pub returns : goal.returns
 returns c =
     let r = row_at c.args.known.builtin in
-    c.truth.ensures.read ∙ ap (bool_at (assigned c.args.scene.now) (arguments_of c.args.scene.now)) (last_place c.shapes.result.now r.shapes (c.shapes.ensures ∙ form_shapes c.args.known.form c.requires r))
+    c.truth.ensures.read ∙ ap (bool_at (assigned c.args.view.now) (arguments_of c.args.view.now)) (last_place c.shapes.result.now r.shapes (c.shapes.ensures ∙ form_shapes c.args.known.form c.requires r))

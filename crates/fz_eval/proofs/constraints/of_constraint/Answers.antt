@@ -3,8 +3,8 @@ use Rattle.std.specs.Prelude.{IfOk}
 use Rattle.fz_meaning.specs.Meaning.{have_shapes, row_of}
 use Rattle.fz_meaning.specs.Known.{known_row}
 use Rattle.fz_data.specs.Parts.{constraint_view}
-use Rattle.fz_kernel.specs.of_scene.Given.{are_read}
-use Rattle.fz_kernel.specs.of_scene.Views.{arguments_of, assigned}
+use Rattle.fz_kernel.specs.of_view.Given.{are_read}
+use Rattle.fz_kernel.specs.of_view.Views.{arguments_of, assigned}
 use Rattle.fz_eval.proofs.States.{row_fits, same_state}
 use Rattle.fz_eval.proofs.constraints.of_constraint.Goals as goal
 
@@ -14,27 +14,27 @@ of_ready-requires c =
     let r = known_row c.in-Some.known in
     let e : row_of p ≡ Some r = sym c.requires.known ∙ ap (option_map known_row) c.in-Some.is in
     record {
-      fits = ap (have_shapes r.shapes) c.new-scene.ensures.arguments ∙ row_fits p r e;
-      ready = (λ i. are_read (c.new-scene.ensures.assigned i) r.shapes (c.new-scene.ensures.arguments i)) ∙ c.requires.ready c.if-ready.true r e;
+      fits = ap (have_shapes r.shapes) c.new-view.ensures.arguments ∙ row_fits p r e;
+      ready = (λ i. are_read (c.new-view.ensures.assigned i) r.shapes (c.new-view.ensures.arguments i)) ∙ c.requires.ready c.if-ready.true r e;
     }
 
-pub of_scene-requires : goal.of_scene-requires
-of_scene-requires c =
+pub of_view-requires : goal.of_view-requires
+of_view-requires c =
     let p = constraint_view c.args.parts in
     let r = known_row c.in-Some.known in
     let e : row_of p ≡ Some r = sym c.requires.known ∙ ap (option_map known_row) c.in-Some.is in
-    record { fits = ap (have_shapes r.shapes) c.new-scene.ensures.arguments ∙ row_fits p r e }
+    record { fits = ap (have_shapes r.shapes) c.new-view.ensures.arguments ∙ row_fits p r e }
 
 pub returns-then-ready : goal.returns-then-ready
 returns-then-ready c =
     let p = constraint_view c.args.parts in
     let r = known_row c.in-Some.known in
     let e : row_of p ≡ Some r = sym c.requires.known ∙ ap (option_map known_row) c.in-Some.is in
-    subst (λ t. IfOk c.of_ready.result (λ s. s ≡ t)) (same_state (assigned c.new-scene.result) c.args.partial.now (arguments_of c.new-scene.result) p.arguments r (row_of p) c.new-scene.ensures.assigned c.new-scene.ensures.arguments e) c.of_ready.ensures
+    subst (λ t. IfOk c.of_ready.result (λ s. s ≡ t)) (same_state (assigned c.new-view.result) c.args.partial.now (arguments_of c.new-view.result) p.arguments r (row_of p) c.new-view.ensures.assigned c.new-view.ensures.arguments e) c.of_ready.ensures
 
 pub returns-else-ready : goal.returns-else-ready
 returns-else-ready c =
     let p = constraint_view c.args.parts in
     let r = known_row c.in-Some.known in
     let e : row_of p ≡ Some r = sym c.requires.known ∙ ap (option_map known_row) c.in-Some.is in
-    subst (λ t. IfOk c.of_scene.result (λ s. s ≡ t)) (same_state (assigned c.new-scene.result) c.args.partial.now (arguments_of c.new-scene.result) p.arguments r (row_of p) c.new-scene.ensures.assigned c.new-scene.ensures.arguments e) c.of_scene.ensures
+    subst (λ t. IfOk c.of_view.result (λ s. s ≡ t)) (same_state (assigned c.new-view.result) c.args.partial.now (arguments_of c.new-view.result) p.arguments r (row_of p) c.new-view.ensures.assigned c.new-view.ensures.arguments e) c.of_view.ensures

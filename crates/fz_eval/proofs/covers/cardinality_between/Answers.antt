@@ -1,13 +1,13 @@
 use Rattle.std.proofs.Common.{◌≡◌, IfOk, subst}
 use Rattle.fz_meaning.specs.Globals.{counts_lie}
-use Rattle.fz_kernel.specs.of_scene.Views.{arguments_of, assigned}
+use Rattle.fz_kernel.specs.of_view.Views.{arguments_of, assigned}
 use Rattle.fz_eval.proofs.ElementReadings.{ints_are}
 use Rattle.fz_eval.proofs.covers.cardinality_between.Goals as goal
 
 pub returns : goal.returns
 returns c =
-    let K = assigned c.args.scene.now in
-    let xs = arguments_of c.args.scene.now in
+    let K = assigned c.args.view.now in
+    let xs = arguments_of c.args.view.now in
     let least = ints_are c.elements.result K xs 2 c.elements.ensures.slots c.elements.ensures.under in
     let most = ints_are c.elements-2.result K xs 3 c.elements-2.ensures.slots c.elements-2.ensures.under in
     let x = ints_are c.elements-3.result K xs 0 c.elements-3.ensures.slots c.elements-3.ensures.under in

@@ -2,7 +2,7 @@ use Rattle.std.proofs.Common.{rules, ◌≡◌, FitsSigned, w64, ℤ, pos, ◌+�
 use Rattle.std.proofs.lemmas.Int.{to_z-of_z}
 use Rattle.std.specs.List.{list_all}
 use Rattle.fz_meaning.specs.Globals.{lies_between, loads_are}
-use Rattle.fz_kernel.specs.of_scene.Views.{arguments_of, assigned, ints}
+use Rattle.fz_kernel.specs.of_view.Views.{arguments_of, assigned, ints}
 use Rattle.fz_eval.proofs.ElementReadings.{ints_are}
 use Rattle.fz_eval.proofs.scheduling.bin_packing_load.Goals as goal
 
@@ -11,8 +11,8 @@ packed o bins weights loads = list_all (lies_between o ((o +ℤ pos (length load
 
 pub returns : goal.returns
 returns c =
-    let K = assigned c.args.scene.now in
-    let xs = arguments_of c.args.scene.now in
+    let K = assigned c.args.view.now in
+    let xs = arguments_of c.args.view.now in
     let loads = ints_are c.elements.result K xs 0 c.elements.ensures.slots c.elements.ensures.under in
     let bins = ints_are c.elements-2.result K xs 1 c.elements-2.ensures.slots c.elements-2.ensures.under in
     let weights = ints_are c.elements-3.result K xs 2 c.elements-3.ensures.slots c.elements-3.ensures.under in

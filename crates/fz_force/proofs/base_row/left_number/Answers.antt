@@ -6,8 +6,8 @@ use Rattle.fz_meaning.specs.declared.kind.Kind.TheVariants.{Int as IntKind}
 use Rattle.fz_meaning.specs.Values.{◌=ℤ◌}
 use Rattle.fz_meaning.specs.Builtins.{total, where_true, as_number}
 use Rattle.fz_meaning.proofs.Values.{int_itself}
-use Rattle.fz_eval.specs.of_scene.Given.{int_at, ints_at, bools_at}
-use Rattle.fz_eval.specs.of_scene.Views.{arguments_of, assigned, ints}
+use Rattle.fz_eval.specs.of_view.Given.{int_at, ints_at, bools_at}
+use Rattle.fz_eval.specs.of_view.Views.{arguments_of, assigned, ints}
 use Rattle.fz_meaning.specs.Builtins.{row_at}
 use Rattle.fz_meaning.specs.declared.builtin.Builtin.TheVariants.{IntEq, IntPlus, IntTimes, IntMin, IntMax, IntAbs, IntDiv, IntMod, ArrayIntElement, ArrayVarIntElement, ArrayIntMaximum, ArrayIntMinimum, Bool2Int, BoolLinEq, SetCard}
 use Rattle.fz_force.specs.Left.{IsOfKind, IsLeftNumber}
@@ -22,8 +22,8 @@ overflow_sub-place c = int_eq_place c.args.builtin c.args.place c.in-IntEq.is c.
 
 pub returns-in-IntEq : goal.returns-in-IntEq
 returns-in-IntEq c =
-    let K = assigned c.args.scene.now in
-    let xs = arguments_of c.args.scene.now in
+    let K = assigned c.args.view.now in
+    let xs = arguments_of c.args.view.now in
     let i = c.args.place in
     let n = c.int.result in
     let fits : FitsSigned w64 n = search rules in
@@ -31,8 +31,8 @@ returns-in-IntEq c =
 
 pub returns-in-IntPlus : goal.returns-in-IntPlus
 returns-in-IntPlus c =
-    let K = assigned c.args.scene.now in
-    let xs = arguments_of c.args.scene.now in
+    let K = assigned c.args.view.now in
+    let xs = arguments_of c.args.view.now in
     let i = c.args.place in
     let a = c.int-in-IntPlus.result in
     let b = c.int-in-IntPlus-2.result in
@@ -44,8 +44,8 @@ returns-in-IntPlus c =
 
 pub returns-in-IntTimes : goal.returns-in-IntTimes
 returns-in-IntTimes c =
-    let K = assigned c.args.scene.now in
-    let xs = arguments_of c.args.scene.now in
+    let K = assigned c.args.view.now in
+    let xs = arguments_of c.args.view.now in
     let i = c.args.place in
     let a = c.int-in-IntTimes.result in
     let b = c.int-in-IntTimes-2.result in
@@ -57,8 +57,8 @@ returns-in-IntTimes c =
 
 pub returns-in-IntMin : goal.returns-in-IntMin
 returns-in-IntMin c =
-    let K = assigned c.args.scene.now in
-    let xs = arguments_of c.args.scene.now in
+    let K = assigned c.args.view.now in
+    let xs = arguments_of c.args.view.now in
     let i = c.args.place in
     let a = c.int-in-IntMin.result in
     let b = c.int-in-IntMin-2.result in
@@ -70,8 +70,8 @@ returns-in-IntMin c =
 
 pub returns-in-IntMax : goal.returns-in-IntMax
 returns-in-IntMax c =
-    let K = assigned c.args.scene.now in
-    let xs = arguments_of c.args.scene.now in
+    let K = assigned c.args.view.now in
+    let xs = arguments_of c.args.view.now in
     let i = c.args.place in
     let a = c.int-in-IntMax.result in
     let b = c.int-in-IntMax-2.result in
@@ -83,8 +83,8 @@ returns-in-IntMax c =
 
 pub returns-in-IntDiv : goal.returns-in-IntDiv
 returns-in-IntDiv c =
-    let K = assigned c.args.scene.now in
-    let xs = arguments_of c.args.scene.now in
+    let K = assigned c.args.view.now in
+    let xs = arguments_of c.args.view.now in
     let i = c.args.place in
     let a = c.int-in-IntDiv.result in
     let b = c.int-in-IntDiv-2.result in
@@ -96,8 +96,8 @@ returns-in-IntDiv c =
 
 pub returns-in-IntMod : goal.returns-in-IntMod
 returns-in-IntMod c =
-    let K = assigned c.args.scene.now in
-    let xs = arguments_of c.args.scene.now in
+    let K = assigned c.args.view.now in
+    let xs = arguments_of c.args.view.now in
     let i = c.args.place in
     let a = c.int-in-IntMod.result in
     let b = c.int-in-IntMod-2.result in
@@ -109,8 +109,8 @@ returns-in-IntMod c =
 
 pub returns-in-IntAbs : goal.returns-in-IntAbs
 returns-in-IntAbs c =
-    let K = assigned c.args.scene.now in
-    let xs = arguments_of c.args.scene.now in
+    let K = assigned c.args.view.now in
+    let xs = arguments_of c.args.view.now in
     let i = c.args.place in
     let a = c.int-in-IntAbs.result in
     let fits : FitsSigned w64 a = search rules in
@@ -119,8 +119,8 @@ returns-in-IntAbs c =
 
 pub returns-in-ArrayIntElement : goal.returns-in-ArrayIntElement
 returns-in-ArrayIntElement c =
-    let K = assigned c.args.scene.now in
-    let xs = arguments_of c.args.scene.now in
+    let K = assigned c.args.view.now in
+    let xs = arguments_of c.args.view.now in
     let i = c.args.place in
     let a = c.int-in-ArrayIntElement.result in
     let a_fits : FitsSigned w64 a = search rules in
@@ -134,8 +134,8 @@ returns-in-ArrayIntElement c =
 
 pub returns-in-ArrayVarIntElement : goal.returns-in-ArrayVarIntElement
 returns-in-ArrayVarIntElement c =
-    let K = assigned c.args.scene.now in
-    let xs = arguments_of c.args.scene.now in
+    let K = assigned c.args.view.now in
+    let xs = arguments_of c.args.view.now in
     let i = c.args.place in
     let a = c.int-in-ArrayVarIntElement.result in
     let a_fits : FitsSigned w64 a = search rules in
@@ -149,8 +149,8 @@ returns-in-ArrayVarIntElement c =
 
 pub returns-in-ArrayIntMaximum : goal.returns-in-ArrayIntMaximum
 returns-in-ArrayIntMaximum c =
-    let K = assigned c.args.scene.now in
-    let xs = arguments_of c.args.scene.now in
+    let K = assigned c.args.view.now in
+    let xs = arguments_of c.args.view.now in
     let i = c.args.place in
     let b = ints c.elements-in-ArrayIntMaximum.result in
     let o = c.maximum.result in
@@ -161,8 +161,8 @@ returns-in-ArrayIntMaximum c =
 
 pub returns-in-ArrayIntMinimum : goal.returns-in-ArrayIntMinimum
 returns-in-ArrayIntMinimum c =
-    let K = assigned c.args.scene.now in
-    let xs = arguments_of c.args.scene.now in
+    let K = assigned c.args.view.now in
+    let xs = arguments_of c.args.view.now in
     let i = c.args.place in
     let b = ints c.elements-in-ArrayIntMinimum.result in
     let o = c.minimum.result in
@@ -173,8 +173,8 @@ returns-in-ArrayIntMinimum c =
 
 pub returns-in-Bool2Int : goal.returns-in-Bool2Int
 returns-in-Bool2Int c =
-    let K = assigned c.args.scene.now in
-    let xs = arguments_of c.args.scene.now in
+    let K = assigned c.args.view.now in
+    let xs = arguments_of c.args.view.now in
     let i = c.args.place in
     let n = c.number_of_truth.result in
     let fits : FitsSigned w64 n = search rules in
@@ -185,8 +185,8 @@ returns-in-Bool2Int c =
 
 pub returns-in-BoolLinEq : goal.returns-in-BoolLinEq
 returns-in-BoolLinEq c =
-    let K = assigned c.args.scene.now in
-    let xs = arguments_of c.args.scene.now in
+    let K = assigned c.args.view.now in
+    let xs = arguments_of c.args.view.now in
     let i = c.args.place in
     let n = c.sum_where_true.result in
     let fits : FitsSigned w128 n = search rules in
@@ -198,8 +198,8 @@ returns-in-BoolLinEq c =
 
 pub returns-in-SetCard : goal.returns-in-SetCard
 returns-in-SetCard c =
-    let K = assigned c.args.scene.now in
-    let xs = arguments_of c.args.scene.now in
+    let K = assigned c.args.view.now in
+    let xs = arguments_of c.args.view.now in
     let i = c.args.place in
     from_row K xs i IntKind (option_map Int c.count.result) c.args.builtin SetCard c.in-SetCard.is c.requires.result
     (λ place. set_card_row K xs i c.set.result.now c.count.result place c.set.ensures.read c.count.ensures)

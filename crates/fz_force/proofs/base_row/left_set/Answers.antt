@@ -6,8 +6,8 @@ use Rattle.fz_meaning.specs.declared.kind.Kind.TheVariants.{Set as SetKind}
 use Rattle.fz_meaning.specs.Values.{◌=ˢ◌}
 use Rattle.fz_meaning.specs.Builtins.{element_at}
 use Rattle.fz_meaning.proofs.Values.{set_itself}
-use Rattle.fz_eval.specs.of_scene.Given.{int_at}
-use Rattle.fz_eval.specs.of_scene.Views.{arguments_of, assigned, sets}
+use Rattle.fz_eval.specs.of_view.Given.{int_at}
+use Rattle.fz_eval.specs.of_view.Views.{arguments_of, assigned, sets}
 use Rattle.fz_meaning.specs.Builtins.{row_at}
 use Rattle.fz_meaning.specs.declared.builtin.Builtin.TheVariants.{SetEq, SetUnion, SetIntersect, SetDiff, SetSymdiff, ArraySetElement, ArrayVarSetElement}
 use Rattle.fz_force.specs.Left.{IsLeft, holds_with}
@@ -22,16 +22,16 @@ overflow_sub-place c = set_eq_place c.args.builtin c.args.place c.in-SetEq.is c.
 
 pub returns-in_ok-copy-in-SetEq : goal.returns-in_ok-copy-in-SetEq
 returns-in_ok-copy-in-SetEq c =
-    let K = assigned c.args.scene.now in
-    let xs = arguments_of c.args.scene.now in
+    let K = assigned c.args.view.now in
+    let xs = arguments_of c.args.view.now in
     let i = c.args.place in
     let s = c.in_ok-copy-in-SetEq.field-0 in
     from_row K xs i SetKind (Some (Set s)) c.args.builtin SetEq c.in-SetEq.is c.requires.result (λ place. set_eq_row K xs i s place (c.in_ok-copy-in-SetEq.ensures ∙ c.set.ensures.read))
 
 pub returns-in_ok-union-in-SetUnion : goal.returns-in_ok-union-in-SetUnion
 returns-in_ok-union-in-SetUnion c =
-    let K = assigned c.args.scene.now in
-    let xs = arguments_of c.args.scene.now in
+    let K = assigned c.args.view.now in
+    let xs = arguments_of c.args.view.now in
     let i = c.args.place in
     let s = c.in_ok-union-in-SetUnion.field-0 in
     from_row K xs i SetKind (Some (Set s)) c.args.builtin SetUnion c.in-SetUnion.is c.requires.result
@@ -39,8 +39,8 @@ returns-in_ok-union-in-SetUnion c =
 
 pub returns-in_ok-intersect-in-SetIntersect : goal.returns-in_ok-intersect-in-SetIntersect
 returns-in_ok-intersect-in-SetIntersect c =
-    let K = assigned c.args.scene.now in
-    let xs = arguments_of c.args.scene.now in
+    let K = assigned c.args.view.now in
+    let xs = arguments_of c.args.view.now in
     let i = c.args.place in
     let s = c.in_ok-intersect-in-SetIntersect.field-0 in
     from_row K xs i SetKind (Some (Set s)) c.args.builtin SetIntersect c.in-SetIntersect.is c.requires.result
@@ -48,8 +48,8 @@ returns-in_ok-intersect-in-SetIntersect c =
 
 pub returns-in_ok-minus-in-SetDiff : goal.returns-in_ok-minus-in-SetDiff
 returns-in_ok-minus-in-SetDiff c =
-    let K = assigned c.args.scene.now in
-    let xs = arguments_of c.args.scene.now in
+    let K = assigned c.args.view.now in
+    let xs = arguments_of c.args.view.now in
     let i = c.args.place in
     let s = c.in_ok-minus-in-SetDiff.field-0 in
     from_row K xs i SetKind (Some (Set s)) c.args.builtin SetDiff c.in-SetDiff.is c.requires.result
@@ -57,8 +57,8 @@ returns-in_ok-minus-in-SetDiff c =
 
 pub returns-in_ok-symdiff-in-SetSymdiff : goal.returns-in_ok-symdiff-in-SetSymdiff
 returns-in_ok-symdiff-in-SetSymdiff c =
-    let K = assigned c.args.scene.now in
-    let xs = arguments_of c.args.scene.now in
+    let K = assigned c.args.view.now in
+    let xs = arguments_of c.args.view.now in
     let i = c.args.place in
     let s = c.in_ok-symdiff-in-SetSymdiff.field-0 in
     from_row K xs i SetKind (Some (Set s)) c.args.builtin SetSymdiff c.in-SetSymdiff.is c.requires.result
@@ -66,8 +66,8 @@ returns-in_ok-symdiff-in-SetSymdiff c =
 
 pub returns-in-ArraySetElement : goal.returns-in-ArraySetElement
 returns-in-ArraySetElement c =
-    let K = assigned c.args.scene.now in
-    let xs = arguments_of c.args.scene.now in
+    let K = assigned c.args.view.now in
+    let xs = arguments_of c.args.view.now in
     let i = c.args.place in
     let a = c.int.result in
     let a_fits : FitsSigned w64 a = search rules in
@@ -81,8 +81,8 @@ returns-in-ArraySetElement c =
 
 pub returns-in-ArrayVarSetElement : goal.returns-in-ArrayVarSetElement
 returns-in-ArrayVarSetElement c =
-    let K = assigned c.args.scene.now in
-    let xs = arguments_of c.args.scene.now in
+    let K = assigned c.args.view.now in
+    let xs = arguments_of c.args.view.now in
     let i = c.args.place in
     let a = c.int-in-ArrayVarSetElement.result in
     let a_fits : FitsSigned w64 a = search rules in

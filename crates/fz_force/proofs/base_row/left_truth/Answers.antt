@@ -5,8 +5,8 @@ use Rattle.fz_base.specs.declared.value.Value.TheVariants.{Bool as Truth}
 use Rattle.fz_meaning.specs.declared.kind.Kind.TheVariants.{Bool as BoolKind}
 use Rattle.fz_meaning.specs.Values.{◌=ᴮ◌}
 use Rattle.fz_meaning.proofs.Values.{bool_itself}
-use Rattle.fz_eval.specs.of_scene.Given.{bool_at, int_at}
-use Rattle.fz_eval.specs.of_scene.Views.{arguments_of, assigned, bools}
+use Rattle.fz_eval.specs.of_view.Given.{bool_at, int_at}
+use Rattle.fz_eval.specs.of_view.Views.{arguments_of, assigned, bools}
 use Rattle.fz_meaning.specs.Builtins.{row_at}
 use Rattle.fz_meaning.specs.declared.builtin.Builtin.TheVariants.{BoolEq, BoolNot, BoolAnd, BoolOr, BoolXor, ArrayBoolAnd, ArrayBoolOr, ArrayBoolElement, ArrayVarBoolElement, Bool2Int}
 use Rattle.fz_force.specs.Left.{IsOfKind}
@@ -24,79 +24,79 @@ overflow_sub-place-in-BoolNot c = bool_not_place c.args.builtin c.args.place c.i
 
 pub returns-in-BoolEq : goal.returns-in-BoolEq
 returns-in-BoolEq c =
-    let K = assigned c.args.scene.now in
-    let xs = arguments_of c.args.scene.now in
+    let K = assigned c.args.view.now in
+    let xs = arguments_of c.args.view.now in
     let i = c.args.place in
     from_row K xs i BoolKind (Some (Truth c.truth.result)) c.args.builtin BoolEq c.in-BoolEq.is c.requires.result (λ place. bool_eq_row K xs i c.truth.result place c.truth.ensures.read)
 
 pub returns-in-BoolNot : goal.returns-in-BoolNot
 returns-in-BoolNot c =
-    let K = assigned c.args.scene.now in
-    let xs = arguments_of c.args.scene.now in
+    let K = assigned c.args.view.now in
+    let xs = arguments_of c.args.view.now in
     let i = c.args.place in
     let t = c.truth-in-BoolNot.result in
     from_row K xs i BoolKind (Some (Truth (not t))) c.args.builtin BoolNot c.in-BoolNot.is c.requires.result (λ place. bool_not_row K xs i t place c.truth-in-BoolNot.ensures.read)
 
 pub returns-then-truth : goal.returns-then-truth
 returns-then-truth c =
-    let K = assigned c.args.scene.now in
-    let xs = arguments_of c.args.scene.now in
+    let K = assigned c.args.view.now in
+    let xs = arguments_of c.args.view.now in
     let i = c.args.place in
     from_row K xs i BoolKind (Some (Truth (c.truth-then-truth.result))) c.args.builtin BoolAnd c.in-BoolAnd.is c.requires.result
     (λ place. bool_and_row K xs i (c.truth-then-truth.result) place (c.truth-then-truth.ensures.read ∙ ap (λ b. b && bool_at K xs 1) c.if-truth.ensures.read))
 
 pub returns-else-truth : goal.returns-else-truth
 returns-else-truth c =
-    let K = assigned c.args.scene.now in
-    let xs = arguments_of c.args.scene.now in
+    let K = assigned c.args.view.now in
+    let xs = arguments_of c.args.view.now in
     let i = c.args.place in
     from_row K xs i BoolKind (Some (Truth (c.truth-in-BoolAnd.result))) c.args.builtin BoolAnd c.in-BoolAnd.is c.requires.result
     (λ place. bool_and_row K xs i (c.truth-in-BoolAnd.result) place (c.if-truth.false ∙ ap (λ b. b && bool_at K xs 1) c.if-truth.ensures.read))
 
 pub returns-then-truth-2 : goal.returns-then-truth-2
 returns-then-truth-2 c =
-    let K = assigned c.args.scene.now in
-    let xs = arguments_of c.args.scene.now in
+    let K = assigned c.args.view.now in
+    let xs = arguments_of c.args.view.now in
     let i = c.args.place in
     from_row K xs i BoolKind (Some (Truth (c.truth-in-BoolOr.result))) c.args.builtin BoolOr c.in-BoolOr.is c.requires.result
     (λ place. bool_or_row K xs i (c.truth-in-BoolOr.result) place (c.if-truth-2.true ∙ ap (λ b. b || bool_at K xs 1) c.if-truth-2.ensures.read))
 
 pub returns-else-truth-2 : goal.returns-else-truth-2
 returns-else-truth-2 c =
-    let K = assigned c.args.scene.now in
-    let xs = arguments_of c.args.scene.now in
+    let K = assigned c.args.view.now in
+    let xs = arguments_of c.args.view.now in
     let i = c.args.place in
     from_row K xs i BoolKind (Some (Truth (c.truth-else-truth-2.result))) c.args.builtin BoolOr c.in-BoolOr.is c.requires.result
     (λ place. bool_or_row K xs i (c.truth-else-truth-2.result) place (c.truth-else-truth-2.ensures.read ∙ ap (λ b. b || bool_at K xs 1) c.if-truth-2.ensures.read))
 
 pub returns-in-BoolXor : goal.returns-in-BoolXor
 returns-in-BoolXor c =
-    let K = assigned c.args.scene.now in
-    let xs = arguments_of c.args.scene.now in
+    let K = assigned c.args.view.now in
+    let xs = arguments_of c.args.view.now in
     let i = c.args.place in
     from_row K xs i BoolKind (Some (Truth (not (beq c.truth-in-BoolXor.result c.truth-in-BoolXor-2.result)))) c.args.builtin BoolXor c.in-BoolXor.is c.requires.result
     (λ place. bool_xor_row K xs i (not (beq c.truth-in-BoolXor.result c.truth-in-BoolXor-2.result)) place (xor_is c.truth-in-BoolXor.result c.truth-in-BoolXor-2.result ∙ (λ j. not (c.truth-in-BoolXor.ensures.read j =ᴮ c.truth-in-BoolXor-2.ensures.read j))))
 
 pub returns-in-ArrayBoolAnd : goal.returns-in-ArrayBoolAnd
 returns-in-ArrayBoolAnd c =
-    let K = assigned c.args.scene.now in
-    let xs = arguments_of c.args.scene.now in
+    let K = assigned c.args.view.now in
+    let xs = arguments_of c.args.view.now in
     let i = c.args.place in
     from_row K xs i BoolKind (Some (Truth (c.all_true.result))) c.args.builtin ArrayBoolAnd c.in-ArrayBoolAnd.is c.requires.result
     (λ place. array_bool_and_row K xs i (c.all_true.result) place (c.all_true.ensures.exact ∙ ap (list_all (λ x. x)) (bools_are c.elements.result K xs 0 c.elements.ensures.slots c.elements.ensures.under)))
 
 pub returns-in-ArrayBoolOr : goal.returns-in-ArrayBoolOr
 returns-in-ArrayBoolOr c =
-    let K = assigned c.args.scene.now in
-    let xs = arguments_of c.args.scene.now in
+    let K = assigned c.args.view.now in
+    let xs = arguments_of c.args.view.now in
     let i = c.args.place in
     from_row K xs i BoolKind (Some (Truth (c.any_true.result))) c.args.builtin ArrayBoolOr c.in-ArrayBoolOr.is c.requires.result
     (λ place. array_bool_or_row K xs i (c.any_true.result) place (c.any_true.ensures.exact ∙ ap (list_any (λ x. x)) (bools_are c.elements-in-ArrayBoolOr.result K xs 0 c.elements-in-ArrayBoolOr.ensures.slots c.elements-in-ArrayBoolOr.ensures.under)))
 
 pub returns-in-ArrayBoolElement : goal.returns-in-ArrayBoolElement
 returns-in-ArrayBoolElement c =
-    let K = assigned c.args.scene.now in
-    let xs = arguments_of c.args.scene.now in
+    let K = assigned c.args.view.now in
+    let xs = arguments_of c.args.view.now in
     let i = c.args.place in
     let a = c.int.result in
     let a_fits : FitsSigned w64 a = search rules in
@@ -109,8 +109,8 @@ returns-in-ArrayBoolElement c =
 
 pub returns-in-ArrayVarBoolElement : goal.returns-in-ArrayVarBoolElement
 returns-in-ArrayVarBoolElement c =
-    let K = assigned c.args.scene.now in
-    let xs = arguments_of c.args.scene.now in
+    let K = assigned c.args.view.now in
+    let xs = arguments_of c.args.view.now in
     let i = c.args.place in
     let a = c.int-in-ArrayVarBoolElement.result in
     let a_fits : FitsSigned w64 a = search rules in
@@ -123,8 +123,8 @@ returns-in-ArrayVarBoolElement c =
 
 pub returns-in-Bool2Int : goal.returns-in-Bool2Int
 returns-in-Bool2Int c =
-    let K = assigned c.args.scene.now in
-    let xs = arguments_of c.args.scene.now in
+    let K = assigned c.args.view.now in
+    let xs = arguments_of c.args.view.now in
     let i = c.args.place in
     let a = c.int-in-Bool2Int.result in
     let fits : FitsSigned w64 a = search rules in

@@ -1,7 +1,7 @@
 use Rattle.std.proofs.Common.{refl, ap, ◌∙◌}
 use Rattle.fz_meaning.proofs.Values.{no}
 use Rattle.fz_meaning.specs.Known.{known_row}
-use Rattle.fz_eval.specs.of_scene.Views.{arguments_of, assigned}
+use Rattle.fz_eval.specs.of_view.Views.{arguments_of, assigned}
 use Rattle.fz_force.proofs.Tables.{same_sums, unit_row, unit_shapes, unit_sums}
 use Rattle.fz_force.proofs.Units.{element_left, elsewhere, read_as_none}
 use Rattle.fz_force.proofs.row.element_left.Goals as goal
@@ -9,8 +9,8 @@ use Rattle.fz_force.proofs.row.element_left.Goals.{then-spot-ne1-via-then-spot-n
 
 pub returns-then-spot-ne1 : goal.returns-then-spot-ne1
 returns-then-spot-ne1 c =
-    let K = assigned c.args.scene.now in
-    let xs = arguments_of c.args.scene.now in
+    let K = assigned c.args.view.now in
+    let xs = arguments_of c.args.view.now in
     let r = known_row c.args.known in
     let row = unit_row c.args.known c.requires.unit_term in
     let shapes = ap (λ q. q.shapes) row ∙ unit_shapes in
@@ -24,12 +24,12 @@ returns-then-spot-ne1 c =
 pub unit_value-requires-clause-open : goal.unit_value-requires-clause-open
 unit_value-requires-clause-open c =
     let row = unit_row c.args.known c.requires.unit_term in
-    read_as_none (assigned c.args.scene.now) (arguments_of c.args.scene.now) (known_row c.args.known) c.args.spot c.requires.ready (ap (λ q. q.shapes) row ∙ unit_shapes) c.if-spot-ne1.false
+    read_as_none (assigned c.args.view.now) (arguments_of c.args.view.now) (known_row c.args.known) c.args.spot c.requires.ready (ap (λ q. q.shapes) row ∙ unit_shapes) c.if-spot-ne1.false
 
 pub returns : goal.returns
 returns c =
-    let K = assigned c.args.scene.now in
-    let xs = arguments_of c.args.scene.now in
+    let K = assigned c.args.view.now in
+    let xs = arguments_of c.args.view.now in
     let r = known_row c.args.known in
     let row = unit_row c.args.known c.requires.unit_term in
     let shapes = ap (λ q. q.shapes) row ∙ unit_shapes in

@@ -3,7 +3,7 @@ use Rattle.std.specs.List.{AllByRecursion}
 use Rattle.fz_meaning.specs.Known.{known_row}
 use Rattle.fz_data.specs.Parts.{constraint_view}
 use Rattle.fz_data.specs.Slots.{segment}
-use Rattle.fz_eval.specs.of_scene.Views.{arguments_of}
+use Rattle.fz_eval.specs.of_view.Views.{arguments_of}
 use Rattle.fz_force.specs.Forced.{IsReady}
 use Rattle.fz_force.specs.Only.{IsFlat, IsOnlyOpen, terms_of}
 use Rattle.fz_force.proofs.Held.{row_shapes}

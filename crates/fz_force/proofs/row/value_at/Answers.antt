@@ -1,7 +1,7 @@
 use Rattle.std.proofs.Common.{refl, sym, ◌∙◌, subst}
 use Rattle.fz_meaning.proofs.Values.{no}
 use Rattle.fz_meaning.specs.Known.{known_row}
-use Rattle.fz_eval.specs.of_scene.Views.{arguments_of, assigned}
+use Rattle.fz_eval.specs.of_view.Views.{arguments_of, assigned}
 use Rattle.fz_force.specs.Left.{IsPlaceOf}
 use Rattle.fz_force.proofs.Held.{nothing_placed}
 use Rattle.fz_force.proofs.Tables.{place_is_scalar, same_sums}
@@ -10,8 +10,8 @@ use Rattle.fz_force.proofs.row.value_at.Goals as goal
 
 pub returns-then-is_place : goal.returns-then-is_place
 returns-then-is_place c =
-    let K = assigned c.args.scene.now in
-    let xs = arguments_of c.args.scene.now in
+    let K = assigned c.args.view.now in
+    let xs = arguments_of c.args.view.now in
     let r = known_row c.args.known in
     let place = subst (λ o. IsPlaceOf o c.args.spot.argument) c.filled-2.ensures (c.if-is_place.ensures.0 refl) in
     scalar_chosen K xs r c.args.spot c.requires.ready (place_is_scalar r c.requires.row c.args.spot.argument place) place (same_sums K xs r c.requires.row c.requires.ready.shaped)
@@ -19,8 +19,8 @@ returns-then-is_place c =
 
 pub returns : goal.returns
 returns c =
-    let K = assigned c.args.scene.now in
-    let xs = arguments_of c.args.scene.now in
+    let K = assigned c.args.view.now in
+    let xs = arguments_of c.args.view.now in
     let r = known_row c.args.known in
     nothing_placed K xs r c.args.spot c.requires.ready
     (λ place k is. no (c.if-is_place.ensures.1 (subst (λ o. IsPlaceOf o c.args.spot.argument) (sym c.filled-2.ensures) place)))

@@ -2,16 +2,16 @@ use Rattle.std.proofs.Common.{rules, ◌≡◌, Some, slice_get, sym, ap, ◌∙
 use Rattle.std.specs.Int.{w128}
 use Rattle.std.proofs.lemmas.Int.{to_z-of_z}
 use Rattle.fz_meaning.specs.Builtins.{total, products}
-use Rattle.fz_eval.specs.of_scene.Given.{ints_at}
-use Rattle.fz_eval.specs.of_scene.Views.{arguments_of, assigned}
+use Rattle.fz_eval.specs.of_view.Given.{ints_at}
+use Rattle.fz_eval.specs.of_view.Views.{arguments_of, assigned}
 use Rattle.fz_eval.proofs.ElementReadings.{ints_are}
 use Rattle.fz_force.proofs.RowLemmas.{unit_row}
 use Rattle.fz_force.proofs.unit.unit_value.Goals as goal
 
 pub returns-clause-left : goal.returns-clause-left
 returns-clause-left c =
-    let K = assigned c.args.scene.now in
-    let xs = arguments_of c.args.scene.now in
+    let K = assigned c.args.view.now in
+    let xs = arguments_of c.args.view.now in
     let s = c.in_ok-others.others in
     let u = c.int.result in
     let w = c.int-2.result in

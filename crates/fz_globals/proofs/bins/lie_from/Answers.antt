@@ -2,7 +2,7 @@ use Rattle.std.proofs.Common.{◌<◌, pos, ◌+ℤ◌, ◌-ℤ◌, length, w64,
 use Rattle.std.specs.List.{list_all}
 use Rattle.std.proofs.lemmas.Int.{to_z-of_z}
 use Rattle.fz_meaning.specs.Globals.{lies_between}
-use Rattle.fz_kernel.specs.of_scene.Views.{ints}
+use Rattle.fz_kernel.specs.of_view.Views.{ints}
 use Rattle.fz_globals.specs.Places.{number_at}
 use Rattle.fz_globals.proofs.Passing.{one_fails, one_passes}
 use Rattle.fz_globals.proofs.Zipped.{next_number}

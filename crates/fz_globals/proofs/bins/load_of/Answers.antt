@@ -3,7 +3,7 @@ use Rattle.std.specs.Int.{w128}
 use Rattle.std.specs.List.{zip}
 use Rattle.std.proofs.lemmas.Int.{ints as numerals, to_z-of_z}
 use Rattle.fz_meaning.specs.Values.{◌=ℤ◌}
-use Rattle.fz_kernel.specs.of_scene.Views.{ints}
+use Rattle.fz_kernel.specs.of_view.Views.{ints}
 use Rattle.fz_globals.specs.Places.{number_at, span_at}
 use Rattle.fz_globals.proofs.Chosen.{chosen, one_chosen, one_left_out, all_chosen}
 use Rattle.fz_globals.proofs.Zipped.{next_span}

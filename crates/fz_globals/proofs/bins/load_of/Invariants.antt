@@ -1,6 +1,6 @@
 use Rattle.std.specs.List.{zip}
 use Rattle.fz_meaning.specs.Values.{◌=ℤ◌}
-use Rattle.fz_kernel.specs.of_scene.Views.{ints}
+use Rattle.fz_kernel.specs.of_view.Views.{ints}
 use Rattle.fz_globals.proofs.Chosen.{IsChosen}
 use Rattle.fz_globals.proofs.bins.load_of.Given as goal
 

@@ -1,6 +1,6 @@
 use Rattle.std.proofs.Common.{◌<◌, length, sym, ◌∙◌, arith, rules}
 use Rattle.fz_meaning.specs.Globals.{all_pairs, boxes}
-use Rattle.fz_kernel.specs.of_scene.Views.{ints}
+use Rattle.fz_kernel.specs.of_view.Views.{ints}
 use Rattle.fz_globals.specs.Places.{stand_apart, box_at}
 use Rattle.fz_globals.proofs.Passing.{pair_fails, pairs_pass, all_pairs_pass}
 use Rattle.fz_globals.proofs.Zipped.{next_box}

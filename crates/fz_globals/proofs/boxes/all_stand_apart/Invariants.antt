@@ -1,6 +1,6 @@
 use Rattle.std.proofs.Common.{◌≡◌, drop}
 use Rattle.fz_meaning.specs.Globals.{all_pairs, boxes}
-use Rattle.fz_kernel.specs.of_scene.Views.{ints}
+use Rattle.fz_kernel.specs.of_view.Views.{ints}
 use Rattle.fz_globals.specs.Places.{stand_apart}
 use Rattle.fz_globals.proofs.boxes.all_stand_apart.Given as goal
 

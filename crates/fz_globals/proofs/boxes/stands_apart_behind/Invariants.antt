@@ -1,7 +1,7 @@
 use Rattle.std.proofs.Common.{◌≡◌, ◌+◌, drop}
 use Rattle.std.specs.List.{list_all}
 use Rattle.fz_meaning.specs.Globals.{boxes}
-use Rattle.fz_kernel.specs.of_scene.Views.{ints}
+use Rattle.fz_kernel.specs.of_view.Views.{ints}
 use Rattle.fz_globals.specs.Places.{stand_apart, box_at}
 use Rattle.fz_globals.proofs.boxes.stands_apart_behind.Given as goal
 

@@ -1,6 +1,6 @@
 use Rattle.std.proofs.Common.{◌≡◌, drop, int_le}
 use Rattle.fz_meaning.specs.Globals.{all_both, count_of}
-use Rattle.fz_kernel.specs.of_scene.Views.{ints}
+use Rattle.fz_kernel.specs.of_view.Views.{ints}
 use Rattle.fz_globals.proofs.cover.come_at_least.Given as goal
 
 abbrev pub invariant-loop-place : goal.invariant-loop-place

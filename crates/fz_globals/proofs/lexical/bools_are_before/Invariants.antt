@@ -1,7 +1,7 @@
 use Rattle.std.proofs.Common.{◌≡◌, ◌&&◌, drop, not}
 use Rattle.fz_meaning.specs.Values.{◌=ᴮ◌}
 use Rattle.fz_meaning.specs.Globals.{is_before}
-use Rattle.fz_kernel.specs.of_scene.Views.{bools}
+use Rattle.fz_kernel.specs.of_view.Views.{bools}
 use Rattle.fz_globals.proofs.lexical.bools_are_before.Given as goal
 
 abbrev pub invariant-loop-place : goal.invariant-loop-place

@@ -2,7 +2,7 @@ use Rattle.std.proofs.Common.{◌≡◌, drop}
 use Rattle.std.specs.Prelude.{int_lt}
 use Rattle.fz_meaning.specs.Values.{◌=ℤ◌}
 use Rattle.fz_meaning.specs.Globals.{is_before}
-use Rattle.fz_kernel.specs.of_scene.Views.{ints}
+use Rattle.fz_kernel.specs.of_view.Views.{ints}
 use Rattle.fz_globals.proofs.lexical.ints_are_before.Given as goal
 
 abbrev pub invariant-loop-place : goal.invariant-loop-place

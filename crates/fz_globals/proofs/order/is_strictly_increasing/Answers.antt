@@ -1,6 +1,6 @@
 use Rattle.std.proofs.Common.{◌≡◌, ◌<ℤ◌, ◌≤ℤ◌, int_lt, length, arith}
 use Rattle.std.proofs.lemmas.Int.{ints as numerals}
-use Rattle.fz_kernel.specs.of_scene.Views.{ints}
+use Rattle.fz_kernel.specs.of_view.Views.{ints}
 use Rattle.fz_kernel.proofs.Read.{ints_counted}
 use Rattle.fz_globals.proofs.Compared.{not_less, is_less}
 use Rattle.fz_globals.proofs.Neighbours.{pair_passes, pair_fails, all_pass}

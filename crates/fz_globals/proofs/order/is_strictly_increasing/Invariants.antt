@@ -1,5 +1,5 @@
 use Rattle.std.proofs.Common.{int_lt}
-use Rattle.fz_kernel.specs.of_scene.Views.{ints}
+use Rattle.fz_kernel.specs.of_view.Views.{ints}
 use Rattle.fz_globals.proofs.Neighbours.{PassUpTo}
 use Rattle.fz_globals.proofs.order.is_strictly_increasing.Given as goal
 

@@ -1,6 +1,6 @@
 use Rattle.std.proofs.Common.{◌≡◌, drop}
 use Rattle.fz_meaning.specs.Globals.{precedes}
-use Rattle.fz_kernel.specs.of_scene.Views.{ints}
+use Rattle.fz_kernel.specs.of_view.Views.{ints}
 use Rattle.fz_globals.proofs.precedence.precedes.Given as goal
 
 abbrev pub invariant-loop-place : goal.invariant-loop-place

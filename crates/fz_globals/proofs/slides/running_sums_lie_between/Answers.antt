@@ -4,7 +4,7 @@ use Rattle.std.specs.List.{list_all}
 use Rattle.std.proofs.lemmas.Int.{ints as numerals, to_z-of_z}
 use Rattle.fz_meaning.specs.Builtins.{total}
 use Rattle.fz_meaning.specs.Globals.{lies_between, windows}
-use Rattle.fz_kernel.specs.of_scene.Views.{ints}
+use Rattle.fz_kernel.specs.of_view.Views.{ints}
 use Rattle.fz_globals.specs.Places.{number_at}
 use Rattle.fz_globals.proofs.Windowed.{between_low, between_high, slides_out, slides_on, last_run}
 use Rattle.fz_globals.proofs.slides.running_sums_lie_between.Goals as goal

@@ -1,4 +1,4 @@
-use Rattle.fz_kernel.specs.of_scene.Views.{ints}
+use Rattle.fz_kernel.specs.of_view.Views.{ints}
 use Rattle.fz_globals.proofs.Windowed.{Slides}
 use Rattle.fz_globals.proofs.slides.running_sums_lie_between.Given as goal
 

@@ -1,7 +1,7 @@
 use Rattle.std.proofs.Common.{◌≡◌, drop}
 use Rattle.std.specs.List.{zip}
 use Rattle.fz_meaning.specs.Globals.{all_pairs}
-use Rattle.fz_kernel.specs.of_scene.Views.{ints}
+use Rattle.fz_kernel.specs.of_view.Views.{ints}
 use Rattle.fz_globals.specs.Places.{keep_apart}
 use Rattle.fz_globals.proofs.spans.all_keep_apart.Given as goal
 

@@ -1,6 +1,6 @@
 use Rattle.std.proofs.Common.{◌≡◌, ◌+◌, drop}
 use Rattle.std.specs.List.{list_all, zip}
-use Rattle.fz_kernel.specs.of_scene.Views.{ints}
+use Rattle.fz_kernel.specs.of_view.Views.{ints}
 use Rattle.fz_globals.specs.Places.{keep_apart, span_at}
 use Rattle.fz_globals.proofs.spans.keeps_apart_behind.Given as goal
 

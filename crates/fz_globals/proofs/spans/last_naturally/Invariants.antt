@@ -1,7 +1,7 @@
 use Rattle.std.proofs.Common.{◌≡◌, drop}
 use Rattle.std.specs.List.{zip}
 use Rattle.fz_meaning.specs.Globals.{last_naturally}
-use Rattle.fz_kernel.specs.of_scene.Views.{ints}
+use Rattle.fz_kernel.specs.of_view.Views.{ints}
 use Rattle.fz_globals.proofs.spans.last_naturally.Given as goal
 
 abbrev pub invariant-loop-place : goal.invariant-loop-place

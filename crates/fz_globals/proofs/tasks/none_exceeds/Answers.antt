@@ -1,7 +1,7 @@
 use Rattle.std.proofs.Common.{◌<◌, length, w64, to_z, of_z, sym, ap, ◌∙◌, arith, rules}
 use Rattle.std.specs.List.{list_all, zip}
 use Rattle.std.proofs.lemmas.Int.{to_z-of_z}
-use Rattle.fz_kernel.specs.of_scene.Views.{ints}
+use Rattle.fz_kernel.specs.of_view.Views.{ints}
 use Rattle.fz_globals.specs.Places.{keeps_within, number_at, span_at}
 use Rattle.fz_globals.proofs.Passing.{one_fails, one_passes, all_pass}
 use Rattle.fz_globals.proofs.Zipped.{next_task}

@@ -2,7 +2,7 @@ use Rattle.std.proofs.Common.{◌≡◌, suc, ◌+◌, ◌-ℤ◌, pos, true, fa
 use Rattle.std.proofs.lemmas.Int.{ints as numerals, to_z-of_z}
 use Rattle.fz_meaning.specs.Values.{◌=ℤ◌}
 use Rattle.fz_meaning.specs.Globals.{as_places, moved_from}
-use Rattle.fz_kernel.specs.of_scene.Views.{ints}
+use Rattle.fz_kernel.specs.of_view.Views.{ints}
 use Rattle.fz_globals.proofs.Led.{as_place, placed_at, shifted}
 use Rattle.fz_globals.proofs.Walked.{stays, moves}
 use Rattle.fz_globals.proofs.tours.count_moved.Goals.{then-place_in-place, else-place_in-place}

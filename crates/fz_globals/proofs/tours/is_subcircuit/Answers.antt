@@ -1,7 +1,7 @@
 use Rattle.std.proofs.Common.{◌≡◌, pos, true, false, length, FitsSigned, w64, sym, ◌∙◌, rules}
 use Rattle.std.proofs.lemmas.Int.{to_z-of_z}
 use Rattle.fz_meaning.specs.Globals.{are_places, as_places, is_one_tour, moved_from}
-use Rattle.fz_kernel.specs.of_scene.Views.{ints}
+use Rattle.fz_kernel.specs.of_view.Views.{ints}
 use Rattle.fz_globals.proofs.Led.{different_places}
 use Rattle.fz_globals.proofs.Walked.{no_permutation, permutation}
 use Rattle.fz_globals.proofs.tours.is_subcircuit.Goals as goal

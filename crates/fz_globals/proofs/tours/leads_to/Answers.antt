@@ -5,7 +5,7 @@ use Rattle.std.proofs.lemmas.Int.{to_z-of_z}
 use Rattle.fz_meaning.specs.Values.{◌=ℤ◌}
 use Rattle.fz_meaning.specs.Builtins.{element_at}
 use Rattle.fz_meaning.specs.Globals.{as_places}
-use Rattle.fz_kernel.specs.of_scene.Views.{ints}
+use Rattle.fz_kernel.specs.of_view.Views.{ints}
 use Rattle.fz_kernel.proofs.Read.{ints_counted}
 use Rattle.fz_kernel.proofs.Passed.{element_found, none_found}
 use Rattle.fz_globals.proofs.Led.{as_place, placed_at, placed_counted, shifted}

@@ -3,7 +3,7 @@ use Rattle.std.specs.Int.{w128}
 use Rattle.std.proofs.lemmas.Int.{to_z-of_z}
 use Rattle.fz_meaning.specs.Builtins.{element_at}
 use Rattle.fz_meaning.specs.Globals.{lies_between}
-use Rattle.fz_kernel.specs.of_scene.Views.{ints}
+use Rattle.fz_kernel.specs.of_view.Views.{ints}
 use Rattle.fz_globals.proofs.Followed.{leads, one_less}
 use Rattle.fz_globals.proofs.words.next_state.Goals as goal
 

@@ -1,7 +1,7 @@
 use Rattle.std.proofs.Common.{FitsSigned, w64, to_z, of_z, ap, ◌∙◌, rules}
 use Rattle.std.specs.Int.{int_max}
 use Rattle.std.proofs.lemmas.Int.{to_z-of_z}
-use Rattle.fz_scene.specs.Views.{ints}
+use Rattle.fz_arguments.specs.Views.{ints}
 use Rattle.fz_kernel.proofs.Best.{one_more_up}
 use Rattle.fz_kernel.proofs.arrays.extremes.maximum.Goals as goal
 

@@ -2,7 +2,7 @@ use Rattle.std.proofs.Common.{◌≡◌, ◌+ℤ◌, ◌*ℤ◌, FitsSigned, to_
 use Rattle.std.specs.Int.{w128}
 use Rattle.std.proofs.lemmas.Int.{to_z-of_z}
 use Rattle.fz_meaning.specs.Builtins.{products}
-use Rattle.fz_scene.specs.Views.{ints}
+use Rattle.fz_arguments.specs.Views.{ints}
 use Rattle.fz_kernel.proofs.Left.{one_ends}
 use Rattle.fz_kernel.proofs.Read.{ints_counted}
 use Rattle.fz_kernel.proofs.Added.{passed_on, one_added, leaves, no_products_left, stays_within, all_added}

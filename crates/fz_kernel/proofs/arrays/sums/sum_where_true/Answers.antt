@@ -3,7 +3,7 @@ use Rattle.std.specs.Int.{w128}
 use Rattle.std.proofs.lemmas.Int.{ints as numerals}
 use Rattle.std.proofs.lemmas.Option.{slice_get-get_or}
 use Rattle.fz_meaning.specs.Builtins.{where_true}
-use Rattle.fz_scene.specs.Views.{ints, bools}
+use Rattle.fz_arguments.specs.Views.{ints, bools}
 use Rattle.fz_kernel.proofs.Left.{one_ends}
 use Rattle.fz_kernel.proofs.Read.{ints_counted, bools_counted}
 use Rattle.fz_kernel.proofs.Added.{one_counted, one_passed, none_true_left, all_counted}

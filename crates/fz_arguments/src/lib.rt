@@ -1,0 +1,12 @@
+//! A constraint's arguments under a partial assignment: scalars and the elements of arrays, read as whole numbers, truth values and sets,
+//! and whether all of them can be read as the constraint's row asks.
+#![tactic(auto)]
+
+mod elements;
+mod reading;
+mod slots;
+mod view;
+
+pub use elements::Elements;
+pub use reading::Readiness;
+pub use view::ArgumentView;

@@ -1,0 +1,121 @@
+//! Reading one slot. Nothing is read of an array's.
+
+ghost use Rattle.std.specs.Prelude.{◌≡◌, Some};
+ghost use Rattle.std.specs.List.{list_all};
+ghost use Rattle.std.specs.FinSet as sets;
+ghost use Rattle.fz_meaning.specs.Values.{kind_of, same_kind};
+ghost use Rattle.fz_data.specs.Partial.{number_in, truth_in};
+ghost use Rattle.fz_data.specs.Slots.{constant_at};
+ghost use Rattle.fz_arguments.specs.Given.{bool_of, int_of, is_read, set_in, set_of_slot};
+ghost use Rattle.fz_arguments.specs.Views.{slot_read};
+
+use crate::reading::{bool_in, has_kind, int_in, is_of, set_in};
+use fz_base::{IntSet, Value};
+use fz_data::{Partial, Slot};
+use fz_meaning::Kind;
+
+/// The number of a constant.
+#[inline(always)]
+fn constant_int(constants: &[Value], place: u32) -> i64
+    ensures { result ≡ number_in (Some (constant_at constants.now place)) }
+{
+    int_in(constants.get(place as usize))
+}
+
+/// The truth value of a constant.
+#[inline(always)]
+fn constant_truth(constants: &[Value], place: u32) -> bool
+    ensures { result ≡ truth_in (Some (constant_at constants.now place)) }
+{
+    bool_in(constants.get(place as usize))
+}
+
+/// The set of a constant.
+#[inline(always)]
+fn constant_set<'s>(constants: &'s [Value], place: u32, empty: &'s IntSet) -> &'s IntSet
+    requires { empty.now ≡ sets.empty }
+    ensures { result.now ≡ set_in (Some (constant_at constants.now place)) }
+{
+    set_in(constants.get(place as usize), empty)
+}
+
+/// Whether a constant is of the kind.
+#[inline(always)]
+fn constant_is_of(constants: &[Value], place: u32, kind: Kind) -> bool
+    ensures { result ≡ same_kind (kind_of (constant_at constants.now place)) kind }
+{
+    match constants.get(place as usize) {
+        Some(value) => has_kind(value, kind),
+        None => matches!(kind, Kind::Int),
+    }
+}
+
+/// The number that a slot is read as.
+#[inline(always)]
+pub(crate) fn slot_int(partial: &Partial, constants: &[Value], slot: &Slot) -> i64
+    ensures { result ≡ int_of partial.now (slot_read constants.now slot.now) }
+{
+    match slot {
+        Slot::Variable(number) => partial.number(*number as usize),
+        Slot::Number(number) => i64::from(*number),
+        Slot::Truth(_) => 0,
+        Slot::Constant(place) => constant_int(constants, *place),
+        Slot::Array(_) => 0,
+    }
+}
+
+/// The truth value that a slot is read as.
+#[inline(always)]
+pub(crate) fn slot_truth(partial: &Partial, constants: &[Value], slot: &Slot) -> bool
+    ensures { result ≡ bool_of partial.now (slot_read constants.now slot.now) }
+{
+    match slot {
+        Slot::Variable(number) => partial.truth(*number as usize),
+        Slot::Number(_) => false,
+        Slot::Truth(truth) => *truth,
+        Slot::Constant(place) => constant_truth(constants, *place),
+        Slot::Array(_) => false,
+    }
+}
+
+/// The set that a slot is read as.
+#[inline(always)]
+pub(crate) fn slot_set<'s>(partial: &'s Partial, constants: &'s [Value], slot: &Slot) -> &'s IntSet
+    ensures { result.now ≡ set_of_slot partial.now (slot_read constants.now slot.now) }
+{
+    match slot {
+        Slot::Variable(number) => set_in(partial.get(*number as usize), partial.no_numbers()),
+        Slot::Number(_) => partial.no_numbers(),
+        Slot::Truth(_) => partial.no_numbers(),
+        Slot::Constant(place) => constant_set(constants, *place, partial.no_numbers()),
+        Slot::Array(_) => partial.no_numbers(),
+    }
+}
+
+/// Whether a slot has a value of the kind.
+#[inline(always)]
+pub(crate) fn slot_is_read(partial: &Partial, constants: &[Value], kind: Kind, slot: &Slot) -> bool
+    ensures { result ≡ is_read partial.now kind (slot_read constants.now slot.now) }
+{
+    match slot {
+        Slot::Variable(number) => is_of(partial.get(*number as usize), kind),
+        Slot::Number(_) => matches!(kind, Kind::Int),
+        Slot::Truth(_) => matches!(kind, Kind::Bool),
+        Slot::Constant(place) => constant_is_of(constants, *place, kind),
+        Slot::Array(_) => false,
+    }
+}
+
+/// Whether each slot has a value of the kind.
+pub(crate) fn slots_are_read(
+    partial: &Partial,
+    constants: &[Value],
+    kind: Kind,
+    slots: &[Slot],
+) -> bool
+    ensures { result ≡ list_all (λ s. is_read partial.now kind (slot_read constants.now s)) slots.now }
+{
+    slots
+        .iter()
+        .all(|slot| slot_is_read(partial, constants, kind, slot))
+}

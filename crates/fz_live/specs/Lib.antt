@@ -1,8 +1,0 @@
-pub mod Writing
-pub mod Refusing
-pub mod Reading
-pub mod Inside
-pub mod View
-pub mod Live
-pub mod Telling
-pub use Rattle.fz_judge.specs as of_judge

@@ -1,0 +1,23 @@
+//! The check of a stream over a reader and a writer, below `fz_check`. `PartReader` gives the parts
+//! of the stream one after another while a reader gives its bytes, and `check_parts` judges each
+//! block when its last line has come, and writes the lines of the report before each read. The lines
+//! themselves, and the answer, serve the check of a whole stream too.
+#![tactic(auto)]
+
+mod error;
+mod line;
+mod pieces;
+mod reader;
+mod streaming;
+mod tally;
+mod telling;
+mod text;
+mod writing;
+
+pub use error::{PartError, StreamingError};
+pub use fz_judge;
+pub use line::{Answer, push_answer, push_block, push_claim};
+pub use reader::PartReader;
+pub use streaming::check_parts;
+pub use text::{push_bytes, push_count};
+pub use writing::{WriteFailed, write_whole};

@@ -1,0 +1,105 @@
+//! The lines of a report, one at a time, and the answer.
+
+ghost use Rattle.std.specs.Prelude.{◌≡◌, ◌++◌, ◌∷◌, [], OnOk, decimal};
+ghost use Rattle.fz_judge.specs.of_verdict.Report.{answer_line, block_line, claim_line, claim_text, text_of_lines, verdict_text};
+ghost use Rattle.fz_judge.specs.View.{verdict_view};
+ghost use Rattle.fz_streaming.specs.View.{answer_view};
+
+use crate::text::{push_bytes, push_count, push_fault, push_reason};
+use fz_judge::Verdict;
+use fz_stream::ClaimKind;
+use std::alloc::AllocError;
+
+/// What a whole stream is judged to be.
+#[derive(Clone, Copy, Debug, PartialEq, Eq)]
+pub enum Answer {
+    /// There are this many blocks, at least one, and all are satisfied.
+    Accepted(usize),
+    /// The first violated block has this number, from 1.
+    Rejected(usize),
+    /// No block is violated; the first undecided one has this number, from 1.
+    Undecided(usize),
+    /// The stream has no block.
+    NoBlocks,
+}
+
+/// A claim's line in a stream, without blanks at its ends.
+fn claim_text(kind: ClaimKind) -> &'static [u8]
+    ensures { result.now ≡ claim_text kind }
+{
+    match kind {
+        ClaimKind::Complete => b"==========",
+        ClaimKind::Unsatisfiable => b"=====UNSATISFIABLE=====",
+        ClaimKind::Unknown => b"=====UNKNOWN=====",
+        ClaimKind::Unbounded => b"=====UNBOUNDED=====",
+        ClaimKind::UnsatOrUnbounded => b"=====UNSATorUNBOUNDED=====",
+        ClaimKind::Error => b"=====ERROR=====",
+    }
+}
+
+/// Adds the line of a claim.
+pub fn push_claim(text: &mut Vec<u8>, kind: ClaimKind) -> Result<(), AllocError>
+    ensures { OnOk result (text.new.items ≡ text.old.items ++ text_of_lines (claim_line kind ∷ [])) }
+{
+    push_bytes(text, b"claim: ")?;
+    push_bytes(text, claim_text(kind))?;
+    push_bytes(text, b" not judged\n")?;
+    Ok(())
+}
+
+/// Adds a verdict without its LF.
+fn push_verdict(text: &mut Vec<u8>, verdict: &Verdict<'_>) -> Result<(), AllocError>
+    ensures { OnOk result (text.new.items ≡ text.old.items ++ verdict_text (verdict_view verdict.now)) }
+{
+    match verdict {
+        Verdict::Satisfied => push_bytes(text, b"satisfied"),
+        Verdict::Violated(fault) => {
+            push_bytes(text, b"violated: ")?;
+            push_fault(text, fault)?;
+            Ok(())
+        }
+        Verdict::Undecided(reason) => {
+            push_bytes(text, b"undecided: ")?;
+            push_reason(text, reason)?;
+            Ok(())
+        }
+    }
+}
+
+/// Adds the line of the block with this number.
+pub fn push_block(
+    text: &mut Vec<u8>,
+    number: usize,
+    verdict: &Verdict<'_>,
+) -> Result<(), AllocError>
+    ensures { OnOk result (text.new.items ≡ text.old.items ++ text_of_lines (block_line number (verdict_view verdict.now) ∷ [])) }
+{
+    push_bytes(text, b"block ")?;
+    push_count(text, number)?;
+    push_bytes(text, b": ")?;
+    push_verdict(text, verdict)?;
+    push_bytes(text, b"\n")?;
+    Ok(())
+}
+
+/// Adds the line of the answer.
+pub fn push_answer(text: &mut Vec<u8>, answer: Answer) -> Result<(), AllocError>
+    ensures { OnOk result (text.new.items ≡ text.old.items ++ text_of_lines (answer_line (answer_view answer) ∷ [])) }
+{
+    match answer {
+        Answer::Accepted(count) => push_numbered(text, b"accepted: blocks ", count),
+        Answer::Rejected(number) => push_numbered(text, b"rejected: block ", number),
+        Answer::Undecided(number) => push_numbered(text, b"undecided: block ", number),
+        Answer::NoBlocks => push_bytes(text, b"no blocks\n"),
+    }
+}
+
+/// Adds words and a number as a line.
+fn push_numbered(text: &mut Vec<u8>, words: &[u8], number: usize) -> Result<(), AllocError>
+    ensures { OnOk result (text.new.items ≡ text.old.items ++ text_of_lines ((words.now ++ decimal number) ∷ [])) }
+{
+    push_bytes(text, words)?;
+    push_count(text, number)?;
+    push_bytes(text, b"\n")?;
+    Ok(())
+}

@@ -1,0 +1,94 @@
+ghost use Rattle.std.specs.Prelude.{◌≡◌, ◌≢◌, ◌+◌, ◌≤◌, ◌<◌, [], drop, length, false, Ok, IfErr, OnOk, OnErr};
+ghost use Rattle.std.specs.Io.KnownBytes.{Consumes, IsAtEnd};
+ghost use Rattle.fz_streaming.specs.Reading.{piece_size};
+
+use std::io::Read;
+use std::marker::Model;
+use thiserror::Error;
+
+/// The most bytes of one read.
+const PIECE: usize = 4096;
+
+/// A read failed, or as many were made as may be.
+#[derive(Clone, Copy, Debug, PartialEq, Eq, Error)]
+#[error("read")]
+pub(crate) struct ReadFailed;
+
+/// What a reader gave last, as far as it is not taken yet.
+#[derive(Drop)]
+pub(crate) struct Pieces {
+    buffer: [u8; PIECE],
+    /// What is left lies in the buffer from `next` to `end`.
+    next: usize,
+    end: usize,
+    /// How many more reads may be made.
+    reads: u64,
+}
+
+impl Model for Pieces {
+    ghost use Rattle.fz_streaming.specs.Reading.{PiecesState};
+
+    ghost Value = { PiecesState };
+
+    ghost use Rattle.fz_streaming.specs.Inside.{pieces_of, ArePieces};
+
+    ghost view = { pieces_of };
+
+    ghost invariant = { ArePieces };
+}
+
+impl Pieces {
+    /// Nothing is read yet, and at most so many reads will be made.
+    pub(crate) fn new(reads: u64) -> Pieces
+        ensures none { result.pending ≡ [] }
+        ensures reads { result.reads ≡ reads }
+    {
+        Pieces {
+            buffer: [0; PIECE],
+            next: 0,
+            end: 0,
+            reads,
+        }
+    }
+
+    /// What is left.
+    pub(crate) fn pending(&self) -> &[u8]
+        ensures { result.now ≡ self.now.pending }
+    {
+        &self.buffer[self.next..self.end]
+    }
+
+    /// Takes so many bytes of what is left.
+    pub(crate) fn take(&mut self, n: usize)
+        requires { n ≤ length self.old.pending }
+        ensures left { self.new.pending ≡ drop n self.old.pending }
+        ensures same { self.new.reads ≡ self.old.reads }
+    {
+        self.next += n;
+    }
+
+    /// Reads once, and tells whether the reader gave anything.
+    pub(crate) fn read<R: Read>(&mut self, reader: &mut R) -> Result<bool, ReadFailed>
+        requires none { self.old.pending ≡ [] }
+        ensures given { Consumes (R.remaining reader.old) (R.remaining reader.new) self.new.pending }
+        ensures size { length self.new.pending ≤ piece_size }
+        ensures reads { OnOk result (self.new.reads + 1 ≡ self.old.reads) }
+        ensures fewer { self.new.reads ≤ self.old.reads }
+        ensures end { result ≡ Ok false → (self.new.pending ≡ []) × IsAtEnd (R.remaining reader.new) }
+        ensures none_given { OnErr result (self.new.pending ≡ []) }
+    {
+        if self.reads == 0 {
+            return Err(ReadFailed);
+        }
+        self.reads -= 1;
+        self.next = 0;
+        self.end = 0;
+        match reader.read(&mut self.buffer) {
+            Ok(n) => {
+                self.end = n;
+                Ok(n > 0)
+            }
+            Err(_) => Err(ReadFailed),
+        }
+    }
+}
