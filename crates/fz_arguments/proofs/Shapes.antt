@@ -38,6 +38,7 @@ module _ {X : Type 0} (K : Partial) (view : X → Reading) where
       pub fit_more : b ≡ true → fit ss as' ≡ fit (drop (k + 1) ss) (drop (k + 1) as')
       fit_more e = fit_next ∙ ap (λ c. c && fit (drop (k + 1) ss) (drop (k + 1) as')) (sym is ∙ e)
 
-    pub fit_all : length ss ≡ length as' → k ≡ min (length ss) (length as') → fit ss as' ≡ fit (drop k ss) (drop k as') → true ≡ fit ss as'
+    pub fit_all : length ss ≡ length as' → k ≡ min (length ss) (length as')
+        → fit ss as' ≡ fit (drop k ss) (drop k as') → true ≡ fit ss as'
     fit_all n e left =
         sym (left ∙ at_drop_all (λ zs. fit zs (drop k as')) ss k (omega arith) ∙ at_drop_all (λ zs. fit [] zs) as' k (omega arith))

@@ -16,21 +16,25 @@ use Rattle.fz_arguments.proofs.Kept.{same_readings}
 
 -- ---- a list of arguments by its readings
 
-slot_same : (o : Option meaning.Argument) → option_and_then slot_in o ≡ option_and_then (λ r. r.0) (option_map reading_of o)
+slot_same : (o : Option meaning.Argument)
+    → option_and_then slot_in o ≡ option_and_then (λ r. r.0) (option_map reading_of o)
 slot_same None = refl
 slot_same (Some x) = refl
 
-slots_same : (o : Option meaning.Argument) → option_map_or slots_in o [] ≡ option_map_or (λ (r : Reading). r.1) (option_map reading_of o) []
+slots_same : (o : Option meaning.Argument) → option_map_or slots_in o []
+    ≡ option_map_or (λ (r : Reading). r.1) (option_map reading_of o) []
 slots_same None = refl
 slots_same (Some x) = refl
 
 slot_by : (zs : List meaning.Argument) (i : ℕ) → slot_at zs i ≡ scalar_read (map reading_of zs) i
 slot_by zs i = slot_same (slice_get zs i) ∙ ap (option_and_then (λ (r : Reading). r.0)) (sym (slice_get-map reading_of zs i))
 
-slots_by : (zs : List meaning.Argument) (i : ℕ) → slots_at zs i ≡ elements_read (map reading_of zs) i
+slots_by : (zs : List meaning.Argument) (i : ℕ)
+    → slots_at zs i ≡ elements_read (map reading_of zs) i
 slots_by zs i = slots_same (slice_get zs i) ∙ ap (λ o. option_map_or (λ (r : Reading). r.1) o []) (sym (slice_get-map reading_of zs i))
 
-all_read : (K : Partial) (ss : List Shape) (zs : List meaning.Argument) → readings_are_read K ss (map reading_of zs) ≡ are_read K ss zs
+all_read : (K : Partial) (ss : List Shape) (zs : List meaning.Argument)
+    → readings_are_read K ss (map reading_of zs) ≡ are_read K ss zs
 all_read K [] [] = refl
 all_read K [] (z ∷ zs) = refl
 all_read K (s ∷ ss) [] = refl
@@ -50,21 +54,25 @@ module _ (s : ArgumentView) where
   are : map reading_of (arguments_of s) ≡ map read own
   are = same_readings s.partial.now s.parts.variables.now s.parts.arrays.now s.parts.store.now own
 
-  at : (i : ℕ) (o : Option Argument) → slice_get own i ≡ o → slice_get (map reading_of (arguments_of s)) i ≡ option_map read o
+  at : (i : ℕ) (o : Option Argument) → slice_get own i ≡ o
+      → slice_get (map reading_of (arguments_of s)) i ≡ option_map read o
   at i o e = ap (λ rs. slice_get rs i) are ∙ slice_get-map read own i ∙ ap (option_map read) e
 
   -- the argument at a place
-  pub scalar_there : (i : ℕ) (a : Argument) → slice_get own i ≡ Some a → slot_at (arguments_of s) i ≡ argument_slot s.parts.store.now a
+  pub scalar_there : (i : ℕ) (a : Argument) → slice_get own i ≡ Some a
+      → slot_at (arguments_of s) i ≡ argument_slot s.parts.store.now a
   scalar_there i a e = slot_by (arguments_of s) i ∙ ap (option_and_then (λ (r : Reading). r.0)) (at i (Some a) e)
 
   pub no_scalar : (i : ℕ) → slice_get own i ≡ None → slot_at (arguments_of s) i ≡ None
   no_scalar i e = slot_by (arguments_of s) i ∙ ap (option_and_then (λ (r : Reading). r.0)) (at i None e)
 
-  pub elements_there : (i : ℕ) (a : Argument) → slice_get own i ≡ Some a → slots_at (arguments_of s) i ≡ argument_slots s.parts.arrays.now s.parts.store.now a
+  pub elements_there : (i : ℕ) (a : Argument) → slice_get own i ≡ Some a
+      → slots_at (arguments_of s) i ≡ argument_slots s.parts.arrays.now s.parts.store.now a
   elements_there i a e = slots_by (arguments_of s) i ∙ ap (λ o. option_map_or (λ (r : Reading). r.1) o []) (at i (Some a) e)
 
   pub no_elements : (i : ℕ) → slice_get own i ≡ None → slots_at (arguments_of s) i ≡ []
   no_elements i e = slots_by (arguments_of s) i ∙ ap (λ o. option_map_or (λ (r : Reading). r.1) o []) (at i None e)
 
-  pub read_all : (K : Partial) (ss : List Shape) → readings_are_read K ss (map read own) ≡ are_read K ss (arguments_of s)
+  pub read_all : (K : Partial) (ss : List Shape)
+      → readings_are_read K ss (map read own) ≡ are_read K ss (arguments_of s)
   read_all K ss = ap (readings_are_read K ss) (sym are) ∙ all_read K ss (arguments_of s)

@@ -33,7 +33,8 @@ stay s ns = list_all fits_128 (sums_from s ns)
 zero_first : (s : ℤ) (ns : List ℤ) → fits_128 s ≡ true → stay s (pos 0 ∷ ns) ≡ stay s ns
 zero_first s ns f = ap (λ z. fits_128 z && stay z ns) (+ℤ_idr s) ∙ ap (λ b. b && stay s ns) f
 
-one_more : (s : ℤ) (o p : Option ℤ) (ns ms : List ℤ) → fits_128 s ≡ true → ((z : ℤ) → fits_128 z ≡ true → stay z ns ≡ stay z ms)
+one_more : (s : ℤ) (o p : Option ℤ) (ns ms : List ℤ) → fits_128 s ≡ true
+    → ((z : ℤ) → fits_128 z ≡ true → stay z ns ≡ stay z ms)
     → stay s (product_before o p ns) ≡ stay s ((or_zero o *ℤ or_zero p) ∷ ms)
 one_more s None p ns ms f same = same s f ∙ sym (zero_first s ms f) ∙ ap (λ z. stay s (z ∷ ms)) (sym (zero-*ℤ (or_zero p)))
 one_more s (Some a) None ns ms f same = same s f ∙ sym (zero_first s ms f) ∙ ap (λ z. stay s (z ∷ ms)) (sym (*ℤ-zero a))
@@ -43,7 +44,9 @@ one_more s (Some a) (Some b) ns ms f same =
       | false ↦ λ _. refl
     ] refl
 
-same_sums : (K : Partial) (s : ℤ) (ts us : List Term) → fits_128 s ≡ true → stay s (known_products K ts us) ≡ stay s (products (ints_of K (map Some ts)) (ints_of K (map Some us)))
+same_sums : (K : Partial) (s : ℤ) (ts us : List Term) → fits_128 s ≡ true
+    → stay s (known_products K ts us)
+    ≡ stay s (products (ints_of K (map Some ts)) (ints_of K (map Some us)))
 same_sums K s [] us f = refl
 same_sums K s (t ∷ ts) [] f = refl
 same_sums K s (t ∷ ts) (u ∷ us) f =
@@ -51,7 +54,9 @@ same_sums K s (t ∷ ts) (u ∷ us) f =
     ∙ (λ i. stay s ((sym (number_is (value K t)) i *ℤ sym (number_is (value K u)) i) ∷ products (ints_of K (map Some ts)) (ints_of K (map Some us))))
 
 -- an argument of the shape of an array has a slot for each term
-pub slots_terms : (ss : List Shape) (xs : List Argument) (i : ℕ) (k : Kind) → have_shapes ss xs ≡ true → slice_get ss i ≡ Some (ArrayOf k) → slots_at xs i ≡ map Some (terms_at_argument xs i)
+pub slots_terms : (ss : List Shape) (xs : List Argument) (i : ℕ) (k : Kind)
+    → have_shapes ss xs ≡ true → slice_get ss i ≡ Some (ArrayOf k)
+    → slots_at xs i ≡ map Some (terms_at_argument xs i)
 slots_terms [] xs i k h e = cc
 slots_terms (s ∷ ss) [] i k h e = no h
 slots_terms (s ∷ ss) (x ∷ xs) zero k h e = let same : s ≡ ArrayOf k = cc in slots_are_terms k x (subst (λ t. has_shape t x ≡ true) same (and_first (has_shape s x) _ h))
@@ -70,25 +75,30 @@ is_array (Some (ArrayOf IntKind)) h = refl
 is_array _ h = no h
 
 -- the products leave 128 bits where those of the numbers do that are read
-products_leave_are : (K : Partial) (ss : List Shape) (xs : List Argument) (at : ℕ × ℕ) → are_ints ss at ≡ true → have_shapes ss xs ≡ true → products_leave K xs at ≡ read_leave K xs at
+products_leave_are : (K : Partial) (ss : List Shape) (xs : List Argument) (at : ℕ × ℕ)
+    → are_ints ss at ≡ true → have_shapes ss xs ≡ true → products_leave K xs at ≡ read_leave K xs at
 products_leave_are K ss xs at ints h =
     let first = slots_terms ss xs at.0 IntKind h (is_array (slice_get ss at.0) (and_first (is_ints (slice_get ss at.0)) _ ints)) in
     let second = slots_terms ss xs at.1 IntKind h (is_array (slice_get ss at.1) (and_second (is_ints (slice_get ss at.0)) _ ints)) in
     ap not (same_sums K (pos 0) (terms_at_argument xs at.0) (terms_at_argument xs at.1) refl)
     ∙ (λ i. leaves_128 (products (ints_of K (sym first i)) (ints_of K (sym second i))))
 
-pub sums_leave_are : (K : Partial) (ss : List Shape) (xs : List Argument) (ps : List (ℕ × ℕ)) → list_all (are_ints ss) ps ≡ true → have_shapes ss xs ≡ true → list_any (products_leave K xs) ps ≡ list_any (read_leave K xs) ps
+pub sums_leave_are : (K : Partial) (ss : List Shape) (xs : List Argument) (ps : List (ℕ × ℕ))
+    → list_all (are_ints ss) ps ≡ true → have_shapes ss xs ≡ true
+    → list_any (products_leave K xs) ps ≡ list_any (read_leave K xs) ps
 sums_leave_are K ss xs [] ints h = refl
 sums_leave_are K ss xs (p ∷ ps) ints h =
     λ i. products_leave_are K ss xs p (and_first (are_ints ss p) _ ints) h i || sums_leave_are K ss xs ps (and_second (are_ints ss p) _ ints) h i
 
--- a truth value behind changes nothing
-ints_with_bool : (ss : List Shape) (i : ℕ) → is_ints (slice_get ss i) ≡ true → is_ints (slice_get (with_bool ss) i) ≡ true
+-- a Boolean behind changes nothing
+ints_with_bool : (ss : List Shape) (i : ℕ) → is_ints (slice_get ss i) ≡ true
+    → is_ints (slice_get (with_bool ss) i) ≡ true
 ints_with_bool [] i h = no h
 ints_with_bool (s ∷ ss) zero h = h
 ints_with_bool (s ∷ ss) (suc i) h = ints_with_bool ss i h
 
-pub sums_with_bool : (ss : List Shape) (ps : List (ℕ × ℕ)) → list_all (are_ints ss) ps ≡ true → list_all (are_ints (with_bool ss)) ps ≡ true
+pub sums_with_bool : (ss : List Shape) (ps : List (ℕ × ℕ)) → list_all (are_ints ss) ps ≡ true
+    → list_all (are_ints (with_bool ss)) ps ≡ true
 sums_with_bool ss [] h = refl
 sums_with_bool ss (p ∷ ps) h =
     let here = and_first (are_ints ss p) _ h in

@@ -46,7 +46,8 @@ readings_are_read K _ _ = false
 
 -- the elements of the array that a slot is
 abbrev pub array_slots : List Array → Slot → List (Option Term)
-array_slots xs (slots.Array i) = option_map_or (λ x. map (slot_read x.elements.constants.items) x.elements.slots.items) (slice_get xs i) []
+array_slots xs (slots.Array i) = option_map_or
+    (λ x. map (slot_read x.elements.constants.items) x.elements.slots.items) (slice_get xs i) []
 array_slots xs (slots.Variable n) = []
 array_slots xs (slots.Number i) = []
 array_slots xs (slots.Truth b) = []
@@ -58,7 +59,8 @@ argument_slot st (arguments.List g) = None
 
 abbrev pub argument_slots : List Array → Store → kept.Argument → List (Option Term)
 argument_slots xs st (arguments.One s) = array_slots xs s
-argument_slots xs st (arguments.List g) = map (slot_read st.constants.items) (segment st.slots.items g)
+argument_slots xs st (arguments.List g) =
+    map (slot_read st.constants.items) (segment st.slots.items g)
 
 abbrev pub reading_in : List Array → Store → kept.Argument → Reading
 reading_in xs st a = (argument_slot st a, argument_slots xs st a)
@@ -74,7 +76,8 @@ has_value_at K (slots.Constant k) = true
 has_value_at K (slots.Array i) = true
 
 abbrev pub slot_is_given : Partial → List Array → Slot → Bool
-slot_is_given K xs (slots.Array i) = option_map_or (λ x. list_all (has_value_at K) x.elements.slots.items) (slice_get xs i) true
+slot_is_given K xs (slots.Array i) =
+    option_map_or (λ x. list_all (has_value_at K) x.elements.slots.items) (slice_get xs i) true
 slot_is_given K xs (slots.Variable n) = has_value_at K (slots.Variable n)
 slot_is_given K xs (slots.Number i) = true
 slot_is_given K xs (slots.Truth b) = true
@@ -82,4 +85,5 @@ slot_is_given K xs (slots.Constant k) = true
 
 abbrev pub argument_is_given : Partial → List Array → Store → kept.Argument → Bool
 argument_is_given K xs st (arguments.One s) = slot_is_given K xs s
-argument_is_given K xs st (arguments.List g) = list_all (slot_is_given K xs) (segment st.slots.items g)
+argument_is_given K xs st (arguments.List g) =
+    list_all (slot_is_given K xs) (segment st.slots.items g)

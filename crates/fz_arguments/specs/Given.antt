@@ -1,5 +1,6 @@
--- The arguments of a constraint under a partial assignment, read as whole numbers, truth values and sets. A reading is total: what cannot be
--- read as a number is read as 0, as a truth value false, as a set the empty one; `are_read` says where nothing of that kind happens.
+-- The arguments of a constraint under a partial assignment, read as integers, Booleans and sets. A
+-- reading is total: what cannot be read as a number is read as 0, as a Boolean false, as a set the
+-- empty one; `are_read` says where nothing of that kind happens.
 use Rattle.std.specs.Prelude.{ℕ, suc, ℤ, pos, Bool, true, false, ◌&&◌, List, [], ◌∷◌, map, slice_get, Option, None, Some, option_and_then, is_some}
 use Rattle.std.specs.List.{list_all}
 use Rattle.std.specs.Option.{option_map_or}
@@ -21,7 +22,8 @@ use Rattle.fz_meaning.specs.Meaning.Argument.{One, ListOf}
 
 -- ---- the scalars of arguments
 
--- the scalar at a place; none where an array's name stands in brackets, as in no constraint that fits a row
+-- the scalar at a place; none where an array's name stands in brackets, as in no constraint that
+-- fits a row
 abbrev pub slot_of : Place → Option Term
 slot_of (Scalar k t) = Some t
 slot_of (Array x k ts) = None

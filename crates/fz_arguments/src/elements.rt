@@ -5,7 +5,8 @@ use fz_base::{IntSet, Value};
 use fz_data::{Partial, Slot};
 use fz_meaning::Kind;
 
-/// The elements of an array argument. Where one has no value of the kind that is asked for, a reading gives 0, false or the empty set.
+/// The elements of an array argument. Where one has no value of the kind that is asked for, a
+/// reading gives 0, false or the empty set.
 #[derive(Clone, Copy)]
 pub struct Elements<'s> {
     pub(crate) slots: &'s [Slot],
@@ -27,7 +28,7 @@ impl<'s> Elements<'s> {
         self.slots.len()
     }
 
-    /// Its value as a whole number. It takes no memory.
+    /// Its value as an integer. It takes no memory.
     #[inline(always)]
     pub fn int(&self, index: usize) -> i64
         requires in_range { index < length (slots_of self.now) }
@@ -36,7 +37,7 @@ impl<'s> Elements<'s> {
         slot_int(self.partial, self.constants, self.slot(index))
     }
 
-    /// Its value as a truth value. It takes no memory.
+    /// Its value as a Boolean. It takes no memory.
     #[inline(always)]
     pub fn truth(&self, index: usize) -> bool
         requires in_range { index < length (slots_of self.now) }

@@ -1,5 +1,5 @@
-//! A constraint's arguments under a partial assignment: scalars and the elements of arrays, read as whole numbers, truth values and sets,
-//! and whether all of them can be read as the constraint's row asks.
+//! A constraint's arguments under a partial assignment: scalars and the elements of arrays, read as
+//! integers, Booleans and sets, and whether all of them can be read as the constraint's row asks.
 #![tactic(auto)]
 
 mod elements;

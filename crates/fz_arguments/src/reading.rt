@@ -10,8 +10,8 @@ use fz_base::{IntSet, Value};
 use fz_data::{number_of, truth_of};
 use fz_meaning::Kind;
 
-/// Whether the arguments of a constraint can be read as its row's shapes ask: each scalar has a value of the kind; each has a value, and
-/// one is of another kind; or one has none.
+/// Whether the arguments of a constraint can be read as its row's shapes ask: each scalar has a
+/// value of the kind; each has a value, and one is of another kind; or one has none.
 #[derive(Clone, Copy, Debug, PartialEq, Eq)]
 pub enum Readiness {
     Ready,
@@ -41,7 +41,7 @@ pub(crate) fn int_in(value: Option<&Value>) -> i64
     }
 }
 
-/// The truth value that a scalar is read as.
+/// The Boolean that a scalar is read as.
 #[inline(always)]
 pub(crate) fn bool_in(value: Option<&Value>) -> bool
     ensures { result ≡ bool_in (option_map (λ v. v.now) value.entry) }
@@ -67,7 +67,8 @@ pub(crate) fn set_in<'s>(value: Option<&'s Value>, empty: &'s IntSet) -> &'s Int
 /// Whether there is a value of the kind.
 #[inline(always)]
 pub(crate) fn is_of(value: Option<&Value>, kind: Kind) -> bool
-    ensures { result ≡ option_map_or (λ v. same_kind (kind_of v) kind) (option_map (λ v. v.now) value.entry) false }
+    ensures { result ≡ option_map_or (λ v. same_kind (kind_of v) kind)
+        (option_map (λ v. v.now) value.entry) false }
 {
     match value {
         Some(value) => has_kind(value, kind),

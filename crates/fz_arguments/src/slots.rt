@@ -22,7 +22,7 @@ fn constant_int(constants: &[Value], place: u32) -> i64
     int_in(constants.get(place as usize))
 }
 
-/// The truth value of a constant.
+/// The Boolean of a constant.
 #[inline(always)]
 fn constant_truth(constants: &[Value], place: u32) -> bool
     ensures { result ≡ truth_in (Some (constant_at constants.now place)) }
@@ -64,7 +64,7 @@ pub(crate) fn slot_int(partial: &Partial, constants: &[Value], slot: &Slot) -> i
     }
 }
 
-/// The truth value that a slot is read as.
+/// The Boolean that a slot is read as.
 #[inline(always)]
 pub(crate) fn slot_truth(partial: &Partial, constants: &[Value], slot: &Slot) -> bool
     ensures { result ≡ bool_of partial.now (slot_read constants.now slot.now) }
@@ -113,7 +113,8 @@ pub(crate) fn slots_are_read(
     kind: Kind,
     slots: &[Slot],
 ) -> bool
-    ensures { result ≡ list_all (λ s. is_read partial.now kind (slot_read constants.now s)) slots.now }
+    ensures { result ≡ list_all (λ s. is_read partial.now kind
+        (slot_read constants.now s)) slots.now }
 {
     slots
         .iter()

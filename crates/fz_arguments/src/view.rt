@@ -32,7 +32,7 @@ impl<'s, 'a> ArgumentView<'s, 'a> {
         ArgumentView { parts, partial }
     }
 
-    /// The argument at a place, counted from 0, as a whole number. It takes no memory.
+    /// The argument at a place, counted from 0, as an integer. It takes no memory.
     #[inline(always)]
     pub fn int(&self, index: usize) -> i64
         ensures read { result ≡ int_at (assigned self.now) (arguments_of self.now) index }
@@ -43,7 +43,7 @@ impl<'s, 'a> ArgumentView<'s, 'a> {
         }
     }
 
-    /// The argument at a place as a truth value. It takes no memory.
+    /// The argument at a place as a Boolean. It takes no memory.
     #[inline(always)]
     pub fn truth(&self, index: usize) -> bool
         ensures read { result ≡ bool_at (assigned self.now) (arguments_of self.now) index }
@@ -87,7 +87,8 @@ impl<'s, 'a> ArgumentView<'s, 'a> {
     // The slot of the argument at a place, where that is one.
     #[inline(always)]
     fn scalar(&self, index: usize) -> Option<&'s Slot>
-        ensures { slot_at (arguments_of self.now) index ≡ option_and_then (λ s. slot_read self.now.parts.store.now.constants.items s.now) result }
+        ensures { slot_at (arguments_of self.now) index ≡ option_and_then
+            (λ s. slot_read self.now.parts.store.now.constants.items s.now) result }
     {
         match self.parts.arguments().get(index) {
             Some(Argument::One(slot)) => Some(slot),
@@ -98,7 +99,8 @@ impl<'s, 'a> ArgumentView<'s, 'a> {
 
     #[inline(always)]
     fn elements_of(&self, argument: &Argument) -> Elements<'s>
-        ensures slots { slots_of result ≡ argument_slots self.now.parts.arrays.now self.now.parts.store.now argument.now }
+        ensures slots { slots_of result
+            ≡ argument_slots self.now.parts.arrays.now self.now.parts.store.now argument.now }
         ensures under { under result ≡ assigned self.now }
     {
         match argument {
@@ -144,10 +146,11 @@ impl<'s, 'a> ArgumentView<'s, 'a> {
         }
     }
 
-    /// Whether the arguments, which have the shapes, can be read as these ask. It goes over each scalar once, and where one cannot be
-    /// read a second time. It takes no memory.
+    /// Whether the arguments, which have the shapes, can be read as these ask. It goes over each
+    /// scalar once, and where one cannot be read a second time. It takes no memory.
     pub fn readiness(&self, shapes: &[Shape]) -> Readiness
-        ensures exact { IsReadiness (assigned self.now) (map shape_of shapes.now) (arguments_of self.now) result }
+        ensures exact { IsReadiness (assigned self.now) (map shape_of shapes.now)
+            (arguments_of self.now) result }
     {
         if self.can_be_read(shapes) {
             Readiness::Ready
@@ -160,13 +163,15 @@ impl<'s, 'a> ArgumentView<'s, 'a> {
 
     #[inline]
     fn can_be_read(&self, shapes: &[Shape]) -> bool
-        ensures { result ≡ are_read (assigned self.now) (map shape_of shapes.now) (arguments_of self.now) }
+        ensures { result ≡ are_read (assigned self.now) (map shape_of shapes.now)
+            (arguments_of self.now) }
     {
         self.are_read(shapes, self.parts.arguments())
     }
 
     fn are_read(&self, shapes: &[Shape], arguments: &[Argument]) -> bool
-        ensures { result ≡ readings_are_read (assigned self.now) (map shape_of shapes.now) (map (reading_in self.now.parts.arrays.now self.now.parts.store.now) arguments.now) }
+        ensures { result ≡ readings_are_read (assigned self.now) (map shape_of shapes.now)
+            (map (reading_in self.now.parts.arrays.now self.now.parts.store.now) arguments.now) }
     {
         if shapes.len() != arguments.len() {
             return false;
@@ -181,7 +186,8 @@ impl<'s, 'a> ArgumentView<'s, 'a> {
 
     #[inline]
     fn is_read(&self, shape: Shape, argument: &Argument) -> bool
-        ensures { result ≡ reading_is_read (assigned self.now) (shape_of shape) (reading_in self.now.parts.arrays.now self.now.parts.store.now argument.now) }
+        ensures { result ≡ reading_is_read (assigned self.now) (shape_of shape)
+            (reading_in self.now.parts.arrays.now self.now.parts.store.now argument.now) }
     {
         match shape {
             Shape::Scalar(kind) => match argument {
@@ -200,13 +206,15 @@ impl<'s, 'a> ArgumentView<'s, 'a> {
     }
 
     fn are_given(&self, arguments: &[Argument]) -> bool
-        ensures { result ≡ list_all (argument_is_given (assigned self.now) self.now.parts.arrays.now self.now.parts.store.now) arguments.now }
+        ensures { result ≡ list_all (argument_is_given
+            (assigned self.now) self.now.parts.arrays.now self.now.parts.store.now) arguments.now }
     {
         arguments.iter().all(|argument| self.is_given(argument))
     }
 
     fn is_given(&self, argument: &Argument) -> bool
-        ensures { result ≡ argument_is_given (assigned self.now) self.now.parts.arrays.now self.now.parts.store.now argument.now }
+        ensures { result ≡ argument_is_given
+            (assigned self.now) self.now.parts.arrays.now self.now.parts.store.now argument.now }
     {
         match argument {
             Argument::One(slot) => self.slot_is_given(slot),
@@ -215,7 +223,8 @@ impl<'s, 'a> ArgumentView<'s, 'a> {
     }
 
     fn slots_are_given(&self, slots: &[Slot]) -> bool
-        ensures { result ≡ list_all (slot_is_given (assigned self.now) self.now.parts.arrays.now) slots.now }
+        ensures { result ≡ list_all (slot_is_given
+            (assigned self.now) self.now.parts.arrays.now) slots.now }
     {
         slots.iter().all(|slot| self.slot_is_given(slot))
     }

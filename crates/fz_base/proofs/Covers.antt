@@ -69,16 +69,21 @@ pub ends_further : (d e : ℤ) (rs : List Range) → d ≤ℤ e → EndUpTo d rs
 ends_further d e [] h b = tt
 ends_further d e (r ∷ rs) h b = (omega (arith, ints), ends_further d e rs h b.1)
 
-pub covers-append : (rs ss : List Range) (x : ℤ) → covers (rs ++ ss) x ≡ (covers rs x || covers ss x)
+pub covers-append : (rs ss : List Range) (x : ℤ)
+    → covers (rs ++ ss) x ≡ (covers rs x || covers ss x)
 covers-append [] ss x = refl
 covers-append (r ∷ rs) ss x = ap (λ b. is_between r.lo r.hi x || b) (covers-append rs ss x) ∙ or_assoc (is_between r.lo r.hi x) (covers rs x) (covers ss x)
 
 -- what the first ranges cover with one more
-pub covers_more : (rs : List Range) (k : ℕ) (d : Range) (x : ℤ) → k < length rs → covers (take (k + 1) rs) x ≡ (covers (take k rs) x || is_between (get_or rs k d).lo (get_or rs k d).hi x)
+pub covers_more : (rs : List Range) (k : ℕ) (d : Range) (x : ℤ) → k < length rs
+    → covers (take (k + 1) rs) x ≡
+    (covers (take k rs) x || is_between (get_or rs k d).lo (get_or rs k d).hi x)
 covers_more rs k d x h = rw (take_more rs k d h) (covers-append (take k rs) (get_or rs k d ∷ []) x ∙ ap (λ b. covers (take k rs) x || b) (or-false (is_between (get_or rs k d).lo (get_or rs k d).hi x)))
 
 -- what holds of each part of ranges in order
-pub in_order_split : (f : ℤ) (rs : List Range) (r : Range) (ss : List Range) → AreInOrder f (rs ++ r ∷ ss) → AreInOrder f rs × EndUpTo (r.lo -ℤ pos 2) rs × AreInOrder f (r ∷ ss)
+pub in_order_split : (f : ℤ) (rs : List Range) (r : Range) (ss : List Range)
+    → AreInOrder f (rs ++ r ∷ ss) → AreInOrder f rs × EndUpTo (r.lo -ℤ pos 2) rs
+    × AreInOrder f (r ∷ ss)
 in_order_split f [] r ss o = (tt, tt, o)
 in_order_split f (q ∷ rs) r ss o =
     let parts = in_order_split (q.hi +ℤ pos 2) rs r ss o.3 in
@@ -87,20 +92,25 @@ in_order_split f (q ∷ rs) r ss o =
     ((o.0, o.1, o.2, parts.0), (omega (arith, ints), parts.1), in_order_from (q.hi +ℤ pos 2) f (r ∷ ss) near parts.2)
 
 -- a range after all others, with a gap before it
-pub in_order_push : (f : ℤ) (rs : List Range) (r : Range) → AreInOrder f rs → EndUpTo (r.lo -ℤ pos 2) rs → f ≤ℤ r.lo → r.lo ≤ℤ r.hi → r.hi ≤ℤ highest → AreInOrder f (rs ++ r ∷ [])
+pub in_order_push : (f : ℤ) (rs : List Range) (r : Range) → AreInOrder f rs
+    → EndUpTo (r.lo -ℤ pos 2) rs → f ≤ℤ r.lo → r.lo ≤ℤ r.hi → r.hi ≤ℤ highest
+    → AreInOrder f (rs ++ r ∷ [])
 in_order_push f [] r o b low some high = (low, some, high, tt)
 in_order_push f (q ∷ rs) r o b low some high = (o.0, o.1, o.2, in_order_push (q.hi +ℤ pos 2) rs r o.3 b.1 (omega (arith, ints)) some high)
 
-pub ends_push : (e : ℤ) (rs : List Range) (r : Range) → EndUpTo e rs → r.hi ≤ℤ e → EndUpTo e (rs ++ r ∷ [])
+pub ends_push : (e : ℤ) (rs : List Range) (r : Range) → EndUpTo e rs → r.hi ≤ℤ e
+    → EndUpTo e (rs ++ r ∷ [])
 ends_push e [] r b h = (h, tt)
 ends_push e (q ∷ rs) r b h = (b.0, ends_push e rs r b.1 h)
 
-pub ends_last : (e : ℤ) (rs : List Range) (r : Range) → EndUpTo e (rs ++ r ∷ []) → EndUpTo e rs × (r.hi ≤ℤ e)
+pub ends_last : (e : ℤ) (rs : List Range) (r : Range) → EndUpTo e (rs ++ r ∷ [])
+    → EndUpTo e rs × (r.hi ≤ℤ e)
 ends_last e [] r b = (tt, b.0)
 ends_last e (q ∷ rs) r b = let rest = ends_last e rs r b.1 in ((b.0, rest.0), rest.1)
 
 -- a number before the first range
-pub covers_before : (f x : ℤ) (rs : List Range) (d : Range) → AreInOrder f rs → x <ℤ (get_or rs 0 d).lo → covers rs x ≡ false
+pub covers_before : (f x : ℤ) (rs : List Range) (d : Range) → AreInOrder f rs
+    → x <ℤ (get_or rs 0 d).lo → covers rs x ≡ false
 covers_before f x [] d o h = refl
 covers_before f x (r ∷ rs) d o h = covers_below r.lo x (r ∷ rs) (omega (arith, ints), o.1, o.2, o.3) h
 
@@ -146,7 +156,9 @@ reaches_less x y [] h r = tt
 reaches_less x y (q ∷ rs) h r = omega (arith, ints)
 
 -- one range among those in order
-pub in_order_at : (f : ℤ) (rs : List Range) (k : ℕ) (d : Range) → AreInOrder f rs → k < length rs → ((get_or rs k d).lo ≤ℤ (get_or rs k d).hi) × (f ≤ℤ (get_or rs k d).lo) × ((get_or rs k d).hi ≤ℤ highest)
+pub in_order_at : (f : ℤ) (rs : List Range) (k : ℕ) (d : Range) → AreInOrder f rs → k < length rs
+    → ((get_or rs k d).lo ≤ℤ (get_or rs k d).hi) × (f ≤ℤ (get_or rs k d).lo)
+    × ((get_or rs k d).hi ≤ℤ highest)
 in_order_at f [] k d o h = absurd (omega arith)
 in_order_at f (r ∷ rs) zero d o h = (o.1, o.0, o.2)
 in_order_at f (r ∷ rs) (suc k) d o h =
@@ -155,7 +167,9 @@ in_order_at f (r ∷ rs) (suc k) d o h =
 
 -- ranges in order that are cut in two before the first of `back`
 module _ (f x : ℤ) (rest front back : List Range) (d : Range) (cut : rest ≡ front ++ back) (some : 0 < length back) (order : AreInOrder f rest) where
-  split_first : (y : ℤ) (bs : List Range) → rest ≡ front ++ bs → 0 < length bs → (AreInOrder f front × EndUpTo ((get_or bs 0 d).lo -ℤ pos 2) front × AreInOrder f bs × AreInOrder f (drop 1 bs))
+  split_first : (y : ℤ) (bs : List Range) → rest ≡ front ++ bs → 0 < length bs
+      → (AreInOrder f front × EndUpTo ((get_or bs 0 d).lo -ℤ pos 2) front × AreInOrder f bs
+      × AreInOrder f (drop 1 bs))
   split_first y [] e h = absurd (omega arith)
   split_first y (r ∷ bs) e h =
       let parts = in_order_split f front r bs (rw e at order) in
@@ -175,18 +189,21 @@ module _ (f x : ℤ) (rest front back : List Range) (d : Range) (cut : rest ≡ 
       let gap : ((get_or back 0 d).lo -ℤ pos 2) <ℤ x = omega (arith, ints) in
       rw (cut, covers-append, covers_beyond ((get_or back 0 d).lo -ℤ pos 2) x front (split_first x back cut some).1 gap)
 
-  first_of : (bs : List Range) → 0 < length bs → covers bs x ≡ (is_between (get_or bs 0 d).lo (get_or bs 0 d).hi x || covers (drop 1 bs) x)
+  first_of : (bs : List Range) → 0 < length bs
+      → covers bs x ≡ (is_between (get_or bs 0 d).lo (get_or bs 0 d).hi x || covers (drop 1 bs) x)
   first_of [] h = absurd (omega arith)
   first_of (r ∷ bs) h = refl
 
   pub covers_first : (get_or back 0 d).lo ≤ℤ x → x ≤ℤ (get_or back 0 d).hi → covers rest x ≡ true
   covers_first h k = before_back h ∙ first_of back some ∙ rw (between_yes (get_or back 0 d).lo (get_or back 0 d).hi x h k)
 
-  pub covers_others : (get_or back 0 d).lo ≤ℤ x → (get_or back 0 d).hi <ℤ x → covers (drop 1 back) x ≡ covers rest x
+  pub covers_others : (get_or back 0 d).lo ≤ℤ x → (get_or back 0 d).hi <ℤ x
+      → covers (drop 1 back) x ≡ covers rest x
   covers_others h k = sym (before_back h ∙ first_of back some ∙ rw (between_above (get_or back 0 d).lo (get_or back 0 d).hi x k))
 
 -- the last range, at the place k
-pub ends_at_last : (f : ℤ) (rs : List Range) (k : ℕ) (d : Range) → AreInOrder f rs → length rs ≡ k + 1 → EndUpTo (get_or rs k d).hi rs
+pub ends_at_last : (f : ℤ) (rs : List Range) (k : ℕ) (d : Range) → AreInOrder f rs
+    → length rs ≡ k + 1 → EndUpTo (get_or rs k d).hi rs
 ends_at_last f [] k d o e = tt
 ends_at_last f (r ∷ []) zero d o e = (omega (arith, ints), tt)
 ends_at_last f (r ∷ []) (suc k) d o e = absurd (omega arith)
@@ -197,20 +214,24 @@ ends_at_last f (r ∷ (q ∷ rs)) (suc k) d o e =
     (omega (arith, ints), ends_at_last (r.hi +ℤ pos 2) (q ∷ rs) k d o.3 (omega arith))
 
 -- both ends of each range are covered
-pub covers_end : (f : ℤ) (rs : List Range) (k : ℕ) (d : Range) → AreInOrder f rs → k < length rs → covers rs (get_or rs k d).hi ≡ true
+pub covers_end : (f : ℤ) (rs : List Range) (k : ℕ) (d : Range) → AreInOrder f rs → k < length rs
+    → covers rs (get_or rs k d).hi ≡ true
 covers_end f [] k d o h = absurd (omega arith)
 covers_end f (r ∷ rs) zero d o h = rw (between_yes r.lo r.hi r.hi o.1 (omega (arith, ints))) refl
 covers_end f (r ∷ rs) (suc k) d o h = rw (covers_end (r.hi +ℤ pos 2) rs k d o.3 (omega arith)) (or-true (is_between r.lo r.hi (get_or rs k d).hi))
 
 -- what is covered lies between the ends
-pub covered_from : (f x : ℤ) (rs : List Range) (d : Range) → AreInOrder f rs → covers rs x ≡ true → (get_or rs 0 d).lo ≤ℤ x
+pub covered_from : (f x : ℤ) (rs : List Range) (d : Range) → AreInOrder f rs → covers rs x ≡ true
+    → (get_or rs 0 d).lo ≤ℤ x
 covered_from f x rs d o c = elim (apart x (get_or rs 0 d).lo) [ inl h ↦ absurd (true≢false (sym c ∙ covers_before f x rs d o h)) | inr h ↦ h ]
 
-pub covered_up_to : (f x : ℤ) (rs : List Range) (k : ℕ) (d : Range) → AreInOrder f rs → length rs ≡ k + 1 → covers rs x ≡ true → x ≤ℤ (get_or rs k d).hi
+pub covered_up_to : (f x : ℤ) (rs : List Range) (k : ℕ) (d : Range) → AreInOrder f rs
+    → length rs ≡ k + 1 → covers rs x ≡ true → x ≤ℤ (get_or rs k d).hi
 covered_up_to f x rs k d o e c = elim (apart (get_or rs k d).hi x) [ inl h ↦ absurd (true≢false (sym c ∙ covers_beyond (get_or rs k d).hi x rs (ends_at_last f rs k d o e) h)) | inr h ↦ h ]
 
 -- what ranges in order cover has 64 bits
-pub covered_fits : (x : ℤ) (rs : List Range) → AreInOrder lowest rs → covers rs x ≡ true → FitsSigned w64 x
+pub covered_fits : (x : ℤ) (rs : List Range) → AreInOrder lowest rs → covers rs x ≡ true
+    → FitsSigned w64 x
 covered_fits x rs o c =
     let from : lowest ≤ℤ x = elim (apart x lowest) [ inl h ↦ absurd (true≢false (sym c ∙ covers_below lowest x rs o h)) | inr h ↦ h ] in
     let up_to : x ≤ℤ highest = elim (apart highest x) [ inl h ↦ absurd (true≢false (sym c ∙ covers_beyond highest x rs (ends_up_to_highest lowest rs o) h)) | inr h ↦ h ] in
@@ -218,7 +239,8 @@ covered_fits x rs o c =
 
 -- ---- ranges that cover one number alone
 
-pub in_first : (r : Range) (rs : List Range) (x : ℤ) → r.lo ≤ℤ x → x ≤ℤ r.hi → covers (r ∷ rs) x ≡ true
+pub in_first : (r : Range) (rs : List Range) (x : ℤ) → r.lo ≤ℤ x → x ≤ℤ r.hi
+    → covers (r ∷ rs) x ≡ true
 in_first r rs x low high = ap (λ b. b || covers rs x) (between_yes r.lo r.hi x low high)
 
 in_later : (r : Range) (rs : List Range) (x : ℤ) → covers rs x ≡ true → covers (r ∷ rs) x ≡ true
@@ -230,7 +252,8 @@ only_not_none [] few n h = absurd (true≢false (sym ((h n).1 refl)))
 only_not_none (r ∷ rs) few n h = absurd (omega arith)
 
 -- a range with two ends covers both
-pub only_not_apart : (f : ℤ) (rs : List Range) (d : Range) → AreInOrder f rs → 1 ≤ length rs → ((get_or rs 0 d).lo ≡ (get_or rs 0 d).hi → ⊥) → (n : ℤ) → CoversOnly n rs → ⊥
+pub only_not_apart : (f : ℤ) (rs : List Range) (d : Range) → AreInOrder f rs → 1 ≤ length rs
+    → ((get_or rs 0 d).lo ≡ (get_or rs 0 d).hi → ⊥) → (n : ℤ) → CoversOnly n rs → ⊥
 only_not_apart f [] d o few apart n h = absurd (omega arith)
 only_not_apart f (r ∷ rs) d o few apart n h =
     let low : r.lo ≡ n = (h r.lo).0 (in_first r rs r.lo (omega (arith, ints)) o.1) in
@@ -238,7 +261,8 @@ only_not_apart f (r ∷ rs) d o few apart n h =
     apart (low ∙ sym high)
 
 -- two ranges cover two
-pub only_not_two : (f : ℤ) (rs : List Range) → AreInOrder f rs → 2 ≤ length rs → (n : ℤ) → CoversOnly n rs → ⊥
+pub only_not_two : (f : ℤ) (rs : List Range) → AreInOrder f rs → 2 ≤ length rs → (n : ℤ)
+    → CoversOnly n rs → ⊥
 only_not_two f [] o many n h = absurd (omega arith)
 only_not_two f (r ∷ []) o many n h = absurd (omega arith)
 only_not_two f (r ∷ q ∷ rs) o many n h =

@@ -1,4 +1,5 @@
--- Laws of the words on sets (the crates above may cite them), and the numbers of ranges as a list and as a set.
+-- Laws of the words on sets (the crates above may cite them), and the numbers of ranges as a list
+-- and as a set.
 use Rattle.std.proofs.Common.{◌≡◌, ℕ, zero, suc, ℤ, pos, negsuc, ◌+ℤ◌, ◌-ℤ◌, ◌≤ℤ◌, ◌<ℤ◌, Bool, true, false, cond, filter, not, ◌&&◌, ◌||◌, List, [], ◌∷◌, ◌++◌, length, refl, sym, ap, ◌∙◌, arith, length-append}
 use Rattle.std.specs.List.{list_any, flat_map, sum_by}
 use Rattle.std.specs.Ordering.{int_cmp, int_eq, is_lt}
@@ -24,7 +25,8 @@ pub between_one : (lo x : ℤ) → is_between lo lo x ≡ int_eq x lo
 between_one lo x = grind (arith, ints)
 
 -- a number is among those counted from lo exactly where it is in their range
-counted : (x lo : ℤ) (n : ℕ) → list_any (int_eq x) (counting_from lo n) ≡ is_between lo (lo +ℤ pos n -ℤ pos 1) x
+counted : (x lo : ℤ) (n : ℕ) → list_any (int_eq x) (counting_from lo n)
+    ≡ is_between lo (lo +ℤ pos n -ℤ pos 1) x
 unfolding counting_from
 counted x lo zero =
     let none : is_between lo (lo +ℤ pos 0 -ℤ pos 1) x ≡ false = grind (arith, ints) in
@@ -32,7 +34,8 @@ counted x lo zero =
 counted x lo (suc n) =
     rw (counted x (lo +ℤ pos 1) n) (step x lo n)
   where
-    step : (x lo : ℤ) (n : ℕ) → (int_eq x lo || is_between (lo +ℤ pos 1) ((lo +ℤ pos 1) +ℤ pos n -ℤ pos 1) x) ≡ is_between lo (lo +ℤ pos (suc n) -ℤ pos 1) x
+    step : (x lo : ℤ) (n : ℕ) → (int_eq x lo || is_between (lo +ℤ pos 1)
+        ((lo +ℤ pos 1) +ℤ pos n -ℤ pos 1) x) ≡ is_between lo (lo +ℤ pos (suc n) -ℤ pos 1) x
     step x lo n = grind (arith, ints)
 
 -- what a sort says of two neighbours
@@ -40,10 +43,12 @@ pub not_below : (a b : ℤ) → is_lt (int_cmp a b) ≡ false → b ≤ℤ a
 not_below a b h = grind (arith, ints)
 
 -- the numbers of a range
-pub list_any-counting_from : (x lo hi : ℤ) → list_any (int_eq x) (counting_from lo (count_between lo hi)) ≡ is_between lo hi x
+pub list_any-counting_from : (x lo hi : ℤ)
+    → list_any (int_eq x) (counting_from lo (count_between lo hi)) ≡ is_between lo hi x
 list_any-counting_from x lo hi = at (hi +ℤ pos 1 -ℤ lo) refl
   where
-    at : (z : ℤ) → hi +ℤ pos 1 -ℤ lo ≡ z → list_any (int_eq x) (counting_from lo (at_least_none z)) ≡ is_between lo hi x
+    at : (z : ℤ) → hi +ℤ pos 1 -ℤ lo ≡ z
+        → list_any (int_eq x) (counting_from lo (at_least_none z)) ≡ is_between lo hi x
     at (pos n) e =
         let end : lo +ℤ pos n -ℤ pos 1 ≡ hi = omega (arith, ints) in
         counted x lo n ∙ ap (λ h. is_between lo h x) end
@@ -51,7 +56,8 @@ list_any-counting_from x lo hi = at (hi +ℤ pos 1 -ℤ lo) refl
         let end : is_between lo (lo +ℤ pos 0 -ℤ pos 1) x ≡ is_between lo hi x = grind (arith, ints) in
         counted x lo 0 ∙ end
 
-list_any-flat_map : (x : ℤ) (rs : List Range) → list_any (int_eq x) (flat_map (λ r. counting_from r.lo (count_between r.lo r.hi)) rs) ≡ covers rs x
+list_any-flat_map : (x : ℤ) (rs : List Range) → list_any (int_eq x)
+    (flat_map (λ r. counting_from r.lo (count_between r.lo r.hi)) rs) ≡ covers rs x
 list_any-flat_map x [] = refl
 list_any-flat_map x (r ∷ rs) =
     list_any-append (int_eq x) (counting_from r.lo (count_between r.lo r.hi)) _
@@ -62,11 +68,12 @@ pub contains-numbers_of : (rs : List Range) (x : ℤ) → contains (numbers_of r
 unfolding numbers_of
 contains-numbers_of rs x = contains-from_list int_cmp_total _ x ∙ list_any-flat_map x rs
 
-pub contains-numbers_between : (lo hi x : ℤ) → contains (numbers_between lo hi) x ≡ is_between lo hi x
+pub contains-numbers_between : (lo hi x : ℤ)
+    → contains (numbers_between lo hi) x ≡ is_between lo hi x
 unfolding numbers_between
 contains-numbers_between lo hi x = contains-from_list int_cmp_total _ x ∙ list_any-counting_from x lo hi
 
--- two sets of whole numbers with the same members are one
+-- two sets of integers with the same members are one
 pub same_numbers : (s t : NumberSet) → ((x : ℤ) → contains s x ≡ contains t x) → s ≡ t
 same_numbers s t = same_set int_cmp_total int_cmp-IsAntisymmetric s t
 
@@ -74,7 +81,9 @@ same_numbers s t = same_set int_cmp_total int_cmp-IsAntisymmetric s t
 pub same_by_subsets : (s t : NumberSet) → is_subset s t ≡ true → is_subset t s ≡ true → s ≡ t
 same_by_subsets s t there back = same_numbers s t (λ x. both_ways (contains s x) (contains t x) (is_subset-contains int_cmp_total s t there x) (is_subset-contains int_cmp_total t s back x))
 
-pub contains-symmetric_difference : (s t : NumberSet) (x : ℤ) → contains (symmetric_difference s t) x ≡ ((contains s x && not (contains t x)) || (contains t x && not (contains s x)))
+pub contains-symmetric_difference : (s t : NumberSet) (x : ℤ)
+    → contains (symmetric_difference s t) x
+    ≡ ((contains s x && not (contains t x)) || (contains t x && not (contains s x)))
 contains-symmetric_difference s t x =
     contains-union int_cmp_total (difference s t) (difference t s) x
     ∙ rw (contains-difference int_cmp_total s t x, contains-difference int_cmp_total t s x) refl
@@ -101,7 +110,8 @@ Rise-from : (f g : ℤ) (ks : List ℤ) → g ≤ℤ f → Rise f ks → Rise g 
 Rise-from f g [] h r = tt
 Rise-from f g (k ∷ ks) h r = (omega (arith, ints), r.1)
 
-Rise-counting : (f lo : ℤ) (n : ℕ) (ks : List ℤ) → f ≤ℤ lo → Rise (lo +ℤ pos n) ks → Rise f (counting_from lo n ++ ks)
+Rise-counting : (f lo : ℤ) (n : ℕ) (ks : List ℤ) → f ≤ℤ lo → Rise (lo +ℤ pos n) ks
+    → Rise f (counting_from lo n ++ ks)
 unfolding counting_from
 Rise-counting f lo zero ks h r = Rise-from (lo +ℤ pos 0) f ks (omega (arith, ints)) r
 Rise-counting f lo (suc n) ks h r =
@@ -128,7 +138,8 @@ count_between_end lo hi h = at (hi +ℤ pos 1 -ℤ lo) refl
     at (pos n) e = omega (arith, ints)
     at (negsuc n) e = absurd (omega (arith, ints))
 
-Rise-flat_map : (f : ℤ) (rs : List Range) → AreInOrder f rs → Rise f (flat_map (λ r. counting_from r.lo (count_between r.lo r.hi)) rs)
+Rise-flat_map : (f : ℤ) (rs : List Range) → AreInOrder f rs
+    → Rise f (flat_map (λ r. counting_from r.lo (count_between r.lo r.hi)) rs)
 Rise-flat_map f [] o = tt
 Rise-flat_map f (r ∷ rs) o =
     let later = Rise-flat_map (r.hi +ℤ pos 2) rs o.3 in
@@ -139,14 +150,17 @@ unfolding counting_from
 length-counting_from lo zero = refl
 length-counting_from lo (suc n) = ap suc (length-counting_from (lo +ℤ pos 1) n)
 
-length-flat_map : (rs : List Range) → length (flat_map (λ r. counting_from r.lo (count_between r.lo r.hi)) rs) ≡ sum_by (λ r. count_between r.lo r.hi) rs
+length-flat_map : (rs : List Range)
+    → length (flat_map (λ r. counting_from r.lo (count_between r.lo r.hi)) rs)
+    ≡ sum_by (λ r. count_between r.lo r.hi) rs
 length-flat_map [] = refl
 length-flat_map (r ∷ rs) =
     length-append (counting_from r.lo (count_between r.lo r.hi)) _
     ∙ rw (length-counting_from r.lo (count_between r.lo r.hi), length-flat_map rs) (sym (sum_by-cons (λ (q : Range). count_between q.lo q.hi) r rs))
 
 -- how many numbers the set of ranges in order has
-pub len-numbers_of : (f : ℤ) (rs : List Range) → AreInOrder f rs → len (numbers_of rs) ≡ sum_by (λ r. count_between r.lo r.hi) rs
+pub len-numbers_of : (f : ℤ) (rs : List Range) → AreInOrder f rs
+    → len (numbers_of rs) ≡ sum_by (λ r. count_between r.lo r.hi) rs
 unfolding numbers_of
 len-numbers_of f rs o = len-from_list f _ (Rise-flat_map f rs o) ∙ length-flat_map rs
 
@@ -158,7 +172,8 @@ len-numbers_between lo hi =
     len-from_list lo _ rise ∙ length-counting_from lo (count_between lo hi)
 
 -- ranges in order that begin at f or above have no more numbers than there are from f on
-pub count_up_to : (f : ℤ) (rs : List Range) → AreInOrder f rs → f ≤ℤ (highest +ℤ pos 1) → (f +ℤ pos (sum_by (λ r. count_between r.lo r.hi) rs)) ≤ℤ (highest +ℤ pos 1)
+pub count_up_to : (f : ℤ) (rs : List Range) → AreInOrder f rs → f ≤ℤ (highest +ℤ pos 1)
+    → (f +ℤ pos (sum_by (λ r. count_between r.lo r.hi) rs)) ≤ℤ (highest +ℤ pos 1)
 count_up_to f [] o h = omega (arith, ints)
 count_up_to f (r ∷ rs) o h =
     let next : AreInOrder (r.hi +ℤ pos 1) rs = in_order_from (r.hi +ℤ pos 2) (r.hi +ℤ pos 1) rs (omega (arith, ints)) o.3 in

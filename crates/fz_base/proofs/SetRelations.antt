@@ -32,34 +32,43 @@ seen n s view x = sym (contains-set_of n x) ∙ ap (λ t. contains t x) view
 pub made : (n : Numbers) (s : NumberSet) → ((x : ℤ) → has n x ≡ contains s x) → set_of n ≡ s
 made n s is = same_numbers (set_of n) s (λ x. contains-set_of n x ∙ is x)
 
-pub between_made : (lo hi : ℤ) (out : Numbers) → ((x : ℤ) → has out x ≡ is_between lo hi x) → set_of out ≡ numbers_between lo hi
+pub between_made : (lo hi : ℤ) (out : Numbers) → ((x : ℤ) → has out x ≡ is_between lo hi x)
+    → set_of out ≡ numbers_between lo hi
 between_made lo hi out is = made out (numbers_between lo hi) (λ x. is x ∙ sym (contains-numbers_between lo hi x))
 
-pub listed_made : (numbers : List ℤ) (out : Numbers) → ((x : ℤ) → has out x ≡ list_any (int_eq x) numbers) → set_of out ≡ from_list numbers
+pub listed_made : (numbers : List ℤ) (out : Numbers)
+    → ((x : ℤ) → has out x ≡ list_any (int_eq x) numbers) → set_of out ≡ from_list numbers
 listed_made numbers out is = made out (from_list numbers) (λ x. is x ∙ sym (contains-from_list int_cmp_total numbers x))
 
 -- ranges in order cover the same where they are the same, and only there
-pub same_covered : (a b : List Range) → AreInOrder lowest a → AreInOrder lowest b → (r : Bool) → (r ≡ true ↔ (a ≡ b)) → (r ≡ true ↔ ((x : ℤ) → covers a x ≡ covers b x))
+pub same_covered : (a b : List Range) → AreInOrder lowest a → AreInOrder lowest b → (r : Bool)
+    → (r ≡ true ↔ (a ≡ b)) → (r ≡ true ↔ ((x : ℤ) → covers a x ≡ covers b x))
 same_covered a b order_a order_b r h = (λ e x. ap (λ rs. covers rs x) (h.0 e), λ alike. h.1 (same_ranges lowest lowest a b order_a order_b alike))
 
 -- numbers that are sorted are the same
-pub sorted_listed : (numbers sorted : List ℤ) → IsPermutation numbers sorted → (x : ℤ) → list_any (int_eq x) sorted ≡ list_any (int_eq x) numbers
+pub sorted_listed : (numbers sorted : List ℤ) → IsPermutation numbers sorted → (x : ℤ)
+    → list_any (int_eq x) sorted ≡ list_any (int_eq x) numbers
 sorted_listed numbers sorted moved x = sym (list_any-IsPermutation (int_eq x) numbers sorted moved)
 
 module _ (s t : NumberSet) (a b : Numbers) (is_a : (x : ℤ) → has a x ≡ contains s x) (is_b : (x : ℤ) → has b x ≡ contains t x) where
-  pub union_made : (out : Numbers) → ((x : ℤ) → has out x ≡ keeps Union (has a x) (has b x)) → set_of out ≡ union s t
+  pub union_made : (out : Numbers) → ((x : ℤ) → has out x ≡ keeps Union (has a x) (has b x))
+      → set_of out ≡ union s t
   union_made out kept = made out (union s t) (λ x. kept x ∙ rw (is_a x, is_b x) (sym (contains-union int_cmp_total s t x)))
 
-  pub intersection_made : (out : Numbers) → ((x : ℤ) → has out x ≡ keeps Intersect (has a x) (has b x)) → set_of out ≡ intersection s t
+  pub intersection_made : (out : Numbers)
+      → ((x : ℤ) → has out x ≡ keeps Intersect (has a x) (has b x)) → set_of out ≡ intersection s t
   intersection_made out kept = made out (intersection s t) (λ x. kept x ∙ rw (is_a x, is_b x) (sym (contains-intersection int_cmp_total s t x)))
 
-  pub difference_made : (out : Numbers) → ((x : ℤ) → has out x ≡ keeps Minus (has a x) (has b x)) → set_of out ≡ difference s t
+  pub difference_made : (out : Numbers) → ((x : ℤ) → has out x ≡ keeps Minus (has a x) (has b x))
+      → set_of out ≡ difference s t
   difference_made out kept = made out (difference s t) (λ x. kept x ∙ rw (is_a x, is_b x) (sym (contains-difference int_cmp_total s t x)))
 
-  pub symmetric_difference_made : (out : Numbers) → ((x : ℤ) → has out x ≡ keeps Symdiff (has a x) (has b x)) → set_of out ≡ symmetric_difference s t
+  pub symmetric_difference_made : (out : Numbers) → ((x : ℤ)
+      → has out x ≡ keeps Symdiff (has a x) (has b x)) → set_of out ≡ symmetric_difference s t
   symmetric_difference_made out kept = made out (symmetric_difference s t) (λ x. kept x ∙ rw (is_a x, is_b x) (sym (contains-symmetric_difference s t x)))
 
-  pub is_subset_is : (r : Bool) → (r ≡ true ↔ ((x : ℤ) → has a x ≡ true → has b x ≡ true)) → r ≡ is_subset s t
+  pub is_subset_is : (r : Bool) → (r ≡ true ↔ ((x : ℤ) → has a x ≡ true → has b x ≡ true))
+      → r ≡ is_subset s t
   is_subset_is r h =
       both_ways r (is_subset s t)
       (λ e. contains-is_subset int_cmp_total s t (λ x in_s. sym (is_b x) ∙ h.0 e x (is_a x ∙ in_s)))
@@ -72,7 +81,8 @@ module _ (s t : NumberSet) (a b : Numbers) (is_a : (x : ℤ) → has a x ≡ con
   )
 
   -- a set of which ranges cover what the rule keeps is the one that has just that
-  is_kept_is : (rule : Rule) (u v : NumberSet) (c : Numbers) → ((x : ℤ) → has c x ≡ contains u x) → ((x : ℤ) → contains v x ≡ keeps rule (contains s x) (contains t x)) → (r : Bool)
+  is_kept_is : (rule : Rule) (u v : NumberSet) (c : Numbers) → ((x : ℤ) → has c x ≡ contains u x)
+      → ((x : ℤ) → contains v x ≡ keeps rule (contains s x) (contains t x)) → (r : Bool)
       → (r ≡ true ↔ ((x : ℤ) → has c x ≡ keeps rule (has a x) (has b x))) → (r ≡ true ↔ (u ≡ v))
   is_kept_is rule u v c is_c has r h = (
     λ e. same_numbers u v (λ x. sym (is_c x) ∙ h.0 e x ∙ (λ i. keeps rule (is_a x i) (is_b x i)) ∙ sym (has x)),
@@ -80,29 +90,38 @@ module _ (s t : NumberSet) (a b : Numbers) (is_a : (x : ℤ) → has a x ≡ con
   )
 
   module _ (u : NumberSet) (c : Numbers) (is_c : (x : ℤ) → has c x ≡ contains u x) (r : Bool) where
-    pub is_union_is : (r ≡ true ↔ ((x : ℤ) → has c x ≡ keeps Union (has a x) (has b x))) → (r ≡ true ↔ (u ≡ union s t))
+    pub is_union_is : (r ≡ true ↔ ((x : ℤ) → has c x ≡ keeps Union (has a x) (has b x)))
+        → (r ≡ true ↔ (u ≡ union s t))
     is_union_is h = is_kept_is Union u (union s t) c is_c (contains-union int_cmp_total s t) r h
 
-    pub is_intersection_is : (r ≡ true ↔ ((x : ℤ) → has c x ≡ keeps Intersect (has a x) (has b x))) → (r ≡ true ↔ (u ≡ intersection s t))
+    pub is_intersection_is : (r ≡ true ↔ ((x : ℤ) → has c x ≡ keeps Intersect (has a x) (has b x)))
+        → (r ≡ true ↔ (u ≡ intersection s t))
     is_intersection_is h = is_kept_is Intersect u (intersection s t) c is_c (contains-intersection int_cmp_total s t) r h
 
-    pub is_difference_is : (r ≡ true ↔ ((x : ℤ) → has c x ≡ keeps Minus (has a x) (has b x))) → (r ≡ true ↔ (u ≡ difference s t))
+    pub is_difference_is : (r ≡ true ↔ ((x : ℤ) → has c x ≡ keeps Minus (has a x) (has b x)))
+        → (r ≡ true ↔ (u ≡ difference s t))
     is_difference_is h = is_kept_is Minus u (difference s t) c is_c (contains-difference int_cmp_total s t) r h
 
-    pub is_symmetric_difference_is : (r ≡ true ↔ ((x : ℤ) → has c x ≡ keeps Symdiff (has a x) (has b x))) → (r ≡ true ↔ (u ≡ symmetric_difference s t))
+    pub is_symmetric_difference_is : (r ≡ true ↔ ((x : ℤ)
+        → has c x ≡ keeps Symdiff (has a x) (has b x)))
+        → (r ≡ true ↔ (u ≡ symmetric_difference s t))
     is_symmetric_difference_is h = is_kept_is Symdiff u (symmetric_difference s t) c is_c (contains-symmetric_difference s t) r h
 
-pub lies_within_is : (s : NumberSet) (a : Numbers) → ((x : ℤ) → has a x ≡ contains s x) → (lo hi : ℤ) (r : Bool) → (r ≡ true ↔ ((x : ℤ) → has a x ≡ true → (lo ≤ℤ x) × (x ≤ℤ hi))) → (r ≡ true ↔ LiesWithin lo hi s)
+pub lies_within_is : (s : NumberSet) (a : Numbers) → ((x : ℤ) → has a x ≡ contains s x)
+    → (lo hi : ℤ) (r : Bool) → (r ≡ true ↔ ((x : ℤ) → has a x ≡ true → (lo ≤ℤ x) × (x ≤ℤ hi)))
+    → (r ≡ true ↔ LiesWithin lo hi s)
 lies_within_is s a is_a lo hi r h = (λ e x in_s. h.0 e x (is_a x ∙ in_s), λ all. h.1 (λ x in_a. all x (sym (is_a x) ∙ in_a)))
 
 -- ---- one number alone
 
 module _ (s : NumberSet) (rs : Numbers) (is : (x : ℤ) → has rs x ≡ contains s x) where
-  pub only_found : (o : Option ℤ) → IfSome o (λ n. ((x : ℤ) → (has rs x ≡ true) ↔ (x ≡ n))) → IfSome o (λ n. IsOnly n s)
+  pub only_found : (o : Option ℤ) → IfSome o (λ n. ((x : ℤ) → (has rs x ≡ true) ↔ (x ≡ n)))
+      → IfSome o (λ n. IsOnly n s)
   only_found None h = h
   only_found (Some n) h = λ x. ((λ e. (h x).0 (is x ∙ e)), (λ e. sym (is x) ∙ (h x).1 e))
 
-  pub only_none : (o : Option ℤ) → IfNone o ((n : ℤ) → ((x : ℤ) → (has rs x ≡ true) ↔ (x ≡ n)) → ⊥) → IfNone o ((n : ℤ) → IsOnly n s → ⊥)
+  pub only_none : (o : Option ℤ) → IfNone o ((n : ℤ) → ((x : ℤ) → (has rs x ≡ true) ↔ (x ≡ n)) → ⊥)
+      → IfNone o ((n : ℤ) → IsOnly n s → ⊥)
   only_none None h = λ n g. h n (λ x. ((λ e. (g x).0 (sym (is x) ∙ e)), (λ e. is x ∙ (g x).1 e)))
   only_none (Some n) h = h
 

@@ -7,7 +7,8 @@ use Rattle.fz_base.specs.Ranges.{AreInOrder, covers}
 use Rattle.fz_base.proofs.Covers.{apart, between_above, covers_below, in_first}
 
 -- what is behind the first range is not covered by it
-in_others : (r : Range) (rs : List Range) (x : ℤ) → (r.hi +ℤ pos 1) ≤ℤ x → covers (r ∷ rs) x ≡ covers rs x
+in_others : (r : Range) (rs : List Range) (x : ℤ) → (r.hi +ℤ pos 1) ≤ℤ x
+    → covers (r ∷ rs) x ≡ covers rs x
 in_others r rs x h = ap (λ b. b || covers rs x) (between_above r.lo r.hi x (omega (arith, ints)))
 
 module _ (f g : ℤ) (r s : Range) (rs ss : List Range) (order : AreInOrder f (r ∷ rs)) (other : AreInOrder g (s ∷ ss)) (alike : (x : ℤ) → covers (r ∷ rs) x ≡ covers (s ∷ ss) x) where
@@ -40,7 +41,8 @@ module _ (f g : ℤ) (r s : Range) (rs ss : List Range) (order : AreInOrder f (r
       ]
 
 -- lists in order that cover the same are the same
-pub same_ranges : (f g : ℤ) (rs ss : List Range) → AreInOrder f rs → AreInOrder g ss → ((x : ℤ) → covers rs x ≡ covers ss x) → rs ≡ ss
+pub same_ranges : (f g : ℤ) (rs ss : List Range) → AreInOrder f rs → AreInOrder g ss
+    → ((x : ℤ) → covers rs x ≡ covers ss x) → rs ≡ ss
 same_ranges f g [] [] o p alike = refl
 same_ranges f g [] (s ∷ ss) o p alike = absurd (true≢false (sym (in_first s ss s.lo (omega (arith, ints)) p.1) ∙ sym (alike s.lo)))
 same_ranges f g (r ∷ rs) [] o p alike = absurd (true≢false (sym (in_first r rs r.lo (omega (arith, ints)) o.1) ∙ alike r.lo))

@@ -20,25 +20,30 @@ module _ (at : ℤ) (rs : List Range) (d : Range) (some : 0 < length rs) (order 
   pub order_past : AreInOrder lowest (drop 1 rs)
   order_past = past rs some order
     where
-      past : (qs : List Range) → 0 < length qs → AreInOrder lowest qs → AreInOrder lowest (drop 1 qs)
+      past : (qs : List Range) → 0 < length qs → AreInOrder lowest qs
+          → AreInOrder lowest (drop 1 qs)
       past [] s o = tt
       past (q ∷ qs) s o = in_order_from (q.hi +ℤ pos 2) lowest qs (omega (arith, ints)) o.3
 
   pub covers_past : (x : ℤ) → (get_or rs 0 d).hi <ℤ x → covers (drop 1 rs) x ≡ covers rs x
   covers_past x h = past rs some h
     where
-      past : (qs : List Range) → 0 < length qs → (get_or qs 0 d).hi <ℤ x → covers (drop 1 qs) x ≡ covers qs x
+      past : (qs : List Range) → 0 < length qs → (get_or qs 0 d).hi <ℤ x
+          → covers (drop 1 qs) x ≡ covers qs x
       past [] s h = refl
       past (q ∷ qs) s h = sym (ap (λ b. b || covers qs x) (between_above q.lo q.hi x h))
 
 -- ---- one range in others
 
-pub all_in_first : (rs : List Range) (d : Range) (lo hi : ℤ) → 0 < length rs → (get_or rs 0 d).lo ≤ℤ lo → hi ≤ℤ (get_or rs 0 d).hi → (x : ℤ) → lo ≤ℤ x → x ≤ℤ hi → covers rs x ≡ true
+pub all_in_first : (rs : List Range) (d : Range) (lo hi : ℤ) → 0 < length rs
+    → (get_or rs 0 d).lo ≤ℤ lo → hi ≤ℤ (get_or rs 0 d).hi → (x : ℤ) → lo ≤ℤ x → x ≤ℤ hi
+    → covers rs x ≡ true
 all_in_first [] d lo hi some low high x h k = absurd (omega arith)
 all_in_first (r ∷ rs) d lo hi some low high x h k = ap (λ b. b || covers rs x) (between_yes r.lo r.hi x (omega (arith, ints)) (omega (arith, ints)))
 
 -- a number before the first range is in none, and so is the one behind it
-pub not_all : (rs : List Range) (d : Range) (lo hi : ℤ) → 0 < length rs → AreInOrder lowest rs → ReachesTo lo rs → lo ≤ℤ hi → ((get_or rs 0 d).lo ≤ℤ lo → hi ≤ℤ (get_or rs 0 d).hi → ⊥)
+pub not_all : (rs : List Range) (d : Range) (lo hi : ℤ) → 0 < length rs → AreInOrder lowest rs
+    → ReachesTo lo rs → lo ≤ℤ hi → ((get_or rs 0 d).lo ≤ℤ lo → hi ≤ℤ (get_or rs 0 d).hi → ⊥)
     → ((x : ℤ) → lo ≤ℤ x → x ≤ℤ hi → covers rs x ≡ true) → ⊥
 not_all [] d lo hi some order ahead le not_both all = absurd (omega arith)
 not_all (r ∷ rs) d lo hi some order ahead le not_both all =
@@ -53,22 +58,26 @@ not_all (r ∷ rs) d lo hi some order ahead le not_both all =
       ]
     ]
 
-pub none_not_all : (rs : List Range) (lo hi : ℤ) → length rs < 1 → lo ≤ℤ hi → ((x : ℤ) → lo ≤ℤ x → x ≤ℤ hi → covers rs x ≡ true) → ⊥
+pub none_not_all : (rs : List Range) (lo hi : ℤ) → length rs < 1 → lo ≤ℤ hi
+    → ((x : ℤ) → lo ≤ℤ x → x ≤ℤ hi → covers rs x ≡ true) → ⊥
 none_not_all [] lo hi few le all = true≢false (sym (all lo (omega (arith, ints)) le))
 none_not_all (r ∷ rs) lo hi few le all = absurd (omega arith)
 
 -- ---- one range after another
 
-pub some_numbers : (rs : List Range) (d : Range) → 0 < length rs → AreInOrder lowest rs → (get_or rs 0 d).lo ≤ℤ (get_or rs 0 d).hi
+pub some_numbers : (rs : List Range) (d : Range) → 0 < length rs → AreInOrder lowest rs
+    → (get_or rs 0 d).lo ≤ℤ (get_or rs 0 d).hi
 some_numbers [] d some order = absurd (omega arith)
 some_numbers (r ∷ rs) d some order = order.1
 
-pub first_low_fits : (rs : List Range) (d : Range) → 0 < length rs → AreInOrder lowest rs → FitsSigned w64 (get_or rs 0 d).lo
+pub first_low_fits : (rs : List Range) (d : Range) → 0 < length rs → AreInOrder lowest rs
+    → FitsSigned w64 (get_or rs 0 d).lo
 first_low_fits rs d some order =
     let (le, low, high) = in_order_at lowest rs 0 d order some in
     omega (arith, ints)
 
-pub first_high_fits : (rs : List Range) (d : Range) → 0 < length rs → AreInOrder lowest rs → FitsSigned w64 (get_or rs 0 d).hi
+pub first_high_fits : (rs : List Range) (d : Range) → 0 < length rs → AreInOrder lowest rs
+    → FitsSigned w64 (get_or rs 0 d).hi
 first_high_fits rs d some order =
     let (le, low, high) = in_order_at lowest rs 0 d order some in
     omega (arith, ints)
@@ -78,14 +87,17 @@ none_lies_in [] ss few x h = absurd (true≢false (sym h))
 none_lies_in (r ∷ rs) ss few x h = absurd (omega arith)
 
 module _ (ss left : List Range) where
-  first_covered : (r : Range) (rs : List Range) (x : ℤ) → r.lo ≤ℤ x → x ≤ℤ r.hi → covers (r ∷ rs) x ≡ true
+  first_covered : (r : Range) (rs : List Range) (x : ℤ) → r.lo ≤ℤ x → x ≤ℤ r.hi
+      → covers (r ∷ rs) x ≡ true
   first_covered r rs x h k = ap (λ b. b || covers rs x) (between_yes r.lo r.hi x h k)
 
   -- what is covered begins at the first range
-  begins : (r : Range) (rs : List Range) (x : ℤ) → AreInOrder lowest (r ∷ rs) → covers (r ∷ rs) x ≡ true → r.lo ≤ℤ x
+  begins : (r : Range) (rs : List Range) (x : ℤ) → AreInOrder lowest (r ∷ rs)
+      → covers (r ∷ rs) x ≡ true → r.lo ≤ℤ x
   begins r rs x o h = elim (apart x r.lo) [ inl k ↦ absurd (true≢false (sym h ∙ covers_below r.lo x (r ∷ rs) (omega (arith, ints), o.1, o.2, o.3) k)) | inr k ↦ k ]
 
-  pub lies_in_more : (rs : List Range) (d : Range) → 0 < length rs → AreInOrder lowest rs → ((x : ℤ) → (get_or rs 0 d).lo ≤ℤ x → covers left x ≡ covers ss x)
+  pub lies_in_more : (rs : List Range) (d : Range) → 0 < length rs → AreInOrder lowest rs
+      → ((x : ℤ) → (get_or rs 0 d).lo ≤ℤ x → covers left x ≡ covers ss x)
       → ((x : ℤ) → (get_or rs 0 d).lo ≤ℤ x → x ≤ℤ (get_or rs 0 d).hi → covers left x ≡ true) → (LiesIn (drop 1 rs) left ↔ LiesIn rs ss)
   lies_in_more [] d some order alike all = absurd (omega arith)
   lies_in_more (r ∷ rs) d some order alike all = (
@@ -101,7 +113,8 @@ module _ (ss left : List Range) where
         alike x (begins r rs x order in_all) ∙ whole x in_all,
   )
 
-  pub lies_not_in : (rs : List Range) (d : Range) → 0 < length rs → ((x : ℤ) → (get_or rs 0 d).lo ≤ℤ x → covers left x ≡ covers ss x)
+  pub lies_not_in : (rs : List Range) (d : Range) → 0 < length rs
+      → ((x : ℤ) → (get_or rs 0 d).lo ≤ℤ x → covers left x ≡ covers ss x)
       → (((x : ℤ) → (get_or rs 0 d).lo ≤ℤ x → x ≤ℤ (get_or rs 0 d).hi → covers left x ≡ true) → ⊥) → LiesIn rs ss → ⊥
   lies_not_in [] d some alike missing whole = absurd (omega arith)
   lies_not_in (r ∷ rs) d some alike missing whole = missing (λ x h k. alike x h ∙ whole x (first_covered r rs x h k))

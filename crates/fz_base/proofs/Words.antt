@@ -44,7 +44,8 @@ minus_bit (suc zero) (suc zero) h k = refl
 minus_bit (suc (suc p)) q h k = absurd (omega arith)
 minus_bit p (suc (suc q)) h k = absurd (omega arith)
 
-xor_bit : (p q : ℕ) → p < 2 → q < 2 → ((p + q) % 2 == 1) ≡ (((p == 1) && not (q == 1)) || ((q == 1) && not (p == 1)))
+xor_bit : (p q : ℕ) → p < 2 → q < 2
+    → ((p + q) % 2 == 1) ≡ (((p == 1) && not (q == 1)) || ((q == 1) && not (p == 1)))
 xor_bit zero zero h k = refl
 xor_bit zero (suc zero) h k = refl
 xor_bit (suc zero) zero h k = refl
@@ -82,18 +83,21 @@ without : (b p q r : Bool) → (b ≡ true → r ≡ (p && not q)) → (b && r) 
 without true p q r h = h refl
 without false p q r h = refl
 
-pub has_minus : (a b : ℕ) (x : ℤ) → b < 2 ^ 64 → has_bit (bit_and a (18446744073709551615 - b)) x ≡ (has_bit a x && not (has_bit b x))
+pub has_minus : (a b : ℕ) (x : ℤ) → b < 2 ^ 64
+    → has_bit (bit_and a (18446744073709551615 - b)) x ≡ (has_bit a x && not (has_bit b x))
 has_minus a b (pos n) h =
     without (ltb n 64) (bit_at a n == 1) (bit_at b n == 1) (bit_at (bit_and a (18446744073709551615 - b)) n == 1) (λ low.
     ap (λ d. d == 1) (bit_at_and a (18446744073709551615 - b) n ∙ ap (min (bit_at a n)) (bit_at_not w64 b n h (ltb-true n 64 low)))
     ∙ minus_bit (bit_at a n) (bit_at b n) (bit_at-lt a n) (bit_at-lt b n))
 has_minus a b (negsuc n) h = refl
 
-either : (b p q r : Bool) → (b ≡ true → r ≡ ((p && not q) || (q && not p))) → (b && r) ≡ (((b && p) && not (b && q)) || ((b && q) && not (b && p)))
+either : (b p q r : Bool) → (b ≡ true → r ≡ ((p && not q) || (q && not p)))
+    → (b && r) ≡ (((b && p) && not (b && q)) || ((b && q) && not (b && p)))
 either true p q r h = h refl
 either false p q r h = refl
 
-pub has_xor : (a b : ℕ) (x : ℤ) → has_bit (bit_xor a b) x ≡ ((has_bit a x && not (has_bit b x)) || (has_bit b x && not (has_bit a x)))
+pub has_xor : (a b : ℕ) (x : ℤ) → has_bit (bit_xor a b) x
+    ≡ ((has_bit a x && not (has_bit b x)) || (has_bit b x && not (has_bit a x)))
 has_xor a b (pos n) = either (ltb n 64) (bit_at a n == 1) (bit_at b n == 1) (bit_at (bit_xor a b) n == 1) (λ _. ap (λ d. d == 1) (bit_at_xor a b n) ∙ xor_bit (bit_at a n) (bit_at b n) (bit_at-lt a n) (bit_at-lt b n))
 has_xor a b (negsuc n) = refl
 
@@ -122,10 +126,12 @@ all_under true true h = refl
 all_under true false h = absurd (true≢false (sym (h refl)))
 all_under false q h = refl
 
-pub covered_words : (a b : ℕ) → b < 2 ^ 64 → bit_and a (18446744073709551615 - b) ≡ 0 → (x : ℤ) → has_bit a x ≡ true → has_bit b x ≡ true
+pub covered_words : (a b : ℕ) → b < 2 ^ 64 → bit_and a (18446744073709551615 - b) ≡ 0 → (x : ℤ)
+    → has_bit a x ≡ true → has_bit b x ≡ true
 covered_words a b h e x in_a = nothing_over (has_bit a x) (has_bit b x) (sym (has_minus a b x h) ∙ ap (λ w. has_bit w x) e ∙ has_none x) in_a
 
-pub words_covered : (a b : ℕ) → a < 2 ^ 64 → b < 2 ^ 64 → ((x : ℤ) → has_bit a x ≡ true → has_bit b x ≡ true) → bit_and a (18446744073709551615 - b) ≡ 0
+pub words_covered : (a b : ℕ) → a < 2 ^ 64 → b < 2 ^ 64
+    → ((x : ℤ) → has_bit a x ≡ true → has_bit b x ≡ true) → bit_and a (18446744073709551615 - b) ≡ 0
 words_covered a b h k all =
     same_words (bit_and a (18446744073709551615 - b)) 0 (omega (arith, and_le_l a (18446744073709551615 - b))) (omega arith) (λ x. has_minus a b x k ∙ all_under (has_bit a x) (has_bit b x) (all x) ∙ sym (has_none x))
 
@@ -145,11 +151,13 @@ has_one k (pos n) h =
     ]
 has_one k (negsuc n) h = let other : int_eq (negsuc n) (pos k) ≡ false = grind (arith, ints) in sym other
 
-pub has_with : (bits k : ℕ) (x : ℤ) → k < 64 → has_bit (bit_or bits (1 * 2 ^ k % 18446744073709551616)) x ≡ (has_bit bits x || int_eq x (pos k))
+pub has_with : (bits k : ℕ) (x : ℤ) → k < 64 → has_bit
+    (bit_or bits (1 * 2 ^ k % 18446744073709551616)) x ≡ (has_bit bits x || int_eq x (pos k))
 has_with bits k x h = ap (λ w. has_bit (bit_or bits w) x) (one_shl k 64 h) ∙ has_or bits (2 ^ k) x ∙ ap (λ b. has_bit bits x || b) (has_one k x h)
 
 -- the numbers up to one
-pub has_up_to : (k : ℕ) (x : ℤ) → k < 64 → has_bit (2 ^ (k + 1) - 1) x ≡ is_between (pos 0) (pos k) x
+pub has_up_to : (k : ℕ) (x : ℤ) → k < 64
+    → has_bit (2 ^ (k + 1) - 1) x ≡ is_between (pos 0) (pos k) x
 has_up_to k (pos n) h =
     elim (cases_lt n (k + 1)) [
       | inl low ↦
@@ -191,7 +199,8 @@ has_low bits (pos n) =
     ]
 has_low bits (negsuc n) = and-false (is_between (pos 0) (pos 63) (negsuc n))
 
-pub contains-numbers_of_bits : (bits : ℕ) (x : ℤ) → contains (numbers_of_bits bits) x ≡ has_bit bits x
+pub contains-numbers_of_bits : (bits : ℕ) (x : ℤ)
+    → contains (numbers_of_bits bits) x ≡ has_bit bits x
 unfolding numbers_of_bits
 contains-numbers_of_bits bits x =
     contains-from_list int_cmp_total _ x
@@ -200,7 +209,8 @@ contains-numbers_of_bits bits x =
     ∙ has_low bits x
 
 -- how many numbers it has
-counted_bits : (bits n k : ℕ) → bits / 2 ^ n < 2 ^ k → n + k ≡ 64 → length (filter (has_bit bits) (counting_from (pos n) k)) ≡ count_ones (bits / 2 ^ n)
+counted_bits : (bits n k : ℕ) → bits / 2 ^ n < 2 ^ k → n + k ≡ 64
+    → length (filter (has_bit bits) (counting_from (pos n) k)) ≡ count_ones (bits / 2 ^ n)
 unfolding counting_from
 counted_bits bits n zero h e = omega (arith, ones-le 0 (bits / 2 ^ n) h)
 counted_bits bits n (suc k) h e =
@@ -212,7 +222,8 @@ counted_bits bits n (suc k) h e =
     ∙ ap (λ m. bit_at bits n + m) (rest ∙ ap count_ones (sym half))
     ∙ sym (ones_step (bits / 2 ^ n))
   where
-    one_more : (d : ℕ) → d < 2 → (xs : List ℤ) → length (cond (d == 1) (pos n ∷ xs) xs) ≡ d + length xs
+    one_more : (d : ℕ) → d < 2 → (xs : List ℤ)
+        → length (cond (d == 1) (pos n ∷ xs) xs) ≡ d + length xs
     one_more zero h xs = omega arith
     one_more (suc zero) h xs = omega arith
     one_more (suc (suc d)) h xs = absurd (omega arith)
@@ -251,13 +262,17 @@ has_cut (pos f) (pos l) x low high some =
     ∙ (λ i. has_up_to l x (omega (arith, ints)) i && has_from f x (omega (arith, ints)) i)
     ∙ both_ends
 
-pub between_cut : (lo hi x : ℤ) → is_between (int_max lo (pos 0)) (int_min hi (pos 63)) x ≡ (is_between (pos 0) (pos 63) x && is_between lo hi x)
+pub between_cut : (lo hi x : ℤ) → is_between (int_max lo (pos 0)) (int_min hi (pos 63)) x
+    ≡ (is_between (pos 0) (pos 63) x && is_between lo hi x)
 between_cut lo hi x = grind (arith, ints)
 
-pub cut_empty : (lo hi x : ℤ) → int_min hi (pos 63) <ℤ int_max lo (pos 0) → false ≡ (is_between (pos 0) (pos 63) x && is_between lo hi x)
+pub cut_empty : (lo hi x : ℤ) → int_min hi (pos 63) <ℤ int_max lo (pos 0)
+    → false ≡ (is_between (pos 0) (pos 63) x && is_between lo hi x)
 cut_empty lo hi x h = grind (arith, ints)
 
-pub has_with_number : (bits : ℕ) (z x : ℤ) → pos 0 ≤ℤ z → z ≤ℤ pos 63 → has_bit (bit_or bits (1 * 2 ^ nat_abs z % 18446744073709551616)) x ≡ (has_bit bits x || int_eq x z)
+pub has_with_number : (bits : ℕ) (z x : ℤ) → pos 0 ≤ℤ z → z ≤ℤ pos 63
+    → has_bit (bit_or bits (1 * 2 ^ nat_abs z % 18446744073709551616)) x
+    ≡ (has_bit bits x || int_eq x z)
 has_with_number bits (pos k) x low high = has_with bits k x (omega (arith, ints))
 has_with_number bits (negsuc k) x low high = absurd (omega (arith, ints))
 
@@ -266,12 +281,14 @@ has_with_number bits (negsuc k) x low high = absurd (omega (arith, ints))
 same_int : (x y : ℤ) → x ≡ y → int_eq x y ≡ true
 same_int x y e = grind (arith, ints)
 
-pub one_word : (bits t : ℕ) → t < 64 → bits ≡ 1 * 2 ^ t % 18446744073709551616 → (x : ℤ) → (has_bit bits x ≡ true) ↔ (x ≡ pos t)
+pub one_word : (bits t : ℕ) → t < 64 → bits ≡ 1 * 2 ^ t % 18446744073709551616 → (x : ℤ)
+    → (has_bit bits x ≡ true) ↔ (x ≡ pos t)
 one_word bits t h e x =
     let is : has_bit bits x ≡ int_eq x (pos t) = ap (λ w. has_bit w x) (e ∙ one_shl t 64 h) ∙ has_one t x h in
     (λ in_it. (Decides-int_eq x (pos t)).0 (sym is ∙ in_it), λ same. is ∙ same_int x (pos t) same)
 
-pub word_of_one : (bits t : ℕ) (n : ℤ) → t < 64 → bits < 2 ^ 64 → bit_at bits t ≡ 1 → ((x : ℤ) → (has_bit bits x ≡ true) ↔ (x ≡ n)) → bits ≡ 1 * 2 ^ t % 18446744073709551616
+pub word_of_one : (bits t : ℕ) (n : ℤ) → t < 64 → bits < 2 ^ 64 → bit_at bits t ≡ 1
+    → ((x : ℤ) → (has_bit bits x ≡ true) ↔ (x ≡ n)) → bits ≡ 1 * 2 ^ t % 18446744073709551616
 word_of_one bits t n h fits set only =
     let there : has_bit bits (pos t) ≡ true = λ i. lt-ltb t 64 h i && (set i == 1) in
     let found : pos t ≡ n = (only (pos t)).0 there in
@@ -282,7 +299,8 @@ word_of_one bits t n h fits set only =
 
 -- ---- within two numbers
 
-pub within_cut : (bits cut : ℕ) (lo hi : ℤ) → ((x : ℤ) → has_bit cut x ≡ (is_between (pos 0) (pos 63) x && is_between lo hi x)) → (r : Bool)
+pub within_cut : (bits cut : ℕ) (lo hi : ℤ)
+    → ((x : ℤ) → has_bit cut x ≡ (is_between (pos 0) (pos 63) x && is_between lo hi x)) → (r : Bool)
     → (r ≡ true ↔ ((x : ℤ) → has_bit bits x ≡ true → has_bit cut x ≡ true)) → (r ≡ true ↔ ((x : ℤ) → has_bit bits x ≡ true → (lo ≤ℤ x) × (x ≤ℤ hi)))
 within_cut bits cut lo hi is r h = (
   λ e x in_it. ends x (second (is_between (pos 0) (pos 63) x) (is_between lo hi x) (sym (is x) ∙ h.0 e x in_it)),
@@ -302,7 +320,9 @@ within_cut bits cut lo hi is r h = (
 -- ---- spreading a word out, one number after another
 
 -- a word without one of its numbers
-pub has_less : (rest t : ℕ) (x : ℤ) → t < 64 → has_bit (bit_and rest (18446744073709551615 - 1 * 2 ^ t % 18446744073709551616)) x ≡ (has_bit rest x && not (int_eq x (pos t)))
+pub has_less : (rest t : ℕ) (x : ℤ) → t < 64 → has_bit (bit_and rest
+    (18446744073709551615 - 1 * 2 ^ t % 18446744073709551616)) x
+    ≡ (has_bit rest x && not (int_eq x (pos t)))
 has_less rest t x h =
     ap (λ w. has_bit (bit_and rest (18446744073709551615 - w)) x) (one_shl t 64 h)
     ∙ has_minus rest (2 ^ t) x (pow_below t 64 h)
@@ -330,7 +350,9 @@ module _ (bits rest t : ℕ) (small : t < 64) (set : bit_at rest t ≡ 1) (first
   pub in_rest : has_bit rest (pos t) ≡ true
   in_rest = λ i. lt-ltb t 64 small i && (set i == 1)
 
-  pub spread_more : (x : ℤ) → ((has_bit bits x && not (has_bit rest x)) || int_eq x (pos t)) ≡ (has_bit bits x && not (has_bit (bit_and rest (18446744073709551615 - 1 * 2 ^ t % 18446744073709551616)) x))
+  pub spread_more : (x : ℤ) → ((has_bit bits x && not (has_bit rest x)) || int_eq x (pos t))
+      ≡ (has_bit bits x && not (has_bit
+      (bit_and rest (18446744073709551615 - 1 * 2 ^ t % 18446744073709551616)) x))
   spread_more x =
       one_moved (has_bit bits x) (has_bit rest x) (int_eq x (pos t)) (λ e. let same : x ≡ pos t = (Decides-int_eq x (pos t)).0 e in ap (has_bit bits) same ∙ part (pos t) in_rest)
       ∙ ap (λ b. has_bit bits x && not b) (sym (has_less rest t x small))
@@ -339,11 +361,13 @@ module _ (bits rest t : ℕ) (small : t < 64) (set : bit_at rest t ≡ 1) (first
   both_hold true q e = (refl, e)
   both_hold false q e = absurd (true≢false (sym e))
 
-  pub part_less : (x : ℤ) → has_bit (bit_and rest (18446744073709551615 - 1 * 2 ^ t % 18446744073709551616)) x ≡ true → has_bit bits x ≡ true
+  pub part_less : (x : ℤ) → has_bit (bit_and rest
+      (18446744073709551615 - 1 * 2 ^ t % 18446744073709551616)) x ≡ true → has_bit bits x ≡ true
   part_less x e = part x (both_hold (has_bit rest x) (not (int_eq x (pos t))) (sym (has_less rest t x small) ∙ e)).0
 
   -- what is left lies above
-  pub above_lowest : (k : ℕ) → has_bit (bit_and rest (18446744073709551615 - 1 * 2 ^ t % 18446744073709551616)) (pos k) ≡ true → t < k
+  pub above_lowest : (k : ℕ) → has_bit (bit_and rest
+      (18446744073709551615 - 1 * 2 ^ t % 18446744073709551616)) (pos k) ≡ true → t < k
   above_lowest k e =
       let parts = both_hold (has_bit rest (pos k)) (not (int_eq (pos k) (pos t))) (sym (has_less rest t (pos k) small) ∙ e) in
       elim (cases_lt k t) [
@@ -355,7 +379,8 @@ module _ (bits rest t : ℕ) (small : t < 64) (set : bit_at rest t ≡ 1) (first
       ]
 
   -- a word with a number less is less
-  pub rest_less : rest < 2 ^ 64 → bit_and rest (18446744073709551615 - 1 * 2 ^ t % 18446744073709551616) < rest
+  pub rest_less : rest < 2 ^ 64 → bit_and rest
+      (18446744073709551615 - 1 * 2 ^ t % 18446744073709551616) < rest
   rest_less fits =
       elim (cases_lt (bit_and rest (18446744073709551615 - 1 * 2 ^ t % 18446744073709551616)) rest) [
         | inl below ↦ below

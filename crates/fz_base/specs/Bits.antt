@@ -1,4 +1,5 @@
--- How a set of numbers from 0 to 63 is kept: as the bits of a word. A reader need not believe this file: no public clause speaks of it.
+-- How a set of numbers from 0 to 63 is kept: as the bits of a word. A reader need not believe this
+-- file: no public clause speaks of it.
 use Rattle.std.specs.Prelude.{ℕ, ℤ, pos, negsuc, Bool, false, ◌&&◌, ◌==◌, ltb}
 use Rattle.std.specs.Int.{bit_at}
 use Rattle.std.specs.List.{filter}

@@ -1,4 +1,5 @@
--- How the numbers of a set are kept: as bits or as ranges. A reader need not believe this file: no public clause speaks of it.
+-- How the numbers of a set are kept: as bits or as ranges. A reader need not believe this file: no
+-- public clause speaks of it.
 use Rattle.std.specs.Prelude.{ℤ, Bool, List}
 use Rattle.fz_base.specs.declared.ranges.Range.{Range}
 use Rattle.fz_base.specs.declared.kept.Numbers.{Numbers}
@@ -23,7 +24,8 @@ set_of (numbers.Ranges storage) = numbers_of (stored storage.value)
 -- ranges are stored in order
 abbrev pub AreKept : Numbers → Type 0
 AreKept (numbers.Low bits) = Unit {0}
-AreKept (numbers.Ranges storage) = HasPlaces storage.value × AreInOrder lowest (stored storage.value)
+AreKept (numbers.Ranges storage) =
+    HasPlaces storage.value × AreInOrder lowest (stored storage.value)
 
 -- the ranges of numbers
 abbrev pub held_ranges : Held → List Range

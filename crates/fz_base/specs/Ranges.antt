@@ -1,5 +1,6 @@
--- How the crate keeps a set: as ranges in order, with a gap between each two. Of this file a public clause speaks of
--- `AreInOrder`, `covers` and `lowest` alone, and a reader need not believe the rest.
+-- How the crate keeps a set: as ranges in order, with a gap between each two. Of this file a public
+-- clause speaks of `AreInOrder`, `covers` and `lowest` alone, and a reader need not believe the
+-- rest.
 use Rattle.std.specs.Prelude.{◌≡◌, ◌↔◌, ℤ, pos, negsuc, ◌+ℤ◌, ◌≤ℤ◌, Bool, true, false, not, ◌&&◌, ◌||◌, List, [], ◌∷◌, int_le}
 use Rattle.std.specs.List.{flat_map}
 use Rattle.std.specs.FinSet.{from_list}
@@ -19,10 +20,12 @@ highest = pos 9223372036854775807
 unfoldable pub numbers_of : List Range → NumberSet
 numbers_of ranges = from_list (flat_map (λ r. counting_from r.lo (count_between r.lo r.hi)) ranges)
 
--- The ranges are in order: none is empty, the first begins at `from` or above, and a number that is in none stands between each two.
+-- The ranges are in order: none is empty, the first begins at `from` or above, and a number that is
+-- in none stands between each two.
 abbrev pub AreInOrder : ℤ → List Range → Type 0
 AreInOrder from [] = Unit {0}
-AreInOrder from (r ∷ rs) = (from ≤ℤ r.lo) × (r.lo ≤ℤ r.hi) × (r.hi ≤ℤ highest) × AreInOrder (r.hi +ℤ pos 2) rs
+AreInOrder from (r ∷ rs) =
+    (from ≤ℤ r.lo) × (r.lo ≤ℤ r.hi) × (r.hi ≤ℤ highest) × AreInOrder (r.hi +ℤ pos 2) rs
 
 -- x is from lo to hi
 abbrev pub is_between : ℤ → ℤ → ℤ → Bool

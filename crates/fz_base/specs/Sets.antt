@@ -1,7 +1,8 @@
--- Finite sets of whole numbers, in the words of FlatZinc's builtins over sets (MiniZinc Handbook, "FlatZinc builtins", set builtins; a set literal
--- is that of the FlatZinc grammar). The numbers are those of mathematics and have no width. Two sets with the same elements are equal. The union,
+-- Finite sets of integers, in the words of FlatZinc's builtins over sets (MiniZinc Handbook,
+-- "FlatZinc builtins", set builtins; a set literal is that of the FlatZinc grammar). The numbers
+-- are those of mathematics and have no width. Two sets with the same elements are equal. The union,
 -- the intersection, the difference, subsets and the number of elements are the library's.
---     NumberSet      a finite set of whole numbers
+--     NumberSet      a finite set of integers
 --     numbers_between lo hi      the value of the range lo..hi
 --     symmetric_difference s t      what is in exactly one of the two: `set_symdiff`
 --     LiesWithin lo hi s      each element of s is from lo to hi
@@ -12,25 +13,26 @@ use Rattle.std.specs.Int.{w64}
 use Rattle.std.specs.Ordering.{int_cmp}
 use Rattle.std.specs.FinSet.{FinSet, contains, from_list, union, difference}
 
--- a finite set of whole numbers
+-- a finite set of integers
 abbrev pub NumberSet : Type 0
 NumberSet = FinSet int_cmp
 
--- n whole numbers, of which the first is lo and each other is one more than the one before
+-- n integers, of which the first is lo and each other is one more than the one before
 unfoldable pub counting_from : ℤ → ℕ → List ℤ
 counting_from lo zero = []
 counting_from lo (suc n) = lo ∷ counting_from (lo +ℤ pos 1) n
 
--- how many whole numbers z says: none where it is negative
+-- how many integers z says: none where it is negative
 abbrev pub at_least_none : ℤ → ℕ
 at_least_none (pos n) = n
 at_least_none (negsuc n) = 0
 
--- how many whole numbers there are from lo to hi
+-- how many integers there are from lo to hi
 abbrev pub count_between : ℤ → ℤ → ℕ
 count_between lo hi = at_least_none (hi +ℤ pos 1 -ℤ lo)
 
--- the set of all whole numbers from lo to hi, both ends included: the value of a range literal lo..hi. It is empty where lo is above hi
+-- the set of all integers from lo to hi, both ends included: the value of a range literal lo..hi.
+-- It is empty where lo is above hi
 unfoldable pub numbers_between : ℤ → ℤ → NumberSet
 numbers_between lo hi = from_list (counting_from lo (count_between lo hi))
 
@@ -42,7 +44,7 @@ symmetric_difference s t = union (difference s t) (difference t s)
 abbrev pub LiesWithin : ℤ → ℤ → NumberSet → Type 0
 LiesWithin lo hi s = (x : ℤ) → contains s x ≡ true → (lo ≤ℤ x) × (x ≤ℤ hi)
 
--- each element is from -2^63 to 2^63 - 1 (this project's profile: a whole number has 64 bits)
+-- each element is from -2^63 to 2^63 - 1 (this project's profile: an integer has 64 bits)
 abbrev pub Has64Bits : NumberSet → Type 0
 Has64Bits s = (x : ℤ) → contains s x ≡ true → FitsSigned w64 x
 

@@ -1,4 +1,5 @@
--- How the ranges of a set lie in memory. A reader need not believe this file: no public clause speaks of it.
+-- How the ranges of a set lie in memory. A reader need not believe this file: no public clause
+-- speaks of it.
 use Rattle.std.specs.Prelude.{◌≤◌, List, take}
 use Rattle.fz_base.specs.declared.ranges.Range.{Range}
 use Rattle.fz_base.specs.declared.storage.Storage.{Storage}

@@ -1,5 +1,6 @@
-// Sets of numbers from 0 to 63, each as the bits of a word: bit n is 1 where n is in the set. What is asked of such sets, or made of
-// two of them, takes a few instructions; only to gather a set from a list or from ranges, and to spread it out to ranges, takes a loop.
+// Sets of numbers from 0 to 63, each as the bits of a word: bit n is 1 where n is in the set. What
+// is asked of such sets, or made of two of them, takes a few instructions; only to gather a set
+// from a list or from ranges, and to spread it out to ranges, takes a loop.
 ghost use Rattle.std.specs.Prelude.{◌≡◌, ◌<◌, ◌≤◌, ◌+◌, ℤ, ◌≤ℤ◌, ◌-ℤ◌, ◌↔◌, ◌&&◌, ◌||◌, true, pos, IsTrue, IfNone, IfSome};
 ghost use Rattle.std.specs.FinSet as set;
 ghost use Rattle.std.specs.List.{list_any};
@@ -11,7 +12,8 @@ ghost use Rattle.arrayvec.specs.ArrayVec.{array_vec_len};
 use crate::ranges::{Range, Rule, touches};
 use arrayvec::ArrayVec;
 
-/// So many ranges have room where the numbers of a word are spread out; it has at most half as many.
+/// So many ranges have room where the numbers of a word are spread out; it has at most half as
+/// many.
 pub const PLACES: usize = 64;
 
 /// The greatest number that a word can have.
@@ -144,15 +146,16 @@ pub fn combine(a: u64, b: u64, rule: Rule) -> u64
     }
 }
 
-/// Adds a number at the end of the ranges, for which there is room: as for a range at the end of a list that grows, but without memory
-/// to ask for.
+/// Adds a number at the end of the ranges, for which there is room: as for a range at the end of a
+/// list that grows, but without memory to ask for.
 fn push_number(ranges: &mut ArrayVec<Range, PLACES>, number: i64)
     requires room { array_vec_len ranges.old < 64 }
     requires in_order { AreInOrder lowest ranges.old.items }
     requires below { EndUpTo number ranges.old.items }
     ensures in_order { AreInOrder lowest ranges.new.items }
     ensures ends { EndUpTo number ranges.new.items }
-    ensures added { (x : ℤ) → covers ranges.new.items x ≡ (covers ranges.old.items x || int_eq x number) }
+    ensures added { (x : ℤ) → covers ranges.new.items x
+        ≡ (covers ranges.old.items x || int_eq x number) }
     ensures len { array_vec_len ranges.new ≤ array_vec_len ranges.old + 1 }
 {
     match ranges.pop() {

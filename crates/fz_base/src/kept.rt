@@ -1,5 +1,6 @@
-// How the numbers of a set are kept. Most sets have numbers from 0 to 63 alone. These are the bits of a word, so that who has found the set
-// has found its numbers too. The numbers of other sets are kept as ranges in a box.
+// How the numbers of a set are kept. Most sets have numbers from 0 to 63 alone. These are the bits
+// of a word, so that who has found the set has found its numbers too. The numbers of other sets are
+// kept as ranges in a box.
 ghost use Rattle.std.specs.Prelude.{◌≡◌, ℤ, ◌≤◌, ◌^◌, ◌≤ℤ◌, ◌↔◌, true, IsTrue, IfNone, IfOk, IfSome};
 ghost use Rattle.std.specs.FinSet as set;
 ghost use Rattle.std.specs.List.{list_any};
@@ -217,7 +218,8 @@ impl Numbers {
         requires kept { AreKept self.now }
         requires a { AreKept a.now }
         requires b { AreKept b.now }
-        ensures { IsTrue result ↔ ((x : ℤ) → has self.now x ≡ keeps rule (has a.now x) (has b.now x)) }
+        ensures { IsTrue result ↔ ((x : ℤ)
+            → has self.now x ≡ keeps rule (has a.now x) (has b.now x)) }
     {
         match (self, a, b) {
             (Numbers::Low(c), Numbers::Low(a), Numbers::Low(b)) => {
@@ -231,7 +233,8 @@ impl Numbers {
         requires kept { AreKept self.now }
         requires a { AreKept a.now }
         requires b { AreKept b.now }
-        ensures { IsTrue result ↔ ((x : ℤ) → has self.now x ≡ keeps rule (has a.now x) (has b.now x)) }
+        ensures { IsTrue result ↔ ((x : ℤ)
+            → has self.now x ≡ keeps rule (has a.now x) (has b.now x)) }
     {
         let a = a.held();
         let b = b.held();
@@ -250,7 +253,8 @@ impl Numbers {
         requires kept { AreKept self.now }
         requires others { AreKept others.now }
         ensures kept { IfOk result AreKept }
-        ensures same { IfOk result (λ n. (x : ℤ) → has n x ≡ keeps rule (has self.now x) (has others.now x)) }
+        ensures same { IfOk result (λ n. (x : ℤ)
+            → has n x ≡ keeps rule (has self.now x) (has others.now x)) }
     {
         match (self, others) {
             (Numbers::Low(a), Numbers::Low(b)) => Ok(Numbers::Low(bits::combine(*a, *b, rule))),
@@ -267,7 +271,8 @@ impl Numbers {
         requires kept { AreKept self.now }
         requires others { AreKept others.now }
         ensures kept { IfOk result AreKept }
-        ensures same { IfOk result (λ n. (x : ℤ) → has n x ≡ keeps rule (has self.now x) (has others.now x)) }
+        ensures same { IfOk result (λ n. (x : ℤ)
+            → has n x ≡ keeps rule (has self.now x) (has others.now x)) }
     {
         let a = self.held();
         let b = others.held();

@@ -1,6 +1,6 @@
-// Ranges of whole numbers in order, as the sets of this crate are kept. Each function goes over its
-// ranges once; a set operation walks two lists side by side, stretch by stretch. Whether one set lies in
-// another, and whether two are equal, is told from whole ranges.
+// Ranges of integers in order, as the sets of this crate are kept. Each function goes over its
+// ranges once; a set operation walks two lists side by side, stretch by stretch. Whether one set
+// lies in another, and whether two are equal, is told from whole ranges.
 ghost use Rattle.std.specs.Prelude.{◌≡◌, ◌≤◌, ◌^◌, ℤ, ◌≤ℤ◌, ◌<ℤ◌, ◌+◌, ◌↔◌, ◌||◌, false, true, IsTrue, IfNone, IfOk, IfSome, OnOk, pos, ◌+ℤ◌, ◌-ℤ◌, ◌&&◌};
 ghost use Rattle.std.specs.List.{sum_by, list_any};
 ghost use Rattle.std.specs.Ordering.{int_cmp, int_eq};
@@ -106,7 +106,8 @@ fn push_range(ranges: &mut Vec<Range>, lo: i64, hi: i64) -> Result<(), AllocErro
     requires some { lo ≤ℤ hi }
     ensures in_order { OnOk result (AreInOrder lowest ranges.new.items) }
     ensures ends { OnOk result (EndUpTo hi ranges.new.items) }
-    ensures added { OnOk result ((x : ℤ) → covers ranges.new.items x ≡ (covers ranges.old.items x || is_between lo hi x)) }
+    ensures added { OnOk result ((x : ℤ)
+        → covers ranges.new.items x ≡ (covers ranges.old.items x || is_between lo hi x)) }
 {
     match ranges.pop() {
         None => ranges.push(Range { lo, hi })?,
@@ -154,7 +155,8 @@ fn push_if(ranges: &mut Vec<Range>, lo: i64, hi: i64, wanted: bool) -> Result<()
     requires some { lo ≤ℤ hi }
     ensures in_order { OnOk result (AreInOrder lowest ranges.new.items) }
     ensures ends { OnOk result (EndUpTo hi ranges.new.items) }
-    ensures added { OnOk result ((x : ℤ) → covers ranges.new.items x ≡ (covers ranges.old.items x || (wanted && is_between lo hi x))) }
+    ensures added { OnOk result ((x : ℤ) → covers ranges.new.items x
+        ≡ (covers ranges.old.items x || (wanted && is_between lo hi x))) }
 {
     if wanted {
         push_range(ranges, lo, hi)?;
@@ -172,7 +174,8 @@ pub fn combine(
     requires a_in_order { AreInOrder lowest a.now }
     requires b_in_order { AreInOrder lowest b.now }
     ensures in_order { IfOk result (λ v. AreInOrder lowest v.items) }
-    ensures kept { IfOk result (λ v. (x : ℤ) → covers v.items x ≡ keeps rule (covers a.now x) (covers b.now x)) }
+    ensures kept { IfOk result (λ v. (x : ℤ)
+        → covers v.items x ≡ keeps rule (covers a.now x) (covers b.now x)) }
 {
     let mut out = Vec::new(alloc);
     let mut at = i64::MIN;
@@ -212,14 +215,15 @@ fn reaching(ranges: &[Range], at: i64) -> &[Range]
     }
 }
 
-/// Whether all numbers from `lo` to `hi` are in ranges of which the first reaches to `lo`. As there are gaps between them, that one has
-/// all these numbers then.
+/// Whether all numbers from `lo` to `hi` are in ranges of which the first reaches to `lo`. As there
+/// are gaps between them, that one has all these numbers then.
 fn have_all(ranges: &[Range], lo: i64, hi: i64) -> bool
     requires in_order { AreInOrder lowest ranges.now }
     requires ahead { ReachesTo lo ranges.now }
     requires some { lo ≤ℤ hi }
     ensures all { result ≡ true → (x : ℤ) → lo ≤ℤ x → x ≤ℤ hi → covers ranges.now x ≡ true }
-    ensures missing { result ≡ false → ((x : ℤ) → lo ≤ℤ x → x ≤ℤ hi → covers ranges.now x ≡ true) → ⊥ }
+    ensures missing { result ≡ false → ((x : ℤ) → lo ≤ℤ x → x ≤ℤ hi → covers ranges.now x ≡ true)
+        → ⊥ }
 {
     match ranges {
         [] => false,
@@ -264,7 +268,8 @@ fn is_same(a: Range, b: Range) -> bool
     a.lo == b.lo && a.hi == b.hi
 }
 
-/// Whether two lists have the same ranges. Of lists in order that is so just where they cover the same numbers.
+/// Whether two lists have the same ranges. Of lists in order that is so just where they cover the
+/// same numbers.
 pub fn are_same(a: &[Range], b: &[Range]) -> bool
     ensures { IsTrue result ↔ (a.now ≡ b.now) }
 {
@@ -309,7 +314,8 @@ pub fn is_kept(a: &[Range], b: &[Range], c: &[Range], rule: Rule) -> bool
     requires a_in_order { AreInOrder lowest a.now }
     requires b_in_order { AreInOrder lowest b.now }
     requires c_in_order { AreInOrder lowest c.now }
-    ensures { IsTrue result ↔ ((x : ℤ) → covers c.now x ≡ keeps rule (covers a.now x) (covers b.now x)) }
+    ensures { IsTrue result ↔ ((x : ℤ)
+        → covers c.now x ≡ keeps rule (covers a.now x) (covers b.now x)) }
 {
     let mut at = i64::MIN;
     let mut rest_a = a;

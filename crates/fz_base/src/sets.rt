@@ -1,4 +1,4 @@
-// Finite sets of whole numbers.
+// Finite sets of integers.
 ghost use Rattle.std.specs.Prelude.{◌≡◌, ◌≤◌, ◌^◌, ◌↔◌, ℤ, IsTrue, IfNone, IfOk, IfSome};
 ghost use Rattle.std.specs.FinSet as set;
 ghost use Rattle.fz_base.specs.Keeping.{set_of, AreKept};
@@ -24,8 +24,8 @@ impl From<AllocError> for SetError {
     }
 }
 
-/// A finite set of whole numbers of 64 bits, of any size. It takes 16 bytes where it stands, and no other memory where all its numbers
-/// are from 0 to 63.
+/// A finite set of integers of 64 bits, of any size. It takes 16 bytes where it stands, and no
+/// other memory where all its numbers are from 0 to 63.
 #[derive(Debug, Drop)]
 pub struct IntSet {
     numbers: Numbers,
@@ -76,7 +76,8 @@ impl IntSet {
         Ok(set_of(kept::between(alloc, lo, hi)?))
     }
 
-    /// The listed numbers, which come in any order and may repeat. Unless all are from 0 to 63 they are sorted, once.
+    /// The listed numbers, which come in any order and may repeat. Unless all are from 0 to 63 they
+    /// are sorted, once.
     pub fn list(alloc: Global, numbers: &[i64]) -> Result<IntSet, SetError>
         ensures { IfOk result (λ s. s ≡ set.from_list numbers.now) }
     {
@@ -84,9 +85,9 @@ impl IntSet {
     }
 }
 
-/// Asking sets. These calls take no memory and always succeed. Where the sets have numbers from 0 to 63 alone, each takes a few
-/// instructions; else a question about one set halves its ranges or looks at their ends, and a question about two goes over the
-/// ranges of both once.
+/// Asking sets. These calls take no memory and always succeed. Where the sets have numbers from 0
+/// to 63 alone, each takes a few instructions; else a question about one set halves its ranges or
+/// looks at their ends, and a question about two goes over the ranges of both once.
 impl IntSet {
     /// Whether the number is in the set.
     #[inline]
@@ -118,7 +119,7 @@ impl IntSet {
     ///
     /// # Errors
     ///
-    /// Want of memory.
+    /// Out of memory.
     pub fn ranges(&self, alloc: Global) -> Result<Vec<Range>, AllocError>
         ensures in_order { IfOk result (λ v. AreInOrder lowest v.items) }
         ensures same { IfOk result (λ v. (x : ℤ) → covers v.items x ≡ set.contains self.now x) }
@@ -154,8 +155,8 @@ impl IntSet {
     }
 }
 
-/// Asking whether a set is what an operation makes of two others: a few instructions, or one pass over the ranges of the three.
-/// These calls take no memory and always succeed.
+/// Asking whether a set is what an operation makes of two others: a few instructions, or one pass
+/// over the ranges of the three. These calls take no memory and always succeed.
 impl IntSet {
     /// Whether this set is what is in one of the two or in both.
     #[inline]
@@ -190,8 +191,8 @@ impl IntSet {
     }
 }
 
-/// Combining and copying sets: a few instructions, or one pass over the ranges of the operands. Each of these calls refuses only
-/// where memory runs out.
+/// Combining and copying sets: a few instructions, or one pass over the ranges of the operands.
+/// Each of these calls refuses only where memory runs out.
 impl IntSet {
     /// What is in this set, in the other or in both.
     pub fn union(&self, alloc: Global, other: &IntSet) -> Result<IntSet, SetError>

@@ -1,5 +1,6 @@
-// How the ranges of a set lie in memory, where it has other numbers than those from 0 to 63. Most such sets have a few ranges. These lie
-// in place, so that who has found the set has found them too and doesn't wait for memory a second time.
+// How the ranges of a set lie in memory, where it has other numbers than those from 0 to 63. Most
+// such sets have a few ranges. These lie in place, so that who has found the set has found them too
+// and doesn't wait for memory a second time.
 ghost use Rattle.std.specs.Prelude.{◌≡◌, IfOk};
 ghost use Rattle.fz_base.specs.Storage.{stored, HasPlaces};
 

@@ -4,7 +4,7 @@ ghost use Rattle.std.specs.Prelude.{◌≡◌, ◌↔◌, IsTrue, IfOk};
 use crate::sets::IntSet;
 use std::alloc::{AllocError, Global};
 
-/// A value of FlatZinc: a whole number, a truth value or a finite set of whole numbers.
+/// A value of FlatZinc: an integer, a Boolean or a finite set of integers.
 #[derive(Debug, Drop)]
 pub enum Value {
     Int(i64),
@@ -13,7 +13,7 @@ pub enum Value {
 }
 
 impl Value {
-    /// Whether both have the same kind and are the same number, truth value or set. Values of
+    /// Whether both have the same kind and are the same number, Boolean or set. Values of
     /// different kinds aren't equal. It takes no memory.
     pub fn equals(&self, other: &Value) -> bool
         ensures { IsTrue result ↔ (self.now ≡ other.now) }

@@ -1,4 +1,5 @@
--- What follows where each block is judged: an accepted stream has solutions, and a violated block has none.
+-- What follows where each block is judged: an accepted stream has solutions, and a violated block
+-- has none.
 use Rattle.std.proofs.Common.{◌≡◌, ℕ, List, length, map, sym, ap, ◌∙◌, subst}
 use Rattle.std.proofs.lemmas.List.{length-map}
 use Rattle.fz_stream.specs.declared.block.Block as the_block
@@ -23,7 +24,8 @@ use Rattle.fz_check.specs.Headline.{HasSolutions}
 use Rattle.fz_streaming.specs.View.{answer_view}
 
 -- an accepted stream has solutions
-pub accepted_solved : (completion : Completion) (model stream : List ℕ) (m : Model) → IsLoadedFrom model m
+pub accepted_solved : (completion : Completion) (model stream : List ℕ) (m : Model)
+    → IsLoadedFrom model m
     → (bs : List the_block.Block) (cs : List Claim) → IsReadAs stream (map block_of bs) cs
     → (rs : List the_verdict.Verdict) → AreVerdicts completion m (map located_block bs) (map verdict_view rs) → (answer : the_answer.Answer) → answer_view answer ≡ answer_of (map verdict_view rs)
     → (count : ℕ) → answer ≡ answers.Accepted count → HasSolutions model stream count
@@ -46,10 +48,15 @@ accepted_solved completion model stream m loaded bs cs read rs judged answer ans
     }
 
 -- there is one verdict for each block that was read
-one_each : (completion : Completion) (m : Model) (bs : List the_block.Block) (rs : List the_verdict.Verdict) → AreVerdicts completion m (map located_block bs) (map verdict_view rs) → length rs ≡ length bs
+one_each : (completion : Completion) (m : Model) (bs : List the_block.Block)
+    (rs : List the_verdict.Verdict)
+    → AreVerdicts completion m (map located_block bs) (map verdict_view rs) → length rs ≡ length bs
 one_each completion m bs rs judged = sym (length-map rs verdict_view) ∙ sym (told_lengths completion m judged) ∙ length-map bs located_block
 
 -- claims in the order of the blocks are in the order of the verdicts
-pub in_order : (completion : Completion) (m : Model) (bs : List the_block.Block) (rs : List the_verdict.Verdict) (cs : List Claim) (n k : ℕ) → AreVerdicts completion m (map located_block bs) (map verdict_view rs) → n ≡ length bs → k ≡ length rs
+pub in_order : (completion : Completion) (m : Model) (bs : List the_block.Block)
+    (rs : List the_verdict.Verdict) (cs : List Claim) (n k : ℕ)
+    → AreVerdicts completion m (map located_block bs) (map verdict_view rs) → n ≡ length bs
+    → k ≡ length rs
     → AreInOrder 0 n cs → AreInOrder 0 k cs
 in_order completion m bs rs cs n k judged e f h = subst (λ j. AreInOrder 0 j cs) (e ∙ sym (one_each completion m bs rs judged) ∙ sym f) h

@@ -6,7 +6,8 @@ use Rattle.fz_streaming.specs.of_judge.declared.verdict.Verdict as the_verdict
 use Rattle.fz_streaming.specs.of_judge.View.{verdict_view}
 
 -- where the front has none, the search goes on behind it
-skip : (n : ℕ) (is : Verdict → Bool) (xs ys : List Verdict) → first_number n is xs ≡ None → first_number n is (xs ++ ys) ≡ first_number (length xs + n) is ys
+skip : (n : ℕ) (is : Verdict → Bool) (xs ys : List Verdict) → first_number n is xs ≡ None
+    → first_number n is (xs ++ ys) ≡ first_number (length xs + n) is ys
 skip n is [] ys e = let p : n ≡ 0 + n = omega arith in ap (λ k. first_number k is ys) p
 skip n is (x ∷ xs) ys e = (elim (is x) as (λ b. cond b (Some n) (first_number (suc n) is xs) ≡ None → cond b (Some n) (first_number (suc n) is (xs ++ ys)) ≡ first_number (length (x ∷ xs) + n) is ys) [
   | true ↦ λ e. cc

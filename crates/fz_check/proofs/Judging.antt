@@ -23,11 +23,13 @@ use Rattle.fz_check.specs.Refused.{IsFirstFault}
 abbrev IsClean : Model → the_block.Block → Type 0
 IsClean m b = block_fault m (located_block b) ≡ None
 
--- So many blocks of the list have been judged: whatever more comes, its verdicts go on from theirs; and none of them has a fault.
+-- So many blocks of the list have been judged: whatever more comes, its verdicts go on from theirs;
+-- and none of them has a fault.
 pub record JudgedSoFar (m : Model) (blocks : List the_block.Block) (count : ℕ) (judge : JudgeState) (vs : List the_verdict.Verdict) : Type 0 where
   pub same_model : judge.model ≡ m
   pub same_completion : judge.completion ≡ Off
-  pub goes_on : GoesOn Off m (map located_block (take count blocks)) (map verdict_view vs) judge.before judge.found
+  pub goes_on : GoesOn Off m (map located_block (take count blocks))
+      (map verdict_view vs) judge.before judge.found
   pub clean : AllByRecursion (λ b. block_fault m (located_block b) ≡ None) (take count blocks)
 
 pub judged_none : (m : Model) (blocks : List the_block.Block) (judge : JudgeState) (vs : List the_verdict.Verdict) → judge ≡ record { model = m; completion = Off; before = None; found = None } → vs ≡ [] → JudgedSoFar m blocks 0 judge vs
@@ -39,13 +41,17 @@ judged_none m blocks judge vs e none = record {
 }
 
 -- the block at this place stands behind those before it
-split_at : (blocks : List the_block.Block) (i : ℕ) (b : the_block.Block) → i < length blocks → b ≡ get_or blocks i b → blocks ≡ take i blocks ++ b ∷ drop (i + 1) blocks
+split_at : (blocks : List the_block.Block) (i : ℕ) (b : the_block.Block) → i < length blocks
+    → b ≡ get_or blocks i b → blocks ≡ take i blocks ++ b ∷ drop (i + 1) blocks
 split_at blocks i b lt at = sym (take-append-drop i blocks) ∙ ap (λ l. take i blocks ++ l) (drop_more blocks i b lt ∙ ap (λ w. w ∷ drop (i + 1) blocks) (sym at))
 
-one_more : (blocks : List the_block.Block) (i : ℕ) (b : the_block.Block) → i < length blocks → b ≡ get_or blocks i b → take (i + 1) blocks ≡ take i blocks ++ b ∷ []
+one_more : (blocks : List the_block.Block) (i : ℕ) (b : the_block.Block) → i < length blocks
+    → b ≡ get_or blocks i b → take (i + 1) blocks ≡ take i blocks ++ b ∷ []
 one_more blocks i b lt at = take_more blocks i b lt ∙ ap (λ w. take i blocks ++ w ∷ []) (sym at)
 
-pub judged_more : (m : Model) (blocks : List the_block.Block) (i : ℕ) (judge after : JudgeState) (vs ws : List the_verdict.Verdict) (b : the_block.Block) (v : the_verdict.Verdict) → i < length blocks → b ≡ get_or blocks i b
+pub judged_more : (m : Model) (blocks : List the_block.Block) (i : ℕ) (judge after : JudgeState)
+    (vs ws : List the_verdict.Verdict) (b : the_block.Block) (v : the_verdict.Verdict)
+    → i < length blocks → b ≡ get_or blocks i b
     → JudgedSoFar m blocks i judge vs → IsJudged judge after (located_block b) (verdict_view v) → after.model ≡ judge.model → after.completion ≡ judge.completion → ws ≡ vs ++ v ∷ [] → JudgedSoFar m blocks (i + 1) after ws
 judged_more m blocks i judge after vs ws b v lt at h judged same way pushed =
     let j : IsJudgedAs Off m judge after (located_block b) (verdict_view v) = judged_as Off m judge after (located_block b) (verdict_view v) h.same_completion h.same_model judged in
@@ -62,20 +68,25 @@ judged_more m blocks i judge after vs ws b v lt at h judged same way pushed =
       clean = subst (AllByRecursion (IsClean m)) (sym next) (all_append (IsClean m) (take i blocks) (b ∷ []) h.clean (j.is_filled.no_fault, tt));
     }
 
-pub judged_all : (m : Model) (blocks : List the_block.Block) (i : ℕ) (judge : JudgeState) (vs : List the_verdict.Verdict) → length blocks ≤ i → JudgedSoFar m blocks i judge vs → AreVerdicts Off m (map located_block blocks) (map verdict_view vs)
+pub judged_all : (m : Model) (blocks : List the_block.Block) (i : ℕ) (judge : JudgeState)
+    (vs : List the_verdict.Verdict) → length blocks ≤ i → JudgedSoFar m blocks i judge vs
+    → AreVerdicts Off m (map located_block blocks) (map verdict_view vs)
 judged_all m blocks i judge vs end h =
     subst (λ l. AreVerdicts Off m (map located_block l) (map verdict_view vs)) (take_all i blocks end)
     (goes_on_judged Off m (map located_block (take i blocks)) (map verdict_view vs) judge.before judge.found h.goes_on)
 
 -- ---- the first block with a fault
 
-told_block : (n k : ℕ) (e f : BlockError) → block_refusal n e ≡ errors.Block k f → (n ≡ k) × (e ≡ f) × (f ≡ block.Memory → ⊥)
+told_block : (n k : ℕ) (e f : BlockError) → block_refusal n e ≡ errors.Block k f
+    → (n ≡ k) × (e ≡ f) × (f ≡ block.Memory → ⊥)
 told_block n k (block.UnknownName s) f h = let same : block.UnknownName s ≡ f = cc in let number : n ≡ k = cc in (number, same, λ m. cc)
 told_block n k (block.Kind s) f h = let same : block.Kind s ≡ f = cc in let number : n ≡ k = cc in (number, same, λ m. cc)
 told_block n k (block.Length s) f h = let same : block.Length s ≡ f = cc in let number : n ≡ k = cc in (number, same, λ m. cc)
 told_block n k block.Memory f h = cc
 
-pub first_fault : (m : Model) (blocks : List the_block.Block) (i : ℕ) (judge : JudgeState) (vs : List the_verdict.Verdict) (b : the_block.Block) (e : BlockError) → i < length blocks → b ≡ get_or blocks i b
+pub first_fault : (m : Model) (blocks : List the_block.Block) (i : ℕ) (judge : JudgeState)
+    (vs : List the_verdict.Verdict) (b : the_block.Block) (e : BlockError) → i < length blocks
+    → b ≡ get_or blocks i b
     → JudgedSoFar m blocks i judge vs → IsBlockRefusal judge.model (located_block b) e → (n : ℕ) (f : BlockError) → block_refusal (i + 1) e ≡ errors.Block n f → IsFirstFault m blocks n f
 first_fault m blocks i judge vs b e lt at h refused n f same =
     let told = told_block (i + 1) n e f same in
@@ -91,7 +102,8 @@ first_fault m blocks i judge vs b e lt at h refused n f same =
     }
 
 -- what holds of each block holds of the one at a place
-pub at_index : (P : the_block.Block → Type 0) (bs : List the_block.Block) (i : ℕ) (b : the_block.Block) → AllByRecursion P bs → i < length bs → b ≡ get_or bs i b → P b
+pub at_index : (P : the_block.Block → Type 0) (bs : List the_block.Block) (i : ℕ)
+    (b : the_block.Block) → AllByRecursion P bs → i < length bs → b ≡ get_or bs i b → P b
 at_index P [] i b h lt at = absurd (omega (arith, lt))
 at_index P (x ∷ bs) zero b h lt at = subst P (sym at) h.0
 at_index P (x ∷ bs) (suc i) b h lt at = at_index P bs i b h.1 (omega (arith, lt)) at

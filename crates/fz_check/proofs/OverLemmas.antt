@@ -1,5 +1,5 @@
--- What follows of a check over a reader and a writer: an accepted stream has solutions, the report is the one as defined, and what is
--- refused is refused against the model of the text.
+-- What follows of a check over a reader and a writer: an accepted stream has solutions, the report
+-- is the one as defined, and what is refused is refused against the model of the text.
 use Rattle.std.proofs.Common.{◌≡◌, ℕ, List, map, Option, refl, sym, ap, ◌∙◌, subst}
 use Rattle.fz_syntax.specs.SyntaxError.{SyntaxError}
 use Rattle.fz_stream.specs.declared.error.StreamError.{StreamError}
@@ -34,11 +34,13 @@ module _ (model : List ℕ) (m : Model) (loaded : IsLoadedFrom model m) where
   holds_of_model P p = record { tree = loaded.tree; text_of_model = loaded.text; no_fault = loaded.no_fault; holds = subst P loaded.is p }
 
   module _ (completion : Completion) (left left' written written' : Option (List ℕ)) (answer : the_answer.Answer) (w : IsAnswered completion m left left' written written' (answer_view answer)) where
-    here : AreVerdicts completion (model_of loaded.tree) (map located_block w.blocks) w.report.verdicts
+    here : AreVerdicts completion (model_of loaded.tree)
+        (map located_block w.blocks) w.report.verdicts
     here = subst (λ n. AreVerdicts completion n (map located_block w.blocks) w.report.verdicts) loaded.is w.is_report.are_verdicts
 
     -- an accepted stream has solutions
-    pub accepted_over : (count : ℕ) → answer ≡ answers.Accepted count → HoldsOfStream left left' (λ given. HasSolutions model given count)
+    pub accepted_over : (count : ℕ) → answer ≡ answers.Accepted count
+        → HoldsOfStream left left' (λ given. HasSolutions model given count)
     accepted_over count accepted =
         let (solutions, counted, some) = accepted_solves (model_of loaded.tree) (map located_block w.blocks) w.report.verdicts count (sound_aims loaded.tree loaded.no_fault)
         (accepted_judged completion loaded.tree loaded.no_fault (map located_block w.blocks) w.report.verdicts count here (sym w.is_report.answers ∙ sym w.answer_is ∙ ap answer_view accepted))
@@ -74,7 +76,8 @@ module _ (model : List ℕ) (m : Model) (loaded : IsLoadedFrom model m) where
     }
 
     -- the report is the one as defined
-    pub reported_over : HoldsOfStream left left' (λ given. IsReportedTo completion model given written written' (answer_view answer))
+    pub reported_over : HoldsOfStream left left'
+        (λ given. IsReportedTo completion model given written written' (answer_view answer))
     reported_over = record {
       given = w.given;
       reads = w.reads;
@@ -93,28 +96,32 @@ module _ (model : List ℕ) (m : Model) (loaded : IsLoadedFrom model m) where
 
 -- ---- which error was met
 
-pub told_model : (e : StreamingError) (told : SyntaxError) → streaming_refusal e ≡ errors.Model told → ⊥
+pub told_model : (e : StreamingError) (told : SyntaxError) → streaming_refusal e ≡ errors.Model told
+    → ⊥
 told_model streaming.Read told h = cc
 told_model streaming.Write told h = cc
 told_model (streaming.Stream f) told h = cc
 told_model (streaming.Block n f) told h = cc
 told_model streaming.Memory told h = cc
 
-pub told_names : (e : StreamingError) (told : ModelError) → streaming_refusal e ≡ errors.Names told → ⊥
+pub told_names : (e : StreamingError) (told : ModelError) → streaming_refusal e ≡ errors.Names told
+    → ⊥
 told_names streaming.Read told h = cc
 told_names streaming.Write told h = cc
 told_names (streaming.Stream f) told h = cc
 told_names (streaming.Block n f) told h = cc
 told_names streaming.Memory told h = cc
 
-pub told_stream : (e : StreamingError) (told : StreamError) → streaming_refusal e ≡ errors.Stream told → e ≡ streaming.Stream told
+pub told_stream : (e : StreamingError) (told : StreamError)
+    → streaming_refusal e ≡ errors.Stream told → e ≡ streaming.Stream told
 told_stream streaming.Read told h = cc
 told_stream streaming.Write told h = cc
 told_stream (streaming.Stream f) told h = cc
 told_stream (streaming.Block n f) told h = cc
 told_stream streaming.Memory told h = cc
 
-pub told_block : (e : StreamingError) (number : ℕ) (told : BlockError) → streaming_refusal e ≡ errors.Block number told → e ≡ streaming.Block number told
+pub told_block : (e : StreamingError) (number : ℕ) (told : BlockError)
+    → streaming_refusal e ≡ errors.Block number told → e ≡ streaming.Block number told
 told_block streaming.Read number told h = cc
 told_block streaming.Write number told h = cc
 told_block (streaming.Stream f) number told h = cc

@@ -35,7 +35,8 @@ use Rattle.fz_check.specs.declared.error.CheckError.TheVariants as errors
 use Rattle.std.specs.Prelude.{IfErr}
 use Rattle.fz_check.specs.Loading.{text_refusal, name_refusal, stream_refusal, IsStreamRefusal, IsJudgingRefusal, IsCheckRefusal}
 
-pub told_text : (e f : SyntaxError) → text_refusal e ≡ errors.Model f → (e ≡ f) × (f ≡ syntax.Memory → ⊥)
+pub told_text : (e f : SyntaxError) → text_refusal e ≡ errors.Model f
+    → (e ≡ f) × (f ≡ syntax.Memory → ⊥)
 told_text syntax.TooLong f h = let same : syntax.TooLong ≡ f = cc in (same, λ m. cc)
 told_text (syntax.BadByte s) f h = let same : syntax.BadByte s ≡ f = cc in (same, λ m. cc)
 told_text (syntax.TooLarge s) f h = let same : syntax.TooLarge s ≡ f = cc in (same, λ m. cc)
@@ -45,7 +46,8 @@ told_text (syntax.TooDeep s) f h = let same : syntax.TooDeep s ≡ f = cc in (sa
 told_text (syntax.TooMany s) f h = let same : syntax.TooMany s ≡ f = cc in (same, λ m. cc)
 told_text syntax.Memory f h = cc
 
-pub told_name : (e f : ModelError) → name_refusal e ≡ errors.Names f → (e ≡ f) × (f ≡ names.Memory → ⊥)
+pub told_name : (e f : ModelError) → name_refusal e ≡ errors.Names f
+    → (e ≡ f) × (f ≡ names.Memory → ⊥)
 told_name (names.DuplicateName s) f h = let same : names.DuplicateName s ≡ f = cc in (same, λ m. cc)
 told_name (names.UnknownName s) f h = let same : names.UnknownName s ≡ f = cc in (same, λ m. cc)
 told_name (names.Kind s) f h = let same : names.Kind s ≡ f = cc in (same, λ m. cc)
@@ -53,12 +55,14 @@ told_name (names.Length s) f h = let same : names.Length s ≡ f = cc in (same, 
 told_name names.Memory f h = cc
 
 -- an error that `?` hands on is the one that was met
-pub residual_is : {A E : Type 0} (r : Result A E) (e f : E) → IsErrAnd r (λ g. g ≡ e) → r ≡ Err f → e ≡ f
+pub residual_is : {A E : Type 0} (r : Result A E) (e f : E) → IsErrAnd r (λ g. g ≡ e) → r ≡ Err f
+    → e ≡ f
 residual_is (Err g) e f h same = let is : g ≡ f = cc in sym h ∙ is
 residual_is (Ok x) e f h same = cc
 
 -- and what is so of the one that was met is so of it
-pub handed_on : {A E : Type 0} (Q : E → Type 0) (r : Result A E) (e : E) → IsErrAnd r (λ g. g ≡ e) → Q e → IfErr r Q
+pub handed_on : {A E : Type 0} (Q : E → Type 0) (r : Result A E) (e : E) → IsErrAnd r (λ g. g ≡ e)
+    → Q e → IfErr r Q
 handed_on Q (Err g) e h q = subst Q (sym h) q
 handed_on Q (Ok x) e h q = tt
 
@@ -81,7 +85,8 @@ judging_is_check (errors.Model e) h = tt
 judging_is_check (errors.Names e) h = tt
 judging_is_check (errors.Stream e) h = tt
 
-told_stream : (e f : StreamError) → stream_refusal e ≡ errors.Stream f → (e ≡ f) × (f ≡ stream.Memory → ⊥)
+told_stream : (e f : StreamError) → stream_refusal e ≡ errors.Stream f
+    → (e ≡ f) × (f ≡ stream.Memory → ⊥)
 told_stream stream.TooLong f h = let same : stream.TooLong ≡ f = cc in (same, λ m. cc)
 told_stream (stream.Item s) f h = let same : stream.Item s ≡ f = cc in (same, λ m. cc)
 told_stream (stream.DuplicateName s) f h = let same : stream.DuplicateName s ≡ f = cc in (same, λ m. cc)
@@ -91,7 +96,7 @@ told_stream stream.Memory f h = cc
 
 -- ---- texts
 
--- a refusal that a text of a tree allows is want of memory
+-- a refusal that a text of a tree allows is out of memory
 memory_where : (e : SyntaxError) (t : Tree) → IsValue {X = the_ast.Ast} bare (Err e) t → e ≡ syntax.Memory
 memory_where syntax.TooLong t h = absurd h
 memory_where (syntax.BadByte s) t h = absurd h
@@ -105,7 +110,10 @@ memory_where syntax.Memory t h = refl
 pub refused_as : (model : List ℕ) (e : SyntaxError) → ((t : Tree) → IsTextOfTree model t → IsValue {X = the_ast.Ast} bare (Err e) t) → IsRefusalOf model e → IsPlacedWithin (length model) e → IsRefused model e
 refused_as model e only order place = record { no_tree = λ t text. memory_where e t (only t text); order = order; place = place }
 
-pub text_fault_on : (model : List ℕ) (e f : SyntaxError) → IsRefused model e → (e ≡ syntax.TooLong → most_bytes < length model) → (most_bytes < length model → e ≡ syntax.TooLong) → text_refusal e ≡ errors.Model f → HasTextFault model f
+pub text_fault_on : (model : List ℕ) (e f : SyntaxError) → IsRefused model e
+    → (e ≡ syntax.TooLong → most_bytes < length model) →
+    (most_bytes < length model → e ≡ syntax.TooLong) → text_refusal e ≡ errors.Model f
+    → HasTextFault model f
 text_fault_on model e f refused long too_long same =
     let told = told_text e f same in
     let known : e ≡ syntax.Memory → ⊥ = λ m. told.1 (sym told.0 ∙ m) in
@@ -113,7 +121,9 @@ text_fault_on model e f refused long too_long same =
 
 -- ---- names
 
-pub name_fault_on : (model : List ℕ) (a : the_ast.Ast) (e : ModelError) → IsTextOfAll model (items_of_tree a) → (e ≢ names.Memory) × (IsInReadingOrder (located a) → TellsFirstFault (located a) e) → HasNameFault model e
+pub name_fault_on : (model : List ℕ) (a : the_ast.Ast) (e : ModelError)
+    → IsTextOfAll model (items_of_tree a) → (e ≢ names.Memory)
+    × (IsInReadingOrder (located a) → TellsFirstFault (located a) e) → HasNameFault model e
 name_fault_on model a e text told = record {
   fault = record { all = items_of_tree a; text = text; tells = told.1 (in_reading_order model (length model) a text.stands) };
   not_memory = told.0;
@@ -121,7 +131,8 @@ name_fault_on model a e text told = record {
 
 -- ---- streams
 
-broken_by : (bytes : List ℕ) (e : StreamError) → e ≢ stream.Memory → e ≢ stream.TooLong → (e ≢ stream.TooLong → length bytes ≤ most_bytes)
+broken_by : (bytes : List ℕ) (e : StreamError) → e ≢ stream.Memory → e ≢ stream.TooLong
+    → (e ≢ stream.TooLong → length bytes ≤ most_bytes)
     → (e ≢ stream.Memory → e ≢ stream.TooLong → (parts : List StreamPart) → IsStreamText bytes parts → ⊥)
     → (e ≢ stream.Memory → e ≢ stream.TooLong → (parts : List StreamPart) × StopsAfter bytes parts e) → IsStreamFault e → IsBroken bytes e
 broken_by bytes e memory long short none stops fault =
@@ -129,7 +140,8 @@ broken_by bytes e memory long short none stops fault =
     record { short = short long; no_parts = none memory long; before = before; stops = stopped; fault = fault }
 
 -- what a fault of a stream is, by the clauses that tell of it
-stream_fault_is : (bytes : List ℕ) (e : StreamError) → (e ≡ stream.TooLong → most_bytes < length bytes) → (e ≢ stream.TooLong → length bytes ≤ most_bytes)
+stream_fault_is : (bytes : List ℕ) (e : StreamError) → (e ≡ stream.TooLong
+    → most_bytes < length bytes) → (e ≢ stream.TooLong → length bytes ≤ most_bytes)
     → (e ≢ stream.Memory → e ≢ stream.TooLong → (parts : List StreamPart) → IsStreamText bytes parts → ⊥)
     → (e ≢ stream.Memory → e ≢ stream.TooLong → (parts : List StreamPart) × StopsAfter bytes parts e) → IsStreamFault e → (e ≡ stream.Memory → ⊥) → HasStreamFault bytes e
 stream_fault_is bytes stream.TooLong long short none stops fault other = long refl
@@ -143,7 +155,9 @@ stream_fault_is bytes stream.Failed long short none stops fault other = absurd f
 short_of : (n most : ℕ) → (most < n → ⊥) → n ≤ most
 short_of n most long = ⊎_elim (λ l. absurd (long l)) (λ h. omega (arith, h)) (cases_lt most n)
 
-pub stream_fault_on : (bytes : List ℕ) (e f : StreamError) → (e ≡ stream.TooLong → most_bytes < length bytes) → (most_bytes < length bytes → e ≡ stream.TooLong)
+pub stream_fault_on : (bytes : List ℕ) (e f : StreamError)
+    → (e ≡ stream.TooLong → most_bytes < length bytes)
+    → (most_bytes < length bytes → e ≡ stream.TooLong)
     → (e ≢ stream.Memory → e ≢ stream.TooLong → (parts : List StreamPart) → IsStreamText bytes parts → ⊥)
     → (e ≢ stream.Memory → e ≢ stream.TooLong → (parts : List StreamPart) × StopsAfter bytes parts e) → IsStreamFault e → stream_refusal e ≡ errors.Stream f → HasStreamFault bytes f
 stream_fault_on bytes e f long too_long none stops fault same =
@@ -152,17 +166,22 @@ stream_fault_on bytes e f long too_long none stops fault same =
     (stream_fault_is bytes e long (λ other. short_of (length bytes) most_bytes (λ l. other (too_long l))) none stops fault (λ m. told.1 (sym told.0 ∙ m)))
 
 -- what is read is not too long
-pub short_read : {A : Type 0} (n : ℕ) (found : A) → (most_bytes < n → Ok found ≡ Err stream.TooLong) → n ≤ most_bytes
+pub short_read : {A : Type 0} (n : ℕ) (found : A) → (most_bytes < n → Ok found ≡ Err stream.TooLong)
+    → n ≤ most_bytes
 short_read n found long = short_of n most_bytes (λ l. let no : Ok found ≡ Err stream.TooLong = long l in cc)
 
 -- what ends within so many bytes ends within more
-pub ends_within : (n most : ℕ) → n ≤ most → (bs : List the_block.Block) → AllByRecursion (EndsWithin n) bs → AllByRecursion (EndsWithin most) bs
+pub ends_within : (n most : ℕ) → n ≤ most → (bs : List the_block.Block)
+    → AllByRecursion (EndsWithin n) bs → AllByRecursion (EndsWithin most) bs
 ends_within n most less [] h = tt
 ends_within n most less (b ∷ bs) h = (omega (arith, h.0, less), ends_within n most less bs h.1)
 
 -- ---- blocks
 
-pub block_fault_on : (model bytes : List ℕ) (m : Model) → IsLoadedFrom model m → (bs : List the_block.Block) (cs : List Claim) → IsReadAs bytes (map block_of bs) cs → AllByRecursion HasPlaces bs → length bytes ≤ most_bytes → (n : ℕ) (e : BlockError) → IsFirstFault m bs n e → HasBlockFault model bytes n e
+pub block_fault_on : (model bytes : List ℕ) (m : Model) → IsLoadedFrom model m
+    → (bs : List the_block.Block) (cs : List Claim) → IsReadAs bytes (map block_of bs) cs
+    → AllByRecursion HasPlaces bs → length bytes ≤ most_bytes → (n : ℕ) (e : BlockError)
+    → IsFirstFault m bs n e → HasBlockFault model bytes n e
 block_fault_on model bytes m loaded bs cs read places short n e first = record {
   short = short;
   checked = checked model bytes m loaded bs cs read places;

@@ -22,7 +22,9 @@ use Rattle.fz_streaming.specs.declared.line.Answer as the_answer
 use Rattle.fz_check.specs.Reported.{Checked, HasReport, AreBorneOut}
 use Rattle.fz_streaming.specs.View.{answer_view}
 
-abbrev pub checked : (model stream : List ℕ) (m : Model) → IsLoadedFrom model m → (bs : List the_block.Block) (cs : List Claim) → IsReadAs stream (map block_of bs) cs → AllByRecursion HasPlaces bs → Checked model stream
+abbrev pub checked : (model stream : List ℕ) (m : Model) → IsLoadedFrom model m
+    → (bs : List the_block.Block) (cs : List Claim) → IsReadAs stream (map block_of bs) cs
+    → AllByRecursion HasPlaces bs → Checked model stream
 checked model stream m loaded bs cs read places = record {
   tree = loaded.tree;
   text_of_model = loaded.text;
@@ -35,7 +37,9 @@ checked model stream m loaded bs cs read places = record {
 }
 
 -- what the verdicts say of solutions is so
-pub borne_out : (completion : Completion) (t : LocatedTree) (blocks : List Block) (vs : List Verdict) → HasNoFault t → AreVerdicts completion (model_of t) blocks vs → AreBorneOut (model_of t) blocks vs
+pub borne_out : (completion : Completion) (t : LocatedTree) (blocks : List Block)
+    (vs : List Verdict) → HasNoFault t → AreVerdicts completion (model_of t) blocks vs
+    → AreBorneOut (model_of t) blocks vs
 borne_out completion t blocks vs sound are = record {
   satisfied = λ i block at found. each_satisfied completion t blocks vs i block sound are at found;
   violated = λ i block f at found other. each_violated completion (model_of t) blocks vs i block f are at found (λ now earlier e. other (now, earlier, e));

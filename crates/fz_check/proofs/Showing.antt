@@ -17,7 +17,8 @@ use Rattle.fz_outputs.proofs.Same.{same_model}
 use Rattle.fz_outputs.proofs.Sound.{no_fault_still}
 use Rattle.fz_check.specs.Shown.{IsShown, IsShownPrintingAll}
 
-pub shown_of : (model shown : List ℕ) (a : the_ast.Ast) → IsTextOfTree model (bare a) → HasNoFault (located a) → shown ≡ tree_text (bare a)
+pub shown_of : (model shown : List ℕ) (a : the_ast.Ast) → IsTextOfTree model (bare a)
+    → HasNoFault (located a) → shown ≡ tree_text (bare a)
     → (CanBeWritten (bare a) → LexesWithNumbersInLimit shown (toks (bare a))) → IsShown model shown
 shown_of model shown a text sound layout back = record {
   tree = located a;
@@ -28,7 +29,8 @@ shown_of model shown a text sound layout back = record {
 }
 
 -- of a tree that was read, and of what became of it
-pub shown_printing_all : (model shown : List ℕ) (a b : the_ast.Ast) → IsTextOfTree model (bare a) → HasNoFault (located a) → located b ≡ with_all_printed (located a) → shown ≡ tree_text (bare b)
+pub shown_printing_all : (model shown : List ℕ) (a b : the_ast.Ast) → IsTextOfTree model (bare a)
+    → HasNoFault (located a) → located b ≡ with_all_printed (located a) → shown ≡ tree_text (bare b)
     → (CanBeWritten (bare b) → LexesWithNumbersInLimit shown (toks (bare b))) → IsShownPrintingAll model shown
 shown_printing_all model shown a b text sound is layout back =
     let same : bare b ≡ bare_of (with_all_printed (located a)) = sym (located_is_bare b) ∙ ap bare_of is in

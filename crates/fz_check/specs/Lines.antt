@@ -1,4 +1,5 @@
--- How the claims of a report are written where they stand. Private functions alone cite this file, and a reader need not believe it.
+-- How the claims of a report are written where they stand. Private functions alone cite this file,
+-- and a reader need not believe it.
 use Rattle.std.specs.Prelude.{◌≡◌, ℕ, suc, ◌<◌, ◌≢◌, List, [], ◌∷◌, ◌++◌, length, map, ⊤}
 use Rattle.std.specs.List.{AllByRecursion}
 use Rattle.fz_stream.specs.declared.reading.Claim.{Claim}
@@ -11,7 +12,8 @@ abbrev pub BeginsElsewhere : ℕ → List Claim → Type 0
 BeginsElsewhere n [] = ⊤
 BeginsElsewhere n (c ∷ cs) = c.after ≢ n
 
--- The claims are some that come after this number of blocks, whose lines were written, and then the rest.
+-- The claims are some that come after this number of blocks, whose lines were written, and then the
+-- rest.
 pub record IsPushing (old new : List ℕ) (claims rest : List Claim) (after : ℕ) : Type 0 where
   pub front : List Claim
   pub whole : claims ≡ front ++ rest
@@ -22,8 +24,10 @@ pub record IsPushed (old new : List ℕ) (claims rest : List Claim) (after : ℕ
   pub pushing : IsPushing old new claims rest after
   pub elsewhere : BeginsElsewhere after rest
 
--- So much of the report is written: the claims before the first block, and so many blocks with their claims; and these claims are left.
-pub record IsWritten (text : List ℕ) (verdicts : List Verdict) (claims rest : List Claim) (most : ℕ) : Type 0 where
+-- So much of the report is written: the claims before the first block, and so many blocks with
+-- their claims; and these claims are left.
+pub record IsWritten (text : List ℕ) (verdicts : List Verdict) (claims rest : List Claim)
+    (most : ℕ) : Type 0 where
   pub lines : text ≡ text_of_lines (claim_lines 0 claims ++ lines_from 0 verdicts claims)
   pub left : AreInOrder (suc (length verdicts)) most rest
   pub same : (k : ℕ) → length verdicts < k → claim_lines k claims ≡ claim_lines k rest

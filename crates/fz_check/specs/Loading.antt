@@ -13,7 +13,7 @@ use Rattle.fz_streaming.specs.declared.error.StreamingError.TheVariants as strea
 use Rattle.fz_check.specs.declared.error.CheckError.{CheckError}
 use Rattle.fz_check.specs.declared.error.CheckError.TheVariants as errors
 
--- the refusals of a model's text: of its bytes, of its names, and want of memory
+-- the refusals of a model's text: of its bytes, of its names, and out of memory
 abbrev pub IsModelRefusal : CheckError → Type 0
 IsModelRefusal (errors.Model e) = ⊤
 IsModelRefusal (errors.Names e) = ⊤
@@ -47,7 +47,7 @@ IsJudgingRefusal (errors.Block n e) = ⊤
 IsJudgingRefusal errors.Memory = ⊤
 IsJudgingRefusal _ = ⊥
 
--- ---- what is answered where a step refuses: want of memory in any part is the want of memory of the whole
+-- ---- what is answered where a step refuses: where any part runs out of memory, so does all
 
 abbrev pub text_refusal : SyntaxError → CheckError
 text_refusal syntax.Memory = errors.Memory

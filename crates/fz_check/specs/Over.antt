@@ -1,5 +1,5 @@
--- What a check over a reader and a writer answers (this project's profile). The bytes read are those that the reader gave, the bytes
--- written those that the writer got, where they tell them.
+-- What a check over a reader and a writer answers (this project's profile). The bytes read are
+-- those that the reader gave, the bytes written those that the writer got, where they tell them.
 use Rattle.std.specs.Prelude.{◌≡◌, ℕ, List, ⊤, Option}
 use Rattle.std.specs.Io.KnownBytes.{Appends, Consumes, IsAtEnd}
 use Rattle.fz_syntax.specs.Text.{IsTextOfTree}
@@ -24,8 +24,10 @@ pub record HoldsOfStream (left left' : Option (List ℕ)) (Holds : List ℕ → 
   pub end : IsAtEnd left'
   pub holds : Holds given
 
--- The writer got the text of the report on these bytes, and nothing else, and the answer is the report's.
-pub record IsReportedTo (c : Completion) (model given : List ℕ) (written written' : Option (List ℕ)) (answer : Answer) : Type 0 where
+-- The writer got the text of the report on these bytes, and nothing else, and the answer is the
+-- report's.
+pub record IsReportedTo (c : Completion) (model given : List ℕ) (written written' : Option (List ℕ))
+    (answer : Answer) : Type 0 where
   pub report : Report
   pub has_report : HasReport c model given report
   pub writes : Appends written written' (report_bytes report)
@@ -45,5 +47,6 @@ IsOfModel (errors.Names e) = ⊤
 IsOfModel _ = ⊥
 
 -- nothing was read, and nothing was written
-abbrev pub IsUntouched : Option (List ℕ) → Option (List ℕ) → Option (List ℕ) → Option (List ℕ) → Type 0
+abbrev pub IsUntouched : Option (List ℕ) → Option (List ℕ) → Option (List ℕ) → Option (List ℕ)
+    → Type 0
 IsUntouched left left' written written' = (left' ≡ left) × (written' ≡ written)

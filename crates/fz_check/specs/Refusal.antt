@@ -67,7 +67,8 @@ abbrev refusal : CheckError → List ℕ
 refusal (errors.Model e) = codes "model: " ++ named_text (syntax_fault e)
 refusal (errors.Names e) = codes "model: " ++ named_text (model_fault e)
 refusal (errors.Stream e) = codes "stream: " ++ named_text (stream_fault e)
-refusal (errors.Block number e) = codes "block " ++ decimal number ++ codes ": " ++ named_text (block_fault e)
+refusal (errors.Block number e) =
+    codes "block " ++ decimal number ++ codes ": " ++ named_text (block_fault e)
 refusal errors.Memory = codes "memory"
 refusal errors.Read = codes "read"
 refusal errors.Write = codes "write"
@@ -76,7 +77,8 @@ refusal errors.Write = codes "write"
 abbrev pub refusal_line : CheckError → List ℕ
 refusal_line e = codes "refused: " ++ refusal e ++ codes "\n"
 
--- the place of the fault that a refusal tells of, where it has one: in the model's text, or in the whole stream
+-- the place of the fault that a refusal tells of, where it has one: in the model's text, or in the
+-- whole stream
 abbrev pub refusal_place : CheckError → Option Span
 refusal_place (errors.Model e) = (syntax_fault e).place
 refusal_place (errors.Names e) = (model_fault e).place

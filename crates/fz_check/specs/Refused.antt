@@ -25,8 +25,8 @@ use Rattle.fz_streaming.specs.of_judge.declared.error.BlockError.{BlockError}
 use Rattle.fz_streaming.specs.of_judge.declared.error.BlockError.TheVariants.{Memory as BlockMemory}
 use Rattle.fz_check.specs.Reported.{Checked}
 
--- The model's bytes are a text of no tree, and the fault tells of them: it is that they are too many just where they are, else it comes
--- in the order of faults, and its place lies within them.
+-- The model's bytes are a text of no tree, and the fault tells of them: it is that they are too
+-- many just where they are, else it comes in the order of faults, and its place lies within them.
 pub record HasTextFault (model : List ℕ) (e : SyntaxError) : Type 0 where
   pub no_tree : (t : Tree) → IsTextOfTree model t → ⊥
   pub too_long : (e ≡ TextTooLong) ↔ (most_bytes < length model)
@@ -34,12 +34,14 @@ pub record HasTextFault (model : List ℕ) (e : SyntaxError) : Type 0 where
   pub place : IsPlacedWithin (length model) e
   pub not_memory : e ≢ TextMemory
 
--- The model's bytes are a text of a tree whose names and literals stand there, and this is its leftmost fault.
+-- The model's bytes are a text of a tree whose names and literals stand there, and this is its
+-- leftmost fault.
 pub record HasNameFault (model : List ℕ) (e : ModelError) : Type 0 where
   pub fault : IsNameFault model e
   pub not_memory : e ≢ NameMemory
 
--- The stream's bytes are not too many and a text of no parts, and the fault is that of the first block that is broken.
+-- The stream's bytes are not too many and a text of no parts, and the fault is that of the first
+-- block that is broken.
 pub record IsBroken (bytes : List ℕ) (e : StreamError) : Type 0 where
   pub short : length bytes ≤ most_bytes
   pub no_parts : (parts : List StreamPart) → IsStreamText bytes parts → ⊥
@@ -54,7 +56,8 @@ HasStreamFault bytes stream.Memory = ⊥
 HasStreamFault bytes e = IsBroken bytes e
 
 -- The block with this number, from 1, is the first that has a fault, and its first fault is told.
-pub record IsFirstFault (m : Model) (blocks : List the_block.Block) (number : ℕ) (e : BlockError) : Type 0 where
+pub record IsFirstFault (m : Model) (blocks : List the_block.Block) (number : ℕ)
+    (e : BlockError) : Type 0 where
   pub before : List the_block.Block
   pub block : the_block.Block
   pub after : List the_block.Block
@@ -64,8 +67,8 @@ pub record IsFirstFault (m : Model) (blocks : List the_block.Block) (number : �
   pub tells : IsBlockRefusal m (located_block block) e
   pub not_memory : e ≢ BlockMemory
 
--- The stream's bytes are not too many; of the blocks that are checked, the one with this number is the first that has a fault against the
--- tree's model, and it is told.
+-- The stream's bytes are not too many; of the blocks that are checked, the one with this number is
+-- the first that has a fault against the tree's model, and it is told.
 pub record HasBlockFault (model stream : List ℕ) (number : ℕ) (e : BlockError) : Type 0 where
   pub short : length stream ≤ most_bytes
   pub checked : Checked model stream

@@ -17,8 +17,9 @@ use Rattle.fz_verdict.specs.View.{located_block}
 use Rattle.fz_verdict.specs.Verdict.Verdict.{Satisfied, Violated}
 use Rattle.fz_verdict.specs.Verdict.Fault.{NotBetter}
 
--- What is checked against what: the model's bytes are a text of a tree without faults, and the stream's bytes are a text of parts, of
--- which these are the blocks, with the places where their names and literals stand in them.
+-- What is checked against what: the model's bytes are a text of a tree without faults, and the
+-- stream's bytes are a text of parts, of which these are the blocks, with the places where their
+-- names and literals stand in them.
 pub record Checked (model stream : List ℕ) : Type 0 where
   pub tree : LocatedTree
   pub text_of_model : IsTextOfTree model (bare_of tree)
@@ -41,22 +42,30 @@ HasNone m block = (A : Assignment) → IsKnownSolution m A → Extends m A block
 
 -- no two known-solutions that extend the two blocks improve
 abbrev pub NoneImproves : Model → Block → Block → Type 0
-NoneImproves m earlier block = (A B : Assignment) → IsKnownSolution m A → Extends m A earlier → IsKnownSolution m B → Extends m B block → Improves m (Some A) B → ⊥
+NoneImproves m earlier block = (A B : Assignment) → IsKnownSolution m A → Extends m A earlier
+    → IsKnownSolution m B → Extends m B block → Improves m (Some A) B → ⊥
 
 abbrev pub IsObjective : Fault → Type 0
 IsObjective f = (now before : ℤ) × (f ≡ NotBetter now before)
 
--- Block number i, counted from 0, that is satisfied has a solution that extends it, whatever the other blocks are. One that is violated by
--- anything but its objective has no known-solution that extends it; and where it is violated by its objective, there is a block before
--- it, and none that extends this one improves on one that extends that one.
+-- Block number i, counted from 0, that is satisfied has a solution that extends it, whatever the
+-- other blocks are. One that is violated by anything but its objective has no known-solution that
+-- extends it; and where it is violated by its objective, there is a block before it, and none that
+-- extends this one improves on one that extends that one.
 pub record AreBorneOut (m : Model) (blocks : List Block) (verdicts : List Verdict) : Type 0 where
-  pub satisfied : (i : ℕ) (block : Block) → slice_get blocks i ≡ Some block → slice_get verdicts i ≡ Some Satisfied → HasOne m block
-  pub violated : (i : ℕ) (block : Block) (f : Fault) → slice_get blocks i ≡ Some block → slice_get verdicts i ≡ Some (Violated f) → (IsObjective f → ⊥) → HasNone m block
-  pub not_better : (i : ℕ) (block : Block) (f : Fault) → slice_get blocks i ≡ Some block → slice_get verdicts i ≡ Some (Violated f) → IsObjective f
-      → (j : ℕ) × (earlier : Block) × (i ≡ suc j) × (slice_get blocks j ≡ Some earlier) × NoneImproves m earlier block
+  pub satisfied : (i : ℕ) (block : Block) → slice_get blocks i ≡ Some block
+      → slice_get verdicts i ≡ Some Satisfied → HasOne m block
+  pub violated : (i : ℕ) (block : Block) (f : Fault) → slice_get blocks i ≡ Some block
+      → slice_get verdicts i ≡ Some (Violated f) → (IsObjective f → ⊥) → HasNone m block
+  pub not_better : (i : ℕ) (block : Block) (f : Fault) → slice_get blocks i ≡ Some block
+      → slice_get verdicts i ≡ Some (Violated f) → IsObjective f
+      → (j : ℕ) × (earlier : Block) × (i ≡ suc j) × (slice_get blocks j ≡ Some earlier)
+      × NoneImproves m earlier block
 
--- Whether values are looked for or not, the report is that of the tree's model on the parts, and its verdicts are borne out.
+-- Whether values are looked for or not, the report is that of the tree's model on the parts, and
+-- its verdicts are borne out.
 pub record HasReport (c : Completion) (model stream : List ℕ) (r : Report) : Type 0 where
   pub checked : Checked model stream
-  pub is_report : IsReport c (model_of checked.tree) (map located_block checked.blocks) checked.parts r
+  pub is_report : IsReport c (model_of checked.tree)
+      (map located_block checked.blocks) checked.parts r
   pub borne_out : AreBorneOut (model_of checked.tree) (map located_block checked.blocks) r.verdicts

@@ -8,7 +8,8 @@ use Rattle.fz_model.specs.Located.{LocatedTree, bare_of}
 use Rattle.fz_model.specs.Names.{HasNoFault, model_of}
 use Rattle.fz_outputs.specs.Outputs.{with_all_printed}
 
--- The model's bytes are a text of a tree without faults, and what is shown is that tree's canonical text, which lexes to its tokens.
+-- The model's bytes are a text of a tree without faults, and what is shown is that tree's canonical
+-- text, which lexes to its tokens.
 pub record IsShown (model shown : List ℕ) : Type 0 where
   pub tree : LocatedTree
   pub text_of_model : IsTextOfTree model (bare_of tree)
@@ -16,8 +17,9 @@ pub record IsShown (model shown : List ℕ) : Type 0 where
   pub layout : shown ≡ tree_text (bare_of tree)
   pub reads_back : LexesWithNumbersInLimit shown (toks (bare_of tree))
 
--- The same, where a solver is to print every scalar variable: what is shown is the canonical text of the tree with the annotation
--- output_var at each, which lexes to its tokens. That tree has no fault either, and its model is the same.
+-- The same, where a solver is to print every scalar variable: what is shown is the canonical text
+-- of the tree with the annotation output_var at each, which lexes to its tokens. That tree has no
+-- fault either, and its model is the same.
 pub record IsShownPrintingAll (model shown : List ℕ) : Type 0 where
   pub tree : LocatedTree
   pub text_of_model : IsTextOfTree model (bare_of tree)

@@ -1,4 +1,5 @@
--- Which verdicts a search looks for. Private functions alone cite this file, and a reader need not believe it.
+-- Which verdicts a search looks for. Private functions alone cite this file, and a reader need not
+-- believe it.
 use Rattle.std.specs.Prelude.{Bool}
 use Rattle.fz_verdict.specs.Verdict.{Verdict, is_violated, is_undecided}
 use Rattle.fz_check.specs.declared.report.Sought.{Sought}

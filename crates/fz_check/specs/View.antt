@@ -6,4 +6,8 @@ use Rattle.fz_check.specs.declared.report.Report.{Report}
 use Rattle.fz_streaming.specs.View.{answer_view}
 
 abbrev pub report_view : Report → report.Report
-report_view r = record { verdicts = map verdict_view r.verdicts.items; claims = r.claims.items; answer = answer_view r.answer }
+report_view r = record {
+  verdicts = map verdict_view r.verdicts.items;
+  claims = r.claims.items;
+  answer = answer_view r.answer;
+}

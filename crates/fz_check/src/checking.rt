@@ -89,8 +89,10 @@ fn block_refusal(number: usize, error: BlockError) -> CheckError
 /// The model of a text.
 pub(crate) fn read_model<'a>(alloc: Global, source: &'a [u8]) -> Result<Model<'a>, CheckError>
     ensures loaded { IfOk result (IsLoadedFrom source.now) }
-    ensures model { (e : SyntaxFault) → result ≡ Err (CheckError.Model e) → HasTextFault source.now e }
-    ensures names { (e : NameFault) → result ≡ Err (CheckError.Names e) → HasNameFault source.now e }
+    ensures model { (e : SyntaxFault) → result ≡ Err (CheckError.Model e)
+        → HasTextFault source.now e }
+    ensures names { (e : NameFault) → result ≡ Err (CheckError.Names e)
+        → HasNameFault source.now e }
     ensures kinds { IfErr result IsModelRefusal }
 {
     match load_text(alloc, source) {
@@ -103,7 +105,8 @@ pub(crate) fn read_model<'a>(alloc: Global, source: &'a [u8]) -> Result<Model<'a
 /// The tree of a model's text.
 fn read_tree<'a>(alloc: Global, source: &'a [u8]) -> Result<Ast<'a>, CheckError>
     ensures text { IfOk result (λ a. IsTextOfAll source.now (items_of_tree a)) }
-    ensures model { (e : SyntaxFault) → result ≡ Err (CheckError.Model e) → HasTextFault source.now e }
+    ensures model { (e : SyntaxFault) → result ≡ Err (CheckError.Model e)
+        → HasTextFault source.now e }
     ensures kinds { IfErr result IsTextRefusal }
 {
     match parse(alloc, source) {
@@ -114,8 +117,11 @@ fn read_tree<'a>(alloc: Global, source: &'a [u8]) -> Result<Ast<'a>, CheckError>
 
 /// The model of a tree.
 fn load_tree<'a>(alloc: Global, ast: &Ast<'a>) -> Result<Model<'a>, CheckError>
-    ensures loaded { IfOk result (λ m. HasNoFault (located ast.now) × (m ≡ model_of (located ast.now))) }
-    ensures names { (e : NameFault) → result ≡ Err (CheckError.Names e) → (e ≢ NameMemory) × (IsInReadingOrder (located ast.now) → TellsFirstFault (located ast.now) e) }
+    ensures loaded { IfOk result (λ m. HasNoFault (located ast.now)
+        × (m ≡ model_of (located ast.now))) }
+    ensures names { (e : NameFault) → result ≡ Err (CheckError.Names e)
+        → (e ≢ NameMemory) × (IsInReadingOrder (located ast.now)
+        → TellsFirstFault (located ast.now) e) }
     ensures kinds { IfErr result IsNameRefusal }
 {
     match load(alloc, ast) {
@@ -128,8 +134,10 @@ fn load_tree<'a>(alloc: Global, ast: &Ast<'a>) -> Result<Model<'a>, CheckError>
 fn read_sound_tree<'a>(alloc: Global, source: &'a [u8]) -> Result<Ast<'a>, CheckError>
     ensures text { IfOk result (λ a. IsTextOfAll source.now (items_of_tree a)) }
     ensures no_fault { IfOk result (λ a. HasNoFault (located a)) }
-    ensures model { (e : SyntaxFault) → result ≡ Err (CheckError.Model e) → HasTextFault source.now e }
-    ensures names { (e : NameFault) → result ≡ Err (CheckError.Names e) → HasNameFault source.now e }
+    ensures model { (e : SyntaxFault) → result ≡ Err (CheckError.Model e)
+        → HasTextFault source.now e }
+    ensures names { (e : NameFault) → result ≡ Err (CheckError.Names e)
+        → HasNameFault source.now e }
     ensures kinds { IfErr result IsModelRefusal }
 {
     let ast = read_tree(alloc, source)?;
@@ -139,12 +147,14 @@ fn read_sound_tree<'a>(alloc: Global, source: &'a [u8]) -> Result<Ast<'a>, Check
 
 /// The blocks and claims of a stream.
 fn read_stream<'s>(alloc: Global, stream: &'s [u8]) -> Result<Stream<'s>, CheckError>
-    ensures read { IfOk result (λ s. IsReadAs stream.now (map block_of s.blocks.items) s.claims.items) }
+    ensures read { IfOk result (λ s. IsReadAs stream.now
+        (map block_of s.blocks.items) s.claims.items) }
     ensures places { IfOk result (λ s. AllByRecursion HasPlaces s.blocks.items) }
     ensures within { IfOk result (λ s. AllByRecursion (EndsWithin usize.MAX) s.blocks.items) }
     ensures in_order { IfOk result (λ s. AreInOrder 0 (vec_len s.blocks) s.claims.items) }
     ensures short { IfOk result (λ _. length stream.now ≤ most_bytes) }
-    ensures stream { (e : StreamFault) → result ≡ Err (CheckError.Stream e) → HasStreamFault stream.now e }
+    ensures stream { (e : StreamFault) → result ≡ Err (CheckError.Stream e)
+        → HasStreamFault stream.now e }
     ensures kinds { IfErr result IsStreamRefusal }
 {
     match blocks(alloc, stream) {
@@ -153,7 +163,8 @@ fn read_stream<'s>(alloc: Global, stream: &'s [u8]) -> Result<Stream<'s>, CheckE
     }
 }
 
-/// The verdicts on the blocks, in order, by one judge, which keeps the objective of the block before.
+/// The verdicts on the blocks, in order, by one judge, which keeps the objective of the block
+/// before.
 fn judge_blocks<'a>(
     alloc: Global,
     model: &Model<'a>,
@@ -161,8 +172,10 @@ fn judge_blocks<'a>(
 ) -> Result<Vec<Verdict<'a>>, CheckError>
     requires places { AllByRecursion HasPlaces blocks.now }
     requires within { AllByRecursion (EndsWithin usize.MAX) blocks.now }
-    ensures judged { IfOk result (λ v. AreVerdicts Completion.Off model.now (map located_block blocks.now) (map verdict_view v.items)) }
-    ensures block { (n : ℕ) (e : BlockFault) → result ≡ Err (CheckError.Block n e) → IsFirstFault model.now blocks.now n e }
+    ensures judged { IfOk result (λ v. AreVerdicts Completion.Off model.now
+        (map located_block blocks.now) (map verdict_view v.items)) }
+    ensures block { (n : ℕ) (e : BlockFault) → result ≡ Err (CheckError.Block n e)
+        → IsFirstFault model.now blocks.now n e }
     ensures kinds { IfErr result IsJudgingRefusal }
 {
     let mut judge = Judge::new(model, Completion::Off);
@@ -176,28 +189,36 @@ fn judge_blocks<'a>(
     Ok(verdicts)
 }
 
-/// Judges each block of a stream against a model. The model's text, its names, the whole stream and then
-/// the blocks are looked at in this order, and the first fault refuses the check.
+/// Judges each block of a stream against a model. The model's text, its names, the whole stream and
+/// then the blocks are looked at in this order, and the first fault refuses the check.
 ///
 /// # Errors
 ///
-/// `Model` where the model's bytes are a text of no tree, `Names` with the leftmost fault of its names, `Stream` where the
-/// stream's bytes are too many or a text of no blocks and claims, `Block` with the first fault of the first block that has one, and
-/// want of memory.
+/// `Model` where the model's bytes are a text of no tree, `Names` with the leftmost fault of its
+/// names, `Stream` where the stream's bytes are too many or a text of no blocks and claims, `Block`
+/// with the first fault of the first block that has one, and `Memory` where memory runs out.
 pub fn check<'a>(alloc: Global, model: &'a [u8], stream: &[u8]) -> Result<Report<'a>, CheckError>
     // A yes is a yes: what is accepted has solutions.
-    ensures accepted { IfOk result (λ r. (count : ℕ) → r.answer ≡ Answer.Accepted count → HasSolutions model.now stream.now count) }
-    // The report is the one as defined, with one verdict for each block, the stream's claims and the answer that follows. What it
-    // tells satisfied has a solution. A no is a no: what it tells violated has none.
-    ensures report { IfOk result (λ r. HasReport Completion.Off model.now stream.now (report_view r)) }
+    ensures accepted { IfOk result (λ r. (count : ℕ) → r.answer ≡ Answer.Accepted count
+        → HasSolutions model.now stream.now count) }
+    // The report is the one as defined, with one verdict for each block, the stream's claims and
+    // the answer that follows. What it tells satisfied has a solution. A no is a no: what it tells
+    // violated has none.
+    ensures report { IfOk result (λ r. HasReport Completion.Off model.now stream.now
+        (report_view r)) }
     ensures in_order { IfOk result (λ r. AreInOrder 0 (vec_len r.verdicts) r.claims.items) }
     ensures short { IfOk result (λ _. length stream.now ≤ most_bytes) }
-    // The model is refused only where its bytes are a text of no tree, or with the leftmost fault of its names.
-    ensures model { (e : SyntaxFault) → result ≡ Err (CheckError.Model e) → HasTextFault model.now e }
+    // The model is refused only where its bytes are a text of no tree, or with the leftmost fault
+    // of its names.
+    ensures model { (e : SyntaxFault) → result ≡ Err (CheckError.Model e)
+        → HasTextFault model.now e }
     ensures names { (e : NameFault) → result ≡ Err (CheckError.Names e) → HasNameFault model.now e }
-    // The stream is refused only where the model is good and its bytes are too many or a text of no parts, a block with the first fault.
-    ensures stream { (e : StreamFault) → result ≡ Err (CheckError.Stream e) → HoldsOfModel model.now (λ _. HasStreamFault stream.now e) }
-    ensures block { (n : ℕ) (e : BlockFault) → result ≡ Err (CheckError.Block n e) → HasBlockFault model.now stream.now n e }
+    // The stream is refused only where the model is good and its bytes are too many or a text of no
+    // parts, a block with the first fault.
+    ensures stream { (e : StreamFault) → result ≡ Err (CheckError.Stream e)
+        → HoldsOfModel model.now (λ _. HasStreamFault stream.now e) }
+    ensures block { (n : ℕ) (e : BlockFault) → result ≡ Err (CheckError.Block n e)
+        → HasBlockFault model.now stream.now n e }
     ensures kinds { IfErr result IsCheckRefusal }
 {
     let loaded = read_model(alloc, model)?;
@@ -211,16 +232,20 @@ pub fn check<'a>(alloc: Global, model: &'a [u8], stream: &[u8]) -> Result<Report
     })
 }
 
-/// The canonical text of a model, one line an item, as `to_text` writes it, after its names were looked up.
+/// The canonical text of a model, one line an item, as `to_text` writes it, after its names were
+/// looked up.
 ///
 /// # Errors
 ///
-/// `Model` where the bytes are a text of no tree, `Names` with the leftmost fault of its names, and want of memory.
+/// `Model` where the bytes are a text of no tree, `Names` with the leftmost fault of its names, and
+/// `Memory` where memory runs out.
 pub fn show(alloc: Global, model: &[u8]) -> Result<Vec<u8>, CheckError>
     // The bytes are a text of a tree without faults, and the text is that tree's.
     ensures shown { IfOk result (λ text. IsShown model.now text.items) }
-    // It is refused only where the bytes are a text of no tree, or with the leftmost fault of its names.
-    ensures model { (e : SyntaxFault) → result ≡ Err (CheckError.Model e) → HasTextFault model.now e }
+    // It is refused only where the bytes are a text of no tree, or with the leftmost fault of its
+    // names.
+    ensures model { (e : SyntaxFault) → result ≡ Err (CheckError.Model e)
+        → HasTextFault model.now e }
     ensures names { (e : NameFault) → result ≡ Err (CheckError.Names e) → HasNameFault model.now e }
     ensures kinds { IfErr result IsModelRefusal }
 {
@@ -240,11 +265,14 @@ pub fn show(alloc: Global, model: &[u8]) -> Result<Vec<u8>, CheckError>
 ///
 /// As `show`.
 pub fn show_printing_all(alloc: Global, model: &[u8]) -> Result<Vec<u8>, CheckError>
-    // The bytes are a text of a tree without faults, and the text is that tree's, with the annotation at each scalar variable. It has
-    // the same names, domains, constraints and objective: it is a text of the same model.
+    // The bytes are a text of a tree without faults, and the text is that tree's, with the
+    // annotation at each scalar variable. It has the same names, domains, constraints and
+    // objective: it is a text of the same model.
     ensures shown { IfOk result (λ text. IsShownPrintingAll model.now text.items) }
-    // It is refused only where the bytes are a text of no tree, or with the leftmost fault of its names.
-    ensures model { (e : SyntaxFault) → result ≡ Err (CheckError.Model e) → HasTextFault model.now e }
+    // It is refused only where the bytes are a text of no tree, or with the leftmost fault of its
+    // names.
+    ensures model { (e : SyntaxFault) → result ≡ Err (CheckError.Model e)
+        → HasTextFault model.now e }
     ensures names { (e : NameFault) → result ≡ Err (CheckError.Names e) → HasNameFault model.now e }
     ensures kinds { IfErr result IsModelRefusal }
 {

@@ -1,4 +1,5 @@
-//! Judging a stream of solution blocks against a model. The inner crate `fz_judge` judges one block after another.
+//! Judging a stream of solution blocks against a model. The internal crate `fz_judge` judges one
+//! block after another.
 #![tactic(auto)]
 
 mod checking;

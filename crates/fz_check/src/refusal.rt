@@ -108,7 +108,7 @@ fn push_told(text: &mut Vec<u8>, told: Told) -> Result<(), AllocError>
 ///
 /// # Errors
 ///
-/// Want of memory.
+/// Out of memory.
 pub fn refusal_text(alloc: Global, error: &CheckError) -> Result<Vec<u8>, AllocError>
     ensures { IfOk result (λ text. text.items ≡ refusal_line error.now) }
 {
@@ -141,7 +141,7 @@ pub fn refusal_text(alloc: Global, error: &CheckError) -> Result<Vec<u8>, AllocE
 }
 
 /// The place of the fault that a refusal tells of, in bytes from 0: in the model's text, or in the
-/// whole stream. A refusal for a text that is too long, for want of memory, or for a failed read or
+/// whole stream. A refusal for a text that is too long, for lack of memory, or for a failed read or
 /// write has none.
 pub fn refusal_place(error: &CheckError) -> Option<Span>
     ensures { result ≡ refusal_place error.now }
@@ -156,7 +156,7 @@ pub fn refusal_place(error: &CheckError) -> Option<Span>
 }
 
 /// The exit status of the program for what a check answered: 0 accepted, 1 rejected, 2 undecided,
-/// 3 no blocks, 4 refused, 6 a read or a write failed, 7 want of memory. It takes no memory.
+/// 3 no blocks, 4 refused, 6 a read or a write failed, 7 out of memory. It takes no memory.
 pub fn status(outcome: &Result<Answer, CheckError>) -> u8
     ensures { result ≡ status_of outcome.now }
 {

@@ -69,13 +69,15 @@ pub(crate) fn answer_to(verdicts: &[Verdict<'_>]) -> Answer
     }
 }
 
-/// Adds the lines of the claims at the front that come right after this number of blocks, and gives the rest.
+/// Adds the lines of the claims at the front that come right after this number of blocks, and gives
+/// the rest.
 fn push_claims<'a>(
     text: &mut Vec<u8>,
     claims: &'a [Claim],
     after: usize,
 ) -> Result<&'a [Claim], AllocError>
-    ensures { IfOk result (λ rest. IsPushed text.old.items text.new.items claims.now rest.now after) }
+    ensures { IfOk result
+        (λ rest. IsPushed text.old.items text.new.items claims.now rest.now after) }
 {
     let mut rest = claims;
     while let Some((first, others)) = rest.split_first() {
@@ -88,14 +90,17 @@ fn push_claims<'a>(
     Ok(rest)
 }
 
-/// The text of a report: a line for each block and each claim in the stream's order, and then the answer.
+/// The text of a report: a line for each block and each claim in the stream's order, and then the
+/// answer.
 ///
 /// # Errors
 ///
-/// Want of memory.
+/// Out of memory.
 pub fn report_text(alloc: Global, report: &Report<'_>) -> Result<Vec<u8>, AllocError>
     // Of a report whose claims stand in the stream's order.
-    ensures { IfOk result (λ text. AreInOrder 0 (vec_len report.now.verdicts) report.now.claims.items → text.items ≡ report_bytes (report_view report.now)) }
+    ensures { IfOk result (λ text. AreInOrder 0
+        (vec_len report.now.verdicts) report.now.claims.items
+        → text.items ≡ report_bytes (report_view report.now)) }
 {
     let mut text = Vec::new(alloc);
     let mut claims = push_claims(&mut text, &report.claims, 0)?;

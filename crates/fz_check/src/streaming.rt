@@ -52,26 +52,51 @@ pub fn check_stream_up_to<R: Read, W: Write>(
     completion: Completion,
 ) -> Result<Answer, CheckError>
     // A yes is a yes: what is accepted has solutions.
-    ensures accepted { IfOk result (λ a. (count : ℕ) → a ≡ Answer.Accepted count → HoldsOfStream (R.remaining reader.old) (R.remaining reader.new) (λ given. HasSolutions model.now given count)) }
+    ensures accepted { IfOk result (λ a. (count : ℕ) → a ≡ Answer.Accepted count
+        → HoldsOfStream (R.remaining reader.old) (R.remaining reader.new)
+        (λ given. HasSolutions model.now given count)) }
     // The writer got the report on all that the reader gave up to its end, and nothing else.
-    ensures report { IfOk result (λ a. HoldsOfStream (R.remaining reader.old) (R.remaining reader.new) (λ given. IsReportedTo completion model.now given (W.contents writer.old) (W.contents writer.new) (answer_view a))) }
-    // The model is refused only where its bytes are a text of no tree, or with the leftmost fault of its names.
-    ensures model { (e : SyntaxFault) → result ≡ Err (CheckError.Model e) → HasTextFault model.now e }
+    ensures report { IfOk result (λ a. HoldsOfStream (R.remaining reader.old)
+        (R.remaining reader.new) (λ given. IsReportedTo completion model.now given
+        (W.contents writer.old) (W.contents writer.new) (answer_view a))) }
+    // The model is refused only where its bytes are a text of no tree, or with the leftmost fault
+    // of its names.
+    ensures model { (e : SyntaxFault) → result ≡ Err (CheckError.Model e)
+        → HasTextFault model.now e }
     ensures names { (e : NameFault) → result ≡ Err (CheckError.Names e) → HasNameFault model.now e }
     // Then nothing is read, and nothing is written.
-    ensures model_first { IfErr result (λ e. IsOfModel e → IsUntouched (R.remaining reader.old) (R.remaining reader.new) (W.contents writer.old) (W.contents writer.new)) }
-    // After the other refusals the lines of all parts that ended before the fault were written, and nothing else.
-    ensures fault { (e : StreamFault) → result ≡ Err (CheckError.Stream e) → IsStreamFault e × (e ≢ OfMemory) }
-    ensures stream { (e : StreamFault) → result ≡ Err (CheckError.Stream e) → HoldsOfModel model.now (λ m. StopsAfterLines completion m (R.remaining reader.old) (R.remaining reader.new) (W.contents writer.old) (W.contents writer.new) (λ given parts. IsRefusedAfter (R.remaining reader.new) given parts e)) }
-    ensures block { (n : ℕ) (e : BlockFault) → result ≡ Err (CheckError.Block n e) → HoldsOfModel model.now (λ m. StopsAfterLines completion m (R.remaining reader.old) (R.remaining reader.new) (W.contents writer.old) (W.contents writer.new) (λ given parts. BlockIsRefused m (R.remaining reader.new) given parts n e)) }
-    ensures read { result ≡ Err CheckError.Read → HoldsOfModel model.now (λ m. StopsAfterLines completion m (R.remaining reader.old) (R.remaining reader.new) (W.contents writer.old) (W.contents writer.new) HasNoMore) }
-    // After a failed write a front of the lines for the bytes that were read was written, and nothing else.
-    ensures write { result ≡ Err CheckError.Write → HoldsOfModel model.now (λ m. WritesFrontOfLines completion m (R.remaining reader.old) (R.remaining reader.new) (W.contents writer.old) (W.contents writer.new)) }
-    ensures memory { result ≡ Err CheckError.Memory → IsUntouched (R.remaining reader.old) (R.remaining reader.new) (W.contents writer.old) (W.contents writer.new)
-        ⊎ HoldsOfModel model.now (λ m. WritesFrontOfLines completion m (R.remaining reader.old) (R.remaining reader.new) (W.contents writer.old) (W.contents writer.new)) }
-    // It reads at most so often, 4,096 bytes at most at a time, and before there is an answer one read finds the end.
+    ensures model_first { IfErr result (λ e. IsOfModel e
+        → IsUntouched (R.remaining reader.old) (R.remaining reader.new) (W.contents writer.old)
+        (W.contents writer.new)) }
+    // After the other refusals the lines of all parts that ended before the fault were written, and
+    // nothing else.
+    ensures fault { (e : StreamFault) → result ≡ Err (CheckError.Stream e)
+        → IsStreamFault e × (e ≢ OfMemory) }
+    ensures stream { (e : StreamFault) → result ≡ Err (CheckError.Stream e)
+        → HoldsOfModel model.now (λ m. StopsAfterLines completion m (R.remaining reader.old)
+        (R.remaining reader.new) (W.contents writer.old) (W.contents writer.new)
+        (λ given parts. IsRefusedAfter (R.remaining reader.new) given parts e)) }
+    ensures block { (n : ℕ) (e : BlockFault) → result ≡ Err (CheckError.Block n e)
+        → HoldsOfModel model.now (λ m. StopsAfterLines completion m (R.remaining reader.old)
+        (R.remaining reader.new) (W.contents writer.old) (W.contents writer.new)
+        (λ given parts. BlockIsRefused m (R.remaining reader.new) given parts n e)) }
+    ensures read { result ≡ Err CheckError.Read → HoldsOfModel model.now
+        (λ m. StopsAfterLines completion m (R.remaining reader.old) (R.remaining reader.new)
+        (W.contents writer.old) (W.contents writer.new) HasNoMore) }
+    // After a failed write a front of the lines for the bytes that were read was written, and
+    // nothing else.
+    ensures write { result ≡ Err CheckError.Write → HoldsOfModel model.now
+        (λ m. WritesFrontOfLines completion m (R.remaining reader.old) (R.remaining reader.new)
+        (W.contents writer.old) (W.contents writer.new)) }
+    ensures memory { result ≡ Err CheckError.Memory → IsUntouched (R.remaining reader.old)
+        (R.remaining reader.new) (W.contents writer.old) (W.contents writer.new)
+        ⊎ HoldsOfModel model.now (λ m. WritesFrontOfLines completion m (R.remaining reader.old)
+        (R.remaining reader.new) (W.contents writer.old) (W.contents writer.new)) }
+    // It reads at most so often, 4,096 bytes at most at a time, and before there is an answer one
+    // read finds the end.
     ensures reads { SpendsReads reads 0 (R.remaining reader.old) (R.remaining reader.new) }
-    ensures end_read { IfOk result (λ _. SpendsReads reads 1 (R.remaining reader.old) (R.remaining reader.new)) }
+    ensures end_read { IfOk result
+        (λ _. SpendsReads reads 1 (R.remaining reader.old) (R.remaining reader.new)) }
 {
     let loaded = match read_model(alloc, model) {
         Ok(loaded) => loaded,
@@ -86,35 +111,58 @@ pub fn check_stream_up_to<R: Read, W: Write>(
 /// The most reads of a stream.
 pub const MOST_READS: u64 = 4_294_967_296;
 
-/// Judges each block of the stream that a reader gives, and writes the lines of the report. Those of
-/// all that was read so far are written before the next read, and before any answer. At most 4,096
-/// bytes are read at a time, in at most 4,294,967,296 reads, and one block is held.
+/// Judges each block of the stream that a reader gives, and writes the lines of the report. Those
+/// of all that was read so far are written before the next read, and before any answer. At most
+/// 4,096 bytes are read at a time, in at most 4,294,967,296 reads, and one block is held.
 ///
 /// # Errors
 ///
-/// `Model` and `Names` as `check` has them, before anything is read or written. Then the first fault in the stream's order: `Stream` where
-/// the stream's bytes cannot go on, or are too many to be held, `Block` with the first fault of a block. `Read` where a read fails or there
-/// were as many as may be, `Write` where a write fails or takes nothing, and want of memory.
+/// `Model` and `Names` as `check` has them, before anything is read or written. Then the first
+/// fault in the stream's order: `Stream` where the stream's bytes cannot go on, or are too many to
+/// be held, `Block` with the first fault of a block. `Read` where a read fails or there were as
+/// many as may be, `Write` where a write fails or takes nothing, and `Memory` where memory runs
+/// out.
 pub fn check_stream<R: Read, W: Write>(
     alloc: Global,
     model: &[u8],
     reader: &mut R,
     writer: &mut W,
 ) -> Result<Answer, CheckError>
-    ensures accepted { IfOk result (λ a. (count : ℕ) → a ≡ Answer.Accepted count → HoldsOfStream (R.remaining reader.old) (R.remaining reader.new) (λ given. HasSolutions model.now given count)) }
-    ensures report { IfOk result (λ a. HoldsOfStream (R.remaining reader.old) (R.remaining reader.new) (λ given. IsReportedTo Completion.Off model.now given (W.contents writer.old) (W.contents writer.new) (answer_view a))) }
-    ensures model { (e : SyntaxFault) → result ≡ Err (CheckError.Model e) → HasTextFault model.now e }
+    ensures accepted { IfOk result (λ a. (count : ℕ) → a ≡ Answer.Accepted count
+        → HoldsOfStream (R.remaining reader.old) (R.remaining reader.new)
+        (λ given. HasSolutions model.now given count)) }
+    ensures report { IfOk result (λ a. HoldsOfStream (R.remaining reader.old)
+        (R.remaining reader.new) (λ given. IsReportedTo Completion.Off model.now given
+        (W.contents writer.old) (W.contents writer.new) (answer_view a))) }
+    ensures model { (e : SyntaxFault) → result ≡ Err (CheckError.Model e)
+        → HasTextFault model.now e }
     ensures names { (e : NameFault) → result ≡ Err (CheckError.Names e) → HasNameFault model.now e }
-    ensures model_first { IfErr result (λ e. IsOfModel e → IsUntouched (R.remaining reader.old) (R.remaining reader.new) (W.contents writer.old) (W.contents writer.new)) }
-    ensures fault { (e : StreamFault) → result ≡ Err (CheckError.Stream e) → IsStreamFault e × (e ≢ OfMemory) }
-    ensures stream { (e : StreamFault) → result ≡ Err (CheckError.Stream e) → HoldsOfModel model.now (λ m. StopsAfterLines Completion.Off m (R.remaining reader.old) (R.remaining reader.new) (W.contents writer.old) (W.contents writer.new) (λ given parts. IsRefusedAfter (R.remaining reader.new) given parts e)) }
-    ensures block { (n : ℕ) (e : BlockFault) → result ≡ Err (CheckError.Block n e) → HoldsOfModel model.now (λ m. StopsAfterLines Completion.Off m (R.remaining reader.old) (R.remaining reader.new) (W.contents writer.old) (W.contents writer.new) (λ given parts. BlockIsRefused m (R.remaining reader.new) given parts n e)) }
-    ensures read { result ≡ Err CheckError.Read → HoldsOfModel model.now (λ m. StopsAfterLines Completion.Off m (R.remaining reader.old) (R.remaining reader.new) (W.contents writer.old) (W.contents writer.new) HasNoMore) }
-    ensures write { result ≡ Err CheckError.Write → HoldsOfModel model.now (λ m. WritesFrontOfLines Completion.Off m (R.remaining reader.old) (R.remaining reader.new) (W.contents writer.old) (W.contents writer.new)) }
-    ensures memory { result ≡ Err CheckError.Memory → IsUntouched (R.remaining reader.old) (R.remaining reader.new) (W.contents writer.old) (W.contents writer.new)
-        ⊎ HoldsOfModel model.now (λ m. WritesFrontOfLines Completion.Off m (R.remaining reader.old) (R.remaining reader.new) (W.contents writer.old) (W.contents writer.new)) }
+    ensures model_first { IfErr result (λ e. IsOfModel e
+        → IsUntouched (R.remaining reader.old) (R.remaining reader.new) (W.contents writer.old)
+        (W.contents writer.new)) }
+    ensures fault { (e : StreamFault) → result ≡ Err (CheckError.Stream e)
+        → IsStreamFault e × (e ≢ OfMemory) }
+    ensures stream { (e : StreamFault) → result ≡ Err (CheckError.Stream e)
+        → HoldsOfModel model.now (λ m. StopsAfterLines Completion.Off m (R.remaining reader.old)
+        (R.remaining reader.new) (W.contents writer.old) (W.contents writer.new)
+        (λ given parts. IsRefusedAfter (R.remaining reader.new) given parts e)) }
+    ensures block { (n : ℕ) (e : BlockFault) → result ≡ Err (CheckError.Block n e)
+        → HoldsOfModel model.now (λ m. StopsAfterLines Completion.Off m (R.remaining reader.old)
+        (R.remaining reader.new) (W.contents writer.old) (W.contents writer.new)
+        (λ given parts. BlockIsRefused m (R.remaining reader.new) given parts n e)) }
+    ensures read { result ≡ Err CheckError.Read → HoldsOfModel model.now
+        (λ m. StopsAfterLines Completion.Off m (R.remaining reader.old) (R.remaining reader.new)
+        (W.contents writer.old) (W.contents writer.new) HasNoMore) }
+    ensures write { result ≡ Err CheckError.Write → HoldsOfModel model.now
+        (λ m. WritesFrontOfLines Completion.Off m (R.remaining reader.old) (R.remaining reader.new)
+        (W.contents writer.old) (W.contents writer.new)) }
+    ensures memory { result ≡ Err CheckError.Memory → IsUntouched (R.remaining reader.old)
+        (R.remaining reader.new) (W.contents writer.old) (W.contents writer.new)
+        ⊎ HoldsOfModel model.now (λ m. WritesFrontOfLines Completion.Off m (R.remaining reader.old)
+        (R.remaining reader.new) (W.contents writer.old) (W.contents writer.new)) }
     ensures reads { SpendsReads most_reads 0 (R.remaining reader.old) (R.remaining reader.new) }
-    ensures end_read { IfOk result (λ _. SpendsReads most_reads 1 (R.remaining reader.old) (R.remaining reader.new)) }
+    ensures end_read { IfOk result
+        (λ _. SpendsReads most_reads 1 (R.remaining reader.old) (R.remaining reader.new)) }
 {
     check_stream_up_to(alloc, model, reader, writer, MOST_READS, Completion::Off)
 }

@@ -69,7 +69,7 @@ const ROWS: &str = "
     array_var_set_element   (2,[{},s],{1,3})     (1,[{},s],{1,3})
 ";
 
-/// A line for each form with a truth value.
+/// A line for each reified form.
 const ROWS_WITH_TRUTH: &str = "
     int_eq_reif        (x,3,b)            (x,4,b)
     int_ne_reif        (x,4,b)            (x,3,b)

@@ -37,7 +37,8 @@ and_false : (b : Bool) → (b && false) ≡ false
 and_false true = refl
 and_false false = refl
 
-stands_behind : {A : Type 0} (xs : List A) (x : A) (ys : List A) → slice_get (xs ++ x ∷ ys) (length xs) ≡ Some x
+stands_behind : {A : Type 0} (xs : List A) (x : A) (ys : List A)
+    → slice_get (xs ++ x ∷ ys) (length xs) ≡ Some x
 stands_behind [] x ys = refl
 stands_behind (y ∷ xs) x ys = stands_behind xs x ys
 
@@ -53,7 +54,8 @@ module _ (all known : List Decl) (d : Decl) (k : List ℕ) (v : Value) (named : 
   parameter_is : declared_of all d ≡ Parameter d.name.text (place_of_declared all d)
   parameter_is = cond_false d.is_var _ _ fixed
 
-  pub adds_parameter : (vs : List Variable) (xs : List the_array.Array) → Adds all known d (k, declarations.Scalar (Fixed v)) vs [] xs [] []
+  pub adds_parameter : (vs : List Variable) (xs : List the_array.Array)
+      → Adds all known d (k, declarations.Scalar (Fixed v)) vs [] xs [] []
   adds_parameter vs xs = record {
     declared = λ ws ys. (λ i. Parameter (named i) (sym parameter_place i)) ∙ sym parameter_is;
     places = λ ws ys. (λ i. (named i, sym parameter_place i));
@@ -71,12 +73,15 @@ module _ (us : List Variable) (zs : List the_array.Array) (n : ℕ) where
   variable_points None e = refl
   variable_points (Some t) e = λ i. DomainPoint (variable_at us n) n ∷ definition_point us n (e i) ∷ []
 
-  variable_placed : (o : Option Term) → definition_at us n ≡ o → n < length us → AllByRecursion (IsPlaced us zs) (points.Domain n ∷ cond (is_some o) (points.Definition n ∷ []) [])
+  variable_placed : (o : Option Term) → definition_at us n ≡ o → n < length us
+      → AllByRecursion (IsPlaced us zs)
+      (points.Domain n ∷ cond (is_some o) (points.Definition n ∷ []) [])
   variable_placed None e lt = (lt, tt)
   variable_placed (Some t) e lt = (lt, ((lt, ap is_some e), tt))
 
 module _ (all known : List Decl) (d : Decl) (rest : List Decl) (split : all ≡ known ++ d ∷ rest) (new : declares known d.name.text ≡ false)
-    (k : List ℕ) (v : Variable) (named : k ≡ d.name.text) (scalar : is_scalar d ≡ true) (varies : d.is_var ≡ true) (view : variable_view v ≡ variable_declared d)
+    (k : List ℕ) (v : Variable) (named : k ≡ d.name.text) (scalar : is_scalar d ≡ true)
+    (varies : d.is_var ≡ true) (view : variable_view v ≡ variable_declared d)
     (definition : v.definition ≡ definition_of all d.value) (vs : List Variable) (count : length vs ≡ next_number known) (xs : List the_array.Array) where
   is_one : is_scalar_variable d ≡ true
   is_one = ap (λ b. b && is_scalar d) varies ∙ scalar
@@ -87,19 +92,23 @@ module _ (all known : List Decl) (d : Decl) (rest : List Decl) (split : all ≡ 
   variable_is : declared_of all d ≡ ScalarVariable (variable_declared d) (definition_of all d.value)
   variable_is = cond_true d.is_var _ _ varies ∙ cond_true (is_scalar d) _ _ scalar
 
-  variable_place : place_of_declared all d ≡ Scalar (kind_of_base d.base) (Var (number_of all d.name.text))
+  variable_place : place_of_declared all d
+      ≡ Scalar (kind_of_base d.base) (Var (number_of all d.name.text))
   variable_place = cond_true (is_scalar d) _ _ scalar ∙ ap (Scalar (kind_of_base d.base)) (cond_true d.is_var _ _ varies)
 
   at : (ws : List Variable) → slice_get (vs ++ v ∷ ws) (length vs) ≡ Some v
   at ws = stands_behind vs v ws
 
-  variable_there : (ws : List Variable) → variable_at (vs ++ v ∷ ws) (length vs) ≡ variable_declared d
+  variable_there : (ws : List Variable)
+      → variable_at (vs ++ v ∷ ws) (length vs) ≡ variable_declared d
   variable_there ws = ap (λ o. option_map_or variable_view o no_variable) (at ws) ∙ view
 
   definition_there : (ws : List Variable) → definition_at (vs ++ v ∷ ws) (length vs) ≡ v.definition
   definition_there ws = ap (λ o. option_map_or (λ (w : Variable). w.definition) o None) (at ws)
 
-  pub adds_variable : Adds all known d (k, declarations.Scalar (Var (length vs))) vs (v ∷ []) xs [] (points.Domain (length vs) ∷ cond (is_some v.definition) (points.Definition (length vs) ∷ []) [])
+  pub adds_variable : Adds all known d (k, declarations.Scalar (Var (length vs))) vs (v ∷ []) xs []
+      (points.Domain (length vs) ∷ cond (is_some v.definition)
+      (points.Definition (length vs) ∷ []) [])
   adds_variable = record {
     declared = λ ws ys. (λ i. ScalarVariable (variable_there ws i) ((definition_there ws ∙ definition) i)) ∙ sym variable_is;
     places = λ ws ys. (λ i. (named i, ((λ j. Scalar ((variable_there ws j).kind) (Var (number j))) ∙ sym variable_place) i));
@@ -113,27 +122,34 @@ module _ (all known : List Decl) (d : Decl) (rest : List Decl) (split : all ≡ 
 
 -- ---- an array
 
-bounded_points : (b : Bool) (m : ℕ) (x : List ℕ) (k : Kind) (dom : Domain) (ts : List Term) (p : Place)
+bounded_points : (b : Bool) (m : ℕ) (x : List ℕ) (k : Kind) (dom : Domain) (ts : List Term)
+    (p : Place)
     → cond (b && not (admits_all dom)) (ArrayPoint x dom ts ∷ []) [] ≡ declared_points (m, cond b (ArrayOfVariables x k dom ts) (Parameter x p))
 bounded_points false m x k dom ts p = refl
 bounded_points true m x k All ts p = refl
 bounded_points true m x k (Within lo hi) ts p = refl
 bounded_points true m x k (Among s) ts p = refl
 
-map_cond : {A B : Type 0} (f : A → B) (b : Bool) (x : A) → map f (cond b (x ∷ []) []) ≡ cond b (f x ∷ []) []
+map_cond : {A B : Type 0} (f : A → B) (b : Bool) (x : A)
+    → map f (cond b (x ∷ []) []) ≡ cond b (f x ∷ []) []
 map_cond f true x = refl
 map_cond f false x = refl
 
-all_cond : {A : Type 0} (P : A → Type 0) (b : Bool) (x : A) → P x → AllByRecursion P (cond b (x ∷ []) [])
+all_cond : {A : Type 0} (P : A → Type 0) (b : Bool) (x : A) → P x
+    → AllByRecursion P (cond b (x ∷ []) [])
 all_cond P true x h = (h, tt)
 all_cond P false x h = tt
 
 module _ (all known : List Decl) (d : Decl) (k : List ℕ) (x : the_array.Array) (named : k ≡ d.name.text) (list : is_scalar d ≡ false) (varies : x.is_variable ≡ d.is_var) (name : x.name.now ≡ d.name.text)
     (kind : x.kind ≡ kind_of_base d.base) (domain : x.domain ≡ domain_of d.base) (elements : elements_of x ≡ map (term_of all) (parts d.value)) (vs : List Variable) (xs : List the_array.Array) where
-  array_place : place_of_declared all d ≡ Array d.name.text (kind_of_base d.base) (map (term_of all) (parts d.value))
+  array_place : place_of_declared all d
+      ≡ Array d.name.text (kind_of_base d.base) (map (term_of all) (parts d.value))
   array_place = cond_false (is_scalar d) _ _ list
 
-  array_is : declared_of all d ≡ cond d.is_var (ArrayOfVariables d.name.text (kind_of_base d.base) (domain_of d.base) (map (term_of all) (parts d.value))) (Parameter d.name.text (Array d.name.text (kind_of_base d.base) (map (term_of all) (parts d.value))))
+  array_is : declared_of all d ≡ cond d.is_var (ArrayOfVariables d.name.text (kind_of_base d.base)
+      (domain_of d.base) (map (term_of all) (parts d.value)))
+      (Parameter d.name.text (Array d.name.text (kind_of_base d.base)
+      (map (term_of all) (parts d.value))))
   array_is = λ i. cond d.is_var (cond (list i) (ScalarVariable (variable_declared d) (definition_of all d.value)) (ArrayOfVariables d.name.text (kind_of_base d.base) (domain_of d.base) (map (term_of all) (parts d.value)))) (Parameter d.name.text (array_place i))
 
   declared_is : array_declared x ≡ declared_of all d
@@ -142,7 +158,8 @@ module _ (all known : List Decl) (d : Decl) (k : List ℕ) (x : the_array.Array)
   here : (ys : List the_array.Array) → slice_get (xs ++ x ∷ ys) (length xs) ≡ Some x
   here ys = stands_behind xs x ys
 
-  pub adds_array : Adds all known d (k, declarations.Array (length xs)) vs [] xs (x ∷ []) (cond (has_elements_point x) (points.Elements (length xs) ∷ []) [])
+  pub adds_array : Adds all known d (k, declarations.Array (length xs)) vs [] xs (x ∷ [])
+      (cond (has_elements_point x) (points.Elements (length xs) ∷ []) [])
   adds_array = record {
     declared = λ ws ys. ap (λ o. option_map_or array_declared o (Parameter k no_array)) (here ys) ∙ declared_is;
     places = λ ws ys. (λ i. (named i, (ap (λ o. option_map_or array_view o no_array) (here ys) ∙ (λ j. Array (name j) (kind j) (elements j)) ∙ sym array_place) i));

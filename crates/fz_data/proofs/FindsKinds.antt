@@ -7,9 +7,13 @@ use Rattle.fz_data.specs.Shown.{found_place}
 use Rattle.fz_data.specs.declared.found.Found.{Found}
 use Rattle.fz_data.specs.declared.model.Model.TheInside.{Inside}
 
-pub fits_found : (m : Inside) → IsLaidOut m → (model : Model) → model_view m ≡ model → (x : List ℕ) (p : Place) → Some p ≡ find_name model x → PlaceFits model p
+pub fits_found : (m : Inside) → IsLaidOut m → (model : Model) → model_view m ≡ model
+    → (x : List ℕ) (p : Place) → Some p ≡ find_name model x → PlaceFits model p
 fits_found m laid model view x p e = subst (λ k. find_name k x ≡ Some p → PlaceFits k p) view (laid.kinds x p) (sym e)
 
-pub fits_if_found : (m : Inside) → IsLaidOut m → (model : Model) → model_view m ≡ model → (x : List ℕ) (o : Option (Found × ℕ)) → option_map (λ f. found_place (variables_of model) f.0) o ≡ find_name model x → IfSome o (λ f. PlaceFits model (found_place (variables_of model) f.0))
+pub fits_if_found : (m : Inside) → IsLaidOut m → (model : Model) → model_view m ≡ model
+    → (x : List ℕ) (o : Option (Found × ℕ)) → option_map
+    (λ f. found_place (variables_of model) f.0) o ≡ find_name model x
+    → IfSome o (λ f. PlaceFits model (found_place (variables_of model) f.0))
 fits_if_found m laid model view x None e = tt
 fits_if_found m laid model view x (Some f) e = fits_found m laid model view x (found_place (variables_of model) f.0) e

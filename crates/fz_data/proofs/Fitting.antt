@@ -24,7 +24,8 @@ use Rattle.fz_data.specs.Slots.{slot_term, segment}
 use Rattle.fz_data.specs.Parts.{argument_view, place_view, array_view, no_array}
 use Rattle.fz_data.specs.Fitting.{is_of_kind, is_scalar_of, is_array_slot, is_array_of, slot_length, length_of, length_at, are_equally_long}
 
-list_all-same : {A : Type 0} (f g : A → Bool) → ((x : A) → f x ≡ g x) → (xs : List A) → list_all f xs ≡ list_all g xs
+list_all-same : {A : Type 0} (f g : A → Bool) → ((x : A) → f x ≡ g x) → (xs : List A)
+    → list_all f xs ≡ list_all g xs
 list_all-same f g same [] = refl
 list_all-same f g same (x ∷ xs) = λ i. same x i && list_all-same f g same xs i
 
@@ -40,7 +41,8 @@ and_false : (a : Bool) → (a && false) ≡ false
 and_false true = refl
 and_false false = refl
 
-counted : (o : Option Array) → option_map_or (λ (a : Array). length a.elements.slots.items) o 0 ≡ length (meaning.terms_at (option_map_or array_view o no_array))
+counted : (o : Option Array) → option_map_or (λ (a : Array). length a.elements.slots.items) o 0
+    ≡ length (meaning.terms_at (option_map_or array_view o no_array))
 counted None = refl
 counted (Some a) = sym (length-map a.elements.slots.items (slot_term a.elements.constants.items))
 
@@ -50,44 +52,53 @@ module _ (vs : List Variable) (xs : List Array) (st : Store) where
 
   -- ---- kinds
 
-  array_is_no_term : (k : Kind) (o : Option Array) → meaning.is_term_of k (option_map_or array_view o no_array) ≡ false
+  array_is_no_term : (k : Kind) (o : Option Array)
+      → meaning.is_term_of k (option_map_or array_view o no_array) ≡ false
   array_is_no_term k None = refl
   array_is_no_term k (Some a) = refl
 
-  term_of : (k : Kind) (s : Slot) → is_of_kind vs st.constants.items k s ≡ meaning.is_term_of k (view s)
+  term_of : (k : Kind) (s : Slot)
+      → is_of_kind vs st.constants.items k s ≡ meaning.is_term_of k (view s)
   term_of k (slots.Variable n) = refl
   term_of k (slots.Number i) = refl
   term_of k (slots.Truth b) = refl
   term_of k (slots.Constant c) = refl
   term_of k (slots.Array i) = sym (array_is_no_term k (slice_get xs i))
 
-  scalar_by_term : (k : Kind) (p : meaning.Place) → meaning.is_term_of k p ≡ meaning.has_shape (ScalarOf k) (meaning.Argument.One p)
+  scalar_by_term : (k : Kind) (p : meaning.Place)
+      → meaning.is_term_of k p ≡ meaning.has_shape (ScalarOf k) (meaning.Argument.One p)
   scalar_by_term k (meaning.Place.Scalar l t) = refl
   scalar_by_term k (meaning.Place.Array x l ts) = refl
 
-  pub scalar_of : (k : Kind) (a : Argument) → is_scalar_of vs st.constants.items k a ≡ meaning.has_shape (ScalarOf k) (argument_view vs xs st a)
+  pub scalar_of : (k : Kind) (a : Argument) → is_scalar_of vs st.constants.items k a
+      ≡ meaning.has_shape (ScalarOf k) (argument_view vs xs st a)
   scalar_of k (arguments.One s) = term_of k s ∙ scalar_by_term k (view s)
   scalar_of k (arguments.List g) = refl
 
-  has_kind : (k : Kind) (o : Option Array) → same_kind (option_map_or (λ (x : Array). x.kind) o IntKind) k ≡ meaning.has_shape (ArrayOf k) (meaning.Argument.One (option_map_or array_view o no_array))
+  has_kind : (k : Kind) (o : Option Array) → same_kind (option_map_or
+      (λ (x : Array). x.kind) o IntKind) k
+      ≡ meaning.has_shape (ArrayOf k) (meaning.Argument.One (option_map_or array_view o no_array))
   has_kind k None = refl
   has_kind k (Some a) = refl
 
-  array_slot : (k : Kind) (s : Slot) → is_array_slot xs k s ≡ meaning.has_shape (ArrayOf k) (meaning.Argument.One (view s))
+  array_slot : (k : Kind) (s : Slot)
+      → is_array_slot xs k s ≡ meaning.has_shape (ArrayOf k) (meaning.Argument.One (view s))
   array_slot k (slots.Variable n) = refl
   array_slot k (slots.Number i) = refl
   array_slot k (slots.Truth b) = refl
   array_slot k (slots.Constant c) = refl
   array_slot k (slots.Array i) = has_kind k (slice_get xs i)
 
-  pub array_of : (k : Kind) (a : Argument) → is_array_of vs xs st.constants.items st.slots.items k a ≡ meaning.has_shape (ArrayOf k) (argument_view vs xs st a)
+  pub array_of : (k : Kind) (a : Argument) → is_array_of vs xs st.constants.items st.slots.items k a
+      ≡ meaning.has_shape (ArrayOf k) (argument_view vs xs st a)
   array_of k (arguments.One s) = array_slot k s
   array_of k (arguments.List g) = list_all-same (is_of_kind vs st.constants.items k) (λ s. meaning.is_term_of k (view s)) (term_of k) (segment st.slots.items g) ∙ sym (list_all-map (meaning.is_term_of k) view (segment st.slots.items g))
 
   -- ---- lengths
 
   -- a list of scalars has as many as it has places
-  scalars_counted : (k : Kind) (ss : List Slot) → list_all (meaning.is_term_of k) (map view ss) ≡ true → length ss ≡ length (flat_map meaning.terms_at (map view ss))
+  scalars_counted : (k : Kind) (ss : List Slot) → list_all (meaning.is_term_of k) (map view ss)
+      ≡ true → length ss ≡ length (flat_map meaning.terms_at (map view ss))
   scalars_counted k [] h = refl
   scalars_counted k (slots.Variable n ∷ ss) h = ap suc (scalars_counted k ss (and_right (meaning.is_term_of k (view (slots.Variable n))) h))
   scalars_counted k (slots.Number i ∷ ss) h = ap suc (scalars_counted k ss (and_right (meaning.is_term_of k (view (slots.Number i))) h))
@@ -103,12 +114,14 @@ module _ (vs : List Variable) (xs : List Array) (st : Store) where
   slot_counted (slots.Array i) = counted (slice_get xs i)
 
   -- an argument that has a shape has the length that is counted
-  length_is : (s : Kinds) (a : Argument) → meaning.has_shape s (argument_view vs xs st a) ≡ true → length_of xs st.slots.items a ≡ length (meaning.terms_in (argument_view vs xs st a))
+  length_is : (s : Kinds) (a : Argument) → meaning.has_shape s (argument_view vs xs st a) ≡ true
+      → length_of xs st.slots.items a ≡ length (meaning.terms_in (argument_view vs xs st a))
   length_is s (arguments.One o) h = slot_counted o
   length_is (ArrayOf k) (arguments.List g) h = scalars_counted k (segment st.slots.items g) h
   length_is (ScalarOf k) (arguments.List g) h = absurd (false≢true h)
 
-  length_there : (ss : List Kinds) (as' : List Argument) (i : ℕ) → meaning.have_shapes ss (map (argument_view vs xs st) as') ≡ true
+  length_there : (ss : List Kinds) (as' : List Argument) (i : ℕ)
+      → meaning.have_shapes ss (map (argument_view vs xs st) as') ≡ true
       → length_at xs st.slots.items as' i ≡ meaning.length_at (map (argument_view vs xs st) as') i
   length_there ss [] i h = refl
   length_there [] (a ∷ as') i h = absurd (false≢true h)
@@ -116,7 +129,8 @@ module _ (vs : List Variable) (xs : List Array) (st : Store) where
   length_there (s ∷ ss) (a ∷ as') (suc i) h = length_there ss as' i (and_right (meaning.has_shape s (argument_view vs xs st a)) h)
 
   -- what has the row's shapes fits it where the arrays that belong together are equally long
-  pub equally_long_are : (ss : List Kinds) (is : List ℕ) (as' : List Argument) → meaning.have_shapes ss (map (argument_view vs xs st) as') ≡ true
+  pub equally_long_are : (ss : List Kinds) (is : List ℕ) (as' : List Argument)
+      → meaning.have_shapes ss (map (argument_view vs xs st) as') ≡ true
       → are_equally_long xs st.slots.items is as' ≡ meaning.equally_long is (map (argument_view vs xs st) as')
   equally_long_are ss [] as' h = refl
   equally_long_are ss (i ∷ is) as' h = λ k. list_all (λ j. length_there ss as' j h k == length_there ss as' i h k) is
@@ -127,7 +141,8 @@ module _ (vs : List Variable) (xs : List Array) (st : Store) where
   abbrev pub fit : List Shape → List Argument → Bool
   fit ss as' = meaning.have_shapes (map shape_of ss) (map (argument_view vs xs st) as')
 
-  pub fit_not_long : (ss : List Shape) (as' : List Argument) → length ss ≢ length as' → false ≡ fit ss as'
+  pub fit_not_long : (ss : List Shape) (as' : List Argument) → length ss ≢ length as'
+      → false ≡ fit ss as'
   fit_not_long [] [] h = absurd (h refl)
   fit_not_long [] (a ∷ as') h = refl
   fit_not_long (s ∷ ss) [] h = refl
@@ -137,7 +152,8 @@ module _ (vs : List Variable) (xs : List Array) (st : Store) where
   module _ (ss : List Shape) (as' : List Argument) (k : ℕ) where
     module _ (s : Shape) (a : Argument) (lt : k < length ss) (lt' : k < length as') (at : s ≡ get_or ss k s) (at' : a ≡ get_or as' k a)
         (left : fit ss as' ≡ fit (drop k ss) (drop k as')) (b : Bool) (is : b ≡ meaning.has_shape (shape_of s) (argument_view vs xs st a)) where
-      fit_next : fit ss as' ≡ (meaning.has_shape (shape_of s) (argument_view vs xs st a) && fit (drop (k + 1) ss) (drop (k + 1) as'))
+      fit_next : fit ss as' ≡ (meaning.has_shape (shape_of s) (argument_view vs xs st a)
+          && fit (drop (k + 1) ss) (drop (k + 1) as'))
       fit_next =
           left ∙ at_drop_more (λ zs. fit zs (drop k as')) ss k s lt ∙ at_drop_more (λ zs. fit (get_or ss k s ∷ drop (k + 1) ss) zs) as' k a lt'
           ∙ ap (λ z. fit (z ∷ drop (k + 1) ss) (get_or as' k a ∷ drop (k + 1) as')) (sym at) ∙ ap (λ z. fit (s ∷ drop (k + 1) ss) (z ∷ drop (k + 1) as')) (sym at')
@@ -148,6 +164,7 @@ module _ (vs : List Variable) (xs : List Array) (st : Store) where
       pub fit_more : b ≡ true → fit ss as' ≡ fit (drop (k + 1) ss) (drop (k + 1) as')
       fit_more e = fit_next ∙ ap (λ c. c && fit (drop (k + 1) ss) (drop (k + 1) as')) (sym is ∙ e)
 
-    pub fit_all : length ss ≡ length as' → k ≡ min (length ss) (length as') → fit ss as' ≡ fit (drop k ss) (drop k as') → true ≡ fit ss as'
+    pub fit_all : length ss ≡ length as' → k ≡ min (length ss) (length as')
+        → fit ss as' ≡ fit (drop k ss) (drop k as') → true ≡ fit ss as'
     fit_all n e left =
         sym (left ∙ at_drop_all (λ zs. fit zs (drop k as')) ss k (omega arith) ∙ at_drop_all (λ zs. fit [] zs) as' k (omega arith))

@@ -8,6 +8,7 @@ use Rattle.fz_data.specs.Slots.{is_scalar}
 both_true : (a b : Bool) → a ≡ true → b ≡ true → (a && b) ≡ true
 both_true a b e d = λ i. e i && d i
 
-pub one_flat : (old new : List Slot) (s : Slot) → new ≡ old ++ s ∷ [] → list_all is_scalar old ≡ true → is_scalar s ≡ true → list_all is_scalar new ≡ true
+pub one_flat : (old new : List Slot) (s : Slot) → new ≡ old ++ s ∷ []
+    → list_all is_scalar old ≡ true → is_scalar s ≡ true → list_all is_scalar new ≡ true
 one_flat old new s pushed h one =
     ap (list_all is_scalar) pushed ∙ list_all-append is_scalar old (s ∷ []) ∙ both_true _ _ h (both_true (is_scalar s) true one refl)

@@ -24,7 +24,8 @@ grown_none xs = ([], sym (append-nil xs))
 pub grown_more : {A : Type 0} (xs ys zs : List A) → IsGrown xs ys → IsGrown ys zs → IsGrown xs zs
 grown_more xs ys zs (more, e) (further, d) = (more ++ further, d ∙ ap (λ ws. ws ++ further) e ∙ append_assoc xs more further)
 
-pub grown_one : {A : Type 0} (xs ys zs : List A) (z : A) → IsGrown xs ys → zs ≡ ys ++ z ∷ [] → IsGrown xs zs
+pub grown_one : {A : Type 0} (xs ys zs : List A) (z : A) → IsGrown xs ys → zs ≡ ys ++ z ∷ []
+    → IsGrown xs zs
 grown_one xs ys zs z g e = grown_more xs ys zs g (z ∷ [], e)
 
 -- ---- the lists of a store
@@ -40,7 +41,9 @@ longer_more a b c g h = record {
 }
 
 -- one more argument behind
-pub argument_pushed : (before after : Store) (a : Argument) → after.arguments.items ≡ before.arguments.items ++ a ∷ [] → after.slots ≡ before.slots → after.constants ≡ before.constants → IsLonger before after
+pub argument_pushed : (before after : Store) (a : Argument)
+    → after.arguments.items ≡ before.arguments.items ++ a ∷ [] → after.slots ≡ before.slots
+    → after.constants ≡ before.constants → IsLonger before after
 argument_pushed before after a pushed slots constants = record {
   arguments = (a ∷ [], pushed);
   slots = ([], ap (λ v. v.items) slots ∙ sym (append-nil before.slots.items));
@@ -49,7 +52,8 @@ argument_pushed before after a pushed slots constants = record {
 
 -- ---- what a slot stands for
 
-pub scalar_is : (vs : List Variable) (xs : List Array) (cs : List Value) (s : Slot) → is_scalar s ≡ true → place_view vs xs cs s ≡ scalar_view vs (slot_term cs s)
+pub scalar_is : (vs : List Variable) (xs : List Array) (cs : List Value) (s : Slot)
+    → is_scalar s ≡ true → place_view vs xs cs s ≡ scalar_view vs (slot_term cs s)
 scalar_is vs xs cs (slots.Variable n) h = refl
 scalar_is vs xs cs (slots.Number i) h = refl
 scalar_is vs xs cs (slots.Truth b) h = refl
@@ -57,12 +61,16 @@ scalar_is vs xs cs (slots.Constant k) h = refl
 scalar_is vs xs cs (slots.Array i) h = absurd (false≢true h)
 
 -- a slot of a scalar stands for it, whatever more constants come
-pub slot_is : (vs : List Variable) (xs : List Array) (cs : List Value) (t : Term) (s : Slot) → IsSlotOf cs t s → (later : List Value) → IsGrown cs later → place_view vs xs later s ≡ scalar_view vs t
+pub slot_is : (vs : List Variable) (xs : List Array) (cs : List Value) (t : Term) (s : Slot)
+    → IsSlotOf cs t s → (later : List Value) → IsGrown cs later
+    → place_view vs xs later s ≡ scalar_view vs t
 slot_is vs xs cs t s h later g = scalar_is vs xs later s h.scalar ∙ ap (scalar_view vs) (h.stands later g)
 
 -- ---- items that stand behind others
 
-taken_behind : {A : Type 0} (old behind new : List A) (first n : ℕ) → new ≡ old ++ behind → first ≡ length old → n ≡ length behind → (later : List A) → IsGrown new later → take n (drop first later) ≡ behind
+taken_behind : {A : Type 0} (old behind new : List A) (first n : ℕ) → new ≡ old ++ behind
+    → first ≡ length old → n ≡ length behind → (later : List A) → IsGrown new later
+    → take n (drop first later) ≡ behind
 taken_behind old behind new first n grown from long later (more, e) =
     (λ i. take (long i) (drop (from i) later))
     ∙ ap (λ zs. take (length behind) (drop (length old) zs)) (e ∙ ap (λ ws. ws ++ more) grown ∙ append_assoc old behind more)
@@ -77,7 +85,9 @@ module _ {E A V : Type 0} (Later : E → E → Type 0) (view : E → A → V) wh
   pub none_read : (e : E) (items : List A) → items ≡ [] → AllRead e items []
   none_read e items none later h = ap (map (view later)) none
 
-  pub next_read : {P Q : Type 0} (want : Q → V) (located : P → Q) (ps : List P) (k : ℕ) (p : P) (e f : E) (old new : List A) (a : A) → k < length ps → p ≡ get_or ps k p → ((g : E) → Later f g → Later e g) → new ≡ old ++ a ∷ []
+  pub next_read : {P Q : Type 0} (want : Q → V) (located : P → Q) (ps : List P) (k : ℕ) (p : P)
+      (e f : E) (old new : List A) (a : A) → k < length ps → p ≡ get_or ps k p
+      → ((g : E) → Later f g → Later e g) → new ≡ old ++ a ∷ []
       → ((later : E) → Later f later → view later a ≡ want (located p)) → AllRead e old (map want (map located (take k ps))) → AllRead f new (map want (map located (take (k + 1) ps)))
   next_read want located ps k p e f old new a lt at on pushed is all later h =
       ap (map (view later)) pushed ∙ map-append (view later) old (a ∷ []) ∙ (λ i. all later (on later h) i ++ is later h i ∷ []) ∙ sym (two_more want located ps k p lt at)
@@ -92,10 +102,13 @@ module _ {E A V : Type 0} (Later : E → E → Type 0) (view : E → A → V) wh
   none_so_far e old = record { behind = []; grown = sym (append-nil old); reads = λ later h. refl }
 
   -- what stands behind the old ones is told by a later state too
-  pub still_so_far : (e f : E) (old new : List A) (xs : List V) → ((g : E) → Later f g → Later e g) → SoFar e old new xs → SoFar f old new xs
+  pub still_so_far : (e f : E) (old new : List A) (xs : List V) → ((g : E) → Later f g → Later e g)
+      → SoFar e old new xs → SoFar f old new xs
   still_so_far e f old new xs on s = record { behind = s.behind; grown = s.grown; reads = λ later h. s.reads later (on later h) }
 
-  one_so_far : (e : E) (old new newer : List A) (xs : List V) (a : A) (x : V) → newer ≡ new ++ a ∷ [] → ((later : E) → Later e later → view later a ≡ x) → SoFar e old new xs → SoFar e old newer (xs ++ x ∷ [])
+  one_so_far : (e : E) (old new newer : List A) (xs : List V) (a : A) (x : V)
+      → newer ≡ new ++ a ∷ [] → ((later : E) → Later e later → view later a ≡ x)
+      → SoFar e old new xs → SoFar e old newer (xs ++ x ∷ [])
   one_so_far e old new newer xs a x pushed is s = record {
     behind = s.behind ++ a ∷ [];
     grown = pushed ∙ ap (λ ws. ws ++ a ∷ []) s.grown ∙ append_assoc old s.behind (a ∷ []);
@@ -103,14 +116,18 @@ module _ {E A V : Type 0} (Later : E → E → Type 0) (view : E → A → V) wh
   }
 
   -- one more item of a list that is gone through
-  pub next_so_far : {P Q : Type 0} (want : Q → V) (located : P → Q) (ps : List P) (k : ℕ) (p : P) (e f : E) (old new newer : List A) (a : A) → k < length ps → p ≡ get_or ps k p → ((g : E) → Later f g → Later e g)
+  pub next_so_far : {P Q : Type 0} (want : Q → V) (located : P → Q) (ps : List P) (k : ℕ) (p : P)
+      (e f : E) (old new newer : List A) (a : A) → k < length ps → p ≡ get_or ps k p
+      → ((g : E) → Later f g → Later e g)
       → newer ≡ new ++ a ∷ [] → ((later : E) → Later f later → view later a ≡ want (located p)) → SoFar e old new (map want (map located (take k ps))) → SoFar f old newer (map want (map located (take (k + 1) ps)))
   next_so_far want located ps k p e f old new newer a lt at on pushed is s =
       subst (SoFar f old newer) (sym (two_more want located ps k p lt at))
       (one_so_far f old new newer (map want (map located (take k ps))) a (want (located p)) pushed is (still_so_far e f old new _ on s))
 
   -- the segment behind the old items
-  pub segment_is : (e : E) (old new : List A) (xs : List V) (first n : ℕ) → first ≡ length old → n ≡ length xs → SoFar e old new xs → Later e e → (later : E) → Later e later → (items : List A) → IsGrown new items → map (view later) (take n (drop first items)) ≡ xs
+  pub segment_is : (e : E) (old new : List A) (xs : List V) (first n : ℕ) → first ≡ length old
+      → n ≡ length xs → SoFar e old new xs → Later e e → (later : E) → Later e later
+      → (items : List A) → IsGrown new items → map (view later) (take n (drop first items)) ≡ xs
   segment_is e old new xs first n from many s self later h items g =
       let long : length s.behind ≡ length xs = sym (length-map s.behind (view e)) ∙ ap length (s.reads e self) in
       ap (map (view later)) (taken_behind old s.behind new first n s.grown from (many ∙ sym long) items g) ∙ s.reads later h

@@ -1,4 +1,5 @@
--- What the scope says of a name, of a part, of an argument and of a constraint is what the declarations that were read say.
+-- What the scope says of a name, of a part, of an argument and of a constraint is what the
+-- declarations that were read say.
 use Rattle.std.proofs.Common.{◌≡◌, ℕ, Bool, true, false, cond, ◌&&◌, ◌||◌, List, [], ◌∷◌, ◌++◌, map, Option, Some, None, option_map, is_some, refl, sym, ap, ◌∙◌, bytes_eq, find, codes}
 use Rattle.std.specs.List.{list_any}
 use Rattle.std.specs.Option.{option_map_or, option_or}
@@ -38,7 +39,8 @@ use Rattle.fz_data.specs.Stands.{Stands, entry_place, declared_pair}
 
 -- ---- names
 
-first_pair : (all ds : List Decl) (x : List ℕ) → first_some (by_name x) (map (declared_pair all) ds) ≡ option_map (place_of_declared all) (find (named_as x) ds)
+first_pair : (all ds : List Decl) (x : List ℕ) → first_some (by_name x) (map (declared_pair all) ds)
+    ≡ option_map (place_of_declared all) (find (named_as x) ds)
 first_pair all [] x = refl
 first_pair all (d ∷ ds) x = ap (option_or (cond (bytes_eq d.name.text x) (Some (place_of_declared all d)) None)) (first_pair all ds x) ∙ or_else (place_of_declared all) (named_as x d) d (find (named_as x) ds)
 
@@ -50,17 +52,20 @@ some_found : (t : Decl → Bool) (ds : List Decl) → is_some (find t ds) ≡ li
 some_found t [] = refl
 some_found t (d ∷ ds) = elim (t d) as (λ b. is_some (cond b (Some d) (find t ds)) ≡ (b || list_any t ds)) [ true ↦ refl | false ↦ some_found t ds ]
 
-fault_by_place : (ds : List Decl) (wanted : Option Kind) (o : Option Decl) (at : Span) → named_fault wanted o at ≡ place_fault wanted (option_map (place_of_declared ds) o) at
+fault_by_place : (ds : List Decl) (wanted : Option Kind) (o : Option Decl) (at : Span)
+    → named_fault wanted o at ≡ place_fault wanted (option_map (place_of_declared ds) o) at
 fault_by_place ds None None at = refl
 fault_by_place ds (Some k) None at = refl
 fault_by_place ds None (Some d) at = refl
 fault_by_place ds (Some k) (Some d) at = ap (λ b. cond b None (Some (WrongKind, at))) (term_or_array ds k d)
 
-place_or : (f : Decl → Place) (x : List ℕ) (o : Option Decl) → place_at x (option_map f o) ≡ option_map_or f o (Array x IntKind [])
+place_or : (f : Decl → Place) (x : List ℕ) (o : Option Decl)
+    → place_at x (option_map f o) ≡ option_map_or f o (Array x IntKind [])
 place_or f x None = refl
 place_or f x (Some d) = refl
 
-variable_by : (all : List Decl) (o : Option Decl) → variable_by_place (option_map (place_of_declared all) o) ≡ variable_number all o
+variable_by : (all : List Decl) (o : Option Decl)
+    → variable_by_place (option_map (place_of_declared all) o) ≡ variable_number all o
 variable_by all None = refl
 variable_by all (Some d) =
     elim d.is_var as (λ b. variable_by_place (Some (cond (is_scalar d) (Scalar (kind_of_base d.base) (cond b (Var (number_of all d.name.text)) (Fixed (literal_of d.value)))) (Array d.name.text (kind_of_base d.base) (map (term_of all) (parts d.value))))) ≡ cond (b && is_scalar d) (Some (number_of all d.name.text)) None) [
@@ -68,7 +73,8 @@ variable_by all (Some d) =
       | false ↦ elim (is_scalar d) as (λ c. variable_by_place (Some (cond c (Scalar (kind_of_base d.base) (Fixed (literal_of d.value))) (Array d.name.text (kind_of_base d.base) (map (term_of all) (parts d.value))))) ≡ None) [ true ↦ refl | false ↦ refl ]
     ]
 
-same_map : {A B : Type 0} (f g : A → B) → ((x : A) → f x ≡ g x) → (xs : List A) → map f xs ≡ map g xs
+same_map : {A B : Type 0} (f g : A → B) → ((x : A) → f x ≡ g x) → (xs : List A)
+    → map f xs ≡ map g xs
 same_map f g same [] = refl
 same_map f g same (x ∷ xs) = λ i. same x i ∷ same_map f g same xs i
 
@@ -77,7 +83,8 @@ no_answer true = refl
 no_answer false = refl
 
 module _ (all known : List Decl) (s : Scope) (st : Stands all known s.names s.variables.items s.arrays.items s.points.items) where
-  places_now : map (entry_place s.variables.items s.arrays.items) s.names ≡ map (declared_pair all) known
+  places_now : map (entry_place s.variables.items s.arrays.items) s.names
+      ≡ map (declared_pair all) known
   places_now = (λ i. map (entry_place (sym (append-nil s.variables.items) i) (sym (append-nil s.arrays.items) i)) s.names) ∙ st.places [] []
 
   pub knows : (x : List ℕ) → place_in s x ≡ option_map (place_of_declared all) (declaration known x)
@@ -93,7 +100,8 @@ module _ (all known : List Decl) (s : Scope) (st : Stands all known s.names s.va
   fault_same wanted (Lit l) = refl
   fault_same wanted (Named x) = ap (λ o. place_fault wanted o x.span) (knows x.text) ∙ sym (fault_by_place all wanted (declaration known x.text) x.span)
 
-  pub faults_same : (wanted : Option Kind) (bs : List Basic) → faults_in s wanted bs ≡ parts_fault known wanted bs
+  pub faults_same : (wanted : Option Kind) (bs : List Basic)
+      → faults_in s wanted bs ≡ parts_fault known wanted bs
   faults_same wanted bs = first_some-same (fault_in s wanted) (part_fault known wanted) (fault_same wanted) bs
 
   pub decl_same : (d : Decl) → decl_fault_in s d ≡ decl_fault known d
@@ -105,10 +113,12 @@ module _ (all known : List Decl) (s : Scope) (st : Stands all known s.names s.va
   -- ---- terms
 
   module _ (rest : List Decl) (split : all ≡ known ++ rest) where
-    found_in_all : (x : List ℕ) (d : Decl) → declaration known x ≡ Some d → declaration all x ≡ Some d
+    found_in_all : (x : List ℕ) (d : Decl) → declaration known x ≡ Some d
+        → declaration all x ≡ Some d
     found_in_all x d e = ap (λ ds. declaration ds x) split ∙ found_stays known rest x d e
 
-    term_same : (k : Kind) (b : Basic) → part_fault known (Some k) b ≡ None → term_in s b ≡ term_of all b
+    term_same : (k : Kind) (b : Basic) → part_fault known (Some k) b ≡ None
+        → term_in s b ≡ term_of all b
     term_same k (Lit l) e = refl
     term_same k (Named x) e =
         let (d, found, is) = clean_name k (declaration known x.text) x.span e in
@@ -117,14 +127,16 @@ module _ (all known : List Decl) (s : Scope) (st : Stands all known s.names s.va
         ∙ ap (λ b. term_at (Some (cond b (Scalar (kind_of_base d.base) (scalar_term all d)) (Array d.name.text (kind_of_base d.base) (map (term_of all) (parts d.value)))))) scalar
         ∙ sym (term_found all x d (found_in_all x.text d found))
 
-    pub terms_same : (k : Kind) (bs : List Basic) → parts_fault known (Some k) bs ≡ None → map (term_in s) bs ≡ map (term_of all) bs
+    pub terms_same : (k : Kind) (bs : List Basic) → parts_fault known (Some k) bs ≡ None
+        → map (term_in s) bs ≡ map (term_of all) bs
     terms_same k [] e = refl
     terms_same k (b ∷ bs) e =
         let here : term_in s b ≡ term_of all b = term_same k b (first_none (part_fault known (Some k) b) (parts_fault known (Some k) bs) e) in
         let later : map (term_in s) bs ≡ map (term_of all) bs = terms_same k bs (second_none (part_fault known (Some k) b) (parts_fault known (Some k) bs) e) in
         λ i. here i ∷ later i
 
-    pub definition_same : (k : Kind) (v : Option Expr) → parts_fault known (Some k) (parts v) ≡ None → definition_in s v ≡ definition_of all v
+    pub definition_same : (k : Kind) (v : Option Expr) → parts_fault known (Some k) (parts v) ≡ None
+        → definition_in s v ≡ definition_of all v
     definition_same k None e = refl
     definition_same k (Some (Several bs)) e = refl
     definition_same k (Some (One b)) e = ap Some (term_same k b (first_none (part_fault known (Some k) b) None e))
@@ -154,7 +166,9 @@ module _ (all : List Decl) (s : Scope) (st : Stands all all s.names s.variables.
   defined_same (Called n (MoreArgs (ListOf bs) (MoreArgs b rest))) = no_answer (bytes_eq n (codes "defines_var"))
   defined_same (Called n (MoreArgs (OneBasic a) (MoreArgs b rest))) = other_two a
     where
-      other_two : (a : NoteBasic) → defined_in s (Called n (MoreArgs (OneBasic a) (MoreArgs b rest))) ≡ defined_by all (Called n (MoreArgs (OneBasic a) (MoreArgs b rest)))
+      other_two : (a : NoteBasic) → defined_in s (Called n
+          (MoreArgs (OneBasic a) (MoreArgs b rest)))
+          ≡ defined_by all (Called n (MoreArgs (OneBasic a) (MoreArgs b rest)))
       other_two (NoteLiteral l) = no_answer (bytes_eq n (codes "defines_var"))
       other_two (NoteFloat t) = no_answer (bytes_eq n (codes "defines_var"))
       other_two (NoteString t) = no_answer (bytes_eq n (codes "defines_var"))

@@ -42,7 +42,8 @@ own_name all d =
       | true ↦ elim (is_scalar d) as (λ c. name_of (cond c (ScalarVariable (variable_declared d) (definition_of all d.value)) (ArrayOfVariables d.name.text (kind_of_base d.base) (domain_of d.base) (map (term_of all) (parts d.value)))) ≡ d.name.text) [ true ↦ refl | false ↦ refl ]
     ]
 
-named_pairs : (all before ds : List Decl) → before ++ ds ≡ all → AreNew before ds → map named_place (numbered_after all before ds) ≡ map (declared_pair all) ds
+named_pairs : (all before ds : List Decl) → before ++ ds ≡ all → AreNew before ds
+    → map named_place (numbered_after all before ds) ≡ map (declared_pair all) ds
 named_pairs all before [] e new = refl
 named_pairs all before (d ∷ ds) e new =
     let place : place_named (next_number before) (declared_of all d) ≡ place_of_declared all d =
@@ -53,13 +54,16 @@ named_pairs all before (d ∷ ds) e new =
 -- ---- the scope by itself
 
 module _ (all : List Decl) (s : Scope) (st : StandsFor all all s) where
-  declared_now : map (entry_view s.variables.items s.arrays.items) s.names ≡ map (declared_of all) all
+  declared_now : map (entry_view s.variables.items s.arrays.items) s.names
+      ≡ map (declared_of all) all
   declared_now = (λ i. map (entry_view (sym (append-nil s.variables.items) i) (sym (append-nil s.arrays.items) i)) s.names) ∙ st.declared [] []
 
-  pairs_now : map (entry_place s.variables.items s.arrays.items) s.names ≡ map (declared_pair all) all
+  pairs_now : map (entry_place s.variables.items s.arrays.items) s.names
+      ≡ map (declared_pair all) all
   pairs_now = (λ i. map (entry_place (sym (append-nil s.variables.items) i) (sym (append-nil s.arrays.items) i)) s.names) ∙ st.places [] []
 
-  points_now : map (declared_point s.variables.items s.arrays.items) s.points.items ≡ flat_map declared_points (numbered_from 0 (map (declared_of all) all))
+  points_now : map (declared_point s.variables.items s.arrays.items) s.points.items
+      ≡ flat_map declared_points (numbered_from 0 (map (declared_of all) all))
   points_now = (λ i. map (declared_point (sym (append-nil s.variables.items) i) (sym (append-nil s.arrays.items) i)) s.points.items) ∙ st.points [] []
 
   placed_now : AllByRecursion (IsPlaced s.variables.items s.arrays.items) s.points.items
@@ -73,7 +77,8 @@ module _ (all : List Decl) (s : Scope) (st : StandsFor all all s) where
 -- ---- the whole
 
 module _ (t : LocatedTree) (s : Scope) (held : Store) (cs : Vec the_posted.Posted Global) (g : the_goal.Goal) (st : StandsFor t.decls t.decls s) (clean : decls_fault [] t.decls ≡ None)
-    (posted : map (posted_view s.variables.items s.arrays.items held) cs.items ≡ map (posted_in s) t.constraints)
+    (posted : map (posted_view s.variables.items s.arrays.items held) cs.items
+    ≡ map (posted_in s) t.constraints)
     (sound : faults_in s (Some IntKind) (goal_parts t.solve.goal) ≡ None) (aim : goal_view g ≡ aim_in s t.solve.goal) where
   abbrev pub fields : Inside
   fields = record { names = s.names; variables = s.variables; arrays = s.arrays; points = s.points; constraints = cs; goal = g; store = held }
@@ -84,7 +89,8 @@ module _ (t : LocatedTree) (s : Scope) (held : Store) (cs : Vec the_posted.Poste
   aim_is : goal_view g ≡ aim_of t.decls t.solve.goal
   aim_is = aim ∙ aim_same t.decls t.decls s st [] (sym (append-nil t.decls)) t.solve.goal (sym (faults_same t.decls t.decls s st (Some IntKind) (goal_parts t.solve.goal)) ∙ sound)
 
-  posted_is : map (posted_view s.variables.items s.arrays.items held) cs.items ≡ map (posted_of t.decls) t.constraints
+  posted_is : map (posted_view s.variables.items s.arrays.items held) cs.items
+      ≡ map (posted_of t.decls) t.constraints
   posted_is = posted ∙ all_posted_same t.decls s st new t.constraints
 
   pub model_is : model_view fields ≡ model_of t
@@ -93,7 +99,8 @@ module _ (t : LocatedTree) (s : Scope) (held : Store) (cs : Vec the_posted.Poste
   own : AllByRecursion HasOwnKind t.decls
   own = own_kinds t.decls s.variables.items s.arrays.items s.names t.decls (pairs_now t.decls s st)
 
-  pub laid_out : map kept_row cs.items ≡ map row_of (map (posted_in s) t.constraints) → IsLaidOut fields
+  pub laid_out : map kept_row cs.items ≡ map row_of (map (posted_in s) t.constraints)
+      → IsLaidOut fields
   laid_out rows = record {
     variables = ap (flat_map variable_of) (declared_now t.decls s st) ∙ variables_known t.decls t.decls ∙ sym st.variables;
     places = ap (λ qs. map named_place (numbered_from 0 qs)) (declared_now t.decls s st) ∙ ap (map named_place) (numbered_is t) ∙ named_pairs t.decls [] t.decls refl new ∙ sym (pairs_now t.decls s st);
@@ -114,7 +121,8 @@ tells_fault t (errors.Kind at) h = (scanned t).tells _ at h
 tells_fault t (errors.Length at) h = (scanned t).tells _ at h
 tells_fault t errors.Memory h = tt
 
-pub tells_first : (t : LocatedTree) (e : ModelError) → FirstFaultIsLeftmost → IsInReadingOrder t → Tells e (first_fault t) → TellsFirstFault t e
+pub tells_first : (t : LocatedTree) (e : ModelError) → FirstFaultIsLeftmost → IsInReadingOrder t
+    → Tells e (first_fault t) → TellsFirstFault t e
 tells_first t (errors.DuplicateName at) law order h = law t order _ at h
 tells_first t (errors.UnknownName at) law order h = law t order _ at h
 tells_first t (errors.Kind at) law order h = law t order _ at h
@@ -124,20 +132,24 @@ tells_first t errors.Memory law order h = tt
 -- ---- the faults behind the declarations
 
 module _ (t : LocatedTree) (s : Scope) (st : StandsFor t.decls t.decls s) (clean : decls_fault [] t.decls ≡ None) where
-  constraints_same : first_some (constraint_fault_in s) t.constraints ≡ constraints_fault t.decls t.constraints
+  constraints_same : first_some (constraint_fault_in s) t.constraints
+      ≡ constraints_fault t.decls t.constraints
   constraints_same = first_some-same (constraint_fault_in s) (constraint_fault t.decls) (constraint_same t.decls t.decls s st) t.constraints
 
   goal_same : faults_in s (Some IntKind) (goal_parts t.solve.goal) ≡ goal_fault t.decls t.solve.goal
   goal_same = faults_same t.decls t.decls s st (Some IntKind) (goal_parts t.solve.goal)
 
-  pub told_in_constraints : (e : ModelError) → Tells e (first_some (constraint_fault_in s) t.constraints) → Tells e (first_fault t)
+  pub told_in_constraints : (e : ModelError)
+      → Tells e (first_some (constraint_fault_in s) t.constraints) → Tells e (first_fault t)
   told_in_constraints e h = tells_further e _ (first_fault t) (λ y here. in_constraints t y clean (sym constraints_same ∙ here)) h
 
   module _ (known : first_some (constraint_fault_in s) t.constraints ≡ None) where
-    pub told_in_goal : (e : ModelError) → Tells e (faults_in s (Some IntKind) (goal_parts t.solve.goal)) → Tells e (first_fault t)
+    pub told_in_goal : (e : ModelError)
+        → Tells e (faults_in s (Some IntKind) (goal_parts t.solve.goal)) → Tells e (first_fault t)
     told_in_goal e h = tells_further e _ (first_fault t) (λ y here. in_goal t y clean (sym constraints_same ∙ known) (sym goal_same ∙ here)) h
 
-    pub none_anywhere : faults_in s (Some IntKind) (goal_parts t.solve.goal) ≡ None → first_fault t ≡ None
+    pub none_anywhere : faults_in s (Some IntKind) (goal_parts t.solve.goal) ≡ None
+        → first_fault t ≡ None
     none_anywhere sound = nowhere t clean (sym constraints_same ∙ known) (sym goal_same ∙ sound)
 
 -- ---- what was declared and posted, and the goal behind it
@@ -147,11 +159,13 @@ module _ (t : LocatedTree) (s : Scope) (declares : Declares t.decls s) where
   all_stand = subst (λ all. StandsFor all t.decls s) (append-nil t.decls) (declares.stands [])
 
   module _ (held : Store) (cs : Vec the_posted.Posted Global) (posts : Posts s t.constraints held cs.items) where
-    pub goal_told : (e : ModelError) → Tells e (faults_in s (Some IntKind) (goal_parts t.solve.goal)) → Tells e (first_fault t)
+    pub goal_told : (e : ModelError)
+        → Tells e (faults_in s (Some IntKind) (goal_parts t.solve.goal)) → Tells e (first_fault t)
     goal_told = told_in_goal t s all_stand declares.clean posts.clean
 
     module _ (g : the_goal.Goal) (sound : faults_in s (Some IntKind) (goal_parts t.solve.goal) ≡ None) (aim : goal_view g ≡ aim_in s t.solve.goal) where
-      pub posted_now : map (posted_view s.variables.items s.arrays.items held) cs.items ≡ map (posted_in s) t.constraints
+      pub posted_now : map (posted_view s.variables.items s.arrays.items held) cs.items
+          ≡ map (posted_in s) t.constraints
       posted_now = posts.views held (longer_none held)
 
       pub all_laid_out : IsLaidOut (fields t s held cs g all_stand declares.clean posted_now sound aim)

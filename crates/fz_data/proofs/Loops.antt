@@ -14,19 +14,24 @@ use Rattle.fz_syntax.specs.declared.tree.NoteArg.{NoteArg}
 use Rattle.fz_data.specs.Scope.{only_arg}
 
 -- one more is found: what it stands for, and what holds of it
-pub one_found : {A B C V : Type 0} (g : A → B) (want : B → V) (view : C → V) (xs : List A) (i : ℕ) (x : A) (cs new : List C) (c : C) → i < length xs → x ≡ get_or xs i x
+pub one_found : {A B C V : Type 0} (g : A → B) (want : B → V) (view : C → V) (xs : List A) (i : ℕ)
+    (x : A) (cs new : List C) (c : C) → i < length xs → x ≡ get_or xs i x
     → map view cs ≡ map want (map g (take i xs)) → view c ≡ want (g x) → new ≡ cs ++ c ∷ [] → map view new ≡ map want (map g (take (i + 1) xs))
 one_found g want view xs i x cs new c lt at so_far here grew =
     ap (map view) grew ∙ map-append view cs (c ∷ []) ∙ (λ j. so_far j ++ here j ∷ []) ∙ sym (ap (map want) (take_one_more g xs i x lt at) ∙ map-append want (map g (take i xs)) (g x ∷ []))
 
-pub all_found : {C : Type 0} (P : C → Type 0) (cs new : List C) (c : C) → AllByRecursion P cs → P c → new ≡ cs ++ c ∷ [] → AllByRecursion P new
+pub all_found : {C : Type 0} (P : C → Type 0) (cs new : List C) (c : C) → AllByRecursion P cs → P c
+    → new ≡ cs ++ c ∷ [] → AllByRecursion P new
 all_found P cs new c h k grew = subst (AllByRecursion P) (sym grew) (all_append P cs (c ∷ []) h (k, tt))
 
-pub two_more : {A B C : Type 0} (f : B → C) (g : A → B) (xs : List A) (i : ℕ) (x : A) → i < length xs → x ≡ get_or xs i x → map f (map g (take (i + 1) xs)) ≡ map f (map g (take i xs)) ++ f (g x) ∷ []
+pub two_more : {A B C : Type 0} (f : B → C) (g : A → B) (xs : List A) (i : ℕ) (x : A)
+    → i < length xs → x ≡ get_or xs i x
+    → map f (map g (take (i + 1) xs)) ≡ map f (map g (take i xs)) ++ f (g x) ∷ []
 two_more f g xs i x lt at = ap (map f) (take_one_more g xs i x lt at) ∙ map-append f (map g (take i xs)) (g x ∷ [])
 
 -- one more is kept with its row
-pub rows_found : {P Q V C R : Type 0} (want : Q → V) (fit : V → R) (located : P → Q) (kept : C → R) (ps : List P) (k : ℕ) (p : P) (cs new : List C) (c : C) → k < length ps → p ≡ get_or ps k p
+pub rows_found : {P Q V C R : Type 0} (want : Q → V) (fit : V → R) (located : P → Q) (kept : C → R)
+    (ps : List P) (k : ℕ) (p : P) (cs new : List C) (c : C) → k < length ps → p ≡ get_or ps k p
     → map kept cs ≡ map fit (map want (map located (take k ps))) → kept c ≡ fit (want (located p)) → new ≡ cs ++ c ∷ [] → map kept new ≡ map fit (map want (map located (take (k + 1) ps)))
 rows_found want fit located kept ps k p cs new c lt at so_far here grew =
     ap (map kept) grew ∙ map-append kept cs (c ∷ []) ∙ (λ i. so_far i ++ here i ∷ [])
@@ -41,13 +46,16 @@ pub no_answer : {A : Type 0} (o : Option A) → is_some o ≡ false → o ≡ No
 no_answer None e = refl
 no_answer (Some y) e = cc
 
-pub answer_found : {A B C : Type 0} (f : B → Option C) (g : A → B) (xs : List A) (i : ℕ) (x : A) (o : Option C) → i < length xs → x ≡ get_or xs i x → first_some f (map g (take i xs)) ≡ None → o ≡ f (g x) → is_some o ≡ true → o ≡ first_some f (map g xs)
+pub answer_found : {A B C : Type 0} (f : B → Option C) (g : A → B) (xs : List A) (i : ℕ) (x : A)
+    (o : Option C) → i < length xs → x ≡ get_or xs i x → first_some f (map g (take i xs)) ≡ None
+    → o ≡ f (g x) → is_some o ≡ true → o ≡ first_some f (map g xs)
 answer_found f g xs i x o lt at none is some =
     let (y, found) = some_answer o some in
     found ∙ sym (first_stops f g xs i x y lt at none (sym is ∙ found))
 
 -- what holds of each entry holds of the one that is found
-pub found_entry : {D : Type 0} (P : List ℕ → D → Type 0) (x : List ℕ) (es : List (List ℕ × D)) (d : D) → AllByRecursion (λ e. P e.0 e.1) es → Some d ≡ lookup (has_text x) es → P x d
+pub found_entry : {D : Type 0} (P : List ℕ → D → Type 0) (x : List ℕ) (es : List (List ℕ × D))
+    (d : D) → AllByRecursion (λ e. P e.0 e.1) es → Some d ≡ lookup (has_text x) es → P x d
 found_entry P x [] d h e = cc
 found_entry {D} P x (y ∷ es) d h e =
     (elim (has_text x y.0) as (λ b. has_text x y.0 ≡ b → Some d ≡ cond b (Some y.1) (lookup (has_text x) es) → P x d) [

@@ -21,7 +21,8 @@ use Rattle.fz_data.proofs.Added.{adds_parameter, adds_variable, adds_array}
 use Rattle.fz_data.proofs.Knows.{decl_same, terms_same, definition_same}
 
 -- a declaration without a fault has a new name
-not_some : {A : Type 0} (o : Option A) (f : Fault) (g : Option Fault) → cond (is_some o) (Some f) g ≡ None → is_none o ≡ true
+not_some : {A : Type 0} (o : Option A) (f : Fault) (g : Option Fault)
+    → cond (is_some o) (Some f) g ≡ None → is_none o ≡ true
 not_some None f g e = refl
 not_some (Some x) f g e = cc
 
@@ -37,7 +38,8 @@ module _ (all known rest : List Decl) (d : Decl) (split : all ≡ known ++ d ∷
   count : length s.variables.items ≡ next_number known
   count = sym (length-map s.variables.items variable_view) ∙ ap length st.variables ∙ length-map (scalar_variables known) variable_declared
 
-  adds : (it : Item) → IsItem s d it → Adds all known d (k, kept_with s it) s.variables.items (new_variables it) s.arrays.items (new_arrays it) (new_points s it)
+  adds : (it : Item) → IsItem s d it → Adds all known d (k, kept_with s it) s.variables.items
+      (new_variables it) s.arrays.items (new_arrays it) (new_points s it)
   adds (items.Parameter v) is = adds_parameter all known d k v named is.0 is.1 is.2 is.3 s.variables.items s.arrays.items
   adds (items.Variable v) is =
       adds_variable all known d rest split (is_new known d clean_here) k v named is.0 is.1 is.2 (is.3 ∙ definition_same all known s st (d ∷ rest) split (kind_of_base d.base) d.value (parts_clean known d clean_here))
@@ -46,11 +48,13 @@ module _ (all known rest : List Decl) (d : Decl) (split : all ≡ known ++ d ∷
       adds_array all known d k x named is.0 is.1.0 is.1.1 is.1.2 is.1.3 (is.1.4 ∙ terms_same all known s st (d ∷ rest) split (kind_of_base d.base) (parts d.value) (parts_clean known d clean_here))
       s.variables.items s.arrays.items
 
-  pub stands_next : (it : Item) (new : Scope) → IsItem s d it → IsAdded s k it new → StandsFor all (known ++ d ∷ []) new
+  pub stands_next : (it : Item) (new : Scope) → IsItem s d it → IsAdded s k it new
+      → StandsFor all (known ++ d ∷ []) new
   stands_next it new is added =
       rw (added.names, added.variables, added.arrays, added.points)
       (stands_more all known d s.names (k, kept_with s it) s.variables.items (new_variables it) s.arrays.items (new_arrays it) s.points.items (new_points s it) st (adds it is))
 
 -- the kinds still stand beside the variables
-pub kinds_next : (it : Item) (s : Scope) (k : List ℕ) (new : Scope) → HasKinds s → IsAdded s k it new → HasKinds new
+pub kinds_next : (it : Item) (s : Scope) (k : List ℕ) (new : Scope) → HasKinds s
+    → IsAdded s k it new → HasKinds new
 kinds_next it s k new kinds added = added.kinds ∙ ap (λ ks. ks ++ kinds_among (new_variables it)) kinds ∙ sym (map-append (λ v. v.kind) s.variables.items (new_variables it)) ∙ ap kinds_among (sym added.variables)

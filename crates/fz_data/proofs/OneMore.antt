@@ -21,14 +21,18 @@ use Rattle.fz_data.specs.Posting.{IsLonger, IsPostedOf, Posts}
 use Rattle.fz_data.specs.Scope.{constraint_fault_in, posted_in}
 use Rattle.fz_data.proofs.Grown.{longer_more}
 
-pub declares_none : (s : Scope) → s.names ≡ [] → s.variables.items ≡ [] → s.arrays.items ≡ [] → s.points.items ≡ [] → Declares [] s
+pub declares_none : (s : Scope) → s.names ≡ [] → s.variables.items ≡ [] → s.arrays.items ≡ []
+    → s.points.items ≡ [] → Declares [] s
 declares_none s names variables arrays points = record { clean = refl; stands = λ rest. rw (names, variables, arrays, points) (stands_none rest) }
 
 -- the fault at a declaration is that of the scope
-pub fault_same : (known : List Decl) (s : Scope) (d : Decl) → Declares known s → decl_fault_in s d ≡ decl_fault known d
+pub fault_same : (known : List Decl) (s : Scope) (d : Decl) → Declares known s
+    → decl_fault_in s d ≡ decl_fault known d
 fault_same known s d h = decl_same (known ++ []) known s (h.stands []) d
 
-pub declares_more : (known : List Decl) (d : Decl) (s new : Scope) (it : Item) → Declares known s → decl_fault_in s d ≡ None → IsItem s d it → IsAdded s d.name.text it new → Declares (known ++ d ∷ []) new
+pub declares_more : (known : List Decl) (d : Decl) (s new : Scope) (it : Item) → Declares known s
+    → decl_fault_in s d ≡ None → IsItem s d it → IsAdded s d.name.text it new
+    → Declares (known ++ d ∷ []) new
 declares_more known d s new it h clean is added = record {
   clean = decls_one_more known d h.clean (sym (fault_same known s d h) ∙ clean);
   stands = λ rest.
@@ -36,14 +40,18 @@ declares_more known d s new it h clean is added = record {
       stands_next ((known ++ d ∷ []) ++ rest) known rest d split s (subst (λ (all : List Decl). StandsFor all known s) (sym split) (h.stands (d ∷ rest))) clean d.name.text refl it new is added;
 }
 
-pub posts_none : (s : Scope) (store : Store) (found : List Posted) → found ≡ [] → Posts s [] store found
+pub posts_none : (s : Scope) (store : Store) (found : List Posted) → found ≡ []
+    → Posts s [] store found
 posts_none s store found none = record {
   clean = refl;
   views = λ later g. ap (map (posted_view s.variables.items s.arrays.items later)) none;
   rows = ap (map kept_row) none;
 }
 
-pub posts_more : (s : Scope) (known : List Constraint) (c : Constraint) (store newer : Store) (found new : List Posted) (p : Posted) → Posts s known store found → constraint_fault_in s c ≡ None → IsLonger store newer → new ≡ found ++ p ∷ [] → IsPostedOf s newer (posted_in s c) p
+pub posts_more : (s : Scope) (known : List Constraint) (c : Constraint) (store newer : Store)
+    (found new : List Posted) (p : Posted) → Posts s known store found
+    → constraint_fault_in s c ≡ None → IsLonger store newer → new ≡ found ++ p ∷ []
+    → IsPostedOf s newer (posted_in s c) p
     → kept_row p ≡ row_of (posted_in s c) → Posts s (known ++ c ∷ []) newer new
 posts_more s known c store newer found new p h clean longer pushed is row = record {
   clean = first_append (constraint_fault_in s) known (c ∷ []) ∙ both_none (first_some (constraint_fault_in s) known) (first_some (constraint_fault_in s) (c ∷ [])) h.clean (both_none (constraint_fault_in s c) None clean refl);

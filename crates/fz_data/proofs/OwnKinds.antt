@@ -1,5 +1,5 @@
--- In the model of a tree without faults, whose scalar parameters have values of their kinds, each scalar that a name stands for or that
--- stands in a constraint has the kind that it is read with.
+-- In the model of a tree without faults, whose scalar parameters have values of their kinds, each
+-- scalar that a name stands for or that stands in a constraint has the kind that it is read with.
 use Rattle.std.proofs.Common.{◌≡◌, ℕ, true, false, cond, ◌&&◌, List, [], ◌∷◌, ◌++◌, map, Option, Some, None, option_map, slice_get, refl, sym, ap, subst, ◌∙◌, append_assoc}
 use Rattle.std.specs.List.{AllByRecursion}
 use Rattle.std.specs.Option.{option_map_or}
@@ -38,11 +38,13 @@ abbrev pub HasOwnKind : Decl → Type 0
 HasOwnKind d = is_scalar d ≡ true → d.is_var ≡ false → kind_of (literal_of d.value) ≡ kind_of_base d.base
 
 module _ (all : List Decl) (vs : List Variable) (xs : List the_array.Array) where
-  no_scalar : (d : Decl) (o : Option the_array.Array) → option_map_or array_view o no_array ≡ place_of_declared all d → HasOwnKind d
+  no_scalar : (d : Decl) (o : Option the_array.Array)
+      → option_map_or array_view o no_array ≡ place_of_declared all d → HasOwnKind d
   no_scalar d None h = λ scalar _. no (sym (array_by_place all d [] IntKind [] (sym h)).0 ∙ scalar)
   no_scalar d (Some a) h = λ scalar _. no (sym (array_by_place all d a.name.now a.kind (elements_of a) (sym h)).0 ∙ scalar)
 
-  own_kind : (d : Decl) (e : the_declared.Declared) → declared_place vs xs e ≡ place_of_declared all d → HasOwnKind d
+  own_kind : (d : Decl) (e : the_declared.Declared)
+      → declared_place vs xs e ≡ place_of_declared all d → HasOwnKind d
   own_kind d (declarations.Array i) h = no_scalar d (slice_get xs i) h
   own_kind d (declarations.Scalar (Var n)) h = λ scalar fixed.
       let found = scalar_by_place all d _ (Var n) (sym h) in
@@ -54,7 +56,8 @@ module _ (all : List Decl) (vs : List Variable) (xs : List the_array.Array) wher
       let same : literal_of d.value ≡ v = cc in
       ap kind_of same ∙ sym found.1
 
-  pub own_kinds : (es : List Entry) (ds : List Decl) → map (entry_place vs xs) es ≡ map (declared_pair all) ds → AllByRecursion HasOwnKind ds
+  pub own_kinds : (es : List Entry) (ds : List Decl)
+      → map (entry_place vs xs) es ≡ map (declared_pair all) ds → AllByRecursion HasOwnKind ds
   own_kinds es [] h = tt
   own_kinds [] (d ∷ ds) h = cc
   own_kinds (e ∷ es) (d ∷ ds) h =
@@ -65,14 +68,16 @@ module _ (all : List Decl) (vs : List Variable) (xs : List the_array.Array) wher
 -- ---- what the names of a tree stand for
 
 module _ (t : LocatedTree) (clean : decls_fault [] t.decls ≡ None) (own : AllByRecursion HasOwnKind t.decls) where
-  scalar_fits : (x : List ℕ) (d : Decl) → declaration t.decls x ≡ Some d → is_scalar d ≡ true → TermFits (model_of t) (kind_of_base d.base) (scalar_term t.decls d)
+  scalar_fits : (x : List ℕ) (d : Decl) → declaration t.decls x ≡ Some d → is_scalar d ≡ true
+      → TermFits (model_of t) (kind_of_base d.base) (scalar_term t.decls d)
   scalar_fits x d found scalar =
       elim d.is_var as (λ b. d.is_var ≡ b → TermFits (model_of t) (kind_of_base d.base) (cond b (Var (number_of t.decls d.name.text)) (Fixed (literal_of d.value)))) [
         | true ↦ λ is_var. ap (λ y. kind_at (model_of t) (number_of t.decls y)) (has_name t.decls x d found) ∙ kind_of_number t x d found (ap (λ b. b && is_scalar d) is_var ∙ scalar)
         | false ↦ λ fixed. at_found HasOwnKind _ t.decls d own found scalar fixed
       ] refl
 
-  term_fits : (before rest : List Decl) → before ++ rest ≡ t.decls → (k : Kind) (b : Basic) → part_fault before (Some k) b ≡ None → TermFits (model_of t) k (term_of t.decls b)
+  term_fits : (before rest : List Decl) → before ++ rest ≡ t.decls → (k : Kind) (b : Basic)
+      → part_fault before (Some k) b ≡ None → TermFits (model_of t) k (term_of t.decls b)
   term_fits before rest all k (Lit l) e = literal_is_of before k l e
   term_fits before rest all k (Named x) e =
       let (d, known, is) = clean_name k (declaration before x.text) x.span e in
@@ -81,7 +86,9 @@ module _ (t : LocatedTree) (clean : decls_fault [] t.decls ≡ None) (own : AllB
       subst (TermFits (model_of t) k) (sym (term_found t.decls x d found))
       (subst (λ j. TermFits (model_of t) j (scalar_term t.decls d)) kind (scalar_fits x.text d found (and_first (is_scalar d) (same_kind (kind_of_base d.base) k) is)))
 
-  terms_fit : (before rest : List Decl) → before ++ rest ≡ t.decls → (k : Kind) (bs : List Basic) → parts_fault before (Some k) bs ≡ None → AllByRecursion (TermFits (model_of t) k) (map (term_of t.decls) bs)
+  terms_fit : (before rest : List Decl) → before ++ rest ≡ t.decls → (k : Kind) (bs : List Basic)
+      → parts_fault before (Some k) bs ≡ None
+      → AllByRecursion (TermFits (model_of t) k) (map (term_of t.decls) bs)
   terms_fit before rest all k [] e = tt
   terms_fit before rest all k (b ∷ bs) e =
       (term_fits before rest all k b (first_none (part_fault before (Some k) b) (parts_fault before (Some k) bs) e), terms_fit before rest all k bs (second_none (part_fault before (Some k) b) (parts_fault before (Some k) bs) e))
@@ -89,24 +96,28 @@ module _ (t : LocatedTree) (clean : decls_fault [] t.decls ≡ None) (own : AllB
   abbrev ElementsFit : Decl → Type 0
   ElementsFit d = AllByRecursion (TermFits (model_of t) (kind_of_base d.base)) (map (term_of t.decls) (parts d.value))
 
-  elements_fit : (before ds : List Decl) → before ++ ds ≡ t.decls → decls_fault before ds ≡ None → AllByRecursion ElementsFit ds
+  elements_fit : (before ds : List Decl) → before ++ ds ≡ t.decls → decls_fault before ds ≡ None
+      → AllByRecursion ElementsFit ds
   elements_fit before [] all e = tt
   elements_fit before (d ∷ ds) all e = (
     terms_fit before (d ∷ ds) all (kind_of_base d.base) (parts d.value) (parts_clean before d (first_none (decl_fault before d) (decls_fault (before ++ d ∷ []) ds) e)),
     elements_fit (before ++ d ∷ []) ds (append_assoc before (d ∷ []) ds ∙ all) (second_none (decl_fault before d) (decls_fault (before ++ d ∷ []) ds) e),
   )
 
-  declared_fits : (x : List ℕ) (d : Decl) → declaration t.decls x ≡ Some d → PlaceFits (model_of t) (place_of_declared t.decls d)
+  declared_fits : (x : List ℕ) (d : Decl) → declaration t.decls x ≡ Some d
+      → PlaceFits (model_of t) (place_of_declared t.decls d)
   declared_fits x d found =
       elim (is_scalar d) as (λ b. is_scalar d ≡ b → PlaceFits (model_of t) (cond b (Scalar (kind_of_base d.base) (scalar_term t.decls d)) (Array d.name.text (kind_of_base d.base) (map (term_of t.decls) (parts d.value))))) [
         | true ↦ λ scalar. scalar_fits x d found scalar
         | false ↦ λ _. at_found ElementsFit _ t.decls d (elements_fit [] t.decls refl clean) found
       ] refl
 
-  pub name_fits : (x : List ℕ) (p : Place) → find_name (model_of t) x ≡ Some p → PlaceFits (model_of t) p
+  pub name_fits : (x : List ℕ) (p : Place) → find_name (model_of t) x ≡ Some p
+      → PlaceFits (model_of t) p
   name_fits x p e = by_declaration (declaration t.decls x) refl (sym (find_declared t (are_new [] t.decls clean) x) ∙ e)
     where
-      by_declaration : (o : Option Decl) → declaration t.decls x ≡ o → option_map (place_of_declared t.decls) o ≡ Some p → PlaceFits (model_of t) p
+      by_declaration : (o : Option Decl) → declaration t.decls x ≡ o
+          → option_map (place_of_declared t.decls) o ≡ Some p → PlaceFits (model_of t) p
       by_declaration None found e = cc
       by_declaration (Some d) found e = let same : place_of_declared t.decls d ≡ p = cc in subst (PlaceFits (model_of t)) same (declared_fits x d found)
 
@@ -116,11 +127,14 @@ module _ (t : LocatedTree) (clean : decls_fault [] t.decls ≡ None) (own : AllB
   part_fits (Lit l) = refl
   part_fits (Named x) = by_declaration (declaration t.decls x.text) refl
     where
-      by_declaration : (o : Option Decl) → declaration t.decls x.text ≡ o → PlaceFits (model_of t) (option_map_or (place_of_declared t.decls) o (Array x.text IntKind []))
+      by_declaration : (o : Option Decl) → declaration t.decls x.text ≡ o
+          → PlaceFits (model_of t) (option_map_or (place_of_declared t.decls) o
+          (Array x.text IntKind []))
       by_declaration None found = tt
       by_declaration (Some d) found = declared_fits x.text d found
 
-  parts_fit : (bs : List Basic) → AllByRecursion (PlaceFits (model_of t)) (map (place_of t.decls) bs)
+  parts_fit : (bs : List Basic) → AllByRecursion (PlaceFits (model_of t))
+      (map (place_of t.decls) bs)
   parts_fit [] = tt
   parts_fit (b ∷ bs) = (part_fits b, parts_fit bs)
 
@@ -128,10 +142,12 @@ module _ (t : LocatedTree) (clean : decls_fault [] t.decls ≡ None) (own : AllB
   argument_fits (One b) = part_fits b
   argument_fits (Several bs) = parts_fit bs
 
-  arguments_fit : (es : List Expr) → AllByRecursion (ArgumentFits (model_of t)) (map (argument_of t.decls) es)
+  arguments_fit : (es : List Expr)
+      → AllByRecursion (ArgumentFits (model_of t)) (map (argument_of t.decls) es)
   arguments_fit [] = tt
   arguments_fit (e ∷ es) = (argument_fits e, arguments_fit es)
 
-  pub posted_fit : (cs : List Constraint) → AllByRecursion (PostedFits (model_of t)) (map (posted_of t.decls) cs)
+  pub posted_fit : (cs : List Constraint)
+      → AllByRecursion (PostedFits (model_of t)) (map (posted_of t.decls) cs)
   posted_fit [] = tt
   posted_fit (c ∷ cs) = (arguments_fit c.args, posted_fit cs)

@@ -21,19 +21,23 @@ use Rattle.fz_data.specs.Texts.{TellsOfText, IsNameFault, IsNameRefusal}
 use Rattle.fz_data.proofs.Loaded.{told_in_constraints, tells_first}
 use Rattle.fz_data.proofs.Tells.{tells_further}
 
-pub offered_more : {X : Type 0} (source : List ℕ) (o : Option X) (More : X → Type 0) (Done : Type 0) → is_some o ≡ true → Offers source (Ok o) More Done → (x : X) × More x
+pub offered_more : {X : Type 0} (source : List ℕ) (o : Option X) (More : X → Type 0) (Done : Type 0)
+    → is_some o ≡ true → Offers source (Ok o) More Done → (x : X) × More x
 offered_more source None More Done some h = absurd cc
 offered_more source (Some x) More Done some h = (x, h)
 
-pub offered_done : {X : Type 0} (source : List ℕ) (o : Option X) (More : X → Type 0) (Done : Type 0) → is_some o ≡ false → Offers source (Ok o) More Done → Done
+pub offered_done : {X : Type 0} (source : List ℕ) (o : Option X) (More : X → Type 0) (Done : Type 0)
+    → is_some o ≡ false → Offers source (Ok o) More Done → Done
 offered_done source None More Done none h = h
 offered_done source (Some x) More Done none h = absurd cc
 
-pub all_of : {X : Type 0} (source : List ℕ) (r : Result X SyntaxError) (P Q : X → Type 0) → ((x : X) → P x → Q x) → IsAllOf source r P → IsAllOf source r Q
+pub all_of : {X : Type 0} (source : List ℕ) (r : Result X SyntaxError) (P Q : X → Type 0)
+    → ((x : X) → P x → Q x) → IsAllOf source r P → IsAllOf source r Q
 all_of source (Ok x) P Q f h = f x h
 all_of source (Err e) P Q f h = h
 
-pub name_refusal : (source : List ℕ) (e : ModelError) → TellsOfText source e → IsNameRefusal source e
+pub name_refusal : (source : List ℕ) (e : ModelError) → TellsOfText source e
+    → IsNameRefusal source e
 name_refusal source names.Memory h = tt
 name_refusal source (names.DuplicateName at) h = h
 name_refusal source (names.UnknownName at) h = h
@@ -41,20 +45,28 @@ name_refusal source (names.Kind at) h = h
 name_refusal source (names.Length at) h = h
 
 -- an item between others
-between : {A B : Type 0} (g : A → B) (front : List A) (x : A) (more : List A) → map g ((front ++ x ∷ []) ++ more) ≡ map g front ++ g x ∷ map g more
+between : {A B : Type 0} (g : A → B) (front : List A) (x : A) (more : List A)
+    → map g ((front ++ x ∷ []) ++ more) ≡ map g front ++ g x ∷ map g more
 between g front x more = ap (map g) (append_assoc front (x ∷ []) more) ∙ map-append g front (x ∷ more)
 
-pub told_at_decl : (t : TreeItems) (ds more : List Decl) (d : Decl) (e : ModelError) → t.decls ≡ (ds ++ d ∷ []) ++ more → decls_fault [] (map located_decl ds) ≡ None → Tells e (decl_fault (map located_decl ds) (located_decl d)) → Tells e (first_fault (located_all t))
+pub told_at_decl : (t : TreeItems) (ds more : List Decl) (d : Decl) (e : ModelError)
+    → t.decls ≡ (ds ++ d ∷ []) ++ more → decls_fault [] (map located_decl ds) ≡ None
+    → Tells e (decl_fault (map located_decl ds) (located_decl d))
+    → Tells e (first_fault (located_all t))
 told_at_decl t ds more d e is clean tells =
     tells_further e _ (first_fault (located_all t))
     (λ y here. rw (ap (λ (xs : List Decl). decls_fault [] (map located_decl xs)) is ∙ ap (decls_fault []) (between located_decl ds d more) ∙ decls_stop (map located_decl ds) (located_decl d) (map located_decl more) y clean here) refl) tells
 
-first_between : (s : Scope) (cs more : List Constraint) (c : Constraint) (y : Fault) → first_some (constraint_fault_in s) (map located_constraint cs) ≡ None → constraint_fault_in s (located_constraint c) ≡ Some y
+first_between : (s : Scope) (cs more : List Constraint) (c : Constraint) (y : Fault)
+    → first_some (constraint_fault_in s) (map located_constraint cs) ≡ None
+    → constraint_fault_in s (located_constraint c) ≡ Some y
     → first_some (constraint_fault_in s) (map located_constraint ((cs ++ c ∷ []) ++ more)) ≡ Some y
 first_between s cs more c y clean here =
     ap (first_some (constraint_fault_in s)) (between located_constraint cs c more) ∙ first_append (constraint_fault_in s) (map located_constraint cs) (located_constraint c ∷ map located_constraint more) ∙ rw (clean, here) refl
 
-pub told_at_constraint : (t : TreeItems) (ds : List Decl) (cs more : List Constraint) (c : Constraint) (s : Scope) (e : ModelError) → t.decls ≡ ds → t.constraints ≡ (cs ++ c ∷ []) ++ more → Declares (map located_decl ds) s
+pub told_at_constraint : (t : TreeItems) (ds : List Decl) (cs more : List Constraint)
+    (c : Constraint) (s : Scope) (e : ModelError) → t.decls ≡ ds
+    → t.constraints ≡ (cs ++ c ∷ []) ++ more → Declares (map located_decl ds) s
     → first_some (constraint_fault_in s) (map located_constraint cs) ≡ None → Tells e (constraint_fault_in s (located_constraint c)) → Tells e (first_fault (located_all t))
 told_at_constraint t ds cs more c s e decls are h clean tells =
     let known = map located_decl ds in
@@ -71,7 +83,8 @@ leftmost source e h = record {
   tells = tells_first (located_all h.all) e is_first (all_in_reading_order source (length source) h.all h.text.stands) h.tells;
 }
 
-pub name_fault : (source : List ℕ) (e : ModelError) → e ≢ names.Memory → IsNameRefusal source e → IsNameFault source e
+pub name_fault : (source : List ℕ) (e : ModelError) → e ≢ names.Memory → IsNameRefusal source e
+    → IsNameFault source e
 name_fault source names.Memory other h = absurd (other refl)
 name_fault source (names.DuplicateName at) other h = leftmost source (names.DuplicateName at) h
 name_fault source (names.UnknownName at) other h = leftmost source (names.UnknownName at) h

@@ -1,4 +1,5 @@
--- What was declared so far stands for the declarations that were read, whatever more variables and arrays come.
+-- What was declared so far stands for the declarations that were read, whatever more variables and
+-- arrays come.
 use Rattle.std.proofs.Common.{◌≡◌, ℕ, suc, ◌+◌, Bool, true, false, cond, ◌&&◌, List, [], ◌∷◌, ◌++◌, map, length, refl, sym, ap, subst, ◌∙◌, flat_map, append_assoc, arith}
 use Rattle.std.specs.List.{AllByRecursion}
 use Rattle.std.proofs.lemmas.List.{map-append, append-nil, length-map}
@@ -23,26 +24,32 @@ use Rattle.fz_data.specs.Stands.{Entry, entry_view, entry_place, is_kept, declar
 -- ---- numbers
 
 -- the scalar variables of declarations
-variable_one : (all : List Decl) (d : Decl) → variable_of (declared_of all d) ≡ map variable_declared (cond (is_scalar_variable d) (d ∷ []) [])
+variable_one : (all : List Decl) (d : Decl) → variable_of (declared_of all d)
+    ≡ map variable_declared (cond (is_scalar_variable d) (d ∷ []) [])
 variable_one all d =
     elim d.is_var as (λ b. variable_of (cond b (cond (is_scalar d) (ScalarVariable (variable_declared d) (definition_of all d.value)) (ArrayOfVariables d.name.text (kind_of_base d.base) (domain_of d.base) (map (term_of all) (parts d.value)))) (Parameter d.name.text (place_of_declared all d))) ≡ map variable_declared (cond (b && is_scalar d) (d ∷ []) [])) [
       | false ↦ refl
       | true ↦ elim (is_scalar d) as (λ c. variable_of (cond c (ScalarVariable (variable_declared d) (definition_of all d.value)) (ArrayOfVariables d.name.text (kind_of_base d.base) (domain_of d.base) (map (term_of all) (parts d.value)))) ≡ map variable_declared (cond c (d ∷ []) [])) [ true ↦ refl | false ↦ refl ]
     ]
 
-one_in_front : (b : Bool) (d : Decl) (ds : List Decl) → map variable_declared (cond b (d ∷ []) []) ++ map variable_declared ds ≡ map variable_declared (cond b (d ∷ ds) ds)
+one_in_front : (b : Bool) (d : Decl) (ds : List Decl) → map variable_declared (cond b (d ∷ []) [])
+    ++ map variable_declared ds ≡ map variable_declared (cond b (d ∷ ds) ds)
 one_in_front true d ds = refl
 one_in_front false d ds = refl
 
-pub variables_known : (all ds : List Decl) → flat_map variable_of (map (declared_of all) ds) ≡ map variable_declared (scalar_variables ds)
+pub variables_known : (all ds : List Decl)
+    → flat_map variable_of (map (declared_of all) ds) ≡ map variable_declared (scalar_variables ds)
 variables_known all [] = refl
 variables_known all (d ∷ ds) = (λ i. variable_one all d i ++ variables_known all ds i) ∙ one_in_front (is_scalar_variable d) d (scalar_variables ds)
 
-how_many_known : (all ds : List Decl) → length (flat_map variable_of (map (declared_of all) ds)) ≡ next_number ds
+how_many_known : (all ds : List Decl)
+    → length (flat_map variable_of (map (declared_of all) ds)) ≡ next_number ds
 how_many_known all ds = ap length (variables_known all ds) ∙ length-map (scalar_variables ds) variable_declared
 
 -- one more declaration has the number of the scalar variables before it
-numbered_push : (n : ℕ) (qs : List meaning.Declared) (q : meaning.Declared) → numbered_from n (qs ++ q ∷ []) ≡ numbered_from n qs ++ (n + length (flat_map variable_of qs), q) ∷ []
+numbered_push : (n : ℕ) (qs : List meaning.Declared) (q : meaning.Declared)
+    → numbered_from n (qs ++ q ∷ [])
+    ≡ numbered_from n qs ++ (n + length (flat_map variable_of qs), q) ∷ []
 numbered_push n [] (Parameter x p) = let same : n ≡ n + 0 = omega arith in ap (λ m. (m, Parameter x p) ∷ []) same
 numbered_push n [] (ScalarVariable x e) = let same : n ≡ n + 0 = omega arith in ap (λ m. (m, ScalarVariable x e) ∷ []) same
 numbered_push n [] (ArrayOfVariables x k d ts) = let same : n ≡ n + 0 = omega arith in ap (λ m. (m, ArrayOfVariables x k d ts) ∷ []) same
@@ -67,21 +74,30 @@ stands_none all = record {
 
 -- what one more declaration adds: an entry e, variables nv, arrays nx and points np
 pub record Adds (all known : List Decl) (d : Decl) (e : Entry) (vs nv : List Variable) (xs nx : List the_array.Array) (np : List DeclaredPoint) : Type 0 where
-  pub declared : (ws : List Variable) (ys : List the_array.Array) → entry_view (vs ++ (nv ++ ws)) (xs ++ (nx ++ ys)) e ≡ declared_of all d
-  pub places : (ws : List Variable) (ys : List the_array.Array) → entry_place (vs ++ (nv ++ ws)) (xs ++ (nx ++ ys)) e ≡ declared_pair all d
+  pub declared : (ws : List Variable) (ys : List the_array.Array)
+      → entry_view (vs ++ (nv ++ ws)) (xs ++ (nx ++ ys)) e ≡ declared_of all d
+  pub places : (ws : List Variable) (ys : List the_array.Array)
+      → entry_place (vs ++ (nv ++ ws)) (xs ++ (nx ++ ys)) e ≡ declared_pair all d
   pub kept : (ys : List the_array.Array) → is_kept (xs ++ (nx ++ ys)) e
-  pub variables : map variable_view nv ≡ map variable_declared (cond (is_scalar_variable d) (d ∷ []) [])
-  pub points : (ws : List Variable) (ys : List the_array.Array) → map (declared_point (vs ++ (nv ++ ws)) (xs ++ (nx ++ ys))) np ≡ declared_points (numbered_decl all known d)
-  pub placed : (ws : List Variable) (ys : List the_array.Array) → AllByRecursion (IsPlaced (vs ++ (nv ++ ws)) (xs ++ (nx ++ ys))) np
+  pub variables : map variable_view nv
+      ≡ map variable_declared (cond (is_scalar_variable d) (d ∷ []) [])
+  pub points : (ws : List Variable) (ys : List the_array.Array)
+      → map (declared_point (vs ++ (nv ++ ws)) (xs ++ (nx ++ ys))) np
+      ≡ declared_points (numbered_decl all known d)
+  pub placed : (ws : List Variable) (ys : List the_array.Array)
+      → AllByRecursion (IsPlaced (vs ++ (nv ++ ws)) (xs ++ (nx ++ ys))) np
 
 module _ (all known : List Decl) (d : Decl) (es : List Entry) (e : Entry) (vs nv : List Variable) (xs nx : List the_array.Array) (ps np : List DeclaredPoint) where
-  one_more : {A B : Type 0} (f : A → B) (zs : List A) (z : A) (qs : List B) (q : B) → map f zs ≡ qs → f z ≡ q → map f (zs ++ z ∷ []) ≡ qs ++ q ∷ []
+  one_more : {A B : Type 0} (f : A → B) (zs : List A) (z : A) (qs : List B) (q : B) → map f zs ≡ qs
+      → f z ≡ q → map f (zs ++ z ∷ []) ≡ qs ++ q ∷ []
   one_more f zs z qs q a b = map-append f zs (z ∷ []) ∙ (λ i. a i ++ b i ∷ [])
 
-  flat_end : {A B : Type 0} (f : A → List B) (zs : List A) (z : A) → flat_map f (zs ++ z ∷ []) ≡ flat_map f zs ++ f z
+  flat_end : {A B : Type 0} (f : A → List B) (zs : List A) (z : A)
+      → flat_map f (zs ++ z ∷ []) ≡ flat_map f zs ++ f z
   flat_end f zs z = flat_map-append f zs (z ∷ []) ∙ ap (λ r. flat_map f zs ++ r) (append-nil (f z))
 
-  numbered_end : numbered_from 0 (map (declared_of all) (known ++ d ∷ [])) ≡ numbered_from 0 (map (declared_of all) known) ++ numbered_decl all known d ∷ []
+  numbered_end : numbered_from 0 (map (declared_of all) (known ++ d ∷ []))
+      ≡ numbered_from 0 (map (declared_of all) known) ++ numbered_decl all known d ∷ []
   numbered_end =
       ap (numbered_from 0) (map-append (declared_of all) known (d ∷ [])) ∙ numbered_push 0 (map (declared_of all) known) (declared_of all d)
       ∙ ap (λ n. numbered_from 0 (map (declared_of all) known) ++ (n, declared_of all d) ∷ []) (plain (length (flat_map variable_of (map (declared_of all) known))) ∙ how_many_known all known)
@@ -89,7 +105,8 @@ module _ (all known : List Decl) (d : Decl) (es : List Entry) (e : Entry) (vs nv
       plain : (n : ℕ) → 0 + n ≡ n
       plain n = omega arith
 
-  pub stands_more : Stands all known es vs xs ps → Adds all known d e vs nv xs nx np → Stands all (known ++ d ∷ []) (es ++ e ∷ []) (vs ++ nv) (xs ++ nx) (ps ++ np)
+  pub stands_more : Stands all known es vs xs ps → Adds all known d e vs nv xs nx np
+      → Stands all (known ++ d ∷ []) (es ++ e ∷ []) (vs ++ nv) (xs ++ nx) (ps ++ np)
   stands_more s a = record {
     declared = λ ws ys. (λ i. map (entry_view (append_assoc vs nv ws i) (append_assoc xs nx ys i)) (es ++ e ∷ []))
         ∙ one_more (entry_view (vs ++ (nv ++ ws)) (xs ++ (nx ++ ys))) es e (map (declared_of all) known) (declared_of all d) (s.declared (nv ++ ws) (nx ++ ys)) (a.declared ws ys)

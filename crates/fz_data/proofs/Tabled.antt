@@ -1,4 +1,4 @@
--- The tables of numbers and truth values beside the values of a partial assignment.
+-- The tables of numbers and Booleans beside the values of a partial assignment.
 use Rattle.std.proofs.Common.{◌≡◌, ℕ, ◌+◌, ◌<◌, ◌≤◌, ℤ, Bool, zero, suc, List, [], ◌∷◌, ◌++◌, length, map, take, replicate, Option, None, Some, is_some, true, false, slice_set, add-one, arith, refl, ap, ◌∙◌}
 use Rattle.std.proofs.Math.Seq.{take-append_seam}
 use Rattle.std.proofs.lemmas.List.{length-map}
@@ -6,13 +6,15 @@ use Rattle.fz_base.specs.declared.value.Value.{Value}
 use Rattle.fz_meaning.specs.Meaning.{Variable, give, value_at}
 use Rattle.fz_data.specs.Partial.{IsTabled, number_in, truth_in, unset_count, without}
 
-map_set : {A B : Type 0} (f : A → B) (xs : List A) (n : ℕ) (x : A) → slice_set (map f xs) n (f x) ≡ map f (slice_set xs n x)
+map_set : {A B : Type 0} (f : A → B) (xs : List A) (n : ℕ) (x : A)
+    → slice_set (map f xs) n (f x) ≡ map f (slice_set xs n x)
 map_set f [] n x = refl
 map_set f (y ∷ xs) zero x = refl
 map_set f (y ∷ xs) (suc n) x = ap (λ ys. f y ∷ ys) (map_set f xs n x)
 
 -- one more value
-pub still_tabled : (K : List (Option Value)) (ns : List ℤ) (bs gs : List Bool) (n : ℕ) (v : Value) → IsTabled K ns bs gs
+pub still_tabled : (K : List (Option Value)) (ns : List ℤ) (bs gs : List Bool) (n : ℕ) (v : Value)
+    → IsTabled K ns bs gs
     → IsTabled (slice_set K n (Some v)) (slice_set ns n (number_in (Some v))) (slice_set bs n (truth_in (Some v))) (slice_set gs n true)
 still_tabled K ns bs gs n v t = record {
   numbers = ap (λ zs. slice_set zs n (number_in (Some v))) t.numbers ∙ map_set number_in K n (Some v);
@@ -20,12 +22,15 @@ still_tabled K ns bs gs n v t = record {
   given = ap (λ zs. slice_set zs n true) t.given ∙ map_set is_some K n (Some v);
 }
 
-all_nothing : {A B : Type 0} (f : Option Value → B) (xs : List A) → replicate (length xs) (f None) ≡ map f (map (λ x. None) xs)
+all_nothing : {A B : Type 0} (f : Option Value → B) (xs : List A)
+    → replicate (length xs) (f None) ≡ map f (map (λ x. None) xs)
 all_nothing f [] = refl
 all_nothing f (x ∷ xs) = ap (λ ys. f None ∷ ys) (all_nothing f xs)
 
 -- none yet
-pub none_tabled : (xs : List Variable) (n : ℕ) → n ≡ length xs → IsTabled (map (λ x. None) xs) (replicate n (number_in None)) (replicate n (truth_in None)) (replicate n false)
+pub none_tabled : (xs : List Variable) (n : ℕ) → n ≡ length xs
+    → IsTabled (map (λ x. None) xs) (replicate n (number_in None)) (replicate n (truth_in None))
+    (replicate n false)
 none_tabled xs n e = record {
   numbers = ap (λ k. replicate k (number_in None)) e ∙ all_nothing number_in xs;
   truths = ap (λ k. replicate k (truth_in None)) e ∙ all_nothing truth_in xs;
@@ -35,7 +40,8 @@ none_tabled xs n e = record {
 -- ---- how many have no value
 
 -- a value where there was none leaves one less without
-pub one_unset_less : (K : List (Option Value)) (n : ℕ) (v : Value) → n < length K → value_at K n ≡ None → unset_count K ≡ suc (unset_count (give K n v))
+pub one_unset_less : (K : List (Option Value)) (n : ℕ) (v : Value) → n < length K
+    → value_at K n ≡ None → unset_count K ≡ suc (unset_count (give K n v))
 one_unset_less [] n v h e = absurd (omega arith)
 one_unset_less (None ∷ K) zero v h e = refl
 one_unset_less (Some u ∷ K) zero v h e = cc
@@ -43,7 +49,8 @@ one_unset_less (None ∷ K) (suc n) v h e = ap suc (one_unset_less K n v (omega 
 one_unset_less (Some u ∷ K) (suc n) v h e = one_unset_less K n v (omega arith) e
 
 -- and one that is taken away leaves one more
-pub one_unset_more : (K : List (Option Value)) (n : ℕ) → is_some (value_at K n) ≡ true → unset_count (without K n) ≡ suc (unset_count K)
+pub one_unset_more : (K : List (Option Value)) (n : ℕ) → is_some (value_at K n) ≡ true
+    → unset_count (without K n) ≡ suc (unset_count K)
 one_unset_more [] n e = cc
 one_unset_more (None ∷ K) zero e = cc
 one_unset_more (Some u ∷ K) zero e = refl
@@ -56,7 +63,8 @@ unset_fit (None ∷ K) = omega (arith, unset_fit K)
 unset_fit (Some u ∷ K) = omega (arith, unset_fit K)
 
 -- where there is none, none is taken away
-pub none_taken : (K : List (Option Value)) (n : ℕ) → is_some (value_at K n) ≡ false → K ≡ without K n
+pub none_taken : (K : List (Option Value)) (n : ℕ) → is_some (value_at K n) ≡ false
+    → K ≡ without K n
 none_taken [] n e = refl
 none_taken (None ∷ K) zero e = refl
 none_taken (Some u ∷ K) zero e = cc
@@ -67,7 +75,8 @@ has_place [] n e = cc
 has_place (o ∷ K) zero e = omega arith
 has_place (o ∷ K) (suc n) e = omega (arith, has_place K n e)
 
-pub one_less_tabled : (K : List (Option Value)) (ns : List ℤ) (bs gs : List Bool) (n : ℕ) → IsTabled K ns bs gs
+pub one_less_tabled : (K : List (Option Value)) (ns : List ℤ) (bs gs : List Bool) (n : ℕ)
+    → IsTabled K ns bs gs
     → IsTabled (without K n) (slice_set ns n (number_in None)) (slice_set bs n (truth_in None)) (slice_set gs n false)
 one_less_tabled K ns bs gs n t = record {
   numbers = ap (λ zs. slice_set zs n (number_in None)) t.numbers ∙ map_set number_in K n None;
@@ -81,7 +90,8 @@ all_unset [] = refl
 all_unset (x ∷ xs) = ap suc (all_unset xs)
 
 -- the tables of values that are all taken away
-pub cleared_tabled : (K : List (Option Value)) (ns : List ℤ) (bs gs : List Bool) (n m k : ℕ) → IsTabled K ns bs gs → n ≡ length ns → m ≡ length bs → k ≡ length gs
+pub cleared_tabled : (K : List (Option Value)) (ns : List ℤ) (bs gs : List Bool) (n m k : ℕ)
+    → IsTabled K ns bs gs → n ≡ length ns → m ≡ length bs → k ≡ length gs
     → IsTabled (map (λ v. None) K) (replicate n (number_in None)) (replicate m (truth_in None)) (replicate k false)
 cleared_tabled K ns bs gs n m k t e f g = record {
   numbers = ap (λ i. replicate i (number_in None)) (e ∙ ap length t.numbers ∙ length-map K number_in) ∙ all_nothing number_in K;
@@ -90,7 +100,8 @@ cleared_tabled K ns bs gs n m k t e f g = record {
 }
 
 -- what is written over the whole of a list is all that is left
-pub all_written : {A : Type 0} (written rest : List A) (n : ℕ) → n ≡ length written → take n (written ++ rest) ≡ written
+pub all_written : {A : Type 0} (written rest : List A) (n : ℕ) → n ≡ length written
+    → take n (written ++ rest) ≡ written
 all_written written rest n e = ap (λ k. take k (written ++ rest)) e ∙ take-append_seam written rest
 
 -- ---- values taken away one after another
@@ -101,15 +112,18 @@ forgotten zero K = K
 forgotten (suc n) [] = []
 forgotten (suc n) (o ∷ K) = None ∷ forgotten n K
 
-pub forgets_next : (K : List (Option Value)) (n : ℕ) → n < length K → slice_set (forgotten n K) n None ≡ forgotten (n + 1) K
+pub forgets_next : (K : List (Option Value)) (n : ℕ) → n < length K
+    → slice_set (forgotten n K) n None ≡ forgotten (n + 1) K
 forgets_next K n h = rw add-one (next K n h)
   where
-    next : (K : List (Option Value)) (n : ℕ) → n < length K → slice_set (forgotten n K) n None ≡ forgotten (suc n) K
+    next : (K : List (Option Value)) (n : ℕ) → n < length K
+        → slice_set (forgotten n K) n None ≡ forgotten (suc n) K
     next [] n h = absurd (omega arith)
     next (o ∷ K) zero h = refl
     next (o ∷ K) (suc n) h = ap (λ J. None ∷ J) (next K n (omega arith))
 
-pub forgets_all : (K : List (Option Value)) (n : ℕ) → n ≡ length K → forgotten n K ≡ map (λ v. None) K
+pub forgets_all : (K : List (Option Value)) (n : ℕ) → n ≡ length K
+    → forgotten n K ≡ map (λ v. None) K
 forgets_all K n e = ap (λ k. forgotten k K) e ∙ all K
   where
     all : (K : List (Option Value)) → forgotten (length K) K ≡ map (λ v. None) K

@@ -8,7 +8,8 @@ use Rattle.fz_meaning.proofs.ScanSteps.{first_stops}
 use Rattle.fz_data.specs.Scope.{Tells}
 
 -- where the second has the fault that the first has
-pub tells_further : (e : ModelError) (f g : Option Fault) → ((x : Fault) → f ≡ Some x → g ≡ Some x) → Tells e f → Tells e g
+pub tells_further : (e : ModelError) (f g : Option Fault) → ((x : Fault) → f ≡ Some x → g ≡ Some x)
+    → Tells e f → Tells e g
 tells_further (errors.DuplicateName at) f g same h = same _ h
 tells_further (errors.UnknownName at) f g same h = same _ h
 tells_further (errors.Kind at) f g same h = same _ h
@@ -19,5 +20,7 @@ pub tells_memory : (e : ModelError) (f : Option Fault) → e ≡ errors.Memory �
 tells_memory e f is = subst (λ (x : ModelError). Tells x f) (sym is) tt
 
 -- the first fault of a list, where none was met before
-pub tells_stop : {A B : Type 0} (f : B → Option Fault) (g : A → B) (xs : List A) (i : ℕ) (x : A) (e : ModelError) → i < length xs → x ≡ get_or xs i x → first_some f (map g (take i xs)) ≡ None → Tells e (f (g x)) → Tells e (first_some f (map g xs))
+pub tells_stop : {A B : Type 0} (f : B → Option Fault) (g : A → B) (xs : List A) (i : ℕ) (x : A)
+    (e : ModelError) → i < length xs → x ≡ get_or xs i x → first_some f (map g (take i xs)) ≡ None
+    → Tells e (f (g x)) → Tells e (first_some f (map g xs))
 tells_stop f g xs i x e lt at none h = tells_further e (f (g x)) (first_some f (map g xs)) (λ y here. first_stops f g xs i x y lt at none here) h

@@ -26,10 +26,12 @@ kinds_among vs = map (λ v. v.kind) vs
 
 -- a scalar of the kind
 abbrev pub is_of_kind : List Variable → List Value → Kind → Slot → Bool
-is_of_kind vs cs k (slots.Variable n) = same_kind (kind_of_term vs (slot_term cs (slots.Variable n))) k
+is_of_kind vs cs k (slots.Variable n) =
+    same_kind (kind_of_term vs (slot_term cs (slots.Variable n))) k
 is_of_kind vs cs k (slots.Number i) = same_kind (kind_of_term vs (slot_term cs (slots.Number i))) k
 is_of_kind vs cs k (slots.Truth b) = same_kind (kind_of_term vs (slot_term cs (slots.Truth b))) k
-is_of_kind vs cs k (slots.Constant c) = same_kind (kind_of_term vs (slot_term cs (slots.Constant c))) k
+is_of_kind vs cs k (slots.Constant c) =
+    same_kind (kind_of_term vs (slot_term cs (slots.Constant c))) k
 is_of_kind vs cs k (slots.Array i) = false
 
 abbrev pub is_scalar_of : List Variable → List Value → Kind → Argument → Bool
@@ -45,7 +47,8 @@ is_array_slot xs k (slots.Truth b) = false
 is_array_slot xs k (slots.Constant c) = false
 
 -- an array of the kind by its name, or a list of such scalars
-abbrev pub is_array_of : List Variable → List Array → List Value → List Slot → Kind → Argument → Bool
+abbrev pub is_array_of : List Variable → List Array → List Value → List Slot → Kind → Argument
+    → Bool
 is_array_of vs xs cs ss k (arguments.One s) = is_array_slot xs k s
 is_array_of vs xs cs ss k (arguments.List g) = list_all (is_of_kind vs cs k) (segment ss g)
 
@@ -53,7 +56,8 @@ is_array_of vs xs cs ss k (arguments.List g) = list_all (is_of_kind vs cs k) (se
 
 -- the number of elements: those of an array, one of a scalar
 abbrev pub slot_length : List Array → Slot → ℕ
-slot_length xs (slots.Array i) = option_map_or (λ a. length a.elements.slots.items) (slice_get xs i) 0
+slot_length xs (slots.Array i) =
+    option_map_or (λ a. length a.elements.slots.items) (slice_get xs i) 0
 slot_length xs (slots.Variable n) = 1
 slot_length xs (slots.Number i) = 1
 slot_length xs (slots.Truth b) = 1
@@ -70,4 +74,5 @@ length_at xs ss as' i = option_map_or (length_of xs ss) (slice_get as' i) 0
 -- the arguments at these places have equal lengths
 abbrev pub are_equally_long : List Array → List Slot → List ℕ → List Argument → Bool
 are_equally_long xs ss [] as' = true
-are_equally_long xs ss (i ∷ is) as' = list_all (λ j. length_at xs ss as' j == length_at xs ss as' i) is
+are_equally_long xs ss (i ∷ is) as' =
+    list_all (λ j. length_at xs ss as' j == length_at xs ss as' i) is

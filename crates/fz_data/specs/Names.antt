@@ -1,4 +1,5 @@
--- The table of names as the list that it stands for: each name with what it stands for, in source order (private functions only).
+-- The table of names as the list that it stands for: each name with what it stands for, in source
+-- order (private functions only).
 use Rattle.std.specs.Prelude.{ℕ, Bool, List, bytes_eq, map}
 use Rattle.std.specs.List.{AllByRecursion}
 use Rattle.fz_meaning.specs.declared.term.Term.{Term}

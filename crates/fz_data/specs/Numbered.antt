@@ -1,4 +1,5 @@
--- Names by the number that their digits come to, and how they are kept there. A reader need not believe this file: no public clause speaks of it.
+-- Names by the number that their digits come to, and how they are kept there. A reader need not
+-- believe this file: no public clause speaks of it.
 use Rattle.std.specs.Prelude.{◌≡◌, ℕ, zero, suc, ◌-◌, ◌+◌, ◌*◌, ◌/◌, ◌%◌, ◌^◌, ◌==◌, ltb, ◌&&◌, not, if◌then◌else◌, Bool, true, false, List, [], ◌∷◌, Option, Some, None, bytes_eq, take, slice_get, drop, length, option_map, ⊤}
 use Rattle.std.specs.List.{find, fold}
 use Rattle.fz_data.specs.declared.names.Entry.{Entry}
@@ -44,7 +45,9 @@ taken_as s c = Taken s (c / 4 % 64) (c / 256)
 
 -- what the two lowest bits tell: the sort, or that there is none
 abbrev pub place_as : ℕ → ℕ → Place
-place_as r c = if r == 1 then taken_as sorts.Variable c else if r == 2 then taken_as sorts.Parameter c else if r == 3 then taken_as sorts.Array c else if c == 0 then Free else Crowded
+place_as r c = if r == 1 then taken_as sorts.Variable c else if r == 2
+    then taken_as sorts.Parameter c else if r == 3 then taken_as sorts.Array c else if c == 0
+    then Free else Crowded
 
 abbrev pub unpacked : ℕ → Place
 unpacked c = place_as (c % 4) c
@@ -73,7 +76,8 @@ marks_of x = marks_from 8 (end_of x)
 
 -- whether a name is of a shape: of its length and head, and its end but for the digits
 abbrev pub is_of : Shape → List ℕ → Bool
-is_of s x = (s.len == length x) && (bytes_eq s.marks (marks_of x) && bytes_eq s.head.now (head_of x))
+is_of s x =
+    (s.len == length x) && (bytes_eq s.marks (marks_of x) && bytes_eq s.head.now (head_of x))
 
 -- the shape of that number is a name's
 abbrev pub IsShapeAt : List Shape → List ℕ → ℕ → Type 0
@@ -145,18 +149,21 @@ is_free_there ps x = is_free (place_at ps (number_of x))
 
 -- a name is found in the list with that entry, at its seat
 abbrev pub IsListed : List Kept → List ℕ → List ℕ → Entry → Type 0
-IsListed ks js x e = (k : Kept) × (j : ℕ) × (find (is_key x) ks ≡ Some k) × (k.entry ≡ e) × (slice_get js (number_of x) ≡ Some j) × (slice_get ks j ≡ Some k)
+IsListed ks js x e = (k : Kept) × (j : ℕ) × (find (is_key x) ks ≡ Some k) × (k.entry ≡ e)
+    × (slice_get js (number_of x) ≡ Some j) × (slice_get ks j ≡ Some k)
 
 -- a name is found among the others as in the list
 abbrev pub IsAmongOthers : List Kept → List Kept → List ℕ → Type 0
 IsAmongOthers ks os x = find (is_key x) os ≡ find (is_key x) ks
 
--- where a name is found, by the place of its number: where that is free, nowhere; where it is of the shape that the place is taken with, in
--- the list; else among the others
+-- where a name is found, by the place of its number: where that is free, nowhere; where it is of
+-- the shape that the place is taken with, in the list; else among the others
 abbrev pub StandsAt : List Kept → List Kept → List Shape → List ℕ → List ℕ → Option Place → Type 0
 StandsAt ks os ss js x None = IsAmongOthers ks os x
 StandsAt ks os ss js x (Some Free) = (find (is_key x) ks ≡ None) × (find (is_key x) os ≡ None)
-StandsAt ks os ss js x (Some (Taken s k n)) = (t : Shape) × (slice_get ss k ≡ Some t) × (is_of t x ≡ true → IsListed ks js x (entry_of s n)) × (is_of t x ≡ false → IsAmongOthers ks os x)
+StandsAt ks os ss js x (Some (Taken s k n)) =
+    (t : Shape) × (slice_get ss k ≡ Some t) × (is_of t x ≡ true → IsListed ks js x (entry_of s n))
+    × (is_of t x ≡ false → IsAmongOthers ks os x)
 StandsAt ks os ss js x (Some Crowded) = IsAmongOthers ks os x
 
 -- the listed names are found by the shapes, places and seats, or among the others

@@ -1,5 +1,6 @@
--- What the parts of a loaded model stand for: the model as it is defined, without memory (this project's profile). Variables and arrays are
--- cited by their numbers; nothing rests on what stands for a number that is none's.
+-- What the parts of a loaded model stand for: the model as it is defined, without memory (this
+-- project's profile). Variables and arrays are cited by their numbers; nothing rests on what stands
+-- for a number that is none's.
 use Rattle.std.specs.Prelude.{ℕ, List, [], map, Option, None, Some, cond, option_map, slice_get}
 use Rattle.std.specs.Option.{option_map_or}
 use Rattle.fz_meaning.specs.Values.{kind_of}
@@ -71,8 +72,10 @@ array_at xs i = option_map_or array_view (slice_get xs i) no_array
 -- ---- declarations
 
 abbrev pub scalar_declared : List Variable → List ℕ → Term → meaning.Declared
-scalar_declared vs x (Var n) = meaning.Declared.ScalarVariable (variable_at vs n) (definition_at vs n)
-scalar_declared vs x (Fixed v) = meaning.Declared.Parameter x (meaning.Place.Scalar (kind_of v) (Fixed v))
+scalar_declared vs x (Var n) =
+    meaning.Declared.ScalarVariable (variable_at vs n) (definition_at vs n)
+scalar_declared vs x (Fixed v) =
+    meaning.Declared.Parameter x (meaning.Place.Scalar (kind_of v) (Fixed v))
 
 abbrev pub array_declared : Array → meaning.Declared
 array_declared x =
@@ -82,7 +85,8 @@ array_declared x =
 
 abbrev pub declared_view : List Variable → List Array → List ℕ → Declared → meaning.Declared
 declared_view vs xs name (declarations.Scalar t) = scalar_declared vs name t
-declared_view vs xs name (declarations.Array i) = option_map_or array_declared (slice_get xs i) (meaning.Declared.Parameter name no_array)
+declared_view vs xs name (declarations.Array i) =
+    option_map_or array_declared (slice_get xs i) (meaning.Declared.Parameter name no_array)
 
 -- what the declared name stands for
 abbrev pub declared_place : List Variable → List Array → Declared → meaning.Place
@@ -100,11 +104,18 @@ place_view vs xs cs (slots.Constant k) = scalar_view vs (slot_term cs (slots.Con
 place_view vs xs cs (slots.Array i) = array_at xs i
 
 abbrev pub argument_view : List Variable → List Array → Store → Argument → meaning.Argument
-argument_view vs xs st (arguments.One s) = meaning.Argument.One (place_view vs xs st.constants.items s)
-argument_view vs xs st (arguments.List g) = meaning.Argument.ListOf (map (place_view vs xs st.constants.items) (segment st.slots.items g))
+argument_view vs xs st (arguments.One s) =
+    meaning.Argument.One (place_view vs xs st.constants.items s)
+argument_view vs xs st (arguments.List g) =
+    meaning.Argument.ListOf (map (place_view vs xs st.constants.items) (segment st.slots.items g))
 
 abbrev pub posted_view : List Variable → List Array → Store → Posted → meaning.Posted
-posted_view vs xs st p = record { name = p.name.now; arguments = map (argument_view vs xs st) (segment st.arguments.items p.arguments); target = p.target }
+posted_view vs xs st p = record {
+  name = p.name.now;
+  arguments = map (argument_view vs xs st)
+      (segment st.arguments.items p.arguments);
+  target = p.target;
+}
 
 -- the row of the table that it is kept with
 abbrev pub kept_row : Posted → Option Row
@@ -130,4 +141,5 @@ elements_point x = meaning.Point.ArrayPoint x.name.now x.domain (elements_of x)
 abbrev pub declared_point : List Variable → List Array → DeclaredPoint → meaning.Point
 declared_point vs xs (points.Domain n) = meaning.Point.DomainPoint (variable_at vs n) n
 declared_point vs xs (points.Definition n) = definition_point vs n (definition_at vs n)
-declared_point vs xs (points.Elements i) = option_map_or elements_point (slice_get xs i) (meaning.Point.ArrayPoint [] All [])
+declared_point vs xs (points.Elements i) =
+    option_map_or elements_point (slice_get xs i) (meaning.Point.ArrayPoint [] All [])

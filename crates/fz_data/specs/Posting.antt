@@ -22,23 +22,32 @@ pub record IsLonger (before after : Store) : Type 0 where
   pub constants : IsGrown before.constants.items after.constants.items
 
 abbrev pub IsPlaceOf : Scope → List Value → meaning.Place → Slot → Type 0
-IsPlaceOf s cs x o = (later : List Value) → IsGrown cs later → place_view s.variables.items s.arrays.items later o ≡ x
+IsPlaceOf s cs x o = (later : List Value) → IsGrown cs later
+    → place_view s.variables.items s.arrays.items later o ≡ x
 
 abbrev pub ArePlacesOf : Scope → Store → List meaning.Place → Segment → Type 0
-ArePlacesOf s st xs g = (later : Store) → IsLonger st later → map (place_view s.variables.items s.arrays.items later.constants.items) (segment later.slots.items g) ≡ xs
+ArePlacesOf s st xs g = (later : Store) → IsLonger st later
+    → map (place_view s.variables.items s.arrays.items later.constants.items)
+    (segment later.slots.items g) ≡ xs
 
 abbrev pub IsArgumentOf : Scope → Store → meaning.Argument → Argument → Type 0
-IsArgumentOf s st x a = (later : Store) → IsLonger st later → argument_view s.variables.items s.arrays.items later a ≡ x
+IsArgumentOf s st x a =
+    (later : Store) → IsLonger st later → argument_view s.variables.items s.arrays.items later a ≡ x
 
 abbrev pub AreArgumentsOf : Scope → Store → List meaning.Argument → Segment → Type 0
-AreArgumentsOf s st xs g = (later : Store) → IsLonger st later → map (argument_view s.variables.items s.arrays.items later) (segment later.arguments.items g) ≡ xs
+AreArgumentsOf s st xs g = (later : Store) → IsLonger st later
+    → map (argument_view s.variables.items s.arrays.items later) (segment later.arguments.items g)
+    ≡ xs
 
 abbrev pub IsPostedOf : Scope → Store → meaning.Posted → Posted → Type 0
-IsPostedOf s st x p = (later : Store) → IsLonger st later → posted_view s.variables.items s.arrays.items later p ≡ x
+IsPostedOf s st x p =
+    (later : Store) → IsLonger st later → posted_view s.variables.items s.arrays.items later p ≡ x
 
 -- The constraints so far have no fault, and what was found reads as they are looked up, whatever
 -- the store gets behind it, each with its row.
-pub record Posts (s : Scope) (known : List Constraint) (store : Store) (found : List Posted) : Type 0 where
+pub record Posts (s : Scope) (known : List Constraint) (store : Store)
+    (found : List Posted) : Type 0 where
   pub clean : first_some (constraint_fault_in s) known ≡ None
-  pub views : (later : Store) → IsLonger store later → map (posted_view s.variables.items s.arrays.items later) found ≡ map (posted_in s) known
+  pub views : (later : Store) → IsLonger store later
+      → map (posted_view s.variables.items s.arrays.items later) found ≡ map (posted_in s) known
   pub rows : map kept_row found ≡ map row_of (map (posted_in s) known)

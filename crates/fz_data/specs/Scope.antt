@@ -1,4 +1,5 @@
--- Only private functions use these: what the names that were declared so far stand for, as the loader keeps them, and what an error tells.
+-- Only private functions use these: what the names that were declared so far stand for, as the
+-- loader keeps them, and what an error tells.
 use Rattle.std.specs.Prelude.{◌≡◌, ◌++◌, ◌∷◌, ℕ, pos, ⊤, Bool, true, false, List, [], Option, Some, None, cond, bytes_eq, option_map, map, length, is_some, is_none, not, ◌&&◌, codes, option_and_then}
 use Rattle.std.specs.Map.{lookup}
 use Rattle.fz_base.specs.declared.span.Span.{Span}
@@ -39,7 +40,7 @@ use Rattle.fz_data.specs.declared.parts.DeclaredPoint.TheVariants as points
 use Rattle.fz_data.specs.declared.parts.Variable.{Variable}
 use Rattle.fz_data.specs.Parts.{variable_view, declared_place, elements_of}
 
--- the error tells the fault, where it is not for want of memory
+-- the error tells the fault, unless memory ran out
 abbrev pub Tells : ModelError → Option Fault → Type 0
 Tells (errors.DuplicateName at) f = f ≡ Some (DuplicateName, at)
 Tells (errors.UnknownName at) f = f ≡ Some (UnknownName, at)
@@ -49,7 +50,8 @@ Tells errors.Memory f = ⊤
 
 -- what a name stands for
 abbrev pub place_in : Scope → List ℕ → Option Place
-place_in s x = option_map (declared_place s.variables.items s.arrays.items) (lookup (has_text x) s.names)
+place_in s x =
+    option_map (declared_place s.variables.items s.arrays.items) (lookup (has_text x) s.names)
 
 -- a name that stands for nothing, or for no scalar of the wanted kind
 abbrev pub place_fault : Option Kind → Option Place → Span → Option Fault
@@ -100,22 +102,28 @@ abbrev pub IsNewName : Scope → List ℕ → Type 0
 IsNewName s x = is_none (lookup (has_text x) s.names) ≡ true
 
 abbrev pub name_fault_in : Scope → Decl → Option Fault
-name_fault_in s d = cond (is_declared s d.name.text) (Some (DuplicateName, d.name.span)) (cond (differs_in_length d) (Some (WrongLength, d.name.span)) None)
+name_fault_in s d = cond (is_declared s d.name.text) (Some (DuplicateName, d.name.span))
+    (cond (differs_in_length d) (Some (WrongLength, d.name.span)) None)
 
 abbrev pub decl_fault_in : Scope → Decl → Option Fault
-decl_fault_in s d = option_or (name_fault_in s d) (faults_in s (Some (kind_of_base d.base)) (parts d.value))
+decl_fault_in s d =
+    option_or (name_fault_in s d) (faults_in s (Some (kind_of_base d.base)) (parts d.value))
 
 abbrev pub definition_in : Scope → Option Expr → Option Term
 definition_in s (Some (One b)) = Some (term_in s b)
 definition_in s _ = None
 
 abbrev pub IsArrayOf : Scope → Decl → the_array.Array → Type 0
-IsArrayOf s d x = (x.is_variable ≡ d.is_var) × (x.name.now ≡ d.name.text) × (x.kind ≡ kind_of_base d.base) × (x.domain ≡ domain_of d.base) × (elements_of x ≡ map (term_in s) (parts d.value))
+IsArrayOf s d x = (x.is_variable ≡ d.is_var) × (x.name.now ≡ d.name.text)
+    × (x.kind ≡ kind_of_base d.base) × (x.domain ≡ domain_of d.base)
+    × (elements_of x ≡ map (term_in s) (parts d.value))
 
 -- what is declared: a parameter by its value, a variable, or an array
 abbrev pub IsItem : Scope → Decl → Item → Type 0
-IsItem s d (items.Parameter v) = (is_scalar d ≡ true) × (d.is_var ≡ false) × (v ≡ literal_of d.value) × (same_kind (kind_of v) (kind_of_base d.base) ≡ true)
-IsItem s d (items.Variable v) = (is_scalar d ≡ true) × (d.is_var ≡ true) × (variable_view v ≡ variable_declared d) × (v.definition ≡ definition_in s d.value)
+IsItem s d (items.Parameter v) = (is_scalar d ≡ true) × (d.is_var ≡ false)
+    × (v ≡ literal_of d.value) × (same_kind (kind_of v) (kind_of_base d.base) ≡ true)
+IsItem s d (items.Variable v) = (is_scalar d ≡ true) × (d.is_var ≡ true)
+    × (variable_view v ≡ variable_declared d) × (v.definition ≡ definition_in s d.value)
 IsItem s d (items.Array x) = (is_scalar d ≡ false) × IsArrayOf s d x
 
 -- what its name is kept with
@@ -139,8 +147,11 @@ has_elements_point x = x.is_variable && not (admits_all x.domain)
 
 abbrev pub new_points : Scope → Item → List DeclaredPoint
 new_points s (items.Parameter v) = []
-new_points s (items.Variable v) = points.Domain (length s.variables.items) ∷ cond (is_some v.definition) (points.Definition (length s.variables.items) ∷ []) []
-new_points s (items.Array x) = cond (has_elements_point x) (points.Elements (length s.arrays.items) ∷ []) []
+new_points s (items.Variable v) =
+    points.Domain (length s.variables.items)
+    ∷ cond (is_some v.definition) (points.Definition (length s.variables.items) ∷ []) []
+new_points s (items.Array x) =
+    cond (has_elements_point x) (points.Elements (length s.arrays.items) ∷ []) []
 
 -- the kinds of the variables stand side by side
 abbrev pub HasKinds : Scope → Type 0
@@ -185,10 +196,15 @@ abbrev pub only_name : NoteArgs → Option (List ℕ)
 only_name args = option_and_then bare_name_of (option_and_then inner_of (only_arg args))
 
 abbrev pub defined_in : Scope → Note → Option ℕ
-defined_in s (Called n args) = cond (bytes_eq n (codes "defines_var")) (option_and_then (λ x. variable_by_place (place_in s x)) (only_name args)) None
+defined_in s (Called n args) = cond (bytes_eq n (codes "defines_var"))
+    (option_and_then (λ x. variable_by_place (place_in s x)) (only_name args)) None
 
 abbrev pub posted_in : Scope → Constraint → Posted
-posted_in s c = record { name = c.name; arguments = map (argument_in s) c.args; target = first_some (defined_in s) c.notes }
+posted_in s c = record {
+  name = c.name;
+  arguments = map (argument_in s) c.args;
+  target = first_some (defined_in s) c.notes;
+}
 
 abbrev pub aim_in : Scope → Goal → Aim
 aim_in s Satisfy = Aim.Satisfy

@@ -1,5 +1,5 @@
--- What a caller is shown of a model: points by their names, constraints with arrays by theirs, and what a name stands for (this project's
--- profile).
+-- What a caller is shown of a model: points by their names, constraints with arrays by theirs, and
+-- what a name stands for (this project's profile).
 use Rattle.std.specs.Prelude.{ℕ, List, [], map, slice_get, ⊤}
 use Rattle.std.specs.Option.{option_map_or}
 use Rattle.fz_meaning.specs.Values.{kind_of}
@@ -62,14 +62,21 @@ shown_place xs cs (slots.Variable n) = meaning.ShownScalar (slot_term cs (slots.
 shown_place xs cs (slots.Number i) = meaning.ShownScalar (slot_term cs (slots.Number i))
 shown_place xs cs (slots.Truth b) = meaning.ShownScalar (slot_term cs (slots.Truth b))
 shown_place xs cs (slots.Constant k) = meaning.ShownScalar (slot_term cs (slots.Constant k))
-shown_place xs cs (slots.Array i) = meaning.ShownArray (option_map_or (λ x. x.name.now) (slice_get xs i) [])
+shown_place xs cs (slots.Array i) =
+    meaning.ShownArray (option_map_or (λ x. x.name.now) (slice_get xs i) [])
 
 abbrev pub shown_argument : List Array → Store → Argument → meaning.ShownArgument
 shown_argument xs st (arguments.One s) = meaning.ShownOne (shown_place xs st.constants.items s)
-shown_argument xs st (arguments.List g) = meaning.ShownList (map (shown_place xs st.constants.items) (segment st.slots.items g))
+shown_argument xs st (arguments.List g) =
+    meaning.ShownList (map (shown_place xs st.constants.items) (segment st.slots.items g))
 
 abbrev pub shown_posted : List Array → Store → Posted → meaning.ShownPosted
-shown_posted xs st p = record { name = p.name.now; arguments = map (shown_argument xs st) (segment st.arguments.items p.arguments); target = p.target }
+shown_posted xs st p = record {
+  name = p.name.now;
+  arguments = map (shown_argument xs st)
+      (segment st.arguments.items p.arguments);
+  target = p.target;
+}
 
 -- ---- names
 
@@ -79,7 +86,8 @@ kind_among vs (Var n) = option_map_or (λ v. v.kind) (slice_get vs n) IntKind
 kind_among vs (Fixed v) = kind_of v
 
 abbrev pub what_place : List meaning.Variable → List ℕ → What → meaning.Place
-what_place vs x (whats.Scalar s) = meaning.Place.Scalar (kind_among vs (scalar_term s)) (scalar_term s)
+what_place vs x (whats.Scalar s) =
+    meaning.Place.Scalar (kind_among vs (scalar_term s)) (scalar_term s)
 what_place vs x (whats.Array k ts) = meaning.Place.Array x k (scalar_terms ts)
 
 -- what is found under a name, among these variables

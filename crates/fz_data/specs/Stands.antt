@@ -1,4 +1,5 @@
--- Only private functions use these: what was declared so far stands for declarations, whatever more variables and arrays come.
+-- Only private functions use these: what was declared so far stands for declarations, whatever more
+-- variables and arrays come.
 use Rattle.std.specs.Prelude.{◌≡◌, ℕ, ◌++◌, List, [], None, map, flat_map}
 use Rattle.std.specs.List.{AllByRecursion}
 use Rattle.fz_meaning.specs.Located.{Decl}
@@ -29,13 +30,19 @@ is_kept xs p = IsKeptAs xs p.0 p.1
 abbrev pub declared_pair : List Decl → Decl → (List ℕ × Place)
 declared_pair all d = (d.name.text, place_of_declared all d)
 
-pub record Stands (all known : List Decl) (es : List Entry) (vs : List Variable) (xs : List the_array.Array) (ps : List DeclaredPoint) : Type 0 where
-  pub declared : (ws : List Variable) (ys : List the_array.Array) → map (entry_view (vs ++ ws) (xs ++ ys)) es ≡ map (declared_of all) known
-  pub places : (ws : List Variable) (ys : List the_array.Array) → map (entry_place (vs ++ ws) (xs ++ ys)) es ≡ map (declared_pair all) known
+pub record Stands (all known : List Decl) (es : List Entry) (vs : List Variable)
+    (xs : List the_array.Array) (ps : List DeclaredPoint) : Type 0 where
+  pub declared : (ws : List Variable) (ys : List the_array.Array)
+      → map (entry_view (vs ++ ws) (xs ++ ys)) es ≡ map (declared_of all) known
+  pub places : (ws : List Variable) (ys : List the_array.Array)
+      → map (entry_place (vs ++ ws) (xs ++ ys)) es ≡ map (declared_pair all) known
   pub kept : (ys : List the_array.Array) → AllByRecursion (is_kept (xs ++ ys)) es
   pub variables : map variable_view vs ≡ map variable_declared (scalar_variables known)
-  pub points : (ws : List Variable) (ys : List the_array.Array) → map (declared_point (vs ++ ws) (xs ++ ys)) ps ≡ flat_map declared_points (numbered_from 0 (map (declared_of all) known))
-  pub placed : (ws : List Variable) (ys : List the_array.Array) → AllByRecursion (IsPlaced (vs ++ ws) (xs ++ ys)) ps
+  pub points : (ws : List Variable) (ys : List the_array.Array)
+      → map (declared_point (vs ++ ws) (xs ++ ys)) ps
+      ≡ flat_map declared_points (numbered_from 0 (map (declared_of all) known))
+  pub placed : (ws : List Variable) (ys : List the_array.Array)
+      → AllByRecursion (IsPlaced (vs ++ ws) (xs ++ ys)) ps
 
 -- the scope stands for the first of all declarations
 abbrev pub StandsFor : List Decl → List Decl → Scope → Type 0

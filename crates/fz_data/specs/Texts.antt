@@ -46,7 +46,8 @@ pub record BeginsWithDecls (source : List ℕ) (ds : List Decl) : Type 0 where
   pub decls : all.decls ≡ ds ++ more
 
 -- The source is a text of a tree whose declarations are these, and the first constraints.
-pub record BeginsWithConstraints (source : List ℕ) (ds : List Decl) (cs : List Constraint) : Type 0 where
+pub record BeginsWithConstraints (source : List ℕ) (ds : List Decl)
+    (cs : List Constraint) : Type 0 where
   pub all : TreeItems
   pub text : IsTextOfAll source all
   pub decls : all.decls ≡ ds
@@ -84,7 +85,8 @@ pub record HasDeclared (ps : List Predicate) (i : Items) (s : Scope) : Type 0 wh
   pub declares : Declares (map located_decl decls) s
 
 -- All constraints were offered too, and what was found are these.
-pub record HasPosted (ps : List Predicate) (ds : List Decl) (i : Items) (s : Scope) (store : Store) (found : List Posted) : Type 0 where
+pub record HasPosted (ps : List Predicate) (ds : List Decl) (i : Items) (s : Scope) (store : Store)
+    (found : List Posted) : Type 0 where
   pub constraints : List Constraint
   pub offered : AtSolve ps ds constraints i
   pub posts : Posts s (map located_constraint constraints) store found

@@ -70,9 +70,11 @@ fn definition_of(
     value: &Option<Expr<'_>>,
 ) -> Result<Option<Term>, ModelError>
     requires kinds { HasKinds scope.now }
-    ensures clean { IfOk result (λ _. faults_in scope.now (Some kind) (parts (located_value value.now)) ≡ None) }
+    ensures clean { IfOk result (λ _. faults_in scope.now (Some kind)
+        (parts (located_value value.now)) ≡ None) }
     ensures term { IfOk result (λ t. t ≡ definition_in scope.now (located_value value.now)) }
-    ensures tells { IfErr result (λ e. Tells e (faults_in scope.now (Some kind) (parts (located_value value.now)))) }
+    ensures tells { IfErr result (λ e. Tells e
+        (faults_in scope.now (Some kind) (parts (located_value value.now)))) }
 {
     match value {
         None => Ok(None),
@@ -88,9 +90,12 @@ fn expression_definition(
     expression: &Expr<'_>,
 ) -> Result<Option<Term>, ModelError>
     requires kinds { HasKinds scope.now }
-    ensures clean { IfOk result (λ _. faults_in scope.now (Some kind) (parts (Some (located_expr expression.now))) ≡ None) }
-    ensures term { IfOk result (λ t. t ≡ definition_in scope.now (Some (located_expr expression.now))) }
-    ensures tells { IfErr result (λ e. Tells e (faults_in scope.now (Some kind) (parts (Some (located_expr expression.now))))) }
+    ensures clean { IfOk result (λ _. faults_in scope.now (Some kind)
+        (parts (Some (located_expr expression.now))) ≡ None) }
+    ensures term { IfOk result (λ t. t
+        ≡ definition_in scope.now (Some (located_expr expression.now))) }
+    ensures tells { IfErr result (λ e. Tells e
+        (faults_in scope.now (Some kind) (parts (Some (located_expr expression.now))))) }
 {
     match expression {
         Expr::One(part) => {
@@ -106,10 +111,12 @@ fn expression_definition(
 
 /// The value of a literal of a kind, as one basic expression.
 fn part_value(alloc: Global, kind: Kind, part: &Basic<'_>) -> Result<Value, ModelError>
-    ensures clean { IfOk result (λ _. (s : Scope) → fault_in s (Some kind) (located_basic part.now) ≡ None) }
+    ensures clean { IfOk result (λ _. (s : Scope)
+        → fault_in s (Some kind) (located_basic part.now) ≡ None) }
     ensures value { IfOk result (λ v. v ≡ literal_of (Some (One (located_basic part.now)))) }
     ensures of_kind { IfOk result (λ v. same_kind (kind_of v) kind ≡ true) }
-    ensures tells { IfErr result (λ e. (s : Scope) → Tells e (fault_in s (Some kind) (located_basic part.now))) }
+    ensures tells { IfErr result (λ e. (s : Scope)
+        → Tells e (fault_in s (Some kind) (located_basic part.now))) }
 {
     match part {
         Basic::Lit(literal) => {
@@ -122,13 +129,16 @@ fn part_value(alloc: Global, kind: Kind, part: &Basic<'_>) -> Result<Value, Mode
     }
 }
 
-/// The value of a parameter, which is a literal in each tree of the grammar. A tree of no source, with a name or a list in its
-/// place, means nothing that could be kept: it is refused as where memory runs out.
+/// The value of a parameter, which is a literal in each tree of the grammar. A tree of no source,
+/// with a name or a list in its place, means nothing that could be kept: it is refused as where
+/// memory runs out.
 fn parameter_value(alloc: Global, kind: Kind, value: &Option<Expr<'_>>) -> Result<Value, ModelError>
-    ensures clean { IfOk result (λ _. (s : Scope) → faults_in s (Some kind) (parts (located_value value.now)) ≡ None) }
+    ensures clean { IfOk result (λ _. (s : Scope)
+        → faults_in s (Some kind) (parts (located_value value.now)) ≡ None) }
     ensures value { IfOk result (λ v. v ≡ literal_of (located_value value.now)) }
     ensures of_kind { IfOk result (λ v. same_kind (kind_of v) kind ≡ true) }
-    ensures tells { IfErr result (λ e. (s : Scope) → Tells e (faults_in s (Some kind) (parts (located_value value.now)))) }
+    ensures tells { IfErr result (λ e. (s : Scope)
+        → Tells e (faults_in s (Some kind) (parts (located_value value.now)))) }
 {
     match value {
         Some(expression) => expression_value(alloc, kind, expression),
@@ -137,10 +147,12 @@ fn parameter_value(alloc: Global, kind: Kind, value: &Option<Expr<'_>>) -> Resul
 }
 
 fn expression_value(alloc: Global, kind: Kind, expression: &Expr<'_>) -> Result<Value, ModelError>
-    ensures clean { IfOk result (λ _. (s : Scope) → faults_in s (Some kind) (parts (Some (located_expr expression.now))) ≡ None) }
+    ensures clean { IfOk result (λ _. (s : Scope)
+        → faults_in s (Some kind) (parts (Some (located_expr expression.now))) ≡ None) }
     ensures value { IfOk result (λ v. v ≡ literal_of (Some (located_expr expression.now))) }
     ensures of_kind { IfOk result (λ v. same_kind (kind_of v) kind ≡ true) }
-    ensures tells { IfErr result (λ e. (s : Scope) → Tells e (faults_in s (Some kind) (parts (Some (located_expr expression.now))))) }
+    ensures tells { IfErr result (λ e. (s : Scope)
+        → Tells e (faults_in s (Some kind) (parts (Some (located_expr expression.now))))) }
 {
     match expression {
         Expr::One(part) => {
@@ -154,9 +166,12 @@ fn expression_value(alloc: Global, kind: Kind, expression: &Expr<'_>) -> Result<
 /// A declared array.
 fn array_of<'a>(alloc: Global, scope: &Scope<'a>, decl: &Decl<'a>) -> Result<Array<'a>, ModelError>
     requires kinds { HasKinds scope.now }
-    ensures clean { IfOk result (λ _. faults_in scope.now (Some (kind_of_base (located_decl decl.now).base)) (parts (located_decl decl.now).value) ≡ None) }
+    ensures clean { IfOk result (λ _. faults_in scope.now
+        (Some (kind_of_base (located_decl decl.now).base)) (parts (located_decl decl.now).value)
+        ≡ None) }
     ensures array { IfOk result (λ x. IsArrayOf scope.now (located_decl decl.now) x) }
-    ensures tells { IfErr result (λ e. Tells e (faults_in scope.now (Some (kind_of_base (located_decl decl.now).base)) (parts (located_decl decl.now).value))) }
+    ensures tells { IfErr result (λ e. Tells e (faults_in scope.now
+        (Some (kind_of_base (located_decl decl.now).base)) (parts (located_decl decl.now).value))) }
 {
     let kind = base_kind(&decl.base);
     let elements = scalars_of(alloc, scope, kind, value_parts(&decl.value))?;
@@ -177,10 +192,15 @@ fn variable_of<'a>(
     decl: &Decl<'a>,
 ) -> Result<Variable<'a>, ModelError>
     requires kinds { HasKinds scope.now }
-    ensures clean { IfOk result (λ _. faults_in scope.now (Some (kind_of_base (located_decl decl.now).base)) (parts (located_decl decl.now).value) ≡ None) }
-    ensures variable { IfOk result (λ v. variable_view v ≡ variable_declared (located_decl decl.now)) }
-    ensures definition { IfOk result (λ v. v.definition ≡ definition_in scope.now (located_decl decl.now).value) }
-    ensures tells { IfErr result (λ e. Tells e (faults_in scope.now (Some (kind_of_base (located_decl decl.now).base)) (parts (located_decl decl.now).value))) }
+    ensures clean { IfOk result (λ _. faults_in scope.now
+        (Some (kind_of_base (located_decl decl.now).base)) (parts (located_decl decl.now).value)
+        ≡ None) }
+    ensures variable { IfOk result
+        (λ v. variable_view v ≡ variable_declared (located_decl decl.now)) }
+    ensures definition { IfOk result
+        (λ v. v.definition ≡ definition_in scope.now (located_decl decl.now).value) }
+    ensures tells { IfErr result (λ e. Tells e (faults_in scope.now
+        (Some (kind_of_base (located_decl decl.now).base)) (parts (located_decl decl.now).value))) }
 {
     let kind = base_kind(&decl.base);
     let definition = definition_of(alloc, scope, kind, &decl.value)?;
@@ -200,9 +220,12 @@ fn unnamed_item<'a>(
     decl: &Decl<'a>,
 ) -> Result<Item<'a>, ModelError>
     requires kinds { HasKinds scope.now }
-    ensures clean { IfOk result (λ _. faults_in scope.now (Some (kind_of_base (located_decl decl.now).base)) (parts (located_decl decl.now).value) ≡ None) }
+    ensures clean { IfOk result (λ _. faults_in scope.now
+        (Some (kind_of_base (located_decl decl.now).base)) (parts (located_decl decl.now).value)
+        ≡ None) }
     ensures item { IfOk result (λ x. IsItem scope.now (located_decl decl.now) x) }
-    ensures tells { IfErr result (λ e. Tells e (faults_in scope.now (Some (kind_of_base (located_decl decl.now).base)) (parts (located_decl decl.now).value))) }
+    ensures tells { IfErr result (λ e. Tells e (faults_in scope.now
+        (Some (kind_of_base (located_decl decl.now).base)) (parts (located_decl decl.now).value))) }
 {
     if decl.length.is_some() {
         let array = array_of(alloc, scope, decl)?;
@@ -216,7 +239,8 @@ fn unnamed_item<'a>(
     Ok(Item::Parameter(value))
 }
 
-/// What a declaration declares. It refuses the first fault: at the name, or else at the first part of the value.
+/// What a declaration declares. It refuses the first fault: at the name, or else at the first part
+/// of the value.
 pub(crate) fn item_of<'a>(
     alloc: Global,
     scope: &Scope<'a>,

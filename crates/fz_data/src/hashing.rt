@@ -1,5 +1,6 @@
-//! How declared names are hashed: those that a compiler makes differ in their digits alone, and stand side by side in the table, one group
-//! after another, so that each finds its group near when it is put there. Nothing rests on which names collide.
+//! How declared names are hashed: those that a compiler makes differ in their digits alone, and
+//! stand side by side in the table, one group after another, so that each finds its group near when
+//! it is put there. Nothing rests on which names collide.
 
 ghost use Rattle.std.specs.Prelude.{◌≡◌, ◌+◌, ◌*◌, ◌/◌, ◌%◌, ◌^◌};
 ghost use Rattle.std.specs.List.{fold};
@@ -9,12 +10,13 @@ ghost use Rattle.fz_data.specs.Numbered.{with_byte};
 use crate::numbered::with_byte;
 use std::hash::Hasher;
 
-/// So many numbers that follow each other have groups that do. It is a page of the table; more would let names of two shapes lie over each
-/// other for so long that each further one had to go past all their groups.
+/// So many numbers that follow each other have groups that do. It is a page of the table; more
+/// would let names of two shapes lie over each other for so long that each further one had to go
+/// past all their groups.
 const TOGETHER: u64 = 64;
 
-/// A hasher of names: the number that their digits come to, and a mix of what stands around these. As with the usual one, whose seed is
-/// fixed too, whoever picks the names can make them collide.
+/// A hasher of names: the number that their digits come to, and a mix of what stands around these.
+/// As with the usual one, whose seed is fixed too, whoever picks the names can make them collide.
 #[derive(Clone, Copy, Drop)]
 pub(crate) struct NameHasher {
     number: usize,
@@ -47,7 +49,10 @@ impl Default for NameHasher {
 }
 
 impl Hasher for NameHasher {
-    ghost write = { λ s bytes. record { number = fold with_byte s.number bytes; mix = fold mix_with s.mix bytes } };
+    ghost write = { λ s bytes. record {
+      number = fold with_byte s.number bytes;
+      mix = fold mix_with s.mix bytes;
+    } };
 
     ghost finish = { λ s. tag_of s.number s.mix * 2 ^ 24 + group_of s.number s.mix };
 

@@ -1,5 +1,5 @@
 //! The model of a tree as the checker keeps it: names looked up once, and values by variable
-//! number. The inner crate below `fz_model`, which offers all of it.
+//! number. An internal crate of `fz_model`, which offers all of it.
 #![tactic(auto)]
 
 mod declaring;

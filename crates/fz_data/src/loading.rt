@@ -44,9 +44,11 @@ pub(crate) fn declare<'a>(
     decl: &Decl<'a>,
 ) -> Result<(), ModelError>
     requires kinds { HasKinds scope.old }
-    ensures more { (known : List LocatedDecl) → Declares known scope.old → OnOk result (Declares (known ++ located_decl decl.now ∷ []) scope.new) }
+    ensures more { (known : List LocatedDecl) → Declares known scope.old
+        → OnOk result (Declares (known ++ located_decl decl.now ∷ []) scope.new) }
     ensures kinds { OnOk result (HasKinds scope.new) }
-    ensures tells { (known : List LocatedDecl) → Declares known scope.old → IfErr result (λ e. Tells e (decl_fault known (located_decl decl.now))) }
+    ensures tells { (known : List LocatedDecl) → Declares known scope.old
+        → IfErr result (λ e. Tells e (decl_fault known (located_decl decl.now))) }
 {
     let item = item_of(alloc, scope, decl)?;
     add(scope, decl.name.text, item)?;
@@ -79,13 +81,15 @@ fn read<'a>(alloc: Global, ast: &Ast<'a>) -> Result<Model<'a>, ModelError>
     Ok(Model::assembled(scope, store, constraints, goal))
 }
 
-/// The model of a tree. It refuses a tree with faults, with the leftmost; else only where memory runs out.
+/// The model of a tree. It refuses a tree with faults, with the leftmost; else only where memory
+/// runs out.
 pub fn load<'a>(alloc: Global, ast: &Ast<'a>) -> Result<Model<'a>, ModelError>
     ensures no_fault { IfOk result (λ _. HasNoFault (located ast.now)) }
     ensures model { IfOk result (λ m. m ≡ model_of (located ast.now)) }
     // Of any tree, wherever its names stand: the fault that is told is there.
     ensures only { IfErr result (TellsFault (located ast.now)) }
-    ensures first { IsInReadingOrder (located ast.now) → IfErr result (TellsFirstFault (located ast.now)) }
+    ensures first { IsInReadingOrder (located ast.now)
+        → IfErr result (TellsFirstFault (located ast.now)) }
 {
     read(alloc, ast)
 }

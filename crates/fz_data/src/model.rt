@@ -14,7 +14,8 @@ use crate::point::{ConstraintParts, Constraints, Point, PointParts};
 use crate::scope::Scope;
 use crate::store::{Scalar, Store, read_term};
 
-/// A model with its names looked up. A contract sees it as the model of the tree that it was loaded from.
+/// A model with its names looked up. A contract sees it as the model of the tree that it was loaded
+/// from.
 #[derive(Drop)]
 pub struct Model<'a> {
     /// the declared names, in source order
@@ -55,7 +56,8 @@ impl<'a> Model<'a> {
 
     /// The constraints, in source order. It takes no memory.
     pub fn constraints(&self) -> Constraints<'_, 'a>
-        ensures all { map (shown_posted result.arrays.now result.store.now) result.posted.now ≡ map shown self.now.constraints }
+        ensures all { map (shown_posted result.arrays.now result.store.now) result.posted.now
+            ≡ map shown self.now.constraints }
     {
         Constraints {
             posted: &self.constraints,
@@ -73,21 +75,26 @@ impl<'a> Model<'a> {
 
     /// What a name stands for, where it is declared. It takes no memory.
     pub fn find(&self, name: &[u8]) -> Option<Found<'_, 'a>>
-        ensures place { option_map (found_place (variables_of self.now)) result ≡ find_name self.now name.now }
+        ensures place { option_map (found_place (variables_of self.now)) result
+            ≡ find_name self.now name.now }
         ensures text { IfSome result (λ f. f.name.now ≡ name.now) }
-        ensures kinds { IfSome result (λ f. PlaceFits self.now (found_place (variables_of self.now) f)) }
+        ensures kinds { IfSome result (λ f. PlaceFits self.now
+            (found_place (variables_of self.now) f)) }
     {
         // No name stands at the last number, so that nothing is looked at there.
         let (found, _) = self.find_at(name, usize::MAX)?;
         Some(found)
     }
 
-    /// What a name stands for, where it is declared, and its place among the names. It is looked for at this place first, which may be
-    /// any: who keeps where a name was found finds it there again without a look-up. It takes no memory.
+    /// What a name stands for, where it is declared, and its place among the names. It is looked
+    /// for at this place first, which may be any: who keeps where a name was found finds it there
+    /// again without a look-up. It takes no memory.
     pub fn find_at(&self, name: &[u8], place: usize) -> Option<(Found<'_, 'a>, usize)>
-        ensures place { option_map (λ f. found_place (variables_of self.now) f.0) result ≡ find_name self.now name.now }
+        ensures place { option_map (λ f. found_place (variables_of self.now) f.0) result
+            ≡ find_name self.now name.now }
         ensures text { IfSome result (λ f. f.0.name.now ≡ name.now) }
-        ensures kinds { IfSome result (λ f. PlaceFits self.now (found_place (variables_of self.now) f.0)) }
+        ensures kinds { IfSome result (λ f. PlaceFits self.now
+            (found_place (variables_of self.now) f.0)) }
     {
         let (text, standing, stands_at) = self.names.find_at(name, place)?;
         let what = match standing {
@@ -111,7 +118,8 @@ impl<'a> Model<'a> {
     /// The point of a number, from 0, by what it is told by. It takes no memory.
     pub fn point(&self, number: usize) -> Point<'a>
         requires in_range { number < length (points self.now) }
-        ensures told { option_map shown_point (slice_get (points self.now) number) ≡ Some (point_name result) }
+        ensures told { option_map shown_point (slice_get (points self.now) number)
+            ≡ Some (point_name result) }
     {
         match self.point_parts(number) {
             PointParts::Domain(variable, _) => Point::Domain(variable.name),
@@ -121,12 +129,14 @@ impl<'a> Model<'a> {
         }
     }
 
-    /// The point of a number, from 0, with its parts: a constraint is known where it has a row. It takes no memory.
+    /// The point of a number, from 0, with its parts: a constraint is known where it has a row. It
+    /// takes no memory.
     #[inline(always)]
     pub fn point_parts(&self, number: usize) -> PointParts<'_, 'a>
         requires in_range { number < length (points self.now) }
         ensures parts { slice_get (points self.now) number ≡ Some (point_view result) }
-        ensures known { IfConstraint result (λ c. option_map known_row c.posted.now.known ≡ row_of (constraint_view c)) }
+        ensures known { IfConstraint result
+            (λ c. option_map known_row c.posted.now.known ≡ row_of (constraint_view c)) }
         ensures kinds { IfConstraint result (λ c. PostedFits self.now (constraint_view c)) }
     {
         if number >= self.points.len() {
@@ -168,8 +178,24 @@ impl<'a> Model<'a> {
         constraints: Vec<Posted<'a>>,
         goal: Goal,
     ) -> Model<'a>
-        requires laid_out { IsLaidOut (record { names = scope.names; variables = scope.variables; arrays = scope.arrays; points = scope.points; constraints = constraints; goal = goal; store = store }) }
-        ensures view { result ≡ model_view (record { names = scope.entry.names; variables = scope.entry.variables; arrays = scope.entry.arrays; points = scope.entry.points; constraints = constraints.entry; goal = goal; store = store }) }
+        requires laid_out { IsLaidOut (record {
+          names = scope.names;
+          variables = scope.variables;
+          arrays = scope.arrays;
+          points = scope.points;
+          constraints = constraints;
+          goal = goal;
+          store = store;
+        }) }
+        ensures view { result ≡ model_view (record {
+          names = scope.entry.names;
+          variables = scope.entry.variables;
+          arrays = scope.entry.arrays;
+          points = scope.entry.points;
+          constraints = constraints.entry;
+          goal = goal;
+          store = store;
+        }) }
     {
         let Scope {
             names,

@@ -21,7 +21,8 @@ use indexmap::{Equivalent, IndexSet};
 use std::alloc::{AllocError, Global};
 use std::hash::{BuildHasherDefault, Hash, Hasher};
 
-/// A name that is looked up. It is hashed in one piece, where a slice is hashed one byte after another.
+/// A name that is looked up. It is hashed in one piece, where a slice is hashed one byte after
+/// another.
 #[derive(Clone, Copy)]
 pub(crate) struct Text<'a> {
     bytes: &'a [u8],
@@ -44,15 +45,16 @@ impl Eq for Text<'_> {
 impl Hash for Text<'_> {
     ghost hash_input = { λ t. t.bytes.now ∷ [] };
 
-    ghost respects_eq = { λ x y e. ap (λ bytes. bytes ∷ []) ((bytes_decides x.bytes.now y.bytes.now).0 e) };
+    ghost respects_eq = { λ x y e. ap (λ bytes. bytes ∷ [])
+        ((bytes_decides x.bytes.now y.bytes.now).0 e) };
 
     fn hash<H: Hasher>(&self, state: &mut H) {
         state.write(self.bytes);
     }
 }
 
-/// What a name is kept with: the number of a variable, of a parameter or of an array. It takes two words, so that a look-up seldom waits
-/// for memory.
+/// What a name is kept with: the number of a variable, of a parameter or of an array. It takes two
+/// words, so that a look-up seldom waits for memory.
 #[derive(Clone, Copy)]
 pub(crate) enum Entry {
     Variable(usize),
@@ -60,7 +62,8 @@ pub(crate) enum Entry {
     Array(usize),
 }
 
-/// A declared name with what it is kept with: a look-up that has read the one has read the other. The name alone makes the key.
+/// A declared name with what it is kept with: a look-up that has read the one has read the other.
+/// The name alone makes the key.
 #[derive(Clone, Copy)]
 pub(crate) struct Kept<'a> {
     bytes: &'a [u8],
@@ -86,7 +89,8 @@ impl Eq for Kept<'_> {
 impl Hash for Kept<'_> {
     ghost hash_input = { λ k. k.bytes.now ∷ [] };
 
-    ghost respects_eq = { λ x y e. ap (λ bytes. bytes ∷ []) ((bytes_decides x.bytes.now y.bytes.now).0 e) };
+    ghost respects_eq = { λ x y e. ap (λ bytes. bytes ∷ [])
+        ((bytes_decides x.bytes.now y.bytes.now).0 e) };
 
     fn hash<H: Hasher>(&self, state: &mut H) {
         state.write(self.bytes);
@@ -96,7 +100,8 @@ impl Hash for Kept<'_> {
 impl<'b> Equivalent<Kept<'b>> for Text<'_> {
     ghost equivalent = { λ q k. bytes_eq q.bytes.now k.bytes.now };
 
-    ghost respects_hash = { λ q k e. ap (λ bytes. bytes ∷ []) ((bytes_decides q.bytes.now k.bytes.now).0 e) };
+    ghost respects_hash = { λ q k e. ap (λ bytes. bytes ∷ [])
+        ((bytes_decides q.bytes.now k.bytes.now).0 e) };
 
     ghost respects_eq = { λ q x y. nat_list_eq_equiv.congr q.bytes.now x.bytes.now y.bytes.now };
 
@@ -116,7 +121,8 @@ pub(crate) enum Standing<'m> {
 /// Names that stand in no place, by their text.
 type Table<'a> = IndexSet<Kept<'a>, BuildHasherDefault<NameHasher>>;
 
-/// The declared names, in source order. A contract sees the list of them, each with what it stands for.
+/// The declared names, in source order. A contract sees the list of them, each with what it stands
+/// for.
 #[derive(Drop)]
 pub(crate) struct Names<'a> {
     /// all of them with what they are kept with, in source order
@@ -145,7 +151,9 @@ impl<'a> std::marker::Model for Names<'a> {
 
     ghost view = { names_view };
 
-    ghost invariant = { λ n. AreAmongTerms n × IsDistinct same_key n.listed.items × IsNumbered n.listed.items n.others.keys n.numbered.shapes.items n.numbered.places.items n.numbered.seats.items };
+    ghost invariant = { λ n. AreAmongTerms n × IsDistinct same_key n.listed.items
+        × IsNumbered n.listed.items n.others.keys n.numbered.shapes.items n.numbered.places.items
+        n.numbered.seats.items };
 }
 
 /// What an entry stands for, among these values of parameters.
@@ -171,11 +179,14 @@ fn put<'a>(
 ) -> Result<(), AllocError>
     requires new { list_any (is_key name.now) listed.old.items ≡ false }
     requires distinct { IsDistinct same_key listed.old.items }
-    requires numbered { IsNumbered listed.old.items others.old.keys numbered.old.shapes.items numbered.old.places.items numbered.old.seats.items }
-    ensures pushed { OnOk result (listed.new.items ≡ listed.old.items ++ record { bytes = name.entry; entry = entry; seat = length listed.old.items } ∷ []) }
+    requires numbered { IsNumbered listed.old.items others.old.keys numbered.old.shapes.items
+        numbered.old.places.items numbered.old.seats.items }
+    ensures pushed { OnOk result (listed.new.items ≡ listed.old.items
+        ++ record { bytes = name.entry; entry = entry; seat = length listed.old.items } ∷ []) }
     ensures unchanged { OnErr result (listed.new.items ≡ listed.old.items) }
     ensures distinct { IsDistinct same_key listed.new.items }
-    ensures numbered { IsNumbered listed.new.items others.new.keys numbered.new.shapes.items numbered.new.places.items numbered.new.seats.items }
+    ensures numbered { IsNumbered listed.new.items others.new.keys numbered.new.shapes.items
+        numbered.new.places.items numbered.new.seats.items }
 {
     listed.reserve(1)?;
     let seat = listed.len();
@@ -206,7 +217,8 @@ fn found<'t, 'a>(
     numbered: &Numbered<'a>,
     name: &[u8],
 ) -> Option<&'t Kept<'a>>
-    requires numbered { IsNumbered listed.now others.now.keys numbered.now.shapes.items numbered.now.places.items numbered.now.seats.items }
+    requires numbered { IsNumbered listed.now others.now.keys numbered.now.shapes.items
+        numbered.now.places.items numbered.now.seats.items }
     ensures { option_map (λ k. k.now) result ≡ find (is_key name.now) listed.now }
 {
     match numbered.seat(name) {
@@ -254,7 +266,8 @@ impl<'a> Names<'a> {
     /// What stands at a place of the list, where its name is this one, with its text in the source.
     #[inline]
     fn at(&self, name: &[u8], place: usize) -> Option<(&'a [u8], Standing<'_>)>
-        ensures stands { IfSome result (λ f. Some (standing_view f.1) ≡ lookup (has_text name.now) self.now) }
+        ensures stands { IfSome result
+            (λ f. Some (standing_view f.1) ≡ lookup (has_text name.now) self.now) }
         ensures text { IfSome result (λ f. f.0.now ≡ name.now) }
     {
         let kept = self.listed.get(place)?;
@@ -264,15 +277,16 @@ impl<'a> Names<'a> {
         Some((kept.bytes, standing_of(&self.parameters, kept.entry)))
     }
 
-    /// What a name stands for, where it is declared, with its text in the source and its place in the list. It is looked for at this
-    /// place first, which may be any.
+    /// What a name stands for, where it is declared, with its text in the source and its place in
+    /// the list. It is looked for at this place first, which may be any.
     #[inline]
     pub(crate) fn find_at(
         &self,
         name: &[u8],
         place: usize,
     ) -> Option<(&'a [u8], Standing<'_>, usize)>
-        ensures stands { option_map (λ f. standing_view f.1) result ≡ lookup (has_text name.now) self.now }
+        ensures stands { option_map (λ f. standing_view f.1) result
+            ≡ lookup (has_text name.now) self.now }
         ensures text { IfSome result (λ f. f.0.now ≡ name.now) }
     {
         if let Some((text, standing)) = self.at(name, place) {
@@ -317,7 +331,8 @@ impl<'a> Names<'a> {
     /// Puts the name of a parameter behind the others, with its value.
     pub(crate) fn push_parameter(&mut self, name: &'a [u8], value: Value) -> Result<(), AllocError>
         requires new { is_none (lookup (has_text name.now) self.old) ≡ true }
-        ensures pushed { OnOk result (self.new ≡ self.old ++ (name.now, Scalar (Fixed value)) ∷ []) }
+        ensures pushed { OnOk result (self.new
+            ≡ self.old ++ (name.now, Scalar (Fixed value)) ∷ []) }
     {
         let number = self.parameters.len();
         self.parameters.push(Term::Fixed(value))?;

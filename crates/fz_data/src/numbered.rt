@@ -1,5 +1,6 @@
-//! Names by the number that their digits come to. The names that a compiler makes differ in that number, so who looks for one there finds
-//! what it stands for at once, where a table of names waits for memory three times: for a group, for a key and for its text in the source.
+//! Names by the number that their digits come to. The names that a compiler makes differ in that
+//! number, so who looks for one there finds what it stands for at once, where a table of names
+//! waits for memory three times: for a group, for a key and for its text in the source.
 
 ghost use Rattle.std.specs.Prelude.{◌≡◌, ◌≢◌, ℕ, IfOk, IfSome, IsFalse, IsTrue, Some, replicate, slice_get, true};
 ghost use Rattle.fz_data.specs.declared.numbered.Place.TheVariants.{Crowded, Free};
@@ -9,10 +10,12 @@ use crate::names::Entry;
 use fz_meaning::same_text;
 use std::alloc::{AllocError, Global};
 
-/// So many bytes at the end of a name are its end, which is looked through for digits; the others are its head.
+/// So many bytes at the end of a name are its end, which is looked through for digits; the others
+/// are its head.
 const LAST: usize = 8;
 
-/// So many shapes are kept. A name of one more has no place here, so that none is compared with many.
+/// So many shapes are kept. A name of one more has no place here, so that none is compared with
+/// many.
 const SHAPES: u32 = 64;
 
 /// What a number that a name is kept with counts.
@@ -34,7 +37,8 @@ pub(crate) enum Place {
     Crowded,
 }
 
-/// What names have in common that differ in the digits of their ends alone. A name of this shape is told by the number that these come to.
+/// What names have in common that differ in the digits of their ends alone. A name of this shape is
+/// told by the number that these come to.
 #[derive(Clone, Copy)]
 pub(crate) struct Shape<'a> {
     len: usize,
@@ -43,7 +47,8 @@ pub(crate) struct Shape<'a> {
     marks: [u8; LAST],
 }
 
-/// The end of a name as it is read: the number that its digits come to, and its bytes, a digit as `0`.
+/// The end of a name as it is read: the number that its digits come to, and its bytes, a digit as
+/// `0`.
 #[derive(Clone, Copy)]
 struct Ending {
     number: usize,
@@ -65,8 +70,9 @@ fn mark_of(byte: u8) -> u8
     if byte.is_ascii_digit() { b'0' } else { byte }
 }
 
-/// The number with one more byte of a name taken into it, in as many bits as it has. It is arithmetic alone, so that the
-/// compiler needs no branch for it: where the digits of a name stand is no more to be guessed than which name comes next.
+/// The number with one more byte of a name taken into it, in as many bits as it has. It is
+/// arithmetic alone, so that the compiler needs no branch for it: where the digits of a name stand
+/// is no more to be guessed than which name comes next.
 #[inline(always)]
 pub(crate) fn with_byte(number: usize, byte: u8) -> usize
     ensures { result ≡ with_byte number byte }
@@ -151,8 +157,9 @@ impl<'a> Shape<'a> {
     }
 }
 
-/// The number of the shape of a name whose end was read, which is put behind the others where it is a new one. The last is looked at first,
-/// since names that are declared one behind another mostly have the same.
+/// The number of the shape of a name whose end was read, which is put behind the others where it is
+/// a new one. The last is looked at first, since names that are declared one behind another mostly
+/// have the same.
 fn shape_number<'a>(shapes: &mut Vec<Shape<'a>>, name: &'a [u8], ending: &Ending) -> Option<u32>
     requires marks { ending.now.marks ≡ marks_of name.now }
     ensures kept { AreKept shapes.old.items shapes.new.items }
@@ -181,8 +188,8 @@ const CROWDED: u32 = 4;
 /// A number of 24 bits or more has no room in a place.
 const NUMBERS: u32 = 1 << 24;
 
-/// A place in 32 bits, so that the places of a large model stay in a near cache: the number above, six bits for the shape, and two for the
-/// sort, which are 0 where the place isn't taken.
+/// A place in 32 bits, so that the places of a large model stay in a near cache: the number above,
+/// six bits for the shape, and two for the sort, which are 0 where the place isn't taken.
 fn packed(sort: Sort, shape: u32, number: u32) -> u32
     ensures { ArePackedOf sort shape number (unpacked result) }
 {
@@ -229,7 +236,8 @@ fn place_of<'a>(shapes: &mut Vec<Shape<'a>>, name: &'a [u8], ending: &Ending, en
     packed(sort, shape, number)
 }
 
-/// The places of the numbers from 0 on, the shapes of the names that stand there, and their seats in the list of all names.
+/// The places of the numbers from 0 on, the shapes of the names that stand there, and their seats
+/// in the list of all names.
 #[derive(Drop)]
 pub(crate) struct Numbered<'a> {
     pub(crate) places: Vec<u32>,
@@ -271,7 +279,8 @@ impl<'a> Numbered<'a> {
 
     /// Where a name is listed, where it stands in the place of its number.
     pub(crate) fn seat(&self, name: &[u8]) -> Option<usize>
-        ensures { result ≡ seat_there self.now.shapes.items self.now.places.items self.now.seats.items name.now }
+        ensures { result ≡ seat_there self.now.shapes.items self.now.places.items
+            self.now.seats.items name.now }
     {
         let _ = self.get(name)?;
         self.seats.get(ending_of(name).number).copied()
@@ -300,12 +309,17 @@ impl<'a> Numbered<'a> {
     fn take(&mut self, name: &'a [u8], ending: &Ending, entry: Entry, seat: usize) -> bool
         requires marks { ending.now.marks ≡ marks_of name.now }
         requires free { place_at self.old.places.items ending.now.number ≡ Some Free }
-        ensures places { (i : ℕ) → i ≢ ending.now.number → slice_get self.new.places.items i ≡ slice_get self.old.places.items i }
-        ensures seats { (i : ℕ) → i ≢ ending.now.number → slice_get self.new.seats.items i ≡ slice_get self.old.seats.items i }
+        ensures places { (i : ℕ) → i ≢ ending.now.number
+            → slice_get self.new.places.items i ≡ slice_get self.old.places.items i }
+        ensures seats { (i : ℕ) → i ≢ ending.now.number
+            → slice_get self.new.seats.items i ≡ slice_get self.old.seats.items i }
         ensures kept { AreKept self.old.shapes.items self.new.shapes.items }
-        ensures taken { IsTrue result → IsTakenBy self.new.shapes.items name.now entry (place_at self.new.places.items ending.now.number) }
-        ensures seat { IsTrue result → slice_get self.new.seats.items ending.now.number ≡ Some seat }
-        ensures crowded { IsFalse result → place_at self.new.places.items ending.now.number ≡ Some Crowded }
+        ensures taken { IsTrue result → IsTakenBy self.new.shapes.items name.now entry
+            (place_at self.new.places.items ending.now.number) }
+        ensures seat { IsTrue result → slice_get self.new.seats.items ending.now.number
+            ≡ Some seat }
+        ensures crowded { IsFalse result
+            → place_at self.new.places.items ending.now.number ≡ Some Crowded }
         ensures no_seat { IsFalse result → self.new.seats.items ≡ self.old.seats.items }
     {
         let place = if ending.number < self.seats.len() {
@@ -321,15 +335,22 @@ impl<'a> Numbered<'a> {
         true
     }
 
-    /// Puts a name in the place of its number, where that is there and free, and tells whether it stands there now. It is listed at this seat.
+    /// Puts a name in the place of its number, where that is there and free, and tells whether it
+    /// stands there now. It is listed at this seat.
     pub(crate) fn note(&mut self, name: &'a [u8], entry: Entry, seat: usize) -> bool
-        ensures others { (i : ℕ) → i ≢ number_of name.now → slice_get self.new.places.items i ≡ slice_get self.old.places.items i }
-        ensures other_seats { (i : ℕ) → i ≢ number_of name.now → slice_get self.new.seats.items i ≡ slice_get self.old.seats.items i }
+        ensures others { (i : ℕ) → i ≢ number_of name.now
+            → slice_get self.new.places.items i ≡ slice_get self.old.places.items i }
+        ensures other_seats { (i : ℕ) → i ≢ number_of name.now
+            → slice_get self.new.seats.items i ≡ slice_get self.old.seats.items i }
         ensures kept { AreKept self.old.shapes.items self.new.shapes.items }
-        ensures free { IsTrue result → place_at self.old.places.items (number_of name.now) ≡ Some Free }
-        ensures taken { IsTrue result → IsTakenBy self.new.shapes.items name.now entry (place_at self.new.places.items (number_of name.now)) }
-        ensures seat { IsTrue result → slice_get self.new.seats.items (number_of name.now) ≡ Some seat }
-        ensures left { IsFalse result → IsLeft (place_at self.old.places.items (number_of name.now)) (place_at self.new.places.items (number_of name.now)) }
+        ensures free { IsTrue result → place_at self.old.places.items (number_of name.now)
+            ≡ Some Free }
+        ensures taken { IsTrue result → IsTakenBy self.new.shapes.items name.now entry
+            (place_at self.new.places.items (number_of name.now)) }
+        ensures seat { IsTrue result → slice_get self.new.seats.items (number_of name.now)
+            ≡ Some seat }
+        ensures left { IsFalse result → IsLeft (place_at self.old.places.items (number_of name.now))
+            (place_at self.new.places.items (number_of name.now)) }
         ensures no_seat { IsFalse result → self.new.seats.items ≡ self.old.seats.items }
     {
         let ending = ending_of(name);

@@ -11,20 +11,22 @@ use fz_meaning::Term;
 use std::alloc::{AllocError, Global};
 use std::mem;
 
-/// Values of some of a model's scalar variables, by their numbers. A contract sees the list of all variables' values, each there
-/// or not.
+/// Values of some of a model's scalar variables, by their numbers. A contract sees the list of all
+/// variables' values, each there or not.
 #[derive(Drop)]
 pub struct Partial {
     values: Vec<Option<Value>>,
-    /// the numbers among the values, and 0 in all other places: a third as wide, so that most reads find them in a near cache
+    /// the numbers among the values, and 0 in all other places: a third as wide, so that most reads
+    /// find them in a near cache
     numbers: Vec<i64>,
-    /// the truth values among them, and `false` in all other places
+    /// the Booleans among them, and `false` in all other places
     truths: Vec<bool>,
     /// whether each variable has a value
     given: Vec<bool>,
     /// how many variables have no value
     unset: usize,
-    /// the empty set, made once, since making one takes memory: it is read where there is no other set
+    /// the empty set, made once, since making one takes memory: it is read where there is no other
+    /// set
     empty: IntSet,
 }
 
@@ -61,7 +63,7 @@ pub fn number_of(value: &Value) -> i64
     }
 }
 
-/// The truth value that a value is, and `false` where it is none. It takes no memory.
+/// The Boolean that a value is, and `false` where it is none. It takes no memory.
 #[inline(always)]
 pub fn truth_of(value: &Value) -> bool
     ensures read { result ≡ truth_in (Some value.now) }
@@ -113,7 +115,8 @@ fn forget(values: &mut [Option<Value>])
     }
 }
 
-/// Puts a value where none is. What lies there needn't be read to be dropped, so nobody waits for it.
+/// Puts a value where none is. What lies there needn't be read to be dropped, so nobody waits for
+/// it.
 #[inline(always)]
 fn put(place: &mut Option<Value>, value: Value)
     ensures there { place.new ≡ Some value }
@@ -122,7 +125,8 @@ fn put(place: &mut Option<Value>, value: Value)
 }
 
 impl Partial {
-    /// No variable has a value. It makes the room for a value of every variable; it refuses only where memory runs out.
+    /// No variable has a value. It makes the room for a value of every variable; it refuses only
+    /// where memory runs out.
     pub fn new(alloc: Global, model: &Model<'_>) -> Result<Partial, AllocError>
         ensures empty { IfOk result (λ p. p ≡ nothing_for model.now) }
     {
@@ -145,7 +149,8 @@ impl Partial {
         })
     }
 
-    /// The value of the variable of a number: none where it has none, or where the number is no variable's. It takes no memory.
+    /// The value of the variable of a number: none where it has none, or where the number is no
+    /// variable's. It takes no memory.
     #[inline(always)]
     pub fn get(&self, number: usize) -> Option<&Value>
         ensures looked_up { option_map (λ v. v.now) result ≡ value_at self.now number }
@@ -186,7 +191,8 @@ impl Partial {
         }
     }
 
-    /// The truth value that the variable of a number has: `false` where it has none. It takes no memory.
+    /// The Boolean that the variable of a number has: `false` where it has none. It takes no
+    /// memory.
     #[inline(always)]
     pub fn truth(&self, number: usize) -> bool
         ensures read { result ≡ truth_in (value_at self.now number) }

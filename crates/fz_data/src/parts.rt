@@ -55,8 +55,8 @@ pub enum Goal {
     Maximize(Term),
 }
 
-/// A point of a declaration: the domain of the variable of a number, its definition, or the domain of the
-/// elements of the array of a number.
+/// A point of a declaration: the domain of the variable of a number, its definition, or the domain
+/// of the elements of the array of a number.
 #[derive(Clone, Copy, Debug)]
 pub enum DeclaredPoint {
     Domain(usize),

@@ -8,8 +8,8 @@ use crate::parts::{Array, Posted, Variable};
 use crate::store::{Argument, Store, part};
 use fz_meaning::{Domain, Term};
 
-/// A point by what it is told by: a declared name, or a constraint's number, from 1, and its predicate's name. Names are slices of the
-/// source.
+/// A point by what it is told by: a declared name, or a constraint's number, from 1, and its
+/// predicate's name. Names are slices of the source.
 #[derive(Clone, Copy, Debug)]
 pub enum Point<'a> {
     Domain(&'a [u8]),
@@ -32,7 +32,8 @@ impl<'m, 'a> ConstraintParts<'m, 'a> {
     /// Its arguments, in their order. It takes no memory.
     #[inline(always)]
     pub fn arguments(&self) -> &'m [Argument]
-        ensures all { result.now ≡ segment self.now.store.now.arguments.items self.now.posted.now.arguments }
+        ensures all { result.now ≡ segment self.now.store.now.arguments.items
+            self.now.posted.now.arguments }
     {
         part(&self.store.arguments, self.posted.arguments)
     }
@@ -47,7 +48,8 @@ pub struct Constraints<'m, 'a> {
     pub store: &'m Store,
 }
 
-/// A point with its parts: a variable with its number, its definition, an array's name, domain and elements, or a constraint.
+/// A point with its parts: a variable with its number, its definition, an array's name, domain and
+/// elements, or a constraint.
 #[derive(Clone, Copy)]
 pub enum PointParts<'m, 'a> {
     Domain(&'m Variable<'a>, usize),

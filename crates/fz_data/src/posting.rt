@@ -33,10 +33,13 @@ fn named_slot(
     constants: &mut Vec<Value>,
     name: &Name<'_>,
 ) -> Result<Slot, ModelError>
-    ensures known { IfOk result (λ _. fault_in scope.now None (Named (located_name name.now)) ≡ None) }
-    ensures place { IfOk result (IsPlaceOf scope.now constants.new.items (place_of_part scope.now (Named (located_name name.now)))) }
+    ensures known { IfOk result (λ _. fault_in scope.now None (Named (located_name name.now))
+        ≡ None) }
+    ensures place { IfOk result (IsPlaceOf scope.now constants.new.items
+        (place_of_part scope.now (Named (located_name name.now)))) }
     ensures grown { OnOk result (IsGrown constants.old.items constants.new.items) }
-    ensures tells { IfErr result (λ e. Tells e (fault_in scope.now None (Named (located_name name.now)))) }
+    ensures tells { IfErr result (λ e. Tells e
+        (fault_in scope.now None (Named (located_name name.now)))) }
 {
     match scope.names.get(name.text) {
         None => Err(ModelError::UnknownName(name.span)),
@@ -58,7 +61,8 @@ fn place_of(
     part: &Basic<'_>,
 ) -> Result<Slot, ModelError>
     ensures known { IfOk result (λ _. fault_in scope.now None (located_basic part.now) ≡ None) }
-    ensures place { IfOk result (IsPlaceOf scope.now constants.new.items (place_of_part scope.now (located_basic part.now))) }
+    ensures place { IfOk result (IsPlaceOf scope.now constants.new.items
+        (place_of_part scope.now (located_basic part.now))) }
     ensures grown { OnOk result (IsGrown constants.old.items constants.new.items) }
     ensures tells { IfErr result (λ e. Tells e (fault_in scope.now None (located_basic part.now))) }
 {
@@ -78,11 +82,14 @@ fn places_of(
     store: &mut Store,
     parts: &[Basic<'_>],
 ) -> Result<Segment, ModelError>
-    ensures known { IfOk result (λ _. faults_in scope.now None (map located_basic parts.now) ≡ None) }
-    ensures places { IfOk result (ArePlacesOf scope.now store.new (map (place_of_part scope.now) (map located_basic parts.now))) }
+    ensures known { IfOk result (λ _. faults_in scope.now None (map located_basic parts.now)
+        ≡ None) }
+    ensures places { IfOk result (ArePlacesOf scope.now store.new
+        (map (place_of_part scope.now) (map located_basic parts.now))) }
     ensures longer { OnOk result (IsLonger store.old store.new) }
     ensures kept { OnOk result (store.new.arguments.items ≡ store.old.arguments.items) }
-    ensures tells { IfErr result (λ e. Tells e (faults_in scope.now None (map located_basic parts.now))) }
+    ensures tells { IfErr result (λ e. Tells e
+        (faults_in scope.now None (map located_basic parts.now))) }
 {
     let first = narrow(store.slots.len())?;
     let count = narrow(parts.len())?;
@@ -102,10 +109,12 @@ fn argument_of(
     argument: &Expr<'_>,
 ) -> Result<Argument, ModelError>
     ensures known { IfOk result (λ _. argument_fault scope.now (located_expr argument.now) ≡ None) }
-    ensures argument { IfOk result (IsArgumentOf scope.now store.new (argument_in scope.now (located_expr argument.now))) }
+    ensures argument { IfOk result
+        (IsArgumentOf scope.now store.new (argument_in scope.now (located_expr argument.now))) }
     ensures longer { OnOk result (IsLonger store.old store.new) }
     ensures kept { OnOk result (store.new.arguments.items ≡ store.old.arguments.items) }
-    ensures tells { IfErr result (λ e. Tells e (argument_fault scope.now (located_expr argument.now))) }
+    ensures tells { IfErr result (λ e. Tells e
+        (argument_fault scope.now (located_expr argument.now))) }
 {
     match argument {
         Expr::One(part) => {
@@ -126,10 +135,13 @@ fn arguments_of(
     store: &mut Store,
     arguments: &[Expr<'_>],
 ) -> Result<Segment, ModelError>
-    ensures known { IfOk result (λ _. first_some (argument_fault scope.now) (map located_expr arguments.now) ≡ None) }
-    ensures arguments { IfOk result (AreArgumentsOf scope.now store.new (map (argument_in scope.now) (map located_expr arguments.now))) }
+    ensures known { IfOk result (λ _. first_some (argument_fault scope.now)
+        (map located_expr arguments.now) ≡ None) }
+    ensures arguments { IfOk result (AreArgumentsOf scope.now store.new
+        (map (argument_in scope.now) (map located_expr arguments.now))) }
     ensures longer { OnOk result (IsLonger store.old store.new) }
-    ensures tells { IfErr result (λ e. Tells e (first_some (argument_fault scope.now) (map located_expr arguments.now))) }
+    ensures tells { IfErr result (λ e. Tells e
+        (first_some (argument_fault scope.now) (map located_expr arguments.now))) }
 {
     let first = narrow(store.arguments.len())?;
     let count = narrow(arguments.len())?;
@@ -162,7 +174,8 @@ fn variable_named(scope: &Scope<'_>, name: &[u8]) -> Option<usize>
 
 /// The only one of the arguments.
 fn only<'t, 'a>(args: &'t [NoteArg<'a>]) -> Option<&'t NoteArg<'a>>
-    ensures { option_map (λ a. bare_arg a.now) result ≡ only_arg (arg_list (map bare_arg args.now)) }
+    ensures { option_map (λ a. bare_arg a.now) result
+        ≡ only_arg (arg_list (map bare_arg args.now)) }
 {
     match args {
         [] => None,
@@ -182,7 +195,8 @@ fn inner<'t, 'a>(arg: &'t NoteArg<'a>) -> Option<&'t Note<'a>>
 }
 
 fn inner_basic<'t, 'a>(basic: &'t NoteBasic<'a>) -> Option<&'t Note<'a>>
-    ensures { option_map (λ n. bare_note n.now) result ≡ inner_of (OneBasic (bare_basic basic.now)) }
+    ensures { option_map (λ n. bare_note n.now) result
+        ≡ inner_of (OneBasic (bare_basic basic.now)) }
 {
     match basic {
         NoteBasic::Inner(note) => Some(note),
@@ -235,11 +249,15 @@ fn posted<'a>(
     constraint: &Constraint<'a>,
 ) -> Result<Posted<'a>, ModelError>
     requires kinds { HasKinds scope.now }
-    ensures known { IfOk result (λ _. constraint_fault_in scope.now (located_constraint constraint.now) ≡ None) }
-    ensures posted { IfOk result (IsPostedOf scope.now store.new (posted_in scope.now (located_constraint constraint.now))) }
-    ensures row { IfOk result (λ p. kept_row p ≡ row_of (posted_in scope.now (located_constraint constraint.now))) }
+    ensures known { IfOk result (λ _. constraint_fault_in scope.now
+        (located_constraint constraint.now) ≡ None) }
+    ensures posted { IfOk result (IsPostedOf scope.now store.new
+        (posted_in scope.now (located_constraint constraint.now))) }
+    ensures row { IfOk result (λ p. kept_row p
+        ≡ row_of (posted_in scope.now (located_constraint constraint.now))) }
     ensures longer { OnOk result (IsLonger store.old store.new) }
-    ensures tells { IfErr result (λ e. Tells e (constraint_fault_in scope.now (located_constraint constraint.now))) }
+    ensures tells { IfErr result (λ e. Tells e
+        (constraint_fault_in scope.now (located_constraint constraint.now))) }
 {
     let arguments = arguments_of(alloc, scope, store, &constraint.args)?;
     let name = constraint.name.text;
@@ -266,8 +284,12 @@ pub(crate) fn post<'a>(
     constraint: &Constraint<'a>,
 ) -> Result<(), ModelError>
     requires kinds { HasKinds scope.now }
-    ensures more { (known : List LocatedConstraint) → Posts scope.now known store.old found.old.items → OnOk result (Posts scope.now (known ++ located_constraint constraint.now ∷ []) store.new found.new.items) }
-    ensures tells { IfErr result (λ e. Tells e (constraint_fault_in scope.now (located_constraint constraint.now))) }
+    ensures more { (known : List LocatedConstraint)
+        → Posts scope.now known store.old found.old.items
+        → OnOk result (Posts scope.now
+        (known ++ located_constraint constraint.now ∷ []) store.new found.new.items) }
+    ensures tells { IfErr result (λ e. Tells e
+        (constraint_fault_in scope.now (located_constraint constraint.now))) }
 {
     let one = posted(alloc, scope, store, constraint)?;
     found.push(one)?;
@@ -282,8 +304,10 @@ pub(crate) fn all_posted<'a>(
     constraints: &[Constraint<'a>],
 ) -> Result<Vec<Posted<'a>>, ModelError>
     requires kinds { HasKinds scope.now }
-    ensures posts { IfOk result (λ ps. Posts scope.now (map located_constraint constraints.now) store.new ps.items) }
-    ensures tells { IfErr result (λ e. Tells e (first_some (constraint_fault_in scope.now) (map located_constraint constraints.now))) }
+    ensures posts { IfOk result (λ ps. Posts scope.now
+        (map located_constraint constraints.now) store.new ps.items) }
+    ensures tells { IfErr result (λ e. Tells e
+        (first_some (constraint_fault_in scope.now) (map located_constraint constraints.now))) }
 {
     let mut found = Vec::with_capacity(alloc, constraints.len())?;
     for constraint in constraints {
@@ -292,16 +316,18 @@ pub(crate) fn all_posted<'a>(
     Ok(found)
 }
 
-/// What is asked for: the objective is to be a whole number.
+/// What is asked for: the objective is to be an integer.
 pub(crate) fn goal_of(
     alloc: Global,
     scope: &Scope<'_>,
     goal: &TreeGoal<'_>,
 ) -> Result<Goal, ModelError>
     requires kinds { HasKinds scope.now }
-    ensures clean { IfOk result (λ _. faults_in scope.now (Some IntKind) (goal_parts (located_goal goal.now)) ≡ None) }
+    ensures clean { IfOk result (λ _. faults_in scope.now (Some IntKind)
+        (goal_parts (located_goal goal.now)) ≡ None) }
     ensures aim { IfOk result (λ g. goal_view g ≡ aim_in scope.now (located_goal goal.now)) }
-    ensures tells { IfErr result (λ e. Tells e (faults_in scope.now (Some IntKind) (goal_parts (located_goal goal.now)))) }
+    ensures tells { IfErr result (λ e. Tells e
+        (faults_in scope.now (Some IntKind) (goal_parts (located_goal goal.now)))) }
 {
     match goal {
         TreeGoal::Satisfy => Ok(Goal::Satisfy),

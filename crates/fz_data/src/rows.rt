@@ -16,8 +16,8 @@ use crate::values::{kind_of, same_kind};
 use fz_base::Value;
 use fz_meaning::{Kind, Known, Shape, Term};
 
-/// What constraints cite: the variables, their kinds, and the arrays. The kinds stand side by side, a byte each, so that the look-ups of
-/// all constraints find them near.
+/// What constraints cite: the variables, their kinds, and the arrays. The kinds stand side by side,
+/// a byte each, so that the look-ups of all constraints find them near.
 #[derive(Clone, Copy)]
 pub(crate) struct Cited<'m, 'a> {
     pub(crate) variables: &'m [Variable<'a>],
@@ -34,7 +34,13 @@ pub(crate) fn row_of(
     cited: &Cited<'_, '_>,
     store: &Store,
 ) -> Option<Known>
-    ensures { (t : Option ℕ) → option_map known_row result ≡ row_of (record { name = name.now; arguments = map (argument_view cited.now.variables.now cited.now.arrays.now store.now) arguments.now; target = t }) }
+    ensures { (t : Option ℕ) → option_map known_row result
+        ≡ row_of (record {
+          name = name.now;
+          arguments = map
+              (argument_view cited.now.variables.now cited.now.arrays.now store.now) arguments.now;
+          target = t;
+        }) }
 {
     let known = Known::find(name)?;
     if fits(known, arguments, cited, store) {
@@ -45,7 +51,8 @@ pub(crate) fn row_of(
 }
 
 fn fits(known: Known, arguments: &[Argument], cited: &Cited<'_, '_>, store: &Store) -> bool
-    ensures { result ≡ fits (known_row known) (map (argument_view cited.now.variables.now cited.now.arrays.now store.now) arguments.now) }
+    ensures { result ≡ fits (known_row known)
+        (map (argument_view cited.now.variables.now cited.now.arrays.now store.now) arguments.now) }
 {
     have_shapes(known.shapes(), arguments, cited, store)
         && equally_long(known.together(), arguments, cited.arrays, &store.slots)
@@ -57,7 +64,8 @@ fn have_shapes(
     cited: &Cited<'_, '_>,
     store: &Store,
 ) -> bool
-    ensures { result ≡ have_shapes (map shape_of shapes.now) (map (argument_view cited.now.variables.now cited.now.arrays.now store.now) arguments.now) }
+    ensures { result ≡ have_shapes (map shape_of shapes.now)
+        (map (argument_view cited.now.variables.now cited.now.arrays.now store.now) arguments.now) }
 {
     if shapes.len() != arguments.len() {
         return false;
@@ -71,7 +79,8 @@ fn have_shapes(
 }
 
 fn has_shape(shape: Shape, argument: &Argument, cited: &Cited<'_, '_>, store: &Store) -> bool
-    ensures { result ≡ has_shape (shape_of shape) (argument_view cited.now.variables.now cited.now.arrays.now store.now argument.now) }
+    ensures { result ≡ has_shape (shape_of shape)
+        (argument_view cited.now.variables.now cited.now.arrays.now store.now argument.now) }
 {
     match shape {
         Shape::Scalar(kind) => is_scalar_of(kind, argument, cited, store),
@@ -80,7 +89,8 @@ fn has_shape(shape: Shape, argument: &Argument, cited: &Cited<'_, '_>, store: &S
 }
 
 fn is_scalar_of(kind: Kind, argument: &Argument, cited: &Cited<'_, '_>, store: &Store) -> bool
-    ensures { result ≡ is_scalar_of cited.now.variables.now store.now.constants.items kind argument.now }
+    ensures { result ≡ is_scalar_of cited.now.variables.now store.now.constants.items kind
+        argument.now }
 {
     match argument {
         Argument::One(slot) => is_of(kind, slot, cited, &store.constants),
@@ -89,7 +99,8 @@ fn is_scalar_of(kind: Kind, argument: &Argument, cited: &Cited<'_, '_>, store: &
 }
 
 fn is_array_of(kind: Kind, argument: &Argument, cited: &Cited<'_, '_>, store: &Store) -> bool
-    ensures { result ≡ is_array_of cited.now.variables.now cited.now.arrays.now store.now.constants.items store.now.slots.items kind argument.now }
+    ensures { result ≡ is_array_of cited.now.variables.now cited.now.arrays.now
+        store.now.constants.items store.now.slots.items kind argument.now }
 {
     match argument {
         Argument::One(slot) => is_array_slot(kind, slot, cited.arrays),
@@ -162,7 +173,8 @@ fn all_so_long(
     arrays: &[Array<'_>],
     slots: &[Slot],
 ) -> bool
-    ensures { result ≡ list_all (λ j. length_at arrays.now slots.now arguments.now j == length) places.now }
+    ensures { result ≡ list_all (λ j. length_at arrays.now slots.now arguments.now j == length)
+        places.now }
 {
     places.iter().all(|place| length_at(*place, arguments, arrays, slots) == length)
 }

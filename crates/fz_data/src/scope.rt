@@ -22,8 +22,9 @@ use fz_meaning::{Domain, Kind, ModelError, Term};
 use fz_syntax::{Basic, Literal, Name};
 use std::alloc::{AllocError, Global};
 
-/// What was declared so far: the names in source order, the variables and arrays by their numbers, and the points. The kinds of the
-/// variables stand side by side besides, a byte each, so that who looks one up finds it near.
+/// What was declared so far: the names in source order, the variables and arrays by their numbers,
+/// and the points. The kinds of the variables stand side by side besides, a byte each, so that who
+/// looks one up finds it near.
 #[derive(Drop)]
 pub(crate) struct Scope<'a> {
     pub(crate) names: Names<'a>,
@@ -59,9 +60,12 @@ impl<'a> Scope<'a> {
 
 /// The term of a literal of the wanted kind.
 fn literal_term(alloc: Global, wanted: Kind, literal: &Literal) -> Result<Term, ModelError>
-    ensures of_kind { IfOk result (λ _. literal_fault (Some wanted) (kind_of (literal_value (bare_literal_kind literal.now.what))) literal.now.span ≡ None) }
-    ensures term { IfOk result (λ t. t ≡ Fixed (literal_value (bare_literal_kind literal.now.what))) }
-    ensures tells { IfErr result (λ e. Tells e (literal_fault (Some wanted) (kind_of (literal_value (bare_literal_kind literal.now.what))) literal.now.span)) }
+    ensures of_kind { IfOk result (λ _. literal_fault (Some wanted)
+        (kind_of (literal_value (bare_literal_kind literal.now.what))) literal.now.span ≡ None) }
+    ensures term { IfOk result (λ t. t
+        ≡ Fixed (literal_value (bare_literal_kind literal.now.what))) }
+    ensures tells { IfErr result (λ e. Tells e (literal_fault (Some wanted)
+        (kind_of (literal_value (bare_literal_kind literal.now.what))) literal.now.span)) }
 {
     if !same_kind(literal_kind(&literal.what), wanted) {
         return Err(ModelError::Kind(literal.span));
@@ -78,9 +82,11 @@ fn named_term(
     name: &Name<'_>,
 ) -> Result<Term, ModelError>
     requires kinds { HasKinds scope.now }
-    ensures of_kind { IfOk result (λ _. place_fault (Some wanted) (place_in scope.now name.now.text.now) name.now.span ≡ None) }
+    ensures of_kind { IfOk result (λ _. place_fault (Some wanted)
+        (place_in scope.now name.now.text.now) name.now.span ≡ None) }
     ensures term { IfOk result (λ t. t ≡ term_at (place_in scope.now name.now.text.now)) }
-    ensures tells { IfErr result (λ e. Tells e (place_fault (Some wanted) (place_in scope.now name.now.text.now) name.now.span)) }
+    ensures tells { IfErr result (λ e. Tells e
+        (place_fault (Some wanted) (place_in scope.now name.now.text.now) name.now.span)) }
 {
     match scope.names.get(name.text) {
         None => Err(ModelError::UnknownName(name.span)),
@@ -109,9 +115,11 @@ pub(crate) fn term_of(
     part: &Basic<'_>,
 ) -> Result<Term, ModelError>
     requires kinds { HasKinds scope.now }
-    ensures of_kind { IfOk result (λ _. fault_in scope.now (Some wanted) (located_basic part.now) ≡ None) }
+    ensures of_kind { IfOk result (λ _. fault_in scope.now (Some wanted) (located_basic part.now)
+        ≡ None) }
     ensures term { IfOk result (λ t. t ≡ term_in scope.now (located_basic part.now)) }
-    ensures tells { IfErr result (λ e. Tells e (fault_in scope.now (Some wanted) (located_basic part.now))) }
+    ensures tells { IfErr result (λ e. Tells e
+        (fault_in scope.now (Some wanted) (located_basic part.now))) }
 {
     match part {
         Basic::Lit(literal) => literal_term(alloc, wanted, literal),
@@ -127,9 +135,12 @@ pub(crate) fn scalars_of(
     parts: &[Basic<'_>],
 ) -> Result<ScalarList, ModelError>
     requires kinds { HasKinds scope.now }
-    ensures of_kind { IfOk result (λ _. faults_in scope.now (Some wanted) (map located_basic parts.now) ≡ None) }
-    ensures terms { IfOk result (λ l. terms_of l ≡ map (term_in scope.now) (map located_basic parts.now)) }
-    ensures tells { IfErr result (λ e. Tells e (faults_in scope.now (Some wanted) (map located_basic parts.now))) }
+    ensures of_kind { IfOk result (λ _. faults_in scope.now (Some wanted)
+        (map located_basic parts.now) ≡ None) }
+    ensures terms { IfOk result (λ l. terms_of l
+        ≡ map (term_in scope.now) (map located_basic parts.now)) }
+    ensures tells { IfErr result (λ e. Tells e
+        (faults_in scope.now (Some wanted) (map located_basic parts.now))) }
 {
     let mut slots = Vec::with_capacity(alloc, parts.len())?;
     let mut constants = Vec::new(alloc);
@@ -147,7 +158,8 @@ fn push_if(
     wanted: bool,
     point: DeclaredPoint,
 ) -> Result<(), AllocError>
-    ensures pushed { OnOk result (points.new.items ≡ points.old.items ++ cond wanted (point ∷ []) []) }
+    ensures pushed { OnOk result (points.new.items
+        ≡ points.old.items ++ cond wanted (point ∷ []) []) }
 {
     if wanted {
         points.push(point)?;
@@ -172,7 +184,8 @@ fn add_variable<'a>(
     variable: Variable<'a>,
 ) -> Result<(), ModelError>
     requires new { IsNewName scope.old name.now }
-    ensures added { OnOk result (IsAdded scope.old name.now (item_variable variable.entry) scope.new) }
+    ensures added { OnOk result (IsAdded scope.old name.now
+        (item_variable variable.entry) scope.new) }
     ensures memory { IfErr result (λ e. e ≡ Memory) }
 {
     let number = scope.variables.len();

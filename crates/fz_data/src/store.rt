@@ -10,7 +10,7 @@ use fz_base::{IntSet, Value};
 use fz_meaning::Term;
 use std::alloc::{AllocError, Global};
 
-/// A scalar, or a declared array by its number: the number of a variable, a number, a truth value,
+/// A scalar, or a declared array by its number: the number of a variable, a number, a Boolean,
 /// or the place of a value among constants.
 #[derive(Clone, Copy, Debug)]
 pub enum Slot {
@@ -112,7 +112,7 @@ fn kept(constants: &mut Vec<Value>, value: Value) -> Result<Slot, AllocError>
     Ok(Slot::Constant(place))
 }
 
-/// The slot of a whole number.
+/// The slot of an integer.
 #[inline(always)]
 fn number_slot(constants: &mut Vec<Value>, number: i64) -> Result<Slot, AllocError>
     ensures grown { OnOk result (IsGrown constants.old.items constants.new.items) }

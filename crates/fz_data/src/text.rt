@@ -34,7 +34,8 @@ use std::alloc::Global;
 /// The items behind the predicates, which tell a model nothing.
 fn past_predicates<'a>(mut items: Items<'a>) -> Result<Items<'a>, SyntaxError>
     ensures source { IfOk result (λ i. i.source.now ≡ items.entry.source.now) }
-    ensures offered { AtPredicates [] items.entry → IsAllOf items.entry.source.now result IsPastPredicates }
+    ensures offered { AtPredicates [] items.entry
+        → IsAllOf items.entry.source.now result IsPastPredicates }
 {
     while items.predicate()?.is_some() {}
     Ok(items)
@@ -42,7 +43,10 @@ fn past_predicates<'a>(mut items: Items<'a>) -> Result<Items<'a>, SyntaxError>
 
 /// Reads all that stands behind constraints.
 fn behind_constraints(mut items: Items<'_>) -> Result<(), SyntaxError>
-    ensures { (ps : List the_predicate.Predicate) (ds : List the_decl.Decl) (cs : List the_constraint.Constraint) → AtConstraints ps ds cs items.entry → IsAllOf items.entry.source.now result (λ _. BeginsWithConstraints items.entry.source.now ds cs) }
+    ensures { (ps : List the_predicate.Predicate) (ds : List the_decl.Decl)
+        (cs : List the_constraint.Constraint) → AtConstraints ps ds cs items.entry
+        → IsAllOf items.entry.source.now result
+        (λ _. BeginsWithConstraints items.entry.source.now ds cs) }
 {
     while items.constraint()?.is_some() {}
     items.solve()?;
@@ -51,7 +55,9 @@ fn behind_constraints(mut items: Items<'_>) -> Result<(), SyntaxError>
 
 /// Reads all that stands behind declarations.
 fn behind_decls(mut items: Items<'_>) -> Result<(), SyntaxError>
-    ensures { (ps : List the_predicate.Predicate) (ds : List the_decl.Decl) → AtDecls ps ds items.entry → IsAllOf items.entry.source.now result (λ _. BeginsWithDecls items.entry.source.now ds) }
+    ensures { (ps : List the_predicate.Predicate) (ds : List the_decl.Decl)
+        → AtDecls ps ds items.entry → IsAllOf items.entry.source.now result
+        (λ _. BeginsWithDecls items.entry.source.now ds) }
 {
     while items.decl()?.is_some() {}
     behind_constraints(items)
@@ -60,7 +66,10 @@ fn behind_decls(mut items: Items<'_>) -> Result<(), SyntaxError>
 /// What is answered to a fault of names at the last declaration: a fault of the text comes first,
 /// wherever it is.
 fn at_decl(items: Items<'_>, fault: ModelError) -> LoadError
-    ensures { (ps : List the_predicate.Predicate) (ds : List the_decl.Decl) (d : the_decl.Decl) → AtDecls ps (ds ++ d ∷ []) items.entry → decls_fault [] (map located_decl ds) ≡ None → Tells fault (decl_fault (map located_decl ds) (located_decl d)) → IsLoadRefusal items.entry.source.now result }
+    ensures { (ps : List the_predicate.Predicate) (ds : List the_decl.Decl) (d : the_decl.Decl)
+        → AtDecls ps (ds ++ d ∷ []) items.entry → decls_fault [] (map located_decl ds) ≡ None
+        → Tells fault (decl_fault (map located_decl ds) (located_decl d))
+        → IsLoadRefusal items.entry.source.now result }
 {
     match behind_decls(items) {
         Ok(()) => LoadError::Names(fault),
@@ -70,7 +79,12 @@ fn at_decl(items: Items<'_>, fault: ModelError) -> LoadError
 
 /// The same of a fault at the last constraint.
 fn at_constraint(items: Items<'_>, fault: ModelError) -> LoadError
-    ensures { (ps : List the_predicate.Predicate) (ds : List the_decl.Decl) (cs : List the_constraint.Constraint) (c : the_constraint.Constraint) (s : the_scope) → AtConstraints ps ds (cs ++ c ∷ []) items.entry → Declares (map located_decl ds) s → first_some (constraint_fault_in s) (map located_constraint cs) ≡ None → Tells fault (constraint_fault_in s (located_constraint c)) → IsLoadRefusal items.entry.source.now result }
+    ensures { (ps : List the_predicate.Predicate) (ds : List the_decl.Decl)
+        (cs : List the_constraint.Constraint) (c : the_constraint.Constraint) (s : the_scope)
+        → AtConstraints ps ds (cs ++ c ∷ []) items.entry → Declares (map located_decl ds) s
+        → first_some (constraint_fault_in s) (map located_constraint cs) ≡ None
+        → Tells fault (constraint_fault_in s (located_constraint c))
+        → IsLoadRefusal items.entry.source.now result }
 {
     match behind_constraints(items) {
         Ok(()) => LoadError::Names(fault),
@@ -81,9 +95,11 @@ fn at_constraint(items: Items<'_>, fault: ModelError) -> LoadError
 /// Takes in what one more declaration declares, and lets the item go.
 fn take_decl<'a>(alloc: Global, scope: &mut Scope<'a>, decl: Decl<'a>) -> Result<(), ModelError>
     requires kinds { HasKinds scope.old }
-    ensures more { (known : List LocatedDecl) → Declares known scope.old → OnOk result (Declares (known ++ located_decl decl.entry ∷ []) scope.new) }
+    ensures more { (known : List LocatedDecl) → Declares known scope.old
+        → OnOk result (Declares (known ++ located_decl decl.entry ∷ []) scope.new) }
     ensures kinds { OnOk result (HasKinds scope.new) }
-    ensures tells { (known : List LocatedDecl) → Declares known scope.old → IfErr result (λ e. Tells e (decl_fault known (located_decl decl.entry))) }
+    ensures tells { (known : List LocatedDecl) → Declares known scope.old
+        → IfErr result (λ e. Tells e (decl_fault known (located_decl decl.entry))) }
 {
     declare(alloc, scope, &decl)
 }
@@ -97,7 +113,9 @@ fn declared_in<'a>(
     requires kinds { HasKinds scope }
     ensures kinds { IfOk result (λ r. HasKinds r.1) }
     ensures source { IfOk result (λ r. r.0.source.now ≡ items.entry.source.now) }
-    ensures declared { (ps : List the_predicate.Predicate) → Declares [] scope.entry → AtDecls ps [] items.entry → IsLoad items.entry.source.now result (λ r. HasDeclared ps r.0 r.1) }
+    ensures declared { (ps : List the_predicate.Predicate) → Declares [] scope.entry
+        → AtDecls ps [] items.entry → IsLoad items.entry.source.now result
+        (λ r. HasDeclared ps r.0 r.1) }
 {
     while let Some(decl) = items.decl()? {
         if let Err(fault) = take_decl(alloc, &mut scope, decl) {
@@ -116,8 +134,12 @@ fn take_constraint<'a>(
     constraint: Constraint<'a>,
 ) -> Result<(), ModelError>
     requires kinds { HasKinds scope.now }
-    ensures more { (known : List LocatedConstraint) → Posts scope.now known store.old found.old.items → OnOk result (Posts scope.now (known ++ located_constraint constraint.entry ∷ []) store.new found.new.items) }
-    ensures tells { IfErr result (λ e. Tells e (constraint_fault_in scope.now (located_constraint constraint.entry))) }
+    ensures more { (known : List LocatedConstraint)
+        → Posts scope.now known store.old found.old.items
+        → OnOk result (Posts scope.now
+        (known ++ located_constraint constraint.entry ∷ []) store.new found.new.items) }
+    ensures tells { IfErr result (λ e. Tells e
+        (constraint_fault_in scope.now (located_constraint constraint.entry))) }
 {
     post(alloc, scope, store, found, &constraint)
 }
@@ -131,7 +153,10 @@ fn posted_in<'a>(
 ) -> Result<(Items<'a>, Vec<Posted<'a>>), LoadError>
     requires kinds { HasKinds scope.now }
     ensures source { IfOk result (λ r. r.0.source.now ≡ items.entry.source.now) }
-    ensures posted { (ps : List the_predicate.Predicate) (ds : List the_decl.Decl) → Declares (map located_decl ds) scope.now → AtConstraints ps ds [] items.entry → IsLoad items.entry.source.now result (λ r. HasPosted ps ds r.0 scope.now store.new r.1.items) }
+    ensures posted { (ps : List the_predicate.Predicate) (ds : List the_decl.Decl)
+        → Declares (map located_decl ds) scope.now → AtConstraints ps ds [] items.entry
+        → IsLoad items.entry.source.now result
+        (λ r. HasPosted ps ds r.0 scope.now store.new r.1.items) }
 {
     let mut found = Vec::new(alloc);
     while let Some(constraint) = items.constraint()? {
@@ -175,7 +200,8 @@ pub fn load_text<'a>(alloc: Global, source: &'a [u8]) -> Result<Model<'a>, LoadE
     ensures text { (e : SyntaxFault) → result ≡ Err (LoadError.Text e) → IsRefused source.now e }
     ensures too_long { (result ≡ Err (LoadError.Text TooLong)) ↔ (most_bytes < length source.now) }
     // The source is a text of a tree, whose leftmost fault is told, unless memory ran out.
-    ensures names { (e : NameFault) → result ≡ Err (LoadError.Names e) → e ≢ Memory → IsNameFault source.now e }
+    ensures names { (e : NameFault) → result ≡ Err (LoadError.Names e) → e ≢ Memory
+        → IsNameFault source.now e }
 {
     read_text(alloc, source)
 }

@@ -22,8 +22,8 @@ pub fn kind_of(value: &Value) -> Kind
     }
 }
 
-/// Whether the two kinds are the same. It takes no memory. Their numbers are compared, since a branch on a kind is guessed wrong where
-/// kinds come in any order.
+/// Whether the two kinds are the same. It takes no memory. Their numbers are compared, since a
+/// branch on a kind is guessed wrong where kinds come in any order.
 #[inline]
 pub fn same_kind(left: Kind, right: Kind) -> bool
     ensures { result ≡ same_kind left right }
@@ -43,7 +43,8 @@ pub fn literal_kind(literal: &LiteralKind) -> Kind
     }
 }
 
-/// The value that a literal stands for: a number, a truth value, or the set of a range or of braces. It refuses only where memory runs out.
+/// The value that a literal stands for: a number, a Boolean, or the set of a range or of braces. It
+/// refuses only where memory runs out.
 #[inline]
 pub fn literal_value(alloc: Global, literal: &LiteralKind) -> Result<Value, AllocError>
     ensures { IfOk result (λ v. v ≡ literal_value (bare_literal_kind literal.now)) }

@@ -25,7 +25,8 @@ and_true true b e = sym e
 and_true false b e = refl
 
 -- where any value of a kind will do, the kind tells it alone
-pub any_of : (j k : Kind) (d : Domain) (v : Value) → Any j ≡ bounds_in k d → same_kind (kind_of v) j ≡ (same_kind (kind_of v) k && inside d v)
+pub any_of : (j k : Kind) (d : Domain) (v : Value) → Any j ≡ bounds_in k d
+    → same_kind (kind_of v) j ≡ (same_kind (kind_of v) k && inside d v)
 any_of j k domains.All v e = let same : j ≡ k = cc in ap (same_kind (kind_of v)) same ∙ and_true (same_kind (kind_of v) k) (inside domains.All v) (inside_all v)
 any_of j kinds.Int (domains.Within lo hi) v e = cc
 any_of j kinds.Bool (domains.Within lo hi) v e = cc
@@ -34,10 +35,14 @@ any_of j k (domains.Among s) v e = cc
 
 -- ---- bounds and variables side by side
 
-made_at : (vs : List Variable) (n : ℕ) (b : Bounds) (v : Variable) → n < length vs → v ≡ get_or vs n v → get_or (map bounds_of (map variable_view vs)) n b ≡ bounds_of (variable_view v)
+made_at : (vs : List Variable) (n : ℕ) (b : Bounds) (v : Variable) → n < length vs
+    → v ≡ get_or vs n v → get_or (map bounds_of (map variable_view vs)) n b
+    ≡ bounds_of (variable_view v)
 made_at [] n b v lt e = absurd (omega (arith, lt))
 made_at (w ∷ vs) zero b v lt e = ap (λ x. bounds_of (variable_view x)) (sym e)
 made_at (w ∷ vs) (suc n) b v lt e = made_at vs n b v (omega (arith, lt)) e
 
-pub bounds_at : (bs : List Bounds) (vs : List Variable) (n : ℕ) (b : Bounds) (v : Variable) → bs ≡ map bounds_of (map variable_view vs) → n < length vs → v ≡ get_or vs n v → get_or bs n b ≡ bounds_of (variable_view v)
+pub bounds_at : (bs : List Bounds) (vs : List Variable) (n : ℕ) (b : Bounds) (v : Variable)
+    → bs ≡ map bounds_of (map variable_view vs) → n < length vs → v ≡ get_or vs n v
+    → get_or bs n b ≡ bounds_of (variable_view v)
 bounds_at bs vs n b v is lt e = ap (λ xs. get_or xs n b) is ∙ made_at vs n b v lt e

@@ -20,13 +20,15 @@ or_right : (a b : Bool) → b ≡ true → (a || b) ≡ true
 or_right true b h = refl
 or_right false b h = h
 
-each_listed : (p : ℤ → Bool) (ns : List ℤ) → ((x : ℤ) → list_any (eq_by_cmp int_cmp x) ns ≡ true → p x ≡ true) → list_all p ns ≡ true
+each_listed : (p : ℤ → Bool) (ns : List ℤ)
+    → ((x : ℤ) → list_any (eq_by_cmp int_cmp x) ns ≡ true → p x ≡ true) → list_all p ns ≡ true
 each_listed p [] h = refl
 each_listed p (n ∷ ns) h =
     and_both (p n) (list_all p ns) (h n (or_left (eq_by_cmp int_cmp n n) _ (int_itself n)))
     (each_listed p ns (λ x in_it. h x (or_right (eq_by_cmp int_cmp x n) _ in_it)))
 
-listed_each : (p : ℤ → Bool) (ns : List ℤ) → list_all p ns ≡ true → (x : ℤ) → list_any (eq_by_cmp int_cmp x) ns ≡ true → p x ≡ true
+listed_each : (p : ℤ → Bool) (ns : List ℤ) → list_all p ns ≡ true → (x : ℤ)
+    → list_any (eq_by_cmp int_cmp x) ns ≡ true → p x ≡ true
 listed_each p [] h x in_it = no in_it
 listed_each p (n ∷ ns) h x in_it =
     elim (eq_by_cmp int_cmp x n) as (λ b. eq_by_cmp int_cmp x n ≡ b → (b || list_any (eq_by_cmp int_cmp x) ns) ≡ true → p x ≡ true) [
@@ -45,7 +47,8 @@ at_most x z h = grind (arith, ints)
 abbrev between : ℤ → ℤ → ℤ → Bool
 between lo hi n = int_le lo n && int_le n hi
 
-pub within_admitted : (lo hi : ℤ) (s : NumberSet) (r : Bool) → (r ≡ true ↔ LiesWithin lo hi s) → r ≡ list_all (between lo hi) (sets.items s)
+pub within_admitted : (lo hi : ℤ) (s : NumberSet) (r : Bool) → (r ≡ true ↔ LiesWithin lo hi s)
+    → r ≡ list_all (between lo hi) (sets.items s)
 within_admitted lo hi s r h =
     same_truth r (list_all (between lo hi) (sets.items s))
     (λ e. each_listed (between lo hi) (sets.items s) (λ x in_it.
@@ -55,7 +58,8 @@ within_admitted lo hi s r h =
     let lies = listed_each (between lo hi) (sets.items s) all x (sym (sets.contains-items s x) ∙ in_s) in
     (at_most lo x (and_first (int_le lo x) (int_le x hi) lies), at_most x hi (and_second (int_le lo x) (int_le x hi) lies))))
 
-pub among_admitted : (s t : NumberSet) (r : Bool) → r ≡ sets.is_subset s t → r ≡ list_all (sets.contains t) (sets.items s)
+pub among_admitted : (s t : NumberSet) (r : Bool) → r ≡ sets.is_subset s t
+    → r ≡ list_all (sets.contains t) (sets.items s)
 among_admitted s t r e =
     e ∙ same_truth (sets.is_subset s t) (list_all (sets.contains t) (sets.items s))
     (λ sub. each_listed (sets.contains t) (sets.items s) (λ x in_it. sets.is_subset-contains int_cmp_total s t sub x (sets.contains-items s x ∙ in_it)))

@@ -1,4 +1,4 @@
--- The outcome of a form with a truth value.
+-- The outcome of a reified form.
 use Rattle.std.proofs.Common.{◌≡◌, ℕ, suc, ◌+◌, Bool, true, false, not, ◌||◌, List, [], ◌∷◌, ◌++◌, length, refl, sym, ap, ◌∙◌, arith}
 use Rattle.std.specs.Prelude.{IsSome}
 use Rattle.std.specs.List.{list_any}
@@ -18,7 +18,8 @@ use Rattle.fz_eval.specs.Outcomes.{row_outcome, sum_outcome, compared, implied_b
 use Rattle.fz_eval.proofs.Rows.{outcome_is}
 
 -- the values that are given are read as they are
-given_read : (K : Partial) (xs : List Argument) (i : ℕ) (s : Shape) → IsSome (read s (given K xs i s))
+given_read : (K : Partial) (xs : List Argument) (i : ℕ) (s : Shape)
+    → IsSome (read s (given K xs i s))
 given_read K xs i (ScalarOf IntKind) = refl
 given_read K xs i (ScalarOf BoolKind) = refl
 given_read K xs i (ScalarOf SetKind) = refl
@@ -26,12 +27,15 @@ given_read K xs i (ArrayOf IntKind) = rw (plain_ints (ints_at K xs i)) refl
 given_read K xs i (ArrayOf BoolKind) = rw (plain_bools (bools_at K xs i)) refl
 given_read K xs i (ArrayOf SetKind) = rw (plain_sets (sets_at K xs i)) refl
 
-all_read : (K : Partial) (xs : List Argument) (i : ℕ) (ss : List Shape) → AreRead ss (given_from K xs i ss)
+all_read : (K : Partial) (xs : List Argument) (i : ℕ) (ss : List Shape)
+    → AreRead ss (given_from K xs i ss)
 all_read K xs i [] = tt
 all_read K xs i (s ∷ ss) = (given_read K xs i s, all_read K xs (suc i) ss)
 
--- with a truth value behind
-with_last : (K : Partial) (xs : List Argument) (i : ℕ) (ss : List Shape) → given_from K xs i (with_bool ss) ≡ given_from K xs i ss ++ OneValue (BoolValue (bool_at K xs (length ss + i))) ∷ []
+-- with a Boolean behind
+with_last : (K : Partial) (xs : List Argument) (i : ℕ) (ss : List Shape)
+    → given_from K xs i (with_bool ss)
+    ≡ given_from K xs i ss ++ OneValue (BoolValue (bool_at K xs (length ss + i))) ∷ []
 with_last K xs i [] = let place : i ≡ length {A = Shape} [] + i = omega arith in ap (λ n. OneValue (BoolValue (bool_at K xs n)) ∷ []) place
 with_last K xs i (s ∷ ss) =
     let place : length ss + suc i ≡ length (s ∷ ss) + i = omega arith in
@@ -52,7 +56,8 @@ module _ (r : Row) (K : Partial) (xs : List Argument) where
   leaves : Bool
   leaves = list_any (read_leave K xs) r.sums
 
-  last_given : given_values K (with_bool r.shapes) xs ≡ given_values K r.shapes xs ++ OneValue (BoolValue (bool_at K xs (length r.shapes))) ∷ []
+  last_given : given_values K (with_bool r.shapes) xs
+      ≡ given_values K r.shapes xs ++ OneValue (BoolValue (bool_at K xs (length r.shapes))) ∷ []
   last_given =
       let place : length r.shapes + 0 ≡ length r.shapes = omega arith in
       with_last K xs 0 r.shapes ∙ ap (λ n. given_values K r.shapes xs ++ OneValue (BoolValue (bool_at K xs n)) ∷ []) place
@@ -61,19 +66,22 @@ module _ (r : Row) (K : Partial) (xs : List Argument) where
   compared_sum true = refl
   compared_sum false = refl
 
-  implied_sum : (b : Bool) → sum_outcome b (not said || holds) ≡ implied_by said (sum_outcome b holds)
+  implied_sum : (b : Bool) → sum_outcome b (not said || holds)
+      ≡ implied_by said (sum_outcome b holds)
   implied_sum true = refl
   implied_sum false = refl
 
-  -- a form with a truth value comes to what that says of what its row comes to
-  pub reified_outcome : row_outcome (reified r) K xs ≡ compared (bool_at K xs (length r.shapes)) (row_outcome r K xs)
+  -- a reified form comes to what that says of what its row comes to
+  pub reified_outcome : row_outcome (reified r) K xs
+      ≡ compared (bool_at K xs (length r.shapes)) (row_outcome r K xs)
   unfolding said holds leaves
   reified_outcome =
       outcome_is (reified r) K xs
       ∙ ap (sum_outcome leaves) (ap (row_holds (reified r)) last_given ∙ reified_holds r (given_values K r.shapes xs) said (all_read K xs 0 r.shapes))
       ∙ compared_sum leaves ∙ ap (compared said) (sym (outcome_is r K xs))
 
-  pub implied_outcome : row_outcome (implied r) K xs ≡ implied_by (bool_at K xs (length r.shapes)) (row_outcome r K xs)
+  pub implied_outcome : row_outcome (implied r) K xs
+      ≡ implied_by (bool_at K xs (length r.shapes)) (row_outcome r K xs)
   unfolding said holds leaves
   implied_outcome =
       outcome_is (implied r) K xs

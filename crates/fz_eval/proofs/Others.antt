@@ -16,11 +16,13 @@ use Rattle.fz_eval.proofs.Valued.{HoldsIfDomain, domains_hold}
 abbrev listed : Bool → ℕ → List ℕ
 listed b n = cond b [] (n ∷ [])
 
-before_more : (b : Bool) (k : ℕ) (xs ys : List ℕ) → cond b (xs ++ ys) (k ∷ xs ++ ys) ≡ cond b xs (k ∷ xs) ++ ys
+before_more : (b : Bool) (k : ℕ) (xs ys : List ℕ)
+    → cond b (xs ++ ys) (k ∷ xs ++ ys) ≡ cond b xs (k ∷ xs) ++ ys
 before_more true k xs ys = refl
 before_more false k xs ys = refl
 
-others_more : (k : ℕ) (ps : List Point) (n : ℕ) (p : Point) → slice_get ps n ≡ Some p → others_from k (take (n + 1) ps) ≡ others_from k (take n ps) ++ listed (is_domain p) (k + n)
+others_more : (k : ℕ) (ps : List Point) (n : ℕ) (p : Point) → slice_get ps n ≡ Some p
+    → others_from k (take (n + 1) ps) ≡ others_from k (take n ps) ++ listed (is_domain p) (k + n)
 others_more k [] n p at = cc
 others_more k (q ∷ ps) zero p at =
     let same : q ≡ p = cc in
@@ -48,7 +50,8 @@ module _ (ps : List Point) (n : ℕ) (p : Point) (at : slice_get ps n ≡ Some p
 
 -- ---- the points of these numbers
 
-others_within : (k : ℕ) (ps : List Point) (limit : ℕ) → k + length ps ≤ limit → AllByRecursion (λ n. n < limit) (others_from k ps)
+others_within : (k : ℕ) (ps : List Point) (limit : ℕ) → k + length ps ≤ limit
+    → AllByRecursion (λ n. n < limit) (others_from k ps)
 others_within k [] limit le = tt
 others_within k (p ∷ ps) limit le =
     let here : k < limit = omega (arith, le) in
@@ -59,15 +62,18 @@ others_within k (p ∷ ps) limit le =
     ]
 
 -- one of them, by its state
-pub number_told : (K : Partial) (ps : List Point) (n : ℕ) (s : State) → n < length ps → ((p : Point) → slice_get ps n ≡ Some p → s ≡ state K p) → is_held s ≡ holds_at K ps n
+pub number_told : (K : Partial) (ps : List Point) (n : ℕ) (s : State) → n < length ps
+    → ((p : Point) → slice_get ps n ≡ Some p → s ≡ state K p) → is_held s ≡ holds_at K ps n
 number_told K ps n s lt exact = let (p, at) = there ps n lt in ap is_held (exact p at) ∙ sym (ap (λ o. option_map_or (point_holds K) o true) at)
 
-point_between : (before after : List Point) (p : Point) → slice_get (before ++ p ∷ after) (length before) ≡ Some p
+point_between : (before after : List Point) (p : Point)
+    → slice_get (before ++ p ∷ after) (length before) ≡ Some p
 point_between [] after p = refl
 point_between (q ∷ before) after p = point_between before after p
 
 module _ (K : Partial) where
-  others_held : (before ps after : List Point) (k : ℕ) → length before ≡ k → AllByRecursion (HoldsIfDomain K) ps
+  others_held : (before ps after : List Point) (k : ℕ) → length before ≡ k
+      → AllByRecursion (HoldsIfDomain K) ps
       → list_all (holds_at K (before ++ (ps ++ after))) (others_from k ps) ≡ list_all (point_holds K) ps
   others_held before [] after k count h = refl
   others_held before (p ∷ ps) after k count h =
@@ -89,8 +95,10 @@ module _ (m : Model) (xs : List ℕ) (is : xs ≡ others_from 0 (flat_map declar
       subst (AllByRecursion (λ n. n < length (points m))) (sym is)
       (others_within 0 (flat_map declared_points (numbered m)) (length (points m)) (omega (arith, length-append (flat_map declared_points (numbered m)) (constraint_points 1 m.constraints))))
 
-  -- where the values lie inside their domains, whether the points of the declarations hold is whether the others do
-  pub others_tell : (K : Partial) (before : ℕ) → before + length m.constraints ≡ length (points m) → lie_inside (variables_of m) K ≡ true
+  -- where the values lie inside their domains, whether the points of the declarations hold is
+  -- whether the others do
+  pub others_tell : (K : Partial) (before : ℕ) → before + length m.constraints ≡ length (points m)
+      → lie_inside (variables_of m) K ≡ true
       → list_all (holds_at K (points m)) xs ≡ list_all (point_holds K) (take before (points m))
   others_tell K before count within =
       ap (list_all (holds_at K (points m))) is ∙ others_held K [] (flat_map declared_points (numbered m)) (constraint_points 1 m.constraints) 0 refl (domains_hold m K within)

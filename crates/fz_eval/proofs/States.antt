@@ -26,7 +26,8 @@ all_sum_ints : list_all (λ b. list_all (are_ints (row_at b).shapes) (row_at b).
 unfolding row_at builtins
 all_sum_ints = refl
 
-form_sums_ints : (f : Form) (r : Row) → list_all (are_ints r.shapes) r.sums ≡ true → list_all (are_ints (form_at f r).shapes) (form_at f r).sums ≡ true
+form_sums_ints : (f : Form) (r : Row) → list_all (are_ints r.shapes) r.sums ≡ true
+    → list_all (are_ints (form_at f r).shapes) (form_at f r).sums ≡ true
 form_sums_ints Base r h = h
 form_sums_ints Reified r h = sums_with_bool r.shapes r.sums h
 form_sums_ints Implied r h = sums_with_bool r.shapes r.sums h
@@ -36,7 +37,8 @@ sums_ints k = form_sums_ints k.form (row_at k.builtin) (each_builtin (λ b. list
 
 -- ---- an array's elements
 
-pub any_after : {A B : Type 0} (f : B → Bool) (g : A → B) (xs : List A) → list_any (λ x. f (g x)) xs ≡ list_any f (map g xs)
+pub any_after : {A B : Type 0} (f : B → Bool) (g : A → B) (xs : List A)
+    → list_any (λ x. f (g x)) xs ≡ list_any f (map g xs)
 any_after f g [] = refl
 any_after f g (x ∷ xs) = ap (λ b. f (g x) || b) (any_after f g xs)
 
@@ -47,7 +49,9 @@ by_values : {A : Type 0} (o : Option A) → cond (is_some o) Holds NoValue ≡ a
 by_values None = refl
 by_values (Some vs) = refl
 
-pub none_outside : (K : Partial) (ts : List Term) (outside all : Bool) → outside ≡ false → all ≡ list_all (has_value K) ts → cond all Holds NoValue ≡ cond outside Fails (all_there (values K ts))
+pub none_outside : (K : Partial) (ts : List Term) (outside all : Bool) → outside ≡ false
+    → all ≡ list_all (has_value K) ts
+    → cond all Holds NoValue ≡ cond outside Fails (all_there (values K ts))
 none_outside K ts outside all none e =
     ap (λ b. cond b Holds NoValue) (e ∙ sym (values_some K ts)) ∙ by_values (values K ts) ∙ ap (λ b. cond b Fails (all_there (values K ts))) (sym none)
 
@@ -61,12 +65,14 @@ module _ (k : Known) (K : Partial) (xs : List Argument) (shaped : have_shapes (k
         | Some vs ↦ λ e. no' e
       ] (values_given K xs ∙ none)
 
-  by_sum : (vs : List ArgValue) (leaves holds : Bool) → leaves ≡ (list_any (read_leave K xs) (known_row k).sums) → holds ≡ row_holds (known_row k) vs
+  by_sum : (vs : List ArgValue) (leaves holds : Bool) → leaves
+      ≡ (list_any (read_leave K xs) (known_row k).sums) → holds ≡ row_holds (known_row k) vs
       → cond leaves TooLarge (judged holds) ≡ state_of_values K xs (known_row k) (Some vs)
   by_sum vs leaves holds e f =
       ap (λ b. cond b TooLarge (judged holds)) (e ∙ sym (sums_leave_are K (known_row k).shapes xs (known_row k).sums (sums_ints k) shaped)) ∙ ap (λ h. cond (sums_leave K xs (known_row k)) TooLarge (judged h)) f
 
-  pub of_wrong_kind : are_read K (known_row k).shapes xs ≡ false → are_given K xs ≡ true → (leaves : Bool) → leaves ≡ (list_any (read_leave K xs) (known_row k).sums)
+  pub of_wrong_kind : are_read K (known_row k).shapes xs ≡ false → are_given K xs ≡ true
+      → (leaves : Bool) → leaves ≡ (list_any (read_leave K xs) (known_row k).sums)
       → cond leaves TooLarge Fails ≡ state_of_row K xs (Some (known_row k))
   of_wrong_kind unread all leaves e =
       elim (argument_values K xs) as (λ o. argument_values K xs ≡ o → is_some o ≡ true → cond leaves TooLarge Fails ≡ state_of_values K xs (known_row k) o) [
@@ -74,11 +80,13 @@ module _ (k : Known) (K : Partial) (xs : List Argument) (shaped : have_shapes (k
         | Some vs ↦ λ are _. by_sum vs leaves false e (sym (wrong_kind K (known_row k).shapes (known_row k).holds xs vs shaped unread are))
       ] refl (values_given K xs ∙ all)
 
-  told_sum : (leaves holds : Bool) → told (sum_outcome leaves holds) ≡ cond leaves TooLarge (judged holds)
+  told_sum : (leaves holds : Bool)
+      → told (sum_outcome leaves holds) ≡ cond leaves TooLarge (judged holds)
   told_sum true holds = refl
   told_sum false holds = refl
 
-  pub of_ready : are_read K (known_row k).shapes xs ≡ true → told (row_outcome (known_row k) K xs) ≡ state_of_row K xs (Some (known_row k))
+  pub of_ready : are_read K (known_row k).shapes xs ≡ true
+      → told (row_outcome (known_row k) K xs) ≡ state_of_row K xs (Some (known_row k))
   of_ready ready =
       let vs = given_values K (known_row k).shapes xs in
       ap told (outcome_is (known_row k) K xs) ∙ told_sum (list_any (read_leave K xs) (known_row k).sums) (row_holds (known_row k) vs)
@@ -101,5 +109,6 @@ row_fits p r e =
     and_first (have_shapes r.shapes p.arguments) _ (and_second (bytes_eq r.name p.name) (fits r p.arguments) both)
 
 -- the state under the row that the constraint fits
-pub same_state : (K L : Partial) (xs ys : List Argument) (r : Row) (o : Option Row) → K ≡ L → xs ≡ ys → o ≡ Some r → state_of_row K xs (Some r) ≡ state_of_row L ys o
+pub same_state : (K L : Partial) (xs ys : List Argument) (r : Row) (o : Option Row) → K ≡ L
+    → xs ≡ ys → o ≡ Some r → state_of_row K xs (Some r) ≡ state_of_row L ys o
 same_state K L xs ys r o same also e = λ i. state_of_row (same i) (also i) (sym e i)

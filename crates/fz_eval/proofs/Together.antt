@@ -9,14 +9,16 @@ use Rattle.fz_meaning.proofs.Values.{and_first, and_second}
 -- ---- one after another
 
 module _ {A : Type 0} (f : A → Bool) where
-  pub all_next : (xs : List A) (i : ℕ) (x : A) → slice_get xs i ≡ Some x → list_all f (take i xs) ≡ true → f x ≡ true → list_all f (take (i + 1) xs) ≡ true
+  pub all_next : (xs : List A) (i : ℕ) (x : A) → slice_get xs i ≡ Some x
+      → list_all f (take i xs) ≡ true → f x ≡ true → list_all f (take (i + 1) xs) ≡ true
   all_next [] i x at h e = cc
   all_next (y ∷ xs) zero x at h e = let same : y ≡ x = cc in ap (λ b. b && true) (ap f same ∙ e)
   all_next (y ∷ xs) (suc i) x at h e =
       let count : suc i + 1 ≡ suc (i + 1) = omega arith in
       ap (λ n. list_all f (take n (y ∷ xs))) count ∙ (λ j. and_first (f y) _ h j && all_next xs i x at (and_second (f y) _ h) e j)
 
-  pub all_stops : (xs : List A) (i : ℕ) (x : A) → slice_get xs i ≡ Some x → f x ≡ false → false ≡ list_all f xs
+  pub all_stops : (xs : List A) (i : ℕ) (x : A) → slice_get xs i ≡ Some x → f x ≡ false
+      → false ≡ list_all f xs
   all_stops [] i x at e = cc
   all_stops (y ∷ xs) zero x at e = let same : y ≡ x = cc in sym (ap (λ b. b && list_all f xs) (ap f same ∙ e))
   all_stops (y ∷ xs) (suc i) x at e = sym (ap (λ b. f y && b) (sym (all_stops xs i x at e)) ∙ and_false (f y))
@@ -25,7 +27,8 @@ module _ {A : Type 0} (f : A → Bool) where
       and_false true = refl
       and_false false = refl
 
-  pub all_seen : (xs : List A) (n : ℕ) → length xs ≤ n → list_all f (take n xs) ≡ true → true ≡ list_all f xs
+  pub all_seen : (xs : List A) (n : ℕ) → length xs ≤ n → list_all f (take n xs) ≡ true
+      → true ≡ list_all f xs
   all_seen [] n le h = refl
   all_seen (x ∷ xs) zero le h = absurd (omega arith)
   all_seen (x ∷ xs) (suc n) le h = λ j. sym (and_first (f x) _ h) j && all_seen xs n (omega arith) (and_second (f x) _ h) j
@@ -37,7 +40,8 @@ module _ {A : Type 0} (f : A → Bool) where
   first_fail (x ∷ xs) zero e = absurd (false≢true e)
   first_fail (x ∷ xs) (suc n) e = here (f x) (first_fail xs n) e
     where
-      here : (b : Bool) → (false ≡ list_all f (take n xs) → false ≡ list_all f xs) → false ≡ (b && list_all f (take n xs)) → false ≡ (b && list_all f xs)
+      here : (b : Bool) → (false ≡ list_all f (take n xs) → false ≡ list_all f xs)
+          → false ≡ (b && list_all f (take n xs)) → false ≡ (b && list_all f xs)
       here true later e = later e
       here false later e = refl
 
@@ -48,7 +52,8 @@ there [] n lt = absurd (omega (arith, lt))
 there (x ∷ xs) zero lt = (x, refl)
 there (x ∷ xs) (suc n) lt = there xs n (omega (arith, lt))
 
-pub at_take : {A : Type 0} (xs : List A) (count n : ℕ) (x : A) → n < count → slice_get xs n ≡ Some x → slice_get (take count xs) n ≡ Some x
+pub at_take : {A : Type 0} (xs : List A) (count n : ℕ) (x : A) → n < count → slice_get xs n ≡ Some x
+    → slice_get (take count xs) n ≡ Some x
 at_take [] count n x lt e = cc
 at_take (y ∷ xs) zero n x lt e = absurd (omega (arith, lt))
 at_take (y ∷ xs) (suc count) zero x lt e = e
@@ -60,7 +65,8 @@ take_within [] (suc count) = omega arith
 take_within (x ∷ xs) zero = omega arith
 take_within (x ∷ xs) (suc count) = let le = take_within xs count in omega (arith, le)
 
-pub same_length : {A B C : Type 0} (f : A → C) (g : B → C) (xs : List A) (ys : List B) → map f xs ≡ map g ys → length xs ≡ length ys
+pub same_length : {A B C : Type 0} (f : A → C) (g : B → C) (xs : List A) (ys : List B)
+    → map f xs ≡ map g ys → length xs ≡ length ys
 same_length f g xs ys e = sym (length-map xs f) ∙ ap length e ∙ length-map ys g
 
 -- ---- all points

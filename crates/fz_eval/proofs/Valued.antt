@@ -1,5 +1,5 @@
--- Where every variable has a value of its kind inside its domain, each constraint is ready, as its scalars are of the kinds that its row asks for; and
--- each point of a variable's domain holds.
+-- Where every variable has a value of its kind inside its domain, each constraint is ready, as its
+-- scalars are of the kinds that its row asks for; and each point of a variable's domain holds.
 use Rattle.std.proofs.Common.{◌≡◌, ◌≢◌, ◌<◌, ◌≤◌, ◌+◌, get_or, drop, ℕ, zero, suc, Bool, true, false, ◌&&◌, List, [], ◌∷◌, ◌++◌, map, flat_map, length, Option, Some, None, option_map, slice_get, refl, sym, ap, subst, ◌∙◌, arith, append_assoc, length-append}
 use Rattle.std.specs.List.{AllByRecursion, list_all}
 use Rattle.std.specs.Option.{option_map_or}
@@ -36,7 +36,8 @@ use Rattle.fz_eval.proofs.States.{row_fits}
 
 -- ---- what was seen of a model's variables
 
-pub seen_inside : (m : Model) (K : Partial) (xs : List meaning.Variable) (L : Partial) (b : Bool) → xs ≡ variables_of m → L ≡ K → b ≡ lie_inside xs L → b ≡ true
+pub seen_inside : (m : Model) (K : Partial) (xs : List meaning.Variable) (L : Partial) (b : Bool)
+    → xs ≡ variables_of m → L ≡ K → b ≡ lie_inside xs L → b ≡ true
     → lie_inside (variables_of m) K ≡ true
 seen_inside m K xs L b same same' is seen = sym (is ∙ (λ i. lie_inside (same i) (same' i))) ∙ seen
 
@@ -46,11 +47,13 @@ seen_inside m K xs L b same same' is seen = sym (is ∙ (λ i. lie_inside (same 
 abbrev is_of : Kind → Option Value → Bool
 is_of k o = option_map_or (λ v. same_kind (kind_of v) k) o false
 
-own_kind : (x : meaning.Variable) (o : Option Value) → lies_inside x o ≡ true → is_of x.kind o ≡ true
+own_kind : (x : meaning.Variable) (o : Option Value) → lies_inside x o ≡ true
+    → is_of x.kind o ≡ true
 own_kind x None h = no h
 own_kind x (Some v) h = and_first (same_kind (kind_of v) x.kind) _ h
 
-its_value : (xs : List meaning.Variable) (K : Partial) → lie_inside xs K ≡ true → (n : ℕ) (k : Kind) → option_map (λ x. x.kind) (slice_get xs n) ≡ Some k → is_of k (value_at K n) ≡ true
+its_value : (xs : List meaning.Variable) (K : Partial) → lie_inside xs K ≡ true → (n : ℕ) (k : Kind)
+    → option_map (λ x. x.kind) (slice_get xs n) ≡ Some k → is_of k (value_at K n) ≡ true
 its_value [] K h n k e = cc
 its_value (x ∷ xs) [] h n k e = no h
 its_value (x ∷ xs) (o ∷ K) h zero k e = let same : x.kind ≡ k = cc in subst (λ j. is_of j o ≡ true) same (own_kind x o (and_first (lies_inside x o) _ h))
@@ -68,11 +71,13 @@ module _ (m : Model) (K : Partial) (within : lie_inside (variables_of m) K ≡ t
   term_read k (Var n) e = its_value (variables_of m) K within n k e
   term_read k (Fixed v) e = subst (λ j. same_kind (kind_of v) j ≡ true) e (same_as_itself (kind_of v))
 
-  terms_read : (k : Kind) (ts : List Term) → AllByRecursion (TermFits m k) ts → list_all (is_read K k) (map Some ts) ≡ true
+  terms_read : (k : Kind) (ts : List Term) → AllByRecursion (TermFits m k) ts
+      → list_all (is_read K k) (map Some ts) ≡ true
   terms_read k [] h = refl
   terms_read k (t ∷ ts) h = λ i. term_read k t h.0 i && terms_read k ts h.1 i
 
-  places_read : (k : Kind) (ps : List Place) → list_all (is_term_of k) ps ≡ true → AllByRecursion (PlaceFits m) ps → list_all (is_read K k) (map slot_of ps) ≡ true
+  places_read : (k : Kind) (ps : List Place) → list_all (is_term_of k) ps ≡ true
+      → AllByRecursion (PlaceFits m) ps → list_all (is_read K k) (map slot_of ps) ≡ true
   places_read k [] shaped h = refl
   places_read k (Scalar j t ∷ ps) shaped h =
       let same = same_kind_is j k (and_first (same_kind j k) _ shaped) in
@@ -80,7 +85,8 @@ module _ (m : Model) (K : Partial) (within : lie_inside (variables_of m) K ≡ t
       λ i. term_read k t (subst (λ l. TermFits m l t) same h.0) i && rest i
   places_read k (Array x j ts ∷ ps) shaped h = no shaped
 
-  argument_read : (s : Shape) (x : Argument) → has_shape s x ≡ true → ArgumentFits m x → argument_is_read K s x ≡ true
+  argument_read : (s : Shape) (x : Argument) → has_shape s x ≡ true → ArgumentFits m x
+      → argument_is_read K s x ≡ true
   argument_read (ScalarOf k) (One (Scalar j t)) shaped h = term_read k t (subst (λ l. TermFits m l t) (same_kind_is j k shaped) h)
   argument_read (ScalarOf k) (One (Array x j ts)) shaped h = no shaped
   argument_read (ScalarOf k) (ListOf ps) shaped h = no shaped
@@ -88,7 +94,8 @@ module _ (m : Model) (K : Partial) (within : lie_inside (variables_of m) K ≡ t
   argument_read (ArrayOf k) (One (Array x j ts)) shaped h = terms_read k ts (subst (λ l. AllByRecursion (TermFits m l) ts) (same_kind_is j k shaped) h)
   argument_read (ArrayOf k) (ListOf ps) shaped h = places_read k ps shaped h
 
-  arguments_read : (ss : List Shape) (xs : List Argument) → have_shapes ss xs ≡ true → AllByRecursion (ArgumentFits m) xs → are_read K ss xs ≡ true
+  arguments_read : (ss : List Shape) (xs : List Argument) → have_shapes ss xs ≡ true
+      → AllByRecursion (ArgumentFits m) xs → are_read K ss xs ≡ true
   arguments_read [] [] shaped h = refl
   arguments_read [] (x ∷ xs) shaped h = no shaped
   arguments_read (s ∷ ss) [] shaped h = no shaped
@@ -101,7 +108,9 @@ module _ (m : Model) (K : Partial) (within : lie_inside (variables_of m) K ≡ t
   posted_ready p h r e = arguments_read r.shapes p.arguments (row_fits p r e) h
 
 -- where the point is a constraint, it is ready
-pub point_ready : (m : Model) (K : Partial) → lie_inside (variables_of m) K ≡ true → (p : PointParts) → IfConstraint p (λ c. PostedFits m (constraint_view c)) → IfConstraint p (λ c. IsReady K (constraint_view c))
+pub point_ready : (m : Model) (K : Partial) → lie_inside (variables_of m) K ≡ true
+    → (p : PointParts) → IfConstraint p (λ c. PostedFits m (constraint_view c))
+    → IfConstraint p (λ c. IsReady K (constraint_view c))
 point_ready m K within (parts.Domain x n) h = tt
 point_ready m K within (parts.Definition x n e) h = tt
 point_ready m K within (parts.Elements x d ts) h = tt
@@ -112,24 +121,29 @@ point_ready m K within (parts.Constraint c) h = posted_ready m K within (constra
 abbrev pub HoldsIfDomain : Partial → Point → Type 0
 HoldsIfDomain K p = is_domain p ≡ true → point_holds K p ≡ true
 
-value_between : (before after : Partial) (o : Option Value) → value_at (before ++ o ∷ after) (length before) ≡ o
+value_between : (before after : Partial) (o : Option Value)
+    → value_at (before ++ o ∷ after) (length before) ≡ o
 value_between [] after o = refl
 value_between (p ∷ before) after o = value_between before after o
 
-own_domain : (x : meaning.Variable) (o : Option Value) → lies_inside x o ≡ true → is_held (judged_by (inside x.domain) o) ≡ true
+own_domain : (x : meaning.Variable) (o : Option Value) → lies_inside x o ≡ true
+    → is_held (judged_by (inside x.domain) o) ≡ true
 own_domain x None h = no h
 own_domain x (Some v) h = ap (λ b. is_held (judged b)) (and_second (same_kind (kind_of v) x.kind) _ h)
 
-definition_is_other : (K : Partial) (x : meaning.Variable) (n : ℕ) (o : Option Term) → AllByRecursion (HoldsIfDomain K) (definition_points x n o)
+definition_is_other : (K : Partial) (x : meaning.Variable) (n : ℕ) (o : Option Term)
+    → AllByRecursion (HoldsIfDomain K) (definition_points x n o)
 definition_is_other K x n None = tt
 definition_is_other K x n (Some e) = (λ h. no h, tt)
 
-elements_are_others : (K : Partial) (name : List ℕ) (d : Domain) (ts : List Term) → AllByRecursion (HoldsIfDomain K) (array_points name d ts)
+elements_are_others : (K : Partial) (name : List ℕ) (d : Domain) (ts : List Term)
+    → AllByRecursion (HoldsIfDomain K) (array_points name d ts)
 elements_are_others K name All ts = tt
 elements_are_others K name (Within lo hi) ts = (λ h. no h, tt)
 elements_are_others K name (Among s) ts = (λ h. no h, tt)
 
-declared_hold : (before : Partial) (n : ℕ) (ds : List Declared) (K : Partial) → length before ≡ n → lie_inside (flat_map variable_of ds) K ≡ true
+declared_hold : (before : Partial) (n : ℕ) (ds : List Declared) (K : Partial) → length before ≡ n
+    → lie_inside (flat_map variable_of ds) K ≡ true
     → AllByRecursion (HoldsIfDomain (before ++ K)) (flat_map declared_points (numbered_from n ds))
 declared_hold before n [] K count h = tt
 declared_hold before n (Parameter name p ∷ ds) K count h = declared_hold before n ds K count h
@@ -146,7 +160,8 @@ declared_hold before n (ScalarVariable x e ∷ ds) (o ∷ K) count h =
     let rest = subst (λ L. AllByRecursion (HoldsIfDomain L) (flat_map declared_points (numbered_from (suc n) ds))) (append_assoc before (o ∷ []) K) others in
     (λ _. here, all_append (HoldsIfDomain all) (definition_points x n e) (flat_map declared_points (numbered_from (suc n) ds)) (definition_is_other all x n e) rest)
 
-pub domains_hold : (m : Model) (K : Partial) → lie_inside (variables_of m) K ≡ true → AllByRecursion (HoldsIfDomain K) (flat_map declared_points (numbered m))
+pub domains_hold : (m : Model) (K : Partial) → lie_inside (variables_of m) K ≡ true
+    → AllByRecursion (HoldsIfDomain K) (flat_map declared_points (numbered m))
 domains_hold m K within = declared_hold [] 0 m.declared K refl within
 
 -- ---- variables and values side by side
@@ -161,7 +176,8 @@ and_false : (a : Bool) → (a && false) ≡ false
 and_false true = refl
 and_false false = refl
 
-pub not_as_many : (vs : List Variable) (K : Partial) → length vs ≢ length K → false ≡ side_by_side vs K
+pub not_as_many : (vs : List Variable) (K : Partial) → length vs ≢ length K
+    → false ≡ side_by_side vs K
 not_as_many [] [] h = absurd (h refl)
 not_as_many [] (o ∷ K) h = refl
 not_as_many (v ∷ vs) [] h = refl
@@ -170,7 +186,8 @@ not_as_many (v ∷ vs) (o ∷ K) h = sym (and_false (has_own v o)) ∙ ap (λ b.
 module _ (vs : List Variable) (K : Partial) (k : ℕ) where
   module _ (v : Variable) (o : Option Value) (lt : k < length vs) (lt' : k < length K) (at : v ≡ get_or vs k v) (at' : o ≡ get_or K k o)
       (left : side_by_side vs K ≡ side_by_side (drop k vs) (drop k K)) (b : Bool) (is : b ≡ has_own v o) where
-    inside_next : side_by_side vs K ≡ (has_own v o && side_by_side (drop (k + 1) vs) (drop (k + 1) K))
+    inside_next : side_by_side vs K
+        ≡ (has_own v o && side_by_side (drop (k + 1) vs) (drop (k + 1) K))
     inside_next =
         left ∙ at_drop_more (λ zs. side_by_side zs (drop k K)) vs k v lt ∙ at_drop_more (λ zs. side_by_side (get_or vs k v ∷ drop (k + 1) vs) zs) K k o lt'
         ∙ ap (λ z. side_by_side (z ∷ drop (k + 1) vs) (get_or K k o ∷ drop (k + 1) K)) (sym at) ∙ ap (λ z. side_by_side (v ∷ drop (k + 1) vs) (z ∷ drop (k + 1) K)) (sym at')
@@ -181,5 +198,6 @@ module _ (vs : List Variable) (K : Partial) (k : ℕ) where
     pub inside_more : b ≡ true → side_by_side vs K ≡ side_by_side (drop (k + 1) vs) (drop (k + 1) K)
     inside_more e = inside_next ∙ ap (λ c. c && side_by_side (drop (k + 1) vs) (drop (k + 1) K)) (sym is ∙ e)
 
-  pub inside_all : length vs ≡ length K → length K ≤ k → side_by_side vs K ≡ side_by_side (drop k vs) (drop k K) → true ≡ side_by_side vs K
+  pub inside_all : length vs ≡ length K → length K ≤ k
+      → side_by_side vs K ≡ side_by_side (drop k vs) (drop k K) → true ≡ side_by_side vs K
   inside_all n e left = sym (left ∙ at_drop_all (λ zs. side_by_side zs (drop k K)) vs k (omega arith) ∙ at_drop_all (λ zs. side_by_side [] zs) K k (omega arith))

@@ -26,20 +26,21 @@ abbrev pub test_from : ℕ → Partial → List Argument → (ss : List Shape) �
 test_from i K xs [] t = t
 test_from i K xs (s ∷ ss) t = test_from (suc i) K xs ss (t (argument_at K xs i s))
 
--- too large where a sum leaves 128 bits, or else a truth value
+-- too large where a sum leaves 128 bits, or else a Boolean
 abbrev pub sum_outcome : Bool → Bool → Outcome
 sum_outcome leaves holds = cond leaves TooLarge (Truth holds)
 
 -- whether the row holds, unless a sum of it that is added in 128 bits leaves them
 unfoldable pub row_outcome : Row → Partial → List Argument → Outcome
-row_outcome r K xs = sum_outcome (list_any (read_leave K xs) r.sums) (test_from 0 K xs r.shapes r.holds)
+row_outcome r K xs =
+    sum_outcome (list_any (read_leave K xs) r.sums) (test_from 0 K xs r.shapes r.holds)
 
--- whether the truth value says what the outcome is
+-- whether the Boolean says what the outcome is
 abbrev pub compared : Bool → Outcome → Outcome
 compared t TooLarge = TooLarge
 compared t (Truth b) = Truth (t =ᴮ b)
 
--- whether the outcome is as the truth value asks, where that is true
+-- whether the outcome is as the Boolean asks, where that is true
 abbrev pub implied_by : Bool → Outcome → Outcome
 implied_by t TooLarge = TooLarge
 implied_by t (Truth b) = Truth (not t || b)

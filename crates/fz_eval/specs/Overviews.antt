@@ -1,4 +1,5 @@
--- What is looked at of a model's declarations for each assignment: what they ask of the values, and which of their points are no variable's domain.
+-- What is looked at of a model's declarations for each assignment: what they ask of the values, and
+-- which of their points are no variable's domain.
 use Rattle.std.specs.Prelude.{◌≡◌, ℕ, suc, Bool, true, cond, List, [], ◌∷◌, flat_map, map, slice_get}
 use Rattle.std.specs.Option.{option_map_or}
 use Rattle.fz_meaning.specs.declared.kind.Kind.{Kind}
@@ -12,7 +13,8 @@ use Rattle.fz_eval.specs.declared.overview.Overview.{Overview}
 use Rattle.fz_eval.specs.Holding.{point_holds}
 use Rattle.fz_eval.specs.Whole.{is_domain}
 
--- what a domain asks of a value of the kind: where nothing, only the kind counts, and a number or the numbers of a set may have two ends
+-- what a domain asks of a value of the kind: where nothing, only the kind counts, and a number or
+-- the numbers of a set may have two ends
 abbrev pub bounds_in : Kind → Domain → Bounds
 bounds_in k domains.All = Any k
 bounds_in kinds.Int (domains.Within lo hi) = Within lo hi
@@ -30,7 +32,8 @@ others_from k (p ∷ ps) = cond (is_domain p) (others_from (suc k) ps) (k ∷ ot
 
 -- it has the bounds of each variable, and each other point of the declarations
 abbrev pub IsOverview : Model → Overview → Type 0
-IsOverview m o = (o.bounds.items ≡ map bounds_of (variables_of m)) × (o.others.items ≡ others_from 0 (flat_map declared_points (numbered m)))
+IsOverview m o = (o.bounds.items ≡ map bounds_of (variables_of m))
+    × (o.others.items ≡ others_from 0 (flat_map declared_points (numbered m)))
 
 -- whether the point of a number holds, from 0, if there is one (private functions only)
 abbrev pub holds_at : Partial → List Point → ℕ → Bool

@@ -22,14 +22,16 @@ pub(crate) fn int_element(view: &ArgumentView<'_, '_>) -> bool
 
 /// Whether the number is the greatest element.
 pub(crate) fn int_maximum(view: &ArgumentView<'_, '_>) -> bool
-    ensures { result ≡ (is_among (int view.now 0) (ints view.now 1) && list_all (λ x. int_le x (int view.now 0)) (ints view.now 1)) }
+    ensures { result ≡ (is_among (int view.now 0) (ints view.now 1)
+        && list_all (λ x. int_le x (int view.now 0)) (ints view.now 1)) }
 {
     is_maximum(view.int(0), &view.elements(1))
 }
 
 /// Whether the number is the least element.
 pub(crate) fn int_minimum(view: &ArgumentView<'_, '_>) -> bool
-    ensures { result ≡ (is_among (int view.now 0) (ints view.now 1) && list_all (λ x. int_le (int view.now 0) x) (ints view.now 1)) }
+    ensures { result ≡ (is_among (int view.now 0) (ints view.now 1)
+        && list_all (λ x. int_le (int view.now 0) x) (ints view.now 1)) }
 {
     is_minimum(view.int(0), &view.elements(1))
 }
@@ -74,21 +76,24 @@ pub(crate) fn bool_element(view: &ArgumentView<'_, '_>) -> bool
 
 /// Whether an element of the first is true, or one of the second false.
 pub(crate) fn bool_clause(view: &ArgumentView<'_, '_>) -> bool
-    ensures { result ≡ (list_any (λ x. x) (truths view.now 0) || list_any (λ x. not x) (truths view.now 1)) }
+    ensures { result ≡ (list_any (λ x. x) (truths view.now 0)
+        || list_any (λ x. not x) (truths view.now 1)) }
 {
     clause_holds(&view.elements(0), &view.elements(1))
 }
 
 /// Whether the sum of the numbers at true places is the third argument.
 pub(crate) fn bool_lin_eq(view: &ArgumentView<'_, '_>) -> bool
-    ensures { result ≡ (total (where_true (ints view.now 0) (truths view.now 1)) =ℤ int view.now 2) }
+    ensures { result ≡ (total (where_true (ints view.now 0)
+        (truths view.now 1)) =ℤ int view.now 2) }
 {
     sum_where_true(&view.elements(0), &view.elements(1)) == i128::from(view.int(2))
 }
 
 /// Whether the sum of the numbers at true places is at most the third argument.
 pub(crate) fn bool_lin_le(view: &ArgumentView<'_, '_>) -> bool
-    ensures { result ≡ int_le (total (where_true (ints view.now 0) (truths view.now 1))) (int view.now 2) }
+    ensures { result ≡ int_le (total (where_true (ints view.now 0) (truths view.now 1)))
+        (int view.now 2) }
 {
     sum_where_true(&view.elements(0), &view.elements(1)) <= i128::from(view.int(2))
 }

@@ -13,14 +13,16 @@ use fz_kernel::fz_arguments::ArgumentView;
 use fz_meaning::Builtin;
 use std::alloc::{AllocError, Global};
 
-/// What the row of a builtin comes to at the values that the view gives. It refuses only where memory runs out.
+/// What the row of a builtin comes to at the values that the view gives. It refuses only where
+/// memory runs out.
 #[inline(always)]
 pub fn of_builtin(
     alloc: Global,
     builtin: Builtin,
     view: &ArgumentView<'_, '_>,
 ) -> Result<Outcome, AllocError>
-    ensures { IfOk result (λ o. o ≡ row_outcome (row_at builtin) (assigned view.now) (arguments_of view.now)) }
+    ensures { IfOk result (λ o. o ≡ row_outcome (row_at builtin) (assigned view.now)
+        (arguments_of view.now)) }
 {
     match builtin {
         Builtin::IntEq => Ok(Outcome::Truth(numbers::int_eq(view))),

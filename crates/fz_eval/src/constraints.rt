@@ -20,8 +20,8 @@ use fz_kernel::fz_arguments::{ArgumentView, Readiness};
 use fz_meaning::{Form, Known, State};
 use std::alloc::{AllocError, Global};
 
-/// The state of a constraint: unknown without a row, whatever its values are; then without a value; then too large; then by its row.
-/// Where it is known to be ready, whether it is isn't looked at.
+/// The state of a constraint: unknown without a row, whatever its values are; then without a value;
+/// then too large; then by its row. Where it is known to be ready, whether it is isn't looked at.
 #[inline(always)]
 pub(crate) fn of_constraint(
     alloc: Global,
@@ -31,7 +31,8 @@ pub(crate) fn of_constraint(
 ) -> Result<State, AllocError>
     requires known { option_map known_row parts.posted.now.known ≡ row_of (constraint_view parts) }
     requires ready { IsTrue ready → IsReady partial.now (constraint_view parts) }
-    ensures { IfOk result (λ s. s ≡ state_of_row partial.now (constraint_view parts.entry).arguments (row_of (constraint_view parts.entry))) }
+    ensures { IfOk result (λ s. s ≡ state_of_row partial.now (constraint_view parts.entry).arguments
+        (row_of (constraint_view parts.entry))) }
 {
     let Some(known) = parts.posted.known else {
         return Ok(State::Unknown);
@@ -47,7 +48,8 @@ pub(crate) fn of_constraint(
 #[inline]
 fn of_view(alloc: Global, known: Known, view: &ArgumentView<'_, '_>) -> Result<State, AllocError>
     requires fits { have_shapes (known_row known).shapes (arguments_of view.now) ≡ true }
-    ensures { IfOk result (λ s. s ≡ state_of_row (assigned view.now) (arguments_of view.now) (Some (known_row known))) }
+    ensures { IfOk result (λ s. s ≡ state_of_row (assigned view.now) (arguments_of view.now)
+        (Some (known_row known))) }
 {
     match view.readiness(known.shapes()) {
         Readiness::Missing => Ok(State::NoValue),
@@ -64,14 +66,17 @@ fn of_view(alloc: Global, known: Known, view: &ArgumentView<'_, '_>) -> Result<S
 #[inline(always)]
 fn of_ready(alloc: Global, known: Known, view: &ArgumentView<'_, '_>) -> Result<State, AllocError>
     requires fits { have_shapes (known_row known).shapes (arguments_of view.now) ≡ true }
-    requires ready { are_read (assigned view.now) (known_row known).shapes (arguments_of view.now) ≡ true }
-    ensures { IfOk result (λ s. s ≡ state_of_row (assigned view.now) (arguments_of view.now) (Some (known_row known))) }
+    requires ready { are_read (assigned view.now) (known_row known).shapes (arguments_of view.now)
+        ≡ true }
+    ensures { IfOk result (λ s. s ≡ state_of_row (assigned view.now) (arguments_of view.now)
+        (Some (known_row known))) }
 {
     Ok(of_known(alloc, known, view)?.told())
 }
 
 fn is_too_large(known: Known, view: &ArgumentView<'_, '_>) -> bool
-    ensures { result ≡ list_any (read_leave (assigned view.now) (arguments_of view.now)) (known_row known).sums }
+    ensures { result ≡ list_any (read_leave (assigned view.now) (arguments_of view.now))
+        (known_row known).sums }
 {
     known
         .sums()
@@ -79,10 +84,11 @@ fn is_too_large(known: Known, view: &ArgumentView<'_, '_>) -> bool
         .any(|places| products_leave(view, places.0, places.1))
 }
 
-// The row's outcome: of a form with a truth value, what that says of the base row's.
+// The row's outcome: of a reified form, what that says of the base row's.
 #[inline(always)]
 fn of_known(alloc: Global, known: Known, view: &ArgumentView<'_, '_>) -> Result<Outcome, AllocError>
-    ensures { IfOk result (λ o. o ≡ row_outcome (known_row known) (assigned view.now) (arguments_of view.now)) }
+    ensures { IfOk result (λ o. o ≡ row_outcome (known_row known) (assigned view.now)
+        (arguments_of view.now)) }
 {
     let outcome = of_builtin(alloc, known.builtin, view)?;
     match known.form {
@@ -92,7 +98,7 @@ fn of_known(alloc: Global, known: Known, view: &ArgumentView<'_, '_>) -> Result<
     }
 }
 
-// The truth value behind the arguments of the base row.
+// The Boolean behind the arguments of the base row.
 fn last_truth(known: Known, view: &ArgumentView<'_, '_>) -> bool
     requires { HasTruth known.form }
     ensures { result ≡ truth view.now (length (row_at known.builtin).shapes) }

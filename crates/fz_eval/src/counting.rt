@@ -87,7 +87,8 @@ pub(crate) fn number_of_values(
     alloc: Global,
     view: &ArgumentView<'_, '_>,
 ) -> Result<bool, AllocError>
-    ensures { IfOk result (λ r. r ≡ (int view.now 0 =ℤ pos (length (values_of (ints view.now 1))))) }
+    ensures { IfOk result (λ r. r ≡
+        (int view.now 0 =ℤ pos (length (values_of (ints view.now 1))))) }
 {
     Ok(i128::from(view.int(0)) == counts::number_of_values(alloc, &view.elements(1))?)
 }
@@ -109,7 +110,7 @@ pub(crate) fn member_int(view: &ArgumentView<'_, '_>) -> bool
     is_listed(view.int(1), &view.elements(0))
 }
 
-/// Whether the truth value is an element.
+/// Whether the Boolean is an element.
 pub(crate) fn member_bool(view: &ArgumentView<'_, '_>) -> bool
     ensures { result ≡ list_any (λ x. x =ᴮ truth view.now 1) (truths view.now 0) }
 {

@@ -10,7 +10,8 @@ use std::alloc::{AllocError, Global};
 
 /// Whether each value of the cover is an element as often as its number says.
 pub(crate) fn cardinality(alloc: Global, view: &ArgumentView<'_, '_>) -> Result<bool, AllocError>
-    ensures { IfOk result (λ r. r ≡ counts_are (ints view.now 0) (ints view.now 1) (ints view.now 2)) }
+    ensures { IfOk result (λ r. r ≡ counts_are (ints view.now 0) (ints view.now 1)
+        (ints view.now 2)) }
 {
     counts_are(
         alloc,
@@ -26,7 +27,8 @@ pub(crate) fn cardinality_closed(
     alloc: Global,
     view: &ArgumentView<'_, '_>,
 ) -> Result<bool, AllocError>
-    ensures { IfOk result (λ r. r ≡ (counts_are (ints view.now 0) (ints view.now 1) (ints view.now 2) && is_closed (ints view.now 0) (ints view.now 1))) }
+    ensures { IfOk result (λ r. r ≡ (counts_are (ints view.now 0) (ints view.now 1)
+        (ints view.now 2) && is_closed (ints view.now 0) (ints view.now 1))) }
 {
     Ok(cardinality(alloc, view)? && closed(alloc, view)?)
 }
@@ -36,7 +38,8 @@ pub(crate) fn cardinality_between(
     alloc: Global,
     view: &ArgumentView<'_, '_>,
 ) -> Result<bool, AllocError>
-    ensures { IfOk result (λ r. r ≡ counts_lie (ints view.now 0) (ints view.now 1) (ints view.now 2) (ints view.now 3)) }
+    ensures { IfOk result (λ r. r ≡ counts_lie (ints view.now 0) (ints view.now 1) (ints view.now 2)
+        (ints view.now 3)) }
 {
     let (least, most) = (&view.elements(2), &view.elements(3));
     counts_lie(alloc, &view.elements(0), &view.elements(1), least, most)
@@ -48,14 +51,16 @@ pub(crate) fn cardinality_between_closed(
     alloc: Global,
     view: &ArgumentView<'_, '_>,
 ) -> Result<bool, AllocError>
-    ensures { IfOk result (λ r. r ≡ (counts_lie (ints view.now 0) (ints view.now 1) (ints view.now 2) (ints view.now 3) && is_closed (ints view.now 0) (ints view.now 1))) }
+    ensures { IfOk result (λ r. r ≡ (counts_lie (ints view.now 0) (ints view.now 1)
+        (ints view.now 2) (ints view.now 3) && is_closed (ints view.now 0) (ints view.now 1))) }
 {
     Ok(cardinality_between(alloc, view)? && closed(alloc, view)?)
 }
 
 /// Whether each value is an element of the third argument as often as its number in the first says.
 pub(crate) fn distribute(alloc: Global, view: &ArgumentView<'_, '_>) -> Result<bool, AllocError>
-    ensures { IfOk result (λ r. r ≡ counts_are (ints view.now 2) (ints view.now 1) (ints view.now 0)) }
+    ensures { IfOk result (λ r. r ≡ counts_are (ints view.now 2) (ints view.now 1)
+        (ints view.now 0)) }
 {
     counts_are(
         alloc,

@@ -32,7 +32,8 @@ pub(crate) fn of_domain(domain: &Domain, value: Option<&Value>) -> State
 
 /// The state of a definition, where its sides have these values.
 pub(crate) fn of_definition(left: Option<&Value>, right: Option<&Value>) -> State
-    ensures { result ≡ judged_by (λ (v, w). same_value v w) (both (option_map (λ v. v.now) left.entry) (option_map (λ v. v.now) right.entry)) }
+    ensures { result ≡ judged_by (λ (v, w). same_value v w)
+        (both (option_map (λ v. v.now) left.entry) (option_map (λ v. v.now) right.entry)) }
 {
     let Some(left) = left else {
         return State::NoValue;
@@ -45,7 +46,9 @@ pub(crate) fn of_definition(left: Option<&Value>, right: Option<&Value>) -> Stat
 
 /// The state of the domain of an array's elements: it fails as soon as one element lies outside.
 pub(crate) fn of_elements(partial: &Partial, domain: &Domain, elements: Scalars<'_>) -> State
-    ensures { result ≡ cond (list_any (is_outside partial.now domain.now) (scalar_terms elements.entry)) Fails (judged_by (λ vs. true) (values partial.now (scalar_terms elements.entry))) }
+    ensures { result ≡ cond (list_any (is_outside partial.now domain.now)
+        (scalar_terms elements.entry)) Fails
+        (judged_by (λ vs. true) (values partial.now (scalar_terms elements.entry))) }
 {
     if one_outside(partial, domain, &elements) {
         State::Fails
@@ -57,7 +60,8 @@ pub(crate) fn of_elements(partial: &Partial, domain: &Domain, elements: Scalars<
 }
 
 fn one_outside(partial: &Partial, domain: &Domain, elements: &Scalars<'_>) -> bool
-    ensures { result ≡ list_any (λ s. is_outside partial.now domain.now (slot_term elements.now.constants.now s)) elements.now.slots.now }
+    ensures { result ≡ list_any (λ s. is_outside partial.now domain.now
+        (slot_term elements.now.constants.now s)) elements.now.slots.now }
 {
     elements.slots.iter().any(|slot| is_outside(
         partial,
@@ -81,7 +85,8 @@ fn is_outside(partial: &Partial, domain: &Domain, scalar: Scalar<'_>) -> bool
 }
 
 fn have_values(partial: &Partial, elements: &Scalars<'_>) -> bool
-    ensures { result ≡ list_all (λ s. has_value partial.now (slot_term elements.now.constants.now s)) elements.now.slots.now }
+    ensures { result ≡ list_all (λ s. has_value partial.now
+        (slot_term elements.now.constants.now s)) elements.now.slots.now }
 {
     elements.slots.iter().all(|slot| has_value(partial, scalar_at(elements.constants, *slot)))
 }
@@ -101,7 +106,7 @@ fn is_same(left: &Value, right: &Value) -> bool
     left.equals(right)
 }
 
-/// Whether the value lies in the domain. No truth value lies in a domain with bounds.
+/// Whether the value lies in the domain. No Boolean lies in a domain with bounds.
 #[inline]
 pub(crate) fn is_inside(domain: &Domain, value: &Value) -> bool
     ensures { result ≡ inside domain.now value.now }

@@ -10,7 +10,7 @@ use fz_globals::partition::{are_disjoint, is_partition};
 use fz_kernel::fz_arguments::ArgumentView;
 use std::alloc::{AllocError, Global};
 
-/// Whether the set is that of the indices whose truth values are true.
+/// Whether the set is that of the indices whose Booleans are true.
 pub(crate) fn link_set_to_booleans(view: &ArgumentView<'_, '_>) -> bool
     ensures { result ≡ is_flagged (numbers view.now 0) (truths view.now 1) (int view.now 2) }
 {
@@ -33,7 +33,8 @@ pub(crate) fn partition_set(alloc: Global, view: &ArgumentView<'_, '_>) -> Resul
 
 /// Whether each set has the indices where its own index stands in the list.
 pub(crate) fn int_set_channel(view: &ArgumentView<'_, '_>) -> bool
-    ensures { result ≡ are_channelled (ints view.now 0) (int view.now 1) (sets_of view.now 2) (int view.now 3) }
+    ensures { result ≡ are_channelled (ints view.now 0) (int view.now 1) (sets_of view.now 2)
+        (int view.now 3) }
 {
     are_channelled(
         &view.elements(0),

@@ -28,7 +28,8 @@ fn first_hold(
     partial: &Partial,
 ) -> Result<bool, AllocError>
     requires in_range { count ≤ length (points model.now) }
-    ensures { IfOk result (λ b. b ≡ list_all (point_holds partial.now) (take count (points model.now))) }
+    ensures { IfOk result (λ b. b ≡ list_all (point_holds partial.now)
+        (take count (points model.now))) }
 {
     for number in 0..count {
         let found = state(alloc, model, number, partial)?;
@@ -58,8 +59,8 @@ fn others_hold(
     Ok(true)
 }
 
-/// Whether the points of the declarations, the first so many, hold. Where the values are known to lie inside their domains, that isn't
-/// looked at again.
+/// Whether the points of the declarations, the first so many, hold. Where the values are known to
+/// lie inside their domains, that isn't looked at again.
 fn declared_hold(
     alloc: Global,
     model: &Model<'_>,
@@ -71,7 +72,8 @@ fn declared_hold(
     requires overview { IsOverview model.now overview.now }
     requires counted { count + length model.now.constraints ≡ length (points model.now) }
     requires inside { IsTrue inside → lie_inside (variables_of model.now) partial.now ≡ true }
-    ensures { IfOk result (λ b. b ≡ list_all (point_holds partial.now) (take count (points model.now))) }
+    ensures { IfOk result (λ b. b ≡ list_all (point_holds partial.now)
+        (take count (points model.now))) }
 {
     if inside {
         others_hold(alloc, model, &overview.others, partial)
@@ -92,7 +94,8 @@ fn number_holds(
 ) -> Result<bool, AllocError>
     requires in_range { number < length (points model.now) }
     requires whole { IsTrue whole → lie_inside (variables_of model.now) partial.now ≡ true }
-    ensures { IfOk result (λ b. (p : Point) → slice_get (points model.now) number ≡ Some p → b ≡ point_holds partial.now p) }
+    ensures { IfOk result (λ b. (p : Point) → slice_get (points model.now) number ≡ Some p
+        → b ≡ point_holds partial.now p) }
 {
     let found = of_point(alloc, model.point_parts(number), partial, whole)?;
     Ok(is_held(found))
@@ -119,8 +122,8 @@ fn rest_holds(
     Ok(true)
 }
 
-/// Whether all points hold under a partial assignment. It takes memory for long lists of `fzn_all_different_int` alone, and refuses
-/// only where there is none.
+/// Whether all points hold under a partial assignment. It takes memory for long lists of
+/// `fzn_all_different_int` alone, and refuses only where there is none.
 pub fn all_hold(
     alloc: Global,
     model: &Model<'_>,

@@ -1,4 +1,5 @@
-//! The state of a check point under a partial assignment: whether a domain, a definition or a constraint holds, fails or cannot be told.
+//! The state of a check point under a partial assignment: whether a domain, a definition or a
+//! constraint holds, fails or cannot be told.
 #![tactic(auto)]
 
 mod arrays;

@@ -1,4 +1,4 @@
-//! The rows over whole numbers.
+//! The rows over integers.
 
 ghost use Rattle.std.specs.Prelude.{◌≡◌, pos, ◌+ℤ◌, ◌*ℤ◌, not, ◌&&◌, int_le, int_lt, int_div, int_rem, unsigned_abs};
 ghost use Rattle.std.specs.Int.{int_min, int_max};
@@ -75,14 +75,16 @@ pub(crate) fn int_abs(view: &ArgumentView<'_, '_>) -> bool
 
 /// Whether the third number is the quotient of the others.
 pub(crate) fn int_div(view: &ArgumentView<'_, '_>) -> bool
-    ensures { result ≡ (not (int view.now 1 =ℤ pos 0) && (int view.now 2 =ℤ int_div (int view.now 0) (int view.now 1))) }
+    ensures { result ≡ (not (int view.now 1 =ℤ pos 0)
+        && (int view.now 2 =ℤ int_div (int view.now 0) (int view.now 1))) }
 {
     is_quotient(view.int(0), view.int(1), view.int(2))
 }
 
 /// Whether the third number is the remainder of the others.
 pub(crate) fn int_mod(view: &ArgumentView<'_, '_>) -> bool
-    ensures { result ≡ (not (int view.now 1 =ℤ pos 0) && (int view.now 2 =ℤ int_rem (int view.now 0) (int view.now 1))) }
+    ensures { result ≡ (not (int view.now 1 =ℤ pos 0)
+        && (int view.now 2 =ℤ int_rem (int view.now 0) (int view.now 1))) }
 {
     is_remainder(view.int(0), view.int(1), view.int(2))
 }

@@ -88,7 +88,8 @@ pub(crate) fn lex_less_bool(view: &ArgumentView<'_, '_>) -> bool
 
 /// Whether the first list stands before the second, or they are equal.
 pub(crate) fn lex_lesseq_bool(view: &ArgumentView<'_, '_>) -> bool
-    ensures { result ≡ not (is_before (λ x y. not x && y) ◌=ᴮ◌ (truths view.now 1) (truths view.now 0)) }
+    ensures { result ≡ not (is_before (λ x y. not x && y) ◌=ᴮ◌ (truths view.now 1)
+        (truths view.now 0)) }
 {
     bools_are_not_behind(&view.elements(0), &view.elements(1))
 }
@@ -112,7 +113,8 @@ pub(crate) fn value_precede_chain(
     alloc: Global,
     view: &ArgumentView<'_, '_>,
 ) -> Result<bool, AllocError>
-    ensures { IfOk result (λ r. r ≡ all_neighbours (λ s t. precedes s t (ints view.now 1)) (ints view.now 0)) }
+    ensures { IfOk result (λ r. r ≡ all_neighbours (λ s t. precedes s t (ints view.now 1))
+        (ints view.now 0)) }
 {
     precede_in_chain(alloc, &view.elements(0), &view.elements(1))
 }

@@ -14,7 +14,7 @@ pub enum Outcome {
 }
 
 impl Outcome {
-    /// Whether the truth value says what this is.
+    /// Whether the Boolean says what this is.
     pub(crate) fn compared(self, truth: bool) -> Outcome
         ensures { result ≡ compared truth self }
     {
@@ -24,7 +24,7 @@ impl Outcome {
         }
     }
 
-    /// Whether this is as the truth value asks, where that is true.
+    /// Whether this is as the Boolean asks, where that is true.
     pub(crate) fn implied_by(self, truth: bool) -> Outcome
         ensures { result ≡ implied_by truth self }
     {

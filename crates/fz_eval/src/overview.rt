@@ -12,8 +12,8 @@ use fz_data::{Model, PointParts, Variable};
 use fz_meaning::{Domain, Kind};
 use std::alloc::{AllocError, Global};
 
-/// What a variable's declaration asks of its value: any of the kind, a number between two, a set of numbers between two, or what only
-/// its domain tells.
+/// What a variable's declaration asks of its value: any of the kind, a number between two, a set of
+/// numbers between two, or what only its domain tells.
 #[derive(Clone, Copy)]
 pub(crate) enum Bounds {
     Any(Kind),
@@ -31,7 +31,8 @@ pub struct Overview {
     pub(crate) others: Vec<usize>,
 }
 
-/// What two ends ask of a value of the kind. No truth value lies between two numbers, which the domain tells.
+/// What two ends ask of a value of the kind. No Boolean lies between two numbers, which the domain
+/// tells.
 fn between(kind: Kind, low: i64, high: i64) -> Bounds
     ensures { result ≡ bounds_in kind (Within low high) }
 {
@@ -87,7 +88,8 @@ fn others(alloc: Global, model: &Model<'_>, count: usize) -> Result<Vec<usize>, 
 }
 
 impl Overview {
-    /// The overview of a model. It goes over the declarations once, and refuses only where memory runs out.
+    /// The overview of a model. It goes over the declarations once, and refuses only where memory
+    /// runs out.
     pub fn new(alloc: Global, model: &Model<'_>) -> Result<Overview, AllocError>
         ensures made { IfOk result (IsOverview model.now) }
     {

@@ -28,7 +28,8 @@ pub(crate) fn subcircuit(alloc: Global, view: &ArgumentView<'_, '_>) -> Result<b
 
 /// Whether each list leads back from where the other leads.
 pub(crate) fn inverse(view: &ArgumentView<'_, '_>) -> bool
-    ensures { result ≡ are_inverse (as_places (int view.now 1) (ints view.now 0)) (as_places (int view.now 3) (ints view.now 2)) }
+    ensures { result ≡ are_inverse (as_places (int view.now 1) (ints view.now 0))
+        (as_places (int view.now 3) (ints view.now 2)) }
 {
     are_inverse(
         &view.elements(0),
@@ -54,7 +55,8 @@ pub(crate) fn table_bool(view: &ArgumentView<'_, '_>) -> bool
 
 /// Whether the list is a word of the automaton.
 pub(crate) fn regular(view: &ArgumentView<'_, '_>) -> bool
-    ensures { result ≡ is_word (ints view.now 0) (int view.now 1) (int view.now 2) (ints view.now 3) (int view.now 4) (numbers view.now 5) }
+    ensures { result ≡ is_word (ints view.now 0) (int view.now 1) (int view.now 2) (ints view.now 3)
+        (int view.now 4) (numbers view.now 5) }
 {
     let (transitions, last) = (&view.elements(3), view.set(5));
     let (states, symbols, first) = (view.int(1), view.int(2), view.int(4));
@@ -63,14 +65,16 @@ pub(crate) fn regular(view: &ArgumentView<'_, '_>) -> bool
 
 /// Whether the third argument is the index of the first greatest element.
 pub(crate) fn argument_of_maximum(view: &ArgumentView<'_, '_>) -> bool
-    ensures { result ≡ is_index_of_best (λ x m. int_le x m) (ints view.now 0) (int view.now 1) (int view.now 2) }
+    ensures { result ≡ is_index_of_best (λ x m. int_le x m) (ints view.now 0) (int view.now 1)
+        (int view.now 2) }
 {
     is_index_of_maximum(&view.elements(0), view.int(1), view.int(2))
 }
 
 /// Whether the third argument is the index of the first least element.
 pub(crate) fn argument_of_minimum(view: &ArgumentView<'_, '_>) -> bool
-    ensures { result ≡ is_index_of_best (λ x m. int_le m x) (ints view.now 0) (int view.now 1) (int view.now 2) }
+    ensures { result ≡ is_index_of_best (λ x m. int_le m x) (ints view.now 0) (int view.now 1)
+        (int view.now 2) }
 {
     is_index_of_minimum(&view.elements(0), view.int(1), view.int(2))
 }

@@ -22,8 +22,10 @@ pub(crate) fn of_point(
     partial: &Partial,
     ready: bool,
 ) -> Result<State, AllocError>
-    requires known { IfConstraint point (λ c. option_map known_row c.posted.now.known ≡ row_of (constraint_view c)) }
-    requires ready { IsTrue ready → IfConstraint point (λ c. IsReady partial.now (constraint_view c)) }
+    requires known { IfConstraint point
+        (λ c. option_map known_row c.posted.now.known ≡ row_of (constraint_view c)) }
+    requires ready { IsTrue ready → IfConstraint point
+        (λ c. IsReady partial.now (constraint_view c)) }
     ensures exact { IfOk result (λ s. s ≡ state partial.now (point_view point.entry)) }
 {
     match point {
@@ -36,8 +38,8 @@ pub(crate) fn of_point(
     }
 }
 
-/// The state of the point of a number, from 0, under a partial assignment. It takes memory for long lists of
-/// `fzn_all_different_int` alone, and refuses only where there is none.
+/// The state of the point of a number, from 0, under a partial assignment. It takes memory for long
+/// lists of `fzn_all_different_int` alone, and refuses only where there is none.
 #[inline]
 pub fn state(
     alloc: Global,
@@ -46,7 +48,8 @@ pub fn state(
     partial: &Partial,
 ) -> Result<State, AllocError>
     requires in_range { number < length (points model.now) }
-    ensures exact { IfOk result (λ s. (p : Point) → slice_get (points model.now) number ≡ Some p → s ≡ state partial.now p) }
+    ensures exact { IfOk result (λ s. (p : Point) → slice_get (points model.now) number ≡ Some p
+        → s ≡ state partial.now p) }
 {
     of_point(alloc, model.point_parts(number), partial, false)
 }

@@ -13,7 +13,8 @@ use fz_kernel::fz_arguments::ArgumentView;
 
 /// Whether the tasks that run at one time never use more than there is.
 pub(crate) fn cumulative(view: &ArgumentView<'_, '_>) -> bool
-    ensures { result ≡ is_cumulative (zip (zip (ints view.now 0) (ints view.now 1)) (ints view.now 2)) (int view.now 3) }
+    ensures { result ≡ is_cumulative
+        (zip (zip (ints view.now 0) (ints view.now 1)) (ints view.now 2)) (int view.now 3) }
 {
     let uses = &view.elements(2);
     is_cumulative(&view.elements(0), &view.elements(1), uses, view.int(3))
@@ -35,7 +36,8 @@ pub(crate) fn disjunctive_strict(view: &ArgumentView<'_, '_>) -> bool
 
 /// Whether no two boxes overlap.
 pub(crate) fn diffn(view: &ArgumentView<'_, '_>) -> bool
-    ensures { result ≡ overlap_nowhere (boxes (ints view.now 0) (ints view.now 1) (ints view.now 2) (ints view.now 3)) }
+    ensures { result ≡ overlap_nowhere
+        (boxes (ints view.now 0) (ints view.now 1) (ints view.now 2) (ints view.now 3)) }
 {
     let (width, height) = (&view.elements(2), &view.elements(3));
     overlap_nowhere(&view.elements(0), &view.elements(1), width, height)
@@ -43,7 +45,8 @@ pub(crate) fn diffn(view: &ArgumentView<'_, '_>) -> bool
 
 /// Whether no two boxes overlap, where each place along an axis comes with the size along it.
 pub(crate) fn nooverlap(view: &ArgumentView<'_, '_>) -> bool
-    ensures { result ≡ overlap_nowhere (boxes (ints view.now 0) (ints view.now 2) (ints view.now 1) (ints view.now 3)) }
+    ensures { result ≡ overlap_nowhere
+        (boxes (ints view.now 0) (ints view.now 2) (ints view.now 1) (ints view.now 3)) }
 {
     let (width, height) = (&view.elements(1), &view.elements(3));
     overlap_nowhere(&view.elements(0), &view.elements(2), width, height)
@@ -51,7 +54,8 @@ pub(crate) fn nooverlap(view: &ArgumentView<'_, '_>) -> bool
 
 /// Whether no two boxes that have an area overlap.
 pub(crate) fn diffn_nonstrict(view: &ArgumentView<'_, '_>) -> bool
-    ensures { result ≡ overlap_in_no_area (boxes (ints view.now 0) (ints view.now 1) (ints view.now 2) (ints view.now 3)) }
+    ensures { result ≡ overlap_in_no_area
+        (boxes (ints view.now 0) (ints view.now 1) (ints view.now 2) (ints view.now 3)) }
 {
     let (width, height) = (&view.elements(2), &view.elements(3));
     overlap_in_no_area(&view.elements(0), &view.elements(1), width, height)
@@ -59,14 +63,17 @@ pub(crate) fn diffn_nonstrict(view: &ArgumentView<'_, '_>) -> bool
 
 /// Whether no bin holds more than its capacity.
 pub(crate) fn bin_packing(view: &ArgumentView<'_, '_>) -> bool
-    ensures { result ≡ list_all (λ v. int_le (load_of (ints view.now 1) (ints view.now 2) v) (int view.now 0)) (ints view.now 1) }
+    ensures { result ≡ list_all (λ v. int_le (load_of (ints view.now 1) (ints view.now 2) v)
+        (int view.now 0)) (ints view.now 1) }
 {
     loads_are_within(&view.elements(1), &view.elements(2), view.int(0))
 }
 
 /// Whether each bin has the load that is given for it, and there is no other bin.
 pub(crate) fn bin_packing_load(view: &ArgumentView<'_, '_>) -> bool
-    ensures { result ≡ (list_all (lies_between (int view.now 3) ((int view.now 3 +ℤ pos (length (ints view.now 0))) -ℤ pos 1)) (ints view.now 1) && loads_are (int view.now 3) (ints view.now 1) (ints view.now 2) (ints view.now 0)) }
+    ensures { result ≡ (list_all (lies_between (int view.now 3)
+        ((int view.now 3 +ℤ pos (length (ints view.now 0))) -ℤ pos 1)) (ints view.now 1)
+        && loads_are (int view.now 3) (ints view.now 1) (ints view.now 2) (ints view.now 0)) }
 {
     let loads = &view.elements(0);
     loads_are_given(view.int(3), &view.elements(1), &view.elements(2), loads)
@@ -74,7 +81,8 @@ pub(crate) fn bin_packing_load(view: &ArgumentView<'_, '_>) -> bool
 
 /// Whether each run of as many neighbours as the third argument says has a sum within the bounds.
 pub(crate) fn sliding_sum(view: &ArgumentView<'_, '_>) -> bool
-    ensures { result ≡ slides_between (int view.now 0) (int view.now 1) (int view.now 2) (ints view.now 3) }
+    ensures { result ≡ slides_between (int view.now 0) (int view.now 1) (int view.now 2)
+        (ints view.now 3) }
 {
     slides_between(view.int(0), view.int(1), view.int(2), &view.elements(3))
 }

@@ -48,28 +48,32 @@ pub(crate) fn set_superset(view: &ArgumentView<'_, '_>) -> bool
 
 /// Whether the third set is the union of the others.
 pub(crate) fn set_union(view: &ArgumentView<'_, '_>) -> bool
-    ensures { result ≡ (numbers view.now 2 =ˢ sets.union (numbers view.now 0) (numbers view.now 1)) }
+    ensures { result ≡ (numbers view.now 2 =ˢ sets.union (numbers view.now 0)
+        (numbers view.now 1)) }
 {
     is_union(view.set(0), view.set(1), view.set(2))
 }
 
 /// Whether the third set is the intersection of the others.
 pub(crate) fn set_intersect(view: &ArgumentView<'_, '_>) -> bool
-    ensures { result ≡ (numbers view.now 2 =ˢ sets.intersection (numbers view.now 0) (numbers view.now 1)) }
+    ensures { result ≡ (numbers view.now 2 =ˢ sets.intersection (numbers view.now 0)
+        (numbers view.now 1)) }
 {
     is_intersection(view.set(0), view.set(1), view.set(2))
 }
 
 /// Whether the third set is what is in the first and not in the second.
 pub(crate) fn set_diff(view: &ArgumentView<'_, '_>) -> bool
-    ensures { result ≡ (numbers view.now 2 =ˢ sets.difference (numbers view.now 0) (numbers view.now 1)) }
+    ensures { result ≡ (numbers view.now 2 =ˢ sets.difference (numbers view.now 0)
+        (numbers view.now 1)) }
 {
     is_difference(view.set(0), view.set(1), view.set(2))
 }
 
 /// Whether the third set is what is in exactly one of the others.
 pub(crate) fn set_symdiff(view: &ArgumentView<'_, '_>) -> bool
-    ensures { result ≡ (numbers view.now 2 =ˢ symmetric_difference (numbers view.now 0) (numbers view.now 1)) }
+    ensures { result ≡ (numbers view.now 2 =ˢ symmetric_difference (numbers view.now 0)
+        (numbers view.now 1)) }
 {
     is_symmetric_difference(view.set(0), view.set(1), view.set(2))
 }

@@ -14,7 +14,8 @@ use fz_kernel::fz_arguments::ArgumentView;
 
 /// Whether the sum of products is the third argument.
 pub(crate) fn int_lin_eq(view: &ArgumentView<'_, '_>) -> Outcome
-    ensures { result ≡ sum_outcome (leaves_128 (products (ints view.now 0) (ints view.now 1))) (total (products (ints view.now 0) (ints view.now 1)) =ℤ int view.now 2) }
+    ensures { result ≡ sum_outcome (leaves_128 (products (ints view.now 0) (ints view.now 1)))
+        (total (products (ints view.now 0) (ints view.now 1)) =ℤ int view.now 2) }
 {
     match sum_of_products(&view.elements(0), &view.elements(1)) {
         Some(sum) => Outcome::Truth(sum == i128::from(view.int(2))),
@@ -24,7 +25,8 @@ pub(crate) fn int_lin_eq(view: &ArgumentView<'_, '_>) -> Outcome
 
 /// Whether the sum of products is not the third argument.
 pub(crate) fn int_lin_ne(view: &ArgumentView<'_, '_>) -> Outcome
-    ensures { result ≡ sum_outcome (leaves_128 (products (ints view.now 0) (ints view.now 1))) (not (total (products (ints view.now 0) (ints view.now 1)) =ℤ int view.now 2)) }
+    ensures { result ≡ sum_outcome (leaves_128 (products (ints view.now 0) (ints view.now 1)))
+        (not (total (products (ints view.now 0) (ints view.now 1)) =ℤ int view.now 2)) }
 {
     match sum_of_products(&view.elements(0), &view.elements(1)) {
         Some(sum) => Outcome::Truth(sum != i128::from(view.int(2))),
@@ -34,7 +36,8 @@ pub(crate) fn int_lin_ne(view: &ArgumentView<'_, '_>) -> Outcome
 
 /// Whether the sum of products is at most the third argument.
 pub(crate) fn int_lin_le(view: &ArgumentView<'_, '_>) -> Outcome
-    ensures { result ≡ sum_outcome (leaves_128 (products (ints view.now 0) (ints view.now 1))) (int_le (total (products (ints view.now 0) (ints view.now 1))) (int view.now 2)) }
+    ensures { result ≡ sum_outcome (leaves_128 (products (ints view.now 0) (ints view.now 1)))
+        (int_le (total (products (ints view.now 0) (ints view.now 1))) (int view.now 2)) }
 {
     match sum_of_products(&view.elements(0), &view.elements(1)) {
         Some(sum) => Outcome::Truth(sum <= i128::from(view.int(2))),
@@ -44,7 +47,10 @@ pub(crate) fn int_lin_le(view: &ArgumentView<'_, '_>) -> Outcome
 
 /// Whether the things weigh as much, and bring as much, as the last two arguments say.
 pub(crate) fn knapsack(view: &ArgumentView<'_, '_>) -> Outcome
-    ensures { result ≡ sum_outcome (leaves_128 (products (ints view.now 0) (ints view.now 2)) || leaves_128 (products (ints view.now 1) (ints view.now 2))) (is_knapsack (ints view.now 0) (ints view.now 1) (ints view.now 2) (int view.now 3) (int view.now 4)) }
+    ensures { result ≡ sum_outcome (leaves_128 (products (ints view.now 0) (ints view.now 2))
+        || leaves_128 (products (ints view.now 1) (ints view.now 2)))
+        (is_knapsack (ints view.now 0) (ints view.now 1) (ints view.now 2) (int view.now 3)
+        (int view.now 4)) }
 {
     let (weights, profits, numbers) = (view.elements(0), view.elements(1), view.elements(2));
     match is_knapsack(&weights, &profits, &numbers, view.int(3), view.int(4)) {

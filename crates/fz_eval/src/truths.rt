@@ -1,4 +1,4 @@
-//! The rows over truth values.
+//! The rows over Booleans.
 
 ghost use Rattle.std.specs.Prelude.{◌≡◌, not, ◌&&◌, ◌||◌};
 ghost use Rattle.fz_meaning.specs.Values.{◌=ℤ◌, ◌=ᴮ◌};
@@ -8,7 +8,7 @@ ghost use Rattle.fz_eval.specs.Readings.{int, truth};
 use fz_kernel::fz_arguments::ArgumentView;
 use fz_kernel::numbers::number_of_truth;
 
-/// Whether the truth values are equal.
+/// Whether the Booleans are equal.
 pub(crate) fn bool_eq(view: &ArgumentView<'_, '_>) -> bool
     ensures { result ≡ (truth view.now 0 =ᴮ truth view.now 1) }
 {
@@ -29,7 +29,7 @@ pub(crate) fn bool_lt(view: &ArgumentView<'_, '_>) -> bool
     !view.truth(0) && view.truth(1)
 }
 
-/// Whether the truth values are not equal.
+/// Whether the Booleans are not equal.
 pub(crate) fn bool_not(view: &ArgumentView<'_, '_>) -> bool
     ensures { result ≡ not (truth view.now 0 =ᴮ truth view.now 1) }
 {

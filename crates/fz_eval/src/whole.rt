@@ -18,7 +18,8 @@ use fz_meaning::Domain;
 /// Whether the value is a number from one end to the other.
 #[inline]
 fn is_between(low: i64, high: i64, value: &Value) -> bool
-    ensures { result ≡ (same_kind (kind_of value.now) IntKind && inside (Within low high) value.now) }
+    ensures { result ≡ (same_kind (kind_of value.now) IntKind
+        && inside (Within low high) value.now) }
 {
     match value {
         Value::Int(number) => low <= *number && *number <= high,
@@ -30,7 +31,8 @@ fn is_between(low: i64, high: i64, value: &Value) -> bool
 /// Whether the value is a set of numbers from one end to the other.
 #[inline]
 fn is_set_between(low: i64, high: i64, value: &Value) -> bool
-    ensures { result ≡ (same_kind (kind_of value.now) SetKind && inside (Within low high) value.now) }
+    ensures { result ≡ (same_kind (kind_of value.now) SetKind
+        && inside (Within low high) value.now) }
 {
     match value {
         Value::Set(set) => admits_each(&Domain::Within(low, high), set),
@@ -39,11 +41,13 @@ fn is_set_between(low: i64, high: i64, value: &Value) -> bool
     }
 }
 
-/// Whether the value is of the variable's kind and lies in its domain. The variable is read only where its bounds don't tell it.
+/// Whether the value is of the variable's kind and lies in its domain. The variable is read only
+/// where its bounds don't tell it.
 #[inline]
 fn meets(bounds: &Bounds, variable: &Variable<'_>, value: &Value) -> bool
     requires bounds { bounds.now ≡ bounds_of (variable_view variable.now) }
-    ensures { result ≡ (same_kind (kind_of value.now) variable.now.kind && inside variable.now.domain value.now) }
+    ensures { result ≡ (same_kind (kind_of value.now) variable.now.kind
+        && inside variable.now.domain value.now) }
 {
     match bounds {
         Bounds::Any(kind) => same_kind(kind_of(value), *kind),
@@ -67,7 +71,8 @@ fn lies_inside(bounds: &Bounds, variable: &Variable<'_>, value: &Option<Value>) 
     }
 }
 
-/// Whether every variable has a value of its kind that lies in its domain, and there are no other values.
+/// Whether every variable has a value of its kind that lies in its domain, and there are no other
+/// values.
 pub(crate) fn lie_inside(
     bounds: &[Bounds],
     variables: &[Variable<'_>],

@@ -7,7 +7,8 @@ use Rattle.fz_model.specs.Meaning.{Model}
 use Rattle.fz_explain.specs.Notes.{AreNotesOf, IsVariableNote}
 use Rattle.fz_explain.specs.declared.explained.Explained.{Explained}
 
-one_more : (m : Model) (a : Ast) (text : List ℕ) (es : List Explained) (ns : List Note) (e : Explained) (n : Note) → AreNotesOf m a text es ns → IsVariableNote m a text e n
+one_more : (m : Model) (a : Ast) (text : List ℕ) (es : List Explained) (ns : List Note)
+    (e : Explained) (n : Note) → AreNotesOf m a text es ns → IsVariableNote m a text e n
     → AreNotesOf m a text (es ++ e ∷ []) (ns ++ n ∷ [])
 one_more m a text [] [] e n all this = (this, tt)
 one_more m a text [] (k ∷ ns) e n all this = absurd all
@@ -15,7 +16,8 @@ one_more m a text (x ∷ es) [] e n all this = absurd all
 one_more m a text (x ∷ es) (k ∷ ns) e n all this = (all.0, one_more m a text es ns e n all.1 this)
 
 -- the notes on the first k, which stand behind others, and the note on the next
-pub noted_next : (m : Model) (a : Ast) (text : List ℕ) (es : List Explained) (k : ℕ) (e : Explained) (before so_far after added : List Note) (n : Note) → k < length es
+pub noted_next : (m : Model) (a : Ast) (text : List ℕ) (es : List Explained) (k : ℕ) (e : Explained)
+    (before so_far after added : List Note) (n : Note) → k < length es
     → so_far ≡ before ++ added → AreNotesOf m a text (take k es) added → after ≡ so_far ++ n ∷ [] → e ≡ slice_index_or es k e → IsVariableNote m a text e n
     → (more : List Note) × (after ≡ before ++ more) × AreNotesOf m a text (take (k + 1) es) more
 noted_next m a text es k e before so_far after added n less is all longer here this =
@@ -26,7 +28,9 @@ noted_next m a text es k e before so_far after added n less is all longer here t
     )
 
 -- the two parts with a third between, in which so many are the first
-pub noted_all : (m : Model) (a : Ast) (text : List ℕ) (es xs ys : List Explained) (count : ℕ) (middle zero one two three : List Note) → count ≡ min (length es) 8 → xs ≡ es → ys ≡ es → zero ≡ []
+pub noted_all : (m : Model) (a : Ast) (text : List ℕ) (es xs ys : List Explained) (count : ℕ)
+    (middle zero one two three : List Note) → count ≡ min (length es) 8 → xs ≡ es → ys ≡ es
+    → zero ≡ []
     → (front : List Note) × (one ≡ zero ++ front) × AreNotesOf m a text (take count xs) front → two ≡ one ++ middle
     → (back : List Note) × (three ≡ two ++ back) × AreNotesOf m a text (take (length ys - count) (drop count ys)) back
     → (front back : List Note) × (three ≡ front ++ middle ++ back) × AreNotesOf m a text (take 8 es) front × AreNotesOf m a text (drop 8 es) back

@@ -9,7 +9,8 @@ none_with : (K : Partial) (ts : List Term) → known_products K ts [] ≡ []
 none_with K [] = refl
 none_with K (t ∷ ts) = refl
 
-pub no_products : (K : Partial) (xs ys : List Scalar) (n : ℕ) → min (length xs) (length ys) ≤ n → known_products K (map scalar_term (drop n xs)) (map scalar_term (drop n ys)) ≡ []
+pub no_products : (K : Partial) (xs ys : List Scalar) (n : ℕ) → min (length xs) (length ys) ≤ n
+    → known_products K (map scalar_term (drop n xs)) (map scalar_term (drop n ys)) ≡ []
 no_products K [] ys zero h = refl
 no_products K [] ys (suc n) h = refl
 no_products K (x ∷ xs) [] zero h = refl

@@ -1,4 +1,5 @@
--- A point gives one value to one variable; and what becomes of a partial assignment from which a value is taken and given back.
+-- A point gives one value to one variable; and what becomes of a partial assignment from which a
+-- value is taken and given back.
 use Rattle.std.proofs.Common.{◌≡◌, ◌<◌, ℕ, zero, suc, List, [], ◌∷◌, Some, None, length, slice_get, slice_set, subst, sym, ap, arith, refl}
 use Rattle.fz_base.specs.declared.value.Value.{Value}
 use Rattle.fz_model.specs.declared.Term.TheVariants.{Var}
@@ -14,7 +15,8 @@ pub record SameStep (n j : ℕ) (v u : Value) : Type 0 where
   pub variable : n ≡ j
   pub value : v ≡ u
 
-pub one_step : (m : Model) (K : Partial) (k n j : ℕ) (p : Point) (v u : Value) → slice_get (points m) k ≡ Some p → Gives m K p n v → Gives m K p j u → SameStep n j v u
+pub one_step : (m : Model) (K : Partial) (k n j : ℕ) (p : Point) (v u : Value)
+    → slice_get (points m) k ≡ Some p → Gives m K p n v → Gives m K p j u → SameStep n j v u
 one_step m K k n j p v u at g h =
     let variable : n ≡ j = (let terms : (Var n ∷ []) ≡ (Var j ∷ []) = cc in cc) in
     let moved : Gives m K p n u = subst (λ i. Gives m K p i u) (sym variable) h in
@@ -22,7 +24,8 @@ one_step m K k n j p v u at g h =
 
 -- ---- without a value, and with it again
 
-takes : (xs : List Variable) (K : Partial) (n : ℕ) → FitVariables xs K → FitVariables xs (slice_set K n None)
+takes : (xs : List Variable) (K : Partial) (n : ℕ) → FitVariables xs K
+    → FitVariables xs (slice_set K n None)
 takes [] [] n h = h
 takes [] (o ∷ K) n h = absurd h
 takes (x ∷ xs) [] n h = absurd h
@@ -37,12 +40,14 @@ none_there [] n = refl
 none_there (o ∷ K) zero = refl
 none_there (o ∷ K) (suc n) = none_there K n
 
-pub still_long : (K : Partial) (n : ℕ) (v : Value) → value_at K n ≡ Some v → n < length (without K n)
+pub still_long : (K : Partial) (n : ℕ) (v : Value) → value_at K n ≡ Some v
+    → n < length (without K n)
 still_long [] n v e = cc
 still_long (o ∷ K) zero v e = omega arith
 still_long (o ∷ K) (suc n) v e = let less = still_long K n v e in omega (arith, less)
 
-pub given_back : (K : Partial) (n : ℕ) (v : Value) → value_at K n ≡ Some v → give (without K n) n v ≡ K
+pub given_back : (K : Partial) (n : ℕ) (v : Value) → value_at K n ≡ Some v
+    → give (without K n) n v ≡ K
 given_back [] n v e = refl
 given_back (None ∷ K) zero v e = cc
 given_back (Some u ∷ K) zero v e = let same : u ≡ v = cc in ap (λ w. Some w ∷ K) (sym same)

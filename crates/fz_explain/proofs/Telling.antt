@@ -15,7 +15,8 @@ pub record Telling (m : Model) (items : List Printed) (F G : Partial) (told : Li
   pub same : G ≡ F
 
 -- one more
-pub told_next : (m : Model) (items : List Printed) (F G H : Partial) (told more : List Explained) (e : Explained) (ns : List ℕ) (k d : ℕ) → Telling m items F G told (take k ns) → k < length ns
+pub told_next : (m : Model) (items : List Printed) (F G H : Partial) (told more : List Explained)
+    (e : Explained) (ns : List ℕ) (k d : ℕ) → Telling m items F G told (take k ns) → k < length ns
     → more ≡ told ++ e ∷ [] → IsTold m items G (slice_index_or ns k d) e → H ≡ G → Telling m items F H more (take (k + 1) ns)
 told_next m items F G H told more e ns k d so_far less longer t same =
     let whole : IsTold m items F e.variable e = subst₂ (λ K n. IsTold m items K n e) so_far.same (sym t.variable) t in

@@ -6,7 +6,8 @@ use Rattle.fz_explain.specs.Sources.{IsSourceOf}
 use Rattle.fz_explain.specs.declared.explained.Explained.{Explained}
 
 -- a variable with its value under a filling of these items, and where that is from
-pub record IsTold (m : Model) (items : List Printed) (F : Partial) (n : ℕ) (e : Explained) : Type 0 where
+pub record IsTold (m : Model) (items : List Printed) (F : Partial) (n : ℕ)
+    (e : Explained) : Type 0 where
   pub variable : e.variable ≡ n
   pub value : e.value ≡ value_at F n
   pub source : IsSourceOf m items F n e.source

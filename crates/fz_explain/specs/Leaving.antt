@@ -10,7 +10,8 @@ use Rattle.fz_model.specs.Meaning.Point.{DomainPoint, DefinitionPoint, ArrayPoin
 -- to s
 abbrev pub leaving_from : ℕ → ℤ → List ℤ → Option ℕ
 leaving_from k s [] = None
-leaving_from k s (n ∷ ns) = cond (fits_128 (s +ℤ n)) (leaving_from (suc k) (s +ℤ n) ns) (Some (suc k))
+leaving_from k s (n ∷ ns) =
+    cond (fits_128 (s +ℤ n)) (leaving_from (suc k) (s +ℤ n) ns) (Some (suc k))
 
 abbrev pub first_leaving : List ℤ → Option ℕ
 first_leaving ns = leaving_from 0 (pos 0) ns
@@ -18,10 +19,12 @@ first_leaving ns = leaving_from 0 (pos 0) ns
 -- of the sums over these pairs of arguments, the first that does
 abbrev pub leaving_of : Partial → List Argument → List (ℕ × ℕ) → Option ℕ
 leaving_of K xs [] = None
-leaving_of K xs (at ∷ ats) = option_or (first_leaving (known_products K (terms_at_argument xs at.0) (terms_at_argument xs at.1))) (leaving_of K xs ats)
+leaving_of K xs (at ∷ ats) = option_or (first_leaving (known_products K (terms_at_argument xs at.0)
+    (terms_at_argument xs at.1))) (leaving_of K xs ats)
 
 abbrev pub leaving_in : Partial → Point → Option ℕ
-leaving_in K (ConstraintPoint k c) = option_map_or (λ r. leaving_of K c.arguments r.sums) (row_of c) None
+leaving_in K (ConstraintPoint k c) =
+    option_map_or (λ r. leaving_of K c.arguments r.sums) (row_of c) None
 leaving_in K (DomainPoint x n) = None
 leaving_in K (DefinitionPoint x n e) = None
 leaving_in K (ArrayPoint x d ts) = None

@@ -36,16 +36,19 @@ IsShownText bytes text = text ≡ encode_utf8_all (shown bytes)
 -- own
 abbrev pub IsOriginAt : Ast → List ℕ → told.Point → Origin → Type 0
 IsOriginAt a text (told_points.Domain x) o = o ≡ origins.Domain
-IsOriginAt a text (told_points.Definition x) (origins.Definition y line) = IsShownText x.now (string_bytes y) × (line ≡ line_of a text (told_points.Definition x))
+IsOriginAt a text (told_points.Definition x) (origins.Definition y line) = IsShownText x.now
+    (string_bytes y) × (line ≡ line_of a text (told_points.Definition x))
 IsOriginAt a text (told_points.Constraint k x) (origins.Constraint j y line) =
-    (j ≡ k) × IsShownText x.now (string_bytes y) × (line ≡ line_of a text (told_points.Constraint k x))
+    (j ≡ k) × IsShownText x.now (string_bytes y)
+    × (line ≡ line_of a text (told_points.Constraint k x))
 IsOriginAt a text p o = ⊥
 
 -- the model's point of this number, where it has one
 abbrev pub IsOriginOf : Model → Ast → List ℕ → Source → Origin → Type 0
 IsOriginOf m a text sources.Printed o = o ≡ origins.Printed
 IsOriginOf m a text (sources.Given k) o =
-    MatchOption (slice_get (points m) k) (o ≡ origins.Filled) (λ q. (p : told.Point) × (shown_point q ≡ point_name p) × IsOriginAt a text p o)
+    MatchOption (slice_get (points m) k) (o ≡ origins.Filled)
+    (λ q. (p : told.Point) × (shown_point q ≡ point_name p) × IsOriginAt a text p o)
 IsOriginOf m a text sources.Filled o = o ≡ origins.Filled
 IsOriginOf m a text sources.Nothing o = o ≡ origins.Nothing
 
@@ -59,7 +62,9 @@ IsShownOption v w = ⊥
 
 -- the note has the variable's name, its value and where that is from
 abbrev pub IsVariableNote : Model → Ast → List ℕ → Explained → Note → Type 0
-IsVariableNote m a text e (notes.Variable x v o) = IsShownText (name_at m e.variable) (string_bytes x) × IsShownOption e.value v × IsOriginOf m a text e.source o
+IsVariableNote m a text e (notes.Variable x v o) =
+    IsShownText (name_at m e.variable) (string_bytes x) × IsShownOption e.value v
+    × IsOriginOf m a text e.source o
 IsVariableNote m a text e n = ⊥
 
 abbrev pub AreNotesOf : Model → Ast → List ℕ → List Explained → List Note → Type 0
@@ -75,7 +80,8 @@ left_out_notes (suc n) = notes.LeftOut (suc n) ∷ []
 abbrev pub AreNotesOfAll : Model → Ast → List ℕ → Explanation → List Note → Type 0
 AreNotesOfAll m a text x ns =
     (front back : List Note) × (ns ≡ front ++ left_out_notes x.left_out ++ back)
-    × AreNotesOf m a text (take 8 x.variables.items) front × AreNotesOf m a text (drop 8 x.variables.items) back
+    × AreNotesOf m a text (take 8 x.variables.items) front
+    × AreNotesOf m a text (drop 8 x.variables.items) back
 
 -- ---- bounds
 

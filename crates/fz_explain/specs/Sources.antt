@@ -19,16 +19,22 @@ is_variable n (Fixed v) = false
 
 -- a printed name stands for the variable, alone or as an array's element
 abbrev pub prints : Model → List Printed → ℕ → Bool
-prints m items n = list_any (λ i. option_map_or (λ p. list_any (is_variable n) (terms_at p)) (find_name m i.name.text) false) items
+prints m items n = list_any (λ i. option_map_or (λ p. list_any (is_variable n) (terms_at p))
+    (find_name m i.name.text) false) items
 
 -- where the value of a variable is from under a filling of these items
 abbrev pub IsSourceOf : Model → List Printed → Partial → ℕ → Source → Type 0
 -- it is printed
-IsSourceOf m items F n sources.Printed = (v : Value) × (value_at F n ≡ Some v) × (prints m items n ≡ true)
+IsSourceOf m items F n sources.Printed =
+    (v : Value) × (value_at F n ≡ Some v) × (prints m items n ≡ true)
 -- it isn't, and the point of this number is the first that gives it from the values of the others
-IsSourceOf m items F n (sources.Given k) = (v : Value) × (value_at F n ≡ Some v) × (prints m items n ≡ false) × IsFirst m (GivesIt m (without F n) n v) k
+IsSourceOf m items F n (sources.Given k) =
+    (v : Value) × (value_at F n ≡ Some v) × (prints m items n ≡ false)
+    × IsFirst m (GivesIt m (without F n) n v) k
 -- it isn't, and no point gives it from those
-IsSourceOf m items F n sources.Filled = (v : Value) × (value_at F n ≡ Some v) × (prints m items n ≡ false) × NoPoint m (GivesIt m (without F n) n v)
+IsSourceOf m items F n sources.Filled =
+    (v : Value) × (value_at F n ≡ Some v) × (prints m items n ≡ false)
+    × NoPoint m (GivesIt m (without F n) n v)
 -- there is none
 IsSourceOf m items F n sources.Nothing = value_at F n ≡ None
 

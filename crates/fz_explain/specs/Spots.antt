@@ -8,6 +8,9 @@ use Rattle.fz_model.specs.declared.Point.{Point}
 use Rattle.fz_model.specs.declared.Point.TheVariants as points
 
 abbrev pub point_place : Ast → Point → Option Span
-point_place a (points.Domain x) = option_map (λ d. d.name.span) (declaration (map located_decl a.decls.items) x.now)
-point_place a (points.Definition x) = option_map (λ d. d.name.span) (declaration (map located_decl a.decls.items) x.now)
-point_place a (points.Constraint k x) = option_map (λ c. c.name.span) (slice_get a.constraints.items (k - 1))
+point_place a (points.Domain x) =
+    option_map (λ d. d.name.span) (declaration (map located_decl a.decls.items) x.now)
+point_place a (points.Definition x) =
+    option_map (λ d. d.name.span) (declaration (map located_decl a.decls.items) x.now)
+point_place a (points.Constraint k x) =
+    option_map (λ c. c.name.span) (slice_get a.constraints.items (k - 1))

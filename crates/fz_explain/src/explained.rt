@@ -80,7 +80,8 @@ fn explain_variables(
 ) -> Result<Vec<Explained>, AllocError>
     requires fits { IsPartial model.now filling.old }
     ensures variables { IfOk result (λ v. map (λ e. e.variable) v.items ≡ variables.now) }
-    ensures told { IfOk result (λ v. AllByRecursion (λ e. IsTold model.now (located_items items.now) filling.old e.variable e) v.items) }
+    ensures told { IfOk result (λ v. AllByRecursion
+        (λ e. IsTold model.now (located_items items.now) filling.old e.variable e) v.items) }
     ensures same { filling.new ≡ filling.old }
 {
     let mut told = Vec::new(alloc);
@@ -95,7 +96,7 @@ fn explain_variables(
 ///
 /// # Errors
 ///
-/// Want of memory.
+/// Out of memory.
 pub fn explain(
     alloc: Global,
     model: &Model<'_>,
@@ -104,10 +105,13 @@ pub fn explain(
     variables: &[usize],
 ) -> Result<Explanation, AllocError>
     requires fits { IsPartial model.now filling.old }
-    ensures variables { IfOk result (λ x. map (λ e. e.variable) x.variables.items ≡ shortened variables.now) }
+    ensures variables { IfOk result
+        (λ x. map (λ e. e.variable) x.variables.items ≡ shortened variables.now) }
     // Each has its value under the filling, with where that is from.
-    ensures told { IfOk result (λ x. AllByRecursion (λ e. IsTold model.now (located_items items.now) filling.old e.variable e) x.variables.items) }
-    ensures left_out { IfOk result (λ x. x.left_out ≡ length variables.now - length x.variables.items) }
+    ensures told { IfOk result (λ x. AllByRecursion (λ e. IsTold model.now
+        (located_items items.now) filling.old e.variable e) x.variables.items) }
+    ensures left_out { IfOk result
+        (λ x. x.left_out ≡ length variables.now - length x.variables.items) }
     ensures same { filling.new ≡ filling.old }
 {
     let shown = shorten(alloc, variables)?;

@@ -35,7 +35,7 @@ impl Sought {
 ///
 /// # Errors
 ///
-/// Want of memory.
+/// Out of memory.
 pub fn first_point(
     alloc: Global,
     model: &Model<'_>,

@@ -20,8 +20,10 @@ fn first_giver(
     value: &Value,
 ) -> Result<Option<usize>, AllocError>
     requires fits { IsPartial model.now others.now }
-    ensures found { IfOk result (λ o. IfSome o (IsFirst model.now (GivesIt model.now others.now variable value.now))) }
-    ensures none { IfOk result (λ o. IsNone o → NoPoint model.now (GivesIt model.now others.now variable value.now)) }
+    ensures found { IfOk result (λ o. IfSome o
+        (IsFirst model.now (GivesIt model.now others.now variable value.now))) }
+    ensures none { IfOk result (λ o. IsNone o
+        → NoPoint model.now (GivesIt model.now others.now variable value.now)) }
 {
     for point in 0..model.points() {
         if gives(alloc, model, others, point, variable, value)? {
@@ -49,8 +51,12 @@ fn gives(
 ) -> Result<bool, AllocError>
     requires in_range { point < length (points model.now) }
     requires fits { IsPartial model.now others.now }
-    ensures gives { IfOk result (λ r. IsTrue r → (p : Point) → slice_get (points model.now) point ≡ Some p → Gives model.now others.now p variable value.now) }
-    ensures not { IfOk result (λ r. IsFalse r → (p : Point) → slice_get (points model.now) point ≡ Some p → Gives model.now others.now p variable value.now → ⊥) }
+    ensures gives { IfOk result (λ r. IsTrue r → (p : Point)
+        → slice_get (points model.now) point ≡ Some p
+        → Gives model.now others.now p variable value.now) }
+    ensures not { IfOk result (λ r. IsFalse r → (p : Point)
+        → slice_get (points model.now) point ≡ Some p
+        → Gives model.now others.now p variable value.now → ⊥) }
 {
     match forced(alloc, model, point, others)? {
         Some((number, given)) => Ok(is_step(number, &given, variable, value)),
@@ -63,7 +69,7 @@ fn gives(
 ///
 /// # Errors
 ///
-/// Want of memory.
+/// Out of memory.
 pub(crate) fn giver(
     alloc: Global,
     model: &Model<'_>,
@@ -71,8 +77,11 @@ pub(crate) fn giver(
     variable: usize,
 ) -> Result<Option<usize>, AllocError>
     requires fits { IsPartial model.now filling.old }
-    ensures found { IfOk result (λ o. IfSome o (λ k. (v : Value) → value_at filling.old variable ≡ Some v → IsFirst model.now (GivesIt model.now (without filling.old variable) variable v) k)) }
-    ensures none { IfOk result (λ o. IsNone o → (v : Value) → value_at filling.old variable ≡ Some v → NoPoint model.now (GivesIt model.now (without filling.old variable) variable v)) }
+    ensures found { IfOk result (λ o. IfSome o (λ k. (v : Value)
+        → value_at filling.old variable ≡ Some v
+        → IsFirst model.now (GivesIt model.now (without filling.old variable) variable v) k)) }
+    ensures none { IfOk result (λ o. IsNone o → (v : Value) → value_at filling.old variable ≡ Some v
+        → NoPoint model.now (GivesIt model.now (without filling.old variable) variable v)) }
     ensures same { filling.new ≡ filling.old }
 {
     let value = match filling.get(variable) {

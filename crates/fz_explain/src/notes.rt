@@ -53,7 +53,8 @@ fn point_origin(
 
 /// Where a value is from.
 fn origin_of(alloc: Global, loaded: Loaded<'_, '_>, source: Source) -> Result<Origin, AllocError>
-    ensures { IfOk result (IsOriginOf loaded.entry.model.now loaded.entry.ast.now loaded.entry.text.now source) }
+    ensures { IfOk result (IsOriginOf loaded.entry.model.now loaded.entry.ast.now
+        loaded.entry.text.now source) }
 {
     match source {
         Source::Printed => Ok(Origin::Printed),
@@ -85,7 +86,8 @@ fn variable_note(
     loaded: Loaded<'_, '_>,
     explained: &Explained,
 ) -> Result<Note, AllocError>
-    ensures { IfOk result (IsVariableNote loaded.entry.model.now loaded.entry.ast.now loaded.entry.text.now explained.now) }
+    ensures { IfOk result (IsVariableNote loaded.entry.model.now loaded.entry.ast.now
+        loaded.entry.text.now explained.now) }
 {
     let name = shown_text(alloc, name_at(loaded.model, explained.variable))?;
     let origin = origin_of(alloc, loaded, explained.source)?;
@@ -103,7 +105,9 @@ fn push_variables(
     notes: &mut Vec<Note>,
     variables: &[Explained],
 ) -> Result<(), AllocError>
-    ensures { OnOk result ((added : List Note) × (notes.new.items ≡ notes.old.items ++ added) × AreNotesOf loaded.entry.model.now loaded.entry.ast.now loaded.entry.text.now variables.now added) }
+    ensures { OnOk result ((added : List Note) × (notes.new.items ≡ notes.old.items ++ added)
+        × AreNotesOf loaded.entry.model.now loaded.entry.ast.now loaded.entry.text.now variables.now
+        added) }
 {
     for explained in variables {
         notes.push(variable_note(alloc, loaded, explained)?)?;
@@ -126,13 +130,14 @@ fn push_left_out(notes: &mut Vec<Note>, left_out: usize) -> Result<(), AllocErro
 ///
 /// # Errors
 ///
-/// Want of memory.
+/// Out of memory.
 pub fn notes_of(
     alloc: Global,
     loaded: Loaded<'_, '_>,
     explanation: &Explanation,
 ) -> Result<Vec<Note>, AllocError>
-    ensures { IfOk result (λ notes. AreNotesOfAll loaded.entry.model.now loaded.entry.ast.now loaded.entry.text.now explanation.now notes.items) }
+    ensures { IfOk result (λ notes. AreNotesOfAll loaded.entry.model.now loaded.entry.ast.now
+        loaded.entry.text.now explanation.now notes.items) }
 {
     let count = explanation.variables.len().min(FIRST_VARIABLES);
     let mut notes = Vec::new(alloc);
@@ -157,14 +162,15 @@ fn domain_note(alloc: Global, domain: &Domain) -> Result<Option<Note>, AllocErro
 ///
 /// # Errors
 ///
-/// Want of memory.
+/// Out of memory.
 pub fn bounds_note(
     alloc: Global,
     model: &Model<'_>,
     point: usize,
 ) -> Result<Option<Note>, AllocError>
     requires in_range { point < length (points model.now) }
-    ensures { IfOk result (λ note. (p : ModelPoint) → slice_get (points model.now) point ≡ Some p → IsBoundsNote p note) }
+    ensures { IfOk result (λ note. (p : ModelPoint) → slice_get (points model.now) point ≡ Some p
+        → IsBoundsNote p note) }
 {
     match model.point_parts(point) {
         PointParts::Domain(variable, _) => domain_note(alloc, &variable.domain),

@@ -11,7 +11,8 @@ use fz_syntax::Ast;
 
 /// The place of the predicate of the constraint with this number, from 1.
 fn constraint_place(ast: &Ast<'_>, number: usize) -> Option<Span>
-    ensures { result ≡ option_map (λ c. c.name.span) (slice_get ast.now.constraints.items (number - 1)) }
+    ensures { result ≡ option_map (λ c. c.name.span)
+        (slice_get ast.now.constraints.items (number - 1)) }
 {
     let constraint = ast.constraints.get(number.saturating_sub(1))?;
     Some(constraint.name.span)
@@ -19,7 +20,8 @@ fn constraint_place(ast: &Ast<'_>, number: usize) -> Option<Span>
 
 /// The place where a name is declared.
 fn declared_place(ast: &Ast<'_>, name: &[u8]) -> Option<Span>
-    ensures { result ≡ option_map (λ d. d.name.span) (declaration (map located_decl ast.now.decls.items) name.now) }
+    ensures { result ≡ option_map (λ d. d.name.span)
+        (declaration (map located_decl ast.now.decls.items) name.now) }
 {
     for decl in &ast.decls {
         if decl.name.text == name {

@@ -36,7 +36,8 @@ fn is_among(scalars: Scalars<'_>, variable: usize) -> bool
 
 /// Whether a name stands for the variable, alone or as an array's element.
 fn stands_for(model: &Model<'_>, name: &[u8], variable: usize) -> bool
-    ensures { result ≡ option_map_or (λ p. list_any (is_variable variable) (terms_at p)) (find_name model.now name.now) false }
+    ensures { result ≡ option_map_or (λ p. list_any (is_variable variable) (terms_at p))
+        (find_name model.now name.now) false }
 {
     match model.find(name) {
         Some(found) => match found.what {

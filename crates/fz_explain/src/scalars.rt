@@ -15,7 +15,8 @@ pub(crate) fn push_list<'m>(
     slots: &[Slot],
     constants: &'m [Value],
 ) -> Result<(), AllocError>
-    ensures { OnOk result (map scalar_term scalars.new.items ≡ map scalar_term scalars.old.items ++ map (slot_term constants.now) slots.now) }
+    ensures { OnOk result (map scalar_term scalars.new.items
+        ≡ map scalar_term scalars.old.items ++ map (slot_term constants.now) slots.now) }
 {
     for slot in slots {
         scalars.push(scalar_at(constants, *slot))?;
@@ -29,7 +30,10 @@ fn push_place<'m>(
     parts: &ConstraintParts<'m, '_>,
     slot: Slot,
 ) -> Result<(), AllocError>
-    ensures { OnOk result (map scalar_term scalars.new.items ≡ map scalar_term scalars.old.items ++ terms_at (place_view parts.now.variables.now parts.now.arrays.now parts.now.store.now.constants.items slot)) }
+    ensures { OnOk result (map scalar_term scalars.new.items
+        ≡ map scalar_term scalars.old.items
+        ++ terms_at (place_view parts.now.variables.now parts.now.arrays.now
+        parts.now.store.now.constants.items slot)) }
 {
     let constants = &parts.store.constants;
     match slot {
@@ -49,7 +53,10 @@ fn push_places<'m>(
     parts: &ConstraintParts<'m, '_>,
     slots: &[Slot],
 ) -> Result<(), AllocError>
-    ensures { OnOk result (map scalar_term scalars.new.items ≡ map scalar_term scalars.old.items ++ flat_map terms_at (map (place_view parts.now.variables.now parts.now.arrays.now parts.now.store.now.constants.items) slots.now)) }
+    ensures { OnOk result (map scalar_term scalars.new.items
+        ≡ map scalar_term scalars.old.items ++ flat_map terms_at
+        (map (place_view parts.now.variables.now parts.now.arrays.now
+        parts.now.store.now.constants.items) slots.now)) }
 {
     for &slot in slots {
         push_place(scalars, parts, slot)?;
@@ -63,7 +70,9 @@ pub(crate) fn push_argument<'m>(
     parts: &ConstraintParts<'m, '_>,
     argument: Argument,
 ) -> Result<(), AllocError>
-    ensures { OnOk result (map scalar_term scalars.new.items ≡ map scalar_term scalars.old.items ++ terms_in (argument_view parts.now.variables.now parts.now.arrays.now parts.now.store.now argument)) }
+    ensures { OnOk result (map scalar_term scalars.new.items
+        ≡ map scalar_term scalars.old.items ++ terms_in
+        (argument_view parts.now.variables.now parts.now.arrays.now parts.now.store.now argument)) }
 {
     match argument {
         Argument::One(slot) => push_place(scalars, parts, slot),
@@ -77,7 +86,8 @@ pub(crate) fn scalars_at<'m>(
     parts: &ConstraintParts<'m, '_>,
     place: usize,
 ) -> Result<Vec<Scalar<'m>>, AllocError>
-    ensures { IfOk result (λ v. map scalar_term v.items ≡ terms_at_argument (constraint_view parts.now).arguments place) }
+    ensures { IfOk result (λ v. map scalar_term v.items
+        ≡ terms_at_argument (constraint_view parts.now).arguments place) }
 {
     let mut scalars = Vec::new(alloc);
     if let Some(&argument) = parts.arguments().get(place) {

@@ -29,7 +29,7 @@ pub enum Source {
 ///
 /// # Errors
 ///
-/// Want of memory.
+/// Out of memory.
 pub(crate) fn source_of(
     alloc: Global,
     model: &Model<'_>,
@@ -38,7 +38,8 @@ pub(crate) fn source_of(
     variable: usize,
 ) -> Result<Source, AllocError>
     requires fits { IsPartial model.now filling.old }
-    ensures source { IfOk result (IsSourceOf model.now (located_items items.now) filling.old variable) }
+    ensures source { IfOk result (IsSourceOf model.now
+        (located_items items.now) filling.old variable) }
     ensures same { filling.new ≡ filling.old }
 {
     if filling.get(variable).is_none() {

@@ -31,7 +31,8 @@ fn push_product(
     left: Option<i64>,
     right: Option<i64>,
 ) -> Result<(), AllocError>
-    ensures { OnOk result (products.new.items ≡ products.old.items ++ product_before left right []) }
+    ensures { OnOk result (products.new.items
+        ≡ products.old.items ++ product_before left right []) }
 {
     match (left, right) {
         (Some(left), Some(right)) => Ok(products.push(i128::from(left) * i128::from(right))?),
@@ -46,7 +47,8 @@ fn products_of(
     a: &[Scalar<'_>],
     b: &[Scalar<'_>],
 ) -> Result<Vec<i128>, AllocError>
-    ensures { IfOk result (λ v. v.items ≡ known_products filling.now (map scalar_term a.now) (map scalar_term b.now)) }
+    ensures { IfOk result (λ v. v.items
+        ≡ known_products filling.now (map scalar_term a.now) (map scalar_term b.now)) }
 {
     let mut products = Vec::new(alloc);
     for place in 0..a.len().min(b.len()) {
@@ -78,7 +80,8 @@ fn leaving_of(
     parts: &ConstraintParts<'_, '_>,
     sums: &[(usize, usize)],
 ) -> Result<Option<usize>, AllocError>
-    ensures { IfOk result (λ o. o ≡ leaving_of filling.now (constraint_view parts.now).arguments sums.now) }
+    ensures { IfOk result (λ o. o ≡ leaving_of filling.now
+        (constraint_view parts.now).arguments sums.now) }
 {
     for &(first, second) in sums {
         let a = scalars_at(alloc, parts, first)?;
@@ -95,7 +98,7 @@ fn leaving_of(
 ///
 /// # Errors
 ///
-/// Want of memory.
+/// Out of memory.
 pub fn too_large_at(
     alloc: Global,
     model: &Model<'_>,
@@ -103,7 +106,8 @@ pub fn too_large_at(
     point: usize,
 ) -> Result<Option<usize>, AllocError>
     requires in_range { point < length (points model.now) }
-    ensures { IfOk result (λ o. (p : Point) → slice_get (points model.now) point ≡ Some p → o ≡ leaving_in filling.now p) }
+    ensures { IfOk result (λ o. (p : Point) → slice_get (points model.now) point ≡ Some p
+        → o ≡ leaving_in filling.now p) }
 {
     let PointParts::Constraint(parts) = model.point_parts(point) else {
         return Ok(None);

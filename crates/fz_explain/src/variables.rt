@@ -18,7 +18,8 @@ type Variables = IndexSet<usize>;
 
 /// Adds the variable that a scalar is.
 fn add(variables: &mut Variables, scalar: Scalar<'_>) -> Result<(), AllocError>
-    ensures { OnOk result (variables.new.keys ≡ with_term variables.old.keys (scalar_term scalar.entry)) }
+    ensures { OnOk result (variables.new.keys
+        ≡ with_term variables.old.keys (scalar_term scalar.entry)) }
 {
     if let Scalar::Variable(number) = scalar {
         variables.insert(number)?;
@@ -28,7 +29,8 @@ fn add(variables: &mut Variables, scalar: Scalar<'_>) -> Result<(), AllocError>
 
 /// Adds those that are among scalars.
 fn add_all(variables: &mut Variables, scalars: &[Scalar<'_>]) -> Result<(), AllocError>
-    ensures { OnOk result (variables.new.keys ≡ with_terms variables.old.keys (map scalar_term scalars.now)) }
+    ensures { OnOk result (variables.new.keys
+        ≡ with_terms variables.old.keys (map scalar_term scalars.now)) }
 {
     for scalar in scalars {
         add(variables, *scalar)?;
@@ -43,7 +45,9 @@ fn add_argument(
     parts: &ConstraintParts<'_, '_>,
     argument: Argument,
 ) -> Result<(), AllocError>
-    ensures { OnOk result (variables.new.keys ≡ with_terms variables.old.keys (terms_in (argument_view parts.now.variables.now parts.now.arrays.now parts.now.store.now argument))) }
+    ensures { OnOk result (variables.new.keys ≡ with_terms variables.old.keys
+        (terms_in (argument_view parts.now.variables.now parts.now.arrays.now parts.now.store.now
+        argument))) }
 {
     let mut scalars = Vec::new(alloc);
     push_argument(&mut scalars, parts, argument)?;
@@ -56,7 +60,8 @@ fn add_arguments(
     variables: &mut Variables,
     parts: &ConstraintParts<'_, '_>,
 ) -> Result<(), AllocError>
-    ensures { OnOk result (variables.new.keys ≡ with_terms variables.old.keys (flat_map terms_in (constraint_view parts.now).arguments)) }
+    ensures { OnOk result (variables.new.keys
+        ≡ with_terms variables.old.keys (flat_map terms_in (constraint_view parts.now).arguments)) }
 {
     for &argument in parts.arguments() {
         add_argument(alloc, variables, parts, argument)?;
@@ -70,7 +75,8 @@ fn add_point(
     variables: &mut Variables,
     parts: PointParts<'_, '_>,
 ) -> Result<(), AllocError>
-    ensures { OnOk result (variables.new.keys ≡ with_terms variables.old.keys (terms_of (point_view parts.entry))) }
+    ensures { OnOk result (variables.new.keys
+        ≡ with_terms variables.old.keys (terms_of (point_view parts.entry))) }
 {
     match parts {
         PointParts::Domain(_, number) => add(variables, Scalar::Variable(number)),
@@ -101,14 +107,15 @@ fn add_term(variables: &mut Variables, term: &Term) -> Result<(), AllocError>
 ///
 /// # Errors
 ///
-/// Want of memory.
+/// Out of memory.
 pub fn variables_of(
     alloc: Global,
     model: &Model<'_>,
     point: usize,
 ) -> Result<Vec<usize>, AllocError>
     requires in_range { point < length (points model.now) }
-    ensures { IfOk result (λ v. (p : Point) → slice_get (points model.now) point ≡ Some p → v.items ≡ variables_in p) }
+    ensures { IfOk result (λ v. (p : Point) → slice_get (points model.now) point ≡ Some p
+        → v.items ≡ variables_in p) }
 {
     let mut variables = IndexSet::new(alloc);
     add_point(alloc, &mut variables, model.point_parts(point))?;

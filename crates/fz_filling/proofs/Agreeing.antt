@@ -15,11 +15,13 @@ use Rattle.fz_model.specs.Meaning.Point.{DomainPoint, DefinitionPoint, ArrayPoin
 use Rattle.fz_model.specs.Steps.{Gives, IsResult, IsTarget, SumsFit, HasUnitCoefficient, terms_of, open_terms}
 use Rattle.fz_filling.specs.Outlooks.{Agree}
 
-pub all_left : {A : Type 0} (P : A → Type 0) (xs ys : List A) → AllByRecursion P (xs ++ ys) → AllByRecursion P xs
+pub all_left : {A : Type 0} (P : A → Type 0) (xs ys : List A) → AllByRecursion P (xs ++ ys)
+    → AllByRecursion P xs
 all_left P [] ys h = tt
 all_left P (x ∷ xs) ys h = (h.0, all_left P xs ys h.1)
 
-pub all_right : {A : Type 0} (P : A → Type 0) (xs ys : List A) → AllByRecursion P (xs ++ ys) → AllByRecursion P ys
+pub all_right : {A : Type 0} (P : A → Type 0) (xs ys : List A) → AllByRecursion P (xs ++ ys)
+    → AllByRecursion P ys
 all_right P [] ys h = h
 all_right P (x ∷ xs) ys h = all_right P xs ys h.1
 
@@ -34,7 +36,8 @@ module _ (K L : Partial) where
   open_agree [] h = refl
   open_agree (t ∷ ts) h = λ i. cond (is_none (h.0 i)) (t ∷ open_agree ts h.1 i) (open_agree ts h.1 i)
 
-  agrees_at : (ts : List Term) (i : ℕ) (t : Term) → Agree K L ts → slice_get ts i ≡ Some t → value K t ≡ value L t
+  agrees_at : (ts : List Term) (i : ℕ) (t : Term) → Agree K L ts → slice_get ts i ≡ Some t
+      → value K t ≡ value L t
   agrees_at [] i t h e = cc
   agrees_at (u ∷ ts) zero t h e = let same : u ≡ t = cc in subst (λ z. value K z ≡ value L z) same h.0
   agrees_at (u ∷ ts) (suc i) t h e = agrees_at ts i t h.1 e
@@ -45,26 +48,31 @@ module _ (K L : Partial) where
   right_part : (xs ys : List Term) → Agree K L (xs ++ ys) → Agree K L ys
   right_part xs ys h = all_right (λ t. value K t ≡ value L t) xs ys h
 
-  argument_agrees : (x : Argument) → Agree K L (terms_in x) → argument_value K x ≡ argument_value L x
+  argument_agrees : (x : Argument) → Agree K L (terms_in x)
+      → argument_value K x ≡ argument_value L x
   argument_agrees (One (Scalar k t)) h = ap (option_map OneValue) h.0
   argument_agrees (One (Array name k ts)) h = ap (option_map ManyValues) (values_agree ts h)
   argument_agrees (ListOf ps) h = ap (option_map ManyValues) (values_agree (terms_in (ListOf ps)) h)
 
-  arguments_agree : (xs : List Argument) → Agree K L (flat_map terms_in xs) → argument_values K xs ≡ argument_values L xs
+  arguments_agree : (xs : List Argument) → Agree K L (flat_map terms_in xs)
+      → argument_values K xs ≡ argument_values L xs
   arguments_agree [] h = refl
   arguments_agree (x ∷ xs) h = λ i. option_cons (argument_agrees x (left_part (terms_in x) (flat_map terms_in xs) h) i) (arguments_agree xs (right_part (terms_in x) (flat_map terms_in xs) h) i)
 
-  products_agree : (as' bs : List Term) → Agree K L as' → Agree K L bs → known_products K as' bs ≡ known_products L as' bs
+  products_agree : (as' bs : List Term) → Agree K L as' → Agree K L bs
+      → known_products K as' bs ≡ known_products L as' bs
   products_agree [] bs g h = refl
   products_agree (a ∷ as') [] g h = refl
   products_agree (a ∷ as') (b ∷ bs) g h = λ i. product_before (option_and_then as_int (g.0 i)) (option_and_then as_int (h.0 i)) (products_agree as' bs g.1 h.1 i)
 
-  argument_at_agrees : (xs : List Argument) (i : ℕ) → Agree K L (flat_map terms_in xs) → Agree K L (terms_at_argument xs i)
+  argument_at_agrees : (xs : List Argument) (i : ℕ) → Agree K L (flat_map terms_in xs)
+      → Agree K L (terms_at_argument xs i)
   argument_at_agrees [] i h = tt
   argument_at_agrees (x ∷ xs) zero h = left_part (terms_in x) (flat_map terms_in xs) h
   argument_at_agrees (x ∷ xs) (suc i) h = argument_at_agrees xs i (right_part (terms_in x) (flat_map terms_in xs) h)
 
-  sums_agree : (xs : List Argument) (ps : List (ℕ × ℕ)) → Agree K L (flat_map terms_in xs) → list_any (products_leave K xs) ps ≡ list_any (products_leave L xs) ps
+  sums_agree : (xs : List Argument) (ps : List (ℕ × ℕ)) → Agree K L (flat_map terms_in xs)
+      → list_any (products_leave K xs) ps ≡ list_any (products_leave L xs) ps
   sums_agree xs [] h = refl
   sums_agree xs ((i, j) ∷ ps) h =
       let products = products_agree (terms_at_argument xs i) (terms_at_argument xs j) (argument_at_agrees xs i h) (argument_at_agrees xs j h) in
@@ -72,11 +80,13 @@ module _ (K L : Partial) where
 
   -- ---- the parts of a step
 
-  unit_agrees : (xs : List Argument) (n : ℕ) → Agree K L (flat_map terms_in xs) → HasUnitCoefficient K xs n → HasUnitCoefficient L xs n
+  unit_agrees : (xs : List Argument) (n : ℕ) → Agree K L (flat_map terms_in xs)
+      → HasUnitCoefficient K xs n → HasUnitCoefficient L xs n
   unit_agrees xs n h (i, stands, u, beside, is_unit) =
       (i, stands, u, beside, subst (λ o. (o ≡ Some (Int (pos 1))) ⊎ (o ≡ Some (Int (negsuc 0)))) (agrees_at (terms_at_argument xs 0) i u (argument_at_agrees xs 0 h) beside) is_unit)
 
-  result_agrees : (xs : List Argument) (n : ℕ) (r : Result) → Agree K L (flat_map terms_in xs) → IsResult K xs n r → IsResult L xs n r
+  result_agrees : (xs : List Argument) (n : ℕ) (r : Result) → Agree K L (flat_map terms_in xs)
+      → IsResult K xs n r → IsResult L xs n r
   result_agrees xs n NoResult h is = is
   result_agrees xs n (Places ks) h is = is
   result_agrees xs n UnitTerm h is = unit_agrees xs n h is
@@ -87,7 +97,8 @@ module _ (K L : Partial) where
   target_agrees (ArrayPoint name d ts) n h t = t
   target_agrees (ConstraintPoint k p) n h (named, is) = (named, by_row (row_of p) is)
     where
-      by_row : (o : Option Row) → IsSomeAnd o (λ r. IsResult K p.arguments n r.result) → IsSomeAnd o (λ r. IsResult L p.arguments n r.result)
+      by_row : (o : Option Row) → IsSomeAnd o (λ r. IsResult K p.arguments n r.result)
+          → IsSomeAnd o (λ r. IsResult L p.arguments n r.result)
       by_row None is = is
       by_row (Some r) is = result_agrees p.arguments n r.result h is
 
@@ -97,7 +108,8 @@ module _ (K L : Partial) where
   sums_fit_agree (ArrayPoint name d ts) h s = tt
   sums_fit_agree (ConstraintPoint k p) h s = by_row (row_of p) s
     where
-      by_row : (o : Option Row) → IfSome o (λ r. IsFalse (sums_leave K p.arguments r)) → IfSome o (λ r. IsFalse (sums_leave L p.arguments r))
+      by_row : (o : Option Row) → IfSome o (λ r. IsFalse (sums_leave K p.arguments r))
+          → IfSome o (λ r. IsFalse (sums_leave L p.arguments r))
       by_row None fit = fit
       by_row (Some r) fit = sym (sums_agree p.arguments r.sums h) ∙ fit
 
@@ -109,7 +121,8 @@ module _ (K L : Partial) where
 
 -- ---- one more value
 
-given_at : (K L : Partial) (n k : ℕ) (v : Value) → length K ≡ length L → value_at K k ≡ value_at L k → value_at (give K n v) k ≡ value_at (give L n v) k
+given_at : (K L : Partial) (n k : ℕ) (v : Value) → length K ≡ length L → value_at K k ≡ value_at L k
+    → value_at (give K n v) k ≡ value_at (give L n v) k
 given_at [] [] n k v as_many e = refl
 given_at [] (p ∷ L) n k v as_many e = absurd (omega arith)
 given_at (o ∷ K) [] n k v as_many e = absurd (omega arith)
@@ -118,13 +131,15 @@ given_at (o ∷ K) (p ∷ L) zero (suc k) v as_many e = e
 given_at (o ∷ K) (p ∷ L) (suc n) zero v as_many e = e
 given_at (o ∷ K) (p ∷ L) (suc n) (suc k) v as_many e = given_at K L n k v (omega arith) e
 
-given_agree : (K L : Partial) (n : ℕ) (v : Value) → length K ≡ length L → (ts : List Term) → Agree K L ts → Agree (give K n v) (give L n v) ts
+given_agree : (K L : Partial) (n : ℕ) (v : Value) → length K ≡ length L → (ts : List Term)
+    → Agree K L ts → Agree (give K n v) (give L n v) ts
 given_agree K L n v as_many [] h = tt
 given_agree K L n v as_many (Var k ∷ ts) h = (given_at K L n k v as_many h.0, given_agree K L n v as_many ts h.1)
 given_agree K L n v as_many (Fixed w ∷ ts) h = (refl, given_agree K L n v as_many ts h.1)
 
 -- What a point gives it gives wherever its scalars have the same values.
-pub gives_agree : (m : Model) (K L : Partial) (p : Point) (n : ℕ) (v : Value) → length K ≡ length L → Agree K L (terms_of p) → Gives m K p n v → Gives m L p n v
+pub gives_agree : (m : Model) (K L : Partial) (p : Point) (n : ℕ) (v : Value) → length K ≡ length L
+    → Agree K L (terms_of p) → Gives m K p n v → Gives m L p n v
 gives_agree m K L p n v as_many h g = record {
   target = target_agrees K L p n h g.target;
   only_open = sym (open_agree K L (terms_of p) h) ∙ g.only_open;

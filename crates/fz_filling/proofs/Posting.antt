@@ -1,4 +1,5 @@
--- The constraints of a model by the numbers of their points, and a constraint without an open target.
+-- The constraints of a model by the numbers of their points, and a constraint without an open
+-- target.
 use Rattle.std.proofs.Common.{◌≡◌, ℕ, zero, suc, ◌+◌, ◌-◌, ◌≤◌, true, false, List, [], ◌∷◌, ◌++◌, map, flat_map, length, Option, Some, None, is_some, slice_get, refl, sym, ap, subst, ◌∙◌, arith}
 use Rattle.std.proofs.lemmas.List.{length-append}
 use Rattle.fz_model.specs.declared.Array.{Array}
@@ -18,18 +19,22 @@ as_many_points : (i : ℕ) (ps : List meaning.Posted) → length (constraint_poi
 as_many_points i [] = refl
 as_many_points i (p ∷ ps) = ap suc (as_many_points (suc i) ps)
 
-as_many_shown : (xs : List Array) (st : Store) (qs : List Posted) (ps : List meaning.Posted) → map (shown_posted xs st) qs ≡ map shown ps → length qs ≡ length ps
+as_many_shown : (xs : List Array) (st : Store) (qs : List Posted) (ps : List meaning.Posted)
+    → map (shown_posted xs st) qs ≡ map shown ps → length qs ≡ length ps
 as_many_shown xs st [] [] e = refl
 as_many_shown xs st [] (p ∷ ps) e = cc
 as_many_shown xs st (q ∷ qs) [] e = cc
 as_many_shown xs st (q ∷ qs) (p ∷ ps) e = let rest : map (shown_posted xs st) qs ≡ map shown ps = cc in ap suc (as_many_shown xs st qs ps rest)
 
-behind : {A : Type 0} (xs ys : List A) (k : ℕ) → length xs ≤ k → slice_get (xs ++ ys) k ≡ slice_get ys (k - length xs)
+behind : {A : Type 0} (xs ys : List A) (k : ℕ) → length xs ≤ k
+    → slice_get (xs ++ ys) k ≡ slice_get ys (k - length xs)
 behind [] ys k h = let same : k ≡ k - 0 = omega arith in ap (λ j. slice_get ys j) same
 behind (x ∷ xs) ys zero h = absurd (omega arith)
 behind (x ∷ xs) ys (suc k) h = let same : k - length xs ≡ suc k - suc (length xs) = omega arith in behind xs ys k (omega arith) ∙ ap (λ j. slice_get ys j) same
 
-at_post : (xs : List Array) (st : Store) (i k : ℕ) (qs : List Posted) (ps : List meaning.Posted) (p : Point) (q : Posted) → map (shown_posted xs st) qs ≡ map shown ps → slice_get (constraint_points i ps) k ≡ Some p → slice_get qs k ≡ Some q → HasTarget p q.target
+at_post : (xs : List Array) (st : Store) (i k : ℕ) (qs : List Posted) (ps : List meaning.Posted)
+    (p : Point) (q : Posted) → map (shown_posted xs st) qs ≡ map shown ps
+    → slice_get (constraint_points i ps) k ≡ Some p → slice_get qs k ≡ Some q → HasTarget p q.target
 at_post xs st i k [] ps p q e at stands = cc
 at_post xs st i k (r ∷ qs) [] p q e at stands = cc
 at_post xs st i zero (r ∷ qs) (s ∷ ps) p q e at stands =
@@ -57,7 +62,8 @@ module _ (m : Model) (xs : List Array) (st : Store) (qs : List Posted) (shows : 
 
 -- ---- no open target
 
-pub gives_nothing_shut : (m : Model) (K : Partial) (p : Point) (t : Option ℕ) → HasTarget p t → is_shut K t ≡ true → GivesNothing m K p
+pub gives_nothing_shut : (m : Model) (K : Partial) (p : Point) (t : Option ℕ) → HasTarget p t
+    → is_shut K t ≡ true → GivesNothing m K p
 gives_nothing_shut m K p t (i, q, is, named) shut = subst (GivesNothing m K) (sym is) (λ n v g. by_target n (only_open_none K n (terms_of (ConstraintPoint i q)) g.only_open) t (sym named ∙ g.target.0) shut)
   where
     by_target : (n : ℕ) → value_at K n ≡ None → (t : Option ℕ) → t ≡ Some n → is_shut K t ≡ true → ⊥

@@ -26,7 +26,8 @@ Walk m zero K F = K ≡ F
 Walk m (suc l) K F = (k : ℕ) × (n : ℕ) × (v : Value) × (p : Point) × (slice_get (points m) k ≡ Some p) × Gives m K p n v × Walk m l (give K n v) F
 
 -- the point of a first step stands at the step's number
-numbers_are : {A : Type 0} (P : ℕ → A → Type 0) (i : ℕ) (xs : List A) → ((j : ℕ) (x : A) → slice_get xs j ≡ Some x → P (i + j) x)
+numbers_are : {A : Type 0} (P : ℕ → A → Type 0) (i : ℕ) (xs : List A)
+    → ((j : ℕ) (x : A) → slice_get xs j ≡ Some x → P (i + j) x)
     → AllByRecursion (λ (q : ℕ × A). P q.0 q.1) (enumerate_from i xs)
 numbers_are P i [] h = tt
 numbers_are P i (x ∷ xs) h =
@@ -38,7 +39,8 @@ numbers_are P i (x ∷ xs) h =
 abbrev IsNumbered : Model → (ℕ × Point) → Type 0
 IsNumbered m q = slice_get (points m) q.0 ≡ Some q.1
 
-stands : (m : Model) (K : Partial) (from k n : ℕ) (v : Value) (s : IsFirstStep m K from k n v) → slice_get (points m) k ≡ Some s.point
+stands : (m : Model) (K : Partial) (from k n : ℕ) (v : Value) (s : IsFirstStep m K from k n v)
+    → slice_get (points m) k ≡ Some s.point
 stands m K from k n v s =
     let whole : List (ℕ × Point) = enumerate_from 0 (points m) in
     let each : AllByRecursion (IsNumbered m) whole =
@@ -48,13 +50,15 @@ stands m K from k n v s =
     (all_right (IsNumbered m) s.skipped ((k, s.point) ∷ s.rest) (subst (AllByRecursion (IsNumbered m)) s.order counted)).0
 
 -- a chain is a run, and nothing gives a step at its end
-walk_of_chain : (m : Model) {K : Partial} {from : ℕ} {F : Partial} → Chain m K from F → (l : ℕ) × Walk m l K F × AllByRecursion (GivesNothing m F) (points m)
+walk_of_chain : (m : Model) {K : Partial} {from : ℕ} {F : Partial} → Chain m K from F
+    → (l : ℕ) × Walk m l K F × AllByRecursion (GivesNothing m F) (points m)
 walk_of_chain m (Ends none) = (zero, refl, none)
 walk_of_chain m (Step {K = K} {from = from} {k = k} {n = n} {v = v} s rest) =
     let (l, walk, none) = walk_of_chain m rest in (suc l, (k, n, v, s.point, stands m K from k n v s, s.gives, walk), none)
 
 -- a run and one behind it
-walk_of_run : (m : Model) {K L : Partial} → Run m K L → (F : Partial) (l : ℕ) → Walk m l L F → (j : ℕ) × Walk m j K F
+walk_of_run : (m : Model) {K L : Partial} → Run m K L → (F : Partial) (l : ℕ) → Walk m l L F
+    → (j : ℕ) × Walk m j K F
 walk_of_run m Stays F l walk = (l, walk)
 walk_of_run m (Goes {n = n} {v = v} k p at g rest) F l walk = let (j, more) = walk_of_run m rest F l walk in (suc j, (k, n, v, p, at, g, more))
 
@@ -67,7 +71,8 @@ walk_later m (suc l) K F (k, n, v, p, at, g, rest) =
 
 module _ (m : Model) (lone : AreLone m) where
   -- two steps of a variable are the same
-  same_step : (K : Partial) (j k n : ℕ) (p q : Point) (v u : Value) → slice_get (points m) j ≡ Some p → slice_get (points m) k ≡ Some q
+  same_step : (K : Partial) (j k n : ℕ) (p q : Point) (v u : Value)
+      → slice_get (points m) j ≡ Some p → slice_get (points m) k ≡ Some q
       → Gives m K p n v → Gives m K q n u → v ≡ u
   same_step K j k n p q v u at at' g h =
       let same : j ≡ k = lone K K j k n p q at at' g.target h.target in
@@ -75,7 +80,8 @@ module _ (m : Model) (lone : AreLone m) where
       step_value m K q n v u (at_place (PointFits m) (points m) k q (points_fit m) at') (subst (λ r. Gives m K r n v) equal g) h
 
   -- a step that a run takes can be taken first
-  taken_first : (l : ℕ) (K F : Partial) (p : Point) (k n : ℕ) (v u : Value) → slice_get (points m) k ≡ Some p → Gives m K p n v → value_at F n ≡ Some u
+  taken_first : (l : ℕ) (K F : Partial) (p : Point) (k n : ℕ) (v u : Value)
+      → slice_get (points m) k ≡ Some p → Gives m K p n v → value_at F n ≡ Some u
       → Walk m (suc l) K F → Walk m l (give K n v) F
   taken_first zero K F p k n v u at g set (i, n', v', q, at', h, rest) = elim (is_same n' n) [
     | inl same ↦
@@ -110,7 +116,8 @@ record Given (m : Model) (K : Partial) (n : ℕ) : Type 0 where
   given : Value
   gives : Gives m later point n given
 
-given_in : (m : Model) (l : ℕ) (K F : Partial) (n : ℕ) (u : Value) → IsOpen K n → value_at F n ≡ Some u → Walk m l K F → Given m K n
+given_in : (m : Model) (l : ℕ) (K F : Partial) (n : ℕ) (u : Value) → IsOpen K n
+    → value_at F n ≡ Some u → Walk m l K F → Given m K n
 given_in m zero K F n u none set same = let here : value_at K n ≡ Some u = ap (λ L. value_at L n) same ∙ set in cc
 given_in m (suc l) K F n u none set (k, i, v, p, at, g, rest) = elim (is_same i n) [
   | inl same ↦ record { later = K; is_later = same_later K; number = k; point = p; at = at; given = v; gives = subst (λ j. Gives m K p j v) same g }
@@ -133,11 +140,13 @@ IsKnown m K p = ((n : ℕ) × (v : Value) × Gives m K p n v) ⊎ GivesNothing m
 
 module _ (m : Model) (lone : AreLone m) (l : ℕ) (K F : Partial) (walk : Walk m l K F) (nothing : AllByRecursion (GivesNothing m F) (points m)) where
   -- what is given at the start has a value at the end
-  set_at_end : (j : ℕ) (p : Point) (n : ℕ) (v : Value) → slice_get (points m) j ≡ Some p → Gives m K p n v → IsOpen F n → ⊥
+  set_at_end : (j : ℕ) (p : Point) (n : ℕ) (v : Value) → slice_get (points m) j ≡ Some p
+      → Gives m K p n v → IsOpen F n → ⊥
   set_at_end j p n v at g still = at_place (GivesNothing m F) (points m) j p nothing at n v (later_gives m K F p n v (walk_later m l K F walk) still g)
 
   -- a point with one scalar without a value
-  known_of_one : (j : ℕ) (p : Point) (n : ℕ) (o : Option Value) → slice_get (points m) j ≡ Some p → open_terms K (terms_of p) ≡ Var n ∷ []
+  known_of_one : (j : ℕ) (p : Point) (n : ℕ) (o : Option Value) → slice_get (points m) j ≡ Some p
+      → open_terms K (terms_of p) ≡ Var n ∷ []
       → value_at F n ≡ o → IsKnown m K p
   known_of_one j p n None at only still = inr (λ i v g.
       let same : ◌≡◌ {A = List Term} (Var n ∷ []) (Var i ∷ []) = sym only ∙ g.only_open in
@@ -156,7 +165,8 @@ module _ (m : Model) (lone : AreLone m) (l : ℕ) (K F : Partial) (walk : Walk m
             other (lone s.later K s.number j n s.point p s.at at s.gives.target moved.target))
       ]
 
-  known_by : (j : ℕ) (p : Point) (ts : List Term) → slice_get (points m) j ≡ Some p → open_terms K (terms_of p) ≡ ts → IsKnown m K p
+  known_by : (j : ℕ) (p : Point) (ts : List Term) → slice_get (points m) j ≡ Some p
+      → open_terms K (terms_of p) ≡ ts → IsKnown m K p
   known_by j p [] at e = inr (λ n v g. let same : ◌≡◌ {A = List Term} [] (Var n ∷ []) = sym e ∙ g.only_open in cc)
   known_by j p (Var n ∷ []) at e = known_of_one j p n (value_at F n) at e refl
   known_by j p (Fixed w ∷ []) at e = inr (λ n v g. let same : ◌≡◌ {A = List Term} (Fixed w ∷ []) (Var n ∷ []) = sym e ∙ g.only_open in cc)
@@ -194,7 +204,8 @@ module _ (m : Model) (K : Partial) (known_of : (j : ℕ) (p : Point) → slice_g
   one_more from k to p e above at (inr none) (inr nothing) =
       inr (subst (NoneGives m K from) e (none_and_one m K from k none (λ q at'. let same : p ≡ q = cc in subst (GivesNothing m K) same nothing)))
 
-  step_in : (from count to : ℕ) → from + count ≡ to → to ≤ length (points m) → StepIn m K from to ⊎ NoneGives m K from to
+  step_in : (from count to : ℕ) → from + count ≡ to → to ≤ length (points m)
+      → StepIn m K from to ⊎ NoneGives m K from to
   step_in from zero to e inside = inr (λ j p above below at. absurd (omega arith))
   step_in from (suc count) to e inside =
       let (p, at) = there_is (points m) (from + count) (omega arith) in
@@ -206,14 +217,16 @@ module _ (m : Model) (K : Partial) (known_of : (j : ℕ) (p : Point) → slice_g
       let first : IsFirstStep m K from s.number s.variable s.given = ahead_is_first m K from (length (points m)) s.number s.variable s.given refl s.step in
       record { number = s.number; variable = s.variable; given = s.given; within = s.step.below; first = first }
 
-  wrapped_found : (from : ℕ) → from ≤ length (points m) → NoneGives m K from (length (points m)) → StepIn m K 0 from → FirstFound m K from
+  wrapped_found : (from : ℕ) → from ≤ length (points m) → NoneGives m K from (length (points m))
+      → StepIn m K 0 from → FirstFound m K from
   wrapped_found from inside after s =
       let below : s.number < from = s.step.below in
       let first : IsFirstStep m K from s.number s.variable s.given =
       wrapped_is_first m K from (length (points m)) s.number s.variable s.given refl inside after s.step in
       record { number = s.number; variable = s.variable; given = s.given; within = omega arith; first = first }
 
-  first_found : (from : ℕ) → from ≤ length (points m) → FirstFound m K from ⊎ AllByRecursion (GivesNothing m K) (points m)
+  first_found : (from : ℕ) → from ≤ length (points m)
+      → FirstFound m K from ⊎ AllByRecursion (GivesNothing m K) (points m)
   first_found from inside = elim (step_in from (length (points m) - from) (length (points m)) (omega arith) (omega arith)) [
     | inl s ↦ inl (ahead_found from s)
     | inr after ↦ elim (step_in 0 from from (omega arith) inside) [
@@ -226,13 +239,15 @@ module _ (m : Model) (K : Partial) (known_of : (j : ℕ) (p : Point) → slice_g
 
 module _ (m : Model) (lone : AreLone m) (F : Partial) (nothing : AllByRecursion (GivesNothing m F) (points m)) where
   -- the run without its first step in the order of the points
-  rest_of : (l : ℕ) (K : Partial) (from k n : ℕ) (v : Value) (o : Option Value) → value_at F n ≡ o → IsFirstStep m K from k n v
+  rest_of : (l : ℕ) (K : Partial) (from k n : ℕ) (v : Value) (o : Option Value) → value_at F n ≡ o
+      → IsFirstStep m K from k n v
       → Walk m (suc l) K F → Walk m l (give K n v) F
   rest_of l K from k n v None still s walk =
       absurd (set_at_end m lone (suc l) K F walk nothing k s.point n v (stands m K from k n v s) s.gives still)
   rest_of l K from k n v (Some u) set s walk = taken_first m lone l K F s.point k n v u (stands m K from k n v s) s.gives set walk
 
-  chain_of_walk : (l : ℕ) (K : Partial) (from : ℕ) → from ≤ length (points m) → Walk m l K F → Chain m K from F
+  chain_of_walk : (l : ℕ) (K : Partial) (from : ℕ) → from ≤ length (points m) → Walk m l K F
+      → Chain m K from F
   chain_of_walk zero K from inside same = subst (λ L. Chain m L from F) (sym same) (Ends nothing)
   chain_of_walk (suc l) K from inside walk = elim (first_found m K (known m lone (suc l) K F walk nothing) from inside) [
     | inl s ↦
@@ -242,8 +257,10 @@ module _ (m : Model) (lone : AreLone m) (F : Partial) (nothing : AllByRecursion 
     | inr none ↦ let (k, n, v, p, at, g, rest) = walk in absurd (at_place (GivesNothing m K) (points m) k p none at n v g)
   ]
 
--- A run to where a chain begins is a chain itself, from any point, where no two points can give the same variable a value.
-pub run_then_chain : (m : Model) (K L F : Partial) (from j : ℕ) → AreLone m → from ≤ length (points m) → Run m K L → Chain m L j F → Chain m K from F
+-- A run to where a chain begins is a chain itself, from any point, where no two points can give the
+-- same variable a value.
+pub run_then_chain : (m : Model) (K L F : Partial) (from j : ℕ) → AreLone m
+    → from ≤ length (points m) → Run m K L → Chain m L j F → Chain m K from F
 run_then_chain m K L F from j lone inside run chain =
     let (l, walk, nothing) = walk_of_chain m chain in
     let (i, whole) = walk_of_run m run F l walk in

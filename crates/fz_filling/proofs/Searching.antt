@@ -13,20 +13,24 @@ use Rattle.fz_filling.specs.Outlooks.{first_other, open_other, slot_terms, terms
 
 -- ---- the first answer
 
-or_assoc : {A : Type 0} (o p q : Option A) → option_or (option_or o p) q ≡ option_or o (option_or p q)
+or_assoc : {A : Type 0} (o p q : Option A)
+    → option_or (option_or o p) q ≡ option_or o (option_or p q)
 or_assoc None p q = refl
 or_assoc (Some x) p q = refl
 
-first_append : {A B : Type 0} (f : A → Option B) (xs ys : List A) → first_some f (xs ++ ys) ≡ option_or (first_some f xs) (first_some f ys)
+first_append : {A B : Type 0} (f : A → Option B) (xs ys : List A)
+    → first_some f (xs ++ ys) ≡ option_or (first_some f xs) (first_some f ys)
 first_append f [] ys = refl
 first_append f (x ∷ xs) ys = ap (option_or (f x)) (first_append f xs ys) ∙ sym (or_assoc (f x) (first_some f xs) (first_some f ys))
 
 -- in the lists that elements stand for
-pub first_flat : {A B C : Type 0} (f : B → Option C) (g : A → List B) (xs : List A) → first_some f (flat_map g xs) ≡ first_some (λ x. first_some f (g x)) xs
+pub first_flat : {A B C : Type 0} (f : B → Option C) (g : A → List B) (xs : List A)
+    → first_some f (flat_map g xs) ≡ first_some (λ x. first_some f (g x)) xs
 first_flat f g [] = refl
 first_flat f g (x ∷ xs) = first_append f (g x) (flat_map g xs) ∙ ap (option_or (first_some f (g x))) (first_flat f g xs)
 
-dropped_at : {A : Type 0} (xs : List A) (i : ℕ) (x : A) → slice_get xs i ≡ Some x → drop i xs ≡ x ∷ drop (i + 1) xs
+dropped_at : {A : Type 0} (xs : List A) (i : ℕ) (x : A) → slice_get xs i ≡ Some x
+    → drop i xs ≡ x ∷ drop (i + 1) xs
 dropped_at [] i x at = cc
 dropped_at (y ∷ xs) zero x at = let same : y ≡ x = cc in ap (λ z. z ∷ xs) same
 dropped_at (y ∷ xs) (suc i) x at =
@@ -38,7 +42,8 @@ module _ {A B : Type 0} (f : A → Option B) (xs : List A) (i : ℕ) (x : A) (at
   rest_is = dropped_at xs i x at
 
   -- an element that answers nothing
-  pub none_here : first_some f xs ≡ first_some f (drop i xs) → is_some (f x) ≡ false → first_some f xs ≡ first_some f (drop (i + 1) xs)
+  pub none_here : first_some f xs ≡ first_some f (drop i xs) → is_some (f x) ≡ false
+      → first_some f xs ≡ first_some f (drop (i + 1) xs)
   none_here so_far none = so_far ∙ ap (first_some f) rest_is ∙ ap (λ o. option_or o (first_some f (drop (i + 1) xs))) (nothing (f x) none)
     where
       nothing : {C : Type 0} (o : Option C) → is_some o ≡ false → o ≡ None
@@ -46,7 +51,8 @@ module _ {A B : Type 0} (f : A → Option B) (xs : List A) (i : ℕ) (x : A) (at
       nothing (Some y) e = cc
 
   -- the first that answers
-  pub some_here : first_some f xs ≡ first_some f (drop i xs) → is_some (f x) ≡ true → f x ≡ first_some f xs
+  pub some_here : first_some f xs ≡ first_some f (drop i xs) → is_some (f x) ≡ true
+      → f x ≡ first_some f xs
   some_here so_far some = sym (so_far ∙ ap (first_some f) rest_is ∙ found (f x) some)
     where
       found : (o : Option B) → is_some o ≡ true → option_or o (first_some f (drop (i + 1) xs)) ≡ o
@@ -54,10 +60,12 @@ module _ {A B : Type 0} (f : A → Option B) (xs : List A) (i : ℕ) (x : A) (at
       found (Some y) e = refl
 
 -- and none at the end
-pub none_left : {A B : Type 0} (f : A → Option B) (xs : List A) (i : ℕ) → length xs ≤ i → first_some f xs ≡ first_some f (drop i xs) → None ≡ first_some f xs
+pub none_left : {A B : Type 0} (f : A → Option B) (xs : List A) (i : ℕ) → length xs ≤ i
+    → first_some f xs ≡ first_some f (drop i xs) → None ≡ first_some f xs
 none_left f xs i past so_far = sym (so_far ∙ nothing f xs i past)
   where
-    nothing : {C D : Type 0} (g : C → Option D) (ys : List C) (k : ℕ) → length ys ≤ k → first_some g (drop k ys) ≡ None
+    nothing : {C D : Type 0} (g : C → Option D) (ys : List C) (k : ℕ) → length ys ≤ k
+        → first_some g (drop k ys) ≡ None
     nothing g [] zero h = refl
     nothing g [] (suc k) h = refl
     nothing g (y ∷ ys) zero h = absurd (omega arith)
@@ -65,7 +73,8 @@ none_left f xs i past so_far = sym (so_far ∙ nothing f xs i past)
 
 -- ---- the scalars of an argument, as they are looked through and as they are defined
 
-pub first_after : {A B C : Type 0} (f : B → Option C) (g : A → B) (xs : List A) → first_some (λ x. f (g x)) xs ≡ first_some f (map g xs)
+pub first_after : {A B C : Type 0} (f : B → Option C) (g : A → B) (xs : List A)
+    → first_some (λ x. f (g x)) xs ≡ first_some f (map g xs)
 first_after f g [] = refl
 first_after f g (x ∷ xs) = ap (option_or (f (g x))) (first_after f g xs)
 
@@ -81,10 +90,13 @@ module _ (c : ConstraintParts) where
   of_argument (arguments.One s) = refl
   of_argument (arguments.List g) = of_slots (segment c.store.now.slots.items g)
 
-  of_arguments : (as' : List Argument) → flat_map (terms_given c) as' ≡ flat_map terms_in (map view as')
+  of_arguments : (as' : List Argument)
+      → flat_map (terms_given c) as' ≡ flat_map terms_in (map view as')
   of_arguments [] = refl
   of_arguments (a ∷ as') = λ i. of_argument a i ++ of_arguments as' i
 
   -- the first other variable of a constraint's scalars
-  pub first_is : (K : Partial) (n : ℕ) (as' : List Argument) → first_some (λ a. first_other K n (terms_given c a)) as' ≡ first_other K n (flat_map terms_in (map view as'))
+  pub first_is : (K : Partial) (n : ℕ) (as' : List Argument)
+      → first_some (λ a. first_other K n (terms_given c a)) as'
+      ≡ first_other K n (flat_map terms_in (map view as'))
   first_is K n as' = sym (first_flat (open_other K n) (terms_given c) as') ∙ ap (first_other K n) (of_arguments as')

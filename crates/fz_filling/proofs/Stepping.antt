@@ -16,7 +16,8 @@ use Rattle.fz_filling.specs.Stepping.{NoneGives, IsStepAhead}
 -- ---- the values of a partial assignment
 
 -- there is an element at each number in range
-pub there_is : {A : Type 0} (xs : List A) (k : ℕ) → k < length xs → (x : A) × (slice_get xs k ≡ Some x)
+pub there_is : {A : Type 0} (xs : List A) (k : ℕ) → k < length xs
+    → (x : A) × (slice_get xs k ≡ Some x)
 there_is [] k h = absurd (omega arith)
 there_is (x ∷ xs) zero h = (x, refl)
 there_is (x ∷ xs) (suc k) h = there_is xs k (omega arith)
@@ -27,19 +28,22 @@ fits_length [] (o ∷ K) h = absurd h
 fits_length (x ∷ xs) [] h = absurd h
 fits_length (x ∷ xs) (o ∷ K) h = ap suc (fits_length xs K h.1)
 
-pub give_fits : (xs : List Variable) (K : Partial) (n : ℕ) (v : Value) → FitVariables xs K → option_map (λ x. x.kind) (slice_get xs n) ≡ Some (kind_of v) → FitVariables xs (give K n v)
+pub give_fits : (xs : List Variable) (K : Partial) (n : ℕ) (v : Value) → FitVariables xs K
+    → option_map (λ x. x.kind) (slice_get xs n) ≡ Some (kind_of v) → FitVariables xs (give K n v)
 give_fits [] [] n v h e = cc
 give_fits [] (o ∷ K) n v h e = absurd h
 give_fits (x ∷ xs) [] n v h e = absurd h
 give_fits (x ∷ xs) (o ∷ K) zero v h e = let same : kind_of v ≡ x.kind = cc in (same, h.1)
 give_fits (x ∷ xs) (o ∷ K) (suc n) v h e = (h.0, give_fits xs K n v h.1 e)
 
-in_list : (xs : List Variable) (n : ℕ) (k : Kind) → option_map (λ x. x.kind) (slice_get xs n) ≡ Some k → n < length xs
+in_list : (xs : List Variable) (n : ℕ) (k : Kind)
+    → option_map (λ x. x.kind) (slice_get xs n) ≡ Some k → n < length xs
 in_list [] n k e = cc
 in_list (x ∷ xs) zero k e = omega arith
 in_list (x ∷ xs) (suc n) k e = let below : n < length xs = in_list xs n k e in omega arith
 
-pub number_within : (m : Model) (K : Partial) (n : ℕ) (k : Kind) → IsPartial m K → kind_at m n ≡ Some k → n < length K
+pub number_within : (m : Model) (K : Partial) (n : ℕ) (k : Kind) → IsPartial m K
+    → kind_at m n ≡ Some k → n < length K
 number_within m K n k h e = let long : length K ≡ length (variables_of m) = fits_length (variables_of m) K h in let below : n < length (variables_of m) = in_list (variables_of m) n k e in omega arith
 
 -- ---- the points from a number up to another
@@ -50,14 +54,17 @@ in_range (y ∷ xs) zero x e = omega arith
 in_range (y ∷ xs) (suc j) x e = let below : j < length xs = in_range xs j x e in omega arith
 
 -- a step from the number on up to the last point is the first one
-pub ahead_is_first : (m : Model) (K : Partial) (from to k n : ℕ) (v : Value) → to ≡ length (points m) → IsStepAhead m K from to k n v → IsFirstStep m K from k n v
+pub ahead_is_first : (m : Model) (K : Partial) (from to k n : ℕ) (v : Value)
+    → to ≡ length (points m) → IsStepAhead m K from to k n v → IsFirstStep m K from k n v
 ahead_is_first m K from to k n v all s =
     let within : k < length (points m) = subst (λ z. k < z) all s.below in
     let (p, at) = there_is (points m) k within in
     first_ahead m K from k n v p s.ahead at s.none_before (s.gives p at)
 
 -- and where there is none, one before the number is
-pub wrapped_is_first : (m : Model) (K : Partial) (from to k n : ℕ) (v : Value) → to ≡ length (points m) → from ≤ length (points m) → NoneGives m K from to → IsStepAhead m K 0 from k n v → IsFirstStep m K from k n v
+pub wrapped_is_first : (m : Model) (K : Partial) (from to k n : ℕ) (v : Value)
+    → to ≡ length (points m) → from ≤ length (points m) → NoneGives m K from to
+    → IsStepAhead m K 0 from k n v → IsFirstStep m K from k n v
 wrapped_is_first m K from to k n v all inside none s =
     let below : k < from = s.below in
     let within : k < length (points m) = omega arith in
@@ -65,7 +72,8 @@ wrapped_is_first m K from to k n v all inside none s =
     first_wrapped m K from k n v p s.below at (λ j q above at'. let short : j < length (points m) = in_range (points m) j q at' in none j q above (subst (λ z. j < z) (sym all) short) at') s.none_before (s.gives p at)
 
 -- where there is none from the number on and none before it, no point gives a step
-pub no_first : (m : Model) (K : Partial) (from to : ℕ) → to ≡ length (points m) → NoneGives m K from to → NoneGives m K 0 from → AllByRecursion (GivesNothing m K) (points m)
+pub no_first : (m : Model) (K : Partial) (from to : ℕ) → to ≡ length (points m)
+    → NoneGives m K from to → NoneGives m K 0 from → AllByRecursion (GivesNothing m K) (points m)
 no_first m K from to all after before = none_gives m K (λ j p above below at. by_number j p (split j from) below at)
   where
     split : (j k : ℕ) → (j < k) ⊎ (k ≤ j)
@@ -74,24 +82,29 @@ no_first m K from to all after before = none_gives m K (λ j p above below at. b
     split (suc j) zero = inr (omega arith)
     split (suc j) (suc k) = elim (split j k) [ inl l ↦ inl (omega arith) | inr l ↦ inr (omega arith) ]
 
-    by_number : (j : ℕ) (p : Point) → (j < from) ⊎ (from ≤ j) → j < length (points m) → slice_get (points m) j ≡ Some p → GivesNothing m K p
+    by_number : (j : ℕ) (p : Point) → (j < from) ⊎ (from ≤ j) → j < length (points m)
+        → slice_get (points m) j ≡ Some p → GivesNothing m K p
     by_number j p (inl l) below at = before j p (omega arith) l at
     by_number j p (inr l) below at = after j p l (subst (λ z. j < z) (sym all) below) at
 
 -- ---- a step
 
-pub step_unset : (m : Model) (K : Partial) (from k n : ℕ) (v : Value) → IsFirstStep m K from k n v → value_at K n ≡ None
+pub step_unset : (m : Model) (K : Partial) (from k n : ℕ) (v : Value) → IsFirstStep m K from k n v
+    → value_at K n ≡ None
 step_unset m K from k n v s = only_open_none K n (terms_of s.point) s.gives.only_open
 
-pub step_within : (m : Model) (K : Partial) (from k n : ℕ) (v : Value) → IsPartial m K → IsFirstStep m K from k n v → n < length K
+pub step_within : (m : Model) (K : Partial) (from k n : ℕ) (v : Value) → IsPartial m K
+    → IsFirstStep m K from k n v → n < length K
 step_within m K from k n v fits s = number_within m K n (kind_of v) fits s.gives.of_kind
 
-pub step_fits : (m : Model) (K : Partial) (from k n : ℕ) (v : Value) → IsPartial m K → IsFirstStep m K from k n v → IsPartial m (give K n v)
+pub step_fits : (m : Model) (K : Partial) (from k n : ℕ) (v : Value) → IsPartial m K
+    → IsFirstStep m K from k n v → IsPartial m (give K n v)
 step_fits m K from k n v fits s = give_fits (variables_of m) K n v fits s.gives.of_kind
 
 -- ---- variables without a value
 
-pub one_less : (K : Partial) (n : ℕ) (v : Value) → n < length K → value_at K n ≡ None → unset_count K ≡ suc (unset_count (give K n v))
+pub one_less : (K : Partial) (n : ℕ) (v : Value) → n < length K → value_at K n ≡ None
+    → unset_count K ≡ suc (unset_count (give K n v))
 one_less [] n v h e = absurd (omega arith)
 one_less (None ∷ K) zero v h e = refl
 one_less (Some u ∷ K) zero v h e = cc
@@ -105,7 +118,8 @@ all_set (Some u ∷ K) zero h e none = cc
 all_set (Some u ∷ K) (suc n) h e none = all_set K n (omega arith) e none
 
 -- where each variable has a value, no point gives a step
-pub nothing_left : (m : Model) (K : Partial) → IsPartial m K → unset_count K ≡ 0 → AllByRecursion (GivesNothing m K) (points m)
+pub nothing_left : (m : Model) (K : Partial) → IsPartial m K → unset_count K ≡ 0
+    → AllByRecursion (GivesNothing m K) (points m)
 nothing_left m K fits none = each (points m)
   where
     gives_nothing : (p : Point) → GivesNothing m K p
@@ -119,7 +133,8 @@ pub at_some : {A : Type 0} (P : A → Type 0) (o : Option A) (x : A) → o ≡ S
 at_some P o x e h = subst (λ p. IfSome p P) e h
 
 -- what follows from what is said of a result
-pub ok_then : {T E : Type 0} (r : Result T E) {P Q : T → Type 0} → IfOk r P → ((x : T) → P x → Q x) → IfOk r Q
+pub ok_then : {T E : Type 0} (r : Result T E) {P Q : T → Type 0} → IfOk r P → ((x : T) → P x → Q x)
+    → IfOk r Q
 ok_then (Ok x) h f = f x h
 ok_then (Err e) h f = tt
 
@@ -128,14 +143,17 @@ ok_then (Err e) h f = tt
 abbrev pub Reaches : Model → Partial → ℕ → Partial → ℕ → Type 0
 Reaches m S start K from = (F : Partial) → Chain m K from F → Chain m S start F
 
-pub reaches_after : (m : Model) (S : Partial) (start : ℕ) (K : Partial) (from k n : ℕ) (v : Value) → Reaches m S start K from → IsFirstStep m K from k n v → Reaches m S start (give K n v) k
+pub reaches_after : (m : Model) (S : Partial) (start : ℕ) (K : Partial) (from k n : ℕ) (v : Value)
+    → Reaches m S start K from → IsFirstStep m K from k n v → Reaches m S start (give K n v) k
 reaches_after m S start K from k n v reaches first = λ F chain. reaches F (Step first chain)
 
-pub reaches_end : (m : Model) (S : Partial) (start : ℕ) (K : Partial) (from : ℕ) → Reaches m S start K from → AllByRecursion (GivesNothing m K) (points m) → Chain m S start K
+pub reaches_end : (m : Model) (S : Partial) (start : ℕ) (K : Partial) (from : ℕ)
+    → Reaches m S start K from → AllByRecursion (GivesNothing m K) (points m) → Chain m S start K
 reaches_end m S start K from reaches none = reaches K (Ends none)
 
 -- the point of a number, and what it gives
-pub point_gives : (m : Model) (K : Partial) (k n : ℕ) (v : Value) (o : Option (ℕ × Value)) → o ≡ Some (n, v) → k < length (points m)
+pub point_gives : (m : Model) (K : Partial) (k n : ℕ) (v : Value) (o : Option (ℕ × Value))
+    → o ≡ Some (n, v) → k < length (points m)
     → IfSome o (λ r. (p : Point) → slice_get (points m) k ≡ Some p → Gives m K p r.0 r.1) → (p : Point) × (slice_get (points m) k ≡ Some p) × Gives m K p n v
 point_gives m K k n v o is within gives = let (p, at) = there_is (points m) k within in (p, at, at_some _ o (n, v) is gives p at)
 

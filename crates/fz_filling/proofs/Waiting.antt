@@ -17,14 +17,17 @@ use Rattle.fz_filling.proofs.Agreeing.{gives_agree}
 
 -- ---- the only scalar without a value
 
-closed_or_one : (K : Partial) (n : ℕ) (t : Term) (ts : List Term) → open_terms K (t ∷ ts) ≡ Var n ∷ [] → (open_terms K ts ≡ Var n ∷ []) ⊎ ((t ≡ Var n) × (open_terms K ts ≡ []))
+closed_or_one : (K : Partial) (n : ℕ) (t : Term) (ts : List Term)
+    → open_terms K (t ∷ ts) ≡ Var n ∷ []
+    → (open_terms K ts ≡ Var n ∷ []) ⊎ ((t ≡ Var n) × (open_terms K ts ≡ []))
 closed_or_one K n t ts e =
     elim (is_none (value K t)) as (λ b. cond b (t ∷ open_terms K ts) (open_terms K ts) ≡ Var n ∷ [] → (open_terms K ts ≡ Var n ∷ []) ⊎ ((t ≡ Var n) × (open_terms K ts ≡ []))) [
       | true ↦ λ e. let here : t ≡ Var n = cc in let rest : open_terms K ts ≡ [] = cc in inr (here, rest)
       | false ↦ λ e. inl e
     ] e
 
-not_closed : (K : Partial) (a : ℕ) (ts : List Term) (i : ℕ) → slice_get ts i ≡ Some (Var a) → IsOpen K a → open_terms K ts ≡ [] → ⊥
+not_closed : (K : Partial) (a : ℕ) (ts : List Term) (i : ℕ) → slice_get ts i ≡ Some (Var a)
+    → IsOpen K a → open_terms K ts ≡ [] → ⊥
 not_closed K a [] i at none e = cc
 not_closed K a (t ∷ ts) zero at none e =
     let same : t ≡ Var a = cc in
@@ -38,7 +41,8 @@ not_closed K a (t ∷ ts) (suc i) at none e = not_closed K a ts i at none (rest 
     rest false e = e
 
 -- a scalar without a value is the only one
-is_the_only : (K : Partial) (a n : ℕ) (ts : List Term) (i : ℕ) → slice_get ts i ≡ Some (Var a) → IsOpen K a → open_terms K ts ≡ Var n ∷ [] → a ≡ n
+is_the_only : (K : Partial) (a n : ℕ) (ts : List Term) (i : ℕ) → slice_get ts i ≡ Some (Var a)
+    → IsOpen K a → open_terms K ts ≡ Var n ∷ [] → a ≡ n
 is_the_only K a n [] i at none e = cc
 is_the_only K a n (t ∷ ts) zero at none e =
     let same : t ≡ Var a = cc in
@@ -49,7 +53,8 @@ is_the_only K a n (t ∷ ts) zero at none e =
     cc
 is_the_only K a n (t ∷ ts) (suc i) at none e = by_first (λ later. is_the_only K a n ts i at none later) (closed_or_one K n t ts e)
   where
-    by_first : (open_terms K ts ≡ Var n ∷ [] → a ≡ n) → (open_terms K ts ≡ Var n ∷ []) ⊎ ((t ≡ Var n) × (open_terms K ts ≡ [])) → a ≡ n
+    by_first : (open_terms K ts ≡ Var n ∷ [] → a ≡ n)
+        → (open_terms K ts ≡ Var n ∷ []) ⊎ ((t ≡ Var n) × (open_terms K ts ≡ [])) → a ≡ n
     by_first more (inl later) = more later
     by_first more (inr (here, closed)) = absurd (not_closed K a ts i at none closed)
 
@@ -59,7 +64,8 @@ or_none : {A : Type 0} (o p : Option A) → option_or o p ≡ None → (o ≡ No
 or_none None p e = (refl, e)
 or_none (Some x) p e = cc
 
-or_found : {A : Type 0} (o p : Option A) (x : A) → option_or o p ≡ Some x → (o ≡ Some x) ⊎ (p ≡ Some x)
+or_found : {A : Type 0} (o p : Option A) (x : A) → option_or o p ≡ Some x
+    → (o ≡ Some x) ⊎ (p ≡ Some x)
 or_found None p x e = inr e
 or_found (Some y) p x e = inl e
 
@@ -80,7 +86,8 @@ here_open K k a e =
       | false ↦ λ h e. cc
     ]) refl e
 
-here_other : (K : Partial) (n a : ℕ) (t : Term) → open_other K n t ≡ Some a → (t ≡ Var a) × IsOpen K a × (a ≡ n → ⊥)
+here_other : (K : Partial) (n a : ℕ) (t : Term) → open_other K n t ≡ Some a
+    → (t ≡ Var a) × IsOpen K a × (a ≡ n → ⊥)
 here_other K n a (Fixed v) e = cc
 here_other K n a (Var k) e =
     (elim (k == n) as (λ b. (k == n) ≡ b → cond b None (open_variable K (Var k)) ≡ Some a → (Var k ≡ Var a) × IsOpen K a × (a ≡ n → ⊥)) [
@@ -90,20 +97,24 @@ here_other K n a (Var k) e =
           (ap Var same, subst (λ j. IsOpen K j) same none, λ is. absurd (eqb-false k n h (same ∙ is)))
     ]) refl e
 
-found_other : (K : Partial) (n a : ℕ) (ts : List Term) → first_other K n ts ≡ Some a → FoundOther K n ts a
+found_other : (K : Partial) (n a : ℕ) (ts : List Term) → first_other K n ts ≡ Some a
+    → FoundOther K n ts a
 found_other K n a [] e = cc
 found_other K n a (t ∷ ts) e = by_first (λ later. found_other K n a ts later) (or_found (open_other K n t) (first_other K n ts) a e)
   where
-    by_first : (first_other K n ts ≡ Some a → FoundOther K n ts a) → (open_other K n t ≡ Some a) ⊎ (first_other K n ts ≡ Some a) → FoundOther K n (t ∷ ts) a
+    by_first : (first_other K n ts ≡ Some a → FoundOther K n ts a)
+        → (open_other K n t ≡ Some a) ⊎ (first_other K n ts ≡ Some a) → FoundOther K n (t ∷ ts) a
     by_first more (inl here) = let (same, none, other) = here_other K n a t here in record { place = 0; stands = ap Some same; is_open = none; is_other = other }
     by_first more (inr later) = let f : FoundOther K n ts a = more later in record { place = suc f.place; stands = f.stands; is_open = f.is_open; is_other = f.is_other }
 
 -- where there is none, the scalars have the same values later, as long as the one has none
-agree_at : (K L : Partial) (k : ℕ) → HasAllOf K L → (o : Option Value) → value_at K k ≡ o → is_none o ≡ false → value_at K k ≡ value_at L k
+agree_at : (K L : Partial) (k : ℕ) → HasAllOf K L → (o : Option Value) → value_at K k ≡ o
+    → is_none o ≡ false → value_at K k ≡ value_at L k
 agree_at K L k later None e h = cc
 agree_at K L k later (Some v) e h = e ∙ sym (later k v e)
 
-agrees_later : (K L : Partial) (n : ℕ) → HasAllOf K L → IsOpen K n → IsOpen L n → (t : Term) → open_other K n t ≡ None → value K t ≡ value L t
+agrees_later : (K L : Partial) (n : ℕ) → HasAllOf K L → IsOpen K n → IsOpen L n → (t : Term)
+    → open_other K n t ≡ None → value K t ≡ value L t
 agrees_later K L n later none still (Fixed v) e = refl
 agrees_later K L n later none still (Var k) e =
     (elim (k == n) as (λ b. (k == n) ≡ b → cond b None (open_variable K (Var k)) ≡ None → value_at K k ≡ value_at L k) [
@@ -115,7 +126,8 @@ agrees_later K L n later none still (Var k) e =
     closed true e = cc
     closed false e = refl
 
-agree_later : (K L : Partial) (n : ℕ) → HasAllOf K L → IsOpen K n → IsOpen L n → (ts : List Term) → first_other K n ts ≡ None → Agree K L ts
+agree_later : (K L : Partial) (n : ℕ) → HasAllOf K L → IsOpen K n → IsOpen L n → (ts : List Term)
+    → first_other K n ts ≡ None → Agree K L ts
 agree_later K L n later none still [] e = tt
 agree_later K L n later none still (t ∷ ts) e =
     let parts = or_none (open_other K n t) (first_other K n ts) e in
@@ -123,21 +135,25 @@ agree_later K L n later none still (t ∷ ts) e =
 
 -- ---- what is told of a value that is looked up
 
-pub value_told : {A B : Type 0} (f : A → B) (o : Option A) (p : Option B) → option_map f o ≡ p → is_some o ≡ true → (v : B) × (p ≡ Some v)
+pub value_told : {A B : Type 0} (f : A → B) (o : Option A) (p : Option B) → option_map f o ≡ p
+    → is_some o ≡ true → (v : B) × (p ≡ Some v)
 value_told f None p e h = cc
 value_told f (Some x) p e h = (f x, sym e)
 
-pub no_value_told : {A B : Type 0} (f : A → B) (o : Option A) (p : Option B) → option_map f o ≡ p → is_some o ≡ false → p ≡ None
+pub no_value_told : {A B : Type 0} (f : A → B) (o : Option A) (p : Option B) → option_map f o ≡ p
+    → is_some o ≡ false → p ≡ None
 no_value_told f None p e h = sym e
 no_value_told f (Some x) p e h = cc
 
 -- ---- what a point waits for
 
 -- a target that has a value
-never_set : (K : Partial) (n : ℕ) (v : Value) → value_at K n ≡ Some v → (L : Partial) → IsLater K L → (ts : List Term) → open_terms L ts ≡ Var n ∷ [] → ⊥
+never_set : (K : Partial) (n : ℕ) (v : Value) → value_at K n ≡ Some v → (L : Partial) → IsLater K L
+    → (ts : List Term) → open_terms L ts ≡ Var n ∷ [] → ⊥
 never_set K n v set L later ts only = let here : value_at L n ≡ Some v = later.has_all n v set in let none : value_at L n ≡ None = only_open_none L n ts only in cc
 
-pub asks : (m : Model) (K : Partial) (a : ℕ) (p : Point) → IsOpen K a → first_other K a (terms_of p) ≡ None → IsOutlook m K p (Asks a)
+pub asks : (m : Model) (K : Partial) (a : ℕ) (p : Point) → IsOpen K a
+    → first_other K a (terms_of p) ≡ None → IsOutlook m K p (Asks a)
 asks m K a p none closed = λ nothing. (none, λ L later still n v g. nothing n v (gives_agree m L K p n v (sym later.as_many) (back L (terms_of p) (agree_later K L a later.has_all none still (terms_of p) closed)) g))
   where
     back : (L : Partial) (ts : List Term) → Agree K L ts → Agree L K ts
@@ -159,7 +175,8 @@ closed_here K n (Var k) e = none_if (k == n)
     none_if true = refl
     none_if false = e
 
-closed_set : (K : Partial) (k : ℕ) (v : Value) → value_at K k ≡ Some v → open_variable K (Var k) ≡ None
+closed_set : (K : Partial) (k : ℕ) (v : Value) → value_at K k ≡ Some v
+    → open_variable K (Var k) ≡ None
 closed_set K k v set = ap (λ o. cond (is_none o) (Some k) None) set
 
 -- a scalar without a value is a variable
@@ -168,13 +185,16 @@ open_is K (Fixed v) j e = cc
 open_is K (Var k) j e = let (same, none) = here_open K k j e in (ap Var same, subst (λ i. IsOpen K i) same none)
 
 module _ (m : Model) (K : Partial) where
-  pub never_given : (i : ℕ) (p : Posted) (k : ℕ) (v : Value) → p.target ≡ Some k → value_at K k ≡ Some v → IsWaiting m K (ConstraintPoint i p) Forever
+  pub never_given : (i : ℕ) (p : Posted) (k : ℕ) (v : Value) → p.target ≡ Some k
+      → value_at K k ≡ Some v → IsWaiting m K (ConstraintPoint i p) Forever
   never_given i p k v target set = λ L later n w g.
       let named : p.target ≡ Some n = g.target.0 in
       let same : k ≡ n = cc in
       never_set K n v (subst (λ j. value_at K j ≡ Some v) same set) L later (terms_of (ConstraintPoint i p)) g.only_open
 
-  pub waits_for_other : (i : ℕ) (p : Posted) (k a : ℕ) → p.target ≡ Some k → first_other K k (terms_of (ConstraintPoint i p)) ≡ Some a → IsWaiting m K (ConstraintPoint i p) (For a)
+  pub waits_for_other : (i : ℕ) (p : Posted) (k a : ℕ) → p.target ≡ Some k
+      → first_other K k (terms_of (ConstraintPoint i p)) ≡ Some a
+      → IsWaiting m K (ConstraintPoint i p) (For a)
   waits_for_other i p k a target found =
       let f : FoundOther K k (terms_of (ConstraintPoint i p)) a = found_other K k a (terms_of (ConstraintPoint i p)) found in (
         f.is_open,
@@ -184,10 +204,12 @@ module _ (m : Model) (K : Partial) where
             f.is_other (is_the_only L a n (terms_of (ConstraintPoint i p)) f.place f.stands still g.only_open ∙ sym same),
       )
 
-  pub asks_own : (x : Variable) (k : ℕ) (e : Term) → IsOpen K k → open_variable K e ≡ None → IsOutlook m K (DefinitionPoint x k e) (Asks k)
+  pub asks_own : (x : Variable) (k : ℕ) (e : Term) → IsOpen K k → open_variable K e ≡ None
+      → IsOutlook m K (DefinitionPoint x k e) (Asks k)
   asks_own x k e none closed = asks m K k (DefinitionPoint x k e) none (λ i. option_or (own_is_none K k i) (option_or (closed_here K k e closed i) None))
 
-  pub asks_side : (x : Variable) (k : ℕ) (e : Term) (v : Value) (j : ℕ) → value_at K k ≡ Some v → open_variable K e ≡ Some j → IsOutlook m K (DefinitionPoint x k e) (Asks j)
+  pub asks_side : (x : Variable) (k : ℕ) (e : Term) (v : Value) (j : ℕ) → value_at K k ≡ Some v
+      → open_variable K e ≡ Some j → IsOutlook m K (DefinitionPoint x k e) (Asks j)
   asks_side x k e v j set found =
       let (same, none) = open_is K e j found in
       asks m K j (DefinitionPoint x k e) none (λ i. option_or (closed_here K j (Var k) (closed_set K k v set) i) (option_or ((ap (open_other K j) same ∙ own_is_none K j) i) None))

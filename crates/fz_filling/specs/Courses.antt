@@ -1,4 +1,5 @@
--- What is kept from one filling of a model to the next, which the contract of `fill_in` cites, and which point can give a variable a value, which only private functions do.
+-- What is kept from one filling of a model to the next, which the contract of `fill_in` cites, and
+-- which point can give a variable a value, which only private functions do.
 use Rattle.std.specs.Prelude.{◌≡◌, ℕ, suc, List, Some, IsTrue, slice_get}
 use Rattle.fz_model.specs.Meaning.{Model, Partial, Point}
 use Rattle.fz_model.specs.Steps.{IsTarget}
@@ -17,4 +18,5 @@ IsNoted givers k p = (K : Partial) (n : ℕ) → IsTarget K p n → slice_get gi
 
 -- the numbers that stand in the first stand in the second
 abbrev pub AreKept : List ℕ → List ℕ → Type 0
-AreKept before after = (n k : ℕ) → slice_get before n ≡ Some (suc k) → slice_get after n ≡ Some (suc k)
+AreKept before after =
+    (n k : ℕ) → slice_get before n ≡ Some (suc k) → slice_get after n ≡ Some (suc k)

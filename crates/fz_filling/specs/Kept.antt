@@ -1,4 +1,5 @@
--- Which points are to be looked at, and which wait for a variable. Only private functions use these.
+-- Which points are to be looked at, and which wait for a variable. Only private functions use
+-- these.
 use Rattle.std.specs.Prelude.{◌≡◌, ℕ, ◌<◌, ◌≤◌, ◌*◌, ◌/◌, List, [], ◌∷◌, length, Some, slice_get, slice_set, slice_index, Vec, ◌⊎◌}
 use Rattle.std.specs.Option.{option_map_or}
 use Rattle.std.specs.declared.alloc.Global.{Global}
@@ -63,20 +64,24 @@ pub record IsSettled (before after : Watch) (k : ℕ) (w : Waiting) : Type 0 whe
   pub blocks : after.blocks.items ≡ before.blocks.items
   pub as_many : length after.watchers.items ≡ length before.watchers.items
   pub keeps : (j i : ℕ) → WaitsFor before.watchers.items j i → WaitsFor after.watchers.items j i
-  pub no_more : (j i : ℕ) → WaitsFor after.watchers.items j i → WaitsFor before.watchers.items j i ⊎ ((i ≡ k) × IsAwaited w j)
-  pub waits : (j : ℕ) → IsAwaited w j → j < length before.watchers.items → WaitsFor after.watchers.items j k
+  pub no_more : (j i : ℕ) → WaitsFor after.watchers.items j i
+      → WaitsFor before.watchers.items j i ⊎ ((i ≡ k) × IsAwaited w j)
+  pub waits : (j : ℕ) → IsAwaited w j → j < length before.watchers.items
+      → WaitsFor after.watchers.items j k
 
 -- ---- what is kept through a filling
 
--- Points wait for variables without a value alone; and a point that is not to be looked at gives nothing under any later values, as long
--- as no variable that it waits for has one.
+-- Points wait for variables without a value alone; and a point that is not to be looked at gives
+-- nothing under any later values, as long as no variable that it waits for has one.
 pub record IsKept (m : Model) (K : Partial) (w : Watch) : Type 0 where
   pub each_point : length w.pending.items ≡ length (points m)
   pub each_variable : length w.watchers.items ≡ length K
   pub covered : IsCovered w.pending.items w.blocks.items
   pub are_open : (n k : ℕ) → WaitsFor w.watchers.items n k → IsOpen K n
-  pub asleep : (k : ℕ) (p : Point) → slice_get (points m) k ≡ Some p → (IsPending w.pending.items k → ⊥)
-      → (L : Partial) → IsLater K L → ((n : ℕ) → WaitsFor w.watchers.items n k → IsOpen L n) → GivesNothing m L p
+  pub asleep : (k : ℕ) (p : Point) → slice_get (points m) k ≡ Some p
+      → (IsPending w.pending.items k → ⊥)
+      → (L : Partial) → IsLater K L → ((n : ℕ) → WaitsFor w.watchers.items n k → IsOpen L n)
+      → GivesNothing m L p
 
 -- the first that is to be looked at of the points from a number up to another
 pub record IsNext (pending : List ℕ) (from to k : ℕ) : Type 0 where

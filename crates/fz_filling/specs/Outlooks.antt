@@ -1,4 +1,5 @@
--- What a point gives later, and the scalars without a value that it waits for. Only private functions use these.
+-- What a point gives later, and the scalars without a value that it waits for. Only private
+-- functions use these.
 use Rattle.std.specs.Prelude.{◌≡◌, ℕ, cond, ◌==◌, is_none, List, [], ◌∷◌, length, Option, None, Some, flat_map}
 use Rattle.std.specs.List.{AllByRecursion}
 use Rattle.fz_model.specs.declared.Term.{Term}
@@ -60,8 +61,11 @@ Agree K L ts = AllByRecursion (λ t. value K t ≡ value L t) ts
 -- It gives nothing under any later values; or as long as a variable, or both of two, have no value.
 abbrev pub IsWaiting : Model → Partial → Point → Waiting → Type 0
 IsWaiting m K p Forever = (L : Partial) → IsLater K L → GivesNothing m L p
-IsWaiting m K p (For a) = IsOpen K a × ((L : Partial) → IsLater K L → IsOpen L a → GivesNothing m L p)
-IsWaiting m K p (ForEither a b) = IsOpen K a × IsOpen K b × ((L : Partial) → IsLater K L → IsOpen L a → IsOpen L b → GivesNothing m L p)
+IsWaiting m K p (For a) =
+    IsOpen K a × ((L : Partial) → IsLater K L → IsOpen L a → GivesNothing m L p)
+IsWaiting m K p (ForEither a b) =
+    IsOpen K a × IsOpen K b × ((L : Partial) → IsLater K L → IsOpen L a → IsOpen L b
+    → GivesNothing m L p)
 
 -- It waits; or, where it gives nothing now, it waits for this variable.
 abbrev pub IsOutlook : Model → Partial → Point → Outlook → Type 0

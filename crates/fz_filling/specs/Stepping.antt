@@ -9,9 +9,11 @@ use Rattle.fz_model.specs.Steps.{Gives, GivesNothing}
 
 -- the points with these numbers give nothing
 abbrev pub NoneGives : Model → Partial → ℕ → ℕ → Type 0
-NoneGives m K from to = (j : ℕ) (p : Point) → from ≤ j → j < to → slice_get (points m) j ≡ Some p → GivesNothing m K p
+NoneGives m K from to =
+    (j : ℕ) (p : Point) → from ≤ j → j < to → slice_get (points m) j ≡ Some p → GivesNothing m K p
 
--- The point of the number gives the variable the value, and those from a number up to it give nothing.
+-- The point of the number gives the variable the value, and those from a number up to it give
+-- nothing.
 pub record IsStepAhead (m : Model) (K : Partial) (from to k n : ℕ) (v : Value) : Type 0 where
   pub ahead : from ≤ k
   pub below : k < to
@@ -26,7 +28,8 @@ HasTarget p t = (i : ℕ) × (q : meaning.Posted) × (p ≡ ConstraintPoint i q)
 
 -- from the number on, each point has the target of the constraint in its place
 abbrev pub StandBehind : Model → ℕ → List Posted → Type 0
-StandBehind m before qs = (k : ℕ) (p : Point) (q : Posted) → before ≤ k → slice_get (points m) k ≡ Some p → slice_get qs (k - before) ≡ Some q → HasTarget p q.target
+StandBehind m before qs = (k : ℕ) (p : Point) (q : Posted) → before ≤ k
+    → slice_get (points m) k ≡ Some p → slice_get qs (k - before) ≡ Some q → HasTarget p q.target
 
 -- there is no target, or it has a value
 abbrev pub is_shut : Partial → Option ℕ → Bool

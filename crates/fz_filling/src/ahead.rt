@@ -12,7 +12,8 @@ use fz_base::Value;
 use fz_model::{Model, Partial, Posted, forced};
 use std::alloc::{AllocError, Global};
 
-/// So often the search may come round to the first point before it is worth the memory to keep which points wait.
+/// So often the search may come round to the first point before it is worth the memory to keep
+/// which points wait.
 const ROUNDS: usize = 1;
 
 /// A forced step: the number of the point that gives it, the variable's number, and the value.
@@ -52,7 +53,8 @@ fn is_shut(target: Option<usize>, partial: &Partial) -> bool
 
 /// Whether a point is a constraint that can give nothing, as most are. It reads no argument.
 fn is_idle(posts: Posts<'_, '_>, point: usize, partial: &Partial) -> bool
-    ensures { result ≡ true → (m : Meaning) → StandBehind m posts.entry.before posts.entry.all.now → (p : Point) → slice_get (points m) point ≡ Some p → GivesNothing m partial.now p }
+    ensures { result ≡ true → (m : Meaning) → StandBehind m posts.entry.before posts.entry.all.now
+        → (p : Point) → slice_get (points m) point ≡ Some p → GivesNothing m partial.now p }
 {
     if point < posts.before {
         return false;
@@ -74,8 +76,10 @@ fn step_at(
     requires fits { IsPartial model.now partial.now }
     requires in_range { point < length (points model.now) }
     requires posts { StandBehind model.now posts.before posts.all.now }
-    ensures given { IfOk result (λ o. IfSome o (λ r. (p : Point) → slice_get (points model.now) point ≡ Some p → Gives model.now partial.now p r.0 r.1)) }
-    ensures nothing { IfOk result (λ o. IsNone o → (p : Point) → slice_get (points model.now) point ≡ Some p → GivesNothing model.now partial.now p) }
+    ensures given { IfOk result (λ o. IfSome o (λ r. (p : Point)
+        → slice_get (points model.now) point ≡ Some p → Gives model.now partial.now p r.0 r.1)) }
+    ensures nothing { IfOk result (λ o. IsNone o → (p : Point)
+        → slice_get (points model.now) point ≡ Some p → GivesNothing model.now partial.now p) }
 {
     if is_idle(posts, point, partial) {
         return Ok(None);
@@ -93,7 +97,8 @@ fn step_among(
 ) -> Result<Option<Step>, AllocError>
     requires fits { IsPartial model.now partial.now }
     requires in_range { to ≤ length (points model.now) }
-    ensures first { IfOk result (λ o. IfSome o (λ s. IsStepAhead model.now partial.now from to s.point s.variable s.value)) }
+    ensures first { IfOk result (λ o. IfSome o
+        (λ s. IsStepAhead model.now partial.now from to s.point s.variable s.value)) }
     ensures none { IfOk result (λ o. IsNone o → NoneGives model.now partial.now from to) }
 {
     let posts = posts_of(model);
@@ -118,9 +123,11 @@ fn step_from(
 ) -> Result<Option<Step>, AllocError>
     requires fits { IsPartial model.now partial.now }
     requires in_range { from ≤ length (points model.now) }
-    ensures first { IfOk result (λ o. IfSome o (λ s. IsFirstStep model.now partial.now from s.point s.variable s.value)) }
+    ensures first { IfOk result (λ o. IfSome o
+        (λ s. IsFirstStep model.now partial.now from s.point s.variable s.value)) }
     ensures in_range { IfOk result (λ o. IfSome o (λ s. s.point ≤ length (points model.now))) }
-    ensures none { IfOk result (λ o. IsNone o → AllByRecursion (GivesNothing model.now partial.now) (points model.now)) }
+    ensures none { IfOk result (λ o. IsNone o
+        → AllByRecursion (GivesNothing model.now partial.now) (points model.now)) }
 {
     let ahead = step_among(alloc, model, partial, from, model.points())?;
     if ahead.is_some() {
@@ -129,8 +136,8 @@ fn step_from(
     step_among(alloc, model, partial, 0, from)
 }
 
-/// Fills in one step after another until none is left or the search has come round too often. There it tells the number of the point from
-/// which the chain goes on.
+/// Fills in one step after another until none is left or the search has come round too often. There
+/// it tells the number of the point from which the chain goes on.
 pub(crate) fn fill_ahead(
     alloc: Global,
     model: &Model<'_>,
@@ -139,7 +146,8 @@ pub(crate) fn fill_ahead(
 ) -> Result<Option<usize>, AllocError>
     requires fits { IsPartial model.now partial.old }
     ensures ended { IfOk result (λ o. IsNone o → Chain model.now partial.old 0 partial.new) }
-    ensures goes_on { IfOk result (λ o. IfSome o (λ k. (F : Values) → Chain model.now partial.new k F → Chain model.now partial.old 0 F)) }
+    ensures goes_on { IfOk result (λ o. IfSome o
+        (λ k. (F : Values) → Chain model.now partial.new k F → Chain model.now partial.old 0 F)) }
     ensures in_range { IfOk result (λ o. IfSome o (λ k. k ≤ length (points model.now))) }
     ensures kinds { IfOk result (λ _. IsPartial model.now partial.new) }
 {

@@ -26,8 +26,9 @@ impl Trail {
     }
 }
 
-/// The course that fillings of a model take. Where no two points can give the same variable a value, steps come to the same in whatever
-/// order they are taken; so those of one block are tried first for the next, which mostly has the same.
+/// The course that fillings of a model take. Where no two points can give the same variable a
+/// value, steps come to the same in whatever order they are taken; so those of one block are tried
+/// first for the next, which mostly has the same.
 #[derive(Drop)]
 pub struct Course {
     /// whether no two points can give the same variable a value
@@ -49,7 +50,8 @@ impl Course {
         })
     }
 
-    /// A course from which nothing is known and nothing is kept, for one block alone. It takes no memory.
+    /// A course from which nothing is known and nothing is kept, for one block alone. It takes no
+    /// memory.
     pub fn unknown(alloc: Global) -> Course
         ensures { (m : Meaning) → IsCourse m result }
     {

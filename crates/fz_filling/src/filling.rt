@@ -12,7 +12,8 @@ use crate::waking::fill_woken;
 use fz_model::{Model, Partial};
 use std::alloc::{AllocError, Global};
 
-/// Goes through the points in their order, as most chains do; for the rest of a longer one it keeps which points wait.
+/// Goes through the points in their order, as most chains do; for the rest of a longer one it keeps
+/// which points wait.
 fn fill_on(
     alloc: Global,
     model: &Model<'_>,
@@ -48,8 +49,9 @@ fn fill_along(
     fill_on(alloc, model, partial, &mut course.trail)
 }
 
-/// Fills in what follows, one forced step after another. Once each variable has a value there is nothing left to give. What is known of the
-/// course of fillings of the same model is made the first time, and kept for the next. It refuses only where memory runs out.
+/// Fills in what follows, one forced step after another. Once each variable has a value there is
+/// nothing left to give. What is known of the course of fillings of the same model is made the
+/// first time, and kept for the next. It refuses only where memory runs out.
 pub fn fill_in(
     alloc: Global,
     model: &Model<'_>,

@@ -1,5 +1,5 @@
-//! The filling of a block: the chain of forced steps. A point is looked at again only where a variable that it waits for has got a value.
-//! The inner crate below `fz_judge`.
+//! The filling of a block: the chain of forced steps. A point is looked at again only where a
+//! variable that it waits for has got a value. An internal crate of `fz_judge`.
 #![tactic(auto)]
 
 mod ahead;

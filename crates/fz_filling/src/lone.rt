@@ -8,8 +8,8 @@ ghost use Rattle.fz_filling.specs.Runs.{AreLone};
 use fz_model::{Model, PointParts, Term, only_number};
 use std::alloc::{AllocError, Global};
 
-/// Notes that a point can give a variable a value, and tells whether it is the only one so far. Of each variable the number of its point is
-/// kept, counted from 1.
+/// Notes that a point can give a variable a value, and tells whether it is the only one so far. Of
+/// each variable the number of its point is kept, counted from 1.
 fn note(givers: &mut Vec<usize>, variable: usize, point: usize) -> bool
     requires { point < usize.MAX }
     ensures noted { IsTrue result → slice_get givers.new.items variable ≡ Some (suc point) }
@@ -48,7 +48,8 @@ fn note_all(givers: &mut Vec<usize>, parts: &PointParts<'_, '_>, point: usize) -
 fn note_sides(givers: &mut Vec<usize>, own: usize, side: &Term, point: usize) -> bool
     requires { point < usize.MAX }
     ensures own { IsTrue result → slice_get givers.new.items own ≡ Some (suc point) }
-    ensures side { IsTrue result → (n : ℕ) → side.now ≡ Term.Var n → slice_get givers.new.items n ≡ Some (suc point) }
+    ensures side { IsTrue result → (n : ℕ) → side.now ≡ Term.Var n
+        → slice_get givers.new.items n ≡ Some (suc point) }
     ensures kept { AreKept givers.old.items givers.new.items }
 {
     if !note(givers, own, point) {
@@ -60,7 +61,8 @@ fn note_sides(givers: &mut Vec<usize>, own: usize, side: &Term, point: usize) ->
     }
 }
 
-/// Whether no two points of a model can give the same variable a value. It goes over the points once.
+/// Whether no two points of a model can give the same variable a value. It goes over the points
+/// once.
 pub(crate) fn are_lone(alloc: Global, model: &Model<'_>) -> Result<bool, AllocError>
     ensures { IfOk result (λ b. IsTrue b → AreLone model.now) }
 {

@@ -1,4 +1,5 @@
-//! What a point can give now and later. It takes no memory, and reads an argument only up to the first scalar that is waited for.
+//! What a point can give now and later. It takes no memory, and reads an argument only up to the
+//! first scalar that is waited for.
 
 ghost use Rattle.std.specs.Prelude.{◌≡◌, List, Some, flat_map, map};
 ghost use Rattle.fz_base.specs.declared.value.Value.{Value};
@@ -53,7 +54,8 @@ fn of_domain(own: usize, partial: &Partial) -> Outlook
 }
 
 fn of_definition(own: usize, side: &Term, partial: &Partial) -> Outlook
-    ensures { (m : Model) (x : Declared) → IsOutlook m partial.now (DefinitionPoint x own side.now) result }
+    ensures { (m : Model) (x : Declared)
+        → IsOutlook m partial.now (DefinitionPoint x own side.now) result }
 {
     let open = open_variable(side, partial);
     match partial.get(own) {
@@ -69,7 +71,8 @@ fn of_definition(own: usize, side: &Term, partial: &Partial) -> Outlook
 }
 
 fn of_constraint(parts: &ConstraintParts<'_, '_>, partial: &Partial) -> Outlook
-    ensures { (m : Model) → IsOutlook m partial.now (ConstraintPoint parts.now.number (constraint_view parts.now)) result }
+    ensures { (m : Model) → IsOutlook m partial.now
+        (ConstraintPoint parts.now.number (constraint_view parts.now)) result }
 {
     let Some(target) = parts.posted.target else {
         return Outlook::Waits(Waiting::Forever);
@@ -90,7 +93,8 @@ fn first_open(
     target: usize,
     partial: &Partial,
 ) -> Option<usize>
-    ensures { result ≡ first_some (λ a. first_other partial.now target (terms_given parts.now a)) arguments.now }
+    ensures { result ≡ first_some (λ a. first_other partial.now target
+        (terms_given parts.now a)) arguments.now }
 {
     for place in 0..arguments.len() {
         let open = first_in(item_at(arguments, place), parts, target, partial);
@@ -154,7 +158,8 @@ fn first_at(
 
 /// The same of slots that are no arrays.
 fn first_of(slots: &[Slot], target: usize, partial: &Partial) -> Option<usize>
-    ensures { (cs : List Value) → result ≡ first_other partial.now target (map (slot_term cs) slots.now) }
+    ensures { (cs : List Value) → result
+        ≡ first_other partial.now target (map (slot_term cs) slots.now) }
 {
     for place in 0..slots.len() {
         let open = open_slot(item_at(slots, place), target, partial);

@@ -1,4 +1,5 @@
-//! The rest of a chain where points wait: a point is looked at again only where a variable that it waits for has got a value.
+//! The rest of a chain where points wait: a point is looked at again only where a variable that it
+//! waits for has got a value.
 
 ghost use Rattle.std.specs.Prelude.{◌≡◌, ◌≤◌, ◌<◌, IfOk, IfSome, IsNone, OnOk, Some, length, slice_get};
 ghost use Rattle.std.specs.List.{AllByRecursion};
@@ -27,8 +28,10 @@ fn look(
     requires fits { IsPartial model.now partial.now }
     requires in_range { point < length (points model.now) }
     requires kept { IsKept model.now partial.now watch.old }
-    ensures given { IfOk result (λ o. IfSome o (λ r. (p : Point) → slice_get (points model.now) point ≡ Some p → Gives model.now partial.now p r.0 r.1)) }
-    ensures nothing { IfOk result (λ o. IsNone o → (p : Point) → slice_get (points model.now) point ≡ Some p → GivesNothing model.now partial.now p) }
+    ensures given { IfOk result (λ o. IfSome o (λ r. (p : Point)
+        → slice_get (points model.now) point ≡ Some p → Gives model.now partial.now p r.0 r.1)) }
+    ensures nothing { IfOk result (λ o. IsNone o → (p : Point)
+        → slice_get (points model.now) point ≡ Some p → GivesNothing model.now partial.now p) }
     ensures kept { IfOk result (λ _. IsKept model.now partial.now watch.new) }
 {
     match outlook_of(&model.point_parts(point), partial) {
@@ -59,7 +62,8 @@ fn step_between(
     requires fits { IsPartial model.now partial.now }
     requires in_range { to ≤ length (points model.now) }
     requires kept { IsKept model.now partial.now watch.old }
-    ensures first { IfOk result (λ o. IfSome o (λ s. IsStepAhead model.now partial.now from to s.point s.variable s.value)) }
+    ensures first { IfOk result (λ o. IfSome o
+        (λ s. IsStepAhead model.now partial.now from to s.point s.variable s.value)) }
     ensures none { IfOk result (λ o. IsNone o → NoneGives model.now partial.now from to) }
     ensures kept { IfOk result (λ _. IsKept model.now partial.now watch.new) }
 {
@@ -91,9 +95,11 @@ fn next_step(
     requires fits { IsPartial model.now partial.now }
     requires in_range { from ≤ length (points model.now) }
     requires kept { IsKept model.now partial.now watch.old }
-    ensures first { IfOk result (λ o. IfSome o (λ s. IsFirstStep model.now partial.now from s.point s.variable s.value)) }
+    ensures first { IfOk result (λ o. IfSome o
+        (λ s. IsFirstStep model.now partial.now from s.point s.variable s.value)) }
     ensures in_range { IfOk result (λ o. IfSome o (λ s. s.point ≤ length (points model.now))) }
-    ensures none { IfOk result (λ o. IsNone o → AllByRecursion (GivesNothing model.now partial.now) (points model.now)) }
+    ensures none { IfOk result (λ o. IsNone o
+        → AllByRecursion (GivesNothing model.now partial.now) (points model.now)) }
     ensures kept { IfOk result (λ _. IsKept model.now partial.now watch.new) }
 {
     let ahead = step_between(alloc, model, partial, watch, from, model.points())?;
@@ -103,8 +109,8 @@ fn next_step(
     step_between(alloc, model, partial, watch, 0, from)
 }
 
-/// Goes on with the chain from the point of a number, to its end. A point is looked at once, and again each time that a variable that it
-/// waits for gets a value.
+/// Goes on with the chain from the point of a number, to its end. A point is looked at once, and
+/// again each time that a variable that it waits for gets a value.
 pub(crate) fn fill_woken(
     alloc: Global,
     model: &Model<'_>,

@@ -14,8 +14,9 @@ const SETTLED: u8 = 0;
 /// So many points make a block.
 const BLOCK: usize = 512;
 
-/// One byte a point, which tells whether the point is to be looked at, and for each variable the points that wait for it. One byte a block
-/// of points tells whether one of them may be to be looked at, so that the next such point is found without a walk over all.
+/// One byte a point, which tells whether the point is to be looked at, and for each variable the
+/// points that wait for it. One byte a block of points tells whether one of them may be to be
+/// looked at, so that the next such point is found without a walk over all.
 #[derive(Drop)]
 pub(crate) struct Watch {
     pending: Vec<u8>,
@@ -69,7 +70,8 @@ impl Watch {
         None
     }
 
-    /// The first point to be looked at of a part of a block. Where a whole block has none, that is kept.
+    /// The first point to be looked at of a part of a block. Where a whole block has none, that is
+    /// kept.
     fn next_within(&mut self, block: usize, start: usize, end: usize) -> Option<usize>
         requires in_order { start ≤ end }
         requires in_range { end ≤ length self.old.pending.items }
@@ -112,8 +114,10 @@ impl Watch {
     /// The points that wait for the variable are to be looked at again.
     pub(crate) fn wake(&mut self, variable: usize)
         requires in_range { variable < length self.old.watchers.items }
-        ensures pending { self.new.pending.items ≡ marked self.old.pending.items (watched self.old.watchers.items variable) }
-        ensures blocks { self.new.blocks.items ≡ marked_blocks self.old.blocks.items (watched self.old.watchers.items variable) }
+        ensures pending { self.new.pending.items
+            ≡ marked self.old.pending.items (watched self.old.watchers.items variable) }
+        ensures blocks { self.new.blocks.items
+            ≡ marked_blocks self.old.blocks.items (watched self.old.watchers.items variable) }
         ensures left { IsLeft self.old.watchers.items self.new.watchers.items variable }
     {
         mark(&mut self.pending, &self.watchers[variable]);

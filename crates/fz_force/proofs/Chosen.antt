@@ -10,7 +10,9 @@ use Rattle.fz_force.specs.Forced.{IsOnlyValue, IsReady}
 use Rattle.fz_force.proofs.Held.{scalar_left, too_large}
 
 module _ (K : Partial) (xs : List Argument) (r : Row) (s : Spot) (h : IsReady K xs r s) where
-  pub scalar_chosen : {E : Type 0} → (k : Kind) × IsOfKind r.shapes s.argument k → IsPlaceOf r.result s.argument → is_too_large r K xs ≡ sums_leave K xs r → (a : Answer (Option Value) E)
+  pub scalar_chosen : {E : Type 0} → (k : Kind) × IsOfKind r.shapes s.argument k
+      → IsPlaceOf r.result s.argument → is_too_large r K xs ≡ sums_leave K xs r
+      → (a : Answer (Option Value) E)
       → ((k : Kind) → IsOfKind r.shapes s.argument k → is_too_large r K xs ≡ false → IfOk a (λ o. IsLeft k (holds_with r K xs s.argument) o))
       → (is_too_large r K xs ≡ true → IfOk a (λ o. o ≡ None)) → IfOk a (λ o. IsOnlyValue K xs r s.variable o)
   scalar_chosen kind place same (Err e) left too = tt

@@ -10,42 +10,51 @@ use Rattle.fz_force.specs.Forced.{IsForced}
 
 -- ---- one more value
 
-pub value_at_new : (K : Partial) (n : ℕ) (v : Value) → n < length K → value_at (give K n v) n ≡ Some v
+pub value_at_new : (K : Partial) (n : ℕ) (v : Value) → n < length K
+    → value_at (give K n v) n ≡ Some v
 value_at_new [] n v h = absurd (omega arith)
 value_at_new (o ∷ K) zero v h = refl
 value_at_new (o ∷ K) (suc n) v h = value_at_new K n v (omega arith)
 
 -- a number that has a kind is a variable's, so it has a place
-in_range : (xs : List Variable) (K : Partial) (n : ℕ) (k : Kind) → FitVariables xs K → option_map (λ x. x.kind) (slice_get xs n) ≡ Some k → n < length K
+in_range : (xs : List Variable) (K : Partial) (n : ℕ) (k : Kind) → FitVariables xs K
+    → option_map (λ x. x.kind) (slice_get xs n) ≡ Some k → n < length K
 in_range [] K n k h e = cc
 in_range (x ∷ xs) [] n k h e = absurd h
 in_range (x ∷ xs) (o ∷ K) zero k h e = omega arith
 in_range (x ∷ xs) (o ∷ K) (suc n) k h e = let below : n < length K = in_range xs K n k h.1 e in omega arith
 
-pub has_place : (m : Model) (K : Partial) (n : ℕ) (k : Kind) → IsPartial m K → kind_at m n ≡ Some k → n < length K
+pub has_place : (m : Model) (K : Partial) (n : ℕ) (k : Kind) → IsPartial m K → kind_at m n ≡ Some k
+    → n < length K
 has_place m K n k h e = in_range (variables_of m) K n k h e
 
 -- ---- what is forced
 
 module _ (m : Model) (K : Partial) (p : Point) (ps : List Point) (k : ℕ) (at : slice_get ps k ≡ Some p) where
-  pub gives : (o : Option (ℕ × Value)) → IsForced m K p o → IfSome o (λ r. (q : Point) → slice_get ps k ≡ Some q → Gives m K q r.0 r.1)
+  pub gives : (o : Option (ℕ × Value)) → IsForced m K p o
+      → IfSome o (λ r. (q : Point) → slice_get ps k ≡ Some q → Gives m K q r.0 r.1)
   gives None h = tt
   gives (Some r) h = λ q is. let same : p ≡ q = cc in subst (λ z. Gives m K z r.0 r.1) same h
 
-  pub gives_nothing : (o : Option (ℕ × Value)) → IsForced m K p o → IsNone o → (q : Point) → slice_get ps k ≡ Some q → GivesNothing m K q
+  pub gives_nothing : (o : Option (ℕ × Value)) → IsForced m K p o → IsNone o → (q : Point)
+      → slice_get ps k ≡ Some q → GivesNothing m K q
   gives_nothing (Some r) h none = no' none
   gives_nothing None h none = λ q is. let same : p ≡ q = cc in subst (GivesNothing m K) same h
 
-  pub forces : {E : Type 0} (r : Result (Option (ℕ × Value)) E) → IfOk r (λ o. IsForced m K p o) → IfOk r (λ o. IfSome o (λ q. (z : Point) → slice_get ps k ≡ Some z → Gives m K z q.0 q.1))
+  pub forces : {E : Type 0} (r : Result (Option (ℕ × Value)) E) → IfOk r (λ o. IsForced m K p o)
+      → IfOk r (λ o. IfSome o (λ q. (z : Point) → slice_get ps k ≡ Some z → Gives m K z q.0 q.1))
   forces (Err e) h = tt
   forces (Ok o) h = gives o h
 
-  pub forces_nothing : {E : Type 0} (r : Result (Option (ℕ × Value)) E) → IfOk r (λ o. IsForced m K p o) → IfOk r (λ o. IsNone o → (q : Point) → slice_get ps k ≡ Some q → GivesNothing m K q)
+  pub forces_nothing : {E : Type 0} (r : Result (Option (ℕ × Value)) E)
+      → IfOk r (λ o. IsForced m K p o)
+      → IfOk r (λ o. IsNone o → (q : Point) → slice_get ps k ≡ Some q → GivesNothing m K q)
   forces_nothing (Err e) h = tt
   forces_nothing (Ok o) h = gives_nothing o h
 
 -- what is found to be none
-pub gone : {A : Type 0} (o : Option (Bor A)) (p : Option A) → false ≡ is_some o → option_map (λ x. x.now) o ≡ p → p ≡ None
+pub gone : {A : Type 0} (o : Option (Bor A)) (p : Option A) → false ≡ is_some o
+    → option_map (λ x. x.now) o ≡ p → p ≡ None
 gone None p none e = sym e
 gone (Some x) p none e = no none
 
@@ -54,7 +63,8 @@ nothing_there None e = refl
 nothing_there (Some x) e = no e
 
 -- what is found to be there
-pub found_some : {A : Type 0} (o : Option (Bor A)) (p : Option A) → is_some o ≡ true → option_map (λ x. x.now) o ≡ p → is_some p ≡ true
+pub found_some : {A : Type 0} (o : Option (Bor A)) (p : Option A) → is_some o ≡ true
+    → option_map (λ x. x.now) o ≡ p → is_some p ≡ true
 found_some None p some e = no some
 found_some (Some x) p some e = ap is_some (sym e)
 

@@ -26,7 +26,8 @@ use Rattle.fz_force.proofs.Fits.{reads, kind_back, changes, given_new, open_firs
 
 -- ---- the row of a constraint
 
-pub found_passes : {A : Type 0} (t : A → Bool) (xs : List A) (x : A) → find t xs ≡ Some x → t x ≡ true
+pub found_passes : {A : Type 0} (t : A → Bool) (xs : List A) (x : A) → find t xs ≡ Some x
+    → t x ≡ true
 found_passes t [] x e = cc
 found_passes t (y ∷ ys) x e =
     elim (t y) as (λ b. t y ≡ b → cond b (Some y) (find t ys) ≡ Some x → t x ≡ true) [
@@ -37,12 +38,14 @@ found_passes t (y ∷ ys) x e =
 pub row_fits : (p : Posted) (r : Row) → row_of p ≡ Some r → fits r p.arguments ≡ true
 row_fits p r e = and_second (bytes_eq r.name p.name) (fits r p.arguments) (found_passes (λ r. bytes_eq r.name p.name && fits r p.arguments) rows r e)
 
-pub row_shapes : (p : Posted) (r : Row) → row_of p ≡ Some r → have_shapes r.shapes p.arguments ≡ true
+pub row_shapes : (p : Posted) (r : Row) → row_of p ≡ Some r
+    → have_shapes r.shapes p.arguments ≡ true
 row_shapes p r e = and_first (have_shapes r.shapes p.arguments) _ (row_fits p r e)
 
 -- ---- shapes and places
 
-shape_at : (ss : List Shape) (xs : List Argument) (i j : ℕ) (t : Term) → have_shapes ss xs ≡ true → slice_get (terms_at_argument xs i) j ≡ Some t → (s : Shape) × (slice_get ss i ≡ Some s)
+shape_at : (ss : List Shape) (xs : List Argument) (i j : ℕ) (t : Term) → have_shapes ss xs ≡ true
+    → slice_get (terms_at_argument xs i) j ≡ Some t → (s : Shape) × (slice_get ss i ≡ Some s)
 shape_at [] [] i j t h at = cc
 shape_at [] (x ∷ xs) i j t h at = no h
 shape_at (s ∷ ss) [] i j t h at = no h
@@ -50,7 +53,9 @@ shape_at (s ∷ ss) (x ∷ xs) zero j t h at = (s, refl)
 shape_at (s ∷ ss) (x ∷ xs) (suc i) j t h at = shape_at ss xs i j t (and_second (has_shape s x) _ h) at
 
 -- a scalar stands where a scalar is asked for
-scalar_shape : (ss : List Shape) (xs : List Argument) (i : ℕ) (k : Kind) (t : Term) → have_shapes ss xs ≡ true → slice_get xs i ≡ Some (One (Scalar k t)) → (j : Kind) × IsOfKind ss i j
+scalar_shape : (ss : List Shape) (xs : List Argument) (i : ℕ) (k : Kind) (t : Term)
+    → have_shapes ss xs ≡ true → slice_get xs i ≡ Some (One (Scalar k t))
+    → (j : Kind) × IsOfKind ss i j
 scalar_shape [] [] i k t h at = cc
 scalar_shape [] (x ∷ xs) i k t h at = no h
 scalar_shape (s ∷ ss) [] i k t h at = no h
@@ -59,7 +64,8 @@ scalar_shape (s ∷ ss) (x ∷ xs) zero k t h at =
     let same : x ≡ One (Scalar k t) = cc in
     here s (subst (λ y. has_shape s y ≡ true) same (and_first (has_shape s x) _ h))
   where
-    here : (s : Shape) → has_shape s (One (Scalar k t)) ≡ true → (j : Kind) × (Some s ≡ Some (ScalarOf j))
+    here : (s : Shape) → has_shape s (One (Scalar k t)) ≡ true
+        → (j : Kind) × (Some s ≡ Some (ScalarOf j))
     here (ScalarOf j) h = (j, refl)
     here (ArrayOf j) h = no h
 
@@ -68,7 +74,8 @@ alone t u zero e = cc
 alone t u (suc j) e = cc
 
 -- what stands where a scalar is asked for stands there by itself
-by_itself : (ss : List Shape) (xs : List Argument) (i j : ℕ) (k : Kind) (t : Term) → have_shapes ss xs ≡ true → IsOfKind ss i k → slice_get (terms_at_argument xs i) j ≡ Some t
+by_itself : (ss : List Shape) (xs : List Argument) (i j : ℕ) (k : Kind) (t : Term)
+    → have_shapes ss xs ≡ true → IsOfKind ss i k → slice_get (terms_at_argument xs i) j ≡ Some t
     → (q : Kind) × (slice_get xs i ≡ Some (One (Scalar q t)))
 by_itself [] xs i j k t h is at = cc
 by_itself (s ∷ ss) [] i j k t h is at = no h
@@ -77,7 +84,8 @@ by_itself (s ∷ ss) (x ∷ xs) zero j k t h is at =
     let same : s ≡ ScalarOf k = cc in
     here x (subst (λ z. has_shape z x ≡ true) same (and_first (has_shape s x) _ h)) at
   where
-    here : (x : Argument) → has_shape (ScalarOf k) x ≡ true → slice_get (terms_in x) j ≡ Some t → (q : Kind) × (Some x ≡ Some (One (Scalar q t)))
+    here : (x : Argument) → has_shape (ScalarOf k) x ≡ true → slice_get (terms_in x) j ≡ Some t
+        → (q : Kind) × (Some x ≡ Some (One (Scalar q t)))
     here (One (Scalar q u)) h at = (q, ap (λ z. Some (One (Scalar q z))) (alone u t j at))
     here (One (Array name q ts)) h at = no h
     here (ListOf ps) h at = no h
@@ -85,7 +93,8 @@ by_itself (s ∷ ss) (x ∷ xs) zero j k t h is at =
 -- ---- the only open scalar stands at one place
 
 module _ (K : Partial) (n : ℕ) (none : value_at K n ≡ None) (within : n < length K) (v : Value) where
-  pub open_here : (t : Term) (ts : List Term) → t ≡ Var n → open_terms K (t ∷ ts) ≡ Var n ∷ [] → open_terms K ts ≡ []
+  pub open_here : (t : Term) (ts : List Term) → t ≡ Var n → open_terms K (t ∷ ts) ≡ Var n ∷ []
+      → open_terms K ts ≡ []
   open_here t ts is e =
       elim (is_open K t) as (λ b. is_open K t ≡ b → cond b (t ∷ open_terms K ts) (open_terms K ts) ≡ Var n ∷ [] → open_terms K ts ≡ []) [
         | true ↦ λ _ e. cc
@@ -93,21 +102,25 @@ module _ (K : Partial) (n : ℕ) (none : value_at K n ≡ None) (within : n < le
       ] refl e
 
   -- the first is closed where the open one stands later
-  open_later : (t : Term) (ts : List Term) (i : ℕ) → slice_get ts i ≡ Some (Var n) → open_terms K (t ∷ ts) ≡ Var n ∷ [] → open_terms K ts ≡ Var n ∷ []
+  open_later : (t : Term) (ts : List Term) (i : ℕ) → slice_get ts i ≡ Some (Var n)
+      → open_terms K (t ∷ ts) ≡ Var n ∷ [] → open_terms K ts ≡ Var n ∷ []
   open_later t ts i at e =
       elim (is_open K t) as (λ b. cond b (t ∷ open_terms K ts) (open_terms K ts) ≡ Var n ∷ [] → open_terms K ts ≡ Var n ∷ []) [
         | true ↦ λ e. let rest : open_terms K ts ≡ [] = cc in absurd (variable_open K n none v v ts i at rest)
         | false ↦ λ e. e
       ] e
 
-  same_place : (ts : List Term) (i j : ℕ) → slice_get ts i ≡ Some (Var n) → slice_get ts j ≡ Some (Var n) → open_terms K ts ≡ Var n ∷ [] → i ≡ j
+  same_place : (ts : List Term) (i j : ℕ) → slice_get ts i ≡ Some (Var n)
+      → slice_get ts j ≡ Some (Var n) → open_terms K ts ≡ Var n ∷ [] → i ≡ j
   same_place [] i j at at' e = cc
   same_place (t ∷ ts) zero zero at at' e = refl
   same_place (t ∷ ts) zero (suc j) at at' e = let is : t ≡ Var n = cc in absurd (variable_open K n none v v ts j at' (open_here t ts is e))
   same_place (t ∷ ts) (suc i) zero at at' e = let is : t ≡ Var n = cc in absurd (variable_open K n none v v ts i at (open_here t ts is e))
   same_place (t ∷ ts) (suc i) (suc j) at at' e = ap suc (same_place ts i j at at' (open_later t ts i at e))
 
-  pub same_spot : (xs : List Argument) (i j k l : ℕ) → slice_get (terms_at_argument xs i) j ≡ Some (Var n) → slice_get (terms_at_argument xs k) l ≡ Some (Var n) → open_terms K (flat_map terms_in xs) ≡ Var n ∷ [] → (i ≡ k) × (j ≡ l)
+  pub same_spot : (xs : List Argument) (i j k l : ℕ) → slice_get (terms_at_argument xs i) j
+      ≡ Some (Var n) → slice_get (terms_at_argument xs k) l ≡ Some (Var n)
+      → open_terms K (flat_map terms_in xs) ≡ Var n ∷ [] → (i ≡ k) × (j ≡ l)
   same_spot [] i j k l at at' e = cc
   same_spot (x ∷ xs) zero j zero l at at' e = (refl, same_place (terms_in x) j l at at' (open_first K n none within v x xs j at e).0)
   same_spot (x ∷ xs) zero j (suc k) l at at' e = absurd (argument_open K n none within v xs k l at' (open_first K n none within v x xs j at e).1)
@@ -117,7 +130,9 @@ module _ (K : Partial) (n : ℕ) (none : value_at K n ≡ None) (within : n < le
 -- ---- an answer
 
 -- what holds is read
-pub holds_read : (L : Partial) (xs : List Argument) (r : Row) → have_shapes r.shapes xs ≡ true → IsSomeAnd (argument_values L xs) (λ vs. IsTrue (row_holds r vs)) → are_read L r.shapes xs ≡ true
+pub holds_read : (L : Partial) (xs : List Argument) (r : Row) → have_shapes r.shapes xs ≡ true
+    → IsSomeAnd (argument_values L xs) (λ vs. IsTrue (row_holds r vs))
+    → are_read L r.shapes xs ≡ true
 holds_read L xs r shaped g =
     let (vs, are, passed) = some_of (λ vs. IsTrue (row_holds r vs)) (argument_values L xs) g in
     elim (are_read L r.shapes xs) as (λ b. are_read L r.shapes xs ≡ b → b ≡ true) [
@@ -129,7 +144,9 @@ module _ (K : Partial) (xs : List Argument) (r : Row) (s : Spot) (h : IsReady K 
   pub none : value_at K s.variable ≡ None
   none = only_open_none K s.variable (flat_map terms_in xs) h.only_open
 
-  holds_given : (w : Value) → IsSomeAnd (argument_values (give K s.variable w) xs) (λ vs. IsTrue (row_holds r vs)) → row_holds r (given_values (give K s.variable w) r.shapes xs) ≡ true
+  holds_given : (w : Value) → IsSomeAnd (argument_values (give K s.variable w) xs)
+      (λ vs. IsTrue (row_holds r vs))
+      → row_holds r (given_values (give K s.variable w) r.shapes xs) ≡ true
   holds_given w g =
       let (vs, are, passed) = some_of (λ vs. IsTrue (row_holds r vs)) (argument_values (give K s.variable w) xs) g in
       let read : Some vs ≡ Some (given_values (give K s.variable w) r.shapes xs) = sym are ∙ ready_values (give K s.variable w) r.shapes xs h.shaped (holds_read (give K s.variable w) xs r h.shaped g) in
@@ -138,19 +155,27 @@ module _ (K : Partial) (xs : List Argument) (r : Row) (s : Spot) (h : IsReady K 
 
   -- ---- where sums leave 128 bits
 
-  pub too_large : (o : Option Value) → sums_leave K xs r ≡ true → o ≡ None → IsOnlyValue K xs r s.variable o
+  pub too_large : (o : Option Value) → sums_leave K xs r ≡ true → o ≡ None
+      → IsOnlyValue K xs r s.variable o
   too_large (Some v) large is = cc
   too_large None large is = λ within w f. no (sym f.sums_fit ∙ large)
 
-  -- ---- where they don't, and a value of the shape's kind passes the test exactly where the row holds with it
+  -- ---- where they don't
+  --
+  -- Where they don't, and a value of the shape's kind passes the test exactly where the row holds
+  -- with it.
 
   module _ (z : Shape) (shape : slice_get r.shapes s.argument ≡ Some z) (test : Value → Bool)
-      (test_is : s.variable < length K → (w : Value) → kind_of w ≡ kind_in z → row_holds r (given_values (give K s.variable w) r.shapes xs) ≡ test w)
+      (test_is : s.variable < length K → (w : Value) → kind_of w ≡ kind_in z
+      → row_holds r (given_values (give K s.variable w) r.shapes xs) ≡ test w)
       (result : IsResult K xs s.variable r.result) (sums : sums_leave K xs r ≡ false) where
-    holds_kind : s.variable < length K → (w : Value) → IsSomeAnd (argument_values (give K s.variable w) xs) (λ vs. IsTrue (row_holds r vs)) → kind_of w ≡ kind_in z
+    holds_kind : s.variable < length K → (w : Value) → IsSomeAnd
+        (argument_values (give K s.variable w) xs) (λ vs. IsTrue (row_holds r vs))
+        → kind_of w ≡ kind_in z
     holds_kind within w g = kind_back K s.variable none within w r.shapes xs s.argument s.place z h.shaped (holds_read (give K s.variable w) xs r h.shaped g) h.stands shape
 
-    given_holds : s.variable < length K → (w : Value) → kind_of w ≡ kind_in z → row_holds r (given_values (give K s.variable w) r.shapes xs) ≡ true
+    given_holds : s.variable < length K → (w : Value) → kind_of w ≡ kind_in z
+        → row_holds r (given_values (give K s.variable w) r.shapes xs) ≡ true
         → IsSomeAnd (argument_values (give K s.variable w) xs) (λ vs. IsTrue (row_holds r vs))
     given_holds within w is passed =
         intro (λ vs. IsTrue (row_holds r vs)) (argument_values (give K s.variable w) xs) (given_values (give K s.variable w) r.shapes xs)
@@ -174,7 +199,9 @@ module _ (K : Partial) (xs : List Argument) (r : Row) (s : Spot) (h : IsReady K 
   -- ---- where the variable stands by itself in a result place
 
   module _ (k : Kind) (shape : IsOfKind r.shapes s.argument k) where
-    scalar_test : s.variable < length K → (w : Value) → kind_of w ≡ k → row_holds r (given_values (give K s.variable w) r.shapes xs) ≡ holds_with r K xs s.argument w
+    scalar_test : s.variable < length K → (w : Value) → kind_of w ≡ k
+        → row_holds r (given_values (give K s.variable w) r.shapes xs)
+        ≡ holds_with r K xs s.argument w
     scalar_test within w is =
         let (q, at) = by_itself r.shapes xs s.argument s.place k (Var s.variable) h.shaped shape h.stands in
         ap (row_holds r) (changes K s.variable none within w r.shapes xs s.argument s.place (ScalarOf k) h.shaped h.only_open h.stands shape
@@ -187,12 +214,15 @@ module _ (K : Partial) (xs : List Argument) (r : Row) (s : Spot) (h : IsReady K 
         (s.argument, place, q, at)
     result_of_place UnitTerm place = absurd place
 
-    pub scalar_left : IsPlaceOf r.result s.argument → sums_leave K xs r ≡ false → (o : Option Value) → IsLeft k (holds_with r K xs s.argument) o → IsOnlyValue K xs r s.variable o
+    pub scalar_left : IsPlaceOf r.result s.argument → sums_leave K xs r ≡ false → (o : Option Value)
+        → IsLeft k (holds_with r K xs s.argument) o → IsOnlyValue K xs r s.variable o
     scalar_left place sums = is_left (ScalarOf k) shape (holds_with r K xs s.argument) scalar_test (result_of_place r.result place) sums
 
   -- ---- where it stands in none
 
-  not_placed : (within : s.variable < length K) (v : Value) (o : Result) → (IsPlaceOf o s.argument → (k : Kind) → IsOfKind r.shapes s.argument k → ⊥) → (o ≡ UnitTerm → ⊥) → IsResult K xs s.variable o → ⊥
+  not_placed : (within : s.variable < length K) (v : Value) (o : Result)
+      → (IsPlaceOf o s.argument → (k : Kind) → IsOfKind r.shapes s.argument k → ⊥)
+      → (o ≡ UnitTerm → ⊥) → IsResult K xs s.variable o → ⊥
   not_placed within v NoResult place unit is = is
   not_placed within v UnitTerm place unit is = unit refl
   not_placed within v (Places ks) place unit (i, among, q, at) =
@@ -201,5 +231,6 @@ module _ (K : Partial) (xs : List Argument) (r : Row) (s : Spot) (h : IsReady K 
       let (k, is) = scalar_shape r.shapes xs i q (Var s.variable) h.shaped at in
       place (subst (Contains ks) same among) k (subst (λ j. IsOfKind r.shapes j k) same is)
 
-  pub nothing_placed : (IsPlaceOf r.result s.argument → (k : Kind) → IsOfKind r.shapes s.argument k → ⊥) → (r.result ≡ UnitTerm → ⊥) → IsOnlyValue K xs r s.variable None
+  pub nothing_placed : (IsPlaceOf r.result s.argument → (k : Kind) → IsOfKind r.shapes s.argument k
+      → ⊥) → (r.result ≡ UnitTerm → ⊥) → IsOnlyValue K xs r s.variable None
   nothing_placed place unit = λ within w f. not_placed within w r.result place unit f.result

@@ -1,5 +1,5 @@
--- Each value that a constraint's scalars have is of the kind that its row asks for, and so is the one that fills its place: the scalars
--- have the kinds that they are read with.
+-- Each value that a constraint's scalars have is of the kind that its row asks for, and so is the
+-- one that fills its place: the scalars have the kinds that they are read with.
 use Rattle.std.proofs.Common.{◌≡◌, ℕ, zero, suc, ◌<◌, true, false, cond, List, [], ◌∷◌, flat_map, length, Option, Some, None, IfSome, option_map, slice_get, refl, sym, ap, subst, ◌∙◌}
 use Rattle.std.specs.List.{AllByRecursion, list_all}
 use Rattle.std.specs.Option.{option_map_or}
@@ -31,13 +31,15 @@ use Rattle.fz_force.proofs.Held.{holds_read, row_shapes}
 -- ---- the scalars of an argument have the kind that is asked of them
 
 module _ (m : Model) where
-  places_of_kind : (k : Kind) (ps : List Place) → list_all (is_term_of k) ps ≡ true → AllByRecursion (PlaceFits m) ps → AllByRecursion (TermFits m k) (flat_map terms_at ps)
+  places_of_kind : (k : Kind) (ps : List Place) → list_all (is_term_of k) ps ≡ true
+      → AllByRecursion (PlaceFits m) ps → AllByRecursion (TermFits m k) (flat_map terms_at ps)
   places_of_kind k [] h fits = tt
   places_of_kind k (Scalar j t ∷ ps) h fits =
       (subst (λ i. TermFits m i t) (same_kind_is j k (and_first (same_kind j k) _ h)) fits.0, places_of_kind k ps (and_second (same_kind j k) _ h) fits.1)
   places_of_kind k (Array x j ts ∷ ps) h fits = no h
 
-  terms_of_kind : (s : Shape) (x : Argument) → has_shape s x ≡ true → ArgumentFits m x → AllByRecursion (TermFits m (kind_in s)) (terms_in x)
+  terms_of_kind : (s : Shape) (x : Argument) → has_shape s x ≡ true → ArgumentFits m x
+      → AllByRecursion (TermFits m (kind_in s)) (terms_in x)
   terms_of_kind (ScalarOf k) (One (Scalar j t)) h fits = (subst (λ i. TermFits m i t) (same_kind_is j k h) fits, tt)
   terms_of_kind (ScalarOf k) (One (Array x j ts)) h fits = no h
   terms_of_kind (ScalarOf k) (ListOf ps) h fits = no h
@@ -46,7 +48,8 @@ module _ (m : Model) where
   terms_of_kind (ArrayOf k) (ListOf ps) h fits = places_of_kind k ps h fits
 
   -- where a variable stands, its kind is the one that is asked for
-  kind_there : (ss : List Shape) (xs : List Argument) (i j n : ℕ) → have_shapes ss xs ≡ true → AllByRecursion (ArgumentFits m) xs → slice_get (terms_at_argument xs i) j ≡ Some (Var n)
+  kind_there : (ss : List Shape) (xs : List Argument) (i j n : ℕ) → have_shapes ss xs ≡ true
+      → AllByRecursion (ArgumentFits m) xs → slice_get (terms_at_argument xs i) j ≡ Some (Var n)
       → (s : Shape) × (slice_get ss i ≡ Some s) × (kind_at m n ≡ Some (kind_in s))
   kind_there ss [] i j n h fits at = cc
   kind_there [] (x ∷ xs) i j n h fits at = no h
@@ -56,7 +59,8 @@ module _ (m : Model) where
 
 -- ---- and so have their values
 
-kind_of_value : (xs : List Variable) (K : Partial) (n : ℕ) (k : Kind) → FitVariables xs K → option_map (λ x. x.kind) (slice_get xs n) ≡ Some k
+kind_of_value : (xs : List Variable) (K : Partial) (n : ℕ) (k : Kind) → FitVariables xs K
+    → option_map (λ x. x.kind) (slice_get xs n) ≡ Some k
     → option_map_or (λ v. same_kind (kind_of v) k) (value_at K n) true ≡ true
 kind_of_value [] K n k h e = cc
 kind_of_value (x ∷ xs) [] n k h e = absurd h
@@ -69,25 +73,30 @@ module _ (m : Model) (K : Partial) (partial : IsPartial m K) where
   value_fits k (Var n) e = kind_of_value (variables_of m) K n k partial e
   value_fits k (Fixed v) e = ap (λ j. same_kind j k) e ∙ same_kind_itself k
 
-  values_fit : (k : Kind) (ts : List Term) → AllByRecursion (TermFits m k) ts → list_all (kind_fits K k) ts ≡ true
+  values_fit : (k : Kind) (ts : List Term) → AllByRecursion (TermFits m k) ts
+      → list_all (kind_fits K k) ts ≡ true
   values_fit k [] h = refl
   values_fit k (t ∷ ts) h = and_both (kind_fits K k t) _ (value_fits k t h.0) (values_fit k ts h.1)
 
-  all_fit : (ss : List Shape) (xs : List Argument) → have_shapes ss xs ≡ true → AllByRecursion (ArgumentFits m) xs → each_fits K ss xs ≡ true
+  all_fit : (ss : List Shape) (xs : List Argument) → have_shapes ss xs ≡ true
+      → AllByRecursion (ArgumentFits m) xs → each_fits K ss xs ≡ true
   all_fit [] xs h fits = refl
   all_fit (s ∷ ss) [] h fits = refl
   all_fit (s ∷ ss) (x ∷ xs) h fits =
       and_both (list_all (kind_fits K (kind_in s)) (terms_in x)) _ (values_fit (kind_in s) (terms_in x) (terms_of_kind m s x (and_first (has_shape s x) _ h) fits.0)) (all_fit ss xs (and_second (has_shape s x) _ h) fits.1)
 
   -- the values of a constraint with a row
-  pub known_fits : (p : Posted) (o : Option Known) → PostedFits m p → option_map known_row o ≡ row_of p → IfSome o (λ k. each_fits K (known_row k).shapes p.arguments ≡ true)
+  pub known_fits : (p : Posted) (o : Option Known) → PostedFits m p
+      → option_map known_row o ≡ row_of p
+      → IfSome o (λ k. each_fits K (known_row k).shapes p.arguments ≡ true)
   known_fits p None fits known = tt
   known_fits p (Some k) fits known = all_fit (known_row k).shapes p.arguments (row_shapes p (known_row k) (sym known)) fits
 
   -- ---- the value that fills a place
 
   -- where it is told that a variable is open, it stands
-  open_stands : (ts : List Term) (n : ℕ) → open_terms K ts ≡ Var n ∷ [] → (j : ℕ) × (slice_get ts j ≡ Some (Var n))
+  open_stands : (ts : List Term) (n : ℕ) → open_terms K ts ≡ Var n ∷ []
+      → (j : ℕ) × (slice_get ts j ≡ Some (Var n))
   open_stands [] n e = cc
   open_stands (t ∷ ts) n e =
       elim (is_open K t) as (λ b. cond b (t ∷ open_terms K ts) (open_terms K ts) ≡ Var n ∷ [] → (j : ℕ) × (slice_get (t ∷ ts) j ≡ Some (Var n))) [
@@ -98,14 +107,16 @@ module _ (m : Model) (K : Partial) (partial : IsPartial m K) where
   abbrev HasKind : Term → Type 0
   HasKind t = (k : Kind) × TermFits m k t
 
-  have_kinds : (ss : List Shape) (xs : List Argument) → have_shapes ss xs ≡ true → AllByRecursion (ArgumentFits m) xs → AllByRecursion HasKind (flat_map terms_in xs)
+  have_kinds : (ss : List Shape) (xs : List Argument) → have_shapes ss xs ≡ true
+      → AllByRecursion (ArgumentFits m) xs → AllByRecursion HasKind (flat_map terms_in xs)
   have_kinds ss [] h fits = tt
   have_kinds [] (x ∷ xs) h fits = no h
   have_kinds (s ∷ ss) (x ∷ xs) h fits =
       all_append HasKind (terms_in x) (flat_map terms_in xs) (all_map (TermFits m (kind_in s)) HasKind (λ t fit. (kind_in s, fit)) (terms_in x) (terms_of_kind m s x (and_first (has_shape s x) _ h) fits.0))
       (have_kinds ss xs (and_second (has_shape s x) _ h) fits.1)
 
-  result_stands : (xs : List Argument) (n : ℕ) (o : Result) → IsResult K xs n o → (i : ℕ) × (j : ℕ) × (slice_get (terms_at_argument xs i) j ≡ Some (Var n))
+  result_stands : (xs : List Argument) (n : ℕ) (o : Result) → IsResult K xs n o
+      → (i : ℕ) × (j : ℕ) × (slice_get (terms_at_argument xs i) j ≡ Some (Var n))
   result_stands xs n NoResult is = absurd is
   result_stands xs n (Places is) (i, among, q, at) = (i, 0, ap (λ o. slice_get (option_map_or terms_in o []) 0) at)
   result_stands xs n UnitTerm (i, at, u, at0, unit) = (1, i, at)

@@ -11,14 +11,17 @@ use Rattle.fz_force.specs.Only.{AreOpen}
 
 -- ---- what a slice's `get` gives
 
-pub from_lookup : {A : Type 0} (o : Option (Bor A)) (ts : List A) (k : ℕ) → IfSome o (λ x. x.now ≡ get_or ts k x.now) → MatchOption o (length ts ≤ k) (λ x. k < length ts) → option_map (λ x. x.now) o ≡ slice_get ts k
+pub from_lookup : {A : Type 0} (o : Option (Bor A)) (ts : List A) (k : ℕ)
+    → IfSome o (λ x. x.now ≡ get_or ts k x.now) → MatchOption o (length ts ≤ k) (λ x. k < length ts)
+    → option_map (λ x. x.now) o ≡ slice_get ts k
 from_lookup None ts k at within = sym (slice_get_past ts k within)
 from_lookup (Some x) ts k at within = sym (slice_get_read ts (length ts) k x.now refl within at)
 
 -- ---- which are open, as more come
 
 module _ (K : Partial) where
-  pub open_append : (ts us : List Term) → open_terms K (ts ++ us) ≡ open_terms K ts ++ open_terms K us
+  pub open_append : (ts us : List Term)
+      → open_terms K (ts ++ us) ≡ open_terms K ts ++ open_terms K us
   open_append [] us = refl
   open_append (t ∷ ts) us =
       elim (is_none (value K t)) as (λ b. cond b (t ∷ open_terms K (ts ++ us)) (open_terms K (ts ++ us)) ≡ cond b (t ∷ open_terms K ts) (open_terms K ts) ++ open_terms K us) [
@@ -34,7 +37,8 @@ module _ (K : Partial) where
   neither [] ys e = (refl, e)
   neither (x ∷ xs) ys e = cc
 
-  one_of : {A : Type 0} (xs ys : List A) (y : A) → xs ++ ys ≡ y ∷ [] → ((xs ≡ []) × (ys ≡ y ∷ [])) ⊎ ((xs ≡ y ∷ []) × (ys ≡ []))
+  one_of : {A : Type 0} (xs ys : List A) (y : A) → xs ++ ys ≡ y ∷ []
+      → ((xs ≡ []) × (ys ≡ y ∷ [])) ⊎ ((xs ≡ y ∷ []) × (ys ≡ []))
   one_of [] ys y e = inl (refl, e)
   one_of (x ∷ xs) ys y e =
       let rest : xs ++ ys ≡ [] = cc in
@@ -43,14 +47,16 @@ module _ (K : Partial) where
       inr ((λ i. head i ∷ nil i), (neither xs ys rest).1)
 
   -- in more scalars behind
-  at_in_front : {A : Type 0} (ts us : List A) (i : ℕ) (t : A) → slice_get ts i ≡ Some t → slice_get (ts ++ us) i ≡ Some t
+  at_in_front : {A : Type 0} (ts us : List A) (i : ℕ) (t : A) → slice_get ts i ≡ Some t
+      → slice_get (ts ++ us) i ≡ Some t
   at_in_front [] us i t e = cc
   at_in_front (x ∷ ts) us zero t e = e
   at_in_front (x ∷ ts) us (suc i) t e = at_in_front ts us i t e
 
   module _ (n : ℕ) where
     -- closed scalars change nothing
-    pub and_closed : (ts us : List Term) (o : Open) → AreOpen K n ts o → AreOpen K n us Nothing → AreOpen K n (ts ++ us) o
+    pub and_closed : (ts us : List Term) (o : Open) → AreOpen K n ts o → AreOpen K n us Nothing
+        → AreOpen K n (ts ++ us) o
     and_closed ts us Nothing h g = open_append ts us ∙ (λ i. h i ++ g i)
     and_closed ts us (Target i) h g = (open_append ts us ∙ (λ j. h.0 j ++ g j), at_in_front ts us i (Var n) h.1)
     and_closed ts us More h g =
@@ -71,7 +77,8 @@ module _ (K : Partial) where
     )
 
     -- the variable a second time
-    pub twice : (ts us : List Term) (i : ℕ) (o : Open) → (o ≡ Nothing → ⊥) → AreOpen K n ts o → AreOpen K n us (Target i) → AreOpen K n (ts ++ us) More
+    pub twice : (ts us : List Term) (i : ℕ) (o : Open) → (o ≡ Nothing → ⊥) → AreOpen K n ts o
+        → AreOpen K n us (Target i) → AreOpen K n (ts ++ us) More
     twice ts us i Nothing some h g = absurd (some refl)
     twice ts us i More some h g = others_first ts us h
     twice ts us i (Target j) some h g =
@@ -83,11 +90,13 @@ module _ (K : Partial) where
     alone t zero e = cc
     alone t (suc i) e = cc
 
-    pub at_end : {A : Type 0} (ts : List A) (t : A) (k : ℕ) → length ts ≡ k → slice_get (ts ++ t ∷ []) k ≡ Some t
+    pub at_end : {A : Type 0} (ts : List A) (t : A) (k : ℕ) → length ts ≡ k
+        → slice_get (ts ++ t ∷ []) k ≡ Some t
     at_end [] t k e = ap (λ j. slice_get (t ∷ []) j) (sym e)
     at_end (x ∷ ts) t k e = ap (λ j. slice_get (x ∷ ts ++ t ∷ []) j) (sym e) ∙ at_end ts t (length ts) refl
 
-    pub then_target : (ts : List Term) (t : Term) (k i : ℕ) → length ts ≡ k → AreOpen K n ts Nothing → AreOpen K n (t ∷ []) (Target i) → AreOpen K n (ts ++ t ∷ []) (Target k)
+    pub then_target : (ts : List Term) (t : Term) (k i : ℕ) → length ts ≡ k → AreOpen K n ts Nothing
+        → AreOpen K n (t ∷ []) (Target i) → AreOpen K n (ts ++ t ∷ []) (Target k)
     then_target ts t k i e h g = (open_append ts (t ∷ []) ∙ (λ j. h j ++ g.0 j), at_end ts t k e ∙ ap Some (alone t i g.1))
 
 -- ---- places within a list
@@ -98,7 +107,8 @@ nothing_at (t ∷ ts) zero h e = cc
 nothing_at (t ∷ ts) (suc k) h e = nothing_at ts k (omega arith) e
 
 -- one more of a list
-pub take_one : {A : Type 0} (ts : List A) (k : ℕ) (t : A) → Some t ≡ slice_get ts k → take (k + 1) ts ≡ take k ts ++ t ∷ []
+pub take_one : {A : Type 0} (ts : List A) (k : ℕ) (t : A) → Some t ≡ slice_get ts k
+    → take (k + 1) ts ≡ take k ts ++ t ∷ []
 take_one [] k t e = cc
 take_one (x ∷ ts) zero t e = let same : x ≡ t = cc in ap (λ z. z ∷ []) same
 take_one (x ∷ ts) (suc k) t e =
@@ -124,10 +134,12 @@ take_whole (t ∷ ts) (suc k) h = ap (λ zs. t ∷ zs) (take_whole ts k (omega a
 -- ---- one more scalar
 
 module _ (K : Partial) (n : ℕ) (ts : List Term) (k : ℕ) (t : Term) (at : Some t ≡ slice_get ts k) where
-  pub goes_on : (o : Open) → AreOpen K n (take k ts) o → AreOpen K n (t ∷ []) Nothing → AreOpen K n (take (k + 1) ts) o
+  pub goes_on : (o : Open) → AreOpen K n (take k ts) o → AreOpen K n (t ∷ []) Nothing
+      → AreOpen K n (take (k + 1) ts) o
   goes_on o h g = subst (λ us. AreOpen K n us o) (sym (take_one ts k t at)) (and_closed K n (take k ts) (t ∷ []) o h g)
 
-  pub finds : (i : ℕ) → k < length ts → AreOpen K n (take k ts) Nothing → AreOpen K n (t ∷ []) (Target i) → AreOpen K n (take (k + 1) ts) (Target k)
+  pub finds : (i : ℕ) → k < length ts → AreOpen K n (take k ts) Nothing
+      → AreOpen K n (t ∷ []) (Target i) → AreOpen K n (take (k + 1) ts) (Target k)
   finds i within h g = subst (λ us. AreOpen K n us (Target k)) (sym (take_one ts k t at)) (then_target K n (take k ts) t k i (take_length ts k (omega arith)) h g)
 
   stops : AreOpen K n (take (k + 1) ts) More → AreOpen K n ts More
@@ -136,5 +148,6 @@ module _ (K : Partial) (n : ℕ) (ts : List Term) (k : ℕ) (t : Term) (at : Som
   pub stops_here : AreOpen K n (t ∷ []) More → AreOpen K n ts More
   stops_here h = stops (subst (λ us. AreOpen K n us More) (sym (take_one ts k t at)) (others_then K n (take k ts) (t ∷ []) h))
 
-  pub stops_twice : (i : ℕ) (o : Open) → (o ≡ Nothing → ⊥) → AreOpen K n (take k ts) o → AreOpen K n (t ∷ []) (Target i) → AreOpen K n ts More
+  pub stops_twice : (i : ℕ) (o : Open) → (o ≡ Nothing → ⊥) → AreOpen K n (take k ts) o
+      → AreOpen K n (t ∷ []) (Target i) → AreOpen K n ts More
   stops_twice i o some h g = stops (subst (λ us. AreOpen K n us More) (sym (take_one ts k t at)) (twice K n (take k ts) (t ∷ []) i o some h g))

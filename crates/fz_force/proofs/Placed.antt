@@ -38,11 +38,14 @@ module _ (c : ConstraintParts) where
 
   -- ---- no array stands in a list of a constraint that has the shapes
 
-  no_term : (k : Kind) (o : Option Array) → is_term_of k (option_map_or array_view o no_array) ≡ false
+  no_term : (k : Kind) (o : Option Array)
+      → is_term_of k (option_map_or array_view o no_array) ≡ false
   no_term k None = refl
   no_term k (Some a) = refl
 
-  flat_places : (k : Kind) (ss : List Slot) → list_all (is_term_of k) (map (place_view c.variables.now c.arrays.now c.store.now.constants.items) ss) ≡ true → list_all is_scalar ss ≡ true
+  flat_places : (k : Kind) (ss : List Slot) → list_all (is_term_of k)
+      (map (place_view c.variables.now c.arrays.now c.store.now.constants.items) ss) ≡ true
+      → list_all is_scalar ss ≡ true
   flat_places k [] h = refl
   flat_places k (slots.Variable n ∷ ss) h = flat_places k ss (and_second (is_term_of k (place_view c.variables.now c.arrays.now c.store.now.constants.items (slots.Variable n))) _ h)
   flat_places k (slots.Number i ∷ ss) h = flat_places k ss (and_second (is_term_of k (place_view c.variables.now c.arrays.now c.store.now.constants.items (slots.Number i))) _ h)
@@ -55,14 +58,16 @@ module _ (c : ConstraintParts) where
   flat_argument (ScalarOf k) (arguments.List g) h = no h
   flat_argument (ArrayOf k) (arguments.List g) h = flat_places k (segment c.store.now.slots.items g) h
 
-  pub flat_arguments : (ss : List Shape) (as' : List Argument) → have_shapes ss (map view as') ≡ true → AllByRecursion (IsFlat c) as'
+  pub flat_arguments : (ss : List Shape) (as' : List Argument)
+      → have_shapes ss (map view as') ≡ true → AllByRecursion (IsFlat c) as'
   flat_arguments ss [] h = tt
   flat_arguments [] (a ∷ as') h = no h
   flat_arguments (s ∷ ss) (a ∷ as') h = (flat_argument s a (and_first (has_shape s (view a)) _ h), flat_arguments ss as' (and_second (has_shape s (view a)) _ h))
 
   -- ---- what is found of it
 
-  pub ready : (K : Partial) (as' : List Argument) (r : Row) (n : ℕ) (s : Spot) → have_shapes r.shapes (map view as') ≡ true → IsOnlyAt K (terms_of c) as' n s
+  pub ready : (K : Partial) (as' : List Argument) (r : Row) (n : ℕ) (s : Spot)
+      → have_shapes r.shapes (map view as') ≡ true → IsOnlyAt K (terms_of c) as' n s
       → each_fits K r.shapes (map view as') ≡ true → IsReady K (map view as') r s
   ready K as' r n s shaped only kinds = record {
     shaped = shaped;
@@ -71,10 +76,12 @@ module _ (c : ConstraintParts) where
     kinds = kinds;
   }
 
-  pub not_only : (K : Partial) (as' : List Argument) (r : Row) (n : ℕ) → IsOnlyOpen K (terms_of c) as' n None → IsOnlyValue K (map view as') r n None
+  pub not_only : (K : Partial) (as' : List Argument) (r : Row) (n : ℕ)
+      → IsOnlyOpen K (terms_of c) as' n None → IsOnlyValue K (map view as') r n None
   not_only K as' r n none = λ within w f. none (ap (open_terms K) (of_arguments view as') ∙ f.only_open)
 
-pub has_value : (K : Partial) (xs : List meaning.Argument) (r : Row) (n : ℕ) → is_some (value_at K n) ≡ true → IsOnlyValue K xs r n None
+pub has_value : (K : Partial) (xs : List meaning.Argument) (r : Row) (n : ℕ)
+    → is_some (value_at K n) ≡ true → IsOnlyValue K xs r n None
 has_value K xs r n some = λ within w f. no (ap is_some (sym (only_open_none K n (flat_map terms_in xs) f.only_open)) ∙ some)
 
 -- ---- the point
@@ -82,10 +89,12 @@ has_value K xs r n some = λ within w f. no (ap is_some (sym (only_open_none K n
 no_some : {A : Type 0} (o : Option A) (x : A) → o ≡ None → o ≡ Some x → ⊥
 no_some o x e f = cc
 
-pub without_row : (m : Model) (K : Partial) (k : ℕ) (p : Posted) → row_of p ≡ None → IsForced m K (ConstraintPoint k p) None
+pub without_row : (m : Model) (K : Partial) (k : ℕ) (p : Posted) → row_of p ≡ None
+    → IsForced m K (ConstraintPoint k p) None
 without_row m K k p e = λ n v g. let (r, is, _) = some_of (λ r. IsResult K p.arguments n r.result) (row_of p) g.target.1 in no_some (row_of p) r e is
 
-pub without_target : (m : Model) (K : Partial) (k : ℕ) (p : Posted) → p.target ≡ None → IsForced m K (ConstraintPoint k p) None
+pub without_target : (m : Model) (K : Partial) (k : ℕ) (p : Posted) → p.target ≡ None
+    → IsForced m K (ConstraintPoint k p) None
 without_target m K k p e = λ n v g. no_some p.target n e g.target.0
 
 module _ (m : Model) (K : Partial) (fits : IsPartial m K) (k : ℕ) (p : Posted) (r : Row) (row : row_of p ≡ Some r) (n : ℕ) (target : p.target ≡ Some n) where
@@ -98,7 +107,8 @@ module _ (m : Model) (K : Partial) (fits : IsPartial m K) (k : ℕ) (p : Posted)
     holds = subst (λ o. IsSomeAnd o (λ q. IsSomeAnd (argument_values (give K n w) p.arguments) (λ vs. IsTrue (row_holds q vs)))) row g.then_holds;
   }
 
-  gives : (w : Value) → Fills K p.arguments r n w → kind_at m n ≡ Some (kind_of w) → Gives m K (ConstraintPoint k p) n w
+  gives : (w : Value) → Fills K p.arguments r n w → kind_at m n ≡ Some (kind_of w)
+      → Gives m K (ConstraintPoint k p) n w
   gives w f kind = record {
     target = (target, intro (λ q. IsResult K p.arguments n q.result) (row_of p) r row f.result);
     only_open = f.only_open;
@@ -109,7 +119,8 @@ module _ (m : Model) (K : Partial) (fits : IsPartial m K) (k : ℕ) (p : Posted)
   }
 
   -- the variable that is given a value is the target
-  at_target : (j : ℕ) (w : Value) → Gives m K (ConstraintPoint k p) j w → Gives m K (ConstraintPoint k p) n w
+  at_target : (j : ℕ) (w : Value) → Gives m K (ConstraintPoint k p) j w
+      → Gives m K (ConstraintPoint k p) n w
   at_target j w g = let some : Some j ≡ Some n = sym g.target.0 ∙ target in let same : j ≡ n = cc in subst (λ i. Gives m K (ConstraintPoint k p) i w) same g
 
   pub forces_nothing : IsOnlyValue K p.arguments r n None → IsForced m K (ConstraintPoint k p) None
@@ -117,7 +128,8 @@ module _ (m : Model) (K : Partial) (fits : IsPartial m K) (k : ℕ) (p : Posted)
       let here : Gives m K (ConstraintPoint k p) n w = at_target j w g in
       none (has_place m K n (kind_of w) fits here.of_kind) w (fills w here)
 
-  pub forces_value : PostedFits m p → (v : Value) → IsOnlyValue K p.arguments r n (Some v) → IsForced m K (ConstraintPoint k p) (Some (n, v))
+  pub forces_value : PostedFits m p → (v : Value) → IsOnlyValue K p.arguments r n (Some v)
+      → IsForced m K (ConstraintPoint k p) (Some (n, v))
   forces_value kinds v only =
       let filled : Fills K p.arguments r n v = only.1 (has_number m K fits p r row kinds n only.0) in
       gives v filled (filled_kind m K fits p r row kinds n v filled)

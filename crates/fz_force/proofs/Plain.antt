@@ -1,4 +1,5 @@
--- Lists of numbers: sums with one element changed, elements by their places, the greatest and the least.
+-- Lists of numbers: sums with one element changed, elements by their places, the greatest and the
+-- least.
 use Rattle.std.proofs.Common.{◌≡◌, ℕ, suc, zero, ℤ, pos, negsuc, ◌+ℤ◌, ◌*ℤ◌, ◌-ℤ◌, neg_ℤ, Bool, true, false, ◌&&◌, List, [], ◌∷◌, Option, Some, None, sym, ap, ◌∙◌, slice_get, slice_set, arith, IfSome, IfNone, FitsSigned, w64}
 use Rattle.std.proofs.lemmas.Int.{ints}
 use Rattle.std.proofs.Math.IntN.{*ℤ-zero, *ℤ_comm, *ℤ-one, *ℤ-negsuc}
@@ -18,7 +19,9 @@ sum_here : (p x y r : ℤ) → x ≡ pos 0 → y +ℤ r ≡ (x +ℤ r) +ℤ y
 sum_here p x y r e = omega (arith, ints)
 
 -- the sum of the products where an element that is 0 becomes n
-pub total_with : (a b : List ℤ) (i : ℕ) (u n : ℤ) → slice_get a i ≡ Some u → slice_get b i ≡ Some (pos 0) → total (products a (slice_set b i n)) ≡ total (products a b) +ℤ (u *ℤ n)
+pub total_with : (a b : List ℤ) (i : ℕ) (u n : ℤ) → slice_get a i ≡ Some u
+    → slice_get b i ≡ Some (pos 0)
+    → total (products a (slice_set b i n)) ≡ total (products a b) +ℤ (u *ℤ n)
 total_with [] b i u n d e = cc
 total_with (x ∷ a) [] i u n d e = cc
 total_with (x ∷ a) (y ∷ b) zero u n d e =
@@ -60,16 +63,19 @@ made_up_by_less_one s u n w e = ap (λ z. (s +ℤ z) =ℤ w) (ap (λ z. z *ℤ n
 abbrev Fits : Option ℤ → Type 0
 Fits o = IfSome o (λ n. FitsSigned w64 n)
 
-pub element_left : (n : ℤ) (b : List ℤ) (o : Option ℤ) → Fits o → o ≡ element_at b n → IsLeftNumber (λ c. is_element ◌=ℤ◌ n b c) o
+pub element_left : (n : ℤ) (b : List ℤ) (o : Option ℤ) → Fits o → o ≡ element_at b n
+    → IsLeftNumber (λ c. is_element ◌=ℤ◌ n b c) o
 element_left n b (Some x) fits e = (fits, ap (λ o. option_map_or (λ z. z =ℤ x) o false) (sym e) ∙ int_itself x)
 element_left n b None fits e = λ c _ passes. no (ap (λ o. option_map_or (λ z. z =ℤ c) o false) e ∙ passes)
 
-pub element_of : {A : Type 0} (same : A → A → Bool) (itself : (x : A) → same x x ≡ true) (n : ℤ) (b : List A) (o : Option A) → o ≡ element_at b n → IsLeftPlain (λ c. is_element same n b c) o
+pub element_of : {A : Type 0} (same : A → A → Bool) (itself : (x : A) → same x x ≡ true) (n : ℤ)
+    (b : List A) (o : Option A) → o ≡ element_at b n → IsLeftPlain (λ c. is_element same n b c) o
 element_of same itself n b (Some x) e = ap (λ o. option_map_or (λ z. same z x) o false) (sym e) ∙ itself x
 element_of same itself n b None e = λ c passes. no (ap (λ o. option_map_or (λ z. same z c) o false) e ∙ passes)
 
 -- the best of a list, which has none where it is empty
-pub best_left : (below : ℤ → ℤ → Bool) (b : List ℤ) (o : Option ℤ) → Fits o → IfSome o (λ m. (is_among m b && list_all (λ x. below x m) b) ≡ true) → IfNone o (b ≡ [])
+pub best_left : (below : ℤ → ℤ → Bool) (b : List ℤ) (o : Option ℤ) → Fits o
+    → IfSome o (λ m. (is_among m b && list_all (λ x. below x m) b) ≡ true) → IfNone o (b ≡ [])
     → IsLeftNumber (λ a. is_among a b && list_all (λ x. below x a) b) o
 best_left below b (Some m) fits best none = (fits, best)
 best_left below b None fits best none = λ n _ passes. no (ap (λ l. is_among n l && list_all (λ x. below x n) l) (sym none) ∙ passes)

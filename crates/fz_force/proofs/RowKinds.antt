@@ -1,4 +1,5 @@
--- Which rows leave a number, a truth value or a set: those of which a scalar of that kind stands at a result place.
+-- Which rows leave a number, a Boolean or a set: those of which a scalar of that kind stands at a
+-- result place.
 use Rattle.std.proofs.Common.{◌≡◌, ℕ, suc, zero, Bool, true, false, not, ◌||◌, List, [], ◌∷◌, slice_get, bytes_eq, Contains, refl, sym, ap, ◌∙◌, ◌⊎◌, inl, inr, arith}
 use Rattle.std.specs.List.{list_all, list_any}
 use Rattle.std.specs.Option.{option_map_or}
@@ -53,7 +54,8 @@ from_name b (c ∷ cs) e =
       | false ↦ λ _ e. inr (from_name b cs e)
     ] refl e
 
-any_listed : (q : ℕ → Bool) (is : List ℕ) (i : ℕ) → Contains is i → q i ≡ true → list_any q is ≡ true
+any_listed : (q : ℕ → Bool) (is : List ℕ) (i : ℕ) → Contains is i → q i ≡ true
+    → list_any q is ≡ true
 any_listed q [] i (k, below, e) h = absurd (omega arith)
 any_listed q (j ∷ js) i (zero, below, e) h = ap (λ b. b || list_any q js) (ap q e ∙ h)
 any_listed q (j ∷ js) i (suc k, below, e) h = elim (q j) as (λ b. (b || list_any q js) ≡ true) [ true ↦ refl | false ↦ any_listed q js i (k, omega arith, e) h ]
@@ -69,7 +71,8 @@ at_places NoResult i place = absurd place
 at_places (Places is) i place = place
 at_places UnitTerm i place = absurd place
 
-filled : (k : Kind) (r : Row) (i : ℕ) → IsPlaceOf r.result i → IsOfKind r.shapes i k → fills k r ≡ true
+filled : (k : Kind) (r : Row) (i : ℕ) → IsPlaceOf r.result i → IsOfKind r.shapes i k
+    → fills k r ≡ true
 unfolding fills is_scalar_of
 filled k r i place kind = any_listed _ (places r.result) i (at_places r.result i place) (ap (λ o. option_map_or (is_scalar_of k) o false) kind ∙ is_itself k)
 
@@ -79,7 +82,8 @@ one_way false b h e = no e
 
 -- all rows that fill a scalar of the kind are these
 module _ (k : Kind) (cs : List Builtin) (all : list_all (λ b. not (fills k (row_at b)) || is_one_of b cs) builtins ≡ true) where
-  leaves : (b : Builtin) (i : ℕ) → IsPlaceOf (row_at b).result i → IsOfKind (row_at b).shapes i k → IsOneOf b cs
+  leaves : (b : Builtin) (i : ℕ) → IsPlaceOf (row_at b).result i → IsOfKind (row_at b).shapes i k
+      → IsOneOf b cs
   leaves b i place kind =
       from_name b cs (one_way (fills k (row_at b)) (is_one_of b cs) (each_builtin (λ b. not (fills k (row_at b)) || is_one_of b cs) all b) (filled k (row_at b) i place kind))
 
@@ -88,31 +92,37 @@ module _ (k : Kind) (cs : List Builtin) (all : list_all (λ b. not (fills k (row
 abbrev pub number_rows : List Builtin
 number_rows = builtin.Count ∷ builtin.GecodeCount ∷ builtin.FznCountEq ∷ builtin.FznAmong ∷ builtin.FznNvalue ∷ builtin.GecodeMaximumArgIntOffset ∷ builtin.GecodeMinimumArgIntOffset ∷ builtin.IntEq ∷ builtin.IntPlus ∷ builtin.IntTimes ∷ builtin.IntMin ∷ builtin.IntMax ∷ builtin.IntAbs ∷ builtin.IntDiv ∷ builtin.IntMod ∷ builtin.ArrayIntElement ∷ builtin.ArrayVarIntElement ∷ builtin.ArrayIntMaximum ∷ builtin.ArrayIntMinimum ∷ builtin.Bool2Int ∷ builtin.BoolLinEq ∷ builtin.SetCard ∷ []
 
-all_number_rows : list_all (λ b. not (fills IntKind (row_at b)) || is_one_of b number_rows) builtins ≡ true
+all_number_rows : list_all (λ b. not (fills IntKind (row_at b)) || is_one_of b number_rows) builtins
+    ≡ true
 unfolding row_at builtins fills is_scalar_of places is_one_of
 all_number_rows = refl
 
-pub leaves_number : (b : Builtin) (i : ℕ) → IsPlaceOf (row_at b).result i → IsOfKind (row_at b).shapes i IntKind → IsOneOf b number_rows
+pub leaves_number : (b : Builtin) (i : ℕ) → IsPlaceOf (row_at b).result i
+    → IsOfKind (row_at b).shapes i IntKind → IsOneOf b number_rows
 leaves_number = leaves IntKind number_rows all_number_rows
 
 abbrev pub truth_rows : List Builtin
 truth_rows = builtin.BoolEq ∷ builtin.BoolNot ∷ builtin.BoolAnd ∷ builtin.BoolOr ∷ builtin.BoolXor ∷ builtin.ArrayBoolAnd ∷ builtin.ArrayBoolOr ∷ builtin.ArrayBoolElement ∷ builtin.ArrayVarBoolElement ∷ builtin.Bool2Int ∷ []
 
-all_truth_rows : list_all (λ b. not (fills BoolKind (row_at b)) || is_one_of b truth_rows) builtins ≡ true
+all_truth_rows : list_all (λ b. not (fills BoolKind (row_at b)) || is_one_of b truth_rows) builtins
+    ≡ true
 unfolding row_at builtins fills is_scalar_of places is_one_of
 all_truth_rows = refl
 
-pub leaves_truth : (b : Builtin) (i : ℕ) → IsPlaceOf (row_at b).result i → IsOfKind (row_at b).shapes i BoolKind → IsOneOf b truth_rows
+pub leaves_truth : (b : Builtin) (i : ℕ) → IsPlaceOf (row_at b).result i
+    → IsOfKind (row_at b).shapes i BoolKind → IsOneOf b truth_rows
 leaves_truth = leaves BoolKind truth_rows all_truth_rows
 
 abbrev pub set_rows : List Builtin
 set_rows = builtin.SetEq ∷ builtin.SetUnion ∷ builtin.SetIntersect ∷ builtin.SetDiff ∷ builtin.SetSymdiff ∷ builtin.ArraySetElement ∷ builtin.ArrayVarSetElement ∷ []
 
-all_set_rows : list_all (λ b. not (fills SetKind (row_at b)) || is_one_of b set_rows) builtins ≡ true
+all_set_rows : list_all (λ b. not (fills SetKind (row_at b)) || is_one_of b set_rows) builtins
+    ≡ true
 unfolding row_at builtins fills is_scalar_of places is_one_of
 all_set_rows = refl
 
-pub leaves_set : (b : Builtin) (i : ℕ) → IsPlaceOf (row_at b).result i → IsOfKind (row_at b).shapes i SetKind → IsOneOf b set_rows
+pub leaves_set : (b : Builtin) (i : ℕ) → IsPlaceOf (row_at b).result i
+    → IsOfKind (row_at b).shapes i SetKind → IsOneOf b set_rows
 leaves_set = leaves SetKind set_rows all_set_rows
 
 -- no row that adds up in 128 bits has a result place
@@ -120,7 +130,8 @@ is_nil : List (ℕ × ℕ) → Bool
 is_nil [] = true
 is_nil (p ∷ ps) = false
 
-adds_or_fills : list_all (λ b. is_nil (row_at b).sums || list_all (λ i. false) (places (row_at b).result)) builtins ≡ true
+adds_or_fills : list_all (λ b. is_nil (row_at b).sums
+    || list_all (λ i. false) (places (row_at b).result)) builtins ≡ true
 unfolding row_at builtins places is_nil
 adds_or_fills = refl
 

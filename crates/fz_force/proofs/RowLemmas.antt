@@ -1,4 +1,5 @@
--- What is left of plain values is what is left of each row: one lemma for each builtin with a result place.
+-- What is left of plain values is what is left of each row: one lemma for each builtin with a
+-- result place.
 use mathlib.Core.Bool.{beq}
 use Rattle.std.proofs.Common.{◌≡◌, ℕ, suc, zero, ℤ, pos, ◌+ℤ◌, ◌*ℤ◌, Bool, true, false, not, ◌&&◌, ◌||◌, List, [], ◌∷◌, map, Option, Some, Result, Ok, Err, IfOk, refl, sym, ap, subst, subst₂, ◌∙◌, option_map, slice_get, slice_set, int_le, int_div, int_rem, unsigned_abs, Contains, arith, FitsSigned, w64, to_z, of_z, ◌≤◌, ◌-◌, ◌⊎◌, inl, inr}
 use Rattle.std.proofs.lemmas.Int.{to_z-of_z}
@@ -49,7 +50,8 @@ not_itself' false = refl
 module _ (K : Partial) (xs : List Argument) (i : ℕ) where
   -- ---- numbers
 
-  pub int_eq_row : (n : ℤ) → IsPlaceOf (row_at IntEq).result i → FitsSigned w64 n → n ≡ int_at K xs (1 - i) → IsLeft IntKind (holds_with (row_at IntEq) K xs i) (Some (Int n))
+  pub int_eq_row : (n : ℤ) → IsPlaceOf (row_at IntEq).result i → FitsSigned w64 n
+      → n ≡ int_at K xs (1 - i) → IsLeft IntKind (holds_with (row_at IntEq) K xs i) (Some (Int n))
   unfolding row_at
   int_eq_row n place fits e =
       elim (either_place 0 1 i place) [
@@ -57,55 +59,76 @@ module _ (K : Partial) (xs : List Argument) (i : ℕ) where
         | inr here ↦ let is : n ≡ int_at K xs 0 = e ∙ ap (λ j. int_at K xs (1 - j)) here in rw here (refl, fits, rw (← is) (int_itself n))
       ]
 
-  pub int_plus_row : (a b : ℤ) (o : Option ℤ) → IsPlaceOf (row_at IntPlus).result i → a ≡ int_at K xs 0 → b ≡ int_at K xs 1 → IsLeftNumber (λ c. c =ℤ (a +ℤ b)) o → IsLeft IntKind (holds_with (row_at IntPlus) K xs i) (option_map Int o)
+  pub int_plus_row : (a b : ℤ) (o : Option ℤ) → IsPlaceOf (row_at IntPlus).result i
+      → a ≡ int_at K xs 0 → b ≡ int_at K xs 1 → IsLeftNumber (λ c. c =ℤ (a +ℤ b)) o
+      → IsLeft IntKind (holds_with (row_at IntPlus) K xs i) (option_map Int o)
   unfolding row_at
   int_plus_row a b o place d e h =
       let here : i ≡ 2 = only_place 2 i place in
       rw here (number_left _ o (subst₂ (λ x y. IsLeftNumber (λ c. c =ℤ (x +ℤ y)) o) d e h))
 
-  pub int_times_row : (a b : ℤ) (o : Option ℤ) → IsPlaceOf (row_at IntTimes).result i → a ≡ int_at K xs 0 → b ≡ int_at K xs 1 → IsLeftNumber (λ c. c =ℤ (a *ℤ b)) o → IsLeft IntKind (holds_with (row_at IntTimes) K xs i) (option_map Int o)
+  pub int_times_row : (a b : ℤ) (o : Option ℤ) → IsPlaceOf (row_at IntTimes).result i
+      → a ≡ int_at K xs 0 → b ≡ int_at K xs 1 → IsLeftNumber (λ c. c =ℤ (a *ℤ b)) o
+      → IsLeft IntKind (holds_with (row_at IntTimes) K xs i) (option_map Int o)
   unfolding row_at
   int_times_row a b o place d e h =
       let here : i ≡ 2 = only_place 2 i place in
       rw here (number_left _ o (subst₂ (λ x y. IsLeftNumber (λ c. c =ℤ (x *ℤ y)) o) d e h))
 
-  pub int_min_row : (a b : ℤ) (o : Option ℤ) → IsPlaceOf (row_at IntMin).result i → a ≡ int_at K xs 0 → b ≡ int_at K xs 1 → IsLeftNumber (λ c. c =ℤ int_min a b) o → IsLeft IntKind (holds_with (row_at IntMin) K xs i) (option_map Int o)
+  pub int_min_row : (a b : ℤ) (o : Option ℤ) → IsPlaceOf (row_at IntMin).result i
+      → a ≡ int_at K xs 0 → b ≡ int_at K xs 1 → IsLeftNumber (λ c. c =ℤ int_min a b) o
+      → IsLeft IntKind (holds_with (row_at IntMin) K xs i) (option_map Int o)
   unfolding row_at
   int_min_row a b o place d e h =
       let here : i ≡ 2 = only_place 2 i place in
       rw here (number_left _ o (subst₂ (λ x y. IsLeftNumber (λ c. c =ℤ int_min x y) o) d e h))
 
-  pub int_max_row : (a b : ℤ) (o : Option ℤ) → IsPlaceOf (row_at IntMax).result i → a ≡ int_at K xs 0 → b ≡ int_at K xs 1 → IsLeftNumber (λ c. c =ℤ int_max a b) o → IsLeft IntKind (holds_with (row_at IntMax) K xs i) (option_map Int o)
+  pub int_max_row : (a b : ℤ) (o : Option ℤ) → IsPlaceOf (row_at IntMax).result i
+      → a ≡ int_at K xs 0 → b ≡ int_at K xs 1 → IsLeftNumber (λ c. c =ℤ int_max a b) o
+      → IsLeft IntKind (holds_with (row_at IntMax) K xs i) (option_map Int o)
   unfolding row_at
   int_max_row a b o place d e h =
       let here : i ≡ 2 = only_place 2 i place in
       rw here (number_left _ o (subst₂ (λ x y. IsLeftNumber (λ c. c =ℤ int_max x y) o) d e h))
 
-  pub int_div_row : (a b : ℤ) (o : Option ℤ) → IsPlaceOf (row_at IntDiv).result i → a ≡ int_at K xs 0 → b ≡ int_at K xs 1 → IsLeftNumber (λ c. not (b =ℤ pos 0) && (c =ℤ int_div a b)) o → IsLeft IntKind (holds_with (row_at IntDiv) K xs i) (option_map Int o)
+  pub int_div_row : (a b : ℤ) (o : Option ℤ) → IsPlaceOf (row_at IntDiv).result i
+      → a ≡ int_at K xs 0 → b ≡ int_at K xs 1 → IsLeftNumber
+      (λ c. not (b =ℤ pos 0) && (c =ℤ int_div a b)) o
+      → IsLeft IntKind (holds_with (row_at IntDiv) K xs i) (option_map Int o)
   unfolding row_at
   int_div_row a b o place d e h =
       let here : i ≡ 2 = only_place 2 i place in
       rw here (number_left _ o (subst₂ (λ x y. IsLeftNumber (λ c. not (y =ℤ pos 0) && (c =ℤ int_div x y)) o) d e h))
 
-  pub int_mod_row : (a b : ℤ) (o : Option ℤ) → IsPlaceOf (row_at IntMod).result i → a ≡ int_at K xs 0 → b ≡ int_at K xs 1 → IsLeftNumber (λ c. not (b =ℤ pos 0) && (c =ℤ int_rem a b)) o → IsLeft IntKind (holds_with (row_at IntMod) K xs i) (option_map Int o)
+  pub int_mod_row : (a b : ℤ) (o : Option ℤ) → IsPlaceOf (row_at IntMod).result i
+      → a ≡ int_at K xs 0 → b ≡ int_at K xs 1 → IsLeftNumber
+      (λ c. not (b =ℤ pos 0) && (c =ℤ int_rem a b)) o
+      → IsLeft IntKind (holds_with (row_at IntMod) K xs i) (option_map Int o)
   unfolding row_at
   int_mod_row a b o place d e h =
       let here : i ≡ 2 = only_place 2 i place in
       rw here (number_left _ o (subst₂ (λ x y. IsLeftNumber (λ c. not (y =ℤ pos 0) && (c =ℤ int_rem x y)) o) d e h))
 
-  pub int_abs_row : (a : ℤ) (o : Option ℤ) → IsPlaceOf (row_at IntAbs).result i → a ≡ int_at K xs 0 → IsLeftNumber (λ b. b =ℤ pos (unsigned_abs a)) o → IsLeft IntKind (holds_with (row_at IntAbs) K xs i) (option_map Int o)
+  pub int_abs_row : (a : ℤ) (o : Option ℤ) → IsPlaceOf (row_at IntAbs).result i → a ≡ int_at K xs 0
+      → IsLeftNumber (λ b. b =ℤ pos (unsigned_abs a)) o
+      → IsLeft IntKind (holds_with (row_at IntAbs) K xs i) (option_map Int o)
   unfolding row_at
   int_abs_row a o place d h =
       let here : i ≡ 1 = only_place 1 i place in
       rw here (number_left _ o (subst (λ x. IsLeftNumber (λ b. b =ℤ pos (unsigned_abs x)) o) d h))
 
-  pub set_card_row : (a : NumberSet) (o : Option ℤ) → IsPlaceOf (row_at SetCard).result i → a ≡ set_at K xs 0 → IsLeftNumber (λ b. b =ℤ pos (sets.len a)) o → IsLeft IntKind (holds_with (row_at SetCard) K xs i) (option_map Int o)
+  pub set_card_row : (a : NumberSet) (o : Option ℤ) → IsPlaceOf (row_at SetCard).result i
+      → a ≡ set_at K xs 0 → IsLeftNumber (λ b. b =ℤ pos (sets.len a)) o
+      → IsLeft IntKind (holds_with (row_at SetCard) K xs i) (option_map Int o)
   unfolding row_at
   set_card_row a o place d h =
       let here : i ≡ 1 = only_place 1 i place in
       rw here (number_left _ o (subst (λ x. IsLeftNumber (λ b. b =ℤ pos (sets.len x)) o) d h))
 
-  pub array_int_maximum_row : (b : List ℤ) (o : Option ℤ) → IsPlaceOf (row_at ArrayIntMaximum).result i → b ≡ ints_at K xs 1 → IsLeftNumber (λ a. is_among a b && list_all (λ x. int_le x a) b) o → IsLeft IntKind (holds_with (row_at ArrayIntMaximum) K xs i) (option_map Int o)
+  pub array_int_maximum_row : (b : List ℤ) (o : Option ℤ)
+      → IsPlaceOf (row_at ArrayIntMaximum).result i → b ≡ ints_at K xs 1
+      → IsLeftNumber (λ a. is_among a b && list_all (λ x. int_le x a) b) o
+      → IsLeft IntKind (holds_with (row_at ArrayIntMaximum) K xs i) (option_map Int o)
   unfolding row_at
   array_int_maximum_row b o place d h =
       let here : i ≡ 0 = only_place 0 i place in
@@ -113,7 +136,10 @@ module _ (K : Partial) (xs : List Argument) (i : ℕ) where
       let left : IsLeftNumber (λ a. is_among a ns && list_all (λ x. int_le x a) ns) o = subst (λ b. IsLeftNumber (λ a. is_among a b && list_all (λ x. int_le x a) b) o) d h in
       rw here (number_left _ o (rw (plain_ints ns) left))
 
-  pub array_int_minimum_row : (b : List ℤ) (o : Option ℤ) → IsPlaceOf (row_at ArrayIntMinimum).result i → b ≡ ints_at K xs 1 → IsLeftNumber (λ a. is_among a b && list_all (λ x. int_le a x) b) o → IsLeft IntKind (holds_with (row_at ArrayIntMinimum) K xs i) (option_map Int o)
+  pub array_int_minimum_row : (b : List ℤ) (o : Option ℤ)
+      → IsPlaceOf (row_at ArrayIntMinimum).result i → b ≡ ints_at K xs 1
+      → IsLeftNumber (λ a. is_among a b && list_all (λ x. int_le a x) b) o
+      → IsLeft IntKind (holds_with (row_at ArrayIntMinimum) K xs i) (option_map Int o)
   unfolding row_at
   array_int_minimum_row b o place d h =
       let here : i ≡ 0 = only_place 0 i place in
@@ -121,42 +147,57 @@ module _ (K : Partial) (xs : List Argument) (i : ℕ) where
       let left : IsLeftNumber (λ a. is_among a ns && list_all (λ x. int_le a x) ns) o = subst (λ b. IsLeftNumber (λ a. is_among a b && list_all (λ x. int_le a x) b) o) d h in
       rw here (number_left _ o (rw (plain_ints ns) left))
 
-  pub array_int_element_row : (a : ℤ) (b : List ℤ) (o : Option ℤ) → IsPlaceOf (row_at ArrayIntElement).result i → a ≡ int_at K xs 0 → b ≡ ints_at K xs 1 → IsLeftNumber (λ c. is_element ◌=ℤ◌ a b c) o → IsLeft IntKind (holds_with (row_at ArrayIntElement) K xs i) (option_map Int o)
+  pub array_int_element_row : (a : ℤ) (b : List ℤ) (o : Option ℤ)
+      → IsPlaceOf (row_at ArrayIntElement).result i → a ≡ int_at K xs 0 → b ≡ ints_at K xs 1
+      → IsLeftNumber (λ c. is_element ◌=ℤ◌ a b c) o
+      → IsLeft IntKind (holds_with (row_at ArrayIntElement) K xs i) (option_map Int o)
   unfolding row_at
   array_int_element_row a b o place d e h =
       let here : i ≡ 2 = only_place 2 i place in
       let left : IsLeftNumber (λ c. is_element ◌=ℤ◌ (int_at K xs 0) (ints_at K xs 1) c) o = subst₂ (λ a b. IsLeftNumber (λ c. is_element ◌=ℤ◌ a b c) o) d e h in
       rw here (number_left _ o (rw (plain_ints (ints_at K xs 1)) left))
 
-  pub array_var_int_element_row : (a : ℤ) (b : List ℤ) (o : Option ℤ) → IsPlaceOf (row_at ArrayVarIntElement).result i → a ≡ int_at K xs 0 → b ≡ ints_at K xs 1 → IsLeftNumber (λ c. is_element ◌=ℤ◌ a b c) o → IsLeft IntKind (holds_with (row_at ArrayVarIntElement) K xs i) (option_map Int o)
+  pub array_var_int_element_row : (a : ℤ) (b : List ℤ) (o : Option ℤ)
+      → IsPlaceOf (row_at ArrayVarIntElement).result i → a ≡ int_at K xs 0 → b ≡ ints_at K xs 1
+      → IsLeftNumber (λ c. is_element ◌=ℤ◌ a b c) o
+      → IsLeft IntKind (holds_with (row_at ArrayVarIntElement) K xs i) (option_map Int o)
   unfolding row_at
   array_var_int_element_row a b o place d e h =
       let here : i ≡ 2 = only_place 2 i place in
       let left : IsLeftNumber (λ c. is_element ◌=ℤ◌ (int_at K xs 0) (ints_at K xs 1) c) o = subst₂ (λ a b. IsLeftNumber (λ c. is_element ◌=ℤ◌ a b c) o) d e h in
       rw here (number_left _ o (rw (plain_ints (ints_at K xs 1)) left))
 
-  pub bool_lin_eq_row : (n : ℤ) (o : Option ℤ) → IsPlaceOf (row_at BoolLinEq).result i → n ≡ total (where_true (ints_at K xs 0) (bools_at K xs 1)) → IsLeftNumber (λ c. c =ℤ n) o → IsLeft IntKind (holds_with (row_at BoolLinEq) K xs i) (option_map Int o)
+  pub bool_lin_eq_row : (n : ℤ) (o : Option ℤ) → IsPlaceOf (row_at BoolLinEq).result i
+      → n ≡ total (where_true (ints_at K xs 0) (bools_at K xs 1)) → IsLeftNumber (λ c. c =ℤ n) o
+      → IsLeft IntKind (holds_with (row_at BoolLinEq) K xs i) (option_map Int o)
   unfolding row_at
   bool_lin_eq_row n o place d h =
       let here : i ≡ 2 = only_place 2 i place in
       let left : IsLeftNumber (λ c. c =ℤ total (where_true (ints_at K xs 0) (bools_at K xs 1))) o = subst (λ n. IsLeftNumber (λ c. c =ℤ n) o) d h in
       rw here (number_left _ o (rw (plain_ints (ints_at K xs 0), plain_bools (bools_at K xs 1)) (same_numbers _ _ o (λ c. other_way (total (where_true (ints_at K xs 0) (bools_at K xs 1))) c) left)))
 
-  pub bool2int_number_row : (b : Bool) (o : Option ℤ) → IsPlaceOf (row_at Bool2Int).result i → IsOfKind (row_at Bool2Int).shapes i IntKind → b ≡ bool_at K xs 0 → IsLeftNumber (λ n. n =ℤ as_number b) o → IsLeft IntKind (holds_with (row_at Bool2Int) K xs i) (option_map Int o)
+  pub bool2int_number_row : (b : Bool) (o : Option ℤ) → IsPlaceOf (row_at Bool2Int).result i
+      → IsOfKind (row_at Bool2Int).shapes i IntKind → b ≡ bool_at K xs 0
+      → IsLeftNumber (λ n. n =ℤ as_number b) o
+      → IsLeft IntKind (holds_with (row_at Bool2Int) K xs i) (option_map Int o)
   unfolding row_at
   bool2int_number_row b o place kind d h =
       let here : i ≡ 1 = elim (either_place 0 1 i place) [ inl first ↦ let is = rw first at kind in cc | inr second ↦ second ] in
       rw here (number_left _ o (subst (λ b. IsLeftNumber (λ n. n =ℤ as_number b) o) d h))
 
-  -- ---- truth values
+  -- ---- Booleans
 
-  pub bool2int_truth_row : (n : ℤ) (o : Option Bool) → IsPlaceOf (row_at Bool2Int).result i → IsOfKind (row_at Bool2Int).shapes i BoolKind → n ≡ int_at K xs 1 → IsLeftPlain (λ b. n =ℤ as_number b) o → IsLeft BoolKind (holds_with (row_at Bool2Int) K xs i) (option_map Truth o)
+  pub bool2int_truth_row : (n : ℤ) (o : Option Bool) → IsPlaceOf (row_at Bool2Int).result i
+      → IsOfKind (row_at Bool2Int).shapes i BoolKind → n ≡ int_at K xs 1
+      → IsLeftPlain (λ b. n =ℤ as_number b) o
+      → IsLeft BoolKind (holds_with (row_at Bool2Int) K xs i) (option_map Truth o)
   unfolding row_at
   bool2int_truth_row n o place kind d h =
       let here : i ≡ 0 = elim (either_place 0 1 i place) [ inl first ↦ first | inr second ↦ let is = rw second at kind in cc ] in
       rw here (truth_left _ o (subst (λ n. IsLeftPlain (λ b. n =ℤ as_number b) o) d h))
 
-  pub bool_eq_row : (b : Bool) → IsPlaceOf (row_at BoolEq).result i → b ≡ bool_at K xs (1 - i) → IsLeft BoolKind (holds_with (row_at BoolEq) K xs i) (Some (Truth b))
+  pub bool_eq_row : (b : Bool) → IsPlaceOf (row_at BoolEq).result i → b ≡ bool_at K xs (1 - i)
+      → IsLeft BoolKind (holds_with (row_at BoolEq) K xs i) (Some (Truth b))
   unfolding row_at
   bool_eq_row b place e =
       elim (either_place 0 1 i place) [
@@ -164,7 +205,8 @@ module _ (K : Partial) (xs : List Argument) (i : ℕ) where
         | inr here ↦ let is : b ≡ bool_at K xs 0 = e ∙ ap (λ j. bool_at K xs (1 - j)) here in rw here (refl, tt, rw (← is) (bool_itself b))
       ]
 
-  pub bool_not_row : (b : Bool) → IsPlaceOf (row_at BoolNot).result i → b ≡ bool_at K xs (1 - i) → IsLeft BoolKind (holds_with (row_at BoolNot) K xs i) (Some (Truth (not b)))
+  pub bool_not_row : (b : Bool) → IsPlaceOf (row_at BoolNot).result i → b ≡ bool_at K xs (1 - i)
+      → IsLeft BoolKind (holds_with (row_at BoolNot) K xs i) (Some (Truth (not b)))
   unfolding row_at
   bool_not_row b place e =
       elim (either_place 0 1 i place) [
@@ -172,44 +214,60 @@ module _ (K : Partial) (xs : List Argument) (i : ℕ) where
         | inr here ↦ let is : b ≡ bool_at K xs 0 = e ∙ ap (λ j. bool_at K xs (1 - j)) here in rw here (refl, tt, rw (← is) (not_itself' b))
       ]
 
-  pub bool_and_row : (t : Bool) → IsPlaceOf (row_at BoolAnd).result i → t ≡ (bool_at K xs 0 && bool_at K xs 1) → IsLeft BoolKind (holds_with (row_at BoolAnd) K xs i) (Some (Truth t))
+  pub bool_and_row : (t : Bool) → IsPlaceOf (row_at BoolAnd).result i
+      → t ≡ (bool_at K xs 0 && bool_at K xs 1)
+      → IsLeft BoolKind (holds_with (row_at BoolAnd) K xs i) (Some (Truth t))
   unfolding row_at
   bool_and_row t place e =
       let here : i ≡ 2 = only_place 2 i place in
       rw here (refl, tt, rw (← e) (bool_itself t))
 
-  pub bool_or_row : (t : Bool) → IsPlaceOf (row_at BoolOr).result i → t ≡ (bool_at K xs 0 || bool_at K xs 1) → IsLeft BoolKind (holds_with (row_at BoolOr) K xs i) (Some (Truth t))
+  pub bool_or_row : (t : Bool) → IsPlaceOf (row_at BoolOr).result i
+      → t ≡ (bool_at K xs 0 || bool_at K xs 1)
+      → IsLeft BoolKind (holds_with (row_at BoolOr) K xs i) (Some (Truth t))
   unfolding row_at
   bool_or_row t place e =
       let here : i ≡ 2 = only_place 2 i place in
       rw here (refl, tt, rw (← e) (bool_itself t))
 
-  pub bool_xor_row : (t : Bool) → IsPlaceOf (row_at BoolXor).result i → t ≡ (not (bool_at K xs 0 =ᴮ bool_at K xs 1)) → IsLeft BoolKind (holds_with (row_at BoolXor) K xs i) (Some (Truth t))
+  pub bool_xor_row : (t : Bool) → IsPlaceOf (row_at BoolXor).result i
+      → t ≡ (not (bool_at K xs 0 =ᴮ bool_at K xs 1))
+      → IsLeft BoolKind (holds_with (row_at BoolXor) K xs i) (Some (Truth t))
   unfolding row_at
   bool_xor_row t place e =
       let here : i ≡ 2 = only_place 2 i place in
       rw here (refl, tt, rw (← e) (bool_itself t))
 
-  pub array_bool_and_row : (t : Bool) → IsPlaceOf (row_at ArrayBoolAnd).result i → t ≡ list_all (λ x. x) (bools_at K xs 0) → IsLeft BoolKind (holds_with (row_at ArrayBoolAnd) K xs i) (Some (Truth t))
+  pub array_bool_and_row : (t : Bool) → IsPlaceOf (row_at ArrayBoolAnd).result i
+      → t ≡ list_all (λ x. x) (bools_at K xs 0)
+      → IsLeft BoolKind (holds_with (row_at ArrayBoolAnd) K xs i) (Some (Truth t))
   unfolding row_at
   array_bool_and_row t place e =
       let here : i ≡ 1 = only_place 1 i place in
       rw here (refl, tt, rw (plain_bools (bools_at K xs 0), ← e) (bool_itself t))
 
-  pub array_bool_or_row : (t : Bool) → IsPlaceOf (row_at ArrayBoolOr).result i → t ≡ list_any (λ x. x) (bools_at K xs 0) → IsLeft BoolKind (holds_with (row_at ArrayBoolOr) K xs i) (Some (Truth t))
+  pub array_bool_or_row : (t : Bool) → IsPlaceOf (row_at ArrayBoolOr).result i
+      → t ≡ list_any (λ x. x) (bools_at K xs 0)
+      → IsLeft BoolKind (holds_with (row_at ArrayBoolOr) K xs i) (Some (Truth t))
   unfolding row_at
   array_bool_or_row t place e =
       let here : i ≡ 1 = only_place 1 i place in
       rw here (refl, tt, rw (plain_bools (bools_at K xs 0), ← e) (bool_itself t))
 
-  pub array_bool_element_row : (a : ℤ) (b : List Bool) (o : Option Bool) → IsPlaceOf (row_at ArrayBoolElement).result i → a ≡ int_at K xs 0 → b ≡ bools_at K xs 1 → IsLeftPlain (λ c. is_element ◌=ᴮ◌ a b c) o → IsLeft BoolKind (holds_with (row_at ArrayBoolElement) K xs i) (option_map Truth o)
+  pub array_bool_element_row : (a : ℤ) (b : List Bool) (o : Option Bool)
+      → IsPlaceOf (row_at ArrayBoolElement).result i → a ≡ int_at K xs 0 → b ≡ bools_at K xs 1
+      → IsLeftPlain (λ c. is_element ◌=ᴮ◌ a b c) o
+      → IsLeft BoolKind (holds_with (row_at ArrayBoolElement) K xs i) (option_map Truth o)
   unfolding row_at
   array_bool_element_row a b o place d e h =
       let here : i ≡ 2 = only_place 2 i place in
       let left : IsLeftPlain (λ c. is_element ◌=ᴮ◌ (int_at K xs 0) (bools_at K xs 1) c) o = subst₂ (λ a b. IsLeftPlain (λ c. is_element ◌=ᴮ◌ a b c) o) d e h in
       rw here (truth_left _ o (rw (plain_bools (bools_at K xs 1)) left))
 
-  pub array_var_bool_element_row : (a : ℤ) (b : List Bool) (o : Option Bool) → IsPlaceOf (row_at ArrayVarBoolElement).result i → a ≡ int_at K xs 0 → b ≡ bools_at K xs 1 → IsLeftPlain (λ c. is_element ◌=ᴮ◌ a b c) o → IsLeft BoolKind (holds_with (row_at ArrayVarBoolElement) K xs i) (option_map Truth o)
+  pub array_var_bool_element_row : (a : ℤ) (b : List Bool) (o : Option Bool)
+      → IsPlaceOf (row_at ArrayVarBoolElement).result i → a ≡ int_at K xs 0 → b ≡ bools_at K xs 1
+      → IsLeftPlain (λ c. is_element ◌=ᴮ◌ a b c) o
+      → IsLeft BoolKind (holds_with (row_at ArrayVarBoolElement) K xs i) (option_map Truth o)
   unfolding row_at
   array_var_bool_element_row a b o place d e h =
       let here : i ≡ 2 = only_place 2 i place in
@@ -218,7 +276,8 @@ module _ (K : Partial) (xs : List Argument) (i : ℕ) where
 
   -- ---- sets
 
-  pub set_eq_row : (s : NumberSet) → IsPlaceOf (row_at SetEq).result i → s ≡ set_at K xs (1 - i) → IsLeft SetKind (holds_with (row_at SetEq) K xs i) (Some (Set s))
+  pub set_eq_row : (s : NumberSet) → IsPlaceOf (row_at SetEq).result i → s ≡ set_at K xs (1 - i)
+      → IsLeft SetKind (holds_with (row_at SetEq) K xs i) (Some (Set s))
   unfolding row_at
   set_eq_row s place e =
       elim (either_place 0 1 i place) [
@@ -226,38 +285,52 @@ module _ (K : Partial) (xs : List Argument) (i : ℕ) where
         | inr here ↦ let is : s ≡ set_at K xs 0 = e ∙ ap (λ j. set_at K xs (1 - j)) here in rw here (refl, tt, rw (← is) (set_itself s))
       ]
 
-  pub set_union_row : (s : NumberSet) → IsPlaceOf (row_at SetUnion).result i → s ≡ sets.union (set_at K xs 0) (set_at K xs 1) → IsLeft SetKind (holds_with (row_at SetUnion) K xs i) (Some (Set s))
+  pub set_union_row : (s : NumberSet) → IsPlaceOf (row_at SetUnion).result i
+      → s ≡ sets.union (set_at K xs 0) (set_at K xs 1)
+      → IsLeft SetKind (holds_with (row_at SetUnion) K xs i) (Some (Set s))
   unfolding row_at
   set_union_row s place e =
       let here : i ≡ 2 = only_place 2 i place in
       rw here (refl, tt, rw (← e) (set_itself s))
 
-  pub set_intersect_row : (s : NumberSet) → IsPlaceOf (row_at SetIntersect).result i → s ≡ sets.intersection (set_at K xs 0) (set_at K xs 1) → IsLeft SetKind (holds_with (row_at SetIntersect) K xs i) (Some (Set s))
+  pub set_intersect_row : (s : NumberSet) → IsPlaceOf (row_at SetIntersect).result i
+      → s ≡ sets.intersection (set_at K xs 0) (set_at K xs 1)
+      → IsLeft SetKind (holds_with (row_at SetIntersect) K xs i) (Some (Set s))
   unfolding row_at
   set_intersect_row s place e =
       let here : i ≡ 2 = only_place 2 i place in
       rw here (refl, tt, rw (← e) (set_itself s))
 
-  pub set_diff_row : (s : NumberSet) → IsPlaceOf (row_at SetDiff).result i → s ≡ sets.difference (set_at K xs 0) (set_at K xs 1) → IsLeft SetKind (holds_with (row_at SetDiff) K xs i) (Some (Set s))
+  pub set_diff_row : (s : NumberSet) → IsPlaceOf (row_at SetDiff).result i
+      → s ≡ sets.difference (set_at K xs 0) (set_at K xs 1)
+      → IsLeft SetKind (holds_with (row_at SetDiff) K xs i) (Some (Set s))
   unfolding row_at
   set_diff_row s place e =
       let here : i ≡ 2 = only_place 2 i place in
       rw here (refl, tt, rw (← e) (set_itself s))
 
-  pub set_symdiff_row : (s : NumberSet) → IsPlaceOf (row_at SetSymdiff).result i → s ≡ symmetric_difference (set_at K xs 0) (set_at K xs 1) → IsLeft SetKind (holds_with (row_at SetSymdiff) K xs i) (Some (Set s))
+  pub set_symdiff_row : (s : NumberSet) → IsPlaceOf (row_at SetSymdiff).result i
+      → s ≡ symmetric_difference (set_at K xs 0) (set_at K xs 1)
+      → IsLeft SetKind (holds_with (row_at SetSymdiff) K xs i) (Some (Set s))
   unfolding row_at
   set_symdiff_row s place e =
       let here : i ≡ 2 = only_place 2 i place in
       rw here (refl, tt, rw (← e) (set_itself s))
 
-  pub array_set_element_row : (a : ℤ) (b : List NumberSet) (o : Option NumberSet) → IsPlaceOf (row_at ArraySetElement).result i → a ≡ int_at K xs 0 → b ≡ sets_at K xs 1 → IsLeftPlain (λ c. is_element ◌=ˢ◌ a b c) o → IsLeft SetKind (holds_with (row_at ArraySetElement) K xs i) (option_map Set o)
+  pub array_set_element_row : (a : ℤ) (b : List NumberSet) (o : Option NumberSet)
+      → IsPlaceOf (row_at ArraySetElement).result i → a ≡ int_at K xs 0 → b ≡ sets_at K xs 1
+      → IsLeftPlain (λ c. is_element ◌=ˢ◌ a b c) o
+      → IsLeft SetKind (holds_with (row_at ArraySetElement) K xs i) (option_map Set o)
   unfolding row_at
   array_set_element_row a b o place d e h =
       let here : i ≡ 2 = only_place 2 i place in
       let left : IsLeftPlain (λ c. is_element ◌=ˢ◌ (int_at K xs 0) (sets_at K xs 1) c) o = subst₂ (λ a b. IsLeftPlain (λ c. is_element ◌=ˢ◌ a b c) o) d e h in
       rw here (set_left _ o (rw (plain_sets (sets_at K xs 1)) left))
 
-  pub array_var_set_element_row : (a : ℤ) (b : List NumberSet) (o : Option NumberSet) → IsPlaceOf (row_at ArrayVarSetElement).result i → a ≡ int_at K xs 0 → b ≡ sets_at K xs 1 → IsLeftPlain (λ c. is_element ◌=ˢ◌ a b c) o → IsLeft SetKind (holds_with (row_at ArrayVarSetElement) K xs i) (option_map Set o)
+  pub array_var_set_element_row : (a : ℤ) (b : List NumberSet) (o : Option NumberSet)
+      → IsPlaceOf (row_at ArrayVarSetElement).result i → a ≡ int_at K xs 0 → b ≡ sets_at K xs 1
+      → IsLeftPlain (λ c. is_element ◌=ˢ◌ a b c) o
+      → IsLeft SetKind (holds_with (row_at ArrayVarSetElement) K xs i) (option_map Set o)
   unfolding row_at
   array_var_set_element_row a b o place d e h =
       let here : i ≡ 2 = only_place 2 i place in
@@ -265,7 +338,8 @@ module _ (K : Partial) (xs : List Argument) (i : ℕ) where
       rw here (set_left _ o (rw (plain_sets (sets_at K xs 1)) left))
 
 -- from the row of a builtin to that of an equal one
-pub from_row : (K : Partial) (xs : List Argument) (i : ℕ) (k : Kind) (o : Option Value) (b c : Builtin) → b ≡ c → IsPlaceOf (row_at b).result i
+pub from_row : (K : Partial) (xs : List Argument) (i : ℕ) (k : Kind) (o : Option Value)
+    (b c : Builtin) → b ≡ c → IsPlaceOf (row_at b).result i
     → (IsPlaceOf (row_at c).result i → IsLeft k (holds_with (row_at c) K xs i) o) → IsLeft k (holds_with (row_at b) K xs i) o
 from_row K xs i k o b c is place h = subst (λ d. IsLeft k (holds_with (row_at d) K xs i) o) (sym is) (h (subst (λ d. IsPlaceOf (row_at d).result i) is place))
 
@@ -300,7 +374,8 @@ xor_is true false = refl
 xor_is false true = refl
 xor_is false false = refl
 
-pub ok_then : {A E : Type 0} (r : Result A E) (P Q : A → Type 0) → ((x : A) → P x → Q x) → IfOk r P → IfOk r Q
+pub ok_then : {A E : Type 0} (r : Result A E) (P Q : A → Type 0) → ((x : A) → P x → Q x) → IfOk r P
+    → IfOk r Q
 ok_then (Ok x) P Q h p = h x p
 ok_then (Err e) P Q h p = tt
 
@@ -312,7 +387,9 @@ set_map (x ∷ b) zero n = refl
 set_map (x ∷ b) (suc i) n = ap (λ vs. Int x ∷ vs) (set_map b i n)
 
 module _ (K : Partial) (xs : List Argument) (i : ℕ) (s u w : ℤ) where
-  unit_test : (n : ℤ) → slice_get (ints_at K xs 0) i ≡ Some u → slice_get (ints_at K xs 1) i ≡ Some (pos 0) → s ≡ total (products (ints_at K xs 0) (ints_at K xs 1)) → w ≡ int_at K xs 2
+  unit_test : (n : ℤ) → slice_get (ints_at K xs 0) i ≡ Some u
+      → slice_get (ints_at K xs 1) i ≡ Some (pos 0)
+      → s ≡ total (products (ints_at K xs 0) (ints_at K xs 1)) → w ≡ int_at K xs 2
       → holds_with_element (row_at IntLinEq) K xs i (Int n) ≡ ((s +ℤ (u *ℤ n)) =ℤ w)
   unfolding row_at
   unit_test n d e sum wanted =
@@ -322,6 +399,8 @@ module _ (K : Partial) (xs : List Argument) (i : ℕ) (s u w : ℤ) where
       ∙ ap (λ t. t =ℤ int_at K xs 2) (total_with a b i u n d e)
       ∙ (λ j. (sym sum j +ℤ (u *ℤ n)) =ℤ sym wanted j)
 
-  pub unit_row : (o : Option ℤ) → slice_get (ints_at K xs 0) i ≡ Some u → slice_get (ints_at K xs 1) i ≡ Some (pos 0) → s ≡ total (products (ints_at K xs 0) (ints_at K xs 1)) → w ≡ int_at K xs 2
+  pub unit_row : (o : Option ℤ) → slice_get (ints_at K xs 0) i ≡ Some u
+      → slice_get (ints_at K xs 1) i ≡ Some (pos 0)
+      → s ≡ total (products (ints_at K xs 0) (ints_at K xs 1)) → w ≡ int_at K xs 2
       → IsLeftNumber (λ n. (s +ℤ (u *ℤ n)) =ℤ w) o → IsLeft IntKind (holds_with_element (row_at IntLinEq) K xs i) (option_map Int o)
   unit_row o d e sum wanted h = number_left _ o (same_numbers _ _ o (λ n. unit_test n d e sum wanted) h)

@@ -19,12 +19,15 @@ pub as_many : {A B : Type 0} (f : A → B) (xs : List A) → length xs ≡ lengt
 as_many f [] = refl
 as_many f (x ∷ xs) = ap suc (as_many f xs)
 
-pub mapped_at : {A B : Type 0} (f : A → B) (xs : List A) (i : ℕ) (x : A) → slice_get xs i ≡ Some x → Some (f x) ≡ slice_get (map f xs) i
+pub mapped_at : {A B : Type 0} (f : A → B) (xs : List A) (i : ℕ) (x : A) → slice_get xs i ≡ Some x
+    → Some (f x) ≡ slice_get (map f xs) i
 mapped_at f xs i x e = sym (slice_get-map f xs i ∙ ap (option_map f) e)
 
 -- ---- slots that are no array
 
-pub flat_terms : (vs : List Variable) (xs : List Array) (cs : List Value) (ss : List Slot) → list_all is_scalar ss ≡ true → map (slot_term cs) ss ≡ flat_map terms_at (map (place_view vs xs cs) ss)
+pub flat_terms : (vs : List Variable) (xs : List Array) (cs : List Value) (ss : List Slot)
+    → list_all is_scalar ss ≡ true
+    → map (slot_term cs) ss ≡ flat_map terms_at (map (place_view vs xs cs) ss)
 flat_terms vs xs cs [] h = refl
 flat_terms vs xs cs (slots.Variable n ∷ ss) h = ap (λ ts. slot_term cs (slots.Variable n) ∷ ts) (flat_terms vs xs cs ss h)
 flat_terms vs xs cs (slots.Number i ∷ ss) h = ap (λ ts. slot_term cs (slots.Number i) ∷ ts) (flat_terms vs xs cs ss h)
@@ -35,11 +38,13 @@ flat_terms vs xs cs (slots.Array i ∷ ss) h = absurd (false≢true h)
 -- ---- the scalars of all arguments
 
 module _ {A : Type 0} (view : A → Argument) where
-  pub of_arguments : (as' : List A) → flat_map (λ a. terms_in (view a)) as' ≡ flat_map terms_in (map view as')
+  pub of_arguments : (as' : List A)
+      → flat_map (λ a. terms_in (view a)) as' ≡ flat_map terms_in (map view as')
   of_arguments [] = refl
   of_arguments (a ∷ as') = ap (λ ts. terms_in (view a) ++ ts) (of_arguments as')
 
-  pub at_argument : (as' : List A) (i : ℕ) → option_map_or (λ a. terms_in (view a)) (slice_get as' i) [] ≡ option_map_or terms_in (slice_get (map view as') i) []
+  pub at_argument : (as' : List A) (i : ℕ) → option_map_or (λ a. terms_in (view a))
+      (slice_get as' i) [] ≡ option_map_or terms_in (slice_get (map view as') i) []
   at_argument [] i = refl
   at_argument (a ∷ as') zero = refl
   at_argument (a ∷ as') (suc i) = at_argument as' i

@@ -49,12 +49,14 @@ within_more lo hi apart = λ (one : HasOneNumber (Within lo hi)).
     let high : hi ≡ n = (one.1 hi).0 (between_ends lo hi hi in_order (omega (arith, ints))) in
     apart (low ∙ sym high)
 
-pub among_only : (s : NumberSet) (o : Option ℤ) → IfSome o (λ n. IsOnly n s) → IfNone o ((n : ℤ) → IsOnly n s → ⊥) → IsOnlyNumber (Among s) o
+pub among_only : (s : NumberSet) (o : Option ℤ) → IfSome o (λ n. IsOnly n s)
+    → IfNone o ((n : ℤ) → IsOnly n s → ⊥) → IsOnlyNumber (Among s) o
 among_only s (Some n) found none = found
 among_only s None found none = λ (one : HasOneNumber (Among s)). none one.0 one.1
 
 module _ (m : Model) (K : Partial) (fits : IsPartial m K) where
-  pub domain_forces : (x : Variable) (n : ℕ) (k : ℤ) → kind_at m n ≡ Some x.kind → x.kind ≡ IntKind → value_at K n ≡ None → FitsSigned w64 k → IsOnlyNumber x.domain (Some k)
+  pub domain_forces : (x : Variable) (n : ℕ) (k : ℤ) → kind_at m n ≡ Some x.kind → x.kind ≡ IntKind
+      → value_at K n ≡ None → FitsSigned w64 k → IsOnlyNumber x.domain (Some k)
       → IsForced m K (DomainPoint x n) (Some (n, Int k))
   domain_forces x n k own int none range only = record {
     target = (refl, int, (k, only));
@@ -67,7 +69,8 @@ module _ (m : Model) (K : Partial) (fits : IsPartial m K) where
 
   -- ---- the sides of a definition
 
-  both_sides : (K' : Partial) (x : Variable) (n : ℕ) (e : Term) (w : Value) → value_at K' n ≡ Some w → value K' e ≡ Some w → HoldsUnder K' (DefinitionPoint x n e)
+  both_sides : (K' : Partial) (x : Variable) (n : ℕ) (e : Term) (w : Value) → value_at K' n ≡ Some w
+      → value K' e ≡ Some w → HoldsUnder K' (DefinitionPoint x n e)
   both_sides K' x n e w left right = intro (λ v. IsSomeAnd (value K' e) (λ u. v ≡ u)) (value_at K' n) w left (intro (λ u. w ≡ u) (value K' e) w right refl)
 
   -- the variable has no value, and the other side has one
@@ -88,7 +91,8 @@ module _ (m : Model) (K : Partial) (fits : IsPartial m K) where
       then_holds = both_sides (give K n w) x n e w (value_at_new K n w (has_place m K n (kind_of w) fits fit.2)) (right_stays w);
     }
 
-    pub left_forced : (o : Option (ℕ × Value)) → IsFitting m n w o → IsForced m K (DefinitionPoint x n e) o
+    pub left_forced : (o : Option (ℕ × Value)) → IsFitting m n w o
+        → IsForced m K (DefinitionPoint x n e) o
     left_forced (Some r) fit = subst (λ q. Gives m K (DefinitionPoint x n e) q.0 q.1) (sym fit.0) (gives_left (refl, fit.1, fit.2))
     left_forced None fit = nothing
       where
@@ -120,7 +124,8 @@ module _ (m : Model) (K : Partial) (fits : IsPartial m K) where
       then_holds = both_sides (give K y w) x n (Var y) w (left_stays w) (value_at_new K y w (has_place m K y (kind_of w) fits fit.2));
     }
 
-    pub right_forced : (o : Option (ℕ × Value)) → IsFitting m y w o → IsForced m K (DefinitionPoint x n (Var y)) o
+    pub right_forced : (o : Option (ℕ × Value)) → IsFitting m y w o
+        → IsForced m K (DefinitionPoint x n (Var y)) o
     right_forced (Some r) fit = subst (λ q. Gives m K (DefinitionPoint x n (Var y)) q.0 q.1) (sym fit.0) (gives_right (refl, fit.1, fit.2))
     right_forced None fit = nothing
       where

@@ -16,7 +16,8 @@ abbrev pub SoFar : {A : Type 0} → Partial → (A → List Term) → List A →
 SoFar K f as' n (Some s) = IsOnlyAt K f as' n s
 SoFar K f as' n None = open_terms K (flat_map f as') ≡ []
 
-flat_append : {A B : Type 0} (f : A → List B) (xs ys : List A) → flat_map f (xs ++ ys) ≡ flat_map f xs ++ flat_map f ys
+flat_append : {A B : Type 0} (f : A → List B) (xs ys : List A)
+    → flat_map f (xs ++ ys) ≡ flat_map f xs ++ flat_map f ys
 flat_append f [] ys = refl
 flat_append f (x ∷ xs) ys = ap (λ zs. f x ++ zs) (flat_append f xs ys) ∙ sym (append_assoc (f x) (flat_map f xs) (flat_map f ys))
 
@@ -27,7 +28,8 @@ two_not_one : {A : Type 0} {x y z : A} {xs : List A} → x ∷ y ∷ xs ≡ z �
 two_not_one e = cc
 
 module _ {A : Type 0} (K : Partial) (f : A → List Term) (n : ℕ) where
-  stands_in_front : (bs cs : List A) (j k : ℕ) (t : Term) → slice_get (option_map_or f (slice_get bs j) []) k ≡ Some t
+  stands_in_front : (bs cs : List A) (j k : ℕ) (t : Term)
+      → slice_get (option_map_or f (slice_get bs j) []) k ≡ Some t
       → slice_get (option_map_or f (slice_get (bs ++ cs) j) []) k ≡ Some t
   stands_in_front [] cs j k t e = cc
   stands_in_front (b ∷ bs) cs zero k t e = e
@@ -40,7 +42,8 @@ module _ {A : Type 0} (K : Partial) (f : A → List Term) (n : ℕ) where
       nothing_behind [] = refl
       nothing_behind (t ∷ ts) = ap (λ zs. t ∷ zs) (nothing_behind ts)
 
-  closed_behind : (bs : List A) (a : A) (o : Option Spot) → SoFar K f bs n o → AreOpen K n (f a) Nothing → SoFar K f (bs ++ a ∷ []) n o
+  closed_behind : (bs : List A) (a : A) (o : Option Spot) → SoFar K f bs n o
+      → AreOpen K n (f a) Nothing → SoFar K f (bs ++ a ∷ []) n o
   closed_behind bs a None h g = ap (open_terms K) (one_more bs a) ∙ open_append K (flat_map f bs) (f a) ∙ (λ i. h i ++ g i)
   closed_behind bs a (Some s) h g = record {
     variable = h.variable;
@@ -56,7 +59,8 @@ module _ {A : Type 0} (K : Partial) (f : A → List Term) (n : ℕ) where
   }
 
   -- the arguments before, and what comes behind, with others open among them
-  others : (bs cs : List A) (a : A) → AreOpen K n (flat_map f bs ++ f a) More → IsOnlyOpen K f (bs ++ a ∷ cs) n None
+  others : (bs cs : List A) (a : A) → AreOpen K n (flat_map f bs ++ f a) More
+      → IsOnlyOpen K f (bs ++ a ∷ cs) n None
   others bs cs a h e =
       let parts : flat_map f (bs ++ a ∷ cs) ≡ (flat_map f bs ++ f a) ++ flat_map f cs =
       flat_append f bs (a ∷ cs) ∙ sym (append_assoc (flat_map f bs) (f a) (flat_map f cs)) in
@@ -66,7 +70,8 @@ module _ {A : Type 0} (K : Partial) (f : A → List Term) (n : ℕ) where
     in_parts : take i as' ++ a ∷ drop (i + 1) as' ≡ as'
     in_parts = sym (append_assoc (take i as') (a ∷ []) (drop (i + 1) as')) ∙ ap (λ bs. bs ++ drop (i + 1) as') (sym (take_one as' i a (sym at))) ∙ take_and_drop as' (i + 1)
 
-    pub goes_on : (o : Option Spot) → SoFar K f (take i as') n o → AreOpen K n (f a) Nothing → SoFar K f (take (i + 1) as') n o
+    pub goes_on : (o : Option Spot) → SoFar K f (take i as') n o → AreOpen K n (f a) Nothing
+        → SoFar K f (take (i + 1) as') n o
     goes_on o h g = subst (λ bs. SoFar K f bs n o) (sym (take_one as' i a (sym at))) (closed_behind (take i as') a o h g)
 
     pub finds : (k : ℕ) → SoFar K f (take i as') n None → AreOpen K n (f a) (Target k) → SoFar K f (take (i + 1) as') n (Some (record { variable = n; argument = i; place = k }))
@@ -75,16 +80,19 @@ module _ {A : Type 0} (K : Partial) (f : A → List Term) (n : ℕ) where
     pub has_others : AreOpen K n (f a) More → IsOnlyOpen K f as' n None
     has_others h = subst (λ bs. IsOnlyOpen K f bs n None) in_parts (others (take i as') (drop (i + 1) as') a (others_then K n (flat_map f (take i as')) (f a) h))
 
-    has_two : (s : Spot) (k : ℕ) → IsOnlyAt K f (take i as') n s → AreOpen K n (f a) (Target k) → IsOnlyOpen K f as' n None
+    has_two : (s : Spot) (k : ℕ) → IsOnlyAt K f (take i as') n s → AreOpen K n (f a) (Target k)
+        → IsOnlyOpen K f as' n None
     has_two s k h g =
         let front : List Term = flat_map f (take i as') in
         let both : open_terms K (front ++ f a) ≡ Var n ∷ Var n ∷ [] = open_append K front (f a) ∙ (λ j. h.open_once j ++ g.0 j) in
         subst (λ bs. IsOnlyOpen K f bs n None) in_parts (others (take i as') (drop (i + 1) as') a ((λ e. two_not_none (sym both ∙ e)), (λ e. two_not_one (sym both ∙ e))))
 
-    pub has_two_if : (o : Option Spot) (k : ℕ) → true ≡ is_some o → SoFar K f (take i as') n o → AreOpen K n (f a) (Target k) → IsOnlyOpen K f as' n None
+    pub has_two_if : (o : Option Spot) (k : ℕ) → true ≡ is_some o → SoFar K f (take i as') n o
+        → AreOpen K n (f a) (Target k) → IsOnlyOpen K f as' n None
     has_two_if None k some h g = no' some
     has_two_if (Some s) k some h g = has_two s k h g
 
-  pub at_last : (as' : List A) (i : ℕ) (o : Option Spot) → take i as' ≡ as' → SoFar K f (take i as') n o → IsOnlyOpen K f as' n o
+  pub at_last : (as' : List A) (i : ℕ) (o : Option Spot) → take i as' ≡ as'
+      → SoFar K f (take i as') n o → IsOnlyOpen K f as' n o
   at_last as' i (Some s) all h = subst (λ bs. SoFar K f bs n (Some s)) all h
   at_last as' i None all h = λ e. let nil : open_terms K (flat_map f as') ≡ [] = subst (λ bs. SoFar K f bs n None) all h in cc

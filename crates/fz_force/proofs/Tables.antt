@@ -1,4 +1,5 @@
--- What the rows of the table have in common: where scalars are filled, which rows add sums up, and which one fills an element.
+-- What the rows of the table have in common: where scalars are filled, which rows add sums up, and
+-- which one fills an element.
 use Rattle.std.proofs.Common.{◌≡◌, ℕ, zero, suc, Bool, true, false, cond, ◌&&◌, List, [], ◌∷◌, find, Some, slice_get, bytes_eq, Contains, refl, sym, subst, arith}
 use Rattle.std.specs.List.{list_all}
 use Rattle.std.specs.Option.{option_map_or}
@@ -20,7 +21,8 @@ use Rattle.fz_force.specs.Left.{IsOfKind, IsPlaceOf, is_too_large}
 use Rattle.fz_force.specs.Forced.{IsRow}
 
 -- what is asked of each row holds of the one that is found
-found_all : {A : Type 0} (q t : A → Bool) (xs : List A) (x : A) → list_all q xs ≡ true → find t xs ≡ Some x → q x ≡ true
+found_all : {A : Type 0} (q t : A → Bool) (xs : List A) (x : A) → list_all q xs ≡ true
+    → find t xs ≡ Some x → q x ≡ true
 found_all q t [] x h e = cc
 found_all q t (y ∷ ys) x h e =
     elim (t y) as (λ b. cond b (Some y) (find t ys) ≡ Some x → q x ≡ true) [
@@ -61,13 +63,15 @@ scalar_there (ScalarOf k ∷ ss) zero h = (k, refl)
 scalar_there (ArrayOf k ∷ ss) zero h = no h
 scalar_there (s ∷ ss) (suc i) h = scalar_there ss i h
 
-scalar_filled : (ss : List Shape) (o : Result) (i : ℕ) → are_scalars ss o ≡ true → IsPlaceOf o i → (k : Kind) × IsOfKind ss i k
+scalar_filled : (ss : List Shape) (o : Result) (i : ℕ) → are_scalars ss o ≡ true → IsPlaceOf o i
+    → (k : Kind) × IsOfKind ss i k
 unfolding are_scalars
 scalar_filled ss NoResult i h place = absurd place
 scalar_filled ss (Places is) i h place = scalar_there ss i (passes_at (is_scalar_at ss) is i h place)
 scalar_filled ss UnitTerm i h place = absurd place
 
-pub place_is_scalar : (r : Row) → IsRow r → (i : ℕ) → IsPlaceOf r.result i → (k : Kind) × IsOfKind r.shapes i k
+pub place_is_scalar : (r : Row) → IsRow r → (i : ℕ) → IsPlaceOf r.result i
+    → (k : Kind) × IsOfKind r.shapes i k
 place_is_scalar r row i place = scalar_filled r.shapes r.result i (of_row (λ r. are_scalars r.shapes r.result) all_fill_scalars r row) place
 
 -- ---- a row adds products of arrays of numbers
@@ -77,7 +81,8 @@ unfolding rows row_at builtins
 all_sum_ints = refl
 
 -- what leaves 128 bits, as it is read and as it is defined
-pub same_sums : (K : Partial) (xs : List Argument) (r : Row) → IsRow r → have_shapes r.shapes xs ≡ true → is_too_large r K xs ≡ sums_leave K xs r
+pub same_sums : (K : Partial) (xs : List Argument) (r : Row) → IsRow r
+    → have_shapes r.shapes xs ≡ true → is_too_large r K xs ≡ sums_leave K xs r
 same_sums K xs r row h = sym (sums_leave_are K r.shapes xs r.sums (of_row (λ r. list_all (are_ints r.shapes) r.sums) all_sum_ints r row) h)
 
 -- ---- the row that fills an element
@@ -87,7 +92,8 @@ unfolding row_at
 unit_base IntLinEq e = refl
 unit_base _ e = cc
 
-unit_form : (b : Builtin) (f : Form) → (form_at f (row_at b)).result ≡ UnitTerm → form_at f (row_at b) ≡ row_at IntLinEq
+unit_form : (b : Builtin) (f : Form) → (form_at f (row_at b)).result ≡ UnitTerm
+    → form_at f (row_at b) ≡ row_at IntLinEq
 unit_form b Base e = unit_base b e
 unit_form b Reified e = cc
 unit_form b Implied e = cc
@@ -95,7 +101,8 @@ unit_form b Implied e = cc
 pub unit_row : (k : Known) → (known_row k).result ≡ UnitTerm → known_row k ≡ row_at IntLinEq
 unit_row k e = unit_form k.builtin k.form e
 
-pub unit_shapes : (row_at IntLinEq).shapes ≡ ArrayOf IntKind ∷ ArrayOf IntKind ∷ ScalarOf IntKind ∷ []
+pub unit_shapes : (row_at IntLinEq).shapes
+    ≡ ArrayOf IntKind ∷ ArrayOf IntKind ∷ ScalarOf IntKind ∷ []
 unfolding row_at
 unit_shapes = refl
 

@@ -15,7 +15,8 @@ IsNoneOf b [] = ⊤
 IsNoneOf b (c ∷ cs) = (b ≡ c → ⊥) × IsNoneOf b cs
 
 abbrev pub counting_rows : List Builtin
-counting_rows = builtin.Count ∷ builtin.GecodeCount ∷ builtin.FznCountEq ∷ builtin.FznAmong ∷ builtin.FznNvalue ∷ builtin.GecodeMaximumArgIntOffset ∷ builtin.GecodeMinimumArgIntOffset ∷ []
+counting_rows = builtin.Count ∷ builtin.GecodeCount ∷ builtin.FznCountEq ∷ builtin.FznAmong
+    ∷ builtin.FznNvalue ∷ builtin.GecodeMaximumArgIntOffset ∷ builtin.GecodeMinimumArgIntOffset ∷ []
 
 -- which numbers pass the test
 abbrev pub Tells : (ℤ → Bool) → Tally → Type 0
@@ -25,6 +26,8 @@ Tells test Other = ⊥
 
 -- with which numbers at its result the row holds, or that it is none of these rows
 abbrev pub IsCounted : Builtin → Partial → List Argument → Tally → Type 0
-IsCounted b K xs (Exactly n) = (i : ℕ) → IsPlaceOf (row_at b).result i → Tells (λ v. holds_with (row_at b) K xs i (Int v)) (Exactly n)
-IsCounted b K xs Nothing = (i : ℕ) → IsPlaceOf (row_at b).result i → Tells (λ v. holds_with (row_at b) K xs i (Int v)) Nothing
+IsCounted b K xs (Exactly n) = (i : ℕ) → IsPlaceOf (row_at b).result i
+    → Tells (λ v. holds_with (row_at b) K xs i (Int v)) (Exactly n)
+IsCounted b K xs Nothing = (i : ℕ) → IsPlaceOf (row_at b).result i
+    → Tells (λ v. holds_with (row_at b) K xs i (Int v)) Nothing
 IsCounted b K xs Other = IsNoneOf b counting_rows

@@ -1,4 +1,5 @@
--- Whether the values that the scalars of a constraint have are of the kinds that its row asks for (private functions only).
+-- Whether the values that the scalars of a constraint have are of the kinds that its row asks for
+-- (private functions only).
 use Rattle.std.specs.Prelude.{Bool, true, ◌&&◌, List, ◌∷◌}
 use Rattle.std.specs.List.{list_all}
 use Rattle.std.specs.Option.{option_map_or}

@@ -1,4 +1,5 @@
--- What is left to a result: the value, of its kind and within the limits, with which the row holds (this project's profile).
+-- What is left to a result: the value, of its kind and within the limits, with which the row holds
+-- (this project's profile).
 use Rattle.std.specs.Prelude.{◌≡◌, ℕ, ℤ, pos, negsuc, Bool, List, Option, Some, None, IsTrue, FitsSigned, map, slice_get, slice_set, Contains, IsSomeAnd, ◌⊎◌}
 use Rattle.std.specs.Int.{w64}
 use Rattle.std.specs.List.{list_any}
@@ -18,7 +19,8 @@ use Rattle.fz_meaning.specs.Steps.{WithinLimits}
 abbrev pub IsUnit : ℤ → Type 0
 IsUnit a = (a ≡ pos 1) ⊎ (a ≡ negsuc 0)
 
--- An answer is a value of the kind, within the limits, that passes the test. No answer says that no such value passes.
+-- An answer is a value of the kind, within the limits, that passes the test. No answer says that no
+-- such value passes.
 abbrev pub IsLeft : Kind → (Value → Bool) → Option Value → Type 0
 IsLeft k test (Some v) = (kind_of v ≡ k) × WithinLimits v × IsTrue (test v)
 IsLeft k test None = (v : Value) → kind_of v ≡ k → WithinLimits v → IsTrue (test v) → ⊥
@@ -29,7 +31,9 @@ holds_with r K xs i v = row_holds r (slice_set (given_values K r.shapes xs) i (O
 
 -- the same with v for element i of the second argument, an array of numbers
 abbrev pub holds_with_element : Row → Partial → List Argument → ℕ → Value → Bool
-holds_with_element r K xs i v = row_holds r (slice_set (given_values K r.shapes xs) 1 (ManyValues (slice_set (map Int (ints_at K xs 1)) i v)))
+holds_with_element r K xs i v =
+    row_holds r (slice_set (given_values K r.shapes xs) 1
+    (ManyValues (slice_set (map Int (ints_at K xs 1)) i v)))
 
 -- `defines_var` may fill the place
 abbrev pub IsPlaceOf : Result → ℕ → Type 0
@@ -41,7 +45,8 @@ IsPlaceOf UnitTerm i = ⊥
 abbrev pub IsOfKind : List Shape → ℕ → Kind → Type 0
 IsOfKind shapes i k = slice_get shapes i ≡ Some (ScalarOf k)
 
--- A sum of the products of the first two arguments leaves 128 bits on the way. An element without a value is read as 0, so it adds nothing.
+-- A sum of the products of the first two arguments leaves 128 bits on the way. An element without a
+-- value is read as 0, so it adds nothing.
 abbrev pub products_leave : Partial → List Argument → Bool
 products_leave K xs = read_leave K xs (0, 1)
 
@@ -63,7 +68,7 @@ abbrev pub IsLeftNumber : (ℤ → Bool) → Option ℤ → Type 0
 IsLeftNumber test (Some n) = FitsSigned w64 n × IsTrue (test n)
 IsLeftNumber test None = (n : ℤ) → FitsSigned w64 n → IsTrue (test n) → ⊥
 
--- of truth values and of sets, which have no limits
+-- of Booleans and of sets, which have no limits
 abbrev pub IsLeftPlain : {A : Type 0} → (A → Bool) → Option A → Type 0
 IsLeftPlain test (Some x) = IsTrue (test x)
 IsLeftPlain {A = A} test None = (x : A) → IsTrue (test x) → ⊥

@@ -1,4 +1,5 @@
--- The only scalar without a value among a constraint's arguments, and where it stands (private functions only).
+-- The only scalar without a value among a constraint's arguments, and where it stands (private
+-- functions only).
 use Rattle.std.specs.Prelude.{◌≡◌, ℕ, true, List, [], ◌∷◌, Option, Some, None, flat_map, slice_get, ⊤}
 use Rattle.std.specs.List.{list_all}
 use Rattle.std.specs.Option.{option_map_or}
@@ -33,8 +34,10 @@ AreOpen K n ts Nothing = open_terms K ts ≡ []
 AreOpen K n ts (Target i) = (open_terms K ts ≡ Var n ∷ []) × (slice_get ts i ≡ Some (Var n))
 AreOpen K n ts More = (open_terms K ts ≡ [] → ⊥) × (open_terms K ts ≡ Var n ∷ [] → ⊥)
 
--- f tells the scalars of an argument; of those of all arguments the variable alone is open, once, at a place of an argument
-pub record IsOnlyAt {A : Type 0} (K : Partial) (f : A → List Term) (as' : List A) (n : ℕ) (s : Spot) : Type 0 where
+-- f tells the scalars of an argument; of those of all arguments the variable alone is open, once,
+-- at a place of an argument
+pub record IsOnlyAt {A : Type 0} (K : Partial) (f : A → List Term) (as' : List A) (n : ℕ)
+    (s : Spot) : Type 0 where
   pub variable : s.variable ≡ n
   pub open_once : open_terms K (flat_map f as') ≡ Var n ∷ []
   pub stands : slice_get (option_map_or f (slice_get as' s.argument) []) s.place ≡ Some (Var n)

@@ -30,7 +30,8 @@ pub(crate) fn left_number(
     requires result { IsPlaceOf (row_at builtin).result place }
     requires number { IsOfKind (row_at builtin).shapes place IntKind }
     requires other { IsNoneOf builtin counting_rows }
-    ensures { IsLeft IntKind (holds_with (row_at builtin) (assigned view.now) (arguments_of view.now) place) (option_map Int result) }
+    ensures { IsLeft IntKind (holds_with (row_at builtin) (assigned view.now)
+        (arguments_of view.now) place) (option_map Int result) }
 {
     match builtin {
         Builtin::IntEq => Some(view.int(1 - place)),
@@ -52,7 +53,7 @@ pub(crate) fn left_number(
     }
 }
 
-/// The truth value that a row leaves where a truth value stands.
+/// The Boolean that a row leaves where a Boolean stands.
 pub(crate) fn left_truth(
     builtin: Builtin,
     place: usize,
@@ -60,7 +61,8 @@ pub(crate) fn left_truth(
 ) -> Option<bool>
     requires result { IsPlaceOf (row_at builtin).result place }
     requires truth { IsOfKind (row_at builtin).shapes place BoolKind }
-    ensures { IsLeft BoolKind (holds_with (row_at builtin) (assigned view.now) (arguments_of view.now) place) (option_map Truth result) }
+    ensures { IsLeft BoolKind (holds_with (row_at builtin) (assigned view.now)
+        (arguments_of view.now) place) (option_map Truth result) }
 {
     match builtin {
         Builtin::BoolEq => Some(view.truth(1 - place)),
@@ -86,7 +88,8 @@ pub(crate) fn left_set(
 ) -> Result<Option<IntSet>, SetError>
     requires result { IsPlaceOf (row_at builtin).result place }
     requires set { IsOfKind (row_at builtin).shapes place SetKind }
-    ensures { IfOk result (λ left. IsLeft SetKind (holds_with (row_at builtin) (assigned view.now) (arguments_of view.now) place) (option_map Set left)) }
+    ensures { IfOk result (λ left. IsLeft SetKind (holds_with (row_at builtin) (assigned view.now)
+        (arguments_of view.now) place) (option_map Set left)) }
 {
     match builtin {
         Builtin::SetEq => Ok(Some(view.set(1 - place).copy(alloc)?)),

@@ -63,7 +63,8 @@ fn values(alloc: Global, view: &ArgumentView<'_, '_>) -> Result<Tally, AllocErro
 }
 
 fn of_maximum(view: &ArgumentView<'_, '_>) -> Tally
-    ensures { Tells (λ i. is_index_of_best (λ x m. int_le x m) (ints view.now 0) (int view.now 1) i) result }
+    ensures { Tells (λ i. is_index_of_best (λ x m. int_le x m) (ints view.now 0)
+        (int view.now 1) i) result }
 {
     match index_of_maximum(&view.elements(0), view.int(1)) {
         Some(index) => Tally::Exactly(index),
@@ -72,7 +73,8 @@ fn of_maximum(view: &ArgumentView<'_, '_>) -> Tally
 }
 
 fn of_minimum(view: &ArgumentView<'_, '_>) -> Tally
-    ensures { Tells (λ i. is_index_of_best (λ x m. int_le m x) (ints view.now 0) (int view.now 1) i) result }
+    ensures { Tells (λ i. is_index_of_best (λ x m. int_le m x) (ints view.now 0)
+        (int view.now 1) i) result }
 {
     match index_of_minimum(&view.elements(0), view.int(1)) {
         Some(index) => Tally::Exactly(index),

@@ -1,6 +1,7 @@
-//! The forced step of a point: the one value that a point leaves to a variable, where it leaves one. A domain of one number gives it; a
-//! definition gives either side's value to the other; a constraint gives its target the value that its row leaves: the one value of the
-//! argument's kind, a whole number of 64 bits among them, with which the row holds.
+//! The forced step of a point: the one value that a point leaves to a variable, where it leaves
+//! one. A domain of one number gives it; a definition gives either side's value to the other; a
+//! constraint gives its target the value that its row leaves: the one value of the argument's kind,
+//! an integer of 64 bits among them, with which the row holds.
 #![tactic(auto)]
 
 mod base_row;

@@ -1,5 +1,6 @@
-//! The whole numbers that rows leave, of their other arguments' values. Each of these functions gives the one number of 64 bits with
-//! which its row holds; where there is none, as where the exact result has more bits, it gives none.
+//! The integers that rows leave, of their other arguments' values. Each of these functions gives
+//! the one number of 64 bits with which its row holds; where there is none, as where the exact
+//! result has more bits, it gives none.
 
 ghost use Rattle.std.specs.Prelude.{pos, ◌+ℤ◌, ◌*ℤ◌, ◌&&◌, not, int_div, int_rem, unsigned_abs};
 ghost use Rattle.std.specs.Int.{int_max, int_min};
@@ -52,7 +53,8 @@ pub(crate) fn quotient(a: i64, b: i64) -> Option<i64>
     a.checked_div(b)
 }
 
-/// What `int_mod` leaves: none where the divisor is 0. The remainder of the least number by -1 is 0, though the quotient has more bits.
+/// What `int_mod` leaves: none where the divisor is 0. The remainder of the least number by -1 is
+/// 0, though the quotient has more bits.
 pub(crate) fn remainder(a: i64, b: i64) -> Option<i64>
     ensures { IsLeftNumber (λ c. not (b =ℤ pos 0) && (c =ℤ int_rem a b)) result }
 {
@@ -75,7 +77,7 @@ pub(crate) fn count(set: &IntSet) -> Option<i64>
     }
 }
 
-/// What `bool2int` leaves to the truth value: none where the number is neither 0 nor 1.
+/// What `bool2int` leaves to the Boolean: none where the number is neither 0 nor 1.
 pub(crate) fn truth_of(number: i64) -> Option<bool>
     ensures { IsLeftPlain (λ a. number =ℤ as_number a) result }
 {
@@ -93,8 +95,9 @@ pub(crate) fn narrow(exact: i128) -> Option<i64>
     i64::try_from(exact).ok()
 }
 
-/// The number that makes up the sum: times the coefficient, which is 1 or -1, and added to the others it gives the wanted sum. The
-/// difference may have more than 128 bits; then no number of 64 bits makes up the sum.
+/// The number that makes up the sum: times the coefficient, which is 1 or -1, and added to the
+/// others it gives the wanted sum. The difference may have more than 128 bits; then no number of 64
+/// bits makes up the sum.
 pub(crate) fn made_up(others: i128, coefficient: i64, wanted: i64) -> Option<i64>
     requires { IsUnit coefficient }
     ensures { IsLeftNumber (λ n. (others +ℤ (coefficient *ℤ n)) =ℤ wanted) result }

@@ -93,7 +93,9 @@ fn open_place(
     target: usize,
     partial: &Partial,
 ) -> Open
-    ensures { AreOpen partial.now target (terms_at (place_view parts.now.variables.now parts.now.arrays.now parts.now.store.now.constants.items slot.now)) result }
+    ensures { AreOpen partial.now target
+        (terms_at (place_view parts.now.variables.now parts.now.arrays.now
+        parts.now.store.now.constants.items slot.now)) result }
 {
     match slot {
         Slot::Array(number) => match parts.arrays.get(*number as usize) {

@@ -22,8 +22,8 @@ use fz_eval::fz_arguments::ArgumentView;
 use fz_meaning::{Filled, Known};
 use std::alloc::{AllocError, Global};
 
-/// What a constraint forces: the value that its row leaves to its target, where that stands in a result place and is the only scalar
-/// without a value.
+/// What a constraint forces: the value that its row leaves to its target, where that stands in a
+/// result place and is the only scalar without a value.
 #[inline(always)]
 pub(crate) fn by_row(
     alloc: Global,
@@ -31,8 +31,12 @@ pub(crate) fn by_row(
     partial: &Partial,
 ) -> Result<Option<(usize, Value)>, AllocError>
     requires known { option_map known_row parts.posted.now.known ≡ row_of (constraint_view parts) }
-    requires kinds { IfSome parts.posted.now.known (λ k. each_fits partial.now (known_row k).shapes (constraint_view parts).arguments ≡ true) }
-    ensures forced { (m : Meaning) → IsPartial m partial.now → PostedFits m (constraint_view parts.entry) → IfOk result (λ o. IsForced m partial.now (ConstraintPoint parts.entry.number (constraint_view parts.entry)) o) }
+    requires kinds { IfSome parts.posted.now.known
+        (λ k. each_fits partial.now (known_row k).shapes (constraint_view parts).arguments ≡ true) }
+    ensures forced { (m : Meaning) → IsPartial m partial.now
+        → PostedFits m (constraint_view parts.entry) → IfOk result
+        (λ o. IsForced m partial.now (ConstraintPoint parts.entry.number
+        (constraint_view parts.entry)) o) }
 {
     let Some(target) = parts.posted.target else {
         return Ok(None);
@@ -46,7 +50,8 @@ pub(crate) fn by_row(
     }
 }
 
-// The value of the target with which the constraint holds, where it is the only scalar without one and stands in a result place.
+// The value of the target with which the constraint holds, where it is the only scalar without one
+// and stands in a result place.
 #[inline(always)]
 fn only_value(
     alloc: Global,
@@ -56,8 +61,10 @@ fn only_value(
     partial: &Partial,
 ) -> Result<Option<Value>, AllocError>
     requires row { row_of (constraint_view parts) ≡ Some (known_row known) }
-    requires kinds { each_fits partial.now (known_row known).shapes (constraint_view parts).arguments ≡ true }
-    ensures { IfOk result (λ o. IsOnlyValue partial.now (constraint_view parts.entry).arguments (known_row known) target o) }
+    requires kinds { each_fits partial.now (known_row known).shapes
+        (constraint_view parts).arguments ≡ true }
+    ensures { IfOk result (λ o. IsOnlyValue partial.now (constraint_view parts.entry).arguments
+        (known_row known) target o) }
 {
     if partial.has(target) {
         return Ok(None);
@@ -78,7 +85,8 @@ fn value_at(
 ) -> Result<Option<Value>, AllocError>
     requires row { IsRow (known_row known) }
     requires ready { IsReady (assigned view.now) (arguments_of view.now) (known_row known) spot }
-    ensures { IfOk result (λ o. IsOnlyValue (assigned view.now) (arguments_of view.now) (known_row known) spot.variable o) }
+    ensures { IfOk result (λ o. IsOnlyValue (assigned view.now) (arguments_of view.now)
+        (known_row known) spot.variable o) }
 {
     if is_unit_term(known.filled()) {
         return Ok(element_left(known, spot, view).map(Value::Int));
@@ -94,7 +102,8 @@ fn element_left(known: Known, spot: Spot, view: &ArgumentView<'_, '_>) -> Option
     requires row { IsRow (known_row known) }
     requires unit_term { (known_row known).result ≡ UnitTerm }
     requires ready { IsReady (assigned view.now) (arguments_of view.now) (known_row known) spot }
-    ensures { IsOnlyValue (assigned view.now) (arguments_of view.now) (known_row known) spot.variable (option_map Int result) }
+    ensures { IsOnlyValue (assigned view.now) (arguments_of view.now)
+        (known_row known) spot.variable (option_map Int result) }
 {
     if spot.argument != 1 || !has_unit(view, spot.place) {
         return None;

@@ -15,8 +15,8 @@ use fz_data::{Model, Partial, PointParts, Variable};
 use fz_meaning::{Domain, Kind, Term};
 use std::alloc::{AllocError, Global};
 
-/// The forced step of the point of a number: the variable's number and the value that the point gives it. It gives none where the point
-/// gives nothing, and refuses only where memory runs out.
+/// The forced step of the point of a number: the variable's number and the value that the point
+/// gives it. It gives none where the point gives nothing, and refuses only where memory runs out.
 #[inline(always)]
 pub fn forced(
     alloc: Global,
@@ -26,8 +26,10 @@ pub fn forced(
 ) -> Result<Option<(usize, Value)>, AllocError>
     requires in_range { number < length (points model.now) }
     requires fits { IsPartial model.now partial.now }
-    ensures given { IfOk result (λ o. IfSome o (λ r. (p : Point) → slice_get (points model.now) number ≡ Some p → Gives model.now partial.now p r.0 r.1)) }
-    ensures nothing { IfOk result (λ o. IsNone o → (p : Point) → slice_get (points model.now) number ≡ Some p → GivesNothing model.now partial.now p) }
+    ensures given { IfOk result (λ o. IfSome o (λ r. (p : Point)
+        → slice_get (points model.now) number ≡ Some p → Gives model.now partial.now p r.0 r.1)) }
+    ensures nothing { IfOk result (λ o. IsNone o → (p : Point)
+        → slice_get (points model.now) number ≡ Some p → GivesNothing model.now partial.now p) }
 {
     match model.point_parts(number) {
         PointParts::Domain(variable, own) => Ok(by_domain(variable, own, partial)),
@@ -39,7 +41,8 @@ pub fn forced(
 
 // What the domain of a variable forces: its one number.
 fn by_domain(variable: &Variable<'_>, number: usize, partial: &Partial) -> Option<(usize, Value)>
-    ensures { (m : Meaning) → IsPartial m partial.now → kind_at m number ≡ Some variable.now.kind → IsForced m partial.now (DomainPoint (variable_view variable.now) number) result }
+    ensures { (m : Meaning) → IsPartial m partial.now → kind_at m number ≡ Some variable.now.kind
+        → IsForced m partial.now (DomainPoint (variable_view variable.now) number) result }
 {
     if partial.get(number).is_some() || !is_int(variable.kind) {
         return None;
@@ -57,7 +60,8 @@ fn by_definition(
     partial: &Partial,
 ) -> Result<Option<(usize, Value)>, AllocError>
     requires fits { IsPartial model.now partial.now }
-    ensures { (x : Declared) → IfOk result (λ o. IsForced model.now partial.now (DefinitionPoint x number side.now) o) }
+    ensures { (x : Declared) → IfOk result
+        (λ o. IsForced model.now partial.now (DefinitionPoint x number side.now) o) }
 {
     match partial.get(number) {
         Some(value) => match side {

@@ -12,13 +12,17 @@ use crate::numbers::made_up;
 use fz_eval::fz_arguments::ArgumentView;
 use fz_eval::fz_kernel::arrays::sum_of_products;
 
-/// The number that `int_lin_eq` leaves to an element of its second array that has no value, by its place counted from 0, where its
-/// coefficient is 1 or -1. None where a sum of the other products leaves 128 bits on the way. It takes no memory.
+/// The number that `int_lin_eq` leaves to an element of its second array that has no value, by its
+/// place counted from 0, where its coefficient is 1 or -1. None where a sum of the other products
+/// leaves 128 bits on the way. It takes no memory.
 pub(crate) fn unit_value(view: &ArgumentView<'_, '_>, index: usize) -> Option<i64>
     requires unit { HasUnit (assigned view.now) (arguments_of view.now) index }
     requires open { IsReadAsNone (assigned view.now) (arguments_of view.now) index }
-    ensures left { IsFalse (products_leave (assigned view.now) (arguments_of view.now)) → IsLeft IntKind (holds_with_element (row_at IntLinEq) (assigned view.now) (arguments_of view.now) index) (option_map Int result) }
-    ensures too_large { IsTrue (products_leave (assigned view.now) (arguments_of view.now)) → result ≡ None }
+    ensures left { IsFalse (products_leave (assigned view.now) (arguments_of view.now))
+        → IsLeft IntKind (holds_with_element (row_at IntLinEq) (assigned view.now)
+        (arguments_of view.now) index) (option_map Int result) }
+    ensures too_large { IsTrue (products_leave (assigned view.now) (arguments_of view.now))
+        → result ≡ None }
 {
     let coefficients = view.elements(0);
     let others = sum_of_products(&coefficients, &view.elements(1))?;

@@ -19,8 +19,9 @@ use fz_eval::{Outcome, of_builtin};
 use fz_meaning::{Builtin, Form, Kind, Known, Shape};
 use std::alloc::{AllocError, Global};
 
-/// The value that a row leaves to the argument at a place that `defines_var` may fill, of the other arguments' values. None where a sum
-/// of the row leaves 128 bits on the way. It refuses only where memory runs out.
+/// The value that a row leaves to the argument at a place that `defines_var` may fill, of the other
+/// arguments' values. None where a sum of the row leaves 128 bits on the way. It refuses only where
+/// memory runs out.
 pub(crate) fn left_value(
     alloc: Global,
     known: Known,
@@ -28,8 +29,12 @@ pub(crate) fn left_value(
     view: &ArgumentView<'_, '_>,
 ) -> Result<Option<Value>, AllocError>
     requires result { IsPlaceOf (known_row known).result place }
-    ensures left { (k : Kind) → IsOfKind (known_row known).shapes place k → IsFalse (is_too_large (known_row known) (assigned view.now) (arguments_of view.now)) → IfOk result (λ left. IsLeft k (holds_with (known_row known) (assigned view.now) (arguments_of view.now) place) left) }
-    ensures too_large { IsTrue (is_too_large (known_row known) (assigned view.now) (arguments_of view.now)) → IfOk result (λ left. left ≡ None) }
+    ensures left { (k : Kind) → IsOfKind (known_row known).shapes place k
+        → IsFalse (is_too_large (known_row known) (assigned view.now) (arguments_of view.now))
+        → IfOk result (λ left. IsLeft k
+        (holds_with (known_row known) (assigned view.now) (arguments_of view.now) place) left) }
+    ensures too_large { IsTrue (is_too_large (known_row known) (assigned view.now)
+        (arguments_of view.now)) → IfOk result (λ left. left ≡ None) }
 {
     match known.form {
         Form::Base => left_base(alloc, known.builtin, place, view),
@@ -46,8 +51,12 @@ fn left_form(
     view: &ArgumentView<'_, '_>,
 ) -> Result<Option<Value>, AllocError>
     requires { place ≡ length (row_at builtin).shapes }
-    ensures left { IsFalse (is_too_large (row_at builtin) (assigned view.now) (arguments_of view.now)) → IfOk result (λ left. IsLeft BoolKind (holds_with (reified (row_at builtin)) (assigned view.now) (arguments_of view.now) place) left) }
-    ensures too_large { IsTrue (is_too_large (row_at builtin) (assigned view.now) (arguments_of view.now)) → IfOk result (λ left. left ≡ None) }
+    ensures left { IsFalse (is_too_large (row_at builtin) (assigned view.now)
+        (arguments_of view.now)) → IfOk result (λ left. IsLeft BoolKind
+        (holds_with (reified (row_at builtin)) (assigned view.now)
+        (arguments_of view.now) place) left) }
+    ensures too_large { IsTrue (is_too_large (row_at builtin) (assigned view.now)
+        (arguments_of view.now)) → IfOk result (λ left. left ≡ None) }
 {
     match of_builtin(alloc, builtin, view)? {
         Outcome::Truth(truth) => Ok(Some(Value::Bool(truth))),
@@ -64,7 +73,9 @@ fn left_base(
     view: &ArgumentView<'_, '_>,
 ) -> Result<Option<Value>, AllocError>
     requires { IsPlaceOf (row_at builtin).result place }
-    ensures { (k : Kind) → IsOfKind (row_at builtin).shapes place k → IfOk result (λ left. IsLeft k (holds_with (row_at builtin) (assigned view.now) (arguments_of view.now) place) left) }
+    ensures { (k : Kind) → IsOfKind (row_at builtin).shapes place k
+        → IfOk result (λ left. IsLeft k
+        (holds_with (row_at builtin) (assigned view.now) (arguments_of view.now) place) left) }
 {
     let Some(kind) = kind_at(builtin, place) else {
         return Ok(None);
@@ -88,7 +99,8 @@ fn left_int(
 ) -> Result<Option<Value>, AllocError>
     requires result { IsPlaceOf (row_at builtin).result place }
     requires number { IsOfKind (row_at builtin).shapes place IntKind }
-    ensures { IfOk result (λ left. IsLeft IntKind (holds_with (row_at builtin) (assigned view.now) (arguments_of view.now) place) left) }
+    ensures { IfOk result (λ left. IsLeft IntKind
+        (holds_with (row_at builtin) (assigned view.now) (arguments_of view.now) place) left) }
 {
     let number = match counted(alloc, builtin, view)? {
         Tally::Exactly(number) => narrow(number),

@@ -60,7 +60,8 @@ not_listed a (x ∷ xs) e =
       | false ↦ λ e. not_listed a xs e
     ] e
 
-without_first : (s : Bool) (x : ℤ) (us vs : List ℤ) → length (cond s (x ∷ us) us) ≤ length (cond s (x ∷ vs) vs) → length us ≤ length vs
+without_first : (s : Bool) (x : ℤ) (us vs : List ℤ)
+    → length (cond s (x ∷ us) us) ≤ length (cond s (x ∷ vs) vs) → length us ≤ length vs
 without_first true x us vs h = omega arith
 without_first false x us vs h = h
 
@@ -71,7 +72,8 @@ three_ways : (a b : ℤ) → (a ≡ b) ⊎ ((a <ℤ b) ⊎ (b <ℤ a))
 three_ways a b = grind (arith, ints)
 
 -- where each number of one list is as often in the other, that one is longer, or they are one
-longer_or_same : (xs ys : List ℤ) → Ascends xs → Ascends ys → ((a : ℤ) → times a xs ≤ times a ys) → (length xs < length ys) ⊎ (xs ≡ ys)
+longer_or_same : (xs ys : List ℤ) → Ascends xs → Ascends ys → ((a : ℤ) → times a xs ≤ times a ys)
+    → (length xs < length ys) ⊎ (xs ≡ ys)
 longer_or_same [] [] up_x up_y few = inr refl
 longer_or_same [] (y ∷ ys) up_x up_y few = inl (omega arith)
 longer_or_same (x ∷ xs) [] up_x up_y few =
@@ -89,11 +91,13 @@ longer_or_same (x ∷ xs) (y ∷ ys) up_x up_y few =
       | inr (inr more) ↦ later (longer_or_same (x ∷ xs) ys up_x (tail_ascends y ys up_y) (λ a. fewer more a (y =ℤ a) refl))
     ]
   where
-    by_rest : x ≡ y → (length xs < length ys) ⊎ (xs ≡ ys) → (length (x ∷ xs) < length (y ∷ ys)) ⊎ ((x ∷ xs) ≡ (y ∷ ys))
+    by_rest : x ≡ y → (length xs < length ys) ⊎ (xs ≡ ys)
+        → (length (x ∷ xs) < length (y ∷ ys)) ⊎ ((x ∷ xs) ≡ (y ∷ ys))
     by_rest same (inl h) = inl (omega arith)
     by_rest same (inr e) = inr cc
 
-    later : (length (x ∷ xs) < length ys) ⊎ ((x ∷ xs) ≡ ys) → (length (x ∷ xs) < length (y ∷ ys)) ⊎ ((x ∷ xs) ≡ (y ∷ ys))
+    later : (length (x ∷ xs) < length ys) ⊎ ((x ∷ xs) ≡ ys)
+        → (length (x ∷ xs) < length (y ∷ ys)) ⊎ ((x ∷ xs) ≡ (y ∷ ys))
     later (inl h) = inl (omega arith)
     later (inr e) = inl (omega (arith, ap length e))
 
@@ -126,7 +130,8 @@ all_true : (p : ℤ → Bool) (xs : List ℤ) → ((v : ℤ) → p v ≡ true) �
 all_true p [] each = refl
 all_true p (x ∷ xs) each = and_both (p x) (list_all p xs) (each x) (all_true p xs each)
 
-at_listed : (p : ℤ → Bool) (xs : List ℤ) (a : ℤ) → list_all p xs ≡ true → is_among a xs ≡ true → p a ≡ true
+at_listed : (p : ℤ → Bool) (xs : List ℤ) (a : ℤ) → list_all p xs ≡ true → is_among a xs ≡ true
+    → p a ≡ true
 at_listed p [] a all one = no one
 at_listed p (x ∷ xs) a all one =
     elim (x =ℤ a) as (λ s. (x =ℤ a) ≡ s → (s || is_among a xs) ≡ true → p a ≡ true) [
@@ -135,7 +140,8 @@ at_listed p (x ∷ xs) a all one =
     ] refl one
 
 module _ (xs zs ys : List ℤ) (moved : IsPermutation xs zs) (sorted : IsSorted int_cmp zs) where
-  each_as_often : list_all (λ v. count_of xs v =ℤ count_of ys v) xs ≡ true → (a : ℤ) (s : Bool) → is_among a xs ≡ s → times a zs ≤ times a ys
+  each_as_often : list_all (λ v. count_of xs v =ℤ count_of ys v) xs ≡ true → (a : ℤ) (s : Bool)
+      → is_among a xs ≡ s → times a zs ≤ times a ys
   each_as_often all a true e =
       let equal : pos (times a xs) ≡ pos (times a ys) = same_int (count_of xs a) (count_of ys a) (at_listed (λ v. count_of xs v =ℤ count_of ys v) xs a all e) in
       let same : times a xs ≡ times a ys = cc in
@@ -151,7 +157,8 @@ module _ (xs zs ys : List ℤ) (moved : IsPermutation xs zs) (sorted : IsSorted 
       let all : list_all (λ v. count_of xs v =ℤ count_of ys v) xs ≡ true = and_second (nat_eq (length xs) (length ys)) (list_all (λ v. count_of xs v =ℤ count_of ys v) xs) counted in
       ended (eqb-true (length xs) (length ys) lengths) (longer_or_same zs ys (ascends zs sorted) up (λ a. each_as_often all a (is_among a xs) refl))
     where
-      ended : length xs ≡ length ys → (length zs < length ys) ⊎ (zs ≡ ys) → is_same_list ◌=ℤ◌ zs ys ≡ true
+      ended : length xs ≡ length ys → (length zs < length ys) ⊎ (zs ≡ ys)
+          → is_same_list ◌=ℤ◌ zs ys ≡ true
       ended equal (inl h) = absurd (omega (arith, length_permutation xs zs moved))
       ended equal (inr e) = subst (λ l. is_same_list ◌=ℤ◌ zs l ≡ true) e (list_itself zs)
 

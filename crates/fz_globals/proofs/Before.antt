@@ -15,7 +15,9 @@ module _ {A : Type 0} (less same : A → A → Bool) where
   none_before_nothing (x ∷ xs) = refl
 
   -- past the shorter of the two
-  pub ends : (xs ys : List A) (i : ℕ) (whole : Bool) → whole ≡ is_before less same (drop i xs) (drop i ys) → i ≤ length xs → i ≤ length ys → (length xs ≤ i) ⊎ (length ys ≤ i) → ltb (length xs) (length ys) ≡ whole
+  pub ends : (xs ys : List A) (i : ℕ) (whole : Bool) → whole
+      ≡ is_before less same (drop i xs) (drop i ys) → i ≤ length xs → i ≤ length ys
+      → (length xs ≤ i) ⊎ (length ys ≤ i) → ltb (length xs) (length ys) ≡ whole
   ends xs ys i whole so_far in_xs in_ys end = elim (cases_lt i (length ys)) [
     | inl more ↦
         let over : length xs ≤ i = elim end [ inl h ↦ h | inr h ↦ omega arith ] in

@@ -36,7 +36,8 @@ len_listed (k ∷ ks) apart =
     let new : contains (from_list {R = int_cmp} ks) k ≡ false = contains-from_list int_cmp_total ks k ∙ apart.0 in
     len-insert int_cmp_total (from_list ks) k ∙ rw (new, len_listed ks apart.1) (omega arith)
 
-each_passes : (test : ℤ → Bool) (ks : List ℤ) → ((q : ℤ) → list_any (int_eq q) ks ≡ true → test q ≡ true) → list_all test ks ≡ true
+each_passes : (test : ℤ → Bool) (ks : List ℤ)
+    → ((q : ℤ) → list_any (int_eq q) ks ≡ true → test q ≡ true) → list_all test ks ≡ true
 each_passes test [] each = refl
 each_passes test (k ∷ ks) each =
     and_both (test k) (list_all test ks)
@@ -46,7 +47,8 @@ each_passes test (k ∷ ks) each =
 all_listed : (ks : List ℤ) → list_all (contains (from_list {R = int_cmp} ks)) ks ≡ true
 all_listed ks = each_passes (contains (from_list ks)) ks (λ q there. contains-from_list int_cmp_total ks q ∙ there)
 
-still_in : (s : NumberSet) (k : ℤ) (ks : List ℤ) → list_any (int_eq k) ks ≡ false → list_all (contains s) ks ≡ true → list_all (contains (remove s k)) ks ≡ true
+still_in : (s : NumberSet) (k : ℤ) (ks : List ℤ) → list_any (int_eq k) ks ≡ false
+    → list_all (contains s) ks ≡ true → list_all (contains (remove s k)) ks ≡ true
 still_in s k [] other all = refl
 still_in s k (j ∷ ks) other all =
     and_both (contains (remove s k) j) (list_all (contains (remove s k)) ks)
@@ -65,7 +67,8 @@ still_in s k (j ∷ ks) other all =
     unequal j b is e = other_int j k (λ same. no' (sym ((Decides-int_eq k j).1 (sym same)) ∙ is ∙ e))
 
 -- a set that has them has at least as many, and just these where it has no more
-has_as_many : (ks : List ℤ) (s : NumberSet) → Apart ks → list_all (contains s) ks ≡ true → (length ks ≤ len s) × (length ks ≡ len s → s ≡ from_list ks)
+has_as_many : (ks : List ℤ) (s : NumberSet) → Apart ks → list_all (contains s) ks ≡ true
+    → (length ks ≤ len s) × (length ks ≡ len s → s ≡ from_list ks)
 has_as_many [] s apart all = (omega arith, λ e. empty_of_len s (sym e))
 has_as_many (k ∷ ks) s apart all =
     let in_it : contains s k ≡ true = and_first (contains s k) (list_all (contains s) ks) all in
@@ -101,7 +104,8 @@ length-indices_of i (x ∷ xs) v =
       | false ↦ length-indices_of (i +ℤ pos 1) xs v
     ]
 
-below_all : (k i : ℤ) (xs : List ℤ) (v : ℤ) → k <ℤ i → list_any (int_eq k) (indices_of i xs v) ≡ false
+below_all : (k i : ℤ) (xs : List ℤ) (v : ℤ) → k <ℤ i
+    → list_any (int_eq k) (indices_of i xs v) ≡ false
 below_all k i [] v h = refl
 below_all k i (x ∷ xs) v h =
     let later : list_any (int_eq k) (indices_of (i +ℤ pos 1) xs v) ≡ false = below_all k (i +ℤ pos 1) xs v (omega (arith, ints)) in
@@ -125,12 +129,14 @@ indices_apart i (x ∷ xs) v =
 abbrev HaveAll : ℤ → List ℤ → List NumberSet → ℤ → Type 0
 HaveAll i xs ss so = (t : ℕ) (s : NumberSet) → slice_get ss t ≡ Some s → list_all (contains s) (indices_of i xs (so +ℤ pos t)) ≡ true
 
-is_there : (i x so : ℤ) (ss : List NumberSet) (t : ℕ) (s : NumberSet) → slice_get ss t ≡ Some s → x ≡ so +ℤ pos t → is_held i x ss so ≡ contains s i
+is_there : (i x so : ℤ) (ss : List NumberSet) (t : ℕ) (s : NumberSet) → slice_get ss t ≡ Some s
+    → x ≡ so +ℤ pos t → is_held i x ss so ≡ contains s i
 is_there i x so ss t s at is =
     let place : (x -ℤ so) +ℤ pos 1 ≡ pos (suc t) = omega (arith, ints) in
     ap (λ o. option_map_or (λ u. contains u i) o false) (ap (element_at ss) place ∙ element_is ss t ∙ at)
 
-have_all : (i : ℤ) (xs : List ℤ) (ss : List NumberSet) (so : ℤ) → are_held i xs ss so ≡ true → HaveAll i xs ss so
+have_all : (i : ℤ) (xs : List ℤ) (ss : List NumberSet) (so : ℤ) → are_held i xs ss so ≡ true
+    → HaveAll i xs ss so
 have_all i [] ss so held t s at = refl
 have_all i (x ∷ xs) ss so held t s at =
     let later : list_all (contains s) (indices_of (i +ℤ pos 1) xs (so +ℤ pos t)) ≡ true = have_all (i +ℤ pos 1) xs ss so (and_second (is_held i x ss so) (are_held (i +ℤ pos 1) xs ss so) held) t s at in
@@ -144,7 +150,8 @@ have_all i (x ∷ xs) ss so held t s at =
 abbrev in_range : List NumberSet → ℤ → ℤ → Bool
 in_range ss so x = lies_between so ((so +ℤ pos (length ss)) -ℤ pos 1) x
 
-held_in_range : (i x : ℤ) (ss : List NumberSet) (so : ℤ) → is_held i x ss so ≡ true → in_range ss so x ≡ true
+held_in_range : (i x : ℤ) (ss : List NumberSet) (so : ℤ) → is_held i x ss so ≡ true
+    → in_range ss so x ≡ true
 held_in_range i x ss so held =
     elim (element_at ss ((x -ℤ so) +ℤ pos 1)) as (λ o. element_at ss ((x -ℤ so) +ℤ pos 1) ≡ o → option_map_or (λ s. contains s i) o false ≡ true → in_range ss so x ≡ true) [
       | None ↦ λ _ e. no e
@@ -153,36 +160,42 @@ held_in_range i x ss so held =
           ranged x so (length ss) there.0 there.1 (slice_get_within ss there.0 s there.2)
     ] refl held
   where
-    set_place : (ss : List NumberSet) (n : ℤ) (c : NumberSet) → element_at ss n ≡ Some c → (k : ℕ) × (n ≡ pos (suc k)) × (slice_get ss k ≡ Some c)
+    set_place : (ss : List NumberSet) (n : ℤ) (c : NumberSet) → element_at ss n ≡ Some c
+        → (k : ℕ) × (n ≡ pos (suc k)) × (slice_get ss k ≡ Some c)
     set_place [] n c e = cc
     set_place (x ∷ xs) (negsuc n) c e = cc
     set_place (x ∷ xs) (pos zero) c e = cc
     set_place (x ∷ xs) (pos (suc k)) c e = (k, refl, sym (element_is (x ∷ xs) k) ∙ e)
 
-    ranged : (x so : ℤ) (m k : ℕ) → (x -ℤ so) +ℤ pos 1 ≡ pos (suc k) → k < m → lies_between so ((so +ℤ pos m) -ℤ pos 1) x ≡ true
+    ranged : (x so : ℤ) (m k : ℕ) → (x -ℤ so) +ℤ pos 1 ≡ pos (suc k) → k < m
+        → lies_between so ((so +ℤ pos m) -ℤ pos 1) x ≡ true
     ranged x so m k e h = grind (arith, ints)
 
-all_in_range : (i : ℤ) (xs : List ℤ) (ss : List NumberSet) (so : ℤ) → are_held i xs ss so ≡ true → list_all (in_range ss so) xs ≡ true
+all_in_range : (i : ℤ) (xs : List ℤ) (ss : List NumberSet) (so : ℤ) → are_held i xs ss so ≡ true
+    → list_all (in_range ss so) xs ≡ true
 all_in_range i [] ss so held = refl
 all_in_range i (x ∷ xs) ss so held =
     and_both (in_range ss so x) (list_all (in_range ss so) xs)
     (held_in_range i x ss so (and_first (is_held i x ss so) (are_held (i +ℤ pos 1) xs ss so) held))
     (all_in_range (i +ℤ pos 1) xs ss so (and_second (is_held i x ss so) (are_held (i +ℤ pos 1) xs ss so) held))
 
-place_of : (so x : ℤ) (m : ℕ) → lies_between so ((so +ℤ pos m) -ℤ pos 1) x ≡ true → (t : ℕ) × (t < m) × (x ≡ so +ℤ pos t)
+place_of : (so x : ℤ) (m : ℕ) → lies_between so ((so +ℤ pos m) -ℤ pos 1) x ≡ true
+    → (t : ℕ) × (t < m) × (x ≡ so +ℤ pos t)
 place_of so x m e = at (x -ℤ so) refl
   where
     at : (d : ℤ) → x -ℤ so ≡ d → (t : ℕ) × (t < m) × (x ≡ so +ℤ pos t)
     at (pos t) is = (t, below t is e, omega (arith, ints))
       where
-        below : (t : ℕ) → x -ℤ so ≡ pos t → lies_between so ((so +ℤ pos m) -ℤ pos 1) x ≡ true → t < m
+        below : (t : ℕ) → x -ℤ so ≡ pos t → lies_between so ((so +ℤ pos m) -ℤ pos 1) x ≡ true
+            → t < m
         below t is e = grind (arith, ints)
     at (negsuc n) is = absurd (above n is e)
       where
         above : (n : ℕ) → x -ℤ so ≡ negsuc n → lies_between so ((so +ℤ pos m) -ℤ pos 1) x ≡ true → ⊥
         above n is e = grind (arith, ints)
 
-held_from : (i : ℤ) (xs : List ℤ) (ss : List NumberSet) (so : ℤ) → list_all (in_range ss so) xs ≡ true → HaveAll i xs ss so → are_held i xs ss so ≡ true
+held_from : (i : ℤ) (xs : List ℤ) (ss : List NumberSet) (so : ℤ)
+    → list_all (in_range ss so) xs ≡ true → HaveAll i xs ss so → are_held i xs ss so ≡ true
 held_from i [] ss so ranged have = refl
 held_from i (x ∷ xs) ss so ranged have =
     let there = place_of so x (length ss) (and_first (in_range ss so x) (list_all (in_range ss so) xs) ranged) in
@@ -191,17 +204,20 @@ held_from i (x ∷ xs) ss so ranged have =
     (is_there i x so ss there.0 s.0 s.1 there.2 ∙ first_in s.0 there.0 there.2 (have there.0 s.0 s.1))
     (held_from (i +ℤ pos 1) xs ss so (and_second (in_range ss so x) (list_all (in_range ss so) xs) ranged) (λ t u at. fewer t u (have t u at)))
   where
-    get_at : (ss : List NumberSet) (t : ℕ) → t < length ss → (s : NumberSet) × (slice_get ss t ≡ Some s)
+    get_at : (ss : List NumberSet) (t : ℕ) → t < length ss
+        → (s : NumberSet) × (slice_get ss t ≡ Some s)
     get_at [] t h = absurd (omega arith)
     get_at (s ∷ ss) zero h = (s, refl)
     get_at (s ∷ ss) (suc t) h = get_at ss t (omega arith)
 
-    first_in : (s : NumberSet) (t : ℕ) → x ≡ so +ℤ pos t → list_all (contains s) (indices_of i (x ∷ xs) (so +ℤ pos t)) ≡ true → contains s i ≡ true
+    first_in : (s : NumberSet) (t : ℕ) → x ≡ so +ℤ pos t
+        → list_all (contains s) (indices_of i (x ∷ xs) (so +ℤ pos t)) ≡ true → contains s i ≡ true
     first_in s t is all =
         and_first (contains s i) (list_all (contains s) (indices_of (i +ℤ pos 1) xs (so +ℤ pos t)))
         (subst (λ b. list_all (contains s) (if b then i ∷ indices_of (i +ℤ pos 1) xs (so +ℤ pos t) else indices_of (i +ℤ pos 1) xs (so +ℤ pos t)) ≡ true) ((Decides-int_eq x (so +ℤ pos t)).1 is) all)
 
-    fewer : (t : ℕ) (s : NumberSet) → list_all (contains s) (indices_of i (x ∷ xs) (so +ℤ pos t)) ≡ true → list_all (contains s) (indices_of (i +ℤ pos 1) xs (so +ℤ pos t)) ≡ true
+    fewer : (t : ℕ) (s : NumberSet) → list_all (contains s) (indices_of i (x ∷ xs) (so +ℤ pos t))
+        ≡ true → list_all (contains s) (indices_of (i +ℤ pos 1) xs (so +ℤ pos t)) ≡ true
     fewer t s all =
         elim (x =ℤ (so +ℤ pos t)) as (λ b. list_all (contains s) (if b then i ∷ indices_of (i +ℤ pos 1) xs (so +ℤ pos t) else indices_of (i +ℤ pos 1) xs (so +ℤ pos t)) ≡ true → list_all (contains s) (indices_of (i +ℤ pos 1) xs (so +ℤ pos t)) ≡ true) [
           | true ↦ λ e. and_second (contains s i) (list_all (contains s) (indices_of (i +ℤ pos 1) xs (so +ℤ pos t))) e
@@ -221,14 +237,16 @@ none_counted j (s ∷ ss) =
     let rest : counts_of (j +ℤ pos 1) ss [] ≡ 0 = none_counted (j +ℤ pos 1) ss in
     omega arith
 
-not_here : (j x : ℤ) (ss : List NumberSet) (xs : List ℤ) → x <ℤ j → counts_of j ss (x ∷ xs) ≡ counts_of j ss xs
+not_here : (j x : ℤ) (ss : List NumberSet) (xs : List ℤ) → x <ℤ j
+    → counts_of j ss (x ∷ xs) ≡ counts_of j ss xs
 not_here j x [] xs h = refl
 not_here j x (s ∷ ss) xs h =
     let here : times j (x ∷ xs) ≡ times j xs = ap (λ b. cond b (suc (times j xs)) (times j xs)) (other_int x j (λ same. omega (arith, ints))) in
     let later : counts_of (j +ℤ pos 1) ss (x ∷ xs) ≡ counts_of (j +ℤ pos 1) ss xs = not_here (j +ℤ pos 1) x ss xs (omega (arith, ints)) in
     λ k. here k + later k
 
-once_here : (j x : ℤ) (ss : List NumberSet) (xs : List ℤ) (t : ℕ) → t < length ss → x ≡ j +ℤ pos t → counts_of j ss (x ∷ xs) ≡ suc (counts_of j ss xs)
+once_here : (j x : ℤ) (ss : List NumberSet) (xs : List ℤ) (t : ℕ) → t < length ss → x ≡ j +ℤ pos t
+    → counts_of j ss (x ∷ xs) ≡ suc (counts_of j ss xs)
 once_here j x [] xs t h is = absurd (omega arith)
 once_here j x (s ∷ ss) xs zero h is =
     let same : x ≡ j = omega (arith, ints) in
@@ -240,7 +258,8 @@ once_here j x (s ∷ ss) xs (suc t) h is =
     let later : counts_of (j +ℤ pos 1) ss (x ∷ xs) ≡ suc (counts_of (j +ℤ pos 1) ss xs) = once_here (j +ℤ pos 1) x ss xs t (omega arith) (omega (arith, ints)) in
     (λ k. here k + later k) ∙ omega arith
 
-all_counted : (so : ℤ) (ss : List NumberSet) (xs : List ℤ) → list_all (in_range ss so) xs ≡ true → counts_of so ss xs ≡ length xs
+all_counted : (so : ℤ) (ss : List NumberSet) (xs : List ℤ) → list_all (in_range ss so) xs ≡ true
+    → counts_of so ss xs ≡ length xs
 all_counted so ss [] ranged = none_counted so ss
 all_counted so ss (x ∷ xs) ranged =
     let there = place_of so x (length ss) (and_first (in_range ss so x) (list_all (in_range ss so) xs) ranged) in
@@ -262,7 +281,8 @@ module _ (xs : List ℤ) (o : ℤ) where
       let there : (j +ℤ pos 1) +ℤ pos t ≡ j +ℤ pos (suc t) = omega (arith, ints) in
       subst (λ v. list_all (contains s) (indices_of o xs v) ≡ true) there (sets_told (j +ℤ pos 1) ss (and_second (u =ˢ from_list (indices_of o xs j)) (sets_are (j +ℤ pos 1) ss xs o) are) t s at)
 
-  sets_sized : (j : ℤ) (ss : List NumberSet) → sets_are j ss xs o ≡ true → size_of_all ss ≡ counts_of j ss xs
+  sets_sized : (j : ℤ) (ss : List NumberSet) → sets_are j ss xs o ≡ true
+      → size_of_all ss ≡ counts_of j ss xs
   sets_sized j [] are = refl
   sets_sized j (s ∷ ss) are =
       let same : s ≡ from_list (indices_of o xs j) = same_set_is s (from_list (indices_of o xs j)) (and_first (s =ˢ from_list (indices_of o xs j)) (sets_are (j +ℤ pos 1) ss xs o) are) in
@@ -272,7 +292,9 @@ module _ (xs : List ℤ) (o : ℤ) where
 
   -- ---- and back
 
-  sets_hold : (j : ℤ) (ss : List NumberSet) → HaveAll o xs ss j → (counts_of j ss xs ≤ size_of_all ss) × (counts_of j ss xs ≡ size_of_all ss → sets_are j ss xs o ≡ true)
+  sets_hold : (j : ℤ) (ss : List NumberSet) → HaveAll o xs ss j
+      → (counts_of j ss xs ≤ size_of_all ss)
+      × (counts_of j ss xs ≡ size_of_all ss → sets_are j ss xs o ≡ true)
   sets_hold j [] have = (omega arith, λ _. refl)
   sets_hold j (s ∷ ss) have =
       let here : j +ℤ pos 0 ≡ j = omega (arith, ints) in
@@ -286,12 +308,14 @@ module _ (xs : List ℤ) (o : ℤ) where
             (rest.1 (omega (arith, one.0, rest.0))),
       )
     where
-      later : (t : ℕ) (u : NumberSet) → list_all (contains u) (indices_of o xs (j +ℤ pos (suc t))) ≡ true → list_all (contains u) (indices_of o xs ((j +ℤ pos 1) +ℤ pos t)) ≡ true
+      later : (t : ℕ) (u : NumberSet) → list_all (contains u) (indices_of o xs (j +ℤ pos (suc t)))
+          ≡ true → list_all (contains u) (indices_of o xs ((j +ℤ pos 1) +ℤ pos t)) ≡ true
       later t u all =
           let there : j +ℤ pos (suc t) ≡ (j +ℤ pos 1) +ℤ pos t = omega (arith, ints) in
           subst (λ v. list_all (contains u) (indices_of o xs v) ≡ true) there all
 
-  pub channelled_is : (ss : List NumberSet) (so : ℤ) → (are_held o xs ss so && nat_eq (size_of_all ss) (length xs)) ≡ are_channelled xs o ss so
+  pub channelled_is : (ss : List NumberSet) (so : ℤ)
+      → (are_held o xs ss so && nat_eq (size_of_all ss) (length xs)) ≡ are_channelled xs o ss so
   channelled_is ss so =
       both_ways (are_held o xs ss so && nat_eq (size_of_all ss) (length xs)) (are_channelled xs o ss so)
       (λ e.
@@ -319,11 +343,13 @@ module _ (o : ℤ) (xs : List ℤ) (ss : List NumberSet) (so : ℤ) (i : ℕ) (r
   one : r ≡ (is_held (o +ℤ pos i) x ss so && are_held (o +ℤ pos (i + 1)) (drop (i + 1) xs) ss so)
   one = so_far ∙ ap (λ l. are_held (o +ℤ pos i) l ss so) (next xs i x at) ∙ ap (λ j. is_held (o +ℤ pos i) x ss so && are_held j (drop (i + 1) xs) ss so) (one_on o i)
 
-  pub one_held : is_held (o +ℤ pos i) x ss so ≡ true → r ≡ are_held (o +ℤ pos (i + 1)) (drop (i + 1) xs) ss so
+  pub one_held : is_held (o +ℤ pos i) x ss so ≡ true
+      → r ≡ are_held (o +ℤ pos (i + 1)) (drop (i + 1) xs) ss so
   one_held held = one ∙ ap (λ b. b && are_held (o +ℤ pos (i + 1)) (drop (i + 1) xs) ss so) held
 
   pub one_not_held : is_held (o +ℤ pos i) x ss so ≡ false → false ≡ r
   one_not_held missing = sym (one ∙ ap (λ b. b && are_held (o +ℤ pos (i + 1)) (drop (i + 1) xs) ss so) missing)
 
-pub one_sized : (ss : List NumberSet) (i : ℕ) (s : NumberSet) → slice_get ss i ≡ Some s → size_of_all (drop i ss) ≡ len s + size_of_all (drop (i + 1) ss)
+pub one_sized : (ss : List NumberSet) (i : ℕ) (s : NumberSet) → slice_get ss i ≡ Some s
+    → size_of_all (drop i ss) ≡ len s + size_of_all (drop (i + 1) ss)
 one_sized ss i s at = ap size_of_all (next ss i s at)

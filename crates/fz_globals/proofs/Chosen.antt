@@ -26,10 +26,13 @@ pub none_chosen : {A : Type 0} (test : A → Bool) (ps : List (A × ℤ)) → Is
 none_chosen test ps = record { whole = from_zero (chosen test ps); low = omega (arith, ints); high = omega (arith, ints) }
 
 module _ {A : Type 0} (test : A → Bool) (ps : List (A × ℤ)) (i : ℕ) (s : ℤ) (a : A) (n : ℤ) (so_far : IsChosen test ps i s) (here : drop i ps ≡ (a, n) ∷ drop (i + 1) ps) where
-  left : (b : Bool) → test a ≡ b → chosen test (drop i ps) ≡ total (map (λ p. p.1) (cond b ((a, n) ∷ filter (λ p. test p.0) (drop (i + 1) ps)) (filter (λ p. test p.0) (drop (i + 1) ps))))
+  left : (b : Bool) → test a ≡ b → chosen test (drop i ps)
+      ≡ total (map (λ p. p.1) (cond b ((a, n) ∷ filter (λ p. test p.0) (drop (i + 1) ps))
+      (filter (λ p. test p.0) (drop (i + 1) ps))))
   left b e = ap (chosen test) here ∙ ap (λ c. total (map (λ p. p.1) (cond c ((a, n) ∷ filter (λ p. test p.0) (drop (i + 1) ps)) (filter (λ p. test p.0) (drop (i + 1) ps))))) e
 
-  pub one_chosen : (t : ℤ) → t ≡ (s +ℤ n) → test a ≡ true → FitsSigned w64 n → IsChosen test ps (i + 1) t
+  pub one_chosen : (t : ℤ) → t ≡ (s +ℤ n) → test a ≡ true → FitsSigned w64 n
+      → IsChosen test ps (i + 1) t
   one_chosen t is passes fits =
       let low : neg_ℤ (pos (9223372036854775808 * i)) ≤ℤ s = so_far.low in
       let high : s ≤ℤ pos (9223372036854775808 * i) = so_far.high in
@@ -49,5 +52,6 @@ module _ {A : Type 0} (test : A → Bool) (ps : List (A × ℤ)) (i : ℕ) (s : 
         high = omega (arith, ints);
       }
 
-pub all_chosen : {A : Type 0} (test : A → Bool) (ps : List (A × ℤ)) (i : ℕ) (s : ℤ) → IsChosen test ps i s → length ps ≤ i → s ≡ chosen test ps
+pub all_chosen : {A : Type 0} (test : A → Bool) (ps : List (A × ℤ)) (i : ℕ) (s : ℤ)
+    → IsChosen test ps i s → length ps ≤ i → s ≡ chosen test ps
 all_chosen test ps i s so_far end = sym (so_far.whole ∙ ap (λ l. s +ℤ chosen test l) (drop_all i ps end) ∙ to_zero s)

@@ -13,7 +13,8 @@ use Rattle.fz_kernel.proofs.Left.{next, none_left, one_more}
 -- ---- a test of each element
 
 module _ {A : Type 0} (p : A → Bool) (xs : List A) (i : ℕ) (x : A) (at : slice_get xs i ≡ Some x) where
-  pub still_all : list_all p xs ≡ list_all p (drop i xs) → p x ≡ true → list_all p xs ≡ list_all p (drop (i + 1) xs)
+  pub still_all : list_all p xs ≡ list_all p (drop i xs) → p x ≡ true
+      → list_all p xs ≡ list_all p (drop (i + 1) xs)
   still_all so_far e = so_far ∙ ap (list_all p) (next xs i x at) ∙ ap (λ b. b && list_all p (drop (i + 1) xs)) e
 
   pub not_all : list_all p xs ≡ list_all p (drop i xs) → p x ≡ false → false ≡ list_all p xs
@@ -22,15 +23,18 @@ module _ {A : Type 0} (p : A → Bool) (xs : List A) (i : ℕ) (x : A) (at : sli
   pub one_does : list_any p xs ≡ list_any p (drop i xs) → p x ≡ true → true ≡ list_any p xs
   one_does so_far e = sym (so_far ∙ ap (list_any p) (next xs i x at) ∙ ap (λ b. b || list_any p (drop (i + 1) xs)) e)
 
-  pub not_yet : list_any p xs ≡ list_any p (drop i xs) → p x ≡ false → list_any p xs ≡ list_any p (drop (i + 1) xs)
+  pub not_yet : list_any p xs ≡ list_any p (drop i xs) → p x ≡ false
+      → list_any p xs ≡ list_any p (drop (i + 1) xs)
   not_yet so_far e = so_far ∙ ap (list_any p) (next xs i x at) ∙ ap (λ b. b || list_any p (drop (i + 1) xs)) e
 
 -- ---- how many pass
 
-pub filter_yes : {A : Type 0} (p : A → Bool) (x : A) (xs : List A) → p x ≡ true → length (filter p (x ∷ xs)) ≡ suc (length (filter p xs))
+pub filter_yes : {A : Type 0} (p : A → Bool) (x : A) (xs : List A) → p x ≡ true
+    → length (filter p (x ∷ xs)) ≡ suc (length (filter p xs))
 filter_yes p x xs e = ap (λ b. length (cond b (x ∷ filter p xs) (filter p xs))) e
 
-pub filter_no : {A : Type 0} (p : A → Bool) (x : A) (xs : List A) → p x ≡ false → length (filter p (x ∷ xs)) ≡ length (filter p xs)
+pub filter_no : {A : Type 0} (p : A → Bool) (x : A) (xs : List A) → p x ≡ false
+    → length (filter p (x ∷ xs)) ≡ length (filter p xs)
 filter_no p x xs e = ap (λ b. length (cond b (x ∷ filter p xs) (filter p xs))) e
 
 -- n of the first i pass
@@ -41,7 +45,8 @@ pub record IsTold {A : Type 0} (p : A → Bool) (xs : List A) (i n : ℕ) : Type
 pub none_told : {A : Type 0} (p : A → Bool) (xs : List A) → IsTold p xs 0 0
 none_told p xs = record { whole = omega arith; few = omega arith }
 
-pub all_told : {A : Type 0} (p : A → Bool) (xs : List A) (i n : ℕ) → length xs ≤ i → IsTold p xs i n → n ≡ length (filter p xs)
+pub all_told : {A : Type 0} (p : A → Bool) (xs : List A) (i n : ℕ) → length xs ≤ i → IsTold p xs i n
+    → n ≡ length (filter p xs)
 all_told p xs i n end so_far =
     let whole : length (filter p xs) ≡ n + length (filter p (drop i xs)) = so_far.whole in
     let none : length (filter p (drop i xs)) ≡ 0 = ap (λ l. length (filter p l)) (none_left xs i end) in
@@ -63,17 +68,21 @@ module _ {A : Type 0} (p : A → Bool) (xs : List A) (i n : ℕ) (x : A) (at : s
       record { whole = omega arith; few = omega arith }
 
 -- those that pass, so far
-pub one_kept : {A : Type 0} (p : A → Bool) (xs : List A) (i : ℕ) (x : A) → slice_get xs i ≡ Some x → p x ≡ true → filter p (take (i + 1) xs) ≡ filter p (take i xs) ++ x ∷ []
+pub one_kept : {A : Type 0} (p : A → Bool) (xs : List A) (i : ℕ) (x : A) → slice_get xs i ≡ Some x
+    → p x ≡ true → filter p (take (i + 1) xs) ≡ filter p (take i xs) ++ x ∷ []
 one_kept p xs i x at e = ap (filter p) (one_more xs i x at) ∙ filter-append p (take i xs) (x ∷ []) ∙ ap (λ b. filter p (take i xs) ++ cond b (x ∷ []) []) e
 
-pub one_skipped : {A : Type 0} (p : A → Bool) (xs : List A) (i : ℕ) (x : A) → slice_get xs i ≡ Some x → p x ≡ false → filter p (take (i + 1) xs) ≡ filter p (take i xs)
+pub one_skipped : {A : Type 0} (p : A → Bool) (xs : List A) (i : ℕ) (x : A)
+    → slice_get xs i ≡ Some x → p x ≡ false → filter p (take (i + 1) xs) ≡ filter p (take i xs)
 one_skipped p xs i x at e = ap (filter p) (one_more xs i x at) ∙ filter-append p (take i xs) (x ∷ []) ∙ ap (λ b. filter p (take i xs) ++ cond b (x ∷ []) []) e ∙ append-nil (filter p (take i xs))
 
 -- the order of the elements doesn't matter
-pub told-permutation : {A : Type 0} (p : A → Bool) (xs ys : List A) → IsPermutation xs ys → length (filter p xs) ≡ length (filter p ys)
+pub told-permutation : {A : Type 0} (p : A → Bool) (xs ys : List A) → IsPermutation xs ys
+    → length (filter p xs) ≡ length (filter p ys)
 told-permutation p xs ys moved = length-filter p xs ∙ sym (sum_by-IsPermutation (λ x. cond (p x) 1 0) xs ys moved) ∙ sym (length-filter p ys)
 
-pub count_of-permutation : (xs ys : List ℤ) → IsPermutation xs ys → (v : ℤ) → count_of xs v ≡ count_of ys v
+pub count_of-permutation : (xs ys : List ℤ) → IsPermutation xs ys → (v : ℤ)
+    → count_of xs v ≡ count_of ys v
 count_of-permutation xs ys moved v = ap pos (told-permutation (λ x. int_eq x v) xs ys moved)
 
 -- ---- two lists side by side
@@ -82,7 +91,8 @@ both_none : {A B : Type 0} (p : A → B → Bool) (xs : List A) → all_both p x
 both_none p [] = refl
 both_none p (x ∷ xs) = refl
 
-pub all_both-same : {A B : Type 0} (p q : A → B → Bool) → ((x : A) (y : B) → p x y ≡ q x y) → (xs : List A) (ys : List B) → all_both p xs ys ≡ all_both q xs ys
+pub all_both-same : {A B : Type 0} (p q : A → B → Bool) → ((x : A) (y : B) → p x y ≡ q x y)
+    → (xs : List A) (ys : List B) → all_both p xs ys ≡ all_both q xs ys
 all_both-same p q same [] ys = refl
 all_both-same p q same (x ∷ xs) [] = refl
 all_both-same p q same (x ∷ xs) (y ∷ ys) = ap (λ b. b && all_both p xs ys) (same x y) ∙ ap (λ b. q x y && b) (all_both-same p q same xs ys)
@@ -95,34 +105,41 @@ module _ {A B : Type 0} (p : A → B → Bool) (xs : List A) (ys : List B) (i : 
       ended (inl h) = ap (λ l. all_both p l (drop i ys)) (none_left xs i h)
       ended (inr h) = ap (λ l. all_both p (drop i xs) l) (none_left ys i h) ∙ both_none p (drop i xs)
 
-  left : (x : A) (y : B) → slice_get xs i ≡ Some x → slice_get ys i ≡ Some y → all_both p xs ys ≡ (p x y && all_both p (drop (i + 1) xs) (drop (i + 1) ys))
+  left : (x : A) (y : B) → slice_get xs i ≡ Some x → slice_get ys i ≡ Some y
+      → all_both p xs ys ≡ (p x y && all_both p (drop (i + 1) xs) (drop (i + 1) ys))
   left x y at_x at_y = so_far ∙ rw (next xs i x at_x, next ys i y at_y)
 
-  pub both_pass : (x : A) (y : B) → slice_get xs i ≡ Some x → slice_get ys i ≡ Some y → p x y ≡ true → all_both p xs ys ≡ all_both p (drop (i + 1) xs) (drop (i + 1) ys)
+  pub both_pass : (x : A) (y : B) → slice_get xs i ≡ Some x → slice_get ys i ≡ Some y → p x y ≡ true
+      → all_both p xs ys ≡ all_both p (drop (i + 1) xs) (drop (i + 1) ys)
   both_pass x y at_x at_y e = left x y at_x at_y ∙ ap (λ b. b && all_both p (drop (i + 1) xs) (drop (i + 1) ys)) e
 
-  pub both_fail : (x : A) (y : B) → slice_get xs i ≡ Some x → slice_get ys i ≡ Some y → p x y ≡ false → false ≡ all_both p xs ys
+  pub both_fail : (x : A) (y : B) → slice_get xs i ≡ Some x → slice_get ys i ≡ Some y
+      → p x y ≡ false → false ≡ all_both p xs ys
   both_fail x y at_x at_y e = sym (left x y at_x at_y ∙ ap (λ b. b && all_both p (drop (i + 1) xs) (drop (i + 1) ys)) e)
 
-pub counts_are-permutation : (xs ys : List ℤ) → IsPermutation xs ys → (vs ns : List ℤ) → counts_are ys vs ns ≡ counts_are xs vs ns
+pub counts_are-permutation : (xs ys : List ℤ) → IsPermutation xs ys → (vs ns : List ℤ)
+    → counts_are ys vs ns ≡ counts_are xs vs ns
 counts_are-permutation xs ys moved vs ns =
     all_both-same (λ v n. count_of ys v =ℤ n) (λ v n. count_of xs v =ℤ n) (λ v n. ap (λ k. k =ℤ n) (sym (count_of-permutation xs ys moved v))) vs ns
 
-pub counts_lie-permutation : (xs ys : List ℤ) → IsPermutation xs ys → (vs least most : List ℤ) → counts_lie ys vs least most ≡ counts_lie xs vs least most
+pub counts_lie-permutation : (xs ys : List ℤ) → IsPermutation xs ys → (vs least most : List ℤ)
+    → counts_lie ys vs least most ≡ counts_lie xs vs least most
 counts_lie-permutation xs ys moved vs least most =
     ap (λ b. b && all_both (λ v n. int_le (count_of ys v) n) vs most)
     (all_both-same (λ v n. int_le n (count_of ys v)) (λ v n. int_le n (count_of xs v)) (λ v n. ap (λ k. int_le n k) (sym (count_of-permutation xs ys moved v))) vs least)
     ∙ ap (λ b. all_both (λ v n. int_le n (count_of xs v)) vs least && b)
     (all_both-same (λ v n. int_le (count_of ys v) n) (λ v n. int_le (count_of xs v) n) (λ v n. ap (λ k. int_le k n) (sym (count_of-permutation xs ys moved v))) vs most)
 
-pub closed-permutation : (vs ys : List ℤ) → IsPermutation vs ys → (xs : List ℤ) → is_closed xs ys ≡ is_closed xs vs
+pub closed-permutation : (vs ys : List ℤ) → IsPermutation vs ys → (xs : List ℤ)
+    → is_closed xs ys ≡ is_closed xs vs
 closed-permutation vs ys moved [] = refl
 closed-permutation vs ys moved (x ∷ xs) =
     ap (λ b. b && is_closed xs ys) (sym (list_any-IsPermutation (λ y. y =ℤ x) vs ys moved)) ∙ ap (λ b. is_among x vs && b) (closed-permutation vs ys moved xs)
 
 -- ---- the same list
 
-pub other_lengths : {A : Type 0} (same : A → A → Bool) (xs ys : List A) → ¬ (length xs ≡ length ys) → false ≡ is_same_list same xs ys
+pub other_lengths : {A : Type 0} (same : A → A → Bool) (xs ys : List A) → ¬ (length xs ≡ length ys)
+    → false ≡ is_same_list same xs ys
 other_lengths same [] [] other = absurd (other refl)
 other_lengths same [] (y ∷ ys) other = refl
 other_lengths same (x ∷ xs) [] other = refl
@@ -136,11 +153,15 @@ module _ {A : Type 0} (same : A → A → Bool) (xs ys : List A) (i : ℕ) (so_f
   pub same_end : length xs ≤ i → length ys ≤ i → true ≡ is_same_list same xs ys
   same_end end_x end_y = sym (so_far ∙ rw (none_left xs i end_x, none_left ys i end_y))
 
-  left_same : (x y : A) → slice_get xs i ≡ Some x → slice_get ys i ≡ Some y → is_same_list same xs ys ≡ (same x y && is_same_list same (drop (i + 1) xs) (drop (i + 1) ys))
+  left_same : (x y : A) → slice_get xs i ≡ Some x → slice_get ys i ≡ Some y
+      → is_same_list same xs ys ≡ (same x y
+      && is_same_list same (drop (i + 1) xs) (drop (i + 1) ys))
   left_same x y at_x at_y = so_far ∙ rw (next xs i x at_x, next ys i y at_y)
 
-  pub still_same : (x y : A) → slice_get xs i ≡ Some x → slice_get ys i ≡ Some y → same x y ≡ true → is_same_list same xs ys ≡ is_same_list same (drop (i + 1) xs) (drop (i + 1) ys)
+  pub still_same : (x y : A) → slice_get xs i ≡ Some x → slice_get ys i ≡ Some y → same x y ≡ true
+      → is_same_list same xs ys ≡ is_same_list same (drop (i + 1) xs) (drop (i + 1) ys)
   still_same x y at_x at_y e = left_same x y at_x at_y ∙ ap (λ b. b && is_same_list same (drop (i + 1) xs) (drop (i + 1) ys)) e
 
-  pub not_same : (x y : A) → slice_get xs i ≡ Some x → slice_get ys i ≡ Some y → same x y ≡ false → false ≡ is_same_list same xs ys
+  pub not_same : (x y : A) → slice_get xs i ≡ Some x → slice_get ys i ≡ Some y → same x y ≡ false
+      → false ≡ is_same_list same xs ys
   not_same x y at_x at_y e = sym (left_same x y at_x at_y ∙ ap (λ b. b && is_same_list same (drop (i + 1) xs) (drop (i + 1) ys)) e)

@@ -26,7 +26,8 @@ none_passed o n xs = ap (λ i. index_from i xs n) (from_here o)
 
 module _ (o n : ℤ) (xs : List ℤ) (i : ℕ) (r : Option ℤ) (so_far : r ≡ index_from (o +ℤ pos i) (drop i xs) n) where
   module _ (x : ℤ) (at : slice_get xs i ≡ Some x) where
-    one : r ≡ (if x =ℤ n then Some (o +ℤ pos i) else index_from ((o +ℤ pos i) +ℤ pos 1) (drop (i + 1) xs) n)
+    one : r ≡ (if x =ℤ n then Some (o +ℤ pos i)
+        else index_from ((o +ℤ pos i) +ℤ pos 1) (drop (i + 1) xs) n)
     one = so_far ∙ ap (λ l. index_from (o +ℤ pos i) l n) (next xs i x at)
 
     pub stands_there : x ≡ n → r ≡ Some (o +ℤ pos i)
@@ -42,7 +43,8 @@ module _ (o n : ℤ) (xs : List ℤ) (i : ℕ) (r : Option ℤ) (so_far : r ≡ 
 
 -- ---- the best
 
-any_at : (test : ℤ → Bool) (m : ℤ) (xs : List ℤ) → is_among m xs ≡ true → test m ≡ true → list_any test xs ≡ true
+any_at : (test : ℤ → Bool) (m : ℤ) (xs : List ℤ) → is_among m xs ≡ true → test m ≡ true
+    → list_any test xs ≡ true
 any_at test m [] among passed = no among
 any_at test m (x ∷ xs) among passed =
     elim (x =ℤ m) as (λ b. (x =ℤ m) ≡ b → (b || is_among m xs) ≡ true → (test x || list_any test xs) ≡ true) [
@@ -50,7 +52,8 @@ any_at test m (x ∷ xs) among passed =
       | false ↦ λ _ later. or_right (test x) (list_any test xs) (any_at test m xs later passed)
     ] refl among
 
-which : (test : ℤ → Bool) (xs : List ℤ) → list_any test xs ≡ true → (m : ℤ) × (is_among m xs ≡ true) × (test m ≡ true)
+which : (test : ℤ → Bool) (xs : List ℤ) → list_any test xs ≡ true
+    → (m : ℤ) × (is_among m xs ≡ true) × (test m ≡ true)
 which test [] any = no any
 which test (x ∷ xs) any =
     elim (test x) as (λ b. test x ≡ b → (b || list_any test xs) ≡ true → (m : ℤ) × (is_among m (x ∷ xs) ≡ true) × (test m ≡ true)) [
@@ -61,7 +64,8 @@ which test (x ∷ xs) any =
     ] refl any
 
 -- what is so of the best is so of one that no other exceeds
-pub at_the_best : (below : ℤ → ℤ → Bool) → IsOrder below → (xs : List ℤ) (m : ℤ) (g : ℤ → Bool) → is_best below m xs ≡ true → g m ≡ list_any (λ n. list_all (λ x. below x n) xs && g n) xs
+pub at_the_best : (below : ℤ → ℤ → Bool) → IsOrder below → (xs : List ℤ) (m : ℤ) (g : ℤ → Bool)
+    → is_best below m xs ≡ true → g m ≡ list_any (λ n. list_all (λ x. below x n) xs && g n) xs
 at_the_best below order xs m g best =
     both_ways (g m) (list_any (λ n. list_all (λ x. below x n) xs && g n) xs)
     (λ passed. any_at (λ n. list_all (λ x. below x n) xs && g n) m xs

@@ -18,23 +18,27 @@ use Rattle.fz_kernel.proofs.Left.{next}
 
 -- ---- numbers in order
 
-pub rises : (xs : List ℤ) → IsSorted int_cmp xs → (i j : ℕ) → i ≤ j → j < length xs → get_or xs i (pos 0) ≤ℤ get_or xs j (pos 0)
+pub rises : (xs : List ℤ) → IsSorted int_cmp xs → (i j : ℕ) → i ≤ j → j < length xs
+    → get_or xs i (pos 0) ≤ℤ get_or xs j (pos 0)
 rises xs sorted i j h g = not_below (get_or xs j (pos 0)) (get_or xs i (pos 0)) (sorted_far (λ x y. is_lt (int_cmp x y)) (ranks_by int_cmp_total (λ (x : ℤ). x)) xs sorted i j (pos 0) h g)
 
 -- ---- keys
 
 -- the keys so far, and those to come
-pub one_more_key : (ks : List ℤ) (xs : List ℤ) (i : ℕ) (x : ℤ) → slice_get xs i ≡ Some x → ks ++ keys_from i (drop i xs) ≡ (ks ++ key x i ∷ []) ++ keys_from (i + 1) (drop (i + 1) xs)
+pub one_more_key : (ks : List ℤ) (xs : List ℤ) (i : ℕ) (x : ℤ) → slice_get xs i ≡ Some x
+    → ks ++ keys_from i (drop i xs) ≡ (ks ++ key x i ∷ []) ++ keys_from (i + 1) (drop (i + 1) xs)
 one_more_key ks xs i x at = ap (λ l. ks ++ keys_from i l) (next xs i x at) ∙ sym (append_assoc ks (key x i ∷ []) (keys_from (i + 1) (drop (i + 1) xs)))
 
-key_at : (xs : List ℤ) (n k j : ℕ) (x : ℤ) → j ≡ n + k → slice_get xs k ≡ Some x → slice_get (keys_from n xs) k ≡ Some (key x j)
+key_at : (xs : List ℤ) (n k j : ℕ) (x : ℤ) → j ≡ n + k → slice_get xs k ≡ Some x
+    → slice_get (keys_from n xs) k ≡ Some (key x j)
 key_at [] n k j x is at = cc
 key_at (y ∷ ys) n zero j x is at =
     let place : n ≡ j = omega arith in
     (λ i. Some (key (same_Some y x at i) (place i)))
 key_at (y ∷ ys) n (suc k) j x is at = key_at ys (n + 1) k j x (omega arith) at
 
-key_is : (xs : List ℤ) (n k : ℕ) (z : ℤ) → slice_get (keys_from n xs) k ≡ Some z → (x : ℤ) × (slice_get xs k ≡ Some x) × (z ≡ key x (n + k))
+key_is : (xs : List ℤ) (n k : ℕ) (z : ℤ) → slice_get (keys_from n xs) k ≡ Some z
+    → (x : ℤ) × (slice_get xs k ≡ Some x) × (z ≡ key x (n + k))
 key_is [] n k z at = cc
 key_is (y ∷ ys) n zero z at =
     let place : n ≡ n + 0 = omega arith in
@@ -54,7 +58,8 @@ module _ (xs ks : List ℤ) (keys : AreKeys xs ks) where
   has_key : (k : ℕ) (x : ℤ) → slice_get xs k ≡ Some x → (j : ℕ) × (slice_get ks j ≡ Some (key x k))
   has_key k x at = container ks (key x k) (Contains-permutation (keys_from 0 xs) ks (key x k) keys.moved (contained (keys_from 0 xs) k (key x k) (key_at xs 0 k k x (omega arith) at)))
 
-  of_key : (j : ℕ) (z : ℤ) → slice_get ks j ≡ Some z → (k : ℕ) × (x : ℤ) × (k < 18446744073709551616) × (slice_get xs k ≡ Some x) × (z ≡ key x k)
+  of_key : (j : ℕ) (z : ℤ) → slice_get ks j ≡ Some z
+      → (k : ℕ) × (x : ℤ) × (k < 18446744073709551616) × (slice_get xs k ≡ Some x) × (z ≡ key x k)
   of_key j z at =
       let there = container (keys_from 0 xs) z (Contains-permutation ks (keys_from 0 xs) z (IsPermutation-sym (keys_from 0 xs) ks keys.moved) (contained ks j z at)) in
       let one = key_is xs 0 there.0 z there.1 in
@@ -64,7 +69,8 @@ module _ (xs ks : List ℤ) (keys : AreKeys xs ks) where
 
 -- ---- the first place
 
-first_there : (o v : ℤ) (xs : List ℤ) (k : ℕ) → slice_get xs k ≡ Some v → ((q : ℕ) → q < k → slice_get xs q ≡ Some v → ⊥) → index_from o xs v ≡ Some (o +ℤ pos k)
+first_there : (o v : ℤ) (xs : List ℤ) (k : ℕ) → slice_get xs k ≡ Some v
+    → ((q : ℕ) → q < k → slice_get xs q ≡ Some v → ⊥) → index_from o xs v ≡ Some (o +ℤ pos k)
 first_there o v [] k at before = cc
 first_there o v (x ∷ xs) zero at before =
     let here : o ≡ o +ℤ pos 0 = omega (arith, ints) in
@@ -74,7 +80,8 @@ first_there o v (x ∷ xs) (suc k) at before =
     ap (λ b. if b then Some o else index_from (o +ℤ pos 1) xs v) (other_int x v (λ same. before 0 (omega arith) (ap Some same)))
     ∙ first_there (o +ℤ pos 1) v xs k at (λ q h e. before (suc q) (omega arith) e) ∙ ap Some there
 
-nowhere : (o v : ℤ) (xs : List ℤ) → ((q : ℕ) → slice_get xs q ≡ Some v → ⊥) → index_from o xs v ≡ None
+nowhere : (o v : ℤ) (xs : List ℤ) → ((q : ℕ) → slice_get xs q ≡ Some v → ⊥)
+    → index_from o xs v ≡ None
 nowhere o v [] none = refl
 nowhere o v (x ∷ xs) none =
     ap (λ b. if b then Some o else index_from (o +ℤ pos 1) xs v) (other_int x v (λ same. none 0 (ap Some same)))
@@ -99,7 +106,8 @@ module _ (xs ks : List ℤ) (keys : AreKeys xs ks) (sorted : IsSorted int_cmp ks
         | inr h ↦ h
       ]
 
-  first_found : (z : ℤ) (p : ℕ) → i < length ks → get_or ks i (pos 0) ≡ z → p < 18446744073709551616 → z ≡ key v p → Some (pos p) ≡ index_from (pos 0) xs v
+  first_found : (z : ℤ) (p : ℕ) → i < length ks → get_or ks i (pos 0) ≡ z → p < 18446744073709551616
+      → z ≡ key v p → Some (pos p) ≡ index_from (pos 0) xs v
   first_found z p inside at short is =
       let there = of_key xs ks keys i z (slice_get-get_or ks i (pos 0) inside ∙ ap Some at) in
       let k = there.0 in
@@ -115,7 +123,9 @@ module _ (xs ks : List ℤ) (keys : AreKeys xs ks) (sorted : IsSorted int_cmp ks
       let there_is : get_or ks other.0 (pos 0) ≡ key v q = get_or_from_slice_get ks other.0 (key v q) (pos 0) other.1 in
       absurd (omega (arith, ints))) ∙ ap Some place)
 
-  none_found : (z : ℤ) → get_or ks i (pos 0) ≡ z → ((k : ℕ) → i ≤ k → k < length ks → key v 0 ≤ℤ get_or ks k (pos 0)) → ((p : ℕ) → p < 18446744073709551616 → z ≡ key v p → ⊥) → None ≡ index_from (pos 0) xs v
+  none_found : (z : ℤ) → get_or ks i (pos 0) ≡ z → ((k : ℕ) → i ≤ k → k < length ks
+      → key v 0 ≤ℤ get_or ks k (pos 0)) → ((p : ℕ) → p < 18446744073709551616 → z ≡ key v p → ⊥)
+      → None ≡ index_from (pos 0) xs v
   none_found z at from none =
       sym (nowhere (pos 0) v xs (λ q e.
       let other = has_key xs ks keys q v e in
@@ -129,7 +139,8 @@ module _ (xs ks : List ℤ) (keys : AreKeys xs ks) (sorted : IsSorted int_cmp ks
       let p = place_between v z q (subst (λ y. key v 0 ≤ℤ y) at here) (subst (λ y. y ≤ℤ key v q) at (subst (λ y. get_or ks i (pos 0) ≤ℤ y) there_is above)) in
       none p.0 (omega (arith, p.1)) p.2))
 
-  pub first_told : (z : ℤ) (o : Option ℕ) → i < length ks → get_or ks i (pos 0) ≡ z → ((k : ℕ) → i ≤ k → k < length ks → key v 0 ≤ℤ get_or ks k (pos 0))
+  pub first_told : (z : ℤ) (o : Option ℕ) → i < length ks → get_or ks i (pos 0) ≡ z
+      → ((k : ℕ) → i ≤ k → k < length ks → key v 0 ≤ℤ get_or ks k (pos 0))
       → IfSome o (λ p. z ≡ key v p) → IfSome o (λ p. p < 18446744073709551616) → IfNone o ((p : ℕ) → p < 18446744073709551616 → z ≡ key v p → ⊥) → option_map pos o ≡ index_from (pos 0) xs v
   first_told z (Some p) inside at from is short none = first_found z p inside at short is
   first_told z None inside at from is short none = none_found z at from none
@@ -163,7 +174,8 @@ not_sooner : (o i : ℤ) → o ≤ℤ i → int_lt i o ≡ false
 not_sooner o i h = grind (arith, ints)
 
 -- one number comes before another as their first places do
-pub precedes_is : (o s t : ℤ) (xs : List ℤ) → precedes s t xs ≡ comes_before (index_from o xs s) (index_from o xs t)
+pub precedes_is : (o s t : ℤ) (xs : List ℤ)
+    → precedes s t xs ≡ comes_before (index_from o xs s) (index_from o xs t)
 precedes_is o s t [] = refl
 precedes_is o s t (x ∷ xs) =
     elim (x =ℤ t) as (λ b. (not b && ((x =ℤ s) || precedes s t xs)) ≡ comes_before (index_from o (x ∷ xs) s) (if b then Some o else index_from (o +ℤ pos 1) xs t)) [
@@ -179,6 +191,7 @@ precedes_is o s t (x ∷ xs) =
     second_is None h = refl
     second_is (Some i) h = sym (not_sooner o i (h i refl))
 
-    first_is : (p : Option ℤ) → ((i : ℤ) → p ≡ Some i → (o +ℤ pos 1) ≤ℤ i) → true ≡ comes_before (Some o) p
+    first_is : (p : Option ℤ) → ((i : ℤ) → p ≡ Some i → (o +ℤ pos 1) ≤ℤ i)
+        → true ≡ comes_before (Some o) p
     first_is None h = refl
     first_is (Some i) h = sym (later_than o i (h i refl))

@@ -1,4 +1,4 @@
--- Sets of the indices of truth values.
+-- Sets of the indices of Booleans.
 use Rattle.std.proofs.Common.{◌≡◌, ℕ, ◌+◌, ◌≤◌, ◌↔◌, ℤ, pos, ◌+ℤ◌, ◌-ℤ◌, ◌≤ℤ◌, Bool, true, false, ◌&&◌, List, [], ◌∷◌, drop, length, nat_eq, FitsSigned, w64, Some, slice_get, refl, sym, ap, ◌∙◌, arith}
 use Rattle.std.specs.Int.{int_min}
 use Rattle.std.specs.Ordering.{int_cmp}
@@ -17,7 +17,8 @@ use Rattle.fz_kernel.proofs.Left.{next, none_left}
 
 -- ---- flags, one after another
 
-pub no_flags_yet : (o : ℤ) (bs : List Bool) (s : NumberSet) → flags_are o bs s ≡ flags_are (o +ℤ pos 0) bs s
+pub no_flags_yet : (o : ℤ) (bs : List Bool) (s : NumberSet)
+    → flags_are o bs s ≡ flags_are (o +ℤ pos 0) bs s
 no_flags_yet o bs s = ap (λ i. flags_are i bs s) (from_here o)
 
 module _ (o : ℤ) (bs : List Bool) (s : NumberSet) (i : ℕ) (r : Bool) (so_far : r ≡ flags_are (o +ℤ pos i) (drop i bs) s) where
@@ -25,7 +26,8 @@ module _ (o : ℤ) (bs : List Bool) (s : NumberSet) (i : ℕ) (r : Bool) (so_far
     one : r ≡ ((b =ᴮ contains s (o +ℤ pos i)) && flags_are (o +ℤ pos (i + 1)) (drop (i + 1) bs) s)
     one = so_far ∙ ap (λ l. flags_are (o +ℤ pos i) l s) (next bs i b at) ∙ ap (λ j. (b =ᴮ contains s (o +ℤ pos i)) && flags_are j (drop (i + 1) bs) s) (one_on o i)
 
-    pub flag_agrees : (b =ᴮ contains s (o +ℤ pos i)) ≡ true → r ≡ flags_are (o +ℤ pos (i + 1)) (drop (i + 1) bs) s
+    pub flag_agrees : (b =ᴮ contains s (o +ℤ pos i)) ≡ true
+        → r ≡ flags_are (o +ℤ pos (i + 1)) (drop (i + 1) bs) s
     flag_agrees passed = one ∙ ap (λ c. c && flags_are (o +ℤ pos (i + 1)) (drop (i + 1) bs) s) passed
 
     pub flag_differs : (b =ᴮ contains s (o +ℤ pos i)) ≡ false → false ≡ r
@@ -45,13 +47,17 @@ greatest = pos 9223372036854775807
 fits_below : (q : ℤ) → FitsSigned w64 q → q ≤ℤ greatest
 fits_below q fits = omega (arith, ints)
 
-between_from : (o q : ℤ) (n : ℕ) → o ≤ℤ q → q ≤ℤ int_min (last_of o n) greatest → is_between o (last_of o n) q ≡ true
+between_from : (o q : ℤ) (n : ℕ) → o ≤ℤ q → q ≤ℤ int_min (last_of o n) greatest
+    → is_between o (last_of o n) q ≡ true
 between_from o q n low high = grind (arith, ints)
 
-from_between : (o q : ℤ) (n : ℕ) → is_between o (last_of o n) q ≡ true → q ≤ℤ greatest → (o ≤ℤ q) × (q ≤ℤ int_min (last_of o n) greatest)
+from_between : (o q : ℤ) (n : ℕ) → is_between o (last_of o n) q ≡ true → q ≤ℤ greatest
+    → (o ≤ℤ q) × (q ≤ℤ int_min (last_of o n) greatest)
 from_between o q n e high = (grind (arith, ints), grind (arith, ints))
 
-pub told_indices : (r : Bool) (s : NumberSet) (o last : ℤ) (n : ℕ) → (r ≡ true ↔ LiesWithin o last s) → Has64Bits s → last ≡ int_min (last_of o n) greatest → r ≡ is_subset s (numbers_between o (last_of o n))
+pub told_indices : (r : Bool) (s : NumberSet) (o last : ℤ) (n : ℕ)
+    → (r ≡ true ↔ LiesWithin o last s) → Has64Bits s → last ≡ int_min (last_of o n) greatest
+    → r ≡ is_subset s (numbers_between o (last_of o n))
 told_indices r s o last n h fits is =
     both_ways r (is_subset s (numbers_between o (last_of o n)))
     (λ e. contains-is_subset int_cmp_total s (numbers_between o (last_of o n))
@@ -66,7 +72,8 @@ told_indices r s o last n h fits is =
 none_between : (o q : ℤ) → is_between o (last_of o 0) q ≡ false
 none_between o q = grind (arith, ints)
 
-pub no_index : (o : ℤ) (s : NumberSet) → nat_eq (len s) 0 ≡ is_subset s (numbers_between o (last_of o 0))
+pub no_index : (o : ℤ) (s : NumberSet)
+    → nat_eq (len s) 0 ≡ is_subset s (numbers_between o (last_of o 0))
 no_index o s =
     both_ways (nat_eq (len s) 0) (is_subset s (numbers_between o (last_of o 0)))
     (λ e. contains-is_subset int_cmp_total s (numbers_between o (last_of o 0))
@@ -83,7 +90,8 @@ no_index o s =
 
 -- ---- both together
 
-pub none_flagged : (s : NumberSet) (bs : List Bool) (o : ℤ) → length bs ≡ 0 → nat_eq (len s) 0 ≡ is_flagged s bs o
+pub none_flagged : (s : NumberSet) (bs : List Bool) (o : ℤ) → length bs ≡ 0
+    → nat_eq (len s) 0 ≡ is_flagged s bs o
 none_flagged s [] o none = no_index o s ∙ sym (and_true (is_subset s (numbers_between o (last_of o 0))))
   where
     and_true : (p : Bool) → (p && true) ≡ p

@@ -8,13 +8,15 @@ use Rattle.fz_kernel.proofs.Left.{next, none_left}
 
 -- ---- places of a part of a list
 
-pub in_front : {A : Type 0} (xs : List A) (n i : ℕ) (x : A) → i < n → slice_get xs i ≡ Some x → slice_get (take n xs) i ≡ Some x
+pub in_front : {A : Type 0} (xs : List A) (n i : ℕ) (x : A) → i < n → slice_get xs i ≡ Some x
+    → slice_get (take n xs) i ≡ Some x
 in_front xs zero i x h at = absurd (omega arith)
 in_front [] (suc n) i x h at = at
 in_front (y ∷ ys) (suc n) zero x h at = at
 in_front (y ∷ ys) (suc n) (suc i) x h at = in_front ys n i x (omega arith) at
 
-pub behind : {A : Type 0} (xs : List A) (s i j : ℕ) (x : A) → j ≡ s + i → slice_get xs j ≡ Some x → slice_get (drop s xs) i ≡ Some x
+pub behind : {A : Type 0} (xs : List A) (s i j : ℕ) (x : A) → j ≡ s + i → slice_get xs j ≡ Some x
+    → slice_get (drop s xs) i ≡ Some x
 behind xs zero i j x is at =
     let same : j ≡ i = omega arith in
     ap (slice_get xs) (sym same) ∙ at
@@ -35,13 +37,15 @@ module _ {A : Type 0} (same : A → A → Bool) (xs ys : List A) (i : ℕ) where
     pub differs : same x y ≡ false → false ≡ r
     differs failed = sym (one ∙ ap (λ b. b && is_same_list same (drop (i + 1) xs) (drop (i + 1) ys)) failed)
 
-  pub both_end : (r : Bool) → length xs ≤ i → length ys ≤ i → r ≡ is_same_list same (drop i xs) (drop i ys) → true ≡ r
+  pub both_end : (r : Bool) → length xs ≤ i → length ys ≤ i
+      → r ≡ is_same_list same (drop i xs) (drop i ys) → true ≡ r
   both_end r end_x end_y so_far = sym (so_far ∙ (λ k. is_same_list same (none_left xs i end_x k) (none_left ys i end_y k)))
 
 -- ---- rows
 
 -- the number of rows that is asked for doesn't matter where it is large enough
-enough : {A : Type 0} (k j n : ℕ) (xs : List A) → length xs ≤ k → length xs ≤ j → rows_within k (suc n) xs ≡ rows_within j (suc n) xs
+enough : {A : Type 0} (k j n : ℕ) (xs : List A) → length xs ≤ k → length xs ≤ j
+    → rows_within k (suc n) xs ≡ rows_within j (suc n) xs
 enough zero zero n xs h g = refl
 enough zero (suc j) n [] h g = refl
 enough zero (suc j) n (x ∷ xs) h g = absurd (omega arith)
@@ -50,14 +54,16 @@ enough (suc k) zero n (x ∷ xs) h g = absurd (omega arith)
 enough (suc k) (suc j) n [] h g = refl
 enough (suc k) (suc j) n (x ∷ xs) h g = ap (λ r. take (suc n) (x ∷ xs) ∷ r) (enough k j n (drop n xs) (omega (arith, length-drop n xs)) (omega (arith, length-drop n xs)))
 
-first_row : {A : Type 0} (n : ℕ) (xs : List A) → 0 < n → 0 < length xs → rows_of n xs ≡ take n xs ∷ rows_of n (drop n xs)
+first_row : {A : Type 0} (n : ℕ) (xs : List A) → 0 < n → 0 < length xs
+    → rows_of n xs ≡ take n xs ∷ rows_of n (drop n xs)
 first_row zero xs h g = absurd (omega arith)
 first_row (suc n) [] h g = absurd (omega arith)
 first_row (suc n) (x ∷ xs) h g = ap (λ r. take (suc n) (x ∷ xs) ∷ r) (enough (length xs) (length (drop n xs)) n (drop n xs) (omega (arith, length-drop n xs)) (omega arith))
 
 -- a table of so many rows, of which i are done
 module _ {A : Type 0} (test : List A → Bool) (t : List A) (n rows i : ℕ) (wide : 0 < n) (whole : rows * n ≡ length t) (r : Bool) (so_far : r ≡ list_any test (rows_of n (drop (i * n) t))) where
-  one_row : i < rows → r ≡ (test (take n (drop (i * n) t)) || list_any test (rows_of n (drop ((i + 1) * n) t)))
+  one_row : i < rows → r ≡ (test (take n (drop (i * n) t))
+      || list_any test (rows_of n (drop ((i + 1) * n) t)))
   one_row more =
       let inside : i * n < length t = omega (arith, mul-add-lt i n 0 rows more wide) in
       let rest : drop n (drop (i * n) t) ≡ drop ((i + 1) * n) t = drop-drop n (i * n) t ∙ ap (λ m. drop m t) (row_more i n) in
@@ -66,12 +72,14 @@ module _ {A : Type 0} (test : List A → Bool) (t : List A) (n rows i : ℕ) (wi
       row_more : (i n : ℕ) → i * n + n ≡ (i + 1) * n
       row_more i n = omega arith
 
-  pub row_passes : i < rows → (start : ℕ) → start ≡ i * n → test (take n (drop start t)) ≡ true → true ≡ r
+  pub row_passes : i < rows → (start : ℕ) → start ≡ i * n → test (take n (drop start t)) ≡ true
+      → true ≡ r
   row_passes more start is passed =
       let here : test (take n (drop (i * n) t)) ≡ true = ap (λ m. test (take n (drop m t))) (sym is) ∙ passed in
       sym (one_row more ∙ ap (λ b. b || list_any test (rows_of n (drop ((i + 1) * n) t))) here)
 
-  pub row_fails : i < rows → (start : ℕ) → start ≡ i * n → test (take n (drop start t)) ≡ false → r ≡ list_any test (rows_of n (drop ((i + 1) * n) t))
+  pub row_fails : i < rows → (start : ℕ) → start ≡ i * n → test (take n (drop start t)) ≡ false
+      → r ≡ list_any test (rows_of n (drop ((i + 1) * n) t))
   row_fails more start is failed =
       let here : test (take n (drop (i * n) t)) ≡ false = ap (λ m. test (take n (drop m t))) (sym is) ∙ failed in
       one_row more ∙ ap (λ b. b || list_any test (rows_of n (drop ((i + 1) * n) t))) here
@@ -80,7 +88,9 @@ module _ {A : Type 0} (test : List A → Bool) (t : List A) (n rows i : ℕ) (wi
   rows_end end = sym (so_far ∙ ap (λ l. list_any test (rows_of n l)) (none_left t (i * n) (omega (arith, mul-le rows n i n end (omega arith)))))
 
 module _ {A : Type 0} (same : A → A → Bool) where
-  pub whole_rows : (xs t : List A) (rows : ℕ) → 0 < length xs → rows * length xs ≡ length t → is_row_of same xs t ≡ list_any (is_same_list same xs) (rows_of (length xs) (drop (0 * length xs) t))
+  pub whole_rows : (xs t : List A) (rows : ℕ) → 0 < length xs → rows * length xs ≡ length t
+      → is_row_of same xs t ≡ list_any (is_same_list same xs)
+      (rows_of (length xs) (drop (0 * length xs) t))
   whole_rows [] t rows wide whole = absurd (omega arith)
   whole_rows (x ∷ xs) t rows wide whole =
       let sum : length t ≡ rows * length (x ∷ xs) + 0 = omega arith in
@@ -89,6 +99,7 @@ module _ {A : Type 0} (same : A → A → Bool) where
       ap (λ m. nat_eq m 0 && list_any (is_same_list same (x ∷ xs)) (rows_of (length (x ∷ xs)) t)) even
       ∙ ap (λ m. list_any (is_same_list same (x ∷ xs)) (rows_of (length (x ∷ xs)) (drop m t))) start
 
-  pub no_rows : (xs t : List A) → (0 < length xs → nat_eq (length t % length xs) 0 ≡ false) → is_row_of same xs t ≡ false
+  pub no_rows : (xs t : List A) → (0 < length xs → nat_eq (length t % length xs) 0 ≡ false)
+      → is_row_of same xs t ≡ false
   no_rows [] t odd = refl
   no_rows (x ∷ xs) t odd = ap (λ b. b && list_any (is_same_list same (x ∷ xs)) (rows_of (length (x ∷ xs)) t)) (odd (omega arith))

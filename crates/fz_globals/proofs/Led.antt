@@ -17,7 +17,8 @@ use Rattle.fz_kernel.proofs.Passed.{element_is}
 abbrev pub as_place : ℤ → ℤ → ℤ
 as_place o x = (x -ℤ o) +ℤ pos 1
 
-pub placed_at : (o : ℤ) (xs : List ℤ) (k : ℕ) (x : ℤ) → slice_get xs k ≡ Some x → slice_get (as_places o xs) k ≡ Some (as_place o x)
+pub placed_at : (o : ℤ) (xs : List ℤ) (k : ℕ) (x : ℤ) → slice_get xs k ≡ Some x
+    → slice_get (as_places o xs) k ≡ Some (as_place o x)
 placed_at o xs k x at = slice_get-map (as_place o) xs k ∙ ap (option_map (as_place o)) at
 
 pub placed_counted : (o : ℤ) (xs : List ℤ) → length (as_places o xs) ≡ length xs
@@ -38,7 +39,8 @@ pub different_places : (o : ℤ) (xs : List ℤ) → all_different xs ≡ all_di
 different_places o [] = refl
 different_places o (x ∷ xs) = λ k. not (sym (among_places o x xs) k) && different_places o xs k
 
-pub is_no_place : (n : ℤ) (count : ℕ) → ((k : ℕ) → n ≡ pos (k + 1) → count ≤ k) → lies_between (pos 1) (pos count) n ≡ true → ⊥
+pub is_no_place : (n : ℤ) (count : ℕ) → ((k : ℕ) → n ≡ pos (k + 1) → count ≤ k)
+    → lies_between (pos 1) (pos count) n ≡ true → ⊥
 is_no_place (pos zero) count none e = no e
 is_no_place (pos (suc k)) count none e =
     let past : count ≤ k = none k (ap pos (sym (add-one k))) in
@@ -50,7 +52,8 @@ is_no_place (negsuc k) count none e = no e
 
 -- ---- the element at a place
 
-pub element_place : (xs : List ℤ) (n c : ℤ) → element_at xs n ≡ Some c → (k : ℕ) × (n ≡ pos (suc k)) × (slice_get xs k ≡ Some c)
+pub element_place : (xs : List ℤ) (n c : ℤ) → element_at xs n ≡ Some c
+    → (k : ℕ) × (n ≡ pos (suc k)) × (slice_get xs k ≡ Some c)
 element_place [] n c e = cc
 element_place (x ∷ xs) (negsuc n) c e = cc
 element_place (x ∷ xs) (pos zero) c e = cc
@@ -63,13 +66,15 @@ listed_at (x ∷ xs) zero c at =
     ap (λ b. b || is_among c xs) ((Decides-int_eq x c).1 same)
 listed_at (x ∷ xs) (suc k) c at = elim (x =ℤ c) as (λ b. (b || is_among c xs) ≡ true) [ true ↦ refl | false ↦ listed_at xs k c at ]
 
-twice : (x : ℤ) (xs : List ℤ) (j : ℕ) (c : ℤ) → all_different (x ∷ xs) ≡ true → Some x ≡ Some c → slice_get xs j ≡ Some c → ⊥
+twice : (x : ℤ) (xs : List ℤ) (j : ℕ) (c : ℤ) → all_different (x ∷ xs) ≡ true → Some x ≡ Some c
+    → slice_get xs j ≡ Some c → ⊥
 twice x xs j c apart here there =
     let same : c ≡ x = cc in
     no (ap not (sym (listed_at xs j x (there ∙ ap Some same))) ∙ and_first (not (is_among x xs)) (all_different xs) apart)
 
 -- a number stands at one place of a list whose elements are different
-pub one_place : (xs : List ℤ) (k j : ℕ) (c : ℤ) → all_different xs ≡ true → slice_get xs k ≡ Some c → slice_get xs j ≡ Some c → k ≡ j
+pub one_place : (xs : List ℤ) (k j : ℕ) (c : ℤ) → all_different xs ≡ true → slice_get xs k ≡ Some c
+    → slice_get xs j ≡ Some c → k ≡ j
 one_place [] k j c apart at_k at_j = cc
 one_place (x ∷ xs) zero zero c apart at_k at_j = refl
 one_place (x ∷ xs) zero (suc j) c apart at_k at_j = absurd (twice x xs j c apart at_k at_j)
@@ -86,7 +91,8 @@ module _ (f g : List ℤ) (i : ℕ) (r : Bool) (so_far : r ≡ leads_back (pos (
     one : r ≡ (leads_to g x (pos (i + 1)) && leads_back (pos ((i + 1) + 1)) (drop (i + 1) f) g)
     one = so_far ∙ ap (λ l. leads_back (pos (i + 1)) l g) (next f i x at)
 
-    pub leads_on : leads_to g x (pos (i + 1)) ≡ true → r ≡ leads_back (pos ((i + 1) + 1)) (drop (i + 1) f) g
+    pub leads_on : leads_to g x (pos (i + 1)) ≡ true
+        → r ≡ leads_back (pos ((i + 1) + 1)) (drop (i + 1) f) g
     leads_on passed = one ∙ ap (λ b. b && leads_back (pos ((i + 1) + 1)) (drop (i + 1) f) g) passed
 
     pub leads_off : leads_to g x (pos (i + 1)) ≡ false → false ≡ r

@@ -13,7 +13,8 @@ short p [] h = refl
 short p (x ∷ []) h = refl
 short p (x ∷ y ∷ xs) h = absurd (omega arith)
 
-pub all_pass : {A : Type 0} (p : A → A → Bool) (xs : List A) (i : ℕ) → length xs ≤ i → PassUpTo p xs i → true ≡ all_neighbours p xs
+pub all_pass : {A : Type 0} (p : A → A → Bool) (xs : List A) (i : ℕ) → length xs ≤ i
+    → PassUpTo p xs i → true ≡ all_neighbours p xs
 all_pass p xs i end so_far = sym (so_far ∙ short p (drop (i - 1) xs) (omega (arith, length-drop (i - 1) xs)))
 
 module _ {A : Type 0} (p : A → A → Bool) (xs : List A) (i : ℕ) (x y : A) (from_one : 1 ≤ i) (so_far : PassUpTo p xs i) (at_x : slice_get xs (i - 1) ≡ Some x) (at_y : slice_get xs i ≡ Some y) where

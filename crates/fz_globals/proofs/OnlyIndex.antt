@@ -15,15 +15,18 @@ turned_round a b = both_ways (a =ℤ b) (b =ℤ a) (equal a b) (equal b a)
     equal x y same = subst (λ z. (z =ℤ x) ≡ true) (same_int x y same) (int_itself x)
 
 module _ (below : ℤ → ℤ → Bool) (order : IsOrder below) (o m : ℤ) (xs : List ℤ) (best : is_best below m xs ≡ true) where
-  at_index : (r : Option ℤ) → r ≡ index_from o xs m → (j : ℤ) → is_index_of_best below xs o j ≡ option_map_or (λ (i : ℤ). i =ℤ j) r false
+  at_index : (r : Option ℤ) → r ≡ index_from o xs m → (j : ℤ)
+      → is_index_of_best below xs o j ≡ option_map_or (λ (i : ℤ). i =ℤ j) r false
   at_index r is j =
       sym (at_the_best below order xs m (λ n. option_map_or (λ (i : ℤ). i =ℤ j) (index_from o xs n) false) best)
       ∙ ap (λ p. option_map_or (λ (i : ℤ). i =ℤ j) p false) (sym is)
 
-  pub only_index : (r : Option ℤ) → r ≡ index_from o xs m → IfSome r (λ i. (j : ℤ) → is_index_of_best below xs o j ≡ (j =ℤ i))
+  pub only_index : (r : Option ℤ) → r ≡ index_from o xs m
+      → IfSome r (λ i. (j : ℤ) → is_index_of_best below xs o j ≡ (j =ℤ i))
   only_index None is = tt
   only_index (Some i) is = λ j. at_index (Some i) is j ∙ turned_round i j
 
-  pub no_index : (r : Option ℤ) → r ≡ index_from o xs m → IfNone r ((j : ℤ) → is_index_of_best below xs o j ≡ false)
+  pub no_index : (r : Option ℤ) → r ≡ index_from o xs m
+      → IfNone r ((j : ℤ) → is_index_of_best below xs o j ≡ false)
   no_index None is = λ j. at_index None is j
   no_index (Some i) is = tt

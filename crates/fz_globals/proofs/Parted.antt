@@ -14,15 +14,18 @@ use Rattle.fz_kernel.proofs.Left.{next, none_left}
 
 -- ---- sets that are disjoint
 
-pub disjoint_gives : (s t : NumberSet) → are_disjoint s t ≡ true → (q : ℤ) → (contains s q && contains t q) ≡ false
+pub disjoint_gives : (s t : NumberSet) → are_disjoint s t ≡ true → (q : ℤ)
+    → (contains s q && contains t q) ≡ false
 disjoint_gives s t e q = sym (contains-intersection int_cmp_total s t q) ∙ ap (λ u. contains u q) (same_set_is (intersection s t) empty e) ∙ contains-empty int_cmp q
 
-pub gives_disjoint : (s t : NumberSet) → ((q : ℤ) → (contains s q && contains t q) ≡ false) → are_disjoint s t ≡ true
+pub gives_disjoint : (s t : NumberSet) → ((q : ℤ) → (contains s q && contains t q) ≡ false)
+    → are_disjoint s t ≡ true
 gives_disjoint s t apart =
     let none : intersection s t ≡ empty = same_numbers (intersection s t) empty (λ q. contains-intersection int_cmp_total s t q ∙ apart q ∙ sym (contains-empty int_cmp q)) in
     ap (λ u. u =ˢ empty) none ∙ set_itself empty
 
-pub told_disjoint : (r : Bool) (s t : NumberSet) → (r ≡ true ↔ (s ≡ difference s t)) → r ≡ are_disjoint s t
+pub told_disjoint : (r : Bool) (s t : NumberSet) → (r ≡ true ↔ (s ≡ difference s t))
+    → r ≡ are_disjoint s t
 told_disjoint r s t h =
     same_truth r (are_disjoint s t)
     (λ e. gives_disjoint s t (λ q. apart (contains s q) (contains t q) (ap (λ u. contains u q) (h.0 e) ∙ contains-difference int_cmp_total s t q)))
@@ -40,7 +43,8 @@ told_disjoint r s t h =
 
 -- ---- one part after another
 
-all_apart : (s : NumberSet) (ss : List NumberSet) → list_all (are_disjoint s) ss ≡ true → (q : ℤ) → (contains s q && contains (union_of ss) q) ≡ false
+all_apart : (s : NumberSet) (ss : List NumberSet) → list_all (are_disjoint s) ss ≡ true → (q : ℤ)
+    → (contains s q && contains (union_of ss) q) ≡ false
 all_apart s [] e q = ap (λ b. contains s q && b) (contains-empty int_cmp q) ∙ and_false (contains s q)
   where
     and_false : (p : Bool) → (p && false) ≡ false
@@ -57,7 +61,8 @@ all_apart s (t ∷ ss) e q =
     neither true false c h k = k
     neither false b c h k = refl
 
-apart_all : (s : NumberSet) (ss : List NumberSet) → ((q : ℤ) → (contains s q && contains (union_of ss) q) ≡ false) → list_all (are_disjoint s) ss ≡ true
+apart_all : (s : NumberSet) (ss : List NumberSet) → ((q : ℤ)
+    → (contains s q && contains (union_of ss) q) ≡ false) → list_all (are_disjoint s) ss ≡ true
 apart_all s [] apart = refl
 apart_all s (t ∷ ss) apart =
     let both : (q : ℤ) → (contains s q && (contains t q || contains (union_of ss) q)) ≡ false = λ q. ap (λ b. contains s q && b) (sym (contains-union int_cmp_total t (union_of ss) q)) ∙ apart q in
@@ -76,7 +81,8 @@ apart_all s (t ∷ ss) apart =
     not_second false b c h = refl
 
 module _ (s : NumberSet) (ss : List NumberSet) (w : NumberSet) where
-  taken : is_partition (s ∷ ss) w ≡ true → (is_subset s w && is_partition ss (difference w s)) ≡ true
+  taken : is_partition (s ∷ ss) w ≡ true
+      → (is_subset s w && is_partition ss (difference w s)) ≡ true
   taken e =
       let pairs : (list_all (are_disjoint s) ss && all_pairs are_disjoint ss) ≡ true = and_first (list_all (are_disjoint s) ss && all_pairs are_disjoint ss) (union s (union_of ss) =ˢ w) e in
       let whole : union s (union_of ss) ≡ w = same_set_is (union s (union_of ss)) w (and_second (list_all (are_disjoint s) ss && all_pairs are_disjoint ss) (union s (union_of ss) =ˢ w) e) in
@@ -97,7 +103,8 @@ module _ (s : NumberSet) (ss : List NumberSet) (w : NumberSet) where
       other false b true is h = sym is
       other false b false is h = sym is
 
-  put_back : (is_subset s w && is_partition ss (difference w s)) ≡ true → is_partition (s ∷ ss) w ≡ true
+  put_back : (is_subset s w && is_partition ss (difference w s)) ≡ true
+      → is_partition (s ∷ ss) w ≡ true
   put_back e =
       let inside : is_subset s w ≡ true = and_first (is_subset s w) (is_partition ss (difference w s)) e in
       let parted : is_partition ss (difference w s) ≡ true = and_second (is_subset s w) (is_partition ss (difference w s)) e in
@@ -129,7 +136,8 @@ module _ (ss : List NumberSet) (i : ℕ) (w : NumberSet) (r : Bool) (so_far : r 
     one : r ≡ (is_subset s w && is_partition (drop (i + 1) ss) (difference w s))
     one = so_far ∙ ap (λ l. is_partition l w) (next ss i s at) ∙ one_part s (drop (i + 1) ss) w
 
-    pub takes_part : (v : NumberSet) → v ≡ difference w s → is_subset s w ≡ true → r ≡ is_partition (drop (i + 1) ss) v
+    pub takes_part : (v : NumberSet) → v ≡ difference w s → is_subset s w ≡ true
+        → r ≡ is_partition (drop (i + 1) ss) v
     takes_part v is inside = one ∙ ap (λ b. b && is_partition (drop (i + 1) ss) (difference w s)) inside ∙ ap (is_partition (drop (i + 1) ss)) (sym is)
 
     pub is_no_part : is_subset s w ≡ false → false ≡ r

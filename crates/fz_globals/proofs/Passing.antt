@@ -14,7 +14,8 @@ module _ {A : Type 0} (p : A → Bool) (xs : List A) (i : ℕ) (x : A) (whole : 
   pub one_passes : p x ≡ true → whole ≡ list_all p (drop (i + 1) xs)
   one_passes passes = so_far ∙ ap (list_all p) here ∙ ap (λ b. b && list_all p (drop (i + 1) xs)) passes
 
-pub all_pass : {A : Type 0} (p : A → Bool) (xs : List A) (i : ℕ) (whole : Bool) → whole ≡ list_all p (drop i xs) → length xs ≤ i → true ≡ whole
+pub all_pass : {A : Type 0} (p : A → Bool) (xs : List A) (i : ℕ) (whole : Bool)
+    → whole ≡ list_all p (drop i xs) → length xs ≤ i → true ≡ whole
 all_pass p xs i whole so_far end = sym (so_far ∙ ap (list_all p) (drop_all i xs end))
 
 -- ---- each element with each one behind it
@@ -26,5 +27,6 @@ module _ {A : Type 0} (p : A → A → Bool) (xs : List A) (i : ℕ) (x : A) (wh
   pub pairs_pass : list_all (p x) (drop (i + 1) xs) ≡ true → whole ≡ all_pairs p (drop (i + 1) xs)
   pairs_pass passes = so_far ∙ ap (all_pairs p) here ∙ ap (λ b. b && all_pairs p (drop (i + 1) xs)) passes
 
-pub all_pairs_pass : {A : Type 0} (p : A → A → Bool) (xs : List A) (i : ℕ) (whole : Bool) → whole ≡ all_pairs p (drop i xs) → length xs ≤ i → true ≡ whole
+pub all_pairs_pass : {A : Type 0} (p : A → A → Bool) (xs : List A) (i : ℕ) (whole : Bool)
+    → whole ≡ all_pairs p (drop i xs) → length xs ≤ i → true ≡ whole
 all_pairs_pass p xs i whole so_far end = sym (so_far ∙ ap (all_pairs p) (drop_all i xs end))

@@ -12,7 +12,8 @@ use Rattle.fz_kernel.proofs.Left.{next, none_left}
 
 module _ (s t : ℤ) (xs : List ℤ) (i : ℕ) (r : Bool) (so_far : r ≡ precedes s t (drop i xs)) where
   module _ (x : ℤ) (at : slice_get xs i ≡ Some x) where
-    one : (is_t is_s : Bool) → (x =ℤ t) ≡ is_t → (x =ℤ s) ≡ is_s → r ≡ (not is_t && (is_s || precedes s t (drop (i + 1) xs)))
+    one : (is_t is_s : Bool) → (x =ℤ t) ≡ is_t → (x =ℤ s) ≡ is_s
+        → r ≡ (not is_t && (is_s || precedes s t (drop (i + 1) xs)))
     one is_t is_s e_t e_s = so_far ∙ ap (precedes s t) (next xs i x at) ∙ (λ k. not (e_t k) && (e_s k || precedes s t (drop (i + 1) xs)))
 
     pub second_comes : x ≡ t → false ≡ r
@@ -57,7 +58,8 @@ module _ (most : ℤ) (xs : List ℤ) (i : ℕ) (r : Bool) (so_far : r ≡ rises
     rise : r ≡ (int_le x (most +ℤ pos 1) && rises_by_one (int_max most x) (drop (i + 1) xs))
     rise = so_far ∙ ap (rises_by_one most) (next xs i x at)
 
-    pub rises : (n : ℤ) → n ≡ int_max most x → int_le x (most +ℤ pos 1) ≡ true → r ≡ rises_by_one n (drop (i + 1) xs)
+    pub rises : (n : ℤ) → n ≡ int_max most x → int_le x (most +ℤ pos 1) ≡ true
+        → r ≡ rises_by_one n (drop (i + 1) xs)
     rises n is passed = rise ∙ ap (λ b. b && rises_by_one (int_max most x) (drop (i + 1) xs)) passed ∙ ap (λ m. rises_by_one m (drop (i + 1) xs)) (sym is)
 
     pub rises_too_far : int_le x (most +ℤ pos 1) ≡ false → false ≡ r

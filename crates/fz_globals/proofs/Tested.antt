@@ -23,7 +23,8 @@ module _ {A : Type 0} (test : A → Bool) (xs : List A) (i : ℕ) (r : Bool) (so
   all_pass end = sym (so_far ∙ ap (list_all test) (none_left xs i end))
 
 -- where all pass, the one at a place does
-pub passed_at : {A : Type 0} (test : A → Bool) (xs : List A) (k : ℕ) (x : A) → list_all test xs ≡ true → slice_get xs k ≡ Some x → test x ≡ true
+pub passed_at : {A : Type 0} (test : A → Bool) (xs : List A) (k : ℕ) (x : A)
+    → list_all test xs ≡ true → slice_get xs k ≡ Some x → test x ≡ true
 passed_at test [] k x all at = cc
 passed_at test (y ∷ ys) zero x all at =
     let same : y ≡ x = cc in

@@ -25,7 +25,8 @@ all_turned : (a : ℤ) (xs : List ℤ) → list_any (eq_by_cmp int_cmp a) xs ≡
 all_turned a [] = refl
 all_turned a (x ∷ xs) = ap (λ s. s || list_any (eq_by_cmp int_cmp a) xs) (turned a x) ∙ ap (λ s. (x =ℤ a) || s) (all_turned a xs)
 
-one_more : (b : Bool) (x : ℤ) (vs : List ℤ) (n : ℕ) → length vs ≡ n → length (cond b vs (x ∷ vs)) ≡ cond b n (n + 1)
+one_more : (b : Bool) (x : ℤ) (vs : List ℤ) (n : ℕ) → length vs ≡ n
+    → length (cond b vs (x ∷ vs)) ≡ cond b n (n + 1)
 one_more true x vs n e = e
 one_more false x vs n e = omega arith
 
@@ -37,7 +38,8 @@ values_are (x ∷ xs) =
     ∙ ap (λ b. cond b (len (from_list {R = int_cmp} xs)) (len (from_list {R = int_cmp} xs) + 1)) (sym listed)
     ∙ sym (len-insert int_cmp_total (from_list {R = int_cmp} xs) x)
 
-pub values-permutation : (xs ys : List ℤ) → IsPermutation xs ys → length (values_of xs) ≡ length (values_of ys)
+pub values-permutation : (xs ys : List ℤ) → IsPermutation xs ys
+    → length (values_of xs) ≡ length (values_of ys)
 values-permutation xs ys moved =
     values_are xs
     ∙ ap len (same_set int_cmp_total int_cmp-IsAntisymmetric (from_list xs) (from_list ys)
@@ -63,7 +65,8 @@ one_left [] h = absurd (omega arith)
 one_left (x ∷ []) h = refl
 one_left (x ∷ y ∷ xs) h = absurd (omega arith)
 
-pub all_valued : (xs : List ℤ) (i n : ℕ) → 1 ≤ length xs → i ≡ length xs → AreValued xs i n → n ≡ length (values_of xs)
+pub all_valued : (xs : List ℤ) (i n : ℕ) → 1 ≤ length xs → i ≡ length xs → AreValued xs i n
+    → n ≡ length (values_of xs)
 all_valued xs i n some end so_far =
     let whole : n + length (values_of (drop (i - 1) xs)) ≡ 1 + length (values_of xs) = so_far.whole in
     let last : length (values_of (drop (i - 1) xs)) ≡ 1 = one_left (drop (i - 1) xs) (omega (arith, length-drop (i - 1) xs)) in
@@ -87,7 +90,8 @@ module _ (xs : List ℤ) (i n : ℕ) (d : ℤ) (up : Ascends xs) (from_one : 1 �
       let few : n ≤ i = so_far.few in
       record { whole = omega arith; few = omega arith }
 
-  pub value_new : (m : ℕ) → m ≡ n + 1 → ¬ (get_or xs (i - 1) d ≡ get_or xs i d) → AreValued xs (i + 1) m
+  pub value_new : (m : ℕ) → m ≡ n + 1 → ¬ (get_or xs (i - 1) d ≡ get_or xs i d)
+      → AreValued xs (i + 1) m
   value_new m is other =
       let low : get_or xs (i - 1) d ≤ℤ get_or xs i d = up (i - 1) i d (omega arith) inside in
       let less : get_or xs (i - 1) d <ℤ get_or xs i d = omega (arith, ints, other) in

@@ -15,7 +15,8 @@ use Rattle.fz_globals.proofs.Led.{element_place, one_place}
 -- ---- steps
 
 module _ (f : List ℤ) where
-  pub one_further : (k : ℕ) (p q r : ℤ) → end_of_tour f k p ≡ Some q → element_at f q ≡ Some r → end_of_tour f (suc k) p ≡ Some r
+  pub one_further : (k : ℕ) (p q r : ℤ) → end_of_tour f k p ≡ Some q → element_at f q ≡ Some r
+      → end_of_tour f (suc k) p ≡ Some r
   one_further zero p q r here leads = ap (option_and_then (end_of_tour f 0)) (ap (element_at f) (same_Some p q here) ∙ leads)
   one_further (suc k) p q r here leads =
       elim (element_at f p) as (λ o. option_and_then (end_of_tour f k) o ≡ Some q → option_and_then (end_of_tour f (suc k)) o ≡ Some r) [
@@ -24,7 +25,8 @@ module _ (f : List ℤ) where
       ] here
 
   -- a way of a + b steps
-  pub walked_on : (a b c : ℕ) (p q : ℤ) → c ≡ a + b → end_of_tour f a p ≡ Some q → end_of_tour f c p ≡ end_of_tour f b q
+  pub walked_on : (a b c : ℕ) (p q : ℤ) → c ≡ a + b → end_of_tour f a p ≡ Some q
+      → end_of_tour f c p ≡ end_of_tour f b q
   walked_on zero b c p q sum here =
       let same : c ≡ b = omega arith in
       ap (λ n. end_of_tour f n p) same ∙ ap (end_of_tour f b) (same_Some p q here)
@@ -35,7 +37,8 @@ module _ (f : List ℤ) where
         | Some s ↦ λ e. walked_on a b c s q (omega arith) e
       ] here
 
-  pub on_the_way : (a b c : ℕ) (p r : ℤ) → c ≡ a + b → end_of_tour f c p ≡ Some r → (q : ℤ) × (end_of_tour f a p ≡ Some q) × (end_of_tour f b q ≡ Some r)
+  pub on_the_way : (a b c : ℕ) (p r : ℤ) → c ≡ a + b → end_of_tour f c p ≡ Some r
+      → (q : ℤ) × (end_of_tour f a p ≡ Some q) × (end_of_tour f b q ≡ Some r)
   on_the_way zero b c p r sum there =
       let same : c ≡ b = omega arith in
       (p, refl, subst (λ n. end_of_tour f n p ≡ Some r) same there)
@@ -48,7 +51,8 @@ module _ (f : List ℤ) where
 
   -- ---- the places on the way
 
-  pub is_on_tour : (m j : ℕ) (p q : ℤ) → j < m → end_of_tour f j q ≡ Some p → is_among p (tour f m q) ≡ true
+  pub is_on_tour : (m j : ℕ) (p q : ℤ) → j < m → end_of_tour f j q ≡ Some p
+      → is_among p (tour f m q) ≡ true
   is_on_tour zero j p q h e = absurd (omega arith)
   is_on_tour (suc m) zero p q h e = ap (λ b. b || is_among p (option_map_or (tour f m) (element_at f q) [])) ((Decides-int_eq q p).1 (same_Some q p e))
   is_on_tour (suc m) (suc j) p q h e =
@@ -58,7 +62,8 @@ module _ (f : List ℤ) where
         | Some s ↦ λ e. is_on_tour m j p s (omega arith) e
       ] e)
 
-  pub where_on_tour : (m : ℕ) (p q : ℤ) → is_among p (tour f m q) ≡ true → (j : ℕ) × (j < m) × (end_of_tour f j q ≡ Some p)
+  pub where_on_tour : (m : ℕ) (p q : ℤ) → is_among p (tour f m q) ≡ true
+      → (j : ℕ) × (j < m) × (end_of_tour f j q ≡ Some p)
   where_on_tour zero p q e = no e
   where_on_tour (suc m) p q e =
       elim (q =ℤ p) as (λ b. (q =ℤ p) ≡ b → (b || is_among p (option_map_or (tour f m) (element_at f q) [])) ≡ true → (j : ℕ) × (j < suc m) × (end_of_tour f j q ≡ Some p)) [
@@ -74,7 +79,8 @@ module _ (f : List ℤ) where
 
   -- where no place comes again on the way, all are different
   module _ (start : ℤ) (n : ℕ) (once : (i j : ℕ) (p : ℤ) → i + suc j < n → end_of_tour f i start ≡ Some p → end_of_tour f (suc j) p ≡ Some p → ⊥) where
-    pub tour_differs : (m i : ℕ) (p : ℤ) → i + m ≡ n → end_of_tour f i start ≡ Some p → all_different (tour f m p) ≡ true
+    pub tour_differs : (m i : ℕ) (p : ℤ) → i + m ≡ n → end_of_tour f i start ≡ Some p
+        → all_different (tour f m p) ≡ true
     tour_differs zero i p sum here = refl
     tour_differs (suc m) i p sum here =
         elim (element_at f p) as (λ o. element_at f p ≡ o → (not (is_among p (option_map_or (tour f m) o [])) && all_different (option_map_or (tour f m) o [])) ≡ true) [
@@ -91,7 +97,8 @@ module _ (f : List ℤ) where
         ] refl
 
   -- back at the start before the end
-  pub back_early : (n k : ℕ) (start : ℤ) → 0 < k → k < n → end_of_tour f k start ≡ Some start → all_different (tour f n start) ≡ false
+  pub back_early : (n k : ℕ) (start : ℤ) → 0 < k → k < n → end_of_tour f k start ≡ Some start
+      → all_different (tour f n start) ≡ false
   back_early zero k start h g back = absurd (omega arith)
   back_early (suc m) zero start h g back = absurd (omega arith)
   back_early (suc m) (suc k) start h g back =
@@ -104,7 +111,9 @@ module _ (f : List ℤ) where
   NotBack start n = (k : ℕ) → 0 < k → k < n → end_of_tour f k start ≡ Some start → ⊥
 
   -- one more step without coming back
-  pub still_ahead : (start place step : ℕ) → NotBack (pos (start + 1)) step → end_of_tour f step (pos (start + 1)) ≡ Some (pos (place + 1)) → (0 < step → place ≡ start → ⊥) → NotBack (pos (start + 1)) (step + 1)
+  pub still_ahead : (start place step : ℕ) → NotBack (pos (start + 1)) step
+      → end_of_tour f step (pos (start + 1)) ≡ Some (pos (place + 1))
+      → (0 < step → place ≡ start → ⊥) → NotBack (pos (start + 1)) (step + 1)
   still_ahead start place step ahead here apart k some h back =
       elim (cases_lt k step) [
         | inl before ↦ ahead k some before back
@@ -116,10 +125,12 @@ module _ (f : List ℤ) where
       ]
 
   -- a way that ends where it began, and didn't come back before
-  pub round : (start : ℤ) (n : ℕ) → NotBack start n → end_of_tour f n start ≡ Some start → all_different (tour f n start) ≡ true
+  pub round : (start : ℤ) (n : ℕ) → NotBack start n → end_of_tour f n start ≡ Some start
+      → all_different (tour f n start) ≡ true
   round start n apart back = tour_differs start n once n 0 start (omega arith) refl
     where
-      once : (i j : ℕ) (p : ℤ) → i + suc j < n → end_of_tour f i start ≡ Some p → end_of_tour f (suc j) p ≡ Some p → ⊥
+      once : (i j : ℕ) (p : ℤ) → i + suc j < n → end_of_tour f i start ≡ Some p
+          → end_of_tour f (suc j) p ≡ Some p → ⊥
       once i j p h there again =
           let rest : end_of_tour f (n - i) p ≡ Some start = sym (walked_on i (n - i) n start p (omega arith) there) ∙ back in
           let short : end_of_tour f (n - i - suc j) p ≡ Some start = sym (walked_on (suc j) (n - i - suc j) (n - i) p p (omega arith) again) ∙ rest in
@@ -134,7 +145,8 @@ module _ (f : List ℤ) where
         let other = element_place f b c at_b in
         one.1 ∙ ap (λ k. pos (suc k)) (one_place f one.0 other.0 c apart one.2 other.2) ∙ sym other.1
 
-    from_one_start : (i : ℕ) (a b p : ℤ) → end_of_tour f i a ≡ Some p → end_of_tour f i b ≡ Some p → a ≡ b
+    from_one_start : (i : ℕ) (a b p : ℤ) → end_of_tour f i a ≡ Some p → end_of_tour f i b ≡ Some p
+        → a ≡ b
     from_one_start zero a b p to_a to_b = same_Some a p to_a ∙ sym (same_Some b p to_b)
     from_one_start (suc i) a b p to_a to_b =
         let one = on_the_way 1 i (suc i) a p (omega arith) to_a in
@@ -147,7 +159,8 @@ module _ (f : List ℤ) where
     pub goes_through : (start : ℤ) (n : ℕ) → NotBack start n → all_different (tour f n start) ≡ true
     goes_through start n ahead = tour_differs start n once n 0 start (omega arith) refl
       where
-        once : (i j : ℕ) (p : ℤ) → i + suc j < n → end_of_tour f i start ≡ Some p → end_of_tour f (suc j) p ≡ Some p → ⊥
+        once : (i j : ℕ) (p : ℤ) → i + suc j < n → end_of_tour f i start ≡ Some p
+            → end_of_tour f (suc j) p ≡ Some p → ⊥
         once i j p h there again =
             let twice : end_of_tour f (suc j + i) start ≡ Some p = walked_on i (suc j) (suc j + i) start p (omega arith) there ∙ again in
             let way = on_the_way (suc j) i (suc j + i) start p refl twice in
@@ -159,10 +172,13 @@ module _ (f : List ℤ) where
   pub no_places : are_places (length f) f ≡ false → false ≡ is_circuit f
   no_places e = sym (ap (λ b. b && all_different (tour f (length f) (pos 1)) && option_map_or (λ p. p =ℤ pos 1) (end_of_tour f (length f) (pos 1)) false) e)
 
-  pub comes_back : are_places (length f) f ≡ true → all_different (tour f (length f) (pos 1)) ≡ false → false ≡ is_circuit f
+  pub comes_back : are_places (length f) f ≡ true
+      → all_different (tour f (length f) (pos 1)) ≡ false → false ≡ is_circuit f
   comes_back places same = sym (λ k. places k && same k && option_map_or (λ p. p =ℤ pos 1) (end_of_tour f (length f) (pos 1)) false)
 
-  pub comes_to : (p : ℕ) → are_places (length f) f ≡ true → end_of_tour f (length f) (pos 1) ≡ Some (pos (p + 1)) → NotBack f (pos 1) (length f) → nat_eq p 0 ≡ is_circuit f
+  pub comes_to : (p : ℕ) → are_places (length f) f ≡ true
+      → end_of_tour f (length f) (pos 1) ≡ Some (pos (p + 1)) → NotBack f (pos 1) (length f)
+      → nat_eq p 0 ≡ is_circuit f
   comes_to p places end ahead =
       first p ∙ sym ((λ k. places k && all_different (tour f (length f) (pos 1)) && option_map_or (λ q. q =ℤ pos 1) (end k) false) ∙ settled)
     where
@@ -173,7 +189,8 @@ module _ (f : List ℤ) where
       and_false true = refl
       and_false false = refl
 
-      settled : (true && all_different (tour f (length f) (pos 1)) && (pos (p + 1) =ℤ pos 1)) ≡ (pos (p + 1) =ℤ pos 1)
+      settled : (true && all_different (tour f (length f) (pos 1)) && (pos (p + 1) =ℤ pos 1))
+          ≡ (pos (p + 1) =ℤ pos 1)
       settled =
           elim (pos (p + 1) =ℤ pos 1) as (λ b. (pos (p + 1) =ℤ pos 1) ≡ b → (true && all_different (tour f (length f) (pos 1)) && b) ≡ b) [
             | true ↦ λ same. ap (λ d. true && d && true) (round f (pos 1) (length f) ahead (end ∙ ap Some (same_int (pos (p + 1)) (pos 1) same)))
@@ -183,19 +200,24 @@ module _ (f : List ℤ) where
 -- ---- the places that are moved
 
 module _ (f : List ℤ) (i : ℕ) (x : ℤ) (at : slice_get f i ≡ Some x) where
-  one_moved : moved_from (pos (i + 1)) (drop i f) ≡ (if x =ℤ pos (i + 1) then moved_from (pos ((i + 1) + 1)) (drop (i + 1) f) else (pos (i + 1) ∷ moved_from (pos ((i + 1) + 1)) (drop (i + 1) f)))
+  one_moved : moved_from (pos (i + 1)) (drop i f) ≡ (if x =ℤ pos (i + 1)
+      then moved_from (pos ((i + 1) + 1)) (drop (i + 1) f)
+      else (pos (i + 1) ∷ moved_from (pos ((i + 1) + 1)) (drop (i + 1) f)))
   one_moved = ap (moved_from (pos (i + 1))) (next f i x at)
 
-  pub stays : (x =ℤ pos (i + 1)) ≡ true → moved_from (pos (i + 1)) (drop i f) ≡ moved_from (pos ((i + 1) + 1)) (drop (i + 1) f)
+  pub stays : (x =ℤ pos (i + 1)) ≡ true
+      → moved_from (pos (i + 1)) (drop i f) ≡ moved_from (pos ((i + 1) + 1)) (drop (i + 1) f)
   stays e = one_moved ∙ ap (λ b. if b then moved_from (pos ((i + 1) + 1)) (drop (i + 1) f) else (pos (i + 1) ∷ moved_from (pos ((i + 1) + 1)) (drop (i + 1) f))) e
 
-  pub moves : (x =ℤ pos (i + 1)) ≡ false → moved_from (pos (i + 1)) (drop i f) ≡ pos (i + 1) ∷ moved_from (pos ((i + 1) + 1)) (drop (i + 1) f)
+  pub moves : (x =ℤ pos (i + 1)) ≡ false → moved_from (pos (i + 1)) (drop i f)
+      ≡ pos (i + 1) ∷ moved_from (pos ((i + 1) + 1)) (drop (i + 1) f)
   moves e = one_moved ∙ ap (λ b. if b then moved_from (pos ((i + 1) + 1)) (drop (i + 1) f) else (pos (i + 1) ∷ moved_from (pos ((i + 1) + 1)) (drop (i + 1) f))) e
 
 pub none_moved : (f : List ℤ) (i : ℕ) → length f ≤ i → moved_from (pos (i + 1)) (drop i f) ≡ []
 none_moved f i end = ap (moved_from (pos (i + 1))) (none_left f i end)
 
-pub tour_from : (f ms : List ℤ) (p : ℤ) → slice_get ms 0 ≡ Some p → is_one_tour f ms ≡ all_different (tour f (length ms) p)
+pub tour_from : (f ms : List ℤ) (p : ℤ) → slice_get ms 0 ≡ Some p
+    → is_one_tour f ms ≡ all_different (tour f (length ms) p)
 tour_from f [] p at = cc
 tour_from f (m ∷ ms) p at = ap (λ q. all_different (tour f (length (m ∷ ms)) q)) (same_Some m p at)
 
@@ -203,8 +225,10 @@ module _ (f : List ℤ) where
   pub no_places' : are_places (length f) f ≡ false → false ≡ is_subcircuit f
   no_places' e = sym (ap (λ b. b && all_different f && is_one_tour f (moved_from (pos 1) f)) e)
 
-  pub no_permutation : are_places (length f) f ≡ true → all_different f ≡ false → false ≡ is_subcircuit f
+  pub no_permutation : are_places (length f) f ≡ true → all_different f ≡ false
+      → false ≡ is_subcircuit f
   no_permutation places same = sym (λ k. places k && same k && is_one_tour f (moved_from (pos 1) f))
 
-  pub permutation : are_places (length f) f ≡ true → all_different f ≡ true → is_one_tour f (moved_from (pos 1) f) ≡ is_subcircuit f
+  pub permutation : are_places (length f) f ≡ true → all_different f ≡ true
+      → is_one_tour f (moved_from (pos 1) f) ≡ is_subcircuit f
   permutation places apart = sym (λ k. places k && apart k && is_one_tour f (moved_from (pos 1) f))

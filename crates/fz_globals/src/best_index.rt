@@ -10,8 +10,10 @@ use fz_kernel::fz_arguments::Elements;
 
 /// The index, counted from `first`, of the first greatest element; none where there is no element.
 pub fn index_of_maximum(elements: &Elements, first: i64) -> Option<i128>
-    ensures exact { IfSome result (λ i. (j : ℤ) → is_index_of_best (λ x m. int_le x m) (ints elements.now) first j ≡ (j =ℤ i)) }
-    ensures none { IfNone result ((j : ℤ) → is_index_of_best (λ x m. int_le x m) (ints elements.now) first j ≡ false) }
+    ensures exact { IfSome result (λ i. (j : ℤ)
+        → is_index_of_best (λ x m. int_le x m) (ints elements.now) first j ≡ (j =ℤ i)) }
+    ensures none { IfNone result ((j : ℤ)
+        → is_index_of_best (λ x m. int_le x m) (ints elements.now) first j ≡ false) }
 {
     match maximum(elements) {
         Some(greatest) => index_of(greatest, elements, first),
@@ -21,8 +23,10 @@ pub fn index_of_maximum(elements: &Elements, first: i64) -> Option<i128>
 
 /// The index, counted from `first`, of the first least element; none where there is no element.
 pub fn index_of_minimum(elements: &Elements, first: i64) -> Option<i128>
-    ensures exact { IfSome result (λ i. (j : ℤ) → is_index_of_best (λ x m. int_le m x) (ints elements.now) first j ≡ (j =ℤ i)) }
-    ensures none { IfNone result ((j : ℤ) → is_index_of_best (λ x m. int_le m x) (ints elements.now) first j ≡ false) }
+    ensures exact { IfSome result (λ i. (j : ℤ)
+        → is_index_of_best (λ x m. int_le m x) (ints elements.now) first j ≡ (j =ℤ i)) }
+    ensures none { IfNone result ((j : ℤ)
+        → is_index_of_best (λ x m. int_le m x) (ints elements.now) first j ≡ false) }
 {
     match minimum(elements) {
         Some(least) => index_of(least, elements, first),

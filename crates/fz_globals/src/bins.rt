@@ -11,7 +11,8 @@ use fz_kernel::fz_arguments::Elements;
 
 /// Whether the load of each bin that something lies in is at most the capacity.
 pub fn loads_are_within(bins: &Elements, weights: &Elements, capacity: i64) -> bool
-    ensures exact { result ≡ list_all (λ v. int_le (load_of (ints bins.now) (ints weights.now) v) capacity) (ints bins.now) }
+    ensures exact { result ≡ list_all
+        (λ v. int_le (load_of (ints bins.now) (ints weights.now) v) capacity) (ints bins.now) }
 {
     for place in 0..number_count(bins) {
         if !is_within(bins, weights, capacity, place) {
@@ -23,7 +24,8 @@ pub fn loads_are_within(bins: &Elements, weights: &Elements, capacity: i64) -> b
 
 // Whether the load of the bin at a place is at most the capacity.
 fn is_within(bins: &Elements, weights: &Elements, capacity: i64, place: usize) -> bool
-    ensures { result ≡ int_le (load_of (ints bins.now) (ints weights.now) (number_at (ints bins.now) place)) capacity }
+    ensures { result ≡ int_le (load_of (ints bins.now) (ints weights.now)
+        (number_at (ints bins.now) place)) capacity }
 {
     load_of(i128::from(number_at(bins, place)), bins, weights) <= i128::from(capacity)
 }
@@ -31,14 +33,17 @@ fn is_within(bins: &Elements, weights: &Elements, capacity: i64, place: usize) -
 /// Whether each bin is one of those that a load is given for, from `first` on, and each of these
 /// has its load.
 pub fn loads_are_given(first: i64, bins: &Elements, weights: &Elements, loads: &Elements) -> bool
-    ensures exact { result ≡ (list_all (lies_between first ((first +ℤ pos (length (ints loads.now))) -ℤ pos 1)) (ints bins.now) && loads_are first (ints bins.now) (ints weights.now) (ints loads.now)) }
+    ensures exact { result ≡ (list_all (lies_between first
+        ((first +ℤ pos (length (ints loads.now))) -ℤ pos 1)) (ints bins.now)
+        && loads_are first (ints bins.now) (ints weights.now) (ints loads.now)) }
 {
     lie_from(first, number_count(loads), bins) && loads_are(first, bins, weights, loads)
 }
 
 // Whether each number is one of so many from `first` on.
 fn lie_from(first: i64, count: usize, numbers: &Elements) -> bool
-    ensures { result ≡ list_all (lies_between first ((first +ℤ pos count) -ℤ pos 1)) (ints numbers.now) }
+    ensures { result ≡ list_all (lies_between first ((first +ℤ pos count) -ℤ pos 1))
+        (ints numbers.now) }
 {
     for place in 0..number_count(numbers) {
         if !lies_from(first, count, numbers, place) {
@@ -50,7 +55,8 @@ fn lie_from(first: i64, count: usize, numbers: &Elements) -> bool
 
 #[inline(always)]
 fn lies_from(first: i64, count: usize, numbers: &Elements, place: usize) -> bool
-    ensures { result ≡ lies_between first ((first +ℤ pos count) -ℤ pos 1) (number_at (ints numbers.now) place) }
+    ensures { result ≡ lies_between first ((first +ℤ pos count) -ℤ pos 1)
+        (number_at (ints numbers.now) place) }
 {
     let number = number_at(numbers, place);
     first <= number && i128::from(number) <= last_from(first, count)
@@ -78,7 +84,8 @@ fn loads_are(first: i64, bins: &Elements, weights: &Elements, loads: &Elements) 
 
 // Whether the load at a place is that of the bin that it is given for.
 fn has_load(first: i64, bins: &Elements, weights: &Elements, loads: &Elements, place: usize) -> bool
-    ensures { result ≡ (number_at (ints loads.now) place =ℤ load_of (ints bins.now) (ints weights.now) (first +ℤ pos place)) }
+    ensures { result ≡ (number_at (ints loads.now) place =ℤ load_of (ints bins.now)
+        (ints weights.now) (first +ℤ pos place)) }
 {
     let bin = i128::from(first) + place as i128;
     i128::from(number_at(loads, place)) == load_of(bin, bins, weights)

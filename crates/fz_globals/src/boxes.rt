@@ -12,14 +12,16 @@ use fz_kernel::fz_arguments::Elements;
 
 /// Whether no two boxes overlap; one with no area takes its place too.
 pub fn overlap_nowhere(x: &Elements, y: &Elements, width: &Elements, height: &Elements) -> bool
-    ensures exact { result ≡ overlap_nowhere (boxes (ints x.now) (ints y.now) (ints width.now) (ints height.now)) }
+    ensures exact { result ≡ overlap_nowhere
+        (boxes (ints x.now) (ints y.now) (ints width.now) (ints height.now)) }
 {
     all_stand_apart(false, x, y, width, height)
 }
 
 /// Whether no two boxes that have an area overlap.
 pub fn overlap_in_no_area(x: &Elements, y: &Elements, width: &Elements, height: &Elements) -> bool
-    ensures exact { result ≡ overlap_in_no_area (boxes (ints x.now) (ints y.now) (ints width.now) (ints height.now)) }
+    ensures exact { result ≡ overlap_in_no_area
+        (boxes (ints x.now) (ints y.now) (ints width.now) (ints height.now)) }
 {
     all_stand_apart(true, x, y, width, height)
 }
@@ -39,7 +41,8 @@ fn all_stand_apart(
     width: &Elements,
     height: &Elements,
 ) -> bool
-    ensures { result ≡ all_pairs (stand_apart spare) (boxes (ints x.now) (ints y.now) (ints width.now) (ints height.now)) }
+    ensures { result ≡ all_pairs (stand_apart spare)
+        (boxes (ints x.now) (ints y.now) (ints width.now) (ints height.now)) }
 {
     for one in 0..count(x, y, width, height) {
         if !stands_apart_behind(spare, x, y, width, height, one) {
@@ -59,7 +62,9 @@ fn stands_apart_behind(
     one: usize,
 ) -> bool
     requires { one < length (boxes (ints x.now) (ints y.now) (ints width.now) (ints height.now)) }
-    ensures { result ≡ list_all (stand_apart spare (box_at (ints x.now) (ints y.now) (ints width.now) (ints height.now) one)) (drop (one + 1) (boxes (ints x.now) (ints y.now) (ints width.now) (ints height.now))) }
+    ensures { result ≡ list_all (stand_apart spare (box_at (ints x.now) (ints y.now)
+        (ints width.now) (ints height.now) one))
+        (drop (one + 1) (boxes (ints x.now) (ints y.now) (ints width.now) (ints height.now))) }
 {
     let count = count(x, y, width, height);
     for other in one + 1..count {
@@ -82,7 +87,9 @@ fn stand_apart(
     one: usize,
     other: usize,
 ) -> bool
-    ensures { result ≡ stand_apart spare (box_at (ints x.now) (ints y.now) (ints width.now) (ints height.now) one) (box_at (ints x.now) (ints y.now) (ints width.now) (ints height.now) other) }
+    ensures { result ≡ stand_apart spare (box_at (ints x.now) (ints y.now) (ints width.now)
+        (ints height.now) one) (box_at (ints x.now) (ints y.now) (ints width.now)
+        (ints height.now) other) }
 {
     (spare && (has_no_area(width, height, one) || has_no_area(width, height, other)))
         || are_apart(x, width, one, other)
@@ -91,7 +98,8 @@ fn stand_apart(
 
 #[inline(always)]
 fn has_no_area(width: &Elements, height: &Elements, place: usize) -> bool
-    ensures { result ≡ ((number_at (ints width.now) place =ℤ pos 0) || (number_at (ints height.now) place =ℤ pos 0)) }
+    ensures { result ≡ ((number_at (ints width.now) place =ℤ pos 0)
+        || (number_at (ints height.now) place =ℤ pos 0)) }
 {
     is_zero_at(width, place) || is_zero_at(height, place)
 }

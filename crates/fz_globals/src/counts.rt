@@ -59,7 +59,7 @@ pub fn is_listed(number: i64, elements: &Elements) -> bool
     stands_from(number, elements, 0)
 }
 
-/// Whether the truth value is an element.
+/// Whether the Boolean is an element.
 pub fn is_truth_listed(truth: bool, elements: &Elements) -> bool
     ensures exact { result ≡ list_any (λ x. x =ᴮ truth) (bools elements.now) }
 {

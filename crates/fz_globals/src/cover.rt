@@ -19,7 +19,8 @@ pub fn counts_are(
     cover: &Elements,
     counts: &Elements,
 ) -> Result<bool, AllocError>
-    ensures exact { IfOk result (λ r. r ≡ counts_are (ints elements.now) (ints cover.now) (ints counts.now)) }
+    ensures exact { IfOk result (λ r. r
+        ≡ counts_are (ints elements.now) (ints cover.now) (ints counts.now)) }
 {
     let numbers = numbers_in_order(alloc, elements)?;
     Ok(come_as_often(&numbers, cover, counts))
@@ -33,7 +34,8 @@ pub fn counts_lie(
     least: &Elements,
     most: &Elements,
 ) -> Result<bool, AllocError>
-    ensures exact { IfOk result (λ r. r ≡ counts_lie (ints elements.now) (ints cover.now) (ints least.now) (ints most.now)) }
+    ensures exact { IfOk result (λ r. r
+        ≡ counts_lie (ints elements.now) (ints cover.now) (ints least.now) (ints most.now)) }
 {
     let numbers = numbers_in_order(alloc, elements)?;
     Ok(come_within(&numbers, cover, least, most))
@@ -68,7 +70,8 @@ fn come_within(sorted: &[i64], cover: &Elements, least: &Elements, most: &Elemen
 
 fn come_at_least(sorted: &[i64], cover: &Elements, least: &Elements) -> bool
     requires { IsSorted int_cmp sorted.now }
-    ensures { result ≡ all_both (λ v n. int_le n (count_of sorted.now v)) (ints cover.now) (ints least.now) }
+    ensures { result ≡ all_both (λ v n. int_le n (count_of sorted.now v)) (ints cover.now)
+        (ints least.now) }
 {
     for place in 0..cover.len().min(least.len()) {
         if count_in_order(sorted, cover.int(place)) < i128::from(least.int(place)) {
@@ -80,7 +83,8 @@ fn come_at_least(sorted: &[i64], cover: &Elements, least: &Elements) -> bool
 
 fn come_at_most(sorted: &[i64], cover: &Elements, most: &Elements) -> bool
     requires { IsSorted int_cmp sorted.now }
-    ensures { result ≡ all_both (λ v n. int_le (count_of sorted.now v) n) (ints cover.now) (ints most.now) }
+    ensures { result ≡ all_both (λ v n. int_le (count_of sorted.now v) n) (ints cover.now)
+        (ints most.now) }
 {
     for place in 0..cover.len().min(most.len()) {
         if count_in_order(sorted, cover.int(place)) > i128::from(most.int(place)) {

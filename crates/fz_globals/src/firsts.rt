@@ -22,7 +22,8 @@ pub(crate) fn keys_in_order(alloc: Global, elements: &Elements) -> Result<Vec<i1
 /// The first place of a number among those whose keys are given.
 pub(crate) fn first_place(keys: &[i128], number: i64) -> Option<usize>
     requires { IsSorted int_cmp keys.now }
-    ensures { (xs : List ℤ) → AreKeys xs keys.now → option_map pos result ≡ index_from (pos 0) xs number }
+    ensures { (xs : List ℤ) → AreKeys xs keys.now
+        → option_map pos result ≡ index_from (pos 0) xs number }
 {
     let place = place_up_from(keys, key(number, 0));
     if place < keys.len() {
@@ -66,7 +67,8 @@ fn place_up_from(sorted: &[i128], low: i128) -> usize
     requires { IsSorted int_cmp sorted.now }
     ensures within { result ≤ length sorted.now }
     ensures below { (k : ℕ) → k < result → get_or sorted.now k (pos 0) <ℤ low }
-    ensures from { (k : ℕ) → result ≤ k → k < length sorted.now → low ≤ℤ get_or sorted.now k (pos 0) }
+    ensures from { (k : ℕ) → result ≤ k → k < length sorted.now
+        → low ≤ℤ get_or sorted.now k (pos 0) }
 {
     let mut start = 0;
     let mut end = sorted.len();

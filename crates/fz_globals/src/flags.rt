@@ -1,4 +1,4 @@
-// Sets of the indices of truth values.
+// Sets of the indices of Booleans.
 ghost use Rattle.std.specs.Prelude.{◌≡◌, ◌+ℤ◌, ◌-ℤ◌, ◌<◌, pos};
 ghost use Rattle.std.specs.Int.{int_min};
 ghost use Rattle.std.specs.FinSet as number_sets;
@@ -9,7 +9,7 @@ use crate::indices::index_at;
 use fz_base::IntSet;
 use fz_kernel::fz_arguments::Elements;
 
-/// Whether the set is that of the indices, from `first` on, of the truth values that are true.
+/// Whether the set is that of the indices, from `first` on, of the Booleans that are true.
 pub fn is_flagged(set: &IntSet, flags: &Elements, first: i64) -> bool
     ensures exact { result ≡ is_flagged set.now (bools flags.now) first }
 {

@@ -19,7 +19,8 @@ pub(crate) fn place_in(index: i64, first: i64) -> i128
 pub(crate) fn place_from(index: i64, first: i64, count: usize) -> Option<usize>
     ensures place { IfSome result (λ place. ((index -ℤ first) +ℤ pos 1) ≡ pos (place + 1)) }
     ensures in_range { IfSome result (λ place. place < count) }
-    ensures none { IfNone result ((place : ℕ) → ((index -ℤ first) +ℤ pos 1) ≡ pos (place + 1) → count ≤ place) }
+    ensures none { IfNone result ((place : ℕ) → ((index -ℤ first) +ℤ pos 1) ≡ pos (place + 1)
+        → count ≤ place) }
 {
     let place = place_in(index, first);
     if place < 0 {

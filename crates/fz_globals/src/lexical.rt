@@ -28,7 +28,7 @@ pub fn ints_are_not_behind(a: &Elements, b: &Elements) -> bool
     !ints_are_before(b, a)
 }
 
-/// Whether the truth values of `a` stand before those of `b`; false comes before true.
+/// Whether the Booleans of `a` stand before those of `b`; false comes before true.
 pub fn bools_are_before(a: &Elements, b: &Elements) -> bool
     ensures exact { result ≡ is_before (λ x y. not x && y) ◌=ᴮ◌ (bools a.now) (bools b.now) }
 {
@@ -41,7 +41,7 @@ pub fn bools_are_before(a: &Elements, b: &Elements) -> bool
     truth_count(a) < truth_count(b)
 }
 
-/// Whether the truth values of `a` stand before those of `b`, or are the same.
+/// Whether the Booleans of `a` stand before those of `b`, or are the same.
 pub fn bools_are_not_behind(a: &Elements, b: &Elements) -> bool
     ensures exact { result ≡ not (is_before (λ x y. not x && y) ◌=ᴮ◌ (bools b.now) (bools a.now)) }
 {

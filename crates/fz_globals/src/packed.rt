@@ -18,9 +18,12 @@ pub fn is_knapsack(
     weight: i64,
     profit: i64,
 ) -> Option<bool>
-    ensures exact { IfSome result (λ holds. holds ≡ is_knapsack (ints weights.now) (ints profits.now) (ints xs.now) weight profit) }
-    ensures within { IfSome result (λ holds. (leaves_128 (products (ints weights.now) (ints xs.now)) || leaves_128 (products (ints profits.now) (ints xs.now))) ≡ false) }
-    ensures leaves { IfNone result ((leaves_128 (products (ints weights.now) (ints xs.now)) || leaves_128 (products (ints profits.now) (ints xs.now))) ≡ true) }
+    ensures exact { IfSome result (λ holds. holds
+        ≡ is_knapsack (ints weights.now) (ints profits.now) (ints xs.now) weight profit) }
+    ensures within { IfSome result (λ holds. (leaves_128 (products (ints weights.now) (ints xs.now))
+        || leaves_128 (products (ints profits.now) (ints xs.now))) ≡ false) }
+    ensures leaves { IfNone result ((leaves_128 (products (ints weights.now) (ints xs.now))
+        || leaves_128 (products (ints profits.now) (ints xs.now))) ≡ true) }
 {
     let all_weight = sum_of_products(weights, xs)?;
     let all_profit = sum_of_products(profits, xs)?;

@@ -36,7 +36,8 @@ pub fn precede_in_chain(
     chain: &Elements,
     elements: &Elements,
 ) -> Result<bool, AllocError>
-    ensures exact { IfOk result (λ r. r ≡ all_neighbours (λ s t. precedes s t (ints elements.now)) (ints chain.now)) }
+    ensures exact { IfOk result (λ r. r
+        ≡ all_neighbours (λ s t. precedes s t (ints elements.now)) (ints chain.now)) }
 {
     if chain.len() <= FEW {
         return Ok(each_precedes_next(chain, elements));
@@ -75,7 +76,8 @@ fn each_precedes_next(chain: &Elements, elements: &Elements) -> bool
 // The same of the numbers whose keys are given in order.
 fn first_places_rise(chain: &Elements, keys: &[i128]) -> bool
     requires { IsSorted int_cmp keys.now }
-    ensures { (xs : List ℤ) → AreKeys xs keys.now → result ≡ all_neighbours (λ s t. precedes s t xs) (ints chain.now) }
+    ensures { (xs : List ℤ) → AreKeys xs keys.now
+        → result ≡ all_neighbours (λ s t. precedes s t xs) (ints chain.now) }
 {
     for place in 1..chain.len() {
         let first = first_place(keys, chain.int(place - 1));

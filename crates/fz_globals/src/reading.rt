@@ -36,7 +36,7 @@ pub fn is_zero_at(elements: &Elements, place: usize) -> bool
     number_at(elements, place) == 0
 }
 
-/// The truth value at a place; false past the end.
+/// The Boolean at a place; false past the end.
 #[inline(always)]
 pub fn truth_at(elements: &Elements, place: usize) -> bool
     ensures { result ≡ slice_index_or (bools elements.now) place false }
@@ -48,7 +48,7 @@ pub fn truth_at(elements: &Elements, place: usize) -> bool
     }
 }
 
-/// How many truth values there are.
+/// How many Booleans there are.
 #[inline(always)]
 pub fn truth_count(elements: &Elements) -> usize
     ensures { result ≡ length (bools elements.now) }

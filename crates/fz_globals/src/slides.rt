@@ -18,7 +18,8 @@ pub fn slides_between(low: i64, high: i64, width: i64, xs: &Elements) -> bool
 
 fn all_lie_between(low: i64, high: i64, width: usize, xs: &Elements) -> bool
     requires { 0 < width }
-    ensures { result ≡ list_all (λ w. lies_between low high (total w)) (windows width (ints xs.now)) }
+    ensures { result ≡ list_all (λ w. lies_between low high (total w))
+        (windows width (ints xs.now)) }
 {
     if number_count(xs) < width {
         return true;
@@ -30,7 +31,8 @@ fn all_lie_between(low: i64, high: i64, width: usize, xs: &Elements) -> bool
 fn running_sums_lie_between(low: i64, high: i64, width: usize, xs: &Elements) -> bool
     requires some { 0 < width }
     requires fits { width ≤ length (ints xs.now) }
-    ensures { result ≡ list_all (λ w. lies_between low high (total w)) (windows width (ints xs.now)) }
+    ensures { result ≡ list_all (λ w. lies_between low high (total w))
+        (windows width (ints xs.now)) }
 {
     let mut sum = front_sum(width, xs);
     for start in 0..number_count(xs) - width {

@@ -21,7 +21,8 @@ pub fn runs_at(number: i64, starts: &Elements, lengths: &Elements, place: usize)
 /// Whether the one span ends where the other begins, or before.
 #[inline(always)]
 pub fn ends_before(starts: &Elements, lengths: &Elements, one: usize, other: usize) -> bool
-    ensures { result ≡ ends_before (span_at (ints starts.now) (ints lengths.now) one) (span_at (ints starts.now) (ints lengths.now) other) }
+    ensures { result ≡ ends_before (span_at (ints starts.now) (ints lengths.now) one)
+        (span_at (ints starts.now) (ints lengths.now) other) }
 {
     sum(number_at(starts, one), number_at(lengths, one)) <= i128::from(number_at(starts, other))
 }
@@ -29,7 +30,8 @@ pub fn ends_before(starts: &Elements, lengths: &Elements, one: usize, other: usi
 /// Whether the spans at two places have nothing in common.
 #[inline(always)]
 pub fn are_apart(starts: &Elements, lengths: &Elements, one: usize, other: usize) -> bool
-    ensures { result ≡ are_apart (span_at (ints starts.now) (ints lengths.now) one) (span_at (ints starts.now) (ints lengths.now) other) }
+    ensures { result ≡ are_apart (span_at (ints starts.now) (ints lengths.now) one)
+        (span_at (ints starts.now) (ints lengths.now) other) }
 {
     ends_before(starts, lengths, one, other) || ends_before(starts, lengths, other, one)
 }
@@ -37,7 +39,8 @@ pub fn are_apart(starts: &Elements, lengths: &Elements, one: usize, other: usize
 // The same; where empty ones are spared, one of them may be empty instead.
 #[inline(always)]
 fn keep_apart(spare: bool, starts: &Elements, lengths: &Elements, one: usize, other: usize) -> bool
-    ensures { result ≡ keep_apart spare (span_at (ints starts.now) (ints lengths.now) one) (span_at (ints starts.now) (ints lengths.now) other) }
+    ensures { result ≡ keep_apart spare (span_at (ints starts.now) (ints lengths.now) one)
+        (span_at (ints starts.now) (ints lengths.now) other) }
 {
     (spare && (is_zero_at(lengths, one) || is_zero_at(lengths, other)))
         || are_apart(starts, lengths, one, other)
@@ -46,7 +49,8 @@ fn keep_apart(spare: bool, starts: &Elements, lengths: &Elements, one: usize, ot
 // Whether the span at a place keeps apart from each one behind it.
 fn keeps_apart_behind(spare: bool, starts: &Elements, lengths: &Elements, one: usize) -> bool
     requires { one < length (zip (ints starts.now) (ints lengths.now)) }
-    ensures { result ≡ list_all (keep_apart spare (span_at (ints starts.now) (ints lengths.now) one)) (drop (one + 1) (zip (ints starts.now) (ints lengths.now))) }
+    ensures { result ≡ list_all (keep_apart spare (span_at (ints starts.now)
+        (ints lengths.now) one)) (drop (one + 1) (zip (ints starts.now) (ints lengths.now))) }
 {
     let count = common_places(starts, lengths);
     for other in one + 1..count {

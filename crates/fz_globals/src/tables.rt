@@ -72,7 +72,8 @@ fn is_bool_row_among(elements: &Elements, table: &Elements, rows: usize) -> bool
 // Whether the elements stand in the table from a place on.
 fn ints_stand_at(elements: &Elements, table: &Elements, start: usize) -> bool
     requires { start + length (slots_of elements.now) ≤ length (slots_of table.now) }
-    ensures { result ≡ is_same_list ◌=ℤ◌ (ints elements.now) (take (length (ints elements.now)) (drop start (ints table.now))) }
+    ensures { result ≡ is_same_list ◌=ℤ◌ (ints elements.now)
+        (take (length (ints elements.now)) (drop start (ints table.now))) }
 {
     for place in 0..elements.len() {
         if elements.int(place) != table.int(start + place) {
@@ -85,7 +86,8 @@ fn ints_stand_at(elements: &Elements, table: &Elements, start: usize) -> bool
 // Whether the elements stand in the table from a place on.
 fn bools_stand_at(elements: &Elements, table: &Elements, start: usize) -> bool
     requires { start + length (slots_of elements.now) ≤ length (slots_of table.now) }
-    ensures { result ≡ is_same_list ◌=ᴮ◌ (bools elements.now) (take (length (bools elements.now)) (drop start (bools table.now))) }
+    ensures { result ≡ is_same_list ◌=ᴮ◌ (bools elements.now)
+        (take (length (bools elements.now)) (drop start (bools table.now))) }
 {
     for place in 0..elements.len() {
         if elements.truth(place) != table.truth(start + place) {

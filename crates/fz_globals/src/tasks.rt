@@ -26,7 +26,8 @@ pub fn is_strictly_disjunctive(starts: &Elements, durations: &Elements) -> bool
 /// Whether at no start of a task that lasts and uses something more than `most` is used. Durations
 /// and uses are 0 or more.
 pub fn is_cumulative(starts: &Elements, durations: &Elements, uses: &Elements, most: i64) -> bool
-    ensures exact { result ≡ is_cumulative (zip (zip (ints starts.now) (ints durations.now)) (ints uses.now)) most }
+    ensures exact { result ≡ is_cumulative
+        (zip (zip (ints starts.now) (ints durations.now)) (ints uses.now)) most }
 {
     are_natural(starts, durations, uses)
         && (count(starts, durations, uses) == 0 || 0 <= most)
@@ -43,7 +44,8 @@ fn count(starts: &Elements, durations: &Elements, uses: &Elements) -> usize
 
 // Whether all last and use 0 or more.
 fn are_natural(starts: &Elements, durations: &Elements, uses: &Elements) -> bool
-    ensures { result ≡ list_all (λ k. is_natural k.0.1 && is_natural k.1) (zip (zip (ints starts.now) (ints durations.now)) (ints uses.now)) }
+    ensures { result ≡ list_all (λ k. is_natural k.0.1 && is_natural k.1)
+        (zip (zip (ints starts.now) (ints durations.now)) (ints uses.now)) }
 {
     for task in 0..count(starts, durations, uses) {
         if !is_natural_task(durations, uses, task) {
@@ -55,14 +57,16 @@ fn are_natural(starts: &Elements, durations: &Elements, uses: &Elements) -> bool
 
 #[inline(always)]
 fn is_natural_task(durations: &Elements, uses: &Elements, task: usize) -> bool
-    ensures { result ≡ (is_natural (number_at (ints durations.now) task) && is_natural (number_at (ints uses.now) task)) }
+    ensures { result ≡ (is_natural (number_at (ints durations.now) task)
+        && is_natural (number_at (ints uses.now) task)) }
 {
     is_natural_at(durations, task) && is_natural_at(uses, task)
 }
 
 // Whether `most` is kept at each start of a task that counts.
 fn none_exceeds(starts: &Elements, durations: &Elements, uses: &Elements, most: i64) -> bool
-    ensures { result ≡ list_all (keeps_within most (zip (zip (ints starts.now) (ints durations.now)) (ints uses.now))) (zip (zip (ints starts.now) (ints durations.now)) (ints uses.now)) }
+    ensures { result ≡ list_all (keeps_within most (zip (zip (ints starts.now) (ints durations.now))
+        (ints uses.now))) (zip (zip (ints starts.now) (ints durations.now)) (ints uses.now)) }
 {
     for task in 0..count(starts, durations, uses) {
         if !keeps_within(starts, durations, uses, most, task) {
@@ -80,7 +84,12 @@ fn keeps_within(
     most: i64,
     task: usize,
 ) -> bool
-    ensures { result ≡ keeps_within most (zip (zip (ints starts.now) (ints durations.now)) (ints uses.now)) (span_at (ints starts.now) (ints durations.now) task, number_at (ints uses.now) task) }
+    ensures { result ≡ keeps_within most (zip (zip (ints starts.now) (ints durations.now))
+        (ints uses.now)) (
+          span_at (ints starts.now) (ints durations.now) task,
+          number_at
+              (ints uses.now) task,
+        ) }
 {
     is_zero_at(durations, task)
         || is_zero_at(uses, task)
@@ -89,7 +98,8 @@ fn keeps_within(
 
 // The sum of what is used at a time. No array is long enough for it to leave 128 bits.
 fn used_at(time: i64, starts: &Elements, durations: &Elements, uses: &Elements) -> i128
-    ensures { result ≡ used_at time (zip (zip (ints starts.now) (ints durations.now)) (ints uses.now)) }
+    ensures { result ≡ used_at time
+        (zip (zip (ints starts.now) (ints durations.now)) (ints uses.now)) }
 {
     let mut sum: i128 = 0;
     for task in 0..count(starts, durations, uses) {

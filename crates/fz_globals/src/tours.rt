@@ -65,7 +65,8 @@ fn leads_back(f: &Elements, fo: i64, g: &Elements, go: i64) -> bool
 // Whether the element at an index, which is counted from `first`, leads to a place, which is
 // counted from 0.
 fn leads_to(index: i64, first: i64, g: &Elements, go: i64, place: usize) -> bool
-    ensures { result ≡ option_map_or (λ y. y =ℤ pos (place + 1)) (element_at (as_places go (ints g.now)) ((index -ℤ first) +ℤ pos 1)) false }
+    ensures { result ≡ option_map_or (λ y. y =ℤ pos (place + 1))
+        (element_at (as_places go (ints g.now)) ((index -ℤ first) +ℤ pos 1)) false }
 {
     match place_from(index, first, g.len()) {
         Some(target) => place_in(g.int(target), go) == place as i128,
@@ -75,7 +76,8 @@ fn leads_to(index: i64, first: i64, g: &Elements, go: i64, place: usize) -> bool
 
 // Whether each element is the index of one of them.
 fn are_indices(first: i64, next: &Elements) -> bool
-    ensures { result ≡ are_places (length (as_places first (ints next.now))) (as_places first (ints next.now)) }
+    ensures { result ≡ are_places (length (as_places first (ints next.now)))
+        (as_places first (ints next.now)) }
 {
     for place in 0..next.len() {
         if !is_index(next.int(place), first, next.len()) {
@@ -94,10 +96,12 @@ fn is_index(index: i64, first: i64, count: usize) -> bool
 
 // The place to which the list leads from a place; both are counted from 0.
 fn led_to(first: i64, next: &Elements, place: usize) -> usize
-    requires indices { are_places (length (as_places first (ints next.now))) (as_places first (ints next.now)) ≡ true }
+    requires indices { are_places (length (as_places first (ints next.now)))
+        (as_places first (ints next.now)) ≡ true }
     requires in_range { place < length (slots_of next.now) }
     ensures within { result < length (slots_of next.now) }
-    ensures leads { element_at (as_places first (ints next.now)) (pos (place + 1)) ≡ Some (pos (result + 1)) }
+    ensures leads { element_at (as_places first (ints next.now)) (pos (place + 1))
+        ≡ Some (pos (result + 1)) }
 {
     match place_from(next.int(place), first, next.len()) {
         Some(target) => target,
@@ -109,11 +113,16 @@ fn led_to(first: i64, next: &Elements, place: usize) -> usize
 // Where the list leads from a place in so many steps; none where it comes back to that place
 // before.
 fn walk(first: i64, next: &Elements, start: usize, steps: usize) -> Option<usize>
-    requires indices { are_places (length (as_places first (ints next.now))) (as_places first (ints next.now)) ≡ true }
+    requires indices { are_places (length (as_places first (ints next.now)))
+        (as_places first (ints next.now)) ≡ true }
     requires in_range { start < length (slots_of next.now) }
-    ensures ends { IfSome result (λ p. end_of_tour (as_places first (ints next.now)) steps (pos (start + 1)) ≡ Some (pos (p + 1))) }
-    ensures goes_on { IfSome result (λ p. (k : ℕ) → 0 < k → k < steps → end_of_tour (as_places first (ints next.now)) k (pos (start + 1)) ≡ Some (pos (start + 1)) → ⊥) }
-    ensures comes_back { IfNone result (all_different (tour (as_places first (ints next.now)) steps (pos (start + 1))) ≡ false) }
+    ensures ends { IfSome result (λ p. end_of_tour (as_places first (ints next.now)) steps
+        (pos (start + 1)) ≡ Some (pos (p + 1))) }
+    ensures goes_on { IfSome result (λ p. (k : ℕ) → 0 < k → k < steps
+        → end_of_tour (as_places first (ints next.now)) k (pos (start + 1)) ≡ Some (pos (start + 1))
+        → ⊥) }
+    ensures comes_back { IfNone result
+        (all_different (tour (as_places first (ints next.now)) steps (pos (start + 1))) ≡ false) }
 {
     let mut place = start;
     for step in 0..steps {
@@ -127,9 +136,11 @@ fn walk(first: i64, next: &Elements, start: usize, steps: usize) -> Option<usize
 
 // Whether a permutation leads from the first place that it moves to all that it moves.
 fn is_one_tour(first: i64, next: &Elements) -> bool
-    requires indices { are_places (length (as_places first (ints next.now))) (as_places first (ints next.now)) ≡ true }
+    requires indices { are_places (length (as_places first (ints next.now)))
+        (as_places first (ints next.now)) ≡ true }
     requires different { all_different (as_places first (ints next.now)) ≡ true }
-    ensures { result ≡ is_one_tour (as_places first (ints next.now)) (moved_from (pos 1) (as_places first (ints next.now))) }
+    ensures { result ≡ is_one_tour (as_places first (ints next.now))
+        (moved_from (pos 1) (as_places first (ints next.now))) }
 {
     match first_moved(first, next) {
         Some(start) => match walk(first, next, start, count_moved(first, next)) {
@@ -143,7 +154,8 @@ fn is_one_tour(first: i64, next: &Elements) -> bool
 // The first place, counted from 0, that doesn't lead to itself.
 fn first_moved(first: i64, next: &Elements) -> Option<usize>
     ensures in_range { IfSome result (λ p. p < length (slots_of next.now)) }
-    ensures found { IfSome result (λ p. slice_get (moved_from (pos 1) (as_places first (ints next.now))) 0 ≡ Some (pos (p + 1))) }
+    ensures found { IfSome result (λ p. slice_get
+        (moved_from (pos 1) (as_places first (ints next.now))) 0 ≡ Some (pos (p + 1))) }
     ensures none { IfNone result (moved_from (pos 1) (as_places first (ints next.now)) ≡ []) }
 {
     for place in 0..next.len() {

@@ -19,7 +19,8 @@ pub fn is_word(
     first: i64,
     last: &IntSet,
 ) -> bool
-    ensures exact { result ≡ is_word (ints xs.now) states symbols (ints transitions.now) first last.now }
+    ensures exact { result ≡ is_word (ints xs.now) states symbols
+        (ints transitions.now) first last.now }
 {
     if number_count(transitions) as i128 != product(states, symbols) {
         return false;

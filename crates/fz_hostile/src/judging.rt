@@ -44,7 +44,7 @@ fn call_on_blocks(
 }
 
 /// Fills a block and tells its values, or the points under them, or the refusal; says whether that
-/// is want of memory.
+/// is out of memory.
 fn fill_lacks_memory(rt: &HostRuntime, call: &str, model: &Model<'_>, block: &Block<'_>) -> bool {
     match fill(rt.alloc(), model, block) {
         Ok(partial) => {

@@ -20,7 +20,7 @@ pub fn make_call(rt: &HostRuntime, call: &str, operands: &[String]) -> Option<()
     Some(())
 }
 
-/// Makes the call, tells its answer, and says whether that is want of memory.
+/// Makes the call, tells its answer, and says whether memory ran out.
 fn lacks_memory(rt: &HostRuntime, call: &str, source: &[u8]) -> bool {
     match call {
         "lex" => lex_lacks_memory(rt, source),

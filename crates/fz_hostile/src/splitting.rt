@@ -22,7 +22,7 @@ pub fn make_call(rt: &HostRuntime, call: &str, operands: &[String]) -> Option<()
     Some(())
 }
 
-/// Reads a stream whole, tells its parts or the refusal, and says whether that is want of memory.
+/// Reads a stream whole, tells its parts or the refusal, and says whether memory ran out.
 fn lacks_memory(rt: &HostRuntime, stream: &[u8]) -> bool {
     match blocks(rt.alloc(), stream) {
         Ok(found) => {

@@ -31,7 +31,8 @@ and_true false = refl
 
 -- ---- taking a value takes none away
 
-given_keeps : (K : Partial) (n : ℕ) (v : Value) (b : Bool) → is_none (value_at K n) ≡ b → HasAllOf K (cond b (give K n v) K)
+given_keeps : (K : Partial) (n : ℕ) (v : Value) (b : Bool) → is_none (value_at K n) ≡ b
+    → HasAllOf K (cond b (give K n v) K)
 given_keeps K n v false e = λ k u at. at
 given_keeps K n v true e = λ k u at. value_at_other K n k v (λ same. none_some (value_at K n) u e (ap (value_at K) (sym same) ∙ at)) ∙ at
   where
@@ -52,7 +53,8 @@ all_keep K (q ∷ qs) = λ k u at. all_keep (with_first K q) qs k u (first_keeps
 has_is : (K : Partial) (q : Term × Value) → has_value K q ≡ true → Agrees K q
 has_is K q h = (elim (value K q.0) as (λ o. option_map_or (λ v. same_value v q.1) o false ≡ true → o ≡ Some q.1) [ None ↦ λ h. no h | Some v ↦ λ h. ap Some (same_value_is v q.1 h) ]) h
 
-they_agree : (K : Partial) (qs : List (Term × Value)) → agree_all K qs ≡ true → AllByRecursion (Agrees (with_all K qs)) qs
+they_agree : (K : Partial) (qs : List (Term × Value)) → agree_all K qs ≡ true
+    → AllByRecursion (Agrees (with_all K qs)) qs
 they_agree K [] h = tt
 they_agree K (q ∷ qs) h = (
   value_under (with_first K q) (with_all (with_first K q) qs) (all_keep (with_first K q) qs) q.0 q.1 (has_is (with_first K q) q (and_first (has_value (with_first K q) q) (agree_all (with_first K q) qs) h)),
@@ -60,7 +62,8 @@ they_agree K (q ∷ qs) h = (
 )
 
 -- a variable has the value that it was given
-pub given_agrees : (K : Partial) (n : ℕ) (v : Value) → n < length K → has_value (give K n v) (Var n, v) ≡ true
+pub given_agrees : (K : Partial) (n : ℕ) (v : Value) → n < length K
+    → has_value (give K n v) (Var n, v) ≡ true
 given_agrees K n v h = ap (λ o. option_map_or (λ w. same_value w v) o false) (given_at K n v h) ∙ value_itself v
   where
     given_at : (K : Partial) (n : ℕ) (v : Value) → n < length K → value_at (give K n v) n ≡ Some v
@@ -70,7 +73,8 @@ given_agrees K n v h = ap (λ o. option_map_or (λ w. same_value w v) o false) (
 
 -- ---- one item after another
 
-pub agree_append : (K : Partial) (qs rs : List (Term × Value)) → agree_all K (qs ++ rs) ≡ (agree_all K qs && agree_all (with_all K qs) rs)
+pub agree_append : (K : Partial) (qs rs : List (Term × Value))
+    → agree_all K (qs ++ rs) ≡ (agree_all K qs && agree_all (with_all K qs) rs)
 agree_append K [] rs = refl
 agree_append K (q ∷ qs) rs = ap (λ b. has_value (with_first K q) q && b) (agree_append (with_first K q) qs rs) ∙ assoc (has_value (with_first K q) q) (agree_all (with_first K q) qs) (agree_all (with_all (with_first K q) qs) rs)
   where
@@ -79,10 +83,12 @@ agree_append K (q ∷ qs) rs = ap (λ b. has_value (with_first K q) q && b) (agr
     assoc false b c = refl
 
 -- the values so far are those of the items so far
-taken : (m : Model) (qs : List (Term × Value)) → start_from qs 0 (variables_of m) ≡ with_all (nothing_for m) qs
+taken : (m : Model) (qs : List (Term × Value))
+    → start_from qs 0 (variables_of m) ≡ with_all (nothing_for m) qs
 taken m qs = start_more [] qs (variables_of m) ∙ ap (λ K. with_all K qs) (sym (starts_with_nothing m))
 
-pub agree_item_more : (m : Model) (xs : List Printed) (i : Printed) (K : Partial) → K ≡ start_from (printed_scalars m xs) 0 (variables_of m)
+pub agree_item_more : (m : Model) (xs : List Printed) (i : Printed) (K : Partial)
+    → K ≡ start_from (printed_scalars m xs) 0 (variables_of m)
     → agree_all (nothing_for m) (printed_scalars m (xs ++ i ∷ [])) ≡ (agree_all (nothing_for m) (printed_scalars m xs) && agree_all K (item_scalars m i))
 agree_item_more m xs i K before =
     ap (agree_all (nothing_for m)) (scalars_more m xs i) ∙ agree_append (nothing_for m) (printed_scalars m xs) (item_scalars m i)
@@ -90,13 +96,16 @@ agree_item_more m xs i K before =
 
 -- ---- and so under the filling
 
-scalars_have : (K : Partial) (ts : List Term) (ls : List Literal) → length ls ≡ length ts → AllByRecursion (Agrees K) (pairs ts (printed_values ls)) → values K ts ≡ Some (printed_values ls)
+scalars_have : (K : Partial) (ts : List Term) (ls : List Literal) → length ls ≡ length ts
+    → AllByRecursion (Agrees K) (pairs ts (printed_values ls))
+    → values K ts ≡ Some (printed_values ls)
 scalars_have K [] [] e h = refl
 scalars_have K [] (l ∷ ls) e h = cc
 scalars_have K (t ∷ ts) [] e h = cc
 scalars_have K (t ∷ ts) (l ∷ ls) e h = let shorter : length ls ≡ length ts = cc in λ i. option_cons (h.0 i) (scalars_have K ts ls shorter h.1 i)
 
-place_has : (K : Partial) (x : Name) (p : Place) (v : PrintedValue) → value_fault x p v ≡ None → AllByRecursion (Agrees K) (pairs_at p v) → has_printed K p v ≡ true
+place_has : (K : Partial) (x : Name) (p : Place) (v : PrintedValue) → value_fault x p v ≡ None
+    → AllByRecursion (Agrees K) (pairs_at p v) → has_printed K p v ≡ true
 place_has K x (Scalar k t) (OneValue l) e h = ap (λ o. option_map_or (λ v. same_value v (literal_value l.what)) o false) h.0 ∙ value_itself (literal_value l.what)
 place_has K x (Scalar k t) (ArrayOf is ls) e h = cc
 place_has K x (Array y k ts) (OneValue l) e h = cc
@@ -112,17 +121,23 @@ item_at : (K : Partial) (i : Printed) (o : Option Place) → ◌≡◌ {A = Opti
 item_at K i None e h = cc
 item_at K i (Some p) e h = ap (λ b. cond b None (Some (PrintedFault i.name.text))) (place_has K i.name p i.value e h)
 
-item_has : (m : Model) (K : Partial) (i : Printed) → printed_fault m i ≡ None → AllByRecursion (Agrees K) (item_scalars m i) → printed_fails m K i ≡ None
+item_has : (m : Model) (K : Partial) (i : Printed) → printed_fault m i ≡ None
+    → AllByRecursion (Agrees K) (item_scalars m i) → printed_fails m K i ≡ None
 item_has m K i = item_at K i (find_name m i.name.text)
 
-items_have : (m : Model) (K : Partial) (items : List Printed) → items_fault m items ≡ None → AllByRecursion (Agrees K) (printed_scalars m items) → first_some (printed_fails m K) items ≡ None
+items_have : (m : Model) (K : Partial) (items : List Printed) → items_fault m items ≡ None
+    → AllByRecursion (Agrees K) (printed_scalars m items)
+    → first_some (printed_fails m K) items ≡ None
 items_have m K [] clean h = refl
 items_have m K (i ∷ items) clean h =
     let each = or_none (printed_fault m i) (items_fault m items) clean in
     let here : printed_fails m K i ≡ None = item_has m K i each.0 (all_left (Agrees K) (item_scalars m i) (printed_scalars m items) h) in
     (λ j. option_or (here j) (first_some (printed_fails m K) items)) ∙ items_have m K items each.1 (all_right (Agrees K) (item_scalars m i) (printed_scalars m items) h)
 
-pub none_fails : (m : Model) (K F : Partial) (items : List Printed) → items_fault m items ≡ None → K ≡ start_from (printed_scalars m items) 0 (variables_of m) → agree_all (nothing_for m) (printed_scalars m items) ≡ true → HasAllOf K F → first_some (printed_fails m F) items ≡ None
+pub none_fails : (m : Model) (K F : Partial) (items : List Printed) → items_fault m items ≡ None
+    → K ≡ start_from (printed_scalars m items) 0 (variables_of m)
+    → agree_all (nothing_for m) (printed_scalars m items) ≡ true → HasAllOf K F
+    → first_some (printed_fails m F) items ≡ None
 none_fails m K F items clean is agree grows =
     let qs = printed_scalars m items in
     let L = with_all (nothing_for m) qs in

@@ -7,18 +7,22 @@ use Rattle.std.proofs.Math.Seq.{take-suc}
 use Rattle.fz_model.specs.Meaning.{first_some}
 
 -- the whole list: what was read, the one at the place, and what follows
-pub whole_at : {A B : Type 0} (f : A → B) (xs : List A) (i : ℕ) (x : A) → i < length xs → x ≡ get_or xs i x → map f xs ≡ map f (take i xs) ++ f x ∷ map f (drop (i + 1) xs)
+pub whole_at : {A B : Type 0} (f : A → B) (xs : List A) (i : ℕ) (x : A) → i < length xs
+    → x ≡ get_or xs i x → map f xs ≡ map f (take i xs) ++ f x ∷ map f (drop (i + 1) xs)
 whole_at f xs i x h e =
     let rest : drop i xs ≡ x ∷ drop (i + 1) xs = drop-cons xs i x h ∙ (λ j. sym e j ∷ drop (sym (add-one i) j) xs) in
     ap (map f) (sym (take-append-drop i xs)) ∙ map-append f (take i xs) (drop i xs) ∙ ap (λ ys. map f (take i xs) ++ map f ys) rest
 
 -- one more
-pub take_one_more : {A B : Type 0} (f : A → B) (xs : List A) (i : ℕ) (x : A) → i < length xs → x ≡ get_or xs i x → map f (take (i + 1) xs) ≡ map f (take i xs) ++ f x ∷ []
+pub take_one_more : {A B : Type 0} (f : A → B) (xs : List A) (i : ℕ) (x : A) → i < length xs
+    → x ≡ get_or xs i x → map f (take (i + 1) xs) ≡ map f (take i xs) ++ f x ∷ []
 take_one_more f xs i x h e =
     ap (λ n. map f (take n xs)) (add-one i) ∙ ap (map f) (take-suc xs i x h) ∙ map-append f (take i xs) (get_or xs i x ∷ []) ∙ ap (λ y. map f (take i xs) ++ f y ∷ []) (sym e)
 
 -- at the end of the shorter one, a function that is the same for each empty list is at its end
-pub both_end : {A B R : Type 0} (h : List A → List B → R) (r : R) → ((ys : List B) → h [] ys ≡ r) → ((xs : List A) → h xs [] ≡ r) → (xs : List A) (ys : List B) (k : ℕ) → k ≡ min (length xs) (length ys) → h (drop k xs) (drop k ys) ≡ r
+pub both_end : {A B R : Type 0} (h : List A → List B → R) (r : R) → ((ys : List B) → h [] ys ≡ r)
+    → ((xs : List A) → h xs [] ≡ r) → (xs : List A) (ys : List B) (k : ℕ)
+    → k ≡ min (length xs) (length ys) → h (drop k xs) (drop k ys) ≡ r
 both_end h r left right [] ys zero e = left ys
 both_end h r left right [] ys (suc k) e = left (drop (suc k) ys)
 both_end h r left right (x ∷ xs) [] zero e = right (x ∷ xs)
@@ -27,27 +31,31 @@ both_end h r left right (x ∷ xs) (y ∷ ys) zero e = absurd (omega arith)
 both_end h r left right (x ∷ xs) (y ∷ ys) (suc k) e = both_end h r left right xs ys k (omega arith)
 
 -- there is an element at each number in range
-pub there_is : {A : Type 0} (xs : List A) (k : ℕ) → k < length xs → (x : A) × (slice_get xs k ≡ Some x)
+pub there_is : {A : Type 0} (xs : List A) (k : ℕ) → k < length xs
+    → (x : A) × (slice_get xs k ≡ Some x)
 there_is [] k h = absurd (omega arith)
 there_is (x ∷ xs) zero h = (x, refl)
 there_is (x ∷ xs) (suc k) h = there_is xs k (omega arith)
 
 -- what holds of what each element stands for holds of what one stands for
-pub mapped_at : {A B : Type 0} (P : B → Type 0) (f : A → B) (xs : List A) (k : ℕ) (x : A) → k < length xs → x ≡ get_or xs k x → AllByRecursion P (map f xs) → P (f x)
+pub mapped_at : {A B : Type 0} (P : B → Type 0) (f : A → B) (xs : List A) (k : ℕ) (x : A)
+    → k < length xs → x ≡ get_or xs k x → AllByRecursion P (map f xs) → P (f x)
 mapped_at P f [] k x h e all = absurd (omega arith)
 mapped_at P f (y ∷ xs) zero x h e all = subst (λ z. P (f z)) (sym e) all.0
 mapped_at P f (y ∷ xs) (suc k) x h e all = mapped_at P f xs k x (omega arith) e all.1
 
 -- ---- the first answer
 
-pub or_assoc : {A : Type 0} (o p q : Option A) → option_or (option_or o p) q ≡ option_or o (option_or p q)
+pub or_assoc : {A : Type 0} (o p q : Option A)
+    → option_or (option_or o p) q ≡ option_or o (option_or p q)
 or_assoc None p q = refl
 or_assoc (Some x) p q = refl
 
 pub both_none : {A : Type 0} (o p : Option A) → o ≡ None → p ≡ None → option_or o p ≡ None
 both_none o p a b = ap (λ z. option_or z p) a ∙ b
 
-pub first_append : {A B : Type 0} (f : A → Option B) (xs ys : List A) → first_some f (xs ++ ys) ≡ option_or (first_some f xs) (first_some f ys)
+pub first_append : {A B : Type 0} (f : A → Option B) (xs ys : List A)
+    → first_some f (xs ++ ys) ≡ option_or (first_some f xs) (first_some f ys)
 first_append f [] ys = refl
 first_append f (x ∷ xs) ys = ap (option_or (f x)) (first_append f xs ys) ∙ sym (or_assoc (f x) (first_some f xs) (first_some f ys))
 
@@ -68,25 +76,32 @@ or_some None p e = cc
 or_some (Some x) p e = refl
 
 -- over elements that stand for `g x`: none so far, and none at the next
-pub first_more : {A B C : Type 0} (f : B → Option C) (g : A → B) (xs : List A) (i : ℕ) (x : A) → i < length xs → x ≡ get_or xs i x → first_some f (map g (take i xs)) ≡ None → f (g x) ≡ None → first_some f (map g (take (i + 1) xs)) ≡ None
+pub first_more : {A B C : Type 0} (f : B → Option C) (g : A → B) (xs : List A) (i : ℕ) (x : A)
+    → i < length xs → x ≡ get_or xs i x → first_some f (map g (take i xs)) ≡ None → f (g x) ≡ None
+    → first_some f (map g (take (i + 1) xs)) ≡ None
 first_more f g xs i x h e none here =
     ap (first_some f) (take_one_more g xs i x h e) ∙ first_append f (map g (take i xs)) (g x ∷ []) ∙ both_none (first_some f (map g (take i xs))) (option_or (f (g x)) None) none (both_none (f (g x)) None here refl)
 
 -- none so far, and one at the next
-pub first_found : {A B C : Type 0} (f : B → Option C) (g : A → B) (xs : List A) (i : ℕ) (x : A) → i < length xs → x ≡ get_or xs i x → first_some f (map g (take i xs)) ≡ None → is_some (f (g x)) ≡ true → first_some f (map g xs) ≡ f (g x)
+pub first_found : {A B C : Type 0} (f : B → Option C) (g : A → B) (xs : List A) (i : ℕ) (x : A)
+    → i < length xs → x ≡ get_or xs i x → first_some f (map g (take i xs)) ≡ None
+    → is_some (f (g x)) ≡ true → first_some f (map g xs) ≡ f (g x)
 first_found f g xs i x h e none here =
     ap (first_some f) (whole_at g xs i x h e) ∙ first_append f (map g (take i xs)) (g x ∷ map g (drop (i + 1) xs)) ∙ ap (λ o. option_or o (option_or (f (g x)) (first_some f (map g (drop (i + 1) xs))))) none
     ∙ or_some (f (g x)) (first_some f (map g (drop (i + 1) xs))) here
 
 -- what is told through a function is told where there is an answer
-pub told_is_some : {A B : Type 0} (r : A → B) (o : Option B) (p : Option A) (b : Bool) → o ≡ option_map r p → is_some o ≡ b → is_some p ≡ b
+pub told_is_some : {A B : Type 0} (r : A → B) (o : Option B) (p : Option A) (b : Bool)
+    → o ≡ option_map r p → is_some o ≡ b → is_some p ≡ b
 told_is_some r o p b e h = sym (map_is_some r p) ∙ ap is_some (sym e) ∙ h
 
-pub seen_is_some : {A B : Type 0} (v : B → A) (o : Option B) (p : Option A) (b : Bool) → option_map v o ≡ p → is_some o ≡ b → is_some p ≡ b
+pub seen_is_some : {A B : Type 0} (v : B → A) (o : Option B) (p : Option A) (b : Bool)
+    → option_map v o ≡ p → is_some o ≡ b → is_some p ≡ b
 seen_is_some v o p b e h = ap is_some (sym e) ∙ map_is_some v o ∙ h
 
 -- where nothing is answered of a list, nothing is answered of an element
-pub none_at : {A B C : Type 0} (f : B → Option C) (g : A → B) (xs : List A) (i : ℕ) (x : A) → i < length xs → x ≡ get_or xs i x → first_some f (map g xs) ≡ None → f (g x) ≡ None
+pub none_at : {A B C : Type 0} (f : B → Option C) (g : A → B) (xs : List A) (i : ℕ) (x : A)
+    → i < length xs → x ≡ get_or xs i x → first_some f (map g xs) ≡ None → f (g x) ≡ None
 none_at f g xs i x h e none =
     let parts : option_or (first_some f (map g (take i xs))) (option_or (f (g x)) (first_some f (map g (drop (i + 1) xs)))) ≡ None =
     sym (ap (first_some f) (whole_at g xs i x h e) ∙ first_append f (map g (take i xs)) (g x ∷ map g (drop (i + 1) xs))) ∙ none in
@@ -98,6 +113,7 @@ none_at f g xs i x h e none =
 
 -- ---- what follows from what is said of a result
 
-pub ok_then : {T E : Type 0} (r : Result T E) {P Q : T → Type 0} → IfOk r P → ((x : T) → P x → Q x) → IfOk r Q
+pub ok_then : {T E : Type 0} (r : Result T E) {P Q : T → Type 0} → IfOk r P → ((x : T) → P x → Q x)
+    → IfOk r Q
 ok_then (Ok x) h f = f x h
 ok_then (Err e) h f = tt

@@ -33,29 +33,36 @@ pub and_false : (a : Bool) → (a && false) ≡ false
 and_false true = refl
 and_false false = refl
 
-pub not_as_many : (K : Partial) (ts : List Term) (vs : List Value) → length ts ≢ length vs → false ≡ have_values K ts vs
+pub not_as_many : (K : Partial) (ts : List Term) (vs : List Value) → length ts ≢ length vs
+    → false ≡ have_values K ts vs
 not_as_many K [] [] h = absurd (h refl)
 not_as_many K [] (v ∷ vs) h = refl
 not_as_many K (t ∷ ts) [] h = refl
 not_as_many K (t ∷ ts) (v ∷ vs) h = sym (and_false (has_value K (t, v))) ∙ ap (λ b. has_value K (t, v) && b) (not_as_many K ts vs (λ e. h (ap suc e)))
 
 -- the scalars have the values exactly where their values are the same
-pub are_same : (K : Partial) (ts : List Term) (vs : List Value) → have_values K ts vs ≡ option_map_or (λ us. same_values us vs) (values K ts) false
+pub are_same : (K : Partial) (ts : List Term) (vs : List Value)
+    → have_values K ts vs ≡ option_map_or (λ us. same_values us vs) (values K ts) false
 are_same K [] [] = refl
 are_same K [] (v ∷ vs) = refl
 are_same K (t ∷ ts) [] = no_values (value K t) (values K ts)
   where
-    no_values : (o : Option Value) (os : Option (List Value)) → false ≡ option_map_or (λ us. same_values us []) (option_cons o os) false
+    no_values : (o : Option Value) (os : Option (List Value))
+        → false ≡ option_map_or (λ us. same_values us []) (option_cons o os) false
     no_values None os = refl
     no_values (Some u) None = refl
     no_values (Some u) (Some us) = refl
 are_same K (t ∷ ts) (v ∷ vs) = ap (λ b. has_value K (t, v) && b) (are_same K ts vs) ∙ one_more (value K t) (values K ts)
   where
-    one_more : (o : Option Value) (os : Option (List Value)) → (option_map_or (λ u. same_value u v) o false && option_map_or (λ us. same_values us vs) os false) ≡ option_map_or (λ us. same_values us (v ∷ vs)) (option_cons o os) false
+    one_more : (o : Option Value) (os : Option (List Value))
+        → (option_map_or (λ u. same_value u v) o false && option_map_or
+        (λ us. same_values us vs) os false)
+        ≡ option_map_or (λ us. same_values us (v ∷ vs)) (option_cons o os) false
     one_more None os = refl
     one_more (Some u) None = and_false (same_value u v)
     one_more (Some u) (Some us) = refl
 
-pub located_length : (ls : List the_literal.Literal) → length (printed_values (map located_literal ls)) ≡ length ls
+pub located_length : (ls : List the_literal.Literal)
+    → length (printed_values (map located_literal ls)) ≡ length ls
 located_length [] = refl
 located_length (l ∷ ls) = ap suc (located_length ls)

@@ -1,4 +1,5 @@
--- A block's refusal: it tells the fault of the first item that has one, and the fault's place lies in the block's text.
+-- A block's refusal: it tells the fault of the first item that has one, and the fault's place lies
+-- in the block's text.
 use Rattle.std.proofs.Common.{◌≡◌, ℕ, ◌+◌, ◌≤◌, ◌<◌, true, false, not, ◌==◌, List, [], ◌∷◌, ◌++◌, map, flat_map, length, get_or, take, drop, Option, Some, None, IsSomeAnd, option_map, refl, sym, ap, subst, ◌∙◌, arith, append_assoc}
 use Rattle.std.specs.Option.{option_or}
 use Rattle.fz_base.specs.declared.span.Span.{Span}
@@ -27,14 +28,18 @@ use Rattle.fz_judge.proofs.Lists.{whole_at, first_append}
 -- ---- what an error tells
 
 -- where the second has the fault that the first has
-tells_further : (e : BlockError) (f g : Option BlockFault) → ((x : BlockFault) → f ≡ Some x → g ≡ Some x) → TellsFault e f → TellsFault e g
+tells_further : (e : BlockError) (f g : Option BlockFault)
+    → ((x : BlockFault) → f ≡ Some x → g ≡ Some x) → TellsFault e f → TellsFault e g
 tells_further (errors.UnknownName at) f g same h = same _ h
 tells_further (errors.Kind at) f g same h = same _ h
 tells_further (errors.Length at) f g same h = same _ h
 tells_further errors.Memory f g same h = tt
 
 -- the first fault of a list, where none was met before
-pub tells_stop : {A : Type 0} (f : Printed → Option BlockFault) (g : A → Printed) (xs : List A) (i : ℕ) (x : A) (e : BlockError) → i < length xs → x ≡ get_or xs i x → first_some f (map g (take i xs)) ≡ None → TellsFault e (f (g x)) → TellsFault e (first_some f (map g xs))
+pub tells_stop : {A : Type 0} (f : Printed → Option BlockFault) (g : A → Printed) (xs : List A)
+    (i : ℕ) (x : A) (e : BlockError) → i < length xs → x ≡ get_or xs i x
+    → first_some f (map g (take i xs)) ≡ None → TellsFault e (f (g x))
+    → TellsFault e (first_some f (map g xs))
 tells_stop f g xs i x e lt at none h = tells_further e (f (g x)) (first_some f (map g xs)) stops h
   where
     stops : (y : BlockFault) → f (g x) ≡ Some y → first_some f (map g xs) ≡ Some y
@@ -47,22 +52,28 @@ module _ (source : List ℕ) (upto : ℕ) where
   stand_before from [] h = h
   stand_before from (s ∷ spots) h = let more = stand_before s.end spots h.3 in omega (arith, h.0, h.1, more)
 
-  stand_behind : (from : ℕ) (xs ys : List Spot) → Stand source from upto (xs ++ ys) → (next : ℕ) × Stand source next upto ys
+  stand_behind : (from : ℕ) (xs ys : List Spot) → Stand source from upto (xs ++ ys)
+      → (next : ℕ) × Stand source next upto ys
   stand_behind from [] ys h = (from, h)
   stand_behind from (x ∷ xs) ys h = stand_behind x.end xs ys h.3
 
   -- the first of the spots lies within
-  spot_within : (from : ℕ) (s : Spot) (spots : List Spot) → Stand source from upto (s ∷ spots) → (s.start ≤ s.end) × (s.end ≤ upto)
+  spot_within : (from : ℕ) (s : Spot) (spots : List Spot) → Stand source from upto (s ∷ spots)
+      → (s.start ≤ s.end) × (s.end ≤ upto)
   spot_within from s spots h = (omega (arith, h.1), stand_before s.end spots h.3)
 
-  literal_within : (k : Kind) (l : the_literal.Literal) (f : BlockFault) (from : ℕ) (spots : List Spot) → literal_fault k (located_literal l) ≡ Some f → Stand source from upto (literal_spots l ++ spots) → IsSpanWithin upto f.at
+  literal_within : (k : Kind) (l : the_literal.Literal) (f : BlockFault) (from : ℕ)
+      (spots : List Spot) → literal_fault k (located_literal l) ≡ Some f
+      → Stand source from upto (literal_spots l ++ spots) → IsSpanWithin upto f.at
   literal_within k l f from spots e h =
       (elim (not (same_kind (kind_of (literal_value (located_literal l).what)) k)) as (λ b. fault_if b WrongKind l.span ≡ Some f → IsSpanWithin upto f.at) [
         | true ↦ λ e. let same : record { kind = WrongKind; at = l.span } ≡ f = cc in subst (IsSpanWithin upto) (ap (λ (g : BlockFault). g.at) same) (spot_within from (literal_spot l) spots h)
         | false ↦ λ e. cc
       ]) e
 
-  literals_within : (k : Kind) (ls : List the_literal.Literal) (f : BlockFault) (from : ℕ) (spots : List Spot) → first_some (literal_fault k) (map located_literal ls) ≡ Some f → Stand source from upto (flat_map literal_spots ls ++ spots) → IsSpanWithin upto f.at
+  literals_within : (k : Kind) (ls : List the_literal.Literal) (f : BlockFault) (from : ℕ)
+      (spots : List Spot) → first_some (literal_fault k) (map located_literal ls) ≡ Some f
+      → Stand source from upto (flat_map literal_spots ls ++ spots) → IsSpanWithin upto f.at
   literals_within k [] f from spots e h = cc
   literals_within k (l ∷ ls) f from spots e h =
       (elim (literal_fault k (located_literal l)) as (λ o. literal_fault k (located_literal l) ≡ o → option_or o (first_some (literal_fault k) (map located_literal ls)) ≡ Some f → IsSpanWithin upto f.at) [
@@ -73,7 +84,9 @@ module _ (source : List ℕ) (upto : ℕ) where
   name_fault_within : (at : Span) (k : BlockFaultKind) (f : BlockFault) → IsSpanWithin upto at → ◌≡◌ {A = Option BlockFault} (Some (record { kind = k; at = at })) (Some f) → IsSpanWithin upto f.at
   name_fault_within at k f h e = let same : record { kind = k; at = at } ≡ f = cc in subst (IsSpanWithin upto) (ap (λ (g : BlockFault). g.at) same) h
 
-  value_within : (x : Name) (p : Place) (v : the_value.PrintedValue) (f : BlockFault) (from : ℕ) (spots : List Spot) → IsSpanWithin upto x.span → value_fault x p (located_printed_value v) ≡ Some f → Stand source from upto (printed_value_spots v ++ spots) → IsSpanWithin upto f.at
+  value_within : (x : Name) (p : Place) (v : the_value.PrintedValue) (f : BlockFault) (from : ℕ)
+      (spots : List Spot) → IsSpanWithin upto x.span → value_fault x p (located_printed_value v)
+      ≡ Some f → Stand source from upto (printed_value_spots v ++ spots) → IsSpanWithin upto f.at
   value_within x (Scalar k t) (printed.One l) f from spots n e h = literal_within k l f from spots e h
   value_within x (Scalar k t) (printed.Array is ls) f from spots n e h = name_fault_within x.span WrongKind f n e
   value_within x (Array y k ts) (printed.One l) f from spots n e h = name_fault_within x.span WrongKind f n e
@@ -84,7 +97,9 @@ module _ (source : List ℕ) (upto : ℕ) where
         | false ↦ λ e. literals_within k ls.items f w.0 spots e w.1
       ]) e
 
-  item_within : (m : Model) (p : the_printed.Printed) (f : BlockFault) (from : ℕ) (spots : List Spot) → printed_fault m (located_printed p) ≡ Some f → Stand source from upto (printed_spots p ++ spots) → IsSpanWithin upto f.at
+  item_within : (m : Model) (p : the_printed.Printed) (f : BlockFault) (from : ℕ)
+      (spots : List Spot) → printed_fault m (located_printed p) ≡ Some f
+      → Stand source from upto (printed_spots p ++ spots) → IsSpanWithin upto f.at
   item_within m p f from spots e h =
       let name : IsSpanWithin upto p.name.span = spot_within from (name_spot p.name) (printed_value_spots p.value ++ spots) h in
       (elim (find_name m p.name.text.now) as (λ o. (elim o [ None ↦ Some (record { kind = UnknownName; at = p.name.span }) | Some q ↦ value_fault (located_name p.name) q (located_printed_value p.value) ]) ≡ Some f → IsSpanWithin upto f.at) [
@@ -92,7 +107,9 @@ module _ (source : List ℕ) (upto : ℕ) where
         | Some q ↦ λ e. value_within (located_name p.name) q p.value f p.name.span.end spots name e h.3
       ]) e
 
-  items_within : (m : Model) (items : List the_printed.Printed) (f : BlockFault) (from : ℕ) → items_fault m (located_items items) ≡ Some f → Stand source from upto (item_spots items) → IsSpanWithin upto f.at
+  items_within : (m : Model) (items : List the_printed.Printed) (f : BlockFault) (from : ℕ)
+      → items_fault m (located_items items) ≡ Some f → Stand source from upto (item_spots items)
+      → IsSpanWithin upto f.at
   items_within m [] f from e h = cc
   items_within m (p ∷ items) f from e h =
       (elim (printed_fault m (located_printed p)) as (λ o. printed_fault m (located_printed p) ≡ o → option_or o (items_fault m (located_items items)) ≡ Some f → IsSpanWithin upto f.at) [
@@ -106,14 +123,16 @@ abbrev at_place : ℕ → BlockFault → BlockFault
 at_place offset f = record { kind = f.kind; at = moved offset f.at }
 
 -- the error in the text, moved, tells the block's fault
-pub moved_tells : (m : Model) (b : Block) (e : BlockError) → TellsFault e (items_fault m b.items) → TellsFault (moved_error b.offset e) (block_fault m b)
+pub moved_tells : (m : Model) (b : Block) (e : BlockError) → TellsFault e (items_fault m b.items)
+    → TellsFault (moved_error b.offset e) (block_fault m b)
 moved_tells m b (errors.UnknownName at) h = ap (option_map (at_place b.offset)) h
 moved_tells m b (errors.Kind at) h = ap (option_map (at_place b.offset)) h
 moved_tells m b (errors.Length at) h = ap (option_map (at_place b.offset)) h
 moved_tells m b errors.Memory h = tt
 
 -- of whatever places they are, the block has a fault of that kind
-pub kind_tells : (m : Model) (b : Block) (e : BlockError) → TellsFault e (items_fault m b.items) → TellsKind e (block_fault m b)
+pub kind_tells : (m : Model) (b : Block) (e : BlockError) → TellsFault e (items_fault m b.items)
+    → TellsKind e (block_fault m b)
 kind_tells m b (errors.UnknownName at) h = subst (λ o. IsSomeAnd (option_map (at_place b.offset) o) (λ x. x.kind ≡ UnknownName)) (sym h) refl
 kind_tells m b (errors.Kind at) h = subst (λ o. IsSomeAnd (option_map (at_place b.offset) o) (λ x. x.kind ≡ WrongKind)) (sym h) refl
 kind_tells m b (errors.Length at) h = subst (λ o. IsSomeAnd (option_map (at_place b.offset) o) (λ x. x.kind ≡ WrongLength)) (sym h) refl
@@ -123,7 +142,9 @@ span_within : (n upto : ℕ) (s : Span) → upto ≤ n → IsSpanWithin upto s �
 span_within n upto s le h = (h.0, omega (arith, h.1, le))
 
 -- and lies where it can be moved
-pub told_within : (m : Model) (text : List ℕ) (items : List the_printed.Printed) (n : ℕ) (e : BlockError) → length text ≤ n → Stand text 0 (length text) (item_spots items) → TellsFault e (items_fault m (located_items items)) → IsPlacedWithin n e
+pub told_within : (m : Model) (text : List ℕ) (items : List the_printed.Printed) (n : ℕ)
+    (e : BlockError) → length text ≤ n → Stand text 0 (length text) (item_spots items)
+    → TellsFault e (items_fault m (located_items items)) → IsPlacedWithin n e
 told_within m text items n (errors.UnknownName at) le h told = span_within n (length text) at le (items_within text (length text) m items _ 0 told h)
 told_within m text items n (errors.Kind at) le h told = span_within n (length text) at le (items_within text (length text) m items _ 0 told h)
 told_within m text items n (errors.Length at) le h told = span_within n (length text) at le (items_within text (length text) m items _ 0 told h)

@@ -31,7 +31,8 @@ use Rattle.fz_judge.specs.Working.{HasRoom, IsWithin, terms_of_what, with_first,
 
 -- ---- one more value
 
-printed_more : (qs : List (Term × Value)) (q : Term × Value) (n : ℕ) → first_printed (qs ++ q ∷ []) n ≡ option_or (first_printed qs n) (if_var n q)
+printed_more : (qs : List (Term × Value)) (q : Term × Value) (n : ℕ)
+    → first_printed (qs ++ q ∷ []) n ≡ option_or (first_printed qs n) (if_var n q)
 printed_more [] q n = nothing (if_var n q)
   where
     nothing : {A : Type 0} (o : Option A) → option_or o None ≡ o
@@ -39,7 +40,8 @@ printed_more [] q n = nothing (if_var n q)
     nothing (Some x) = refl
 printed_more (p ∷ qs) q n = ap (option_or (if_var n p)) (printed_more qs q n) ∙ assoc (if_var n p) (first_printed qs n) (if_var n q)
   where
-    assoc : {A : Type 0} (o p q : Option A) → option_or o (option_or p q) ≡ option_or (option_or o p) q
+    assoc : {A : Type 0} (o p q : Option A)
+        → option_or o (option_or p q) ≡ option_or (option_or o p) q
     assoc None p q = refl
     assoc (Some x) p q = refl
 
@@ -54,16 +56,20 @@ own_number : (n : ℕ) (v : Value) → if_var n (Var n, v) ≡ Some v
 own_number n v = (elim (n == n) as (λ b. (n == n) ≡ b → cond b (Some v) None ≡ Some v) [ true ↦ λ _. refl | false ↦ λ e. absurd (eqb-false n n e refl) ]) refl
 
 -- no variable with an earlier number is meant
-earlier : (qs : List (Term × Value)) (k : ℕ) (v : Value) (n : ℕ) (xs : List Variable) → k < n → start_from (qs ++ (Var k, v) ∷ []) n xs ≡ start_from qs n xs
+earlier : (qs : List (Term × Value)) (k : ℕ) (v : Value) (n : ℕ) (xs : List Variable) → k < n
+    → start_from (qs ++ (Var k, v) ∷ []) n xs ≡ start_from qs n xs
 earlier qs k v n [] h = refl
 earlier qs k v n (x ∷ xs) h = λ i.
     (printed_more qs (Var k, v) n ∙ ap (option_or (first_printed qs n)) (other_number k n v (λ e. omega arith)) ∙ or_nothing (first_printed qs n)) i ∷ earlier qs k v (suc n) xs (omega arith) i
 
-fixed_more : (qs : List (Term × Value)) (w v : Value) (n : ℕ) (xs : List Variable) → start_from (qs ++ (Fixed w, v) ∷ []) n xs ≡ start_from qs n xs
+fixed_more : (qs : List (Term × Value)) (w v : Value) (n : ℕ) (xs : List Variable)
+    → start_from (qs ++ (Fixed w, v) ∷ []) n xs ≡ start_from qs n xs
 fixed_more qs w v n [] = refl
 fixed_more qs w v n (x ∷ xs) = λ i. (printed_more qs (Fixed w, v) n ∙ or_nothing (first_printed qs n)) i ∷ fixed_more qs w v (suc n) xs i
 
-variable_more : (qs : List (Term × Value)) (n j : ℕ) (v : Value) (xs : List Variable) → start_from (qs ++ (Var (n + j), v) ∷ []) n xs ≡ cond (is_none (value_at (start_from qs n xs) j)) (give (start_from qs n xs) j v) (start_from qs n xs)
+variable_more : (qs : List (Term × Value)) (n j : ℕ) (v : Value) (xs : List Variable)
+    → start_from (qs ++ (Var (n + j), v) ∷ []) n xs ≡ cond
+    (is_none (value_at (start_from qs n xs) j)) (give (start_from qs n xs) j v) (start_from qs n xs)
 variable_more qs n j v [] = nothing_there (is_none (value_at [] j))
   where
     nothing_there : (b : Bool) → ◌≡◌ {A = Partial} [] (cond b [] [])
@@ -76,7 +82,8 @@ variable_more qs n zero v (x ∷ xs) =
     printed_more qs (Var (n + 0), v) n ∙ ap (λ k. option_or (first_printed qs n) (if_var n (Var k, v))) number ∙ ap (option_or (first_printed qs n)) (own_number n v) in
     (λ i. here i ∷ rest i) ∙ by_first (first_printed qs n) (start_from qs (suc n) xs)
   where
-    by_first : (o : Option Value) (K : Partial) → option_or o (Some v) ∷ K ≡ cond (is_none (value_at (o ∷ K) 0)) (give (o ∷ K) 0 v) (o ∷ K)
+    by_first : (o : Option Value) (K : Partial)
+        → option_or o (Some v) ∷ K ≡ cond (is_none (value_at (o ∷ K) 0)) (give (o ∷ K) 0 v) (o ∷ K)
     by_first None K = refl
     by_first (Some u) K = refl
 variable_more qs n (suc j) v (x ∷ xs) =
@@ -87,19 +94,22 @@ variable_more qs n (suc j) v (x ∷ xs) =
     ap (λ k. start_from (qs ++ (Var k, v) ∷ []) (suc n) xs) count ∙ variable_more qs (suc n) j v xs in
     (λ i. here i ∷ rest i) ∙ past (first_printed qs n) (start_from qs (suc n) xs) (is_none (value_at (start_from qs (suc n) xs) j))
   where
-    past : (o : Option Value) (K : Partial) (b : Bool) → o ∷ cond b (give K j v) K ≡ cond b (give (o ∷ K) (suc j) v) (o ∷ K)
+    past : (o : Option Value) (K : Partial) (b : Bool)
+        → o ∷ cond b (give K j v) K ≡ cond b (give (o ∷ K) (suc j) v) (o ∷ K)
     past o K true = refl
     past o K false = refl
 
 -- one more printed scalar
-pub start_one_more : (qs : List (Term × Value)) (q : Term × Value) (xs : List Variable) → start_from (qs ++ q ∷ []) 0 xs ≡ with_first (start_from qs 0 xs) q
+pub start_one_more : (qs : List (Term × Value)) (q : Term × Value) (xs : List Variable)
+    → start_from (qs ++ q ∷ []) 0 xs ≡ with_first (start_from qs 0 xs) q
 start_one_more qs (Fixed w, v) xs = fixed_more qs w v 0 xs
 start_one_more qs (Var k, v) xs =
     let number : 0 + k ≡ k = zero-add k in
     ap (λ j. start_from (qs ++ (Var j, v) ∷ []) 0 xs) (sym number) ∙ variable_more qs 0 k v xs
 
 -- several
-pub start_more : (qs rs : List (Term × Value)) (xs : List Variable) → start_from (qs ++ rs) 0 xs ≡ with_all (start_from qs 0 xs) rs
+pub start_more : (qs rs : List (Term × Value)) (xs : List Variable)
+    → start_from (qs ++ rs) 0 xs ≡ with_all (start_from qs 0 xs) rs
 start_more qs [] xs = ap (λ ps. start_from ps 0 xs) (append_nil qs)
   where
     append_nil : {A : Type 0} (ys : List A) → ys ++ [] ≡ ys
@@ -132,7 +142,8 @@ fits_length [] (o ∷ K) h = absurd h
 fits_length (x ∷ xs) [] h = absurd h
 fits_length (x ∷ xs) (o ∷ K) h = ap suc (fits_length xs K h.1)
 
-pub give_fits : (xs : List Variable) (K : Partial) (n : ℕ) (v : Value) → FitVariables xs K → option_map (λ x. x.kind) (slice_get xs n) ≡ Some (kind_of v) → FitVariables xs (give K n v)
+pub give_fits : (xs : List Variable) (K : Partial) (n : ℕ) (v : Value) → FitVariables xs K
+    → option_map (λ x. x.kind) (slice_get xs n) ≡ Some (kind_of v) → FitVariables xs (give K n v)
 give_fits [] [] n v h e = cc
 give_fits [] (o ∷ K) n v h e = absurd h
 give_fits (x ∷ xs) [] n v h e = absurd h
@@ -147,7 +158,8 @@ has_room m K fits = fits_length (variables_of m) K fits
 abbrev pub PairFits : Model → (Term × Value) → Type 0
 PairFits m q = TermFits m (kind_of q.1) q.0
 
-first_fits : (m : Model) (K : Partial) (q : Term × Value) → IsPartial m K → PairFits m q → IsPartial m (with_first K q)
+first_fits : (m : Model) (K : Partial) (q : Term × Value) → IsPartial m K → PairFits m q
+    → IsPartial m (with_first K q)
 first_fits m K (Fixed w, v) h fits = h
 first_fits m K (Var n, v) h fits =
     elim (is_none (value_at K n)) as (λ b. IsPartial m (cond b (give K n v) K)) [
@@ -155,7 +167,8 @@ first_fits m K (Var n, v) h fits =
       | false ↦ h
     ]
 
-pub all_fit : (m : Model) (K : Partial) (qs : List (Term × Value)) → IsPartial m K → AllByRecursion (PairFits m) qs → IsPartial m (with_all K qs)
+pub all_fit : (m : Model) (K : Partial) (qs : List (Term × Value)) → IsPartial m K
+    → AllByRecursion (PairFits m) qs → IsPartial m (with_all K qs)
 all_fit m K [] h fits = h
 all_fit m K (q ∷ qs) h fits = all_fit m (with_first K q) qs (first_fits m K q h fits.0) fits.1
 
@@ -166,15 +179,19 @@ nothing_fits m = none_fit (variables_of m)
     none_fit [] = tt
     none_fit (x ∷ xs) = (tt, none_fit xs)
 
-literal_kind : (k : Kind) (l : Literal) → literal_fault k l ≡ None → kind_of (literal_value l.what) ≡ k
+literal_kind : (k : Kind) (l : Literal) → literal_fault k l ≡ None
+    → kind_of (literal_value l.what) ≡ k
 literal_kind k l e = same_kind_is (kind_of (literal_value l.what)) k ((elim (same_kind (kind_of (literal_value l.what)) k) as (λ b. fault_if (not b) WrongKind l.span ≡ None → b ≡ true) [ true ↦ λ _. refl | false ↦ λ e. cc ]) e)
 
-pairs_fit : (m : Model) (k : Kind) (ts : List Term) (ls : List Literal) → AllByRecursion (TermFits m k) ts → AllByRecursion (λ l. literal_fault k l ≡ None) ls → AllByRecursion (PairFits m) (pairs ts (printed_values ls))
+pairs_fit : (m : Model) (k : Kind) (ts : List Term) (ls : List Literal)
+    → AllByRecursion (TermFits m k) ts → AllByRecursion (λ l. literal_fault k l ≡ None) ls
+    → AllByRecursion (PairFits m) (pairs ts (printed_values ls))
 pairs_fit m k [] ls h e = tt
 pairs_fit m k (t ∷ ts) [] h e = tt
 pairs_fit m k (t ∷ ts) (l ∷ ls) h e = (subst (λ j. TermFits m j t) (sym (literal_kind k l e.0)) h.0, pairs_fit m k ts ls h.1 e.1)
 
-pub place_pairs_fit : (m : Model) (x : Name) (p : Place) (v : PrintedValue) → PlaceFits m p → value_fault x p v ≡ None → AllByRecursion (PairFits m) (pairs_at p v)
+pub place_pairs_fit : (m : Model) (x : Name) (p : Place) (v : PrintedValue) → PlaceFits m p
+    → value_fault x p v ≡ None → AllByRecursion (PairFits m) (pairs_at p v)
 place_pairs_fit m x (Scalar k t) (OneValue l) h e = (subst (λ j. TermFits m j t) (sym (literal_kind k l e)) h, tt)
 place_pairs_fit m x (Scalar k t) (ArrayOf is ls) h e = cc
 place_pairs_fit m x (Array y k ts) (OneValue l) h e = cc
@@ -183,33 +200,40 @@ place_pairs_fit m x (Array y k ts) (ArrayOf is ls) h e =
 
 -- ---- numbers
 
-in_list : (xs : List Variable) (n : ℕ) (k : Kind) → option_map (λ x. x.kind) (slice_get xs n) ≡ Some k → n < length xs
+in_list : (xs : List Variable) (n : ℕ) (k : Kind)
+    → option_map (λ x. x.kind) (slice_get xs n) ≡ Some k → n < length xs
 in_list [] n k e = cc
 in_list (x ∷ xs) zero k e = omega arith
 in_list (x ∷ xs) (suc n) k e = let below : n < length xs = in_list xs n k e in omega arith
 
-pub number_within : (m : Model) (K : Partial) (n : ℕ) (k : Kind) → IsPartial m K → kind_at m n ≡ Some k → n < length K
+pub number_within : (m : Model) (K : Partial) (n : ℕ) (k : Kind) → IsPartial m K
+    → kind_at m n ≡ Some k → n < length K
 number_within m K n k h e = let long : length K ≡ length (variables_of m) = fits_length (variables_of m) K h in let below : n < length (variables_of m) = in_list (variables_of m) n k e in omega arith
 
-term_within : (m : Model) (K : Partial) (k : Kind) (t : Term) → IsPartial m K → TermFits m k t → IsWithin (length K) t
+term_within : (m : Model) (K : Partial) (k : Kind) (t : Term) → IsPartial m K → TermFits m k t
+    → IsWithin (length K) t
 term_within m K k (Var n) h fits = number_within m K n k h fits
 term_within m K k (Fixed v) h fits = tt
 
 -- what a name stands for has numbers of variables
-pub what_within : (m : Model) (K : Partial) (vs : List Variable) (x : List ℕ) (w : What) → IsPartial m K → PlaceFits m (what_place vs x w) → AllByRecursion (IsWithin (length K)) (terms_of_what w)
+pub what_within : (m : Model) (K : Partial) (vs : List Variable) (x : List ℕ) (w : What)
+    → IsPartial m K → PlaceFits m (what_place vs x w)
+    → AllByRecursion (IsWithin (length K)) (terms_of_what w)
 what_within m K vs x (whats.Scalar s) h fits = (term_within m K _ (scalar_term s) h fits, tt)
 what_within m K vs x (whats.Array k ts) h fits = all_map (TermFits m k) (IsWithin (length K)) (λ t fit. term_within m K k t h fit) (scalar_terms ts) fits
 
 -- ---- the items of a block
 
-scalars_append : (m : Model) (xs ys : List Printed) → printed_scalars m (xs ++ ys) ≡ printed_scalars m xs ++ printed_scalars m ys
+scalars_append : (m : Model) (xs ys : List Printed)
+    → printed_scalars m (xs ++ ys) ≡ printed_scalars m xs ++ printed_scalars m ys
 scalars_append m [] ys = refl
 scalars_append m (x ∷ xs) ys = ap (λ qs. item_scalars m x ++ qs) (scalars_append m xs ys) ∙ sym (append_assoc (item_scalars m x) (printed_scalars m xs) (printed_scalars m ys))
 
 pub starts_with_nothing : (m : Model) → nothing_for m ≡ start_from [] 0 (variables_of m)
 starts_with_nothing m = none_printed 0 (variables_of m)
 
-pub scalars_more : (m : Model) (xs : List Printed) (i : Printed) → printed_scalars m (xs ++ i ∷ []) ≡ printed_scalars m xs ++ item_scalars m i
+pub scalars_more : (m : Model) (xs : List Printed) (i : Printed)
+    → printed_scalars m (xs ++ i ∷ []) ≡ printed_scalars m xs ++ item_scalars m i
 scalars_more m xs i = scalars_append m xs (i ∷ []) ∙ ap (λ qs. printed_scalars m xs ++ qs) (append_nil (item_scalars m i))
   where
     append_nil : {A : Type 0} (ys : List A) → ys ++ [] ≡ ys
@@ -217,6 +241,8 @@ scalars_more m xs i = scalars_append m xs (i ∷ []) ∙ ap (λ qs. printed_scal
     append_nil (y ∷ ys) = ap (λ zs. y ∷ zs) (append_nil ys)
 
 -- one more item
-pub start_item_more : (m : Model) (xs : List Printed) (i : Printed) (K L : Partial) → K ≡ start_from (printed_scalars m xs) 0 (variables_of m) → L ≡ with_all K (item_scalars m i) → L ≡ start_from (printed_scalars m (xs ++ i ∷ [])) 0 (variables_of m)
+pub start_item_more : (m : Model) (xs : List Printed) (i : Printed) (K L : Partial)
+    → K ≡ start_from (printed_scalars m xs) 0 (variables_of m) → L ≡ with_all K (item_scalars m i)
+    → L ≡ start_from (printed_scalars m (xs ++ i ∷ [])) 0 (variables_of m)
 start_item_more m xs i K L before new =
     new ∙ ap (λ J. with_all J (item_scalars m i)) before ∙ sym (start_more (printed_scalars m xs) (item_scalars m i) (variables_of m)) ∙ ap (λ qs. start_from qs 0 (variables_of m)) (sym (scalars_more m xs i))

@@ -14,7 +14,8 @@ use Rattle.fz_judge.proofs.Lists.{first_append, or_some, there_is}
 
 -- ---- the objective after the points
 
-pub with_objective_is : (o q : Option Fault) (r : Option Reason) → with_objective (verdict_by o r) q ≡ verdict_by (option_or o q) r
+pub with_objective_is : (o q : Option Fault) (r : Option Reason)
+    → with_objective (verdict_by o r) q ≡ verdict_by (option_or o q) r
 with_objective_is (Some f) q r = refl
 with_objective_is None q (Some r) = refl
 with_objective_is None q None = refl
@@ -22,7 +23,8 @@ with_objective_is None q None = refl
 -- ---- at one point
 
 -- a point that fails is told by its name
-pub fails_named : (p : Point) (s : State) (q : PointName) → is_failed s ≡ true → shown_point p ≡ q → fault_at p s ≡ Some (fault_named q)
+pub fails_named : (p : Point) (s : State) (q : PointName) → is_failed s ≡ true → shown_point p ≡ q
+    → fault_at p s ≡ Some (fault_named q)
 fails_named p Fails q e same = ap (λ x. Some (fault_named x)) same
 fails_named p Holds q e same = cc
 fails_named p NoValue q e same = cc
@@ -36,7 +38,8 @@ not_failed p NoValue e = refl
 not_failed p Unknown e = refl
 not_failed p TooLarge e = refl
 
-pub undecided_named : (m : Model) (K : Partial) (p : Point) (s : State) (q : PointName) → shown_point p ≡ q → reason_named (first_unset (variables_of m) K) q s ≡ reason_at m K p s
+pub undecided_named : (m : Model) (K : Partial) (p : Point) (s : State) (q : PointName)
+    → shown_point p ≡ q → reason_named (first_unset (variables_of m) K) q s ≡ reason_at m K p s
 undecided_named m K p Fails q same = refl
 undecided_named m K p Holds q same = refl
 undecided_named m K p NoValue q same = refl
@@ -45,12 +48,14 @@ undecided_named m K p TooLarge q same = ap (λ x. reason_named (first_unset (var
 
 -- ---- the points one after another
 
-pub take_point : {A : Type 0} (ps : List A) (i : ℕ) (p : A) → slice_get ps i ≡ Some p → take (i + 1) ps ≡ take i ps ++ p ∷ []
+pub take_point : {A : Type 0} (ps : List A) (i : ℕ) (p : A) → slice_get ps i ≡ Some p
+    → take (i + 1) ps ≡ take i ps ++ p ∷ []
 take_point [] i p e = cc
 take_point (q ∷ ps) zero p e = let same : q ≡ p = cc in ap (λ x. x ∷ []) same
 take_point (q ∷ ps) (suc i) p e = let count : suc i + 1 ≡ suc (i + 1) = omega arith in ap (λ n. take n (q ∷ ps)) count ∙ ap (λ xs. q ∷ xs) (take_point ps i p e)
 
-whole_point : {A : Type 0} (ps : List A) (i : ℕ) (p : A) → slice_get ps i ≡ Some p → ps ≡ take i ps ++ p ∷ drop (suc i) ps
+whole_point : {A : Type 0} (ps : List A) (i : ℕ) (p : A) → slice_get ps i ≡ Some p
+    → ps ≡ take i ps ++ p ∷ drop (suc i) ps
 whole_point [] i p e = cc
 whole_point (q ∷ ps) zero p e = let same : q ≡ p = cc in ap (λ x. x ∷ ps) same
 whole_point (q ∷ ps) (suc i) p e = ap (λ xs. q ∷ xs) (whole_point ps i p e)
@@ -78,12 +83,14 @@ holds_is Unknown e = cc
 holds_is TooLarge e = cc
 
 module _ (m : Model) (K : Partial) (i : ℕ) (s : State) (within : i < length (points m)) (is : (p : Point) → slice_get (points m) i ≡ Some p → s ≡ state K p) (held : holds s ≡ true) where
-  pub held_passes : first_some (point_fails K) (take i (points m)) ≡ None → first_some (point_fails K) (take (i + 1) (points m)) ≡ None
+  pub held_passes : first_some (point_fails K) (take i (points m)) ≡ None
+      → first_some (point_fails K) (take (i + 1) (points m)) ≡ None
   held_passes none =
       let (p, at) = there_is (points m) i within in
       first_so_far (point_fails K) (points m) i p at ∙ (λ j. option_or (none j) (point_fails K p)) ∙ ap (fault_at p) (sym (is p at) ∙ holds_is s held)
 
-  pub held_decided : (r : Option Reason) → r ≡ first_some (point_undecided m K) (take i (points m)) → r ≡ first_some (point_undecided m K) (take (i + 1) (points m))
+  pub held_decided : (r : Option Reason) → r ≡ first_some (point_undecided m K) (take i (points m))
+      → r ≡ first_some (point_undecided m K) (take (i + 1) (points m))
   held_decided r e =
       let (p, at) = there_is (points m) i within in
       let before = first_some (point_undecided m K) (take i (points m)) in
@@ -92,30 +99,39 @@ module _ (m : Model) (K : Partial) (i : ℕ) (s : State) (within : i < length (p
 
 -- ---- a point by its number
 
-told_point : (ps : List Point) (i : ℕ) (p : Point) (q : PointName) → option_map shown_point (slice_get ps i) ≡ Some q → slice_get ps i ≡ Some p → shown_point p ≡ q
+told_point : (ps : List Point) (i : ℕ) (p : Point) (q : PointName)
+    → option_map shown_point (slice_get ps i) ≡ Some q → slice_get ps i ≡ Some p → shown_point p ≡ q
 told_point ps i p q told at = let same : Some (shown_point p) ≡ Some q = sym (ap (option_map shown_point) at) ∙ told in cc
 
 module _ (m : Model) (K : Partial) (i : ℕ) (s : State) (q : PointName) (within : i < length (points m)) (is : (p : Point) → slice_get (points m) i ≡ Some p → s ≡ state K p) (told : option_map shown_point (slice_get (points m) i) ≡ Some q) where
-  pub point_violates : (f : Fault) → first_some (point_fails K) (take i (points m)) ≡ None → is_failed s ≡ true → f ≡ fault_named q → Violated f ≡ verdict_by (first_some (point_fails K) (points m)) (first_some (point_undecided m K) (points m))
+  pub point_violates : (f : Fault) → first_some (point_fails K) (take i (points m)) ≡ None
+      → is_failed s ≡ true → f ≡ fault_named q → Violated f
+      ≡ verdict_by (first_some (point_fails K) (points m))
+      (first_some (point_undecided m K) (points m))
   point_violates f none failed named =
       let (p, at) = there_is (points m) i within in
       let here : point_fails K p ≡ Some f = ap (fault_at p) (sym (is p at)) ∙ fails_named p s q failed (told_point (points m) i p q told at) ∙ ap Some (sym named) in
       ap (λ o. verdict_by o (first_some (point_undecided m K) (points m))) (sym (first_at (point_fails K) (points m) i p at f none here))
 
-  pub point_passes : first_some (point_fails K) (take i (points m)) ≡ None → is_failed s ≡ false → first_some (point_fails K) (take (i + 1) (points m)) ≡ None
+  pub point_passes : first_some (point_fails K) (take i (points m)) ≡ None → is_failed s ≡ false
+      → first_some (point_fails K) (take (i + 1) (points m)) ≡ None
   point_passes none passed =
       let (p, at) = there_is (points m) i within in
       first_so_far (point_fails K) (points m) i p at ∙ (λ j. option_or (none j) (point_fails K p)) ∙ ap (fault_at p) (sym (is p at)) ∙ not_failed p s passed
 
   -- the first reason is this point's
-  pub reason_here : (r : Option Reason) → first_some (point_undecided m K) (take i (points m)) ≡ None → r ≡ reason_named (first_unset (variables_of m) K) q s → r ≡ first_some (point_undecided m K) (take (i + 1) (points m))
+  pub reason_here : (r : Option Reason) → first_some (point_undecided m K) (take i (points m))
+      ≡ None → r ≡ reason_named (first_unset (variables_of m) K) q s
+      → r ≡ first_some (point_undecided m K) (take (i + 1) (points m))
   reason_here r none named =
       let (p, at) = there_is (points m) i within in
       named ∙ undecided_named m K p s q (told_point (points m) i p q told at) ∙ ap (reason_at m K p) (is p at)
       ∙ sym (first_so_far (point_undecided m K) (points m) i p at ∙ (λ j. option_or (none j) (point_undecided m K p)))
 
   -- or an earlier one's
-  pub reason_before : is_some (first_some (point_undecided m K) (take i (points m))) ≡ true → first_some (point_undecided m K) (take i (points m)) ≡ first_some (point_undecided m K) (take (i + 1) (points m))
+  pub reason_before : is_some (first_some (point_undecided m K) (take i (points m))) ≡ true
+      → first_some (point_undecided m K) (take i (points m))
+      ≡ first_some (point_undecided m K) (take (i + 1) (points m))
   reason_before some =
       let (p, at) = there_is (points m) i within in
       sym (first_so_far (point_undecided m K) (points m) i p at ∙ or_some (first_some (point_undecided m K) (take i (points m))) (point_undecided m K p) some)
@@ -129,19 +145,23 @@ is_held_is NoValue e = cc
 is_held_is Unknown e = cc
 is_held_is TooLarge e = cc
 
-none_fail : (K : Partial) (ps : List Point) → list_all (point_holds K) ps ≡ true → first_some (point_fails K) ps ≡ None
+none_fail : (K : Partial) (ps : List Point) → list_all (point_holds K) ps ≡ true
+    → first_some (point_fails K) ps ≡ None
 none_fail K [] h = refl
 none_fail K (p ∷ ps) h =
     let held = is_held_is (state K p) (and_first (point_holds K p) _ h) in
     let more = none_fail K ps (and_second (point_holds K p) _ h) in
     λ j. option_or (fault_at p (held j)) (more j)
 
-none_undecided : (m : Model) (K : Partial) (ps : List Point) → list_all (point_holds K) ps ≡ true → first_some (point_undecided m K) ps ≡ None
+none_undecided : (m : Model) (K : Partial) (ps : List Point) → list_all (point_holds K) ps ≡ true
+    → first_some (point_undecided m K) ps ≡ None
 none_undecided m K [] h = refl
 none_undecided m K (p ∷ ps) h =
     let held = is_held_is (state K p) (and_first (point_holds K p) _ h) in
     let more = none_undecided m K ps (and_second (point_holds K p) _ h) in
     λ j. option_or (reason_at m K p (held j)) (more j)
 
-pub all_held : (m : Model) (K : Partial) → list_all (point_holds K) (points m) ≡ true → Satisfied ≡ verdict_by (first_some (point_fails K) (points m)) (first_some (point_undecided m K) (points m))
+pub all_held : (m : Model) (K : Partial) → list_all (point_holds K) (points m) ≡ true
+    → Satisfied ≡ verdict_by (first_some (point_fails K) (points m))
+    (first_some (point_undecided m K) (points m))
 all_held m K h = let fails = none_fail K (points m) h in let undecided = none_undecided m K (points m) h in λ j. verdict_by (sym fails j) (sym undecided j)

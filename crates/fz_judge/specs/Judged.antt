@@ -10,30 +10,31 @@ use Rattle.fz_verdict.specs.Verdict.{Verdict, IsFilled, verdict}
 use Rattle.fz_judge.specs.declared.error.BlockError.{BlockError}
 use Rattle.fz_judge.specs.declared.error.BlockError.TheVariants as errors
 
--- a judge: the model, whether values are looked for, and the objective of the block before, under its filling and under the values for which
--- it was told satisfied
+-- a judge: the model, whether values are looked for, and the objective of the block before, under
+-- its filling and under the values for which it was told satisfied
 pub record JudgeState : Type 0 where
   pub model : Model
   pub completion : Completion
   pub before : Option ℤ
   pub found : Option ℤ
 
--- What is told of a block is told by its verdict under its filling, which is compared with the objective before, and the objective under
--- that filling is kept.
+-- What is told of a block is told by its verdict under its filling, which is compared with the
+-- objective before, and the objective under that filling is kept.
 pub record IsJudged (old new : JudgeState) (block : Block) (v : Verdict) : Type 0 where
   pub filling : Partial
   pub is_filled : IsFilled old.model block filling
-  pub told : IsToldBy old.completion old.model block old.found filling (verdict old.model filling block old.before) v new.found
+  pub told : IsToldBy old.completion old.model block old.found filling
+      (verdict old.model filling block old.before) v new.found
   pub kept_is : new.before ≡ objective old.model filling
 
--- the error tells the fault, where it is not for want of memory
+-- the error tells the fault, unless memory ran out
 abbrev pub TellsFault : BlockError → Option BlockFault → Type 0
 TellsFault (errors.UnknownName at) f = f ≡ Some (record { kind = UnknownName; at = at })
 TellsFault (errors.Kind at) f = f ≡ Some (record { kind = WrongKind; at = at })
 TellsFault (errors.Length at) f = f ≡ Some (record { kind = WrongLength; at = at })
 TellsFault errors.Memory f = ⊤
 
--- the kind of fault that an error tells, where it is not for want of memory
+-- the kind of fault that an error tells, unless memory ran out
 abbrev pub kind_told : BlockError → Option BlockFaultKind
 kind_told (errors.UnknownName at) = Some UnknownName
 kind_told (errors.Kind at) = Some WrongKind
@@ -44,7 +45,7 @@ kind_told errors.Memory = None
 abbrev pub TellsKind : BlockError → Option BlockFault → Type 0
 TellsKind e f = IfSome (kind_told e) (λ k. IsSomeAnd f (λ x. x.kind ≡ k))
 
--- a block is refused for its fault, at its place in the stream, or for want of memory
+-- a block is refused for its fault, at its place in the stream, or for lack of memory
 abbrev pub IsBlockRefusal : Model → Block → BlockError → Type 0
 IsBlockRefusal m block e = TellsFault e (block_fault m block)
 

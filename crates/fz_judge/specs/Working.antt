@@ -1,4 +1,5 @@
--- Only private functions use these: values taken into a partial assignment one after another, and what is asked of one scalar.
+-- Only private functions use these: values taken into a partial assignment one after another, and
+-- what is asked of one scalar.
 use Rattle.std.specs.Prelude.{◌≡◌, ℕ, ℤ, ◌<◌, Bool, false, true, cond, ◌&&◌, is_none, List, [], ◌∷◌, length, Option, None, Some, ⊤}
 use Rattle.std.specs.Option.{option_map_or}
 use Rattle.fz_base.specs.declared.value.Value.{Value}
@@ -106,14 +107,16 @@ with_objective (Violated f) o = Violated f
 with_objective (Undecided r) o = verdict_by o (Some r)
 with_objective Satisfied o = verdict_by o None
 
--- what is told of a block that is satisfied, where its objective may not be better than one that was looked for
+-- what is told of a block that is satisfied, where its objective may not be better than one that
+-- was looked for
 abbrev pub compared : Model → Option Fault → Verdict
 compared m None = Satisfied
 compared m (Some f) = Undecided (NoValueFor (name_of_aim m m.aim))
 
 -- the block is satisfied under some values, which have this objective
 abbrev pub IsFound : Model → Block → Option ℤ → Option ℤ → Type 0
-IsFound m block before kept = (K : Partial) × IsPartial m K × (verdict m K block before ≡ Satisfied) × (kept ≡ objective m K)
+IsFound m block before kept =
+    (K : Partial) × IsPartial m K × (verdict m K block before ≡ Satisfied) × (kept ≡ objective m K)
 
 -- ---- refusals
 

@@ -2,8 +2,8 @@ use fz_base::Span;
 use std::alloc::{AllocError, AllocFailed};
 use thiserror::Error;
 
-/// Why a block cannot be judged: its first fault against the model, or want of memory. Spans count
-/// from the stream's first byte.
+/// Why a block cannot be judged: its first fault against the model, or that memory ran out. Spans
+/// count from the stream's first byte.
 #[derive(Clone, Copy, Debug, PartialEq, Eq, Error)]
 pub enum BlockError {
     /// A printed name is not declared.

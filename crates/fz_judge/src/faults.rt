@@ -29,7 +29,8 @@ fn literal_fault(kind: Kind, literal: &Literal) -> Option<BlockError>
 
 /// The first literal of another kind.
 fn elements_fault(kind: Kind, literals: &[Literal]) -> Option<BlockError>
-    ensures { result ≡ option_map refusal (first_some (literal_fault kind) (map located_literal literals.now)) }
+    ensures { result ≡ option_map refusal
+        (first_some (literal_fault kind) (map located_literal literals.now)) }
 {
     for literal in literals {
         let fault = literal_fault(kind, literal);
@@ -42,7 +43,8 @@ fn elements_fault(kind: Kind, literals: &[Literal]) -> Option<BlockError>
 
 /// The kind of the variable of a number; no scalar has a number that is none's.
 fn variable_kind(variables: &[Variable<'_>], number: usize) -> Kind
-    ensures { result ≡ option_map_or (λ v. v.kind) (slice_get (map variable_view variables.now) number) Kind.Int }
+    ensures { result ≡ option_map_or (λ v. v.kind)
+        (slice_get (map variable_view variables.now) number) Kind.Int }
 {
     match variables.get(number) {
         Some(variable) => variable.kind,
@@ -64,7 +66,8 @@ fn scalar_kind(variables: &[Variable<'_>], scalar: Scalar<'_>) -> Kind
 
 /// What of the value that is printed for a scalar of a kind does not fit.
 fn scalar_fault(name: &Name<'_>, kind: Kind, value: &PrintedValue) -> Option<BlockError>
-    ensures { (t : Held) → result ≡ option_map refusal (value_fault (located_name name.now) (Place.Scalar kind t) (located_printed_value value.now)) }
+    ensures { (t : Held) → result ≡ option_map refusal (value_fault (located_name name.now)
+        (Place.Scalar kind t) (located_printed_value value.now)) }
 {
     match value {
         PrintedValue::One(literal) => literal_fault(kind, literal),
@@ -79,7 +82,9 @@ fn array_fault(
     list: Scalars<'_>,
     value: &PrintedValue,
 ) -> Option<BlockError>
-    ensures { (x : List ℕ) → result ≡ option_map refusal (value_fault (located_name name.now) (Place.Array x kind (scalar_terms list.entry)) (located_printed_value value.now)) }
+    ensures { (x : List ℕ) → result ≡ option_map refusal
+        (value_fault (located_name name.now) (Place.Array x kind (scalar_terms list.entry))
+        (located_printed_value value.now)) }
 {
     match value {
         PrintedValue::One(_) => Some(BlockError::Kind(name.span)),
@@ -99,7 +104,9 @@ pub(crate) fn value_fault(
     what: What<'_>,
     value: &PrintedValue,
 ) -> Option<BlockError>
-    ensures { (x : List ℕ) → result ≡ option_map refusal (value_fault (located_name name.now) (what_place (map variable_view variables.now) x what.entry) (located_printed_value value.now)) }
+    ensures { (x : List ℕ) → result ≡ option_map refusal
+        (value_fault (located_name name.now) (what_place
+        (map variable_view variables.now) x what.entry) (located_printed_value value.now)) }
 {
     match what {
         What::Scalar(scalar) => scalar_fault(name, scalar_kind(variables, scalar), value),

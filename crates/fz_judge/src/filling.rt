@@ -43,8 +43,9 @@ fn moved_error(error: BlockError, offset: usize) -> BlockError
     }
 }
 
-/// The filling of a block, along the course of those before it, in the room of a spare proposal where there is one. Where each name has
-/// its printed value as it is taken, each has it under the filling: no value changes any more.
+/// The filling of a block, along the course of those before it, in the room of a spare proposal
+/// where there is one. Where each name has its printed value as it is taken, each has it under the
+/// filling: no value changes any more.
 pub(crate) fn filled(
     alloc: Global,
     model: &Model<'_>,
@@ -56,9 +57,12 @@ pub(crate) fn filled(
     requires room { IfSome spare (λ s. HasRoom model.now s.partial) }
     ensures filled { IfOk result (λ f. IsFilled model.now (located_block block.now) f.partial) }
     ensures kinds { IfOk result (λ f. IsPartial model.now f.partial) }
-    ensures agrees { IfOk result (λ f. IsTrue f.agrees → first_some (printed_fails model.now f.partial) (located_items block.now.items.items) ≡ None) }
-    ensures only { IfErr result (λ e. TellsKind e (block_fault model.now (located_block block.now))) }
-    ensures refused { IfErr result (λ e. HasPlaces block.now → EndsWithin usize.MAX block.now → IsBlockRefusal model.now (located_block block.now) e) }
+    ensures agrees { IfOk result (λ f. IsTrue f.agrees → first_some
+        (printed_fails model.now f.partial) (located_items block.now.items.items) ≡ None) }
+    ensures only { IfErr result (λ e. TellsKind e
+        (block_fault model.now (located_block block.now))) }
+    ensures refused { IfErr result (λ e. HasPlaces block.now → EndsWithin usize.MAX block.now
+        → IsBlockRefusal model.now (located_block block.now) e) }
     ensures course { IfSome course.new (IsCourse model.now) }
 {
     let Proposed {
@@ -77,19 +81,24 @@ pub(crate) fn filled(
     })
 }
 
-/// The values that follow from the printed ones by forced steps. It goes over the printed items once, and then over the points, where one
-/// is looked at again only as a variable that it waits for has got a value.
+/// The values that follow from the printed ones by forced steps. It goes over the printed items
+/// once, and then over the points, where one is looked at again only as a variable that it waits
+/// for has got a value.
 ///
 /// # Errors
 ///
-/// The fault of the first printed item that has one, at its place in the stream, and want of memory.
+/// The fault of the first printed item that has one, at its place in the stream, and `Memory` where
+/// memory runs out.
 pub fn fill(alloc: Global, model: &Model<'_>, block: &Block<'_>) -> Result<Partial, BlockError>
     ensures filled { IfOk result (λ F. IsFilled model.now (located_block block.now) F) }
     ensures kinds { IfOk result (λ F. IsPartial model.now F) }
     // Of any block: it has a fault, and its first is of the kind that is told.
-    ensures only { IfErr result (λ e. TellsKind e (block_fault model.now (located_block block.now))) }
-    // Of a block as `fz_stream` reads it: its places lie in its text, and its text ends within the numbers.
-    ensures refused { IfErr result (λ e. HasPlaces block.now → EndsWithin usize.MAX block.now → IsBlockRefusal model.now (located_block block.now) e) }
+    ensures only { IfErr result (λ e. TellsKind e
+        (block_fault model.now (located_block block.now))) }
+    // Of a block as `fz_stream` reads it: its places lie in its text, and its text ends within the
+    // numbers.
+    ensures refused { IfErr result (λ e. HasPlaces block.now → EndsWithin usize.MAX block.now
+        → IsBlockRefusal model.now (located_block block.now) e) }
 {
     let mut course = Some(Course::unknown(alloc));
     let Proposed {

@@ -29,7 +29,8 @@ use std::alloc::{AllocError, Global};
 
 /// The verdict where the printed names and the points have this one, and the objective may fail.
 fn with_objective<'a>(points: Verdict<'a>, objective: Option<Fault<'a>>) -> Verdict<'a>
-    ensures { verdict_view result ≡ with_objective (verdict_view points.entry) (option_map fault_view objective.entry) }
+    ensures { verdict_view result ≡ with_objective (verdict_view points.entry)
+        (option_map fault_view objective.entry) }
 {
     match points {
         Verdict::Violated(fault) => Verdict::Violated(fault),
@@ -44,8 +45,8 @@ fn with_objective<'a>(points: Verdict<'a>, objective: Option<Fault<'a>>) -> Verd
     }
 }
 
-/// The fault of the first printed item whose name has another value than the printed one. Where all were seen to agree, nothing is looked
-/// at again.
+/// The fault of the first printed item whose name has another value than the printed one. Where all
+/// were seen to agree, nothing is looked at again.
 fn disagreement<'a>(
     alloc: Global,
     model: &Model<'a>,
@@ -54,8 +55,10 @@ fn disagreement<'a>(
     items: &[Printed<'_>],
 ) -> Result<Option<Fault<'a>>, AllocError>
     requires clean { items_fault model.now (located_items items.now) ≡ None }
-    requires agrees { IsTrue agrees → first_some (printed_fails model.now partial.now) (located_items items.now) ≡ None }
-    ensures { IfOk result (λ o. option_map fault_view o ≡ first_some (printed_fails model.now partial.now) (located_items items.now)) }
+    requires agrees { IsTrue agrees
+        → first_some (printed_fails model.now partial.now) (located_items items.now) ≡ None }
+    ensures { IfOk result (λ o. option_map fault_view o
+        ≡ first_some (printed_fails model.now partial.now) (located_items items.now)) }
 {
     if agrees {
         return Ok(None);
@@ -76,8 +79,10 @@ fn verdict_under<'a>(
 ) -> Result<Verdict<'a>, AllocError>
     requires overview { IsOverview model.now overview.now }
     requires clean { items_fault model.now (located_items block.now.items.items) ≡ None }
-    requires agrees { IsTrue agrees → first_some (printed_fails model.now partial.now) (located_items block.now.items.items) ≡ None }
-    ensures { IfOk result (λ v. verdict_view v ≡ verdict model.now partial.now (located_block block.now) before) }
+    requires agrees { IsTrue agrees → first_some (printed_fails model.now partial.now)
+        (located_items block.now.items.items) ≡ None }
+    ensures { IfOk result (λ v. verdict_view v
+        ≡ verdict model.now partial.now (located_block block.now) before) }
 {
     if let Some(fault) = disagreement(alloc, model, partial, agrees, &block.items)? {
         return Ok(Verdict::Violated(fault));
@@ -115,8 +120,10 @@ fn verdict_over<'a>(
 ) -> Result<Verdict<'a>, AllocError>
     requires overview { IfSome known.old (IsOverview model.now) }
     requires clean { items_fault model.now (located_items block.now.items.items) ≡ None }
-    requires agrees { IsTrue agrees → first_some (printed_fails model.now partial.now) (located_items block.now.items.items) ≡ None }
-    ensures judged { IfOk result (λ v. verdict_view v ≡ verdict model.now partial.now (located_block block.now) before) }
+    requires agrees { IsTrue agrees → first_some (printed_fails model.now partial.now)
+        (located_items block.now.items.items) ≡ None }
+    ensures judged { IfOk result (λ v. verdict_view v
+        ≡ verdict model.now partial.now (located_block block.now) before) }
     ensures overview { IfSome known.new (IsOverview model.now) }
 {
     let overview = overview_of(alloc, model, known.take())?;
@@ -191,15 +198,27 @@ impl<'m, 'a> std::marker::Model for Judge<'m, 'a> {
     ghost use Rattle.fz_model.specs.Overviews.{IsOverview};
     ghost use Rattle.fz_judge.specs.Working.{HasRoom};
 
-    ghost view = { λ j. record { model = j.model.now; completion = j.completion; before = j.before; found = j.found } };
+    ghost view = { λ j. record {
+      model = j.model.now;
+      completion = j.completion;
+      before = j.before;
+      found = j.found;
+    } };
 
-    ghost invariant = { λ j. IfSome j.course (IsCourse j.model.now) × IfSome j.overview (IsOverview j.model.now) × IfSome j.spare (λ s. HasRoom j.model.now s.partial) };
+    ghost invariant = { λ j. IfSome j.course (IsCourse j.model.now)
+        × IfSome j.overview (IsOverview j.model.now)
+        × IfSome j.spare (λ s. HasRoom j.model.now s.partial) };
 }
 
 impl<'m, 'a> Judge<'m, 'a> {
     /// A judge of a model's blocks, before the first one.
     pub fn new(model: &'m Model<'a>, completion: Completion) -> Judge<'m, 'a>
-        ensures { result ≡ record { model = model.now; completion = completion; before = None; found = None } }
+        ensures { result ≡ record {
+          model = model.now;
+          completion = completion;
+          before = None;
+          found = None;
+        } }
     {
         Judge {
             model,
@@ -225,8 +244,11 @@ impl<'m, 'a> Judge<'m, 'a> {
     ) -> Result<(Verdict<'a>, Option<i64>), AllocError>
         requires clean { items_fault self.old.model (located_items block.now.items.items) ≡ None }
         requires kinds { IsPartial self.old.model filling.now }
-        requires filled { verdict_view under ≡ verdict self.old.model filling.now (located_block block.now) self.old.before }
-        ensures told { IfOk result (λ r. IsCompleted self.old.model (located_block block.now) self.old.found filling.now (verdict_view under.entry) (verdict_view r.0) r.1) }
+        requires filled { verdict_view under
+            ≡ verdict self.old.model filling.now (located_block block.now) self.old.before }
+        ensures told { IfOk result (λ r. IsCompleted self.old.model
+            (located_block block.now) self.old.found filling.now (verdict_view under.entry)
+            (verdict_view r.0) r.1) }
         ensures same { self.new ≡ self.old }
     {
         let filled = objective(self.model, filling);
@@ -247,7 +269,9 @@ impl<'m, 'a> Judge<'m, 'a> {
     ) -> Result<(Verdict<'a>, Option<i64>), AllocError>
         requires clean { items_fault self.old.model (located_items block.now.items.items) ≡ None }
         requires kinds { IsPartial self.old.model filling.now }
-        ensures told { IfOk result (λ r. IsCompleted self.old.model (located_block block.now) self.old.found filling.now (Undecided (reason_view reason.entry)) (verdict_view r.0) r.1) }
+        ensures told { IfOk result (λ r. IsCompleted self.old.model
+            (located_block block.now) self.old.found filling.now
+            (Undecided (reason_view reason.entry)) (verdict_view r.0) r.1) }
         ensures same { self.new ≡ self.old }
     {
         let filled = objective(self.model, filling);
@@ -272,7 +296,8 @@ impl<'m, 'a> Judge<'m, 'a> {
     ) -> Result<Option<Option<i64>>, AllocError>
         requires clean { items_fault self.old.model (located_items block.now.items.items) ≡ None }
         requires kinds { IsPartial self.old.model filling.now }
-        ensures found { IfOk result (λ o. IfSome o (IsFound self.old.model (located_block block.now) self.old.found)) }
+        ensures found { IfOk result (λ o. IfSome o
+            (IsFound self.old.model (located_block block.now) self.old.found)) }
         ensures same { self.new ≡ self.old }
     {
         let Some(found) = propose(alloc, self.model, filling, self.found, &mut self.search)? else {
@@ -296,16 +321,21 @@ impl<'m, 'a> Judge<'m, 'a> {
     ///
     /// # Errors
     ///
-    /// The fault of the first printed item that has one, at its place in the stream, and want of memory.
+    /// The fault of the first printed item that has one, at its place in the stream, and `Memory`
+    /// where memory runs out.
     pub fn judge(&mut self, alloc: Global, block: &Block<'_>) -> Result<Verdict<'a>, BlockError>
-        ensures judged { IfOk result (λ v. IsJudged self.old self.new (located_block block.now) (verdict_view v)) }
+        ensures judged { IfOk result (λ v. IsJudged self.old self.new (located_block block.now)
+            (verdict_view v)) }
         ensures same_model { self.new.model ≡ self.old.model }
         ensures same_completion { self.new.completion ≡ self.old.completion }
         ensures unchanged { IfErr result (λ _. self.new ≡ self.old) }
         // Of any block: it has a fault, and its first is of the kind that is told.
-        ensures only { IfErr result (λ e. TellsKind e (block_fault self.old.model (located_block block.now))) }
-        // Of a block as `fz_stream` reads it: its places lie in its text, and its text ends within the numbers.
-        ensures refused { IfErr result (λ e. HasPlaces block.now → EndsWithin usize.MAX block.now → IsBlockRefusal self.old.model (located_block block.now) e) }
+        ensures only { IfErr result (λ e. TellsKind e
+            (block_fault self.old.model (located_block block.now))) }
+        // Of a block as `fz_stream` reads it: its places lie in its text, and its text ends within
+        // the numbers.
+        ensures refused { IfErr result (λ e. HasPlaces block.now → EndsWithin usize.MAX block.now
+            → IsBlockRefusal self.old.model (located_block block.now) e) }
     {
         let spare = self.spare.take();
         let filling = filled(alloc, self.model, block, &mut self.course, spare)?;

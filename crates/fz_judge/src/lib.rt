@@ -1,5 +1,5 @@
-//! Judging solution blocks against a model, one after another: the fault of a block, its filling, and the verdict on it. The inner crate
-//! below `fz_check`, which offers all of it.
+//! Judging solution blocks against a model, one after another: the fault of a block, its filling,
+//! and the verdict on it. The internal crate below `fz_check`, which offers all of it.
 #![tactic(auto)]
 
 mod error;

@@ -25,7 +25,8 @@ fn fault_named(point: Point<'_>) -> Fault<'_>
     }
 }
 
-/// The name of the first variable without a value, in source order; none is needed where each has one.
+/// The name of the first variable without a value, in source order; none is needed where each has
+/// one.
 fn first_unset<'a>(variables: &[Variable<'a>], values: &[Option<Value>]) -> &'a [u8]
     ensures { result.now ≡ first_unset (map variable_view variables.now) values.now }
 {
@@ -66,7 +67,8 @@ fn undecided<'a>(
     point: Point<'a>,
     state: State,
 ) -> Option<Reason<'a>>
-    ensures { option_map reason_view result ≡ reason_named (first_unset (variables_of model.now) partial.now) (point_name point.entry) state }
+    ensures { option_map reason_view result ≡ reason_named
+        (first_unset (variables_of model.now) partial.now) (point_name point.entry) state }
 {
     match state {
         State::NoValue => Some(Reason::NoValue(first_unset(model.variables(), partial.values()))),
@@ -91,8 +93,8 @@ fn holds(state: State) -> bool
     matches!(state, State::Holds)
 }
 
-/// The first point that fails, or else the first that is undecided. Mostly all points hold, which is told soonest in another order than
-/// theirs.
+/// The first point that fails, or else the first that is undecided. Mostly all points hold, which
+/// is told soonest in another order than theirs.
 pub(crate) fn points_verdict<'a>(
     alloc: Global,
     model: &Model<'a>,
@@ -100,7 +102,9 @@ pub(crate) fn points_verdict<'a>(
     partial: &Partial,
 ) -> Result<Verdict<'a>, AllocError>
     requires overview { IsOverview model.now overview.now }
-    ensures { IfOk result (λ v. verdict_view v ≡ verdict_by (first_some (point_fails partial.now) (points model.now)) (first_some (point_undecided model.now partial.now) (points model.now))) }
+    ensures { IfOk result (λ v. verdict_view v ≡ verdict_by
+        (first_some (point_fails partial.now) (points model.now))
+        (first_some (point_undecided model.now partial.now) (points model.now))) }
 {
     if all_hold(alloc, model, overview, partial)? {
         return Ok(Verdict::Satisfied);
@@ -148,7 +152,8 @@ pub(crate) fn objective(model: &Model<'_>, partial: &Partial) -> Option<i64>
     }
 }
 
-/// The fault of an objective that is not better than the one before; where one of them is missing nothing is compared.
+/// The fault of an objective that is not better than the one before; where one of them is missing
+/// nothing is compared.
 pub(crate) fn objective_fails<'a>(
     goal: &Goal,
     before: Option<i64>,

@@ -28,7 +28,8 @@ fn variable_has(
     number: usize,
     literal: &Literal,
 ) -> Result<bool, AllocError>
-    ensures { IfOk result (λ b. b ≡ has_value partial.now (Var number, literal_value (bare_literal literal.now))) }
+    ensures { IfOk result (λ b. b ≡ has_value partial.now
+        (Var number, literal_value (bare_literal literal.now))) }
 {
     match partial.get(number) {
         Some(value) => is_of_literal(alloc, value, &literal.what),
@@ -43,7 +44,8 @@ fn has_value(
     scalar: Scalar<'_>,
     literal: &Literal,
 ) -> Result<bool, AllocError>
-    ensures { IfOk result (λ b. b ≡ has_value partial.now (scalar_term scalar.entry, literal_value (bare_literal literal.now))) }
+    ensures { IfOk result (λ b. b ≡ has_value partial.now
+        (scalar_term scalar.entry, literal_value (bare_literal literal.now))) }
 {
     match scalar {
         Scalar::Variable(number) => variable_has(alloc, partial, number, literal),
@@ -53,14 +55,16 @@ fn has_value(
     }
 }
 
-/// Whether there are as many literals as scalars, and each scalar has the value of the literal beside it.
+/// Whether there are as many literals as scalars, and each scalar has the value of the literal
+/// beside it.
 fn have_values(
     alloc: Global,
     partial: &Partial,
     list: Scalars<'_>,
     literals: &[Literal],
 ) -> Result<bool, AllocError>
-    ensures { IfOk result (λ b. b ≡ have_values partial.now (scalar_terms list.entry) (printed_values (map located_literal literals.now))) }
+    ensures { IfOk result (λ b. b ≡ have_values partial.now (scalar_terms list.entry)
+        (printed_values (map located_literal literals.now))) }
 {
     if list.len() != literals.len() {
         return Ok(false);
@@ -81,7 +85,8 @@ fn scalar_has(
     scalar: Scalar<'_>,
     value: &PrintedValue,
 ) -> Result<bool, AllocError>
-    ensures { IfOk result (λ b. (k : KindOf) → b ≡ has_printed partial.now (Place.Scalar k (scalar_term scalar.entry)) (located_printed_value value.now)) }
+    ensures { IfOk result (λ b. (k : KindOf) → b ≡ has_printed partial.now
+        (Place.Scalar k (scalar_term scalar.entry)) (located_printed_value value.now)) }
 {
     match value {
         PrintedValue::One(literal) => has_value(alloc, partial, scalar, literal),
@@ -96,7 +101,9 @@ fn array_has(
     list: Scalars<'_>,
     value: &PrintedValue,
 ) -> Result<bool, AllocError>
-    ensures { IfOk result (λ b. (x : List ℕ) (k : KindOf) → b ≡ has_printed partial.now (Place.Array x k (scalar_terms list.entry)) (located_printed_value value.now)) }
+    ensures { IfOk result (λ b. (x : List ℕ) (k : KindOf)
+        → b ≡ has_printed partial.now (Place.Array x k (scalar_terms list.entry))
+        (located_printed_value value.now)) }
 {
     match value {
         PrintedValue::One(_) => Ok(false),
@@ -111,7 +118,9 @@ fn has_printed(
     what: What<'_>,
     value: &PrintedValue,
 ) -> Result<bool, AllocError>
-    ensures { IfOk result (λ b. (vs : List DeclaredVariable) (x : List ℕ) → b ≡ has_printed partial.now (what_place vs x what.entry) (located_printed_value value.now)) }
+    ensures { IfOk result (λ b. (vs : List DeclaredVariable) (x : List ℕ)
+        → b ≡ has_printed partial.now (what_place vs x what.entry)
+        (located_printed_value value.now)) }
 {
     match what {
         What::Scalar(scalar) => scalar_has(alloc, partial, scalar, value),
@@ -126,7 +135,9 @@ fn item_fails<'a>(
     partial: &Partial,
     item: &Printed<'_>,
 ) -> Result<Option<Fault<'a>>, AllocError>
-    ensures { IfOk result (λ o. printed_fault model.now (located_printed item.now) ≡ None → option_map fault_view o ≡ printed_fails model.now partial.now (located_printed item.now)) }
+    ensures { IfOk result (λ o. printed_fault model.now (located_printed item.now) ≡ None
+        → option_map fault_view o ≡ printed_fails model.now partial.now
+        (located_printed item.now)) }
 {
     match model.find(item.name.text) {
         Some(found) => {
@@ -149,7 +160,8 @@ pub(crate) fn printed_fails<'a>(
     items: &[Printed<'_>],
 ) -> Result<Option<Fault<'a>>, AllocError>
     requires clean { items_fault model.now (located_items items.now) ≡ None }
-    ensures { IfOk result (λ o. option_map fault_view o ≡ first_some (printed_fails model.now partial.now) (located_items items.now)) }
+    ensures { IfOk result (λ o. option_map fault_view o
+        ≡ first_some (printed_fails model.now partial.now) (located_items items.now)) }
 {
     for item in items {
         let fault = item_fails(alloc, model, partial, item)?;

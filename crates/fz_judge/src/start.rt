@@ -29,11 +29,13 @@ use std::alloc::{AllocError, Global};
 pub(crate) struct Proposed {
     pub(crate) partial: Partial,
     pub(crate) agrees: bool,
-    /// where the name of each item stands among the model's, by the item's number, for the next block, which mostly prints the same names
+    /// where the name of each item stands among the model's, by the item's number, for the next
+    /// block, which mostly prints the same names
     pub(crate) places: Vec<usize>,
 }
 
-/// Gives a variable without a value that of a literal. A number or a truth value goes to its place with no copy on the way.
+/// Gives a variable without a value that of a literal. A number or a Boolean goes to its place with
+/// no copy on the way.
 #[inline(always)]
 fn give_value(
     alloc: Global,
@@ -43,7 +45,8 @@ fn give_value(
 ) -> Result<(), AllocError>
     requires in_range { number < length partial.old }
     requires unset { value_at partial.old number ≡ None }
-    ensures { OnOk result (partial.new ≡ give partial.old number (literal_value (bare_literal_kind literal.now))) }
+    ensures { OnOk result (partial.new
+        ≡ give partial.old number (literal_value (bare_literal_kind literal.now))) }
 {
     match literal {
         LiteralKind::Whole(whole) => {
@@ -68,14 +71,16 @@ fn give_made(
 ) -> Result<(), AllocError>
     requires in_range { number < length partial.old }
     requires unset { value_at partial.old number ≡ None }
-    ensures { OnOk result (partial.new ≡ give partial.old number (literal_value (bare_literal_kind literal.now))) }
+    ensures { OnOk result (partial.new
+        ≡ give partial.old number (literal_value (bare_literal_kind literal.now))) }
 {
     let value = literal_value(alloc, literal)?;
     partial.set(number, value);
     Ok(())
 }
 
-/// Gives a variable the value of a literal, where it has none, and tells whether it has that value then.
+/// Gives a variable the value of a literal, where it has none, and tells whether it has that value
+/// then.
 #[inline(always)]
 fn set_variable(
     alloc: Global,
@@ -84,8 +89,10 @@ fn set_variable(
     literal: &LiteralKind,
 ) -> Result<bool, AllocError>
     requires in_range { number < length partial.old }
-    ensures given { OnOk result (partial.new ≡ cond (is_none (value_at partial.old number)) (give partial.old number (literal_value (bare_literal_kind literal.now))) partial.old) }
-    ensures agrees { IfOk result (λ b. b ≡ has_value partial.new (Var number, literal_value (bare_literal_kind literal.now))) }
+    ensures given { OnOk result (partial.new ≡ cond (is_none (value_at partial.old number))
+        (give partial.old number (literal_value (bare_literal_kind literal.now))) partial.old) }
+    ensures agrees { IfOk result (λ b. b
+        ≡ has_value partial.new (Var number, literal_value (bare_literal_kind literal.now))) }
 {
     if let Some(value) = partial.get(number) {
         return is_of_literal(alloc, value, literal);
@@ -94,7 +101,8 @@ fn set_variable(
     Ok(true)
 }
 
-/// Gives a scalar the value of a literal, where it is a variable without one, and tells whether it has that value then.
+/// Gives a scalar the value of a literal, where it is a variable without one, and tells whether it
+/// has that value then.
 #[inline(always)]
 fn set_scalar(
     alloc: Global,
@@ -103,8 +111,10 @@ fn set_scalar(
     literal: &Literal,
 ) -> Result<bool, AllocError>
     requires within { IsWithin (length partial.old) (scalar_term scalar) }
-    ensures given { OnOk result (partial.new ≡ with_first partial.old (scalar_term scalar.entry, literal_value (bare_literal literal.now))) }
-    ensures agrees { IfOk result (λ b. b ≡ has_value partial.new (scalar_term scalar.entry, literal_value (bare_literal literal.now))) }
+    ensures given { OnOk result (partial.new ≡ with_first partial.old
+        (scalar_term scalar.entry, literal_value (bare_literal literal.now))) }
+    ensures agrees { IfOk result (λ b. b ≡ has_value partial.new
+        (scalar_term scalar.entry, literal_value (bare_literal literal.now))) }
 {
     match scalar {
         Scalar::Variable(number) => set_variable(alloc, partial, number, &literal.what),
@@ -114,7 +124,8 @@ fn set_scalar(
     }
 }
 
-/// Gives each scalar the value of the literal beside it, where it is a variable without one, and tells whether each has its value then.
+/// Gives each scalar the value of the literal beside it, where it is a variable without one, and
+/// tells whether each has its value then.
 fn set_elements(
     alloc: Global,
     partial: &mut Partial,
@@ -122,8 +133,10 @@ fn set_elements(
     literals: &[Literal],
 ) -> Result<bool, AllocError>
     requires within { AllByRecursion (IsWithin (length partial.old)) (scalar_terms list) }
-    ensures given { OnOk result (partial.new ≡ with_all partial.old (pairs (scalar_terms list.entry) (printed_values (map located_literal literals.now)))) }
-    ensures agrees { IfOk result (λ b. b ≡ agree_all partial.old (pairs (scalar_terms list.entry) (printed_values (map located_literal literals.now)))) }
+    ensures given { OnOk result (partial.new ≡ with_all partial.old
+        (pairs (scalar_terms list.entry) (printed_values (map located_literal literals.now)))) }
+    ensures agrees { IfOk result (λ b. b ≡ agree_all partial.old
+        (pairs (scalar_terms list.entry) (printed_values (map located_literal literals.now)))) }
 {
     let mut agrees = true;
     for (slot, literal) in list.slots.iter().zip(literals) {
@@ -135,7 +148,8 @@ fn set_elements(
     Ok(agrees)
 }
 
-/// Gives what a name stands for its printed value, where variables have none, and tells whether it has that value then.
+/// Gives what a name stands for its printed value, where variables have none, and tells whether it
+/// has that value then.
 fn set_value(
     alloc: Global,
     partial: &mut Partial,
@@ -143,8 +157,12 @@ fn set_value(
     value: &PrintedValue,
 ) -> Result<bool, AllocError>
     requires within { AllByRecursion (IsWithin (length partial.old)) (terms_of_what what) }
-    ensures given { OnOk result ((vs : List DeclaredVariable) (x : List ℕ) → partial.new ≡ with_all partial.old (pairs_at (what_place vs x what.entry) (located_printed_value value.now))) }
-    ensures agrees { IfOk result (λ b. (vs : List DeclaredVariable) (x : List ℕ) → b ≡ agree_all partial.old (pairs_at (what_place vs x what.entry) (located_printed_value value.now))) }
+    ensures given { OnOk result ((vs : List DeclaredVariable) (x : List ℕ)
+        → partial.new ≡ with_all partial.old
+        (pairs_at (what_place vs x what.entry) (located_printed_value value.now))) }
+    ensures agrees { IfOk result (λ b. (vs : List DeclaredVariable) (x : List ℕ)
+        → b ≡ agree_all partial.old (pairs_at (what_place vs x what.entry)
+        (located_printed_value value.now))) }
 {
     match what {
         What::Scalar(scalar) => set_one(alloc, partial, scalar, value),
@@ -160,8 +178,10 @@ fn set_one(
     value: &PrintedValue,
 ) -> Result<bool, AllocError>
     requires within { IsWithin (length partial.old) (scalar_term scalar) }
-    ensures given { OnOk result (partial.new ≡ with_all partial.old (one_pair (scalar_term scalar.entry) (located_printed_value value.now))) }
-    ensures agrees { IfOk result (λ b. b ≡ agree_all partial.old (one_pair (scalar_term scalar.entry) (located_printed_value value.now))) }
+    ensures given { OnOk result (partial.new ≡ with_all partial.old
+        (one_pair (scalar_term scalar.entry) (located_printed_value value.now))) }
+    ensures agrees { IfOk result (λ b. b ≡ agree_all partial.old
+        (one_pair (scalar_term scalar.entry) (located_printed_value value.now))) }
 {
     match value {
         PrintedValue::One(literal) => set_scalar(alloc, partial, scalar, literal),
@@ -177,8 +197,10 @@ fn set_array(
     value: &PrintedValue,
 ) -> Result<bool, AllocError>
     requires within { AllByRecursion (IsWithin (length partial.old)) (scalar_terms list) }
-    ensures given { OnOk result (partial.new ≡ with_all partial.old (element_pairs (scalar_terms list.entry) (located_printed_value value.now))) }
-    ensures agrees { IfOk result (λ b. b ≡ agree_all partial.old (element_pairs (scalar_terms list.entry) (located_printed_value value.now))) }
+    ensures given { OnOk result (partial.new ≡ with_all partial.old
+        (element_pairs (scalar_terms list.entry) (located_printed_value value.now))) }
+    ensures agrees { IfOk result (λ b. b ≡ agree_all partial.old
+        (element_pairs (scalar_terms list.entry) (located_printed_value value.now))) }
 {
     match value {
         PrintedValue::One(_) => Ok(true),
@@ -186,8 +208,9 @@ fn set_array(
     }
 }
 
-/// Takes the values of an item into the start, where the item has no fault, and tells whether its name has its printed value then. The
-/// name is looked for at a place first, and is left with its own. A fault's place counts from the block's text.
+/// Takes the values of an item into the start, where the item has no fault, and tells whether its
+/// name has its printed value then. The name is looked for at a place first, and is left with its
+/// own. A fault's place counts from the block's text.
 fn set_item(
     alloc: Global,
     model: &Model<'_>,
@@ -196,11 +219,14 @@ fn set_item(
     place: &mut usize,
 ) -> Result<bool, BlockError>
     requires fits { IsPartial model.now partial.old }
-    ensures given { OnOk result (partial.new ≡ with_all partial.old (item_scalars model.now (located_printed item.now))) }
+    ensures given { OnOk result (partial.new
+        ≡ with_all partial.old (item_scalars model.now (located_printed item.now))) }
     ensures kinds { OnOk result (IsPartial model.now partial.new) }
-    ensures agrees { IfOk result (λ b. b ≡ agree_all partial.old (item_scalars model.now (located_printed item.now))) }
+    ensures agrees { IfOk result (λ b. b
+        ≡ agree_all partial.old (item_scalars model.now (located_printed item.now))) }
     ensures clean { OnOk result (printed_fault model.now (located_printed item.now) ≡ None) }
-    ensures told { IfErr result (λ e. TellsFault e (printed_fault model.now (located_printed item.now))) }
+    ensures told { IfErr result (λ e. TellsFault e
+        (printed_fault model.now (located_printed item.now))) }
 {
     let Some((found, stands_at)) = model.find_at(item.name.text, *place) else {
         return Err(BlockError::UnknownName(item.name.span));
@@ -212,8 +238,8 @@ fn set_item(
     Ok(set_value(alloc, partial, found.what, &item.value)?)
 }
 
-/// What is proposed before the first item: no variable has a value. It takes the room of a spare proposal where there is one, and its
-/// places. Else it makes the room.
+/// What is proposed before the first item: no variable has a value. It takes the room of a spare
+/// proposal where there is one, and its places. Else it makes the room.
 fn nothing_proposed(
     alloc: Global,
     model: &Model<'_>,
@@ -248,9 +274,10 @@ fn note(places: &mut Vec<usize>, number: usize, place: usize) -> Result<(), Allo
     }
 }
 
-/// The values that a block's items print, where no item has a fault, and whether each name has its printed one. They stand in the room of
-/// a spare proposal where there is one, and each name is looked for first where that of the item of the same number stood. A fault's place
-/// counts from the block's text.
+/// The values that a block's items print, where no item has a fault, and whether each name has its
+/// printed one. They stand in the room of a spare proposal where there is one, and each name is
+/// looked for first where that of the item of the same number stood. A fault's place counts from
+/// the block's text.
 pub(crate) fn start(
     alloc: Global,
     model: &Model<'_>,
@@ -258,11 +285,14 @@ pub(crate) fn start(
     spare: Option<Proposed>,
 ) -> Result<Proposed, BlockError>
     requires room { IfSome spare (λ s. HasRoom model.now s.partial) }
-    ensures started { IfOk result (λ s. s.partial ≡ start_from (printed_scalars model.now (located_items items.now)) 0 (variables_of model.now)) }
+    ensures started { IfOk result (λ s. s.partial ≡ start_from
+        (printed_scalars model.now (located_items items.now)) 0 (variables_of model.now)) }
     ensures kinds { IfOk result (λ s. IsPartial model.now s.partial) }
-    ensures agrees { IfOk result (λ s. s.agrees ≡ agree_all (nothing_for model.now) (printed_scalars model.now (located_items items.now))) }
+    ensures agrees { IfOk result (λ s. s.agrees
+        ≡ agree_all (nothing_for model.now) (printed_scalars model.now (located_items items.now))) }
     ensures clean { IfOk result (λ _. items_fault model.now (located_items items.now) ≡ None) }
-    ensures told { IfErr result (λ e. TellsFault e (items_fault model.now (located_items items.now))) }
+    ensures told { IfErr result (λ e. TellsFault e
+        (items_fault model.now (located_items items.now))) }
 {
     let Proposed {
         mut partial,

@@ -1,4 +1,5 @@
-//! Whether a value is the one of a literal, without making the literal's value where none has to be made.
+//! Whether a value is the one of a literal, without making the literal's value where none has to be
+//! made.
 
 ghost use Rattle.std.specs.Prelude.{◌≡◌, IfOk};
 ghost use Rattle.fz_model.specs.Names.{literal_value};
@@ -13,7 +14,8 @@ use std::alloc::{AllocError, Global};
 /// Whether a number is the literal's value.
 #[inline]
 pub(crate) fn is_number(number: i64, literal: &LiteralKind) -> bool
-    ensures { result ≡ same_value (Value.Int number) (literal_value (bare_literal_kind literal.now)) }
+    ensures { result ≡ same_value (Value.Int number)
+        (literal_value (bare_literal_kind literal.now)) }
 {
     match literal {
         LiteralKind::Whole(printed) => number == *printed,
@@ -23,10 +25,11 @@ pub(crate) fn is_number(number: i64, literal: &LiteralKind) -> bool
     }
 }
 
-/// Whether a truth value is the literal's value.
+/// Whether a Boolean is the literal's value.
 #[inline]
 pub(crate) fn is_truth(truth: bool, literal: &LiteralKind) -> bool
-    ensures { result ≡ same_value (Value.Bool truth) (literal_value (bare_literal_kind literal.now)) }
+    ensures { result ≡ same_value (Value.Bool truth)
+        (literal_value (bare_literal_kind literal.now)) }
 {
     match literal {
         LiteralKind::Truth(printed) => truth == *printed,
@@ -38,7 +41,8 @@ pub(crate) fn is_truth(truth: bool, literal: &LiteralKind) -> bool
 
 /// Whether a set is the literal's value, which is made. It refuses only where memory runs out.
 pub(crate) fn is_set(alloc: Global, set: &IntSet, literal: &LiteralKind) -> Result<bool, AllocError>
-    ensures { IfOk result (λ b. b ≡ same_value (Value.Set set.now) (literal_value (bare_literal_kind literal.now))) }
+    ensures { IfOk result (λ b. b ≡ same_value (Value.Set set.now)
+        (literal_value (bare_literal_kind literal.now))) }
 {
     match literal_value(alloc, literal)? {
         Value::Set(printed) => Ok(set.equals(&printed)),
@@ -47,15 +51,16 @@ pub(crate) fn is_set(alloc: Global, set: &IntSet, literal: &LiteralKind) -> Resu
     }
 }
 
-/// Whether a value is the literal's. Numbers and truth values are compared where they stand; only for a set is the literal's value made. It
-/// refuses only where memory runs out.
+/// Whether a value is the literal's. Numbers and Booleans are compared where they stand; only for a
+/// set is the literal's value made. It refuses only where memory runs out.
 #[inline]
 pub(crate) fn is_of_literal(
     alloc: Global,
     value: &Value,
     literal: &LiteralKind,
 ) -> Result<bool, AllocError>
-    ensures { IfOk result (λ b. b ≡ same_value value.now (literal_value (bare_literal_kind literal.now))) }
+    ensures { IfOk result (λ b. b ≡ same_value value.now
+        (literal_value (bare_literal_kind literal.now))) }
 {
     match value {
         Value::Int(number) => Ok(is_number(*number, literal)),

@@ -21,14 +21,16 @@ fits_not z out = elim (fits_128 z) as (λ b. fits_128 z ≡ b → b ≡ false) [
     in_range (negsuc n) e = grind (arith, ints, nat_tests)
 
 -- a product of numbers of 64 bits, as the code passes them on
-pub passed_on : (p x y : ℤ) → FitsSigned w128 p → FitsSigned w64 x → FitsSigned w64 y → p ≡ (to_z w64 (of_z w64 x) *ℤ to_z w64 (of_z w64 y)) → to_z w128 (of_z w128 p) ≡ (x *ℤ y)
+pub passed_on : (p x y : ℤ) → FitsSigned w128 p → FitsSigned w64 x → FitsSigned w64 y
+    → p ≡ (to_z w64 (of_z w64 x) *ℤ to_z w64 (of_z w64 y)) → to_z w128 (of_z w128 p) ≡ (x *ℤ y)
 passed_on p x y fits fits_x fits_y e = to_z-of_z w128 p fits ∙ e ∙ ap (λ a. a *ℤ to_z w64 (of_z w64 y)) (to_z-of_z w64 x fits_x) ∙ ap (λ b. x *ℤ b) (to_z-of_z w64 y fits_y)
 
 -- ---- a[i] * b[i]
 
 -- s is the sum of the first i products; the sums on the way leave 128 bits where those from s on do
 pub record IsAdded (xs ys : List ℤ) (i : ℕ) (s : ℤ) : Type 0 where
-  pub on_the_way : list_all fits_128 (sums_from (pos 0) (products xs ys)) ≡ list_all fits_128 (sums_from s (products (drop i xs) (drop i ys)))
+  pub on_the_way : list_all fits_128 (sums_from (pos 0) (products xs ys))
+      ≡ list_all fits_128 (sums_from s (products (drop i xs) (drop i ys)))
   pub whole : total (products xs ys) ≡ s +ℤ total (products (drop i xs) (drop i ys))
 
 regroup : (a b c : ℤ) → (a +ℤ (b +ℤ c)) ≡ ((a +ℤ b) +ℤ c)
@@ -66,14 +68,17 @@ products_none [] = refl
 products_none (x ∷ xs) = refl
 
 -- where one list is used up
-pub no_products_left : (xs ys : List ℤ) (i : ℕ) → (length xs ≤ i) ⊎ (length ys ≤ i) → products (drop i xs) (drop i ys) ≡ []
+pub no_products_left : (xs ys : List ℤ) (i : ℕ) → (length xs ≤ i) ⊎ (length ys ≤ i)
+    → products (drop i xs) (drop i ys) ≡ []
 no_products_left xs ys i (inl end) = ap (λ l. products l (drop i ys)) (none_left xs i end)
 no_products_left xs ys i (inr end) = ap (λ l. products (drop i xs) l) (none_left ys i end) ∙ products_none (drop i xs)
 
-pub stays_within : (xs ys : List ℤ) (i : ℕ) (s : ℤ) → IsAdded xs ys i s → products (drop i xs) (drop i ys) ≡ [] → leaves_128 (products xs ys) ≡ false
+pub stays_within : (xs ys : List ℤ) (i : ℕ) (s : ℤ) → IsAdded xs ys i s
+    → products (drop i xs) (drop i ys) ≡ [] → leaves_128 (products xs ys) ≡ false
 stays_within xs ys i s so_far end = ap not (so_far.on_the_way ∙ ap (λ ps. list_all fits_128 (sums_from s ps)) end)
 
-pub all_added : (xs ys : List ℤ) (i : ℕ) (s : ℤ) → IsAdded xs ys i s → products (drop i xs) (drop i ys) ≡ [] → s ≡ total (products xs ys)
+pub all_added : (xs ys : List ℤ) (i : ℕ) (s : ℤ) → IsAdded xs ys i s
+    → products (drop i xs) (drop i ys) ≡ [] → s ≡ total (products xs ys)
 all_added xs ys i s so_far end = sym (so_far.whole ∙ ap (λ ps. s +ℤ total ps) end ∙ to_zero s)
 
 -- ---- the a[i] for which b[i] is true
@@ -114,9 +119,11 @@ where_true_none : (xs : List ℤ) → where_true xs [] ≡ []
 where_true_none [] = refl
 where_true_none (x ∷ xs) = refl
 
-pub none_true_left : (xs : List ℤ) (bs : List Bool) (i : ℕ) → (length xs ≤ i) ⊎ (length bs ≤ i) → where_true (drop i xs) (drop i bs) ≡ []
+pub none_true_left : (xs : List ℤ) (bs : List Bool) (i : ℕ) → (length xs ≤ i) ⊎ (length bs ≤ i)
+    → where_true (drop i xs) (drop i bs) ≡ []
 none_true_left xs bs i (inl end) = ap (λ l. where_true l (drop i bs)) (none_left xs i end)
 none_true_left xs bs i (inr end) = ap (λ l. where_true (drop i xs) l) (none_left bs i end) ∙ where_true_none (drop i xs)
 
-pub all_counted : (xs : List ℤ) (bs : List Bool) (i : ℕ) (s : ℤ) → IsCounted xs bs i s → where_true (drop i xs) (drop i bs) ≡ [] → s ≡ total (where_true xs bs)
+pub all_counted : (xs : List ℤ) (bs : List Bool) (i : ℕ) (s : ℤ) → IsCounted xs bs i s
+    → where_true (drop i xs) (drop i bs) ≡ [] → s ≡ total (where_true xs bs)
 all_counted xs bs i s so_far end = sym (so_far.whole ∙ ap (λ ps. s +ℤ total ps) end ∙ to_zero s)

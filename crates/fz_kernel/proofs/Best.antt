@@ -22,14 +22,16 @@ abbrev pub is_best : (ℤ → ℤ → Bool) → ℤ → List ℤ → Bool
 is_best below m xs = is_among m xs && list_all (λ x. below x m) xs
 
 module _ (below : ℤ → ℤ → Bool) (order : IsOrder below) where
-  all_below : (m n : ℤ) (xs : List ℤ) → below m n ≡ true → list_all (λ x. below x m) xs ≡ true → list_all (λ x. below x n) xs ≡ true
+  all_below : (m n : ℤ) (xs : List ℤ) → below m n ≡ true → list_all (λ x. below x m) xs ≡ true
+      → list_all (λ x. below x n) xs ≡ true
   all_below m n [] up e = refl
   all_below m n (x ∷ xs) up e =
       and_both (below x n) (list_all (λ y. below y n) xs)
       (order.steps x m n (and_first (below x m) (list_all (λ y. below y m) xs) e) up)
       (all_below m n xs up (and_second (below x m) (list_all (λ y. below y m) xs) e))
 
-  below_when_listed : (m a : ℤ) (xs : List ℤ) → list_all (λ x. below x m) xs ≡ true → is_among a xs ≡ true → below a m ≡ true
+  below_when_listed : (m a : ℤ) (xs : List ℤ) → list_all (λ x. below x m) xs ≡ true
+      → is_among a xs ≡ true → below a m ≡ true
   below_when_listed m a [] all one = no one
   below_when_listed m a (x ∷ xs) all one =
       elim (x =ℤ a) as (λ b. (x =ℤ a) ≡ b → (b || is_among a xs) ≡ true → below a m ≡ true) [
@@ -37,14 +39,17 @@ module _ (below : ℤ → ℤ → Bool) (order : IsOrder below) where
         | false ↦ λ _ later. below_when_listed m a xs (and_second (below x m) (list_all (λ y. below y m) xs) all) later
       ] refl one
 
-  pub first_is_best : (xs : List ℤ) (x : ℤ) → slice_get xs 0 ≡ Some x → is_best below x (take 1 xs) ≡ true
+  pub first_is_best : (xs : List ℤ) (x : ℤ) → slice_get xs 0 ≡ Some x
+      → is_best below x (take 1 xs) ≡ true
   first_is_best [] x at = cc
   first_is_best (y ∷ ys) x at =
       let same : y ≡ x = cc in
       rw same (and_both ((x =ℤ x) || false) (below x x && true) (ap (λ b. b || false) (int_itself x)) (and_both (below x x) true (order.itself x) refl))
 
   -- one more element: the best is the better of the two
-  pub better : (xs : List ℤ) (i : ℕ) (m n x : ℤ) → slice_get xs i ≡ Some x → is_best below m (take i xs) ≡ true → below m n ≡ true → below x n ≡ true → (n ≡ m) ⊎ (n ≡ x) → is_best below n (take (i + 1) xs) ≡ true
+  pub better : (xs : List ℤ) (i : ℕ) (m n x : ℤ) → slice_get xs i ≡ Some x
+      → is_best below m (take i xs) ≡ true → below m n ≡ true → below x n ≡ true → (n ≡ m) ⊎ (n ≡ x)
+      → is_best below n (take (i + 1) xs) ≡ true
   better xs i m n x at best up up_x which =
       let inside : i < length xs = slice_get_within xs i x at in
       let here : get_or xs i x ≡ x = get_or_from_slice_get xs i x x at in
@@ -59,12 +64,14 @@ module _ (below : ℤ → ℤ → Bool) (order : IsOrder below) where
       or_second true q e = refl
       or_second false q e = e
 
-      listed : is_among m (take i xs) ≡ true → (n ≡ m) ⊎ (n ≡ x) → (is_among n (take i xs) || (x =ℤ n)) ≡ true
+      listed : is_among m (take i xs) ≡ true → (n ≡ m) ⊎ (n ≡ x)
+          → (is_among n (take i xs) || (x =ℤ n)) ≡ true
       listed among (inl same) = rw same (ap (λ b. b || (x =ℤ m)) among)
       listed among (inr same) = rw same (or_second (is_among x (take i xs)) (x =ℤ x) (int_itself x))
 
   -- there is no other
-  pub is_the_best : (xs : List ℤ) (m a : ℤ) → is_best below m xs ≡ true → (a =ℤ m) ≡ is_best below a xs
+  pub is_the_best : (xs : List ℤ) (m a : ℤ) → is_best below m xs ≡ true
+      → (a =ℤ m) ≡ is_best below a xs
   is_the_best xs m a best =
       both_ways (a =ℤ m) (is_best below a xs)
       (λ same. subst (λ n. is_best below n xs ≡ true) (sym (same_int a m same)) best)
@@ -110,8 +117,12 @@ max_is_one a b = grind (arith, ints)
 pub min_is_one : (a b : ℤ) → (int_min a b ≡ a) ⊎ (int_min a b ≡ b)
 min_is_one a b = grind (arith, ints)
 
-pub one_more_up : (xs : List ℤ) (i : ℕ) (m n x : ℤ) → slice_get xs i ≡ Some x → is_best not_above m (take i xs) ≡ true → n ≡ int_max m x → is_best not_above n (take (i + 1) xs) ≡ true
+pub one_more_up : (xs : List ℤ) (i : ℕ) (m n x : ℤ) → slice_get xs i ≡ Some x
+    → is_best not_above m (take i xs) ≡ true → n ≡ int_max m x
+    → is_best not_above n (take (i + 1) xs) ≡ true
 one_more_up xs i m n x at best is = rw is (better not_above upward xs i m (int_max m x) x at best (below_max m x) (below_max' m x) (max_is_one m x))
 
-pub one_more_down : (xs : List ℤ) (i : ℕ) (m n x : ℤ) → slice_get xs i ≡ Some x → is_best not_below m (take i xs) ≡ true → n ≡ int_min m x → is_best not_below n (take (i + 1) xs) ≡ true
+pub one_more_down : (xs : List ℤ) (i : ℕ) (m n x : ℤ) → slice_get xs i ≡ Some x
+    → is_best not_below m (take i xs) ≡ true → n ≡ int_min m x
+    → is_best not_below n (take (i + 1) xs) ≡ true
 one_more_down xs i m n x at best is = rw is (better not_below downward xs i m (int_min m x) x at best (above_min m x) (above_min' m x) (min_is_one m x))

@@ -1,4 +1,5 @@
--- Numbers are all different exactly where each is counted once at most. So their order doesn't matter; and where they rise, neighbours tell.
+-- Numbers are all different exactly where each is counted once at most. So their order doesn't
+-- matter; and where they rise, neighbours tell.
 use Rattle.std.proofs.Common.{◌≡◌, ℕ, suc, zero, ◌+◌, ◌<◌, ◌≤◌, ℤ, ◌<ℤ◌, ◌≤ℤ◌, Bool, true, false, not, cond, ◌&&◌, ◌||◌, List, [], ◌∷◌, length, get_or, drop, Some, slice_get, refl, sym, ap, subst, ◌∙◌, arith, add-one}
 use Rattle.std.specs.List.{count_by}
 use Rattle.std.specs.List.Sorted.{IsPermutation, IsSorted}
@@ -56,7 +57,8 @@ different_counted (x ∷ xs) once =
     fewer a false h = h
 
 -- the order of the numbers doesn't matter
-pub all_different-permutation : (xs ys : List ℤ) → IsPermutation xs ys → all_different xs ≡ all_different ys
+pub all_different-permutation : (xs ys : List ℤ) → IsPermutation xs ys
+    → all_different xs ≡ all_different ys
 all_different-permutation xs ys moved =
     both_ways (all_different xs) (all_different ys)
     (λ e. different_counted ys (λ a. subst (λ n. n ≤ 1) (alike a) (counted_once xs e a)))
@@ -90,7 +92,9 @@ rise_different (x ∷ xs) up =
     and_both (not (is_among x xs)) (all_different xs) (ap not (none_above x x xs (omega (arith, ints)) up)) (rise_different xs (rise_tail x xs up))
 
 -- numbers in order of which no two neighbours are equal
-pub neighbours_tell : (xs : List ℤ) → IsSorted int_cmp xs → ((k : ℕ) (d : ℤ) → k + 1 < length xs → (get_or xs k d =ℤ get_or xs (k + 1) d) ≡ false) → all_different xs ≡ true
+pub neighbours_tell : (xs : List ℤ) → IsSorted int_cmp xs
+    → ((k : ℕ) (d : ℤ) → k + 1 < length xs → (get_or xs k d =ℤ get_or xs (k + 1) d) ≡ false)
+    → all_different xs ≡ true
 neighbours_tell xs sorted apart = rise_different xs (λ k d h. step k d h)
   where
     step : Rise xs
@@ -99,12 +103,14 @@ neighbours_tell xs sorted apart = rise_different xs (λ k d h. step k d h)
         let other : (get_or xs k d ≡ get_or xs (k + 1) d) → ⊥ = λ same. no' (sym ((Decides-int_eq (get_or xs k d) (get_or xs (k + 1) d)).1 same) ∙ apart k d (omega arith)) in
         subst (λ n. get_or xs k d <ℤ get_or xs n d) (add-one k) (omega (arith, ints, other))
 
-same_listed : (xs : List ℤ) (k : ℕ) (d a : ℤ) → k < length xs → get_or xs k d ≡ a → is_among a xs ≡ true
+same_listed : (xs : List ℤ) (k : ℕ) (d a : ℤ) → k < length xs → get_or xs k d ≡ a
+    → is_among a xs ≡ true
 same_listed [] k d a h e = absurd (omega arith)
 same_listed (x ∷ xs) zero d a h e = ap (λ s. s || is_among a xs) ((Decides-int_eq x a).1 e)
 same_listed (x ∷ xs) (suc k) d a h e = elim (x =ℤ a) as (λ s. (s || is_among a xs) ≡ true) [ true ↦ refl | false ↦ same_listed xs k d a (omega arith) e ]
 
-two_equal : (xs : List ℤ) (k : ℕ) (d : ℤ) → suc k < length xs → get_or xs k d ≡ get_or xs (suc k) d → all_different xs ≡ false
+two_equal : (xs : List ℤ) (k : ℕ) (d : ℤ) → suc k < length xs → get_or xs k d ≡ get_or xs (suc k) d
+    → all_different xs ≡ false
 two_equal [] k d h e = absurd (omega arith)
 two_equal (x ∷ xs) zero d h e = ap (λ s. not s && all_different xs) (same_listed xs 0 d x (omega arith) (sym e))
 two_equal (x ∷ xs) (suc k) d h e = ap (λ s. not (is_among x xs) && s) (two_equal xs k d (omega arith) e) ∙ and_false (not (is_among x xs))
@@ -114,21 +120,27 @@ two_equal (x ∷ xs) (suc k) d h e = ap (λ s. not (is_among x xs) && s) (two_eq
     and_false false = refl
 
 -- two neighbours that are equal
-pub neighbours_equal : (xs : List ℤ) (k j : ℕ) (d : ℤ) → j ≡ k + 1 → j < length xs → get_or xs k d ≡ get_or xs j d → all_different xs ≡ false
+pub neighbours_equal : (xs : List ℤ) (k j : ℕ) (d : ℤ) → j ≡ k + 1 → j < length xs
+    → get_or xs k d ≡ get_or xs j d → all_different xs ≡ false
 neighbours_equal xs k j d is h e = two_equal xs k d (omega arith) (e ∙ ap (λ n. get_or xs n d) (is ∙ add-one k))
 
 -- ---- pair by pair
 
 -- the element at a place stands again behind it
-pub found_again : (xs : List ℤ) (i : ℕ) (x : ℤ) → all_different xs ≡ all_different (drop i xs) → slice_get xs i ≡ Some x → is_among x (drop (i + 1) xs) ≡ true → false ≡ all_different xs
+pub found_again : (xs : List ℤ) (i : ℕ) (x : ℤ) → all_different xs ≡ all_different (drop i xs)
+    → slice_get xs i ≡ Some x → is_among x (drop (i + 1) xs) ≡ true → false ≡ all_different xs
 found_again xs i x so_far at again = sym (so_far ∙ ap all_different (next xs i x at) ∙ ap (λ s. not s && all_different (drop (i + 1) xs)) again)
 
 -- or it doesn't
-pub not_again : (xs : List ℤ) (i : ℕ) (x : ℤ) → all_different xs ≡ all_different (drop i xs) → slice_get xs i ≡ Some x → is_among x (drop (i + 1) xs) ≡ false → all_different xs ≡ all_different (drop (i + 1) xs)
+pub not_again : (xs : List ℤ) (i : ℕ) (x : ℤ) → all_different xs ≡ all_different (drop i xs)
+    → slice_get xs i ≡ Some x → is_among x (drop (i + 1) xs) ≡ false
+    → all_different xs ≡ all_different (drop (i + 1) xs)
 not_again xs i x so_far at once = so_far ∙ ap all_different (next xs i x at) ∙ ap (λ s. not s && all_different (drop (i + 1) xs)) once
 
-pub stands_here : (xs : List ℤ) (i : ℕ) (x n : ℤ) (r : Bool) → r ≡ is_among n (drop i xs) → slice_get xs i ≡ Some x → x ≡ n → true ≡ r
+pub stands_here : (xs : List ℤ) (i : ℕ) (x n : ℤ) (r : Bool) → r ≡ is_among n (drop i xs)
+    → slice_get xs i ≡ Some x → x ≡ n → true ≡ r
 stands_here xs i x n r so_far at same = sym (so_far ∙ ap (is_among n) (next xs i x at) ∙ ap (λ s. s || is_among n (drop (i + 1) xs)) ((Decides-int_eq x n).1 same))
 
-pub stands_elsewhere : (xs : List ℤ) (i : ℕ) (x n : ℤ) (r : Bool) → r ≡ is_among n (drop i xs) → slice_get xs i ≡ Some x → ¬ (x ≡ n) → r ≡ is_among n (drop (i + 1) xs)
+pub stands_elsewhere : (xs : List ℤ) (i : ℕ) (x n : ℤ) (r : Bool) → r ≡ is_among n (drop i xs)
+    → slice_get xs i ≡ Some x → ¬ (x ≡ n) → r ≡ is_among n (drop (i + 1) xs)
 stands_elsewhere xs i x n r so_far at other = so_far ∙ ap (is_among n) (next xs i x at) ∙ ap (λ s. s || is_among n (drop (i + 1) xs)) (elim (x =ℤ n) as (λ s. (x =ℤ n) ≡ s → s ≡ false) [ true ↦ λ e. absurd (other ((Decides-int_eq x n).0 e)) | false ↦ λ _. refl ] refl)

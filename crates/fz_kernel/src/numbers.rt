@@ -1,4 +1,4 @@
-// Whole numbers: the exact results of the builtins' arithmetic, and the relations made of them.
+// Integers: the exact results of the builtins' arithmetic, and the relations made of them.
 ghost use Rattle.std.specs.Prelude.{◌≡◌, pos, ◌+ℤ◌, ◌*ℤ◌, int_div, int_rem, unsigned_abs, IfSome, IfNone, not, ◌&&◌};
 ghost use Rattle.std.specs.Int.{int_min, int_max};
 ghost use Rattle.fz_meaning.specs.Values.{◌=ℤ◌};
@@ -51,7 +51,8 @@ pub fn quotient(a: i64, b: i64) -> Option<i128>
     Some(i128::from(a) / i128::from(b))
 }
 
-/// What is left when the quotient is rounded toward zero: it has the sign of `a`. None where the divisor is 0.
+/// What is left when the quotient is rounded toward zero: it has the sign of `a`. None where the
+/// divisor is 0.
 pub fn remainder(a: i64, b: i64) -> Option<i128>
     ensures exact { IfSome result (λ r. r ≡ int_rem a b) }
     ensures none { IfNone result (b ≡ pos 0) }

@@ -1,5 +1,5 @@
--- The tokens ahead of a place are what stands there: each step of the lexer takes the first of them, and those of a
--- source without a fault are the ones that it lexes to.
+-- The tokens ahead of a place are what stands there: each step of the lexer takes the first of
+-- them, and those of a source without a fault are the ones that it lexes to.
 use Rattle.std.proofs.Common.{◌≡◌, ◌≢◌, ℕ, zero, suc, ◌+◌, ◌<◌, ◌≤◌, ◌^◌, List, [], ◌∷◌, ◌++◌, length, drop, get_or, ℤ, pos, negsuc, Option, Some, None, true, false, eqb, ⊎_elim, refl, sym, ap, ◌∙◌, subst, arith}
 use Rattle.std.specs.Prelude.{Result, Ok, Err, IfOk, IfErr, OnOk, IsOk}
 use Rattle.std.specs.Result.{result_unwrap_or}
@@ -30,7 +30,8 @@ use Rattle.fz_lex.proofs.Lexed.{all_right, only_fault}
 pub data IsStop (source : List ℕ) (place : ℕ) : Type 0 where
   at_end : place ≡ length source → IsStop source place
   at_fault : place < length source → NothingBegins (drop place source) → IsStop source place
-  at_large : (n : ℕ) (z : ℤ) → place < length source → IsLongestSpelling (drop place source) n (Whole z) → (¬ (IsWithinLimit z)) → IsStop source place
+  at_large : (n : ℕ) (z : ℤ) → place < length source → IsLongestSpelling (drop place source) n
+      (Whole z) → (¬ (IsWithinLimit z)) → IsStop source place
 
 -- the tokens from a place on, up to where nothing more is read
 pub record AreAhead (source : List ℕ) (place stop : ℕ) (tokens : List SpannedToken) : Type 0 where
@@ -45,34 +46,40 @@ stop_within (at_end e) = omega arith
 stop_within (at_fault h n) = omega arith
 stop_within (at_large n z h l o) = omega arith
 
-no_more : {source : List ℕ} {p q : ℕ} {R : List SpannedToken} → IsStop source p → q ≤ length source → CutBetween source p q R → AreWithinLimit R → R ≡ []
+no_more : {source : List ℕ} {p q : ℕ} {R : List SpannedToken} → IsStop source p → q ≤ length source
+    → CutBetween source p q R → AreWithinLimit R → R ≡ []
 no_more (at_end e) h c w = cut_stays c (omega arith)
 no_more {source} {p} {q} (at_fault k n) h c w = ⊎_elim (λ l. absurd (no_cut_from c l n)) (λ l. cut_stays c l) (cases_lt p q)
 no_more {source} {p} {q} (at_large m z k l o) h c w = ⊎_elim (λ less. absurd (no_limit_from m z c less l o w)) (λ less. cut_stays c less) (cases_lt p q)
 
-ahead_before : (source : List ℕ) (p s t : ℕ) (S T : List SpannedToken) → (a : AreAhead source p s S) (b : AreAhead source p t T) → s ≤ t → S ≡ T
+ahead_before : (source : List ℕ) (p s t : ℕ) (S T : List SpannedToken)
+    → (a : AreAhead source p s S) (b : AreAhead source p t T) → s ≤ t → S ≡ T
 ahead_before source p s t S T a b h =
     let d = cut_continues a.cut b.cut h in
     let all : AreWithinLimit (S ++ d.rest) = subst AreWithinLimit d.is b.numbers in
     let none_left = no_more a.stopped (stop_within b.stopped) d.cut (all_right (λ t. IsTokenWithinLimit t.token) S d.rest all) in
     sym (d.is ∙ (ap (λ R. S ++ R) none_left ∙ append-nil S))
 
-pub ahead_once : (source : List ℕ) (p s t : ℕ) (S T : List SpannedToken) → AreAhead source p s S → AreAhead source p t T → S ≡ T
+pub ahead_once : (source : List ℕ) (p s t : ℕ) (S T : List SpannedToken) → AreAhead source p s S
+    → AreAhead source p t T → S ≡ T
 ahead_once source p s t S T a b = ⊎_elim (λ h. ahead_before source p s t S T a b (omega arith)) (λ h. sym (ahead_before source p t s T S b a h)) (cases_lt s t)
 
-no_way : {source : List ℕ} {p q : ℕ} {R : List SpannedToken} → IsStop source p → p < q → q ≤ length source → CutBetween source p q R → AreWithinLimit R → ⊥
+no_way : {source : List ℕ} {p q : ℕ} {R : List SpannedToken} → IsStop source p → p < q
+    → q ≤ length source → CutBetween source p q R → AreWithinLimit R → ⊥
 no_way (at_end e) h k c w = omega arith
 no_way (at_fault l n) h k c w = no_cut_from c h n
 no_way (at_large m z l o f) h k c w = no_limit_from m z c h o f w
 
 -- nothing is read past a stop
-stop_before : (source : List ℕ) (p s t : ℕ) (S T : List SpannedToken) → AreAhead source p s S → AreAhead source p t T → s < t → ⊥
+stop_before : (source : List ℕ) (p s t : ℕ) (S T : List SpannedToken) → AreAhead source p s S
+    → AreAhead source p t T → s < t → ⊥
 stop_before source p s t S T a b h =
     let d = cut_continues a.cut b.cut (omega arith) in
     let all : AreWithinLimit (S ++ d.rest) = subst AreWithinLimit d.is b.numbers in
     no_way a.stopped h (stop_within b.stopped) d.cut (all_right (λ t. IsTokenWithinLimit t.token) S d.rest all)
 
-pub stop_once : (source : List ℕ) (p s t : ℕ) (S T : List SpannedToken) → AreAhead source p s S → AreAhead source p t T → s ≡ t
+pub stop_once : (source : List ℕ) (p s t : ℕ) (S T : List SpannedToken) → AreAhead source p s S
+    → AreAhead source p t T → s ≡ t
 stop_once source p s t S T a b =
     ⊎_elim (λ h. absurd (stop_before source p s t S T a b h)) (λ h. ⊎_elim (λ k. absurd (stop_before source p t s T S b a k)) (λ k. omega arith) (cases_lt t s)) (cases_lt s t)
 
@@ -96,13 +103,16 @@ comment_within (b ∷ rest) =
     let shorter = comment_within rest in
     ⊎_elim (λ h. rw h (omega arith)) (λ h. rw h (omega arith)) (cases_Bool (is_line_feed b))
 
-before_end : (source : List ℕ) (place b : ℕ) → place ≤ length source → get_or source place 0 ≡ b → 0 < b → place < length source
+before_end : (source : List ℕ) (place b : ℕ) → place ≤ length source → get_or source place 0 ≡ b
+    → 0 < b → place < length source
 before_end source place b h e p = ⊎_elim (λ l. l) (λ l. absurd (let past = get_or_past source place 0 l in omega arith)) (cases_lt place (length source))
 
-blank_before_end : (source : List ℕ) (place : ℕ) → is_blank (get_or source place 0) ≡ true → place < length source
+blank_before_end : (source : List ℕ) (place : ℕ) → is_blank (get_or source place 0) ≡ true
+    → place < length source
 blank_before_end source place b = ⊎_elim (λ l. l) (λ l. absurd (let past = get_or_past source place 0 l in let f = rw past at b in cc f)) (cases_lt place (length source))
 
-gap_is : (room : ℕ) (source : List ℕ) (place : ℕ) → place ≤ length source → length source ≤ place + room → IsGap source place (gap_from room source place)
+gap_is : (room : ℕ) (source : List ℕ) (place : ℕ) → place ≤ length source
+    → length source ≤ place + room → IsGap source place (gap_from room source place)
 unfolding gap_from
 gap_is zero source place h r = gap_at_end source place (omega arith)
 gap_is (suc room) source place h r =
@@ -143,7 +153,8 @@ token_within (StringText text) h = tt
 token_within (Marked m) h = tt
 
 -- a token outside the limit stops the list
-stop_at_token : (source : List ℕ) (start n : ℕ) (t : TokenValue) → start < length source → IsLongestSpelling (drop start source) n t → is_within t ≡ false → IsStop source start
+stop_at_token : (source : List ℕ) (start n : ℕ) (t : TokenValue) → start < length source
+    → IsLongestSpelling (drop start source) n t → is_within t ≡ false → IsStop source start
 stop_at_token source start n (Word text) h l o = absurd (cc o)
 stop_at_token source start n (Whole z) h l o = at_large n z h l (whole_outside z o)
 stop_at_token source start n (FloatText text) h l o = absurd (cc o)
@@ -151,7 +162,8 @@ stop_at_token source start n (StringText text) h l o = absurd (cc o)
 stop_at_token source start n (Marked m) h l o = absurd (cc o)
 
 -- what is found behind the gap, and the tokens from its end on
-ahead_at : (source : List ℕ) (place start : ℕ) (rest : ℕ → List SpannedToken) (stop : ℕ → ℕ) (front : FrontToken) → IsGap source place start → front_of (drop start source) ≡ front
+ahead_at : (source : List ℕ) (place start : ℕ) (rest : ℕ → List SpannedToken) (stop : ℕ → ℕ)
+    (front : FrontToken) → IsGap source place start → front_of (drop start source) ≡ front
     → ((end : ℕ) → start < end → end ≤ length source → AreAhead source end (stop end) (rest end)) → AreAhead source place (stop_at stop start front) (tokens_at rest start front)
 ahead_at source place start rest stop none g f r =
     ⊎_elim
@@ -180,7 +192,9 @@ ahead_at source place start rest stop (found t n) g f r =
     (λ w. rw w (record { cut = g.cut; numbers = tt; stopped = stop_at_token source start n t (omega arith) l w }))
     (cases_Bool (is_within t))
 
-ahead_from : (room : ℕ) (source : List ℕ) (place : ℕ) → place ≤ length source → length source ≤ place + room → AreAhead source place (stop_from room source place) (tokens_from room source place)
+ahead_from : (room : ℕ) (source : List ℕ) (place : ℕ) → place ≤ length source
+    → length source ≤ place + room
+    → AreAhead source place (stop_from room source place) (tokens_from room source place)
 unfolding tokens_from stop_from
 ahead_from zero source place h r = record { cut = nothing place; numbers = tt; stopped = at_end (omega arith) }
 ahead_from (suc room) source place h r =
@@ -188,49 +202,64 @@ ahead_from (suc room) source place h r =
     let g = gap_is (length source) source place h (omega arith) in
     ahead_at source place start (λ end. tokens_from room source end) (λ end. stop_from room source end) (front_of (drop start source)) g refl (λ end l w. ahead_from room source end w (let f = cut_forward g.cut in omega arith))
 
-pub ahead_is : (source : List ℕ) (place : ℕ) → place ≤ length source → AreAhead source place (stop_ahead source place) (tokens_ahead source place)
+pub ahead_is : (source : List ℕ) (place : ℕ) → place ≤ length source
+    → AreAhead source place (stop_ahead source place) (tokens_ahead source place)
 ahead_is source place h = ahead_from (length source) source place h (omega arith)
 
 -- what is known from elsewhere to be ahead of a place
-pub ahead_same : (source : List ℕ) (place stop : ℕ) (tokens : List SpannedToken) → place ≤ length source → AreAhead source place stop tokens → tokens_ahead source place ≡ tokens
+pub ahead_same : (source : List ℕ) (place stop : ℕ) (tokens : List SpannedToken)
+    → place ≤ length source → AreAhead source place stop tokens → tokens_ahead source place ≡ tokens
 ahead_same source place stop tokens h a = ahead_once source place _ _ _ _ (ahead_is source place h) a
 
-pub stop_same : (source : List ℕ) (place stop : ℕ) (tokens : List SpannedToken) → place ≤ length source → AreAhead source place stop tokens → stop_ahead source place ≡ stop
+pub stop_same : (source : List ℕ) (place stop : ℕ) (tokens : List SpannedToken)
+    → place ≤ length source → AreAhead source place stop tokens → stop_ahead source place ≡ stop
 stop_same source place stop tokens h a = stop_once source place _ _ _ _ (ahead_is source place h) a
 
 -- ---- The lexer's steps.
 
-step_ahead : (source : List ℕ) (place end : ℕ) (t : SpannedToken) → end ≤ length source → CutBetween source place end (t ∷ []) → IsTokenWithinLimit t.token → AreAhead source place (stop_ahead source end) (t ∷ tokens_ahead source end)
+step_ahead : (source : List ℕ) (place end : ℕ) (t : SpannedToken) → end ≤ length source
+    → CutBetween source place end (t ∷ []) → IsTokenWithinLimit t.token
+    → AreAhead source place (stop_ahead source end) (t ∷ tokens_ahead source end)
 step_ahead source place end t k c w = let a = ahead_is source end k in record { cut = cut_then c a.cut; numbers = (w, a.numbers); stopped = a.stopped }
 
-pub ahead_token : (source : List ℕ) (place end : ℕ) (t : Token) → place ≤ length source → end ≤ length source → NextFrom source place end (Some t) → tokens_ahead source place ≡ spanned t ∷ tokens_ahead source end
+pub ahead_token : (source : List ℕ) (place end : ℕ) (t : Token) → place ≤ length source
+    → end ≤ length source → NextFrom source place end (Some t)
+    → tokens_ahead source place ≡ spanned t ∷ tokens_ahead source end
 ahead_token source place end t h k n = ahead_same source place _ _ h (step_ahead source place end (spanned t) k n.0 n.1)
 
 -- behind a token reading stops where it stops from that token on
-pub stop_stays : (source : List ℕ) (place end : ℕ) (t : SpannedToken) → place ≤ length source → end ≤ length source → CutBetween source place end (t ∷ []) → IsTokenWithinLimit t.token → stop_ahead source end ≡ stop_ahead source place
+pub stop_stays : (source : List ℕ) (place end : ℕ) (t : SpannedToken) → place ≤ length source
+    → end ≤ length source → CutBetween source place end (t ∷ []) → IsTokenWithinLimit t.token
+    → stop_ahead source end ≡ stop_ahead source place
 stop_stays source place end t h k c w = sym (stop_same source place _ _ h (step_ahead source place end t k c w))
 
-pub ahead_comma : (source : List ℕ) (place : ℕ) → place < length source → get_or source place 0 ≡ 44 → tokens_ahead source place ≡ comma_at place ∷ tokens_ahead source (place + 1)
+pub ahead_comma : (source : List ℕ) (place : ℕ) → place < length source → get_or source place 0 ≡ 44
+    → tokens_ahead source place ≡ comma_at place ∷ tokens_ahead source (place + 1)
 ahead_comma source place h b = ahead_same source place _ _ (omega arith) (step_ahead source place (place + 1) (comma_at place) (omega arith) (comma_cut source place h b) tt)
 
-none_ahead : (source : List ℕ) (place end : ℕ) → NextFrom source place end None → AreAhead source place (length source) []
+none_ahead : (source : List ℕ) (place end : ℕ) → NextFrom source place end None
+    → AreAhead source place (length source) []
 none_ahead source place end n = record { cut = n; numbers = tt; stopped = at_end refl }
 
-pub ahead_none : (source : List ℕ) (place end : ℕ) → place ≤ length source → NextFrom source place end None → tokens_ahead source place ≡ []
+pub ahead_none : (source : List ℕ) (place end : ℕ) → place ≤ length source
+    → NextFrom source place end None → tokens_ahead source place ≡ []
 ahead_none source place end h n = ahead_same source place _ _ h (none_ahead source place end n)
 
-bad_ahead : (source : List ℕ) (place : ℕ) (span : Span) → FaultFrom source place (BadByte span) → AreAhead source place span.start []
+bad_ahead : (source : List ℕ) (place : ℕ) (span : Span) → FaultFrom source place (BadByte span)
+    → AreAhead source place span.start []
 bad_ahead source place span f =
     let n = f.1 in
     record { cut = f.0; numbers = tt; stopped = at_fault (omega (arith, n.a_byte, length-drop span.start source)) n }
 
-large_ahead : (source : List ℕ) (place : ℕ) (span : Span) → FaultFrom source place (TooLarge span) → AreAhead source place span.start []
+large_ahead : (source : List ℕ) (place : ℕ) (span : Span) → FaultFrom source place (TooLarge span)
+    → AreAhead source place span.start []
 large_ahead source place span f =
     let l = f.3 in
     let positive = longest_is_positive _ _ _ l in
     record { cut = f.2; numbers = tt; stopped = at_large f.0 f.1 (omega (arith, l.within, positive, length-drop span.start source)) l f.4 }
 
-pub ahead_fault : (source : List ℕ) (place : ℕ) (e : SyntaxError) → place ≤ length source → FaultFrom source place e → tokens_ahead source place ≡ []
+pub ahead_fault : (source : List ℕ) (place : ℕ) (e : SyntaxError) → place ≤ length source
+    → FaultFrom source place e → tokens_ahead source place ≡ []
 ahead_fault source place TooLong h f = absurd f
 ahead_fault source place (BadByte span) h f = ahead_same source place _ _ h (bad_ahead source place span f)
 ahead_fault source place (TooLarge span) h f = ahead_same source place _ _ h (large_ahead source place span f)
@@ -241,24 +270,35 @@ ahead_fault source place (TooMany span) h f = absurd f
 ahead_fault source place Memory h f = absurd f
 
 -- what a reader has left after a step of the lexer: the tokens ahead of where the lexer was
-pub step_leaves : (source : List ℕ) (place end : ℕ) (r : Result (Option Token) SyntaxError) → place ≤ length source → end ≤ length source → IfOk r (NextFrom source place end) → IfErr r (FaultFrom source place) → first_and (result_unwrap_or r None) (tokens_ahead source end) ≡ tokens_ahead source place
+pub step_leaves : (source : List ℕ) (place end : ℕ) (r : Result (Option Token) SyntaxError)
+    → place ≤ length source → end ≤ length source → IfOk r (NextFrom source place end)
+    → IfErr r (FaultFrom source place)
+    → first_and (result_unwrap_or r None) (tokens_ahead source end) ≡ tokens_ahead source place
 step_leaves source place end (Ok (Some t)) h k n f = sym (ahead_token source place end t h k n)
 step_leaves source place end (Ok None) h k n f = sym (ahead_none source place end h n)
 step_leaves source place end (Err e) h k n f = sym (ahead_fault source place e h f)
 
--- ---- Where a source is cut up to is where reading stops, and the tokens before are those ahead of its first byte.
+-- ---- where reading stops
+--
+-- Where a source is cut up to is where reading stops, and the tokens before are those ahead of its
+-- first byte.
 
-cut_to : (source : List ℕ) (s : ℕ) → stop_ahead source 0 ≡ s → CutBetween source 0 s (tokens_ahead source 0)
+cut_to : (source : List ℕ) (s : ℕ) → stop_ahead source 0 ≡ s
+    → CutBetween source 0 s (tokens_ahead source 0)
 cut_to source s e = let a = ahead_is source 0 (omega arith) in subst (λ n. CutBetween source 0 n (tokens_ahead source 0)) e a.cut
 
 numbers_to : (source : List ℕ) → AreWithinLimit (tokens_ahead source 0)
 numbers_to source = let a = ahead_is source 0 (omega arith) in a.numbers
 
-pub end_scanned : (source : List ℕ) (place end : ℕ) → place ≤ length source → stop_ahead source place ≡ stop_ahead source 0 → NextFrom source place end None → IsScanned source
+pub end_scanned : (source : List ℕ) (place end : ℕ) → place ≤ length source
+    → stop_ahead source place ≡ stop_ahead source 0 → NextFrom source place end None
+    → IsScanned source
 end_scanned source place end h same n =
     (tokens_ahead source 0, cut_to source (length source) (sym same ∙ stop_same source place _ _ h (none_ahead source place end n)), numbers_to source)
 
-pub fault_scanned : (source : List ℕ) (place : ℕ) (e : SyntaxError) → place ≤ length source → stop_ahead source place ≡ stop_ahead source 0 → FaultFrom source place e → IsLexicalFault source e
+pub fault_scanned : (source : List ℕ) (place : ℕ) (e : SyntaxError) → place ≤ length source
+    → stop_ahead source place ≡ stop_ahead source 0 → FaultFrom source place e
+    → IsLexicalFault source e
 fault_scanned source place TooLong h same f = absurd f
 fault_scanned source place (BadByte span) h same f =
     (tokens_ahead source 0, cut_to source span.start (sym same ∙ stop_same source place _ _ h (bad_ahead source place span f)), numbers_to source, f.1, f.2)
@@ -276,27 +316,34 @@ ahead_in_order source =
     let a = ahead_is source 0 (omega arith) in
     in_order_upto 0 (stop_ahead source 0) (length source) (tokens_ahead source 0) (stop_within a.stopped) (cut_ordered a.cut)
 
-pub ahead_spelled : (source : List ℕ) → AllByRecursion (IsSpelledAtSpan source) (tokens_ahead source 0)
+pub ahead_spelled : (source : List ℕ)
+    → AllByRecursion (IsSpelledAtSpan source) (tokens_ahead source 0)
 ahead_spelled source = let a = ahead_is source 0 (omega arith) in cut_spelled a.cut
 
 -- ---- A source without a fault lexes to the tokens ahead of its first byte.
 
-pub lexed_ahead : (source : List ℕ) (tokens : List SpannedToken) → LexesToSpanned source tokens → AreWithinLimit tokens → tokens ≡ tokens_ahead source 0
+pub lexed_ahead : (source : List ℕ) (tokens : List SpannedToken) → LexesToSpanned source tokens
+    → AreWithinLimit tokens → tokens ≡ tokens_ahead source 0
 lexed_ahead source tokens l w =
     ahead_once source 0 _ _ _ _ (record { cut = l; numbers = w; stopped = at_end refl }) (ahead_is source 0 (omega arith))
 
-pub scanned_lexes : (source : List ℕ) (r : Result (Unit {0}) SyntaxError) → length source ≤ most_bytes → OnOk r (IsScanned source) → OnOk r (LexesWithinLimits source (tokens_ahead source 0))
+pub scanned_lexes : (source : List ℕ) (r : Result (Unit {0}) SyntaxError)
+    → length source ≤ most_bytes → OnOk r (IsScanned source)
+    → OnOk r (LexesWithinLimits source (tokens_ahead source 0))
 scanned_lexes source (Err e) h s = s
 scanned_lexes source (Ok v) h s = subst (LexesWithinLimits source) (lexed_ahead source s.0 s.1 s.2) (record { short = h; lexes = s.1; numbers = s.2 })
 
-pub only_scanned : (source : List ℕ) (T : List SpannedToken) (r : Result (Unit {0}) SyntaxError) → LexesWithinLimits source T → IfErr r (IsScanFault source) → IsOk r
+pub only_scanned : (source : List ℕ) (T : List SpannedToken) (r : Result (Unit {0}) SyntaxError)
+    → LexesWithinLimits source T → IfErr r (IsScanFault source) → IsOk r
 only_scanned source T (Ok v) h f = refl
 only_scanned source T (Err e) h f = absurd (f.1 (only_fault source T h e f.0))
 
-pub scanned_lexed : (source : List ℕ) (r : Result (Unit {0}) SyntaxError) → OnOk r (IsScanned source) → OnOk r (LexesToSpanned source (tokens_ahead source 0))
+pub scanned_lexed : (source : List ℕ) (r : Result (Unit {0}) SyntaxError)
+    → OnOk r (IsScanned source) → OnOk r (LexesToSpanned source (tokens_ahead source 0))
 scanned_lexed source (Err e) s = s
 scanned_lexed source (Ok v) s = subst (LexesToSpanned source) (lexed_ahead source s.0 s.1 s.2) s.1
 
-pub scanned_numbers : (source : List ℕ) (r : Result (Unit {0}) SyntaxError) → OnOk r (IsScanned source) → OnOk r (AreWithinLimit (tokens_ahead source 0))
+pub scanned_numbers : (source : List ℕ) (r : Result (Unit {0}) SyntaxError)
+    → OnOk r (IsScanned source) → OnOk r (AreWithinLimit (tokens_ahead source 0))
 scanned_numbers source (Err e) s = s
 scanned_numbers source (Ok v) s = numbers_to source

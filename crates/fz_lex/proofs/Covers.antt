@@ -1,4 +1,5 @@
--- What the scanner counts is at least as long as any text that stands there, and is it where it is no longer.
+-- What the scanner counts is at least as long as any text that stands there, and is it where it is
+-- no longer.
 use Rattle.std.proofs.Common.{◌≡◌, ◌≢◌, ℕ, suc, ◌+◌, ◌<◌, ◌≤◌, List, [], ◌∷◌, ◌++◌, length, drop, get_or, true, false, eqb, ◌&&◌, ◌||◌, Option, Some, None, option_map, ◌⊎◌, ⊎_elim, inl, inr, refl, sym, ap, ◌∙◌, subst, arith}
 use Rattle.std.specs.Prelude.{codes}
 use Rattle.std.specs.List.{list_all}
@@ -14,11 +15,13 @@ use Rattle.fz_lex.proofs.Runs.{digits_cover, first_digit}
 use Rattle.fz_lex.proofs.StringRest.{quote_first, plain_first, escape_first}
 
 -- the first digit is the first byte, whatever follows
-pub starts_with_digit : (base : ℕ) (b after : List ℕ) → AreDigits base b → is_digit (get_or (b ++ after) 0 0) base ≡ true
+pub starts_with_digit : (base : ℕ) (b after : List ℕ) → AreDigits base b
+    → is_digit (get_or (b ++ after) 0 0) base ≡ true
 starts_with_digit base b after d = rw (get_or_append_left b after 0 0 d.0) (first_digit base b d)
 
 -- a byte that is no digit ends the digits
-digits_end : (b tail : List ℕ) → AreDigits 10 b → is_digit (get_or tail 0 0) 10 ≡ false → digits_len 10 (b ++ tail) ≡ length b
+digits_end : (b tail : List ℕ) → AreDigits 10 b → is_digit (get_or tail 0 0) 10 ≡ false
+    → digits_len 10 (b ++ tail) ≡ length b
 digits_end b [] d e = digits_cover 10 b [] d ∙ omega arith
 digits_end b (c ∷ tail) d e = digits_cover 10 b (c ∷ tail) d ∙ rw e (omega arith)
 
@@ -26,28 +29,34 @@ digit_not_sign : (c : ℕ) → is_digit c 10 ≡ true → (eqb c 43 || eqb c 45)
 digit_not_sign c h = grind (arith, nat_tests)
 
 -- an exponent that stands there
-signed_plain : (digits after : List ℕ) → AreDigits 10 digits → signed_digits_len (digits ++ after) ≡ length digits + digits_len 10 after
+signed_plain : (digits after : List ℕ) → AreDigits 10 digits
+    → signed_digits_len (digits ++ after) ≡ length digits + digits_len 10 after
 unfolding signed_digits_len
 signed_plain digits after d =
     let digit = starts_with_digit 10 digits after d in
     let count = digits_cover 10 digits after d in
     rw (digit_not_sign (get_or (digits ++ after) 0 0) digit, digit) (omega arith)
 
-signed_plus : (digits after : List ℕ) → AreDigits 10 digits → signed_digits_len (43 ∷ (digits ++ after)) ≡ 1 + (length digits + digits_len 10 after)
+signed_plus : (digits after : List ℕ) → AreDigits 10 digits
+    → signed_digits_len (43 ∷ (digits ++ after)) ≡ 1 + (length digits + digits_len 10 after)
 unfolding signed_digits_len
 signed_plus digits after d =
     let digit = starts_with_digit 10 digits after d in
     let count = digits_cover 10 digits after d in
     rw digit (omega arith)
 
-signed_minus : (digits after : List ℕ) → AreDigits 10 digits → signed_digits_len (45 ∷ (digits ++ after)) ≡ 1 + (length digits + digits_len 10 after)
+signed_minus : (digits after : List ℕ) → AreDigits 10 digits
+    → signed_digits_len (45 ∷ (digits ++ after)) ≡ 1 + (length digits + digits_len 10 after)
 unfolding signed_digits_len
 signed_minus digits after d =
     let digit = starts_with_digit 10 digits after d in
     let count = digits_cover 10 digits after d in
     rw digit (omega arith)
 
-signed_covers : (sign digits after : List ℕ) → (sign ≡ []) ⊎ ((sign ≡ codes "+") ⊎ (sign ≡ codes "-")) → AreDigits 10 digits → signed_digits_len (sign ++ (digits ++ after)) ≡ length sign + (length digits + digits_len 10 after)
+signed_covers : (sign digits after : List ℕ) → (sign ≡ [])
+    ⊎ ((sign ≡ codes "+") ⊎ (sign ≡ codes "-")) → AreDigits 10 digits
+    → signed_digits_len (sign ++ (digits ++ after))
+    ≡ length sign + (length digits + digits_len 10 after)
 signed_covers sign digits after s d =
     let P : List ℕ → Type 0 = λ x. signed_digits_len (x ++ (digits ++ after)) ≡ length x + (length digits + digits_len 10 after) in
     let plain = signed_plain digits after d in
@@ -58,20 +67,25 @@ signed_covers sign digits after s d =
     (λ s. ⊎_elim (λ e. subst P (sym e) (omega arith)) (λ e. subst P (sym e) (omega arith)) s)
     s
 
-exponent_behind : (n : ℕ) (rest : List ℕ) → 0 < n → signed_digits_len rest ≡ n → (exponent_len (101 ∷ rest) ≡ 1 + n) × (exponent_len (69 ∷ rest) ≡ 1 + n)
+exponent_behind : (n : ℕ) (rest : List ℕ) → 0 < n → signed_digits_len rest ≡ n
+    → (exponent_len (101 ∷ rest) ≡ 1 + n) × (exponent_len (69 ∷ rest) ≡ 1 + n)
 unfolding exponent_len
 exponent_behind n rest h k =
     let some = ne_eqb (signed_digits_len rest) 0 (λ z. absurd (omega arith)) in
     (rw some (omega arith), rw some (omega arith))
 
-exponent_covers_at : (letter sign digits after : List ℕ) → (letter ≡ codes "e") ⊎ (letter ≡ codes "E") → (sign ≡ []) ⊎ ((sign ≡ codes "+") ⊎ (sign ≡ codes "-")) → AreDigits 10 digits → exponent_len (letter ++ (sign ++ (digits ++ after))) ≡ length letter + (length sign + (length digits + digits_len 10 after))
+exponent_covers_at : (letter sign digits after : List ℕ) → (letter ≡ codes "e")
+    ⊎ (letter ≡ codes "E") → (sign ≡ []) ⊎ ((sign ≡ codes "+") ⊎ (sign ≡ codes "-"))
+    → AreDigits 10 digits → exponent_len (letter ++ (sign ++ (digits ++ after)))
+    ≡ length letter + (length sign + (length digits + digits_len 10 after))
 exponent_covers_at letter sign digits after l s d =
     let P : List ℕ → Type 0 = λ x. exponent_len (x ++ (sign ++ (digits ++ after))) ≡ length x + (length sign + (length digits + digits_len 10 after)) in
     let some = d.0 in
     let behind = exponent_behind (length sign + (length digits + digits_len 10 after)) (sign ++ (digits ++ after)) (omega arith) (signed_covers sign digits after s d) in
     ⊎_elim (λ e. subst P (sym e) behind.0) (λ e. subst P (sym e) behind.1) l
 
-pub exponent_covers : (exponent after : List ℕ) → IsExponent exponent → exponent_len (exponent ++ after) ≡ length exponent + digits_len 10 after
+pub exponent_covers : (exponent after : List ℕ) → IsExponent exponent
+    → exponent_len (exponent ++ after) ≡ length exponent + digits_len 10 after
 exponent_covers exponent after e =
     let covers = exponent_covers_at e.letter e.sign e.digits after e.is_letter e.is_sign e.are_digits in
     let split : exponent ++ after ≡ e.letter ++ (e.sign ++ (e.digits ++ after)) = ap (λ x. x ++ after) e.is_whole ∙ (append_assoc e.letter (e.sign ++ e.digits) after ∙ ap (λ x. e.letter ++ x) (append_assoc e.sign e.digits after)) in
@@ -79,7 +93,8 @@ exponent_covers exponent after e =
     rw split (omega arith)
 
 -- what an exponent begins with
-exponent_first : (exponent after : List ℕ) → IsExponent exponent → (get_or (exponent ++ after) 0 0 ≡ 101) ⊎ (get_or (exponent ++ after) 0 0 ≡ 69)
+exponent_first : (exponent after : List ℕ) → IsExponent exponent
+    → (get_or (exponent ++ after) 0 0 ≡ 101) ⊎ (get_or (exponent ++ after) 0 0 ≡ 69)
 exponent_first exponent after e =
     let split = ap (λ x. get_or (x ++ after) 0 0) e.is_whole in
     let first : (c : ℕ) → e.letter ≡ c ∷ [] → get_or (exponent ++ after) 0 0 ≡ c = λ c l. split ∙ ap (λ x. get_or ((x ++ (e.sign ++ e.digits)) ++ after) 0 0) l in
@@ -96,7 +111,8 @@ pub record EndsNumber (after : List ℕ) : Type 0 where
 no_word_no_digit : (base c : ℕ) → base ≤ 36 → is_word_byte c ≡ false → is_digit c base ≡ false
 no_word_no_digit base c h n = grind (arith, nat_tests)
 
-no_more_digits : (base : ℕ) (after : List ℕ) → base ≤ 36 → EndsNumber after → digits_len base after ≡ 0
+no_more_digits : (base : ℕ) (after : List ℕ) → base ≤ 36 → EndsNumber after
+    → digits_len base after ≡ 0
 no_more_digits base [] h e = refl
 no_more_digits base (c ∷ rest) h e = rw (no_word_no_digit base c h e.no_word) refl
 
@@ -108,14 +124,16 @@ unfolding exponent_len
 no_exponent [] e = refl
 no_exponent (c ∷ rest) e = rw (no_word_no_letter c e.no_word) refl
 
--- the number at the front is at least as long as a number that stands there, and as long where that ends
+-- the number at the front is at least as long as a number that stands there, and as long where that
+-- ends
 pub record NumberCovers (b after : List ℕ) (natural : Option ℕ) (front : NumberFront) : Type 0 where
   pub long : length b ≤ front.len
   pub same : front.len ≡ length b → front.natural ≡ natural
   pub ends : EndsNumber after → front.len ≡ length b
 
 -- behind digits no base stands, unless they are one digit and a letter
-not_based : (b : List ℕ) (c letter base : ℕ) (tail : List ℕ) → AreDigits 10 b → is_digit letter 10 ≡ false → c ≢ letter → is_based letter base (b ++ (c ∷ tail)) ≡ false
+not_based : (b : List ℕ) (c letter base : ℕ) (tail : List ℕ) → AreDigits 10 b
+    → is_digit letter 10 ≡ false → c ≢ letter → is_based letter base (b ++ (c ∷ tail)) ≡ false
 not_based [] c letter base tail d l n = absurd (omega (arith, d.0))
 not_based (x ∷ []) c letter base tail d l n = and_right (eqb x 48) _ (and_left (eqb c letter) _ (ne_eqb c letter n))
 not_based (x ∷ (y ∷ rest)) c letter base tail d l n =
@@ -124,7 +142,8 @@ not_based (x ∷ (y ∷ rest)) c letter base tail d l n =
     and_right (eqb x 48) _ (and_left (eqb y letter) _ (ne_eqb y letter (λ e. let f = rw e at second in cc)))
 
 -- where a base stands, only one decimal digit is there
-based_short : (b after : List ℕ) (letter base : ℕ) → AreDigits 10 b → is_digit letter 10 ≡ false → is_based letter base (b ++ after) ≡ true → length b ≤ 1
+based_short : (b after : List ℕ) (letter base : ℕ) → AreDigits 10 b → is_digit letter 10 ≡ false
+    → is_based letter base (b ++ after) ≡ true → length b ≤ 1
 based_short [] after letter base d l h = omega arith
 based_short (x ∷ []) after letter base d l h = omega arith
 based_short (x ∷ (y ∷ rest)) after letter base d l h =
@@ -135,7 +154,8 @@ based_short (x ∷ (y ∷ rest)) after letter base d l h =
     let f = rw e at second in
     absurd (cc f)
 
-based_ends : (b after : List ℕ) (letter base : ℕ) → AreDigits 10 b → is_digit letter 10 ≡ false → is_word_byte letter ≡ true → is_based letter base (b ++ after) ≡ true → EndsNumber after → ⊥
+based_ends : (b after : List ℕ) (letter base : ℕ) → AreDigits 10 b → is_digit letter 10 ≡ false
+    → is_word_byte letter ≡ true → is_based letter base (b ++ after) ≡ true → EndsNumber after → ⊥
 based_ends [] after letter base d l w h e = omega (arith, d.0)
 based_ends (x ∷ []) after letter base d l w h e =
     let tests = and_parts (eqb x 48) (eqb (get_or after 0 0) letter && is_digit (get_or after 1 0) base) h in
@@ -146,7 +166,8 @@ based_ends (x ∷ (y ∷ rest)) after letter base d l w h e =
     let short = based_short (x ∷ (y ∷ rest)) after letter base d l h in
     omega arith
 
-decimal_covers : (b after : List ℕ) → AreDigits 10 b → NumberCovers b after (Some (number_of 10 b)) (decimal_number (b ++ after))
+decimal_covers : (b after : List ℕ) → AreDigits 10 b
+    → NumberCovers b after (Some (number_of 10 b)) (decimal_number (b ++ after))
 decimal_covers b after d =
     let bytes = b ++ after in
     let w = digits_len 10 bytes in
@@ -175,7 +196,8 @@ decimal_covers b after d =
     }))
     (cases_Bool (eqb (p + s) 0))
 
-natural_covers_decimal : (b after : List ℕ) → AreDigits 10 b → NumberCovers b after (Some (number_of 10 b)) (number_front (b ++ after))
+natural_covers_decimal : (b after : List ℕ) → AreDigits 10 b
+    → NumberCovers b after (Some (number_of 10 b)) (number_front (b ++ after))
 unfolding number_front
 natural_covers_decimal b after d =
     ⊎_elim
@@ -191,7 +213,9 @@ natural_covers_decimal b after d =
     (cases_Bool (is_based 111 8 (b ++ after)))))
     (cases_Bool (is_based 120 16 (b ++ after)))
 
-based_covers : (base x y : ℕ) (digits after : List ℕ) → base ≤ 36 → AreDigits base digits → NumberCovers (x ∷ (y ∷ digits)) after (Some (number_of base digits)) (based_number base (x ∷ (y ∷ (digits ++ after))))
+based_covers : (base x y : ℕ) (digits after : List ℕ) → base ≤ 36 → AreDigits base digits
+    → NumberCovers (x ∷ (y ∷ digits)) after (Some (number_of base digits))
+    (based_number base (x ∷ (y ∷ (digits ++ after))))
 based_covers base x y digits after h d =
     let count = digits_cover base digits after d in
     record {
@@ -200,27 +224,39 @@ based_covers base x y digits after h d =
       ends = λ e. let more = no_more_digits base after h e in omega arith;
     }
 
-hexadecimal_covers : (digits after : List ℕ) → AreDigits 16 digits → NumberCovers (codes "0x" ++ digits) after (Some (number_of 16 digits)) (number_front ((codes "0x" ++ digits) ++ after))
+hexadecimal_covers : (digits after : List ℕ) → AreDigits 16 digits
+    → NumberCovers (codes "0x" ++ digits) after (Some (number_of 16 digits))
+    (number_front ((codes "0x" ++ digits) ++ after))
 unfolding number_front
 hexadecimal_covers digits after d = rw (starts_with_digit 16 digits after d) (based_covers 16 48 120 digits after (omega arith) d)
 
-octal_covers : (digits after : List ℕ) → AreDigits 8 digits → NumberCovers (codes "0o" ++ digits) after (Some (number_of 8 digits)) (number_front ((codes "0o" ++ digits) ++ after))
+octal_covers : (digits after : List ℕ) → AreDigits 8 digits
+    → NumberCovers (codes "0o" ++ digits) after (Some (number_of 8 digits))
+    (number_front ((codes "0o" ++ digits) ++ after))
 unfolding number_front
 octal_covers digits after d = rw (starts_with_digit 8 digits after d) (based_covers 8 48 111 digits after (omega arith) d)
 
-pub natural_covers : (b after : List ℕ) (n : ℕ) → WritesNatural b n → NumberCovers b after (Some n) (number_front (b ++ after))
+pub natural_covers : (b after : List ℕ) (n : ℕ) → WritesNatural b n
+    → NumberCovers b after (Some n) (number_front (b ++ after))
 natural_covers b after n (decimal d e) = rw e (natural_covers_decimal b after d)
 natural_covers b after n (hexadecimal digits t d e) = rw (e, t) (hexadecimal_covers digits after d)
 natural_covers b after n (octal digits t d e) = rw (e, t) (octal_covers digits after d)
 
 -- a float that stands there: what the digits before the point or the exponent leave
-tail_number : (before : List ℕ) (c : ℕ) (tail : List ℕ) → AreDigits 10 before → is_digit c 10 ≡ false → c ≢ 120 → c ≢ 111 → number_front (before ++ (c ∷ tail)) ≡ decimal_number (before ++ (c ∷ tail))
+tail_number : (before : List ℕ) (c : ℕ) (tail : List ℕ) → AreDigits 10 before
+    → is_digit c 10 ≡ false → c ≢ 120 → c ≢ 111
+    → number_front (before ++ (c ∷ tail)) ≡ decimal_number (before ++ (c ∷ tail))
 unfolding number_front
 tail_number before c tail d n x o =
     rw (not_based before c 120 16 tail d refl x, not_based before c 111 8 tail d refl o) refl
 
 -- what is read behind the digits of a number
-behind_digits : (before : List ℕ) (c : ℕ) (tail : List ℕ) → AreDigits 10 before → is_digit c 10 ≡ false → c ≢ 120 → c ≢ 111 → 0 < fraction_len (c ∷ tail) + exponent_len (drop (fraction_len (c ∷ tail)) (c ∷ tail)) → (length before + fraction_len (c ∷ tail) + exponent_len (drop (fraction_len (c ∷ tail)) (c ∷ tail)) ≡ (number_front (before ++ (c ∷ tail))).len) × ((number_front (before ++ (c ∷ tail))).natural ≡ None)
+behind_digits : (before : List ℕ) (c : ℕ) (tail : List ℕ) → AreDigits 10 before
+    → is_digit c 10 ≡ false → c ≢ 120 → c ≢ 111 → 0 < fraction_len (c ∷ tail) + exponent_len
+    (drop (fraction_len (c ∷ tail)) (c ∷ tail)) → (length before + fraction_len
+    (c ∷ tail) + exponent_len (drop (fraction_len (c ∷ tail)) (c ∷ tail))
+    ≡ (number_front (before ++ (c ∷ tail))).len)
+    × ((number_front (before ++ (c ∷ tail))).natural ≡ None)
 behind_digits before c tail d n x o some =
     let rest = c ∷ tail in
     let w_is = digits_end before rest d n in
@@ -234,11 +270,13 @@ no_digits : (xs : List ℕ) → is_digit (get_or xs 0 0) 10 ≡ false → digits
 no_digits [] e = refl
 no_digits (x ∷ xs) e = rw e refl
 
-fraction_value : (digits rest : List ℕ) → AreDigits 10 digits → fraction_len (46 ∷ (digits ++ rest)) ≡ 1 + (length digits + digits_len 10 rest)
+fraction_value : (digits rest : List ℕ) → AreDigits 10 digits
+    → fraction_len (46 ∷ (digits ++ rest)) ≡ 1 + (length digits + digits_len 10 rest)
 unfolding fraction_len
 fraction_value digits rest d = rw (starts_with_digit 10 digits rest d) (ap (λ n. 1 + n) (digits_cover 10 digits rest d))
 
-exponent_no_digit : (exponent after : List ℕ) → IsExponent exponent → is_digit (get_or (exponent ++ after) 0 0) 10 ≡ false
+exponent_no_digit : (exponent after : List ℕ) → IsExponent exponent
+    → is_digit (get_or (exponent ++ after) 0 0) 10 ≡ false
 exponent_no_digit exponent after e =
     ⊎_elim (λ f. rw f refl) (λ f. rw f refl) (exponent_first exponent after e)
 
@@ -246,7 +284,10 @@ no_fraction : (c : ℕ) (tail : List ℕ) → c ≢ 46 → fraction_len (c ∷ t
 unfolding fraction_len
 no_fraction c tail n = rw (ne_eqb c 46 n) refl
 
-pointed_covers : (before digits exponent after : List ℕ) → AreDigits 10 before → AreDigits 10 digits → (exponent ≡ []) ⊎ IsExponent exponent → NumberCovers (before ++ (codes "." ++ (digits ++ exponent))) after None (number_front (before ++ (46 ∷ (digits ++ (exponent ++ after)))))
+pointed_covers : (before digits exponent after : List ℕ) → AreDigits 10 before → AreDigits 10 digits
+    → (exponent ≡ []) ⊎ IsExponent exponent → NumberCovers
+    (before ++ (codes "." ++ (digits ++ exponent))) after None
+    (number_front (before ++ (46 ∷ (digits ++ (exponent ++ after)))))
 pointed_covers before digits exponent after d f e =
     let tail = digits ++ (exponent ++ after) in
     let value = fraction_value digits (exponent ++ after) f in
@@ -283,7 +324,8 @@ pointed_covers before digits exponent after d f e =
           e;
     }
 
-scaled_covers : (before exponent after : List ℕ) → AreDigits 10 before → IsExponent exponent → NumberCovers (before ++ exponent) after None (number_front (before ++ (exponent ++ after)))
+scaled_covers : (before exponent after : List ℕ) → AreDigits 10 before → IsExponent exponent
+    → NumberCovers (before ++ exponent) after None (number_front (before ++ (exponent ++ after)))
 scaled_covers before [] after d e = absurd (let p = exponent_positive [] e in omega arith)
 scaled_covers before (c ∷ cs) after d e =
     let first = exponent_first (c ∷ cs) after e in
@@ -305,7 +347,8 @@ scaled_covers before (c ∷ cs) after d e =
       ends = λ n. let more = no_more_digits 10 after (omega arith) n in omega arith;
     }
 
-pub float_covers : (b after : List ℕ) → IsUnsignedFloat b → NumberCovers b after None (number_front (b ++ after))
+pub float_covers : (b after : List ℕ) → IsUnsignedFloat b
+    → NumberCovers b after None (number_front (b ++ after))
 float_covers b after (pointed before digits exponent t d f e) =
     let split : b ++ after ≡ before ++ (46 ∷ (digits ++ (exponent ++ after))) = ap (λ x. x ++ after) t ∙ (append_assoc before (codes "." ++ (digits ++ exponent)) after ∙ ap (λ x. before ++ (46 ∷ x)) (append_assoc digits exponent after)) in
     let covers = pointed_covers before digits exponent after d f e in
@@ -316,17 +359,20 @@ float_covers b after (scaled before exponent t d e) =
     subst (λ x. NumberCovers b after None (number_front x)) (sym split) (subst (λ x. NumberCovers x after None (number_front (before ++ (exponent ++ after)))) (sym t) covers)
 
 -- a number begins with a digit
-pub natural_digit : (b after : List ℕ) (n : ℕ) → WritesNatural b n → is_digit (get_or (b ++ after) 0 0) 10 ≡ true
+pub natural_digit : (b after : List ℕ) (n : ℕ) → WritesNatural b n
+    → is_digit (get_or (b ++ after) 0 0) 10 ≡ true
 natural_digit b after n (decimal d e) = starts_with_digit 10 b after d
 natural_digit b after n (hexadecimal digits t d e) = rw t refl
 natural_digit b after n (octal digits t d e) = rw t refl
 
-pub float_digit : (b after : List ℕ) → IsUnsignedFloat b → is_digit (get_or (b ++ after) 0 0) 10 ≡ true
+pub float_digit : (b after : List ℕ) → IsUnsignedFloat b
+    → is_digit (get_or (b ++ after) 0 0) 10 ≡ true
 float_digit b after (pointed before digits exponent t d f e) = subst (λ x. is_digit (get_or x 0 0) 10 ≡ true) (sym (ap (λ x. x ++ after) t ∙ append_assoc before _ after)) (starts_with_digit 10 before _ d)
 float_digit b after (scaled before exponent t d e) = subst (λ x. is_digit (get_or x 0 0) 10 ≡ true) (sym (ap (λ x. x ++ after) t ∙ append_assoc before _ after)) (starts_with_digit 10 before _ d)
 
 -- the rest of a string that stands there is all that is read of it
-pub string_covers : {rest : List ℕ} (after : List ℕ) → IsStringRest rest → string_rest_len (rest ++ after) ≡ Some (length rest)
+pub string_covers : {rest : List ℕ} (after : List ℕ) → IsStringRest rest
+    → string_rest_len (rest ++ after) ≡ Some (length rest)
 string_covers after (closed b e) = quote_first b after e
 string_covers after (plain b rest q s l k) =
     plain_first b (rest ++ after) q l s ∙ (ap (option_map (λ n. 1 + n)) (string_covers after k) ∙ ap Some (omega arith))

@@ -15,15 +15,21 @@ decimal_digit b l h = grind (arith, nat_tests)
 pub digit_no_word_start : (b : ℕ) → 48 ≤ b → b < 58 → is_word_start b ≡ false
 digit_no_word_start b l h = grind (arith, nat_tests)
 
-pub front_natural : (bytes : List ℕ) → is_word_start (get_or bytes 0 0) ≡ false → is_digit (get_or bytes 0 0) 10 ≡ true → front_of bytes ≡ number_token false (number_front bytes).len bytes (number_front bytes).natural
+pub front_natural : (bytes : List ℕ) → is_word_start (get_or bytes 0 0) ≡ false
+    → is_digit (get_or bytes 0 0) 10 ≡ true → front_of bytes
+    ≡ number_token false (number_front bytes).len bytes (number_front bytes).natural
 unfolding front_of
 front_natural bytes w d = rw (w, d) (ap (λ n. number_token false n bytes (number_front bytes).natural) (omega arith))
 
-pub front_negative : (bytes : List ℕ) → get_or bytes 0 0 ≡ 45 → is_digit (get_or bytes 1 0) 10 ≡ true → front_of bytes ≡ number_token true (1 + (number_front (drop 1 bytes)).len) bytes (number_front (drop 1 bytes)).natural
+pub front_negative : (bytes : List ℕ) → get_or bytes 0 0 ≡ 45
+    → is_digit (get_or bytes 1 0) 10 ≡ true → front_of bytes
+    ≡ number_token true (1 + (number_front (drop 1 bytes)).len) bytes
+    (number_front (drop 1 bytes)).natural
 unfolding front_of
 front_negative bytes e d = rw (e, d) refl
 
-byte_none : (bytes : List ℕ) (b : ℕ) → get_or bytes 0 0 ≡ b → (b ≡ 32) ⊎ ((b ≡ 9) ⊎ ((b ≡ 13) ⊎ ((b ≡ 10) ⊎ (b ≡ 37)))) → front_of bytes ≡ none
+byte_none : (bytes : List ℕ) (b : ℕ) → get_or bytes 0 0 ≡ b
+    → (b ≡ 32) ⊎ ((b ≡ 9) ⊎ ((b ≡ 13) ⊎ ((b ≡ 10) ⊎ (b ≡ 37)))) → front_of bytes ≡ none
 unfolding front_of mark_front
 byte_none bytes b e h =
     let byte_is : (n : ℕ) → b ≡ n → get_or bytes 0 0 ≡ n = λ n f. e ∙ f in
@@ -32,7 +38,8 @@ byte_none bytes b e h =
     (⊎_elim (λ f. rw (byte_is 13 f) refl)
     (⊎_elim (λ f. rw (byte_is 10 f) refl) (λ f. rw (byte_is 37 f) refl)))) h
 
-blank_cases : (b : ℕ) → is_blank b ≡ true → (b ≡ 32) ⊎ ((b ≡ 9) ⊎ ((b ≡ 13) ⊎ ((b ≡ 10) ⊎ (b ≡ 37))))
+blank_cases : (b : ℕ) → is_blank b ≡ true
+    → (b ≡ 32) ⊎ ((b ≡ 9) ⊎ ((b ≡ 13) ⊎ ((b ≡ 10) ⊎ (b ≡ 37))))
 blank_cases b h =
     ⊎_elim (λ h. ⊎_elim (λ h. ⊎_elim (λ h. inl (eqb-true b 32 h)) (λ h. inr (inl (eqb-true b 9 h))) (or_cases _ _ h)) (λ h. inr (inr (inl (eqb-true b 13 h)))) (or_cases _ _ h)) (λ h. inr (inr (inr (inl (eqb-true b 10 h))))) (or_cases _ _ h)
 
@@ -44,7 +51,8 @@ pub comment_none : (bytes : List ℕ) → get_or bytes 0 0 ≡ 37 → front_of b
 comment_none bytes h = byte_none bytes 37 h (inr (inr (inr (inr refl))))
 
 -- a mark that one byte decides
-pub lone_front : (bytes : List ℕ) (m : Mark) (b : ℕ) → mark_text m ≡ b ∷ [] → b ≢ 58 → get_or bytes 0 0 ≡ b → front_of bytes ≡ found (Marked m) 1
+pub lone_front : (bytes : List ℕ) (m : Mark) (b : ℕ) → mark_text m ≡ b ∷ [] → b ≢ 58
+    → get_or bytes 0 0 ≡ b → front_of bytes ≡ found (Marked m) 1
 unfolding front_of mark_front
 lone_front bytes OpenParen b t c e = let first : get_or bytes 0 0 ≡ 40 = cc in rw first refl
 lone_front bytes CloseParen b t c e = let first : get_or bytes 0 0 ≡ 41 = cc in rw first refl

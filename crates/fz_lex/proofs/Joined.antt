@@ -1,4 +1,5 @@
--- Texts of tokens joined end to end lex to the tokens, where none goes on in what follows it. For a printer.
+-- Texts of tokens joined end to end lex to the tokens, where none goes on in what follows it. For a
+-- printer.
 use Rattle.std.proofs.Common.{◌≡◌, ℕ, ◌+◌, ◌-◌, ◌<◌, ◌≤◌, List, [], ◌∷◌, ◌++◌, length, drop, get_or, map, true, refl, sym, ap, ◌∙◌, subst, arith}
 use Rattle.std.proofs.lemmas.List.{length-drop, length-append, drop-drop, drop_at}
 use Rattle.fz_lex.specs.Byte.{is_blank}
@@ -10,8 +11,10 @@ use Rattle.fz_lex.proofs.Cuts.{at_place}
 -- the bytes are blanks and texts of the tokens, none of which goes on in what follows it
 pub data Joins : List ℕ → List TokenValue → Type 0 where
   done : Joins [] []
-  gap : (b : ℕ) (rest : List ℕ) (T : List TokenValue) → is_blank b ≡ true → Joins rest T → Joins (b ∷ rest) T
-  text : (t : TokenValue) (b rest bytes : List ℕ) (T : List TokenValue) → bytes ≡ b ++ rest → Spells t b → EndsBefore t rest → Joins rest T → Joins bytes (t ∷ T)
+  gap : (b : ℕ) (rest : List ℕ) (T : List TokenValue) → is_blank b ≡ true → Joins rest T
+      → Joins (b ∷ rest) T
+  text : (t : TokenValue) (b rest bytes : List ℕ) (T : List TokenValue) → bytes ≡ b ++ rest
+      → Spells t b → EndsBefore t rest → Joins rest T → Joins bytes (t ∷ T)
 
 -- a cut to the end, into these tokens
 pub record CutsTo (source : List ℕ) (place : ℕ) (T : List TokenValue) : Type 0 where
@@ -19,7 +22,8 @@ pub record CutsTo (source : List ℕ) (place : ℕ) (T : List TokenValue) : Type
   pub cut : CutBetween source place (length source) spanned
   pub is : map (λ t. t.token) spanned ≡ T
 
-pub joins_cut : {bytes : List ℕ} {T : List TokenValue} (source : List ℕ) (place : ℕ) → Joins bytes T → drop place source ≡ bytes → place ≤ length source → CutsTo source place T
+pub joins_cut : {bytes : List ℕ} {T : List TokenValue} (source : List ℕ) (place : ℕ) → Joins bytes T
+    → drop place source ≡ bytes → place ≤ length source → CutsTo source place T
 joins_cut source place done e h =
     let at_end : place ≡ length source = omega (arith, ap length e, length-drop place source) in
     let none_left : CutBetween source place place [] = nothing place in

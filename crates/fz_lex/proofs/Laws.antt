@@ -53,13 +53,16 @@ digit_no_start b h = grind (arith, nat_tests)
 
 -- ---- What is found is spelled.
 
-found_same : (bytes : List ℕ) (t u : TokenValue) (m n : ℕ) → IsSpelled t m bytes → found t m ≡ found u n → IsSpelled u n bytes
+found_same : (bytes : List ℕ) (t u : TokenValue) (m n : ℕ) → IsSpelled t m bytes
+    → found t m ≡ found u n → IsSpelled u n bytes
 found_same bytes t u m n s e =
     let same : t ≡ u = cc e in
     let same_len : m ≡ n = cc e in
     subst (λ v. IsSpelled v n bytes) same (subst (λ k. IsSpelled t k bytes) same_len s)
 
-word_at : (bytes : List ℕ) → is_word_start (get_or bytes 0 0) ≡ true → IsSpelled (Word (take (prefix_len is_word_byte bytes) bytes)) (prefix_len is_word_byte bytes) bytes
+word_at : (bytes : List ℕ) → is_word_start (get_or bytes 0 0) ≡ true
+    → IsSpelled (Word (take (prefix_len is_word_byte bytes) bytes))
+    (prefix_len is_word_byte bytes) bytes
 word_at [] h = absurd (cc h)
 word_at (b ∷ rest) h =
     let byte = word_start_is_byte b h in
@@ -74,19 +77,24 @@ abbrev SignedText : Bool → Option ℕ → List ℕ → Type 0
 SignedText sign (Some n) bytes = WritesWhole bytes (signed sign n)
 SignedText sign None bytes = IsFloatText bytes
 
-unsigned_text : (natural : Option ℕ) (bytes : List ℕ) → NumberText natural bytes → SignedText false natural bytes
+unsigned_text : (natural : Option ℕ) (bytes : List ℕ) → NumberText natural bytes
+    → SignedText false natural bytes
 unsigned_text None bytes h = unsigned_float h
 unsigned_text (Some n) bytes h = unsigned n h refl
 
-negative_text : (natural : Option ℕ) (rest bytes : List ℕ) → bytes ≡ codes "-" ++ rest → NumberText natural rest → SignedText true natural bytes
+negative_text : (natural : Option ℕ) (rest bytes : List ℕ) → bytes ≡ codes "-" ++ rest
+    → NumberText natural rest → SignedText true natural bytes
 negative_text None rest bytes e h = negative_float rest e h
 negative_text (Some n) rest bytes e h = negative rest n e h refl
 
-number_spelled : (bytes : List ℕ) (sign : Bool) (len : ℕ) (natural : Option ℕ) (t : TokenValue) (n : ℕ) → 0 < len → len ≤ length bytes → SignedText sign natural (take len bytes) → number_token sign len bytes natural ≡ found t n → IsSpelled t n bytes
+number_spelled : (bytes : List ℕ) (sign : Bool) (len : ℕ) (natural : Option ℕ) (t : TokenValue)
+    (n : ℕ) → 0 < len → len ≤ length bytes → SignedText sign natural (take len bytes)
+    → number_token sign len bytes natural ≡ found t n → IsSpelled t n bytes
 number_spelled bytes sign len None t n p w s e = found_same bytes (FloatText (take len bytes)) t len n (record { positive = p; within = w; spelled = (refl, s) }) e
 number_spelled bytes sign len (Some m) t n p w s e = found_same bytes (Whole (signed sign m)) t len n (record { positive = p; within = w; spelled = s }) e
 
-natural_spelled : (bytes : List ℕ) (t : TokenValue) (n : ℕ) → is_digit (get_or bytes 0 0) 10 ≡ true → number_found false 0 bytes (number_front bytes) ≡ found t n → IsSpelled t n bytes
+natural_spelled : (bytes : List ℕ) (t : TokenValue) (n : ℕ) → is_digit (get_or bytes 0 0) 10 ≡ true
+    → number_found false 0 bytes (number_front bytes) ≡ found t n → IsSpelled t n bytes
 natural_spelled bytes t n d e =
     let at = number_at bytes d in
     let front = number_front bytes in
@@ -95,7 +103,9 @@ natural_spelled bytes t n d e =
     let within = at.within in
     number_spelled bytes false front.len front.natural t n positive within (unsigned_text front.natural (take front.len bytes) at.text) (sym (ap (λ k. number_token false k bytes front.natural) len) ∙ e)
 
-negative_spelled : (bytes : List ℕ) (t : TokenValue) (n : ℕ) → get_or bytes 0 0 ≡ 45 → is_digit (get_or bytes 1 0) 10 ≡ true → number_found true 1 bytes (number_front (drop 1 bytes)) ≡ found t n → IsSpelled t n bytes
+negative_spelled : (bytes : List ℕ) (t : TokenValue) (n : ℕ) → get_or bytes 0 0 ≡ 45
+    → is_digit (get_or bytes 1 0) 10 ≡ true
+    → number_found true 1 bytes (number_front (drop 1 bytes)) ≡ found t n → IsSpelled t n bytes
 negative_spelled [] t n m d e = absurd (omega arith)
 negative_spelled (b ∷ rest) t n m d e =
     let at = number_at rest d in
@@ -103,7 +113,9 @@ negative_spelled (b ∷ rest) t n m d e =
     let within = at.within in
     number_spelled (b ∷ rest) true (1 + front.len) front.natural t n (omega arith) (omega arith) (negative_text front.natural (take front.len rest) _ (take_one_more front.len b rest ∙ ap (λ x. x ∷ take front.len rest) m) at.text) e
 
-string_spelled : (bytes : List ℕ) (t : TokenValue) (n : ℕ) (len : Option ℕ) → get_or bytes 0 0 ≡ 34 → string_rest_len (drop 1 bytes) ≡ len → string_found bytes len ≡ found t n → IsSpelled t n bytes
+string_spelled : (bytes : List ℕ) (t : TokenValue) (n : ℕ) (len : Option ℕ) → get_or bytes 0 0 ≡ 34
+    → string_rest_len (drop 1 bytes) ≡ len → string_found bytes len ≡ found t n
+    → IsSpelled t n bytes
 string_spelled bytes t n None q l e = absurd (cc e)
 string_spelled [] t n (Some m) q l e = absurd (omega arith)
 string_spelled (b ∷ rest) t n (Some m) q l e =
@@ -112,13 +124,15 @@ string_spelled (b ∷ rest) t n (Some m) q l e =
     let is_text : IsStringText (b ∷ take m rest) = (q, at.text) in
     found_same (b ∷ rest) (StringText (take (1 + m) (b ∷ rest))) t (1 + m) n (record { positive = omega arith; within = omega arith; spelled = (refl, subst IsStringText (sym (take_one_more m b rest)) is_text) }) e
 
-mark_spelled : (bytes : List ℕ) (t : TokenValue) (n : ℕ) (m : Option (Mark × ℕ)) → mark_front bytes ≡ m → mark_found m ≡ found t n → IsSpelled t n bytes
+mark_spelled : (bytes : List ℕ) (t : TokenValue) (n : ℕ) (m : Option (Mark × ℕ))
+    → mark_front bytes ≡ m → mark_found m ≡ found t n → IsSpelled t n bytes
 mark_spelled bytes t n None l e = absurd (cc e)
 mark_spelled bytes t n (Some m) l e =
     let at = mark_at bytes m l in
     found_same bytes (Marked m.0) t m.1 n (record { positive = at.positive; within = at.within; spelled = at.text }) e
 
-pub front_spelled : (bytes : List ℕ) (t : TokenValue) (n : ℕ) → front_of bytes ≡ found t n → IsSpelled t n bytes
+pub front_spelled : (bytes : List ℕ) (t : TokenValue) (n : ℕ) → front_of bytes ≡ found t n
+    → IsSpelled t n bytes
 unfolding front_of
 front_spelled bytes t n e =
     let first = get_or bytes 0 0 in
@@ -134,11 +148,13 @@ front_spelled bytes t n e =
 
 -- ---- What is spelled is covered.
 
-no_word_bytes : (after : List ℕ) → is_word_byte (get_or after 0 0) ≡ false → prefix_len is_word_byte after ≡ 0
+no_word_bytes : (after : List ℕ) → is_word_byte (get_or after 0 0) ≡ false
+    → prefix_len is_word_byte after ≡ 0
 no_word_bytes [] e = refl
 no_word_bytes (c ∷ rest) e = rw e refl
 
-word_covers : (x : ℕ) (xs after : List ℕ) → IsWordText (x ∷ xs) → Covers (Word (x ∷ xs)) (x ∷ xs) after (front_of (x ∷ (xs ++ after)))
+word_covers : (x : ℕ) (xs after : List ℕ) → IsWordText (x ∷ xs)
+    → Covers (Word (x ∷ xs)) (x ∷ xs) after (front_of (x ∷ (xs ++ after)))
 unfolding front_of
 word_covers x xs after h =
     let start = h.0 in
@@ -154,7 +170,10 @@ word_covers x xs after h =
       ends = λ e. let none_more = no_word_bytes after e in omega arith;
     }
 
-token_covers : (t : TokenValue) (b after bytes : List ℕ) (sign : Bool) (len : ℕ) (got want : Option ℕ) → length b ≤ len → (len ≡ length b → got ≡ want) → (len ≡ length b → number_token sign len bytes want ≡ found t len) → (EndsBefore t after → len ≡ length b) → Covers t b after (number_token sign len bytes got)
+token_covers : (t : TokenValue) (b after bytes : List ℕ) (sign : Bool) (len : ℕ)
+    (got want : Option ℕ) → length b ≤ len → (len ≡ length b → got ≡ want)
+    → (len ≡ length b → number_token sign len bytes want ≡ found t len)
+    → (EndsBefore t after → len ≡ length b) → Covers t b after (number_token sign len bytes got)
 token_covers t b after bytes sign len None want l g w ends =
     record {
       token = FloatText (take len bytes);
@@ -175,32 +194,44 @@ token_covers t b after bytes sign len (Some m) want l g w ends =
     }
 
 -- a number without a sign, and one behind `-`
-unsigned_covers : (t : TokenValue) (b after : List ℕ) (want : Option ℕ) → is_digit (get_or (b ++ after) 0 0) 10 ≡ true → NumberCovers b after want (number_front (b ++ after)) → ((len : ℕ) → len ≡ length b → number_token false len (b ++ after) want ≡ found t len) → (EndsBefore t after → EndsNumber after) → Covers t b after (front_of (b ++ after))
+unsigned_covers : (t : TokenValue) (b after : List ℕ) (want : Option ℕ)
+    → is_digit (get_or (b ++ after) 0 0) 10 ≡ true → NumberCovers b after want
+    (number_front (b ++ after)) → ((len : ℕ) → len ≡ length b
+    → number_token false len (b ++ after) want ≡ found t len)
+    → (EndsBefore t after → EndsNumber after) → Covers t b after (front_of (b ++ after))
 unsigned_covers t b after want d c w ends =
     let front = number_front (b ++ after) in
     rw (front_natural (b ++ after) (digit_no_start (get_or (b ++ after) 0 0) d) d) (token_covers t b after (b ++ after) false front.len front.natural want c.long c.same (w front.len) (λ e. c.ends (ends e)))
 
-negative_covers : (t : TokenValue) (b after : List ℕ) (want : Option ℕ) → is_digit (get_or (b ++ after) 0 0) 10 ≡ true → NumberCovers b after want (number_front (b ++ after)) → ((len : ℕ) → len ≡ length (45 ∷ b) → number_token true len (45 ∷ (b ++ after)) want ≡ found t len) → (EndsBefore t after → EndsNumber after) → Covers t (45 ∷ b) after (front_of (45 ∷ (b ++ after)))
+negative_covers : (t : TokenValue) (b after : List ℕ) (want : Option ℕ)
+    → is_digit (get_or (b ++ after) 0 0) 10 ≡ true → NumberCovers b after want
+    (number_front (b ++ after)) → ((len : ℕ) → len ≡ length (45 ∷ b)
+    → number_token true len (45 ∷ (b ++ after)) want ≡ found t len)
+    → (EndsBefore t after → EndsNumber after)
+    → Covers t (45 ∷ b) after (front_of (45 ∷ (b ++ after)))
 negative_covers t b after want d c w ends =
     let front = number_front (b ++ after) in
     let long = c.long in
     rw (front_negative (45 ∷ (b ++ after)) refl d) (token_covers t (45 ∷ b) after (45 ∷ (b ++ after)) true (1 + front.len) front.natural want (omega arith) (λ e. c.same (omega arith)) (w (1 + front.len)) (λ e. let n = c.ends (ends e) in omega arith))
 
-whole_covers : (z : ℤ) (b after : List ℕ) → WritesWhole b z → Covers (Whole z) b after (front_of (b ++ after))
+whole_covers : (z : ℤ) (b after : List ℕ) → WritesWhole b z
+    → Covers (Whole z) b after (front_of (b ++ after))
 whole_covers z b after (unsigned n w e) =
     unsigned_covers (Whole z) b after (Some n) (natural_digit b after n w) (natural_covers b after n w) (λ len l. ap (λ y. found (Whole y) len) (sym e)) (λ e. e)
 whole_covers z b after (negative rest n t w e) =
     let covers = negative_covers (Whole z) rest after (Some n) (natural_digit rest after n w) (natural_covers rest after n w) (λ len l. ap (λ y. found (Whole y) len) (sym e)) (λ e. e) in
     subst (λ x. Covers (Whole z) x after (front_of (x ++ after))) (sym t) covers
 
-float_text_covers : (b after : List ℕ) → IsFloatText b → Covers (FloatText b) b after (front_of (b ++ after))
+float_text_covers : (b after : List ℕ) → IsFloatText b
+    → Covers (FloatText b) b after (front_of (b ++ after))
 float_text_covers b after (unsigned_float f) =
     unsigned_covers (FloatText b) b after None (float_digit b after f) (float_covers b after f) (λ len l. ap (λ y. found (FloatText y) len) (take_at b after len (sym l))) (λ e. e)
 float_text_covers b after (negative_float rest t f) =
     let covers = negative_covers (FloatText (45 ∷ rest)) rest after None (float_digit rest after f) (float_covers rest after f) (λ len l. ap (λ y. found (FloatText y) len) (take_at (45 ∷ rest) after len (sym l))) (λ e. e) in
     subst (λ x. Covers (FloatText x) x after (front_of (x ++ after))) (sym t) covers
 
-string_text_covers : (b : ℕ) (rest after : List ℕ) → IsStringText (b ∷ rest) → Covers (StringText (b ∷ rest)) (b ∷ rest) after (front_of ((b ∷ rest) ++ after))
+string_text_covers : (b : ℕ) (rest after : List ℕ) → IsStringText (b ∷ rest)
+    → Covers (StringText (b ∷ rest)) (b ∷ rest) after (front_of ((b ∷ rest) ++ after))
 unfolding front_of
 string_text_covers b rest after h =
     let covers = string_covers after h.1 in
@@ -223,7 +254,8 @@ colon_covers after =
     (λ h. rw h (record { token = Marked Colon; len = 1; is = refl; long = omega arith; same = λ e. refl; ends = λ e. refl }))
     (cases_Bool (eqb (get_or after 0 0) 58))
 
-mark_covers : (m : Mark) (after : List ℕ) → Covers (Marked m) (mark_text m) after (front_of (mark_text m ++ after))
+mark_covers : (m : Mark) (after : List ℕ)
+    → Covers (Marked m) (mark_text m) after (front_of (mark_text m ++ after))
 unfolding front_of mark_front
 mark_covers OpenParen after = record { token = Marked OpenParen; len = 1; is = refl; long = omega arith; same = λ e. refl; ends = λ e. refl }
 mark_covers CloseParen after = record { token = Marked CloseParen; len = 1; is = refl; long = omega arith; same = λ e. refl; ends = λ e. refl }
@@ -238,7 +270,8 @@ mark_covers ColonColon after = record { token = Marked ColonColon; len = 2; is =
 mark_covers Equals after = record { token = Marked Equals; len = 1; is = refl; long = omega arith; same = λ e. refl; ends = λ e. refl }
 mark_covers DotDot after = record { token = Marked DotDot; len = 2; is = refl; long = omega arith; same = λ e. refl; ends = λ e. refl }
 
-pub front_covers : (t : TokenValue) (b after : List ℕ) → Spells t b → Covers t b after (front_of (b ++ after))
+pub front_covers : (t : TokenValue) (b after : List ℕ) → Spells t b
+    → Covers t b after (front_of (b ++ after))
 front_covers (Word text) [] after h = absurd h.1
 front_covers (Word text) (x ∷ xs) after h = subst (λ y. Covers (Word y) (x ∷ xs) after (front_of (x ∷ (xs ++ after)))) h.0 (word_covers x xs after h.1)
 front_covers (Whole z) b after h = whole_covers z b after h
@@ -247,12 +280,14 @@ front_covers (StringText text) [] after h = absurd h.1
 front_covers (StringText text) (x ∷ xs) after h = subst (λ y. Covers (StringText y) (x ∷ xs) after (front_of (x ∷ (xs ++ after)))) h.0 (string_text_covers x xs after h.1)
 front_covers (Marked m) b after h = subst (λ y. Covers (Marked m) y after (front_of (y ++ after))) (sym h) (mark_covers m after)
 
-covers_take : (bytes : List ℕ) (t : TokenValue) (n : ℕ) → n ≤ length bytes → Spells t (take n bytes) → Covers t (take n bytes) (drop n bytes) (front_of bytes)
+covers_take : (bytes : List ℕ) (t : TokenValue) (n : ℕ) → n ≤ length bytes → Spells t (take n bytes)
+    → Covers t (take n bytes) (drop n bytes) (front_of bytes)
 covers_take bytes t n h s =
     let c = front_covers t (take n bytes) (drop n bytes) s in
     subst (λ x. Covers t (take n bytes) (drop n bytes) (front_of x)) (take-append-drop n bytes) c
 
-pub found_is_longest : (bytes : List ℕ) (t : TokenValue) (n : ℕ) → front_of bytes ≡ found t n → IsLongestSpelling bytes n t
+pub found_is_longest : (bytes : List ℕ) (t : TokenValue) (n : ℕ) → front_of bytes ≡ found t n
+    → IsLongestSpelling bytes n t
 found_is_longest bytes t n e =
     let s = front_spelled bytes t n e in
     record {
@@ -266,13 +301,15 @@ found_is_longest bytes t n e =
           omega arith;
     }
 
-pub none_begins : (bytes : List ℕ) → front_of bytes ≡ none → (t : TokenValue) (n : ℕ) → n ≤ length bytes → Spells t (take n bytes) → ⊥
+pub none_begins : (bytes : List ℕ) → front_of bytes ≡ none → (t : TokenValue) (n : ℕ)
+    → n ≤ length bytes → Spells t (take n bytes) → ⊥
 none_begins bytes e t n h s =
     let c = covers_take bytes t n h s in
     let i = c.is in
     cc (e, i)
 
-pub longest_is_found : (bytes : List ℕ) (t : TokenValue) (n : ℕ) → IsLongestSpelling bytes n t → front_of bytes ≡ found t n
+pub longest_is_found : (bytes : List ℕ) (t : TokenValue) (n : ℕ) → IsLongestSpelling bytes n t
+    → front_of bytes ≡ found t n
 longest_is_found bytes t n h =
     let c = covers_take bytes t n h.within h.spelled in
     let s = front_spelled bytes c.token c.len c.is in
@@ -284,11 +321,13 @@ longest_is_found bytes t n h =
     let is = c.is in
     cc (is, same, same_len)
 
-pub longest_is_positive : (bytes : List ℕ) (t : TokenValue) (n : ℕ) → IsLongestSpelling bytes n t → 0 < n
+pub longest_is_positive : (bytes : List ℕ) (t : TokenValue) (n : ℕ) → IsLongestSpelling bytes n t
+    → 0 < n
 longest_is_positive bytes t n h = (front_spelled bytes t n (longest_is_found bytes t n h)).positive
 
 -- where a text of a token stands and doesn't go on in what follows, it is the longest
-pub ended_is_longest : (t : TokenValue) (b after : List ℕ) → Spells t b → EndsBefore t after → IsLongestSpelling (b ++ after) (length b) t
+pub ended_is_longest : (t : TokenValue) (b after : List ℕ) → Spells t b → EndsBefore t after
+    → IsLongestSpelling (b ++ after) (length b) t
 ended_is_longest t b after h e =
     let c = front_covers t b after h in
     let same_len = c.ends e in

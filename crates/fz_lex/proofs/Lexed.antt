@@ -12,14 +12,17 @@ use Rattle.fz_lex.specs.declared.error.SyntaxError.TheVariants.{TooLong, BadByte
 use Rattle.fz_lex.proofs.Laws.{longest_is_positive}
 use Rattle.fz_lex.proofs.Cuts.{cut_once, cut_continues, no_cut_from, no_limit_from}
 
-pub all_right : {X : Type 0} (P : X → Type 0) (xs ys : List X) → AllByRecursion P (xs ++ ys) → AllByRecursion P ys
+pub all_right : {X : Type 0} (P : X → Type 0) (xs ys : List X) → AllByRecursion P (xs ++ ys)
+    → AllByRecursion P ys
 all_right P [] ys h = h
 all_right P (x ∷ xs) ys h = all_right P xs ys h.1
 
-pub only_tokens : (source : List ℕ) (T : List SpannedToken) → LexesWithinLimits source T → (tokens : List Token) → IsLexed source tokens → all_spanned tokens ≡ T
+pub only_tokens : (source : List ℕ) (T : List SpannedToken) → LexesWithinLimits source T
+    → (tokens : List Token) → IsLexed source tokens → all_spanned tokens ≡ T
 only_tokens source T h tokens l = cut_once l.0 h.lexes
 
-pub only_fault : (source : List ℕ) (T : List SpannedToken) → LexesWithinLimits source T → (e : SyntaxError) → IsLexicalFault source e → e ≡ Memory
+pub only_fault : (source : List ℕ) (T : List SpannedToken) → LexesWithinLimits source T
+    → (e : SyntaxError) → IsLexicalFault source e → e ≡ Memory
 only_fault source T h TooLong f = let s = h.short in absurd (omega arith)
 only_fault source T h (BadByte span) f =
     let n = f.3 in
@@ -39,7 +42,8 @@ only_fault source T h (TooDeep span) f = absurd f
 only_fault source T h (TooMany span) f = absurd f
 only_fault source T h Memory f = refl
 
-pub fault_placed : (source : List ℕ) (e : SyntaxError) → IsLexicalFault source e → IsPlacedWithin (length source) e
+pub fault_placed : (source : List ℕ) (e : SyntaxError) → IsLexicalFault source e
+    → IsPlacedWithin (length source) e
 fault_placed source TooLong f = tt
 fault_placed source (BadByte span) f =
     let n = f.3 in

@@ -23,13 +23,16 @@ abbrev pub rest_from : List ℕ → ℕ → List ℕ
 rest_from source start = take (length source - start) (drop start source)
 
 module _ (source : List ℕ) (place start : ℕ) (in_range : start ≤ length source) (gap : CutBetween source place start []) where
-  found_longest : (kind : TokenKind) (len : ℕ) → IsFrontOf (rest_from source start) (Found kind len) → IsLongestSpelling (drop start source) len (token_value kind (take len (drop start source)))
+  found_longest : (kind : TokenKind) (len : ℕ) → IsFrontOf (rest_from source start) (Found kind len)
+      → IsLongestSpelling (drop start source) len (token_value kind (take len (drop start source)))
   found_longest kind len f = let e = (rw take_rest at f.0) in found_is_longest (drop start source) _ len e
 
-  pub found_within : (kind : TokenKind) (len : ℕ) → IsFrontOf (rest_from source start) (Found kind len) → start + len ≤ length source
+  pub found_within : (kind : TokenKind) (len : ℕ)
+      → IsFrontOf (rest_from source start) (Found kind len) → start + len ≤ length source
   found_within kind len f = let l = found_longest kind len f in let w = l.within in omega (arith, length-drop start source)
 
-  pub found_moves : (kind : TokenKind) (len : ℕ) → IsFrontOf (rest_from source start) (Found kind len) → place < start + len
+  pub found_moves : (kind : TokenKind) (len : ℕ)
+      → IsFrontOf (rest_from source start) (Found kind len) → place < start + len
   found_moves kind len f =
       let l = longest_is_positive _ _ len (found_longest kind len f) in
       let g = cut_forward gap in
@@ -38,17 +41,23 @@ module _ (source : List ℕ) (place start : ℕ) (in_range : start ≤ length so
   slice_is : (len : ℕ) → slice_range source start (start + len) ≡ take len (drop start source)
   slice_is len = ap (λ n. take n (drop start source)) (omega arith)
 
-  pub found_cut : (kind : TokenKind) (len : ℕ) (t : SpannedToken) → IsFrontOf (rest_from source start) (Found kind len) → t.start ≡ start → t.end ≡ start + len → t.token ≡ token_value kind (slice_range source start (start + len)) → CutBetween source place (start + len) (t ∷ [])
+  pub found_cut : (kind : TokenKind) (len : ℕ) (t : SpannedToken)
+      → IsFrontOf (rest_from source start) (Found kind len) → t.start ≡ start → t.end ≡ start + len
+      → t.token ≡ token_value kind (slice_range source start (start + len))
+      → CutBetween source place (start + len) (t ∷ [])
   found_cut kind len t f s e v =
       let is : t.token ≡ token_value kind (take len (drop start source)) = v ∙ ap (token_value kind) (slice_is len) in
       gap_then_token source place start len t gap s e (subst (λ u. IsLongestSpelling (drop start source) len u) (sym is) (found_longest kind len f))
 
-  pub found_limit : (kind : TokenKind) (len : ℕ) → IsFrontOf (rest_from source start) (Found kind len) → IsTokenWithinLimit (token_value kind (slice_range source start (start + len)))
+  pub found_limit : (kind : TokenKind) (len : ℕ) → IsFrontOf (rest_from source start)
+      (Found kind len) → IsTokenWithinLimit
+      (token_value kind (slice_range source start (start + len)))
   found_limit kind len f =
       let same : take len (rest_from source start) ≡ slice_range source start (start + len) = ap (take len) (take_rest source start) ∙ sym (slice_is len) in
       subst (λ text. IsTokenWithinLimit (token_value kind text)) same f.1
 
-  pub outside_within : (len : ℕ) → IsFrontOf (rest_from source start) (OutsideLimit len) → start + len ≤ length source
+  pub outside_within : (len : ℕ) → IsFrontOf (rest_from source start) (OutsideLimit len)
+      → start + len ≤ length source
   outside_within len f =
       let e = (rw take_rest at f.1) in
       let l = found_is_longest (drop start source) _ len e in
@@ -74,13 +83,16 @@ module _ (source : List ℕ) (place start : ℕ) (in_range : start ≤ length so
       )
 
 -- a comma that stands right at a place is the token there
-pub comma_cut : (source : List ℕ) (place : ℕ) → place < length source → get_or source place 0 ≡ 44 → CutBetween source place (place + 1) (comma_at place ∷ [])
+pub comma_cut : (source : List ℕ) (place : ℕ) → place < length source → get_or source place 0 ≡ 44
+    → CutBetween source place (place + 1) (comma_at place ∷ [])
 comma_cut source place h b =
     let front : IsFrontOf (rest_from source place) (Found (kinds.Mark Comma) 1) = (rw take_rest (lone_front (drop place source) Comma 44 refl (λ e. absurd (omega arith)) (at_place source place ∙ b)), tt) in
     found_cut source place place (omega arith) (nothing place) (kinds.Mark Comma) 1 (comma_at place) front refl refl refl
 
 -- a fault behind tokens that are cut off already is a fault of the source
-pub fault_after : (source : List ℕ) (place : ℕ) (before : List SpannedToken) → CutUpTo source place before → AreWithinLimit before → (e : SyntaxError) → FaultFrom source place e → IsLexicalFault source e
+pub fault_after : (source : List ℕ) (place : ℕ) (before : List SpannedToken)
+    → CutUpTo source place before → AreWithinLimit before → (e : SyntaxError)
+    → FaultFrom source place e → IsLexicalFault source e
 fault_after source place before c w TooLong f = absurd f
 fault_after source place before c w (BadByte span) f = (before ++ [], cut_then c f.0, rw append-nil w, f.1, f.2)
 fault_after source place before c w (TooLarge span) f = (before ++ [], f.0, f.1, cut_then c f.2, rw append-nil w, f.3, f.4, f.5)
@@ -90,7 +102,8 @@ fault_after source place before c w (TooDeep span) f = absurd f
 fault_after source place before c w (TooMany span) f = absurd f
 fault_after source place before c w Memory f = absurd f
 
-pub fault_is_no_memory : (source : List ℕ) (place : ℕ) (e : SyntaxError) → FaultFrom source place e → e ≢ Memory
+pub fault_is_no_memory : (source : List ℕ) (place : ℕ) (e : SyntaxError) → FaultFrom source place e
+    → e ≢ Memory
 fault_is_no_memory source place TooLong f m = absurd f
 fault_is_no_memory source place (BadByte span) f m = cc m
 fault_is_no_memory source place (TooLarge span) f m = cc m
@@ -100,7 +113,8 @@ fault_is_no_memory source place (TooDeep span) f m = absurd f
 fault_is_no_memory source place (TooMany span) f m = absurd f
 fault_is_no_memory source place Memory f m = absurd f
 
-pub fault_is_no_length : (source : List ℕ) (place : ℕ) (e : SyntaxError) → FaultFrom source place e → e ≢ TooLong
+pub fault_is_no_length : (source : List ℕ) (place : ℕ) (e : SyntaxError) → FaultFrom source place e
+    → e ≢ TooLong
 fault_is_no_length source place TooLong f m = absurd f
 fault_is_no_length source place (BadByte span) f m = cc m
 fault_is_no_length source place (TooLarge span) f m = cc m
@@ -110,6 +124,7 @@ fault_is_no_length source place (TooDeep span) f m = absurd f
 fault_is_no_length source place (TooMany span) f m = absurd f
 fault_is_no_length source place Memory f m = absurd f
 
-pub all_push : {X : Type 0} (P : X → Type 0) (xs : List X) (x : X) → AllByRecursion P xs → P x → AllByRecursion P (xs ++ x ∷ [])
+pub all_push : {X : Type 0} (P : X → Type 0) (xs : List X) (x : X) → AllByRecursion P xs → P x
+    → AllByRecursion P (xs ++ x ∷ [])
 all_push P [] x h p = (p, tt)
 all_push P (y ∷ ys) x h p = (h.0, all_push P ys x h.1 p)

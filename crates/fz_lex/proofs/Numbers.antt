@@ -1,4 +1,5 @@
--- A number whose magnitude is cut off at the greatest `u64` is outside the limit just where the number is.
+-- A number whose magnitude is cut off at the greatest `u64` is outside the limit just where the
+-- number is.
 use Rattle.std.proofs.Common.{◌≡◌, ℕ, ◌-◌, ◌^◌, ◌≤◌, min, List, Option, Some, None, option_map, Bool, true, false, ⊎_elim, arith}
 use Rattle.std.proofs.lemmas.Int.{ints}
 use Rattle.fz_lex.specs.Limits.{IsWithinLimit}
@@ -10,7 +11,10 @@ magnitude_within : (negative : Bool) (n : ℕ) → IsWithinLimit (signed negativ
 magnitude_within true n h = omega (arith, ints, h.0, h.1)
 magnitude_within false n h = omega (arith, ints, h.0, h.1)
 
-pub number_is : (bytes : List ℕ) (negative : Bool) (len : ℕ) (natural magnitude : Option ℕ) (front : Front) → magnitude ≡ option_map (λ n. min n (2 ^ 64 - 1)) natural → front_of bytes ≡ number_token negative len bytes natural → IsNumberFound negative len magnitude front → IsFrontOf bytes front
+pub number_is : (bytes : List ℕ) (negative : Bool) (len : ℕ) (natural magnitude : Option ℕ)
+    (front : Front) → magnitude ≡ option_map (λ n. min n (2 ^ 64 - 1)) natural
+    → front_of bytes ≡ number_token negative len bytes natural
+    → IsNumberFound negative len magnitude front → IsFrontOf bytes front
 number_is bytes negative len None magnitude front m f h =
     let e = (rw m at h) in rw e (f, tt)
 number_is bytes negative len (Some n) magnitude front m f h =

@@ -1,5 +1,5 @@
--- For a printer: what `{}` writes of a whole number is a text of it, and texts of tokens are joined one by one,
--- from the last to the first. A text goes in front of a rest in which it doesn't go on.
+-- For a printer: what `{}` writes of an integer is a text of it, and texts of tokens are joined one
+-- by one, from the last to the first. A text goes in front of a rest in which it doesn't go on.
 use Rattle.std.proofs.Common.{◌≡◌, ◌≢◌, ℕ, suc, ◌*◌, ◌+◌, ◌^◌, ◌<◌, List, [], ◌∷◌, ◌++◌, get_or, ℤ, pos, negsuc, true, false, refl, sym, ◌∙◌, arith}
 use Rattle.std.specs.Prelude.{codes, decimal, fold}
 use Rattle.std.specs.List.{list_all}
@@ -19,7 +19,7 @@ use Rattle.fz_lex.proofs.Covers.{EndsNumber}
 use Rattle.fz_lex.proofs.Laws.{EndsMark}
 use Rattle.fz_lex.proofs.Joined.{Joins, gap, text}
 
--- ---- A whole number in decimal is a text of the number.
+-- ---- An integer in decimal is a text of the number.
 
 digit_passes : (b : ℕ) → digit_value b < 10 → is_digit b 10 ≡ true
 digit_passes b h = grind (arith, nat_tests)
@@ -28,7 +28,8 @@ digits_pass : (ds : List ℕ) → AllDigits 10 ds → list_all (λ b. is_digit b
 digits_pass [] h = refl
 digits_pass (d ∷ ds) h = and_from (is_digit d 10) (list_all (λ b. is_digit b 10) ds) (digit_passes d h.0) (digits_pass ds h.1)
 
-value_folds : (n : ℕ) (ds : List ℕ) → digits_value_after 10 n ds ≡ fold (λ m b. m * 10 + digit_value b) n ds
+value_folds : (n : ℕ) (ds : List ℕ)
+    → digits_value_after 10 n ds ≡ fold (λ m b. m * 10 + digit_value b) n ds
 value_folds n [] = refl
 value_folds n (d ∷ ds) = value_folds (n * 10 + digit_value d) ds
 
@@ -63,20 +64,26 @@ ends_at_dots rest = record { no_word = refl; no_fraction = refl }
 pub blank_joins : (rest : List ℕ) (T : List TokenValue) → Joins rest T → Joins (codes " " ++ rest) T
 blank_joins rest T j = gap 32 rest T refl j
 
-pub line_feed_joins : (rest : List ℕ) (T : List TokenValue) → Joins rest T → Joins (codes "\n" ++ rest) T
+pub line_feed_joins : (rest : List ℕ) (T : List TokenValue) → Joins rest T
+    → Joins (codes "\n" ++ rest) T
 line_feed_joins rest T j = gap 10 rest T refl j
 
-pub word_joins : (word rest : List ℕ) (T : List TokenValue) → IsWordText word → is_word_byte (get_or rest 0 0) ≡ false → Joins rest T → Joins (word ++ rest) (Word word ∷ T)
+pub word_joins : (word rest : List ℕ) (T : List TokenValue) → IsWordText word
+    → is_word_byte (get_or rest 0 0) ≡ false → Joins rest T → Joins (word ++ rest) (Word word ∷ T)
 word_joins word rest T w e j = text (Word word) word rest (word ++ rest) T refl (refl, w) e j
 
-pub whole_joins : (z : ℤ) (rest : List ℕ) (T : List TokenValue) → IsWithinLimit z → EndsNumber rest → Joins rest T → Joins (signed_decimal z ++ rest) (Whole z ∷ T)
+pub whole_joins : (z : ℤ) (rest : List ℕ) (T : List TokenValue) → IsWithinLimit z → EndsNumber rest
+    → Joins rest T → Joins (signed_decimal z ++ rest) (Whole z ∷ T)
 whole_joins z rest T w e j = text (Whole z) (signed_decimal z) rest (signed_decimal z ++ rest) T refl (signed_decimal_writes z w) e j
 
-pub float_joins : (float rest : List ℕ) (T : List TokenValue) → IsFloatText float → EndsNumber rest → Joins rest T → Joins (float ++ rest) (FloatText float ∷ T)
+pub float_joins : (float rest : List ℕ) (T : List TokenValue) → IsFloatText float → EndsNumber rest
+    → Joins rest T → Joins (float ++ rest) (FloatText float ∷ T)
 float_joins float rest T f e j = text (FloatText float) float rest (float ++ rest) T refl (refl, f) e j
 
-pub string_joins : (string rest : List ℕ) (T : List TokenValue) → IsStringText string → Joins rest T → Joins (string ++ rest) (StringText string ∷ T)
+pub string_joins : (string rest : List ℕ) (T : List TokenValue) → IsStringText string → Joins rest T
+    → Joins (string ++ rest) (StringText string ∷ T)
 string_joins string rest T s j = text (StringText string) string rest (string ++ rest) T refl (refl, s) tt j
 
-pub mark_joins : (m : Mark) (rest : List ℕ) (T : List TokenValue) → EndsMark m rest → Joins rest T → Joins (mark_text m ++ rest) (Marked m ∷ T)
+pub mark_joins : (m : Mark) (rest : List ℕ) (T : List TokenValue) → EndsMark m rest → Joins rest T
+    → Joins (mark_text m ++ rest) (Marked m ∷ T)
 mark_joins m rest T e j = text (Marked m) (mark_text m) rest (mark_text m ++ rest) T refl refl e j

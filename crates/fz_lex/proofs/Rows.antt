@@ -45,33 +45,40 @@ string_text : Spells (StringText (codes "\"a%\"")) (codes "\"a%\"")
 string_text =
     (refl, (refl, plain 97 _ (λ e. omega arith) (λ e. omega arith) (λ e. omega arith) (plain 37 _ (λ e. omega arith) (λ e. omega arith) (λ e. omega arith) (closed 34 refl))))
 
--- ---- The limits of a whole number: 2 ^ 63 - 1 and -(2 ^ 63) are read; one past each isn't, nor are 100 nines.
+-- ---- the limits
+--
+-- The limits of an integer: 2 ^ 63 - 1 and -(2 ^ 63) are read; one past each isn't, nor are 100
+-- nines.
 
 limit : (least_whole ≡ neg_ℤ (pos 9223372036854775808)) × (greatest_whole ≡ pos 9223372036854775807)
 limit = (refl, refl)
 
-pub front_greatest : front_of (codes "9223372036854775807") ≡ found (Whole (pos 9223372036854775807)) 19
+pub front_greatest : front_of (codes "9223372036854775807")
+    ≡ found (Whole (pos 9223372036854775807)) 19
 unfolding front_of number_front fraction_len exponent_len signed_digits_len
 front_greatest = refl
 
 greatest_within : IsWithinLimit (pos 9223372036854775807)
 greatest_within = (omega (arith, ints), omega (arith, ints))
 
-front_past_greatest : front_of (codes "9223372036854775808") ≡ found (Whole (pos 9223372036854775808)) 19
+front_past_greatest : front_of (codes "9223372036854775808")
+    ≡ found (Whole (pos 9223372036854775808)) 19
 unfolding front_of number_front fraction_len exponent_len signed_digits_len
 front_past_greatest = refl
 
 past_greatest_outside : ¬ (IsWithinLimit (pos 9223372036854775808))
 past_greatest_outside h = omega (arith, ints, h.1)
 
-front_least : front_of (codes "-9223372036854775808") ≡ found (Whole (neg_ℤ (pos 9223372036854775808))) 20
+front_least : front_of (codes "-9223372036854775808")
+    ≡ found (Whole (neg_ℤ (pos 9223372036854775808))) 20
 unfolding front_of number_front fraction_len exponent_len signed_digits_len
 front_least = refl
 
 least_within : IsWithinLimit (neg_ℤ (pos 9223372036854775808))
 least_within = (omega (arith, ints), omega (arith, ints))
 
-front_past_least : front_of (codes "-9223372036854775809") ≡ found (Whole (neg_ℤ (pos 9223372036854775809))) 20
+front_past_least : front_of (codes "-9223372036854775809")
+    ≡ found (Whole (neg_ℤ (pos 9223372036854775809))) 20
 unfolding front_of number_front fraction_len exponent_len signed_digits_len
 front_past_least = refl
 

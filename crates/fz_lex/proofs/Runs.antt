@@ -10,7 +10,8 @@ use Rattle.fz_lex.specs.Token.{AreDigits}
 use Rattle.fz_lex.specs.Scan.{digits_len}
 
 -- which way a test went
-pub chosen : {X : Type 0} (b : Bool) (x y z : X) → cond b x y ≡ z → ((b ≡ true) × (x ≡ z)) ⊎ ((b ≡ false) × (y ≡ z))
+pub chosen : {X : Type 0} (b : Bool) (x y z : X) → cond b x y ≡ z
+    → ((b ≡ true) × (x ≡ z)) ⊎ ((b ≡ false) × (y ≡ z))
 chosen true x y z e = inl (refl, e)
 chosen false x y z e = inr (refl, e)
 
@@ -20,7 +21,8 @@ prefix_all p xs = list_all-from_AllPass p (take (prefix_len p xs) xs) (λ k d h.
     let k_in : k < prefix_len p xs = omega arith in
     rw get_or-take (prefix_len_passes p xs k d k_in))
 
-pub prefix_covers : (p : ℕ → Bool) (b after : List ℕ) → list_all p b ≡ true → prefix_len p (b ++ after) ≡ length b + prefix_len p after
+pub prefix_covers : (p : ℕ → Bool) (b after : List ℕ) → list_all p b ≡ true
+    → prefix_len p (b ++ after) ≡ length b + prefix_len p after
 prefix_covers p [] after h = omega arith
 prefix_covers p (x ∷ xs) after h =
     let parts = and_parts (p x) (list_all p xs) h in
@@ -28,12 +30,14 @@ prefix_covers p (x ∷ xs) after h =
     let rest = prefix_covers p xs after parts.1 in
     rw first (omega arith)
 
-pub digits_front : (base : ℕ) (bytes : List ℕ) → 0 < digits_len base bytes → AreDigits base (take (digits_len base bytes) bytes)
+pub digits_front : (base : ℕ) (bytes : List ℕ) → 0 < digits_len base bytes
+    → AreDigits base (take (digits_len base bytes) bytes)
 digits_front base bytes h =
     let l = length-prefix_len (λ b. is_digit b base) bytes in
     (omega arith, prefix_all (λ b. is_digit b base) bytes)
 
-pub digits_positive : (base : ℕ) (bytes : List ℕ) → base ≤ 36 → is_digit (get_or bytes 0 0) base ≡ true → 0 < digits_len base bytes
+pub digits_positive : (base : ℕ) (bytes : List ℕ) → base ≤ 36
+    → is_digit (get_or bytes 0 0) base ≡ true → 0 < digits_len base bytes
 digits_positive base [] h e = absurd (let l = ltb-true 36 base e in omega arith)
 digits_positive base (b ∷ rest) h e = rw e (omega arith)
 
@@ -41,5 +45,6 @@ pub first_digit : (base : ℕ) (b : List ℕ) → AreDigits base b → is_digit 
 first_digit base [] h = absurd (omega (arith, h.0))
 first_digit base (x ∷ xs) h = (and_parts _ _ h.1).0
 
-pub digits_cover : (base : ℕ) (b after : List ℕ) → AreDigits base b → digits_len base (b ++ after) ≡ length b + digits_len base after
+pub digits_cover : (base : ℕ) (b after : List ℕ) → AreDigits base b
+    → digits_len base (b ++ after) ≡ length b + digits_len base after
 digits_cover base b after h = prefix_covers (λ x. is_digit x base) b after h.1

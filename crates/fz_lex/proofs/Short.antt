@@ -10,13 +10,15 @@ use Rattle.fz_lex.proofs.Cuts.{at_place}
 use Rattle.fz_lex.proofs.Fronts.{decimal_digit, digit_no_word_start, front_natural, front_negative}
 
 -- behind `0` and a letter the digits end
-one_digit : (x y letter : ℕ) (rest : List ℕ) → x ≡ 48 → y ≡ letter → is_digit letter 10 ≡ false → digits_len 10 (x ∷ (y ∷ rest)) ≡ 1
+one_digit : (x y letter : ℕ) (rest : List ℕ) → x ≡ 48 → y ≡ letter → is_digit letter 10 ≡ false
+    → digits_len 10 (x ∷ (y ∷ rest)) ≡ 1
 one_digit x y letter rest e f l =
     let no : is_digit y 10 ≡ false = rw f l in
     rw (e, no) (omega arith)
 
 -- no base stands where no letter of a base stands behind the digits
-no_base : (bytes : List ℕ) (letter base : ℕ) → is_digit letter 10 ≡ false → 0 < letter → get_or bytes (digits_len 10 bytes) 0 ≢ letter → is_based letter base bytes ≡ false
+no_base : (bytes : List ℕ) (letter base : ℕ) → is_digit letter 10 ≡ false → 0 < letter
+    → get_or bytes (digits_len 10 bytes) 0 ≢ letter → is_based letter base bytes ≡ false
 no_base [] letter base l p n = refl
 no_base (x ∷ []) letter base l p n = and_right (eqb x 48) _ (and_left (eqb 0 letter) _ (ne_eqb 0 letter (λ e. absurd (omega arith))))
 no_base (x ∷ (y ∷ rest)) letter base l p n =
@@ -30,18 +32,20 @@ no_base (x ∷ (y ∷ rest)) letter base l p n =
     (λ x_not. and_left (eqb x 48) _ x_not)
     (cases_Bool (eqb x 48))
 
-no_fraction : (bytes : List ℕ) (place : ℕ) → get_or bytes place 0 ≢ 46 → fraction_len (drop place bytes) ≡ 0
+no_fraction : (bytes : List ℕ) (place : ℕ) → get_or bytes place 0 ≢ 46
+    → fraction_len (drop place bytes) ≡ 0
 unfolding fraction_len
 no_fraction bytes place n = rw (at_place bytes place, ne_eqb (get_or bytes place 0) 46 n) refl
 
-no_exponent : (bytes : List ℕ) (place : ℕ) → get_or bytes place 0 ≢ 101 → get_or bytes place 0 ≢ 69 → exponent_len (drop place bytes) ≡ 0
+no_exponent : (bytes : List ℕ) (place : ℕ) → get_or bytes place 0 ≢ 101 → get_or bytes place 0 ≢ 69
+    → exponent_len (drop place bytes) ≡ 0
 unfolding exponent_len
 no_exponent bytes place n m = rw (at_place bytes place, ne_eqb (get_or bytes place 0) 101 n, ne_eqb (get_or bytes place 0) 69 m) refl
 
 decimal_alone : (bytes : List ℕ) → fraction_len (drop (digits_len 10 bytes) bytes) ≡ 0 → exponent_len (drop (digits_len 10 bytes + fraction_len (drop (digits_len 10 bytes) bytes)) bytes) ≡ 0 → decimal_number bytes ≡ record { natural = Some (leading_number 10 bytes); len = digits_len 10 bytes }
 decimal_alone bytes f e = rw (e, f) refl
 
--- What stands behind the digits decides that they are the whole number.
+-- What stands behind the digits decides that they are the integer.
 pub digits_are_number : (bytes : List ℕ) → get_or bytes (digits_len 10 bytes) 0 ≢ 46 → get_or bytes (digits_len 10 bytes) 0 ≢ 101 → get_or bytes (digits_len 10 bytes) 0 ≢ 69 → get_or bytes (digits_len 10 bytes) 0 ≢ 120 → get_or bytes (digits_len 10 bytes) 0 ≢ 111 → number_front bytes ≡ record { natural = Some (leading_number 10 bytes); len = digits_len 10 bytes }
 unfolding number_front
 digits_are_number bytes point small_e large_e x o =

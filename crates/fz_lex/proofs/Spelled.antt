@@ -45,12 +45,14 @@ fraction_at (a ∷ rest) =
 -- the first n bytes are an optional sign and digits, unless n is 0
 pub record SignedAt (xs : List ℕ) (n : ℕ) : Type 0 where
   pub within : n ≤ length xs
-  pub text : 0 < n → (sign digits : List ℕ) × (take n xs ≡ sign ++ digits) × ((sign ≡ []) ⊎ ((sign ≡ codes "+") ⊎ (sign ≡ codes "-"))) × AreDigits 10 digits
+  pub text : 0 < n → (sign digits : List ℕ) × (take n xs ≡ sign ++ digits)
+      × ((sign ≡ []) ⊎ ((sign ≡ codes "+") ⊎ (sign ≡ codes "-"))) × AreDigits 10 digits
 
 none_signed : (xs : List ℕ) → SignedAt xs 0
 none_signed xs = record { within = omega arith; text = λ h. absurd (omega arith) }
 
-sign_cases : (c : ℕ) → (eqb c 43 || eqb c 45) ≡ true → ((c ∷ []) ≡ codes "+") ⊎ ((c ∷ []) ≡ codes "-")
+sign_cases : (c : ℕ) → (eqb c 43 || eqb c 45) ≡ true
+    → ((c ∷ []) ≡ codes "+") ⊎ ((c ∷ []) ≡ codes "-")
 sign_cases c t = ⊎_elim (λ h. inl (ap (λ x. x ∷ []) (eqb-true c 43 h))) (λ h. inr (ap (λ x. x ∷ []) (eqb-true c 45 h))) (or_cases _ _ t)
 
 pub signed_at : (xs : List ℕ) → SignedAt xs (signed_digits_len xs)
@@ -93,7 +95,8 @@ pub record ExponentAt (xs : List ℕ) (n : ℕ) : Type 0 where
 none_exponent : (xs : List ℕ) → ExponentAt xs 0
 none_exponent xs = record { within = omega arith; text = λ h. absurd (omega arith) }
 
-letter_cases : (c : ℕ) → (eqb c 101 || eqb c 69) ≡ true → ((c ∷ []) ≡ codes "e") ⊎ ((c ∷ []) ≡ codes "E")
+letter_cases : (c : ℕ) → (eqb c 101 || eqb c 69) ≡ true
+    → ((c ∷ []) ≡ codes "e") ⊎ ((c ∷ []) ≡ codes "E")
 letter_cases c t = ⊎_elim (λ h. inl (ap (λ x. x ∷ []) (eqb-true c 101 h))) (λ h. inr (ap (λ x. x ∷ []) (eqb-true c 69 h))) (or_cases _ _ t)
 
 pub exponent_at : (xs : List ℕ) → ExponentAt xs (exponent_len xs)
@@ -138,10 +141,12 @@ pub record NumberAt (bytes : List ℕ) (front : NumberFront) : Type 0 where
 
 pub record BasedAt (letter base : ℕ) (bytes : List ℕ) : Type 0 where
   pub within : 2 + digits_len base (drop 2 bytes) ≤ length bytes
-  pub text : take (2 + digits_len base (drop 2 bytes)) bytes ≡ 48 ∷ (letter ∷ take (digits_len base (drop 2 bytes)) (drop 2 bytes))
+  pub text : take (2 + digits_len base (drop 2 bytes)) bytes
+      ≡ 48 ∷ (letter ∷ take (digits_len base (drop 2 bytes)) (drop 2 bytes))
   pub digits : AreDigits base (take (digits_len base (drop 2 bytes)) (drop 2 bytes))
 
-based_at : (letter base : ℕ) (bytes : List ℕ) → 0 < letter → base ≤ 36 → is_based letter base bytes ≡ true → BasedAt letter base bytes
+based_at : (letter base : ℕ) (bytes : List ℕ) → 0 < letter → base ≤ 36
+    → is_based letter base bytes ≡ true → BasedAt letter base bytes
 based_at letter base [] l h e = cc e
 based_at letter base (a ∷ []) l h e = absurd (let parts = and_parts (eqb a 48) (eqb 0 letter && is_digit 0 base) e in let z = eqb-true 0 letter (and_parts (eqb 0 letter) (is_digit 0 base) parts.1).0 in omega arith)
 based_at letter base (a ∷ (b ∷ rest)) l h e =
@@ -157,7 +162,8 @@ based_at letter base (a ∷ (b ∷ rest)) l h e =
       digits = digits_front base rest positive;
     }
 
-float_at : (bytes : List ℕ) (w p s : ℕ) → AreDigits 10 (take w bytes) → FractionAt (drop w bytes) p → ExponentAt (drop (w + p) bytes) s → p + s ≢ 0 → IsUnsignedFloat (take (w + p + s) bytes)
+float_at : (bytes : List ℕ) (w p s : ℕ) → AreDigits 10 (take w bytes) → FractionAt (drop w bytes) p
+    → ExponentAt (drop (w + p) bytes) s → p + s ≢ 0 → IsUnsignedFloat (take (w + p + s) bytes)
 float_at bytes w p s d f e some =
     ⊎_elim
     (λ z.
@@ -173,7 +179,8 @@ float_at bytes w p s d f e some =
     (⊎_elim (λ n. inl (ap (λ k. take k (drop (w + p) bytes)) n)) (λ n. inr (e.text (omega arith))) (cases_eq s 0)))
     (cases_eq p 0)
 
-decimal_at : (bytes : List ℕ) → is_digit (get_or bytes 0 0) 10 ≡ true → NumberAt bytes (decimal_number bytes)
+decimal_at : (bytes : List ℕ) → is_digit (get_or bytes 0 0) 10 ≡ true
+    → NumberAt bytes (decimal_number bytes)
 decimal_at bytes h =
     let w = digits_len 10 bytes in
     let p = fraction_len (drop w bytes) in
@@ -192,7 +199,8 @@ decimal_at bytes h =
     (λ z. rw z (record { positive = omega arith; within = omega arith; text = float_at bytes w p s digits f e (eqb-false (p + s) 0 z) }))
     (cases_Bool (eqb (p + s) 0))
 
-pub number_at : (bytes : List ℕ) → is_digit (get_or bytes 0 0) 10 ≡ true → NumberAt bytes (number_front bytes)
+pub number_at : (bytes : List ℕ) → is_digit (get_or bytes 0 0) 10 ≡ true
+    → NumberAt bytes (number_front bytes)
 unfolding number_front
 number_at bytes h =
     ⊎_elim
@@ -214,7 +222,8 @@ pub record StringAt (rest : List ℕ) (n : ℕ) : Type 0 where
   pub within : n ≤ length rest
   pub text : IsStringRest (take n rest)
 
-map_some : (f : ℕ → ℕ) (o : Option ℕ) (n : ℕ) → option_map f o ≡ Some n → (m : ℕ) × (o ≡ Some m) × (f m ≡ n)
+map_some : (f : ℕ → ℕ) (o : Option ℕ) (n : ℕ) → option_map f o ≡ Some n
+    → (m : ℕ) × (o ≡ Some m) × (f m ≡ n)
 map_some f None n e = absurd (cc e)
 map_some f (Some m) n e = (m, refl, cc e)
 
@@ -224,13 +233,15 @@ closed_at b rest n q e =
     let at : StringAt (b ∷ rest) 1 = record { positive = omega arith; within = omega arith; text = closed b q } in
     subst (λ k. StringAt (b ∷ rest) k) one at
 
-plain_at : (b : ℕ) (rest : List ℕ) (m n : ℕ) → b ≢ 34 → b ≢ 92 → b ≢ 10 → StringAt rest m → 1 + m ≡ n → StringAt (b ∷ rest) n
+plain_at : (b : ℕ) (rest : List ℕ) (m n : ℕ) → b ≢ 34 → b ≢ 92 → b ≢ 10 → StringAt rest m
+    → 1 + m ≡ n → StringAt (b ∷ rest) n
 plain_at b rest m n q s l at e =
     let within = at.within in
     let more : StringAt (b ∷ rest) (1 + m) = record { positive = omega arith; within = omega arith; text = rw take_one_more (plain b (take m rest) q s l at.text) } in
     subst (λ k. StringAt (b ∷ rest) k) e more
 
-escaped_at : (b c : ℕ) (rest : List ℕ) (m n : ℕ) → b ≡ 92 → c ≢ 10 → StringAt rest m → 2 + m ≡ n → StringAt (b ∷ (c ∷ rest)) n
+escaped_at : (b c : ℕ) (rest : List ℕ) (m n : ℕ) → b ≡ 92 → c ≢ 10 → StringAt rest m → 2 + m ≡ n
+    → StringAt (b ∷ (c ∷ rest)) n
 escaped_at b c rest m n q l at e =
     let within = at.within in
     let more : StringAt (b ∷ (c ∷ rest)) (2 + m) = record { positive = omega arith; within = omega arith; text = rw take_two_more (escaped b c (take m rest) q l at.text) } in
@@ -271,16 +282,19 @@ pub record MarkAt (bytes : List ℕ) (mark : Mark) (n : ℕ) : Type 0 where
   pub within : n ≤ length bytes
   pub text : take n bytes ≡ mark_text mark
 
-one_byte : (bytes : List ℕ) (b : ℕ) (m : Mark) → get_or bytes 0 0 ≡ b → 0 < b → mark_text m ≡ b ∷ [] → MarkAt bytes m 1
+one_byte : (bytes : List ℕ) (b : ℕ) (m : Mark) → get_or bytes 0 0 ≡ b → 0 < b → mark_text m ≡ b ∷ []
+    → MarkAt bytes m 1
 one_byte [] b m e h t = absurd (omega arith)
 one_byte (x ∷ rest) b m e h t = record { positive = omega arith; within = omega arith; text = ap (λ y. y ∷ []) e ∙ sym t }
 
-two_bytes : (bytes : List ℕ) (b c : ℕ) (m : Mark) → get_or bytes 0 0 ≡ b → get_or bytes 1 0 ≡ c → 0 < b → 0 < c → mark_text m ≡ b ∷ (c ∷ []) → MarkAt bytes m 2
+two_bytes : (bytes : List ℕ) (b c : ℕ) (m : Mark) → get_or bytes 0 0 ≡ b → get_or bytes 1 0 ≡ c
+    → 0 < b → 0 < c → mark_text m ≡ b ∷ (c ∷ []) → MarkAt bytes m 2
 two_bytes [] b c m e f h k t = absurd (omega arith)
 two_bytes (x ∷ []) b c m e f h k t = absurd (omega arith)
 two_bytes (x ∷ (y ∷ rest)) b c m e f h k t = record { positive = omega arith; within = omega arith; text = ap (λ z. z ∷ (y ∷ [])) e ∙ (ap (λ z. b ∷ (z ∷ [])) f ∙ sym t) }
 
-same_mark : (bytes : List ℕ) (m : Mark) (n : ℕ) (p : Mark × ℕ) → MarkAt bytes m n → Some (m, n) ≡ Some p → MarkAt bytes p.0 p.1
+same_mark : (bytes : List ℕ) (m : Mark) (n : ℕ) (p : Mark × ℕ) → MarkAt bytes m n
+    → Some (m, n) ≡ Some p → MarkAt bytes p.0 p.1
 same_mark bytes m n p at e =
     let is : (m, n) ≡ p = cc e in
     subst (λ q. MarkAt bytes q.0 q.1) is at

@@ -1,5 +1,6 @@
--- The tokens that stand ahead of a place of a source: those up to its end, or up to the first fault from there on.
--- `Tokens`, which reads them one by one, is said by this list; that it is the list of "lexes to" is proved.
+-- The tokens that stand ahead of a place of a source: those up to its end, or up to the first fault
+-- from there on. `Tokens`, which reads them one by one, is said by this list; that it is the list
+-- of "lexes to" is proved.
 use Rattle.std.specs.Prelude.{ℕ, zero, suc, ◌+◌, ◌^◌, List, [], ◌∷◌, length, drop, slice_index, Bool, true, nat_lt, ◌==◌, if◌then◌else◌, ℤ, pos, negsuc}
 use Rattle.std.specs.List.{position_or_len}
 use Rattle.fz_lex.specs.Byte.{is_blank, is_line_feed}
@@ -13,7 +14,8 @@ unfoldable pub gap_from : ℕ → List ℕ → ℕ → ℕ
 gap_from zero source place = place
 gap_from (suc room) source place =
     if is_blank (slice_index source place) then gap_from room source (place + 1)
-    else (if slice_index source place == 37 then gap_from room source (place + position_or_len is_line_feed (drop place source))
+    else (if slice_index source place == 37
+    then gap_from room source (place + position_or_len is_line_feed (drop place source))
     else place)
 
 -- whether a number is within the limit
@@ -32,19 +34,23 @@ is_within (Marked m) = true
 -- what is found at a place, and then the tokens from its end on
 abbrev pub tokens_at : (ℕ → List SpannedToken) → ℕ → FrontToken → List SpannedToken
 tokens_at from start none = []
-tokens_at from start (found t n) = if is_within t then (record { token = t; start = start; end = start + n }) ∷ from (start + n) else []
+tokens_at from start (found t n) =
+    if is_within t then (record { token = t; start = start; end = start + n }) ∷ from (start + n)
+    else []
 
 -- the tokens from a place on, with room for so many of them
 unfoldable pub tokens_from : ℕ → List ℕ → ℕ → List SpannedToken
 tokens_from zero source place = []
 tokens_from (suc room) source place =
-    tokens_at (λ end. tokens_from room source end) (gap_from (length source) source place) (front_of (drop (gap_from (length source) source place) source))
+    tokens_at (λ end. tokens_from room source end) (gap_from (length source) source place)
+    (front_of (drop (gap_from (length source) source place) source))
 
 -- the tokens ahead of a place: each holds a byte, so there is room for all
 abbrev pub tokens_ahead : List ℕ → ℕ → List SpannedToken
 tokens_ahead source place = tokens_from (length source) source place
 
--- where the tokens from a place on end: the end of the source, or the place of the first fault from there on
+-- where the tokens from a place on end: the end of the source, or the place of the first fault from
+-- there on
 abbrev pub stop_at : (ℕ → ℕ) → ℕ → FrontToken → ℕ
 stop_at from start none = start
 stop_at from start (found t n) = if is_within t then from (start + n) else start
@@ -52,7 +58,8 @@ stop_at from start (found t n) = if is_within t then from (start + n) else start
 unfoldable pub stop_from : ℕ → List ℕ → ℕ → ℕ
 stop_from zero source place = place
 stop_from (suc room) source place =
-    stop_at (λ end. stop_from room source end) (gap_from (length source) source place) (front_of (drop (gap_from (length source) source place) source))
+    stop_at (λ end. stop_from room source end) (gap_from (length source) source place)
+    (front_of (drop (gap_from (length source) source place) source))
 
 abbrev pub stop_ahead : List ℕ → ℕ → ℕ
 stop_ahead source place = stop_from (length source) source place

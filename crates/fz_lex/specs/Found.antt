@@ -1,5 +1,5 @@
--- What the private functions of the lexer promise each other. A reader need not believe this file: what the
--- crate promises doesn't speak of it.
+-- What the private functions of the lexer promise each other. A reader need not believe this file:
+-- what the crate promises doesn't speak of it.
 use Rattle.std.specs.Prelude.{Bool, ◌⊎◌, Option, Some, None, ◌≡◌, ◌≢◌, ℕ, ◌+◌, ◌<◌, List, [], ◌∷◌, length, take, drop, slice_range, ℤ}
 use Rattle.fz_lex.specs.Token.{Whole}
 use Rattle.fz_lex.specs.Lexing.{SpannedToken, LexesToSpanned, NothingBegins, IsLongestSpelling, CutBetween}
@@ -15,30 +15,38 @@ use Rattle.fz_lex.specs.declared.error.SyntaxError.TheVariants.{TooLong, BadByte
 
 -- What the code finds at the front of the bytes is what stands there.
 abbrev pub IsFrontOf : List ℕ → Front → Type 0
-IsFrontOf bytes (Found kind n) = (front_of bytes ≡ found (token_value kind (take n bytes)) n) × IsTokenWithinLimit (token_value kind (take n bytes))
-IsFrontOf bytes (OutsideLimit n) = (z : ℤ) × (front_of bytes ≡ found (Whole z) n) × ¬ (IsWithinLimit z)
+IsFrontOf bytes (Found kind n) = (front_of bytes ≡ found (token_value kind (take n bytes)) n)
+    × IsTokenWithinLimit (token_value kind (take n bytes))
+IsFrontOf bytes (OutsideLimit n) =
+    (z : ℤ) × (front_of bytes ≡ found (Whole z) n) × ¬ (IsWithinLimit z)
 IsFrontOf bytes Nothing = front_of bytes ≡ none
 
 -- What is found of a number with this sign, length and magnitude, if it is whole.
 abbrev pub IsNumberFound : Bool → ℕ → Option ℕ → Front → Type 0
 IsNumberFound negative len None front = front ≡ Found kinds.FloatText len
 IsNumberFound negative len (Some n) front =
-    ((front ≡ Found (kinds.Whole (signed negative n)) len) × IsWithinLimit (signed negative n)) ⊎ ((front ≡ OutsideLimit len) × ¬ (IsWithinLimit (signed negative n)))
+    ((front ≡ Found (kinds.Whole (signed negative n)) len) × IsWithinLimit (signed negative n))
+    ⊎ ((front ≡ OutsideLimit len) × ¬ (IsWithinLimit (signed negative n)))
 
--- From the place on stand blanks and comments and then the next token, up to the end; or they stand up to
--- the end of the source.
+-- From the place on stand blanks and comments and then the next token, up to the end; or they stand
+-- up to the end of the source.
 abbrev pub NextFrom : List ℕ → ℕ → ℕ → Option Token → Type 0
 NextFrom source place end None = CutBetween source place (length source) []
 NextFrom source place end (Some t) =
-    CutBetween source place end (spanned t ∷ []) × IsTokenWithinLimit (spanned t).token × (t.text.now ≡ slice_range source t.span.start t.span.end) × (place < end) × (t.span.end ≡ end)
+    CutBetween source place end (spanned t ∷ []) × IsTokenWithinLimit (spanned t).token
+    × (t.text.now ≡ slice_range source t.span.start t.span.end) × (place < end)
+    × (t.span.end ≡ end)
 
 -- From the place on stand blanks and comments and then the fault.
 abbrev pub FaultFrom : List ℕ → ℕ → SyntaxError → Type 0
 FaultFrom source place TooLong = ⊥
 FaultFrom source place (BadByte span) =
-    CutBetween source place span.start [] × NothingBegins (drop span.start source) × (span.end ≡ span.start + 1)
+    CutBetween source place span.start [] × NothingBegins (drop span.start source)
+    × (span.end ≡ span.start + 1)
 FaultFrom source place (TooLarge span) =
-    (n : ℕ) × (z : ℤ) × CutBetween source place span.start [] × IsLongestSpelling (drop span.start source) n (Whole z) × (¬ (IsWithinLimit z)) × (span.end ≡ span.start + n)
+    (n : ℕ) × (z : ℤ) × CutBetween source place span.start []
+    × IsLongestSpelling (drop span.start source) n (Whole z) × (¬ (IsWithinLimit z))
+    × (span.end ≡ span.start + n)
 FaultFrom source place (Float span) = ⊥
 FaultFrom source place (Syntax span) = ⊥
 FaultFrom source place (TooDeep span) = ⊥
@@ -47,12 +55,14 @@ FaultFrom source place Memory = ⊥
 
 -- Tokens that the source lexes to, with their texts, or a fault of the source.
 abbrev pub IsLexed : List ℕ → List Token → Type 0
-IsLexed source tokens = LexesToSpanned source (all_spanned tokens) × AreWithinLimit (all_spanned tokens) × TextsAreSlices source tokens
+IsLexed source tokens = LexesToSpanned source (all_spanned tokens)
+    × AreWithinLimit (all_spanned tokens) × TextsAreSlices source tokens
 
 -- The source lexes to some tokens with numbers within the limit.
 abbrev pub IsScanned : List ℕ → Type 0
-IsScanned source = (tokens : List SpannedToken) × LexesToSpanned source tokens × AreWithinLimit tokens
+IsScanned source =
+    (tokens : List SpannedToken) × LexesToSpanned source tokens × AreWithinLimit tokens
 
--- A fault of the source, other than its length and want of memory.
+-- A fault of the source, other than its length and lack of memory.
 abbrev pub IsScanFault : List ℕ → SyntaxError → Type 0
 IsScanFault source e = IsLexicalFault source e × (e ≢ Memory) × (e ≢ TooLong)

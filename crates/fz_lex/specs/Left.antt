@@ -1,4 +1,5 @@
--- What a reader of tokens reads, and what it has left: its first token, and those ahead of the place that it has come to.
+-- What a reader of tokens reads, and what it has left: its first token, and those ahead of the
+-- place that it has come to.
 use Rattle.std.specs.Prelude.{ℕ, List, [], ◌∷◌, Option, Some, None}
 use Rattle.fz_lex.specs.Token.{Marked}
 use Rattle.fz_lex.specs.Lexing.{SpannedToken}

@@ -4,7 +4,7 @@ use Rattle.std.specs.List.{AllByRecursion}
 use Rattle.fz_lex.specs.Token.{TokenValue, Word, Whole, FloatText, StringText, Marked}
 use Rattle.fz_lex.specs.Lexing.{SpannedToken, LexesToSpanned, LexesTo}
 
--- The least and the greatest whole number that is read.
+-- The least and the greatest integer that is read.
 abbrev pub least_whole : ℤ
 least_whole = neg_ℤ (pos (2 ^ 63))
 
@@ -18,7 +18,7 @@ most_bytes = 2 ^ 24
 abbrev pub IsWithinLimit : ℤ → Type 0
 IsWithinLimit z = (least_whole ≤ℤ z) × (z ≤ℤ greatest_whole)
 
--- A whole number is within the limit; nothing is asked of the other tokens.
+-- An integer is within the limit; nothing is asked of the other tokens.
 abbrev pub IsTokenWithinLimit : TokenValue → Type 0
 IsTokenWithinLimit (Word text) = Unit {0}
 IsTokenWithinLimit (Whole z) = IsWithinLimit z
@@ -35,11 +35,13 @@ pub record LexesWithinLimits (source : List ℕ) (tokens : List SpannedToken) : 
   pub lexes : LexesToSpanned source tokens
   pub numbers : AreWithinLimit tokens
 
--- The source lexes to the tokens, and the numbers among them are within the limit, however long it is.
+-- The source lexes to the tokens, and the numbers among them are within the limit, however long it
+-- is.
 pub record LexesWithNumbersInLimit (source : List ℕ) (tokens : List TokenValue) : Type 0 where
   pub lexes : LexesTo source tokens
   pub numbers : AllByRecursion IsTokenWithinLimit tokens
 
 -- The source is a text of the tokens: it lexes to them, and both are within the limits.
 abbrev pub IsTextOfTokens : List ℕ → List TokenValue → Type 0
-IsTextOfTokens source tokens = (spanned : List SpannedToken) × LexesWithinLimits source spanned × (map (λ t. t.token) spanned ≡ tokens)
+IsTextOfTokens source tokens = (spanned : List SpannedToken) × LexesWithinLimits source spanned
+    × (map (λ t. t.token) spanned ≡ tokens)

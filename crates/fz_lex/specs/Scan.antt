@@ -1,5 +1,6 @@
--- What stands at the front of some bytes, computed. The private functions of the lexer give exactly this;
--- that it is the longest text of any token is proved of it, and a reader need not believe this file.
+-- What stands at the front of some bytes, computed. The private functions of the lexer give exactly
+-- this; that it is the longest text of any token is proved of it, and a reader need not believe
+-- this file.
 use Rattle.std.specs.Prelude.{ℕ, ◌+◌, List, [], ◌∷◌, take, drop, slice_index, Bool, true, false, ◌==◌, ◌&&◌, ◌||◌, if◌then◌else◌, Option, Some, None, option_map, ℤ, pos, neg_ℤ}
 use Rattle.std.specs.List.{prefix_len}
 use Rattle.std.specs.Char.{is_digit}
@@ -17,7 +18,8 @@ leading_number base bytes = number_of base (take (digits_len base bytes) bytes)
 
 -- the length of a point with digits at the front, or 0
 unfoldable pub fraction_len : List ℕ → ℕ
-fraction_len bytes = if (slice_index bytes 0 == 46) && is_digit (slice_index bytes 1) 10 then 1 + digits_len 10 (drop 1 bytes) else 0
+fraction_len bytes = if (slice_index bytes 0 == 46) && is_digit (slice_index bytes 1) 10
+    then 1 + digits_len 10 (drop 1 bytes) else 0
 
 -- the length of a sign at the front, or 0
 abbrev pub sign_len : List ℕ → ℕ
@@ -26,12 +28,15 @@ sign_len bytes = if slice_index bytes 0 == 43 || slice_index bytes 0 == 45 then 
 -- the length of an optional sign and digits at the front, or 0
 unfoldable pub signed_digits_len : List ℕ → ℕ
 signed_digits_len bytes =
-    if is_digit (slice_index bytes (sign_len bytes)) 10 then sign_len bytes + digits_len 10 (drop (sign_len bytes) bytes) else 0
+    if is_digit (slice_index bytes (sign_len bytes)) 10
+    then sign_len bytes + digits_len 10 (drop (sign_len bytes) bytes) else 0
 
 -- the length of an exponent at the front, or 0
 unfoldable pub exponent_len : List ℕ → ℕ
 exponent_len bytes =
-    if slice_index bytes 0 == 101 || slice_index bytes 0 == 69 then (if signed_digits_len (drop 1 bytes) == 0 then 0 else 1 + signed_digits_len (drop 1 bytes)) else 0
+    if slice_index bytes 0 == 101 || slice_index bytes 0 == 69
+    then (if signed_digits_len (drop 1 bytes) == 0 then 0
+    else 1 + signed_digits_len (drop 1 bytes)) else 0
 
 -- a number without a sign at the front: its value where it is whole, and its length
 pub record NumberFront : Type 0 where
@@ -40,17 +45,24 @@ pub record NumberFront : Type 0 where
 
 -- whether `0`, the letter and a digit of the base stand at the front
 abbrev pub is_based : ℕ → ℕ → List ℕ → Bool
-is_based letter base bytes = (slice_index bytes 0 == 48) && ((slice_index bytes 1 == letter) && is_digit (slice_index bytes 2) base)
+is_based letter base bytes = (slice_index bytes 0 == 48)
+    && ((slice_index bytes 1 == letter) && is_digit (slice_index bytes 2) base)
 
 abbrev pub based_number : ℕ → List ℕ → NumberFront
-based_number base bytes = record { natural = Some (leading_number base (drop 2 bytes)); len = 2 + digits_len base (drop 2 bytes) }
+based_number base bytes = record {
+  natural = Some (leading_number base (drop 2 bytes));
+  len = 2 + digits_len base (drop 2 bytes);
+}
 
 abbrev pub decimal_number : List ℕ → NumberFront
 decimal_number bytes =
     let whole_len = digits_len 10 bytes in
     let point_len = fraction_len (drop whole_len bytes) in
     let scale_len = exponent_len (drop (whole_len + point_len) bytes) in
-    if point_len + scale_len == 0 then record { natural = Some (leading_number 10 bytes); len = whole_len } else record { natural = None; len = whole_len + point_len + scale_len }
+    if point_len + scale_len == 0 then record {
+      natural = Some (leading_number 10 bytes);
+      len = whole_len;
+    } else record { natural = None; len = whole_len + point_len + scale_len }
 
 unfoldable pub number_front : List ℕ → NumberFront
 number_front bytes =
@@ -116,6 +128,7 @@ front_of bytes =
     let word_len = prefix_len is_word_byte bytes in
     if is_word_start first then found (Word (take word_len bytes)) word_len
     else (if is_digit first 10 then number_found false 0 bytes (number_front bytes)
-    else (if (first == 45) && is_digit (slice_index bytes 1) 10 then number_found true 1 bytes (number_front (drop 1 bytes))
+    else (if (first == 45) && is_digit (slice_index bytes 1) 10
+    then number_found true 1 bytes (number_front (drop 1 bytes))
     else (if first == 34 then string_found bytes (string_rest_len (drop 1 bytes))
     else mark_found (mark_front bytes))))

@@ -1,5 +1,5 @@
--- Tokens and their texts. "Handbook" is the MiniZinc Handbook, FlatZinc grammar; "profile" is this project's
--- own choice where the Handbook leaves one or is narrowed.
+-- Tokens and their texts. "Handbook" is the MiniZinc Handbook, FlatZinc grammar; "profile" is this
+-- project's own choice where the Handbook leaves one or is narrowed.
 use Rattle.std.specs.Prelude.{◌≡◌, ◌≢◌, ℕ, ◌+◌, ◌*◌, ◌<◌, ◌⊎◌, List, [], ◌∷◌, ◌++◌, length, ℤ, pos, neg_ℤ, IsTrue, codes, fold}
 use Rattle.std.specs.List.{list_all}
 use Rattle.std.specs.Char.{digit_value, is_digit}
@@ -7,8 +7,8 @@ use Rattle.fz_lex.specs.Byte.{is_word_start, is_word_byte}
 use Rattle.fz_lex.specs.declared.token.Mark.{Mark}
 use Rattle.fz_lex.specs.declared.token.Mark.TheVariants.{OpenParen, CloseParen, OpenBracket, CloseBracket, OpenBrace, CloseBrace, Comma, Semicolon, Colon, ColonColon, Equals, DotDot}
 
--- A token, apart from where it stands and how it is written: a word, a whole number of any size, the text
--- of a float or of a string, which are kept as they stand (profile), or a mark.
+-- A token, apart from where it stands and how it is written: a word, an integer of any size, the
+-- text of a float or of a string, which are kept as they stand (profile), or a mark.
 pub data TokenValue : Type 0 where
   Word : List ℕ → TokenValue
   Whole : ℤ → TokenValue
@@ -36,7 +36,8 @@ abbrev pub IsWordText : List ℕ → Type 0
 IsWordText [] = ⊥
 IsWordText (b ∷ bytes) = IsTrue (is_word_start b) × IsTrue (list_all is_word_byte bytes)
 
--- One or more digits of a base: `[0-9]+` in base 10, `[0-7]+` in base 8, `[0-9A-Fa-f]+` in base 16 (Handbook: integer literals).
+-- One or more digits of a base: `[0-9]+` in base 10, `[0-7]+` in base 8, `[0-9A-Fa-f]+` in base 16
+-- (Handbook: integer literals).
 abbrev pub AreDigits : ℕ → List ℕ → Type 0
 AreDigits base bytes = (0 < length bytes) × IsTrue (list_all (λ b. is_digit b base) bytes)
 
@@ -44,20 +45,24 @@ AreDigits base bytes = (0 < length bytes) × IsTrue (list_all (λ b. is_digit b 
 abbrev pub number_of : ℕ → List ℕ → ℕ
 number_of base digits = fold (λ n b. n * base + digit_value b) 0 digits
 
--- The bytes write the number without a sign: in decimal, or in hexadecimal behind `0x`, or in octal behind
--- `0o`. Leading zeros are allowed (Handbook: integer literals).
+-- The bytes write the number without a sign: in decimal, or in hexadecimal behind `0x`, or in octal
+-- behind `0o`. Leading zeros are allowed (Handbook: integer literals).
 pub data WritesNatural (bytes : List ℕ) (n : ℕ) : Type 0 where
   decimal : AreDigits 10 bytes → n ≡ number_of 10 bytes → WritesNatural bytes n
-  hexadecimal : (digits : List ℕ) → bytes ≡ codes "0x" ++ digits → AreDigits 16 digits → n ≡ number_of 16 digits → WritesNatural bytes n
-  octal : (digits : List ℕ) → bytes ≡ codes "0o" ++ digits → AreDigits 8 digits → n ≡ number_of 8 digits → WritesNatural bytes n
+  hexadecimal : (digits : List ℕ) → bytes ≡ codes "0x" ++ digits → AreDigits 16 digits
+      → n ≡ number_of 16 digits → WritesNatural bytes n
+  octal : (digits : List ℕ) → bytes ≡ codes "0o" ++ digits → AreDigits 8 digits
+      → n ≡ number_of 8 digits → WritesNatural bytes n
 
--- The bytes write the whole number: without a sign, or behind `-` its opposite. So `-0` writes 0 (Handbook:
--- integer literals).
+-- The bytes write the integer: without a sign, or behind `-` its opposite. So `-0` writes 0
+-- (Handbook: integer literals).
 pub data WritesWhole (bytes : List ℕ) (z : ℤ) : Type 0 where
   unsigned : (n : ℕ) → WritesNatural bytes n → z ≡ pos n → WritesWhole bytes z
-  negative : (natural : List ℕ) (n : ℕ) → bytes ≡ codes "-" ++ natural → WritesNatural natural n → z ≡ neg_ℤ (pos n) → WritesWhole bytes z
+  negative : (natural : List ℕ) (n : ℕ) → bytes ≡ codes "-" ++ natural → WritesNatural natural n
+      → z ≡ neg_ℤ (pos n) → WritesWhole bytes z
 
--- An exponent: `e` or `E`, an optional `+` or `-`, and one or more digits (Handbook: float literals).
+-- An exponent: `e` or `E`, an optional `+` or `-`, and one or more digits (Handbook: float
+-- literals).
 pub record IsExponent (bytes : List ℕ) : Type 0 where
   pub letter : List ℕ
   pub sign : List ℕ
@@ -70,28 +75,35 @@ pub record IsExponent (bytes : List ℕ) : Type 0 where
 -- A float without a sign: digits, a point, digits and an optional exponent; or digits and an
 -- exponent (Handbook: float literals).
 pub data IsUnsignedFloat (bytes : List ℕ) : Type 0 where
-  pointed : (before after exponent : List ℕ) → bytes ≡ before ++ (codes "." ++ (after ++ exponent)) → AreDigits 10 before → AreDigits 10 after → (exponent ≡ []) ⊎ IsExponent exponent → IsUnsignedFloat bytes
-  scaled : (before exponent : List ℕ) → bytes ≡ before ++ exponent → AreDigits 10 before → IsExponent exponent → IsUnsignedFloat bytes
+  pointed : (before after exponent : List ℕ) → bytes ≡ before ++ (codes "." ++ (after ++ exponent))
+      → AreDigits 10 before → AreDigits 10 after → (exponent ≡ []) ⊎ IsExponent exponent
+      → IsUnsignedFloat bytes
+  scaled : (before exponent : List ℕ) → bytes ≡ before ++ exponent → AreDigits 10 before
+      → IsExponent exponent → IsUnsignedFloat bytes
 
 -- A float: one without a sign, or one behind `-` (Handbook: float literals).
 pub data IsFloatText (bytes : List ℕ) : Type 0 where
   unsigned_float : IsUnsignedFloat bytes → IsFloatText bytes
-  negative_float : (rest : List ℕ) → bytes ≡ codes "-" ++ rest → IsUnsignedFloat rest → IsFloatText bytes
+  negative_float : (rest : List ℕ) → bytes ≡ codes "-" ++ rest → IsUnsignedFloat rest
+      → IsFloatText bytes
 
--- The rest of a string behind its opening `"`: bytes other than `"`, `\` and LF, or pairs of `\` and a byte
--- other than LF, and then the closing `"` (Handbook: string literals; profile: `\(` is no exception).
+-- The rest of a string behind its opening `"`: bytes other than `"`, `\` and LF, or pairs of `\`
+-- and a byte other than LF, and then the closing `"` (Handbook: string literals; profile: `\(` is
+-- no exception).
 pub data IsStringRest : List ℕ → Type 0 where
   closed : (b : ℕ) → b ≡ 34 → IsStringRest (b ∷ [])
-  plain : (b : ℕ) (rest : List ℕ) → b ≢ 34 → b ≢ 92 → b ≢ 10 → IsStringRest rest → IsStringRest (b ∷ rest)
-  escaped : (b c : ℕ) (rest : List ℕ) → b ≡ 92 → c ≢ 10 → IsStringRest rest → IsStringRest (b ∷ (c ∷ rest))
+  plain : (b : ℕ) (rest : List ℕ) → b ≢ 34 → b ≢ 92 → b ≢ 10 → IsStringRest rest
+      → IsStringRest (b ∷ rest)
+  escaped : (b c : ℕ) (rest : List ℕ) → b ≡ 92 → c ≢ 10 → IsStringRest rest
+      → IsStringRest (b ∷ (c ∷ rest))
 
 -- A string with its quotes. Escapes have no meaning (this project's profile).
 abbrev pub IsStringText : List ℕ → Type 0
 IsStringText [] = ⊥
 IsStringText (b ∷ rest) = (b ≡ 34) × IsStringRest rest
 
--- The bytes are a text of the token. A number has many texts, every other token has one. The cases are those
--- of the Handbook's grammar.
+-- The bytes are a text of the token. A number has many texts, every other token has one. The cases
+-- are those of the Handbook's grammar.
 abbrev pub Spells : TokenValue → List ℕ → Type 0
 Spells (Word text) bytes = (bytes ≡ text) × IsWordText bytes
 Spells (Whole z) bytes = WritesWhole bytes z
@@ -99,8 +111,8 @@ Spells (FloatText text) bytes = (bytes ≡ text) × IsFloatText bytes
 Spells (StringText text) bytes = (bytes ≡ text) × IsStringText bytes
 Spells (Marked m) bytes = bytes ≡ mark_text m
 
--- The text that the token keeps is one that the language has for it: a word is a word's text, a float a float's,
--- a string a string's. Numbers and marks keep none.
+-- The text that the token keeps is one that the language has for it: a word is a word's text, a
+-- float a float's, a string a string's. Numbers and marks keep none.
 abbrev pub IsTokenText : TokenValue → Type 0
 IsTokenText (Word text) = IsWordText text
 IsTokenText (Whole z) = Unit {0}

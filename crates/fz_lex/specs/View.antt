@@ -1,5 +1,5 @@
--- A token of the code as the plain data that the definitions speak of, and what a refusal tells of the source
--- (this project's profile).
+-- A token of the code as the plain data that the definitions speak of, and what a refusal tells of
+-- the source (this project's profile).
 use Rattle.std.specs.Prelude.{◌≡◌, ℕ, ◌+◌, ◌<◌, ◌≤◌, List, length, drop, slice_range, map, ℤ}
 use Rattle.std.specs.List.{AllByRecursion}
 use Rattle.fz_base.specs.declared.span.Span.{Span}
@@ -28,7 +28,8 @@ all_spanned tokens = map spanned tokens
 
 -- The text of each token is the slice of the source at its span.
 abbrev pub TextsAreSlices : List ℕ → List Token → Type 0
-TextsAreSlices source tokens = AllByRecursion (λ t. t.text.now ≡ slice_range source t.span.start t.span.end) tokens
+TextsAreSlices source tokens =
+    AllByRecursion (λ t. t.text.now ≡ slice_range source t.span.start t.span.end) tokens
 
 -- The text of the token stands in the source where the token says.
 abbrev pub IsSpelledAtSpan : List ℕ → SpannedToken → Type 0
@@ -49,15 +50,19 @@ IsPlacedWithin end (TooDeep span) = IsSpanWithin end span
 IsPlacedWithin end (TooMany span) = IsSpanWithin end span
 IsPlacedWithin end Memory = Unit {0}
 
--- What a refusal by the lexer tells of the source. The first two say that the source is cut up to the place
--- of the fault, with numbers within the limit: at a bad byte nothing begins, and at a number that is too
--- large the longest text of any token is that of a number outside the limit.
+-- What a refusal by the lexer tells of the source. The first two say that the source is cut up to
+-- the place of the fault, with numbers within the limit: at a bad byte nothing begins, and at a
+-- number that is too large the longest text of any token is that of a number outside the limit.
 abbrev pub IsLexicalFault : List ℕ → SyntaxError → Type 0
 IsLexicalFault source TooLong = most_bytes < length source
 IsLexicalFault source (BadByte span) =
-    (before : List SpannedToken) × CutUpTo source span.start before × AreWithinLimit before × NothingBegins (drop span.start source) × (span.end ≡ span.start + 1)
+    (before : List SpannedToken) × CutUpTo source span.start before
+    × AreWithinLimit before × NothingBegins (drop span.start source)
+    × (span.end ≡ span.start + 1)
 IsLexicalFault source (TooLarge span) =
-    (before : List SpannedToken) × (n : ℕ) × (z : ℤ) × CutUpTo source span.start before × AreWithinLimit before × IsLongestSpelling (drop span.start source) n (Whole z) × (¬ (IsWithinLimit z)) × (span.end ≡ span.start + n)
+    (before : List SpannedToken) × (n : ℕ) × (z : ℤ) × CutUpTo source span.start before
+    × AreWithinLimit before × IsLongestSpelling (drop span.start source) n (Whole z)
+    × (¬ (IsWithinLimit z)) × (span.end ≡ span.start + n)
 IsLexicalFault source (Float span) = ⊥
 IsLexicalFault source (Syntax span) = ⊥
 IsLexicalFault source (TooDeep span) = ⊥

@@ -14,14 +14,16 @@ use crate::lexer::{Lexer, MOST_BYTES};
 use crate::token::Token;
 use fz_base::Span;
 
-/// Tells whether a text consists of tokens, blanks and comments, by the rules of `lex`. It takes no memory.
+/// Tells whether a text consists of tokens, blanks and comments, by the rules of `lex`. It takes no
+/// memory.
 ///
 /// # Errors
 /// Those of `lex`, but never `Memory`.
 pub fn check_tokens(source: &[u8]) -> Result<(), SyntaxError>
     // The source lexes to the tokens ahead of its first byte, within the limits.
     ensures found { OnOk result (LexesWithinLimits source.now (tokens_ahead source.now 0)) }
-    ensures only { (tokens : List SpannedToken) → LexesWithinLimits source.now tokens → IsOk result }
+    ensures only { (tokens : List SpannedToken) → LexesWithinLimits source.now tokens
+        → IsOk result }
     ensures too_long { most_bytes < length source.now → result ≡ Err SyntaxError.TooLong }
     ensures refused { IfErr result (IsLexicalFault source.now) }
     ensures no_memory { IfErr result (λ e. e ≢ SyntaxError.Memory) }
@@ -92,11 +94,12 @@ impl<'a> Tokens<'a> {
         }
     }
 
-    /// Takes the first token that is left and the comma behind it, where nothing stands between them. Most elements of
-    /// a list are such tokens, and are read at once so.
+    /// Takes the first token that is left and the comma behind it, where nothing stands between
+    /// them. Most elements of a list are such tokens, and are read at once so.
     #[inline(always)]
     pub fn take_listed(&mut self) -> Option<Listed<'a>>
-        ensures taken { IfSome result (λ l. left self.old ≡ spanned l.token ∷ (listed_comma l ∷ left self.new)) }
+        ensures taken { IfSome result (λ l. left self.old
+            ≡ spanned l.token ∷ (listed_comma l ∷ left self.new)) }
         ensures kept { IfNone result (self.new ≡ self.old) }
         ensures source { source_of self.new ≡ source_of self.old }
     {
@@ -106,16 +109,19 @@ impl<'a> Tokens<'a> {
         Some(Listed { token, comma })
     }
 
-    /// Reads on to the end of the text, and tells whether the whole text consists of tokens, blanks and comments,
-    /// with numbers within the limit. It takes no memory.
+    /// Reads on to the end of the text, and tells whether the whole text consists of tokens, blanks
+    /// and comments, with numbers within the limit. It takes no memory.
     ///
     /// # Errors
     /// The leftmost of `BadByte` and `TooLarge`, wherever it stands. No other error comes.
     pub fn finish(self) -> Result<(), SyntaxError>
-        // The whole text lexes to the tokens ahead of its first byte, with numbers within the limit.
-        ensures lexes { OnOk result (LexesToSpanned (source_of self.entry) (tokens_ahead (source_of self.entry) 0)) }
+        // The whole text lexes to the tokens ahead of its first byte, with numbers within the
+        // limit.
+        ensures lexes { OnOk result (LexesToSpanned (source_of self.entry)
+            (tokens_ahead (source_of self.entry) 0)) }
         ensures numbers { OnOk result (AreWithinLimit (tokens_ahead (source_of self.entry) 0)) }
-        ensures only { (tokens : List SpannedToken) → LexesWithinLimits (source_of self.entry) tokens → IsOk result }
+        ensures only { (tokens : List SpannedToken)
+            → LexesWithinLimits (source_of self.entry) tokens → IsOk result }
         ensures refused { IfErr result (IsLexicalFault (source_of self.entry)) }
         ensures no_memory { IfErr result (λ e. e ≢ SyntaxError.Memory) }
         // It doesn't look at the length of the text.
@@ -132,8 +138,8 @@ impl<'a> Tokens<'a> {
         self.first = self.lexer.next_token().unwrap_or(None);
     }
 
-    /// Loads the next token inside a list, where most tokens are short numbers with nothing before them: such a one is
-    /// read right here, and every other token by a call.
+    /// Loads the next token inside a list, where most tokens are short numbers with nothing before
+    /// them: such a one is read right here, and every other token by a call.
     #[inline(always)]
     fn load_listed(&mut self)
         ensures left { left self.new ≡ tokens_ahead self.old.lexer.source.now self.old.lexer.place }

@@ -13,7 +13,7 @@ pub enum SyntaxError {
     /// No blank, comment or token begins at this byte.
     #[error("BadByte")]
     BadByte(Span),
-    /// This whole number needs more than 64 bits.
+    /// This integer needs more than 64 bits.
     #[error("TooLarge")]
     TooLarge(Span),
     /// A float, or the word `float`, where none is allowed.

@@ -24,7 +24,8 @@ fn gap_end(source: &[u8], from: usize) -> usize
     ensures within { (from ≤ result) × (result ≤ length source.now) }
     ensures gap { CutBetween source.now from result [] }
     ensures stops { result < length source.now
-        → IsFalse (bytes_spec.is_blank (slice_index source.now result)) × (slice_index source.now result ≢ 37) }
+        → IsFalse (bytes_spec.is_blank (slice_index source.now result))
+        × (slice_index source.now result ≢ 37) }
 {
     let mut place = from;
     while place < source.len() {
@@ -58,8 +59,10 @@ impl<'a> Lexer<'a> {
     #[inline(always)]
     pub(crate) fn eat_comma(&mut self) -> Option<Span>
         ensures source { self.new.source.now ≡ self.old.source.now }
-        ensures comma { IfSome result (λ s. (s.start ≡ self.old.place) × (s.end ≡ self.old.place + 1) × (self.new.place ≡ self.old.place + 1)) }
-        ensures ahead { IfSome result (λ s. tokens_ahead self.old.source.now self.old.place ≡ comma_at self.old.place ∷ tokens_ahead self.new.source.now self.new.place) }
+        ensures comma { IfSome result (λ s. (s.start ≡ self.old.place)
+            × (s.end ≡ self.old.place + 1) × (self.new.place ≡ self.old.place + 1)) }
+        ensures ahead { IfSome result (λ s. tokens_ahead self.old.source.now self.old.place
+            ≡ comma_at self.old.place ∷ tokens_ahead self.new.source.now self.new.place) }
         ensures kept { IfNone result (self.new ≡ self.old) }
     {
         let start = self.place;
@@ -71,11 +74,12 @@ impl<'a> Lexer<'a> {
         Some(Span { start, end })
     }
 
-    /// Goes on behind a short whole number that stands right here, and gives it as a token.
+    /// Goes on behind a short integer that stands right here, and gives it as a token.
     #[inline(always)]
     pub(crate) fn eat_short(&mut self) -> Option<Token<'a>>
         ensures source { self.new.source.now ≡ self.old.source.now }
-        ensures token { IfSome result (λ t. NextFrom self.old.source.now self.old.place self.new.place (Some t)) }
+        ensures token { IfSome result (λ t. NextFrom self.old.source.now self.old.place
+            self.new.place (Some t)) }
         ensures kept { IfNone result (self.new ≡ self.old) }
     {
         let source = self.source;
@@ -137,20 +141,25 @@ fn tokens<'a>(alloc: Global, source: &'a [u8]) -> Result<Vec<Token<'a>>, SyntaxE
     Ok(tokens)
 }
 
-/// The tokens of a text in order, each with its place and its text. Blanks and comments lie between them, and
-/// each token is the longest that begins at its place (MiniZinc Handbook, FlatZinc grammar).
+/// The tokens of a text in order, each with its place and its text. Blanks and comments lie between
+/// them, and each token is the longest that begins at its place (MiniZinc Handbook, FlatZinc
+/// grammar).
 ///
 /// # Errors
-/// `TooLong` where the text has more than 16,777,216 bytes; else the leftmost of `BadByte`, a byte at which nothing
-/// begins, and `TooLarge`, a whole number outside 64 bits; `Memory` where none is left. No other error comes.
+/// `TooLong` where the text has more than 16,777,216 bytes; else the leftmost of `BadByte`, a byte
+/// at which nothing begins, and `TooLarge`, an integer outside 64 bits; `Memory` where none is
+/// left. No other error comes.
 pub fn lex<'a>(alloc: Global, source: &'a [u8]) -> Result<Vec<Token<'a>>, SyntaxError>
     // What is given is what the source lexes to, within the limits.
-    ensures found { IfOk result (λ tokens. LexesWithinLimits source.now (all_spanned tokens.items)) }
+    ensures found { IfOk result (λ tokens. LexesWithinLimits source.now
+        (all_spanned tokens.items)) }
     ensures texts { IfOk result (λ tokens. TextsAreSlices source.now tokens.items) }
-    ensures in_order { IfOk result (λ tokens. AreInOrder 0 (length source.now) (all_spanned tokens.items)) }
+    ensures in_order { IfOk result
+        (λ tokens. AreInOrder 0 (length source.now) (all_spanned tokens.items)) }
     // What the source lexes to within the limits is given, unless memory runs out.
     ensures only { (tokens : List SpannedToken) → LexesWithinLimits source.now tokens
-        → MatchResult result (λ given. all_spanned given.items ≡ tokens) (λ e. e ≡ SyntaxError.Memory) }
+        → MatchResult result (λ given. all_spanned given.items ≡ tokens)
+        (λ e. e ≡ SyntaxError.Memory) }
     // Which fault it is.
     ensures too_long { most_bytes < length source.now → result ≡ Err SyntaxError.TooLong }
     ensures refused { IfErr result (IsLexicalFault source.now) }

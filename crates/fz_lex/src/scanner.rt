@@ -13,7 +13,7 @@ ghost use Rattle.fz_lex.specs.Found.{IsFrontOf, IsNumberFound};
 use crate::token::{Mark, TokenKind};
 use crate::word::word_len;
 
-/// The least and the greatest whole number that is read.
+/// The least and the greatest integer that is read.
 const LEAST_WHOLE: i64 = i64::MIN;
 
 const GREATEST_WHOLE: i64 = i64::MAX;
@@ -151,7 +151,8 @@ fn exponent_len(bytes: &[u8]) -> usize
     }
 }
 
-/// A number without a sign: its magnitude where it is whole, or the greatest `u64` where that is larger.
+/// A number without a sign: its magnitude where it is whole, or the greatest `u64` where that is
+/// larger.
 #[derive(Drop)]
 struct NumberFront {
     magnitude: Option<u64>,
@@ -169,7 +170,8 @@ fn based_number(bytes: &[u8], base: u8) -> NumberFront
     requires { 2 ≤ length bytes.now }
     ensures len { result.len ≡ (scan.based_number base bytes.now).len }
     ensures within { result.len ≤ length bytes.now }
-    ensures magnitude { result.magnitude ≡ option_map (λ n. min n (2 ^ 64 - 1)) (scan.based_number base bytes.now).natural }
+    ensures magnitude { result.magnitude
+        ≡ option_map (λ n. min n (2 ^ 64 - 1)) (scan.based_number base bytes.now).natural }
 {
     let digits = digits(&bytes[2..], base);
     NumberFront {
@@ -182,7 +184,8 @@ fn based_number(bytes: &[u8], base: u8) -> NumberFront
 fn number_front(bytes: &[u8]) -> NumberFront
     ensures len { result.len ≡ (scan.number_front bytes.now).len }
     ensures within { result.len ≤ length bytes.now }
-    ensures magnitude { result.magnitude ≡ option_map (λ n. min n (2 ^ 64 - 1)) (scan.number_front bytes.now).natural }
+    ensures magnitude { result.magnitude
+        ≡ option_map (λ n. min n (2 ^ 64 - 1)) (scan.number_front bytes.now).natural }
 {
     if is_based(bytes, b'x', 16) {
         return based_number(bytes, 16);
@@ -206,7 +209,8 @@ fn number_front(bytes: &[u8]) -> NumberFront
     }
 }
 
-/// Digits at the front and their number, where that is below 2^63 by a first look: nearly all numbers are.
+/// Digits at the front and their number, where that is below 2^63 by a first look: nearly all
+/// numbers are.
 #[inline(always)]
 fn short_digits(bytes: &[u8]) -> Option<DigitRun>
     ensures len { IfSome result (λ run. run.len ≡ scan.digits_len 10 bytes.now) }
@@ -231,20 +235,25 @@ fn short_digits(bytes: &[u8]) -> Option<DigitRun>
     Some(DigitRun { len, value })
 }
 
-/// Whether a number may go on with the byte behind its first digits: a point, an exponent, or the letter of a base.
+/// Whether a number may go on with the byte behind its first digits: a point, an exponent, or the
+/// letter of a base.
 #[inline(always)]
 fn may_go_on(byte: u8) -> bool
-    ensures { IsFalse result → (byte ≢ 46) × (byte ≢ 101) × (byte ≢ 69) × (byte ≢ 120) × (byte ≢ 111) }
+    ensures { IsFalse result → (byte ≢ 46) × (byte ≢ 101) × (byte ≢ 69) × (byte ≢ 120)
+        × (byte ≢ 111) }
 {
     matches!(byte, b'.' | b'e' | b'E' | b'x' | b'o')
 }
 
-/// A number without a sign that is whole and small, where that shows from its digits and the byte behind them.
+/// A number without a sign that is whole and small, where that shows from its digits and the byte
+/// behind them.
 #[inline(always)]
 fn short_number(bytes: &[u8]) -> Option<DigitRun>
-    ensures is { IfSome result (λ run. scan.number_front bytes.now ≡ record { natural = Some run.value; len = run.len }) }
+    ensures is { IfSome result (λ run. scan.number_front bytes.now
+        ≡ record { natural = Some run.value; len = run.len }) }
     ensures within { IfSome result (λ run. run.len ≤ length bytes.now) }
-    ensures some { IfSome result (λ run. 0 < run.len → is_digit (slice_index bytes.now 0) 10 ≡ true) }
+    ensures some { IfSome result (λ run. 0 < run.len
+        → is_digit (slice_index bytes.now 0) 10 ≡ true) }
     ensures small { IfSome result (λ run. run.value < 2 ^ 63) }
 {
     match short_digits(bytes) {
@@ -298,7 +307,7 @@ fn mark_front(bytes: &[u8]) -> Option<(Mark, usize)>
     }
 }
 
-/// The whole number with a sign and a magnitude, where it is within the limit.
+/// The integer with a sign and a magnitude, where it is within the limit.
 fn whole_number(negative: bool, magnitude: u64) -> Option<i64>
     ensures within { IfSome result (λ z. (z ≡ scan.signed negative magnitude) × IsWithinLimit z) }
     ensures outside { IfNone result (¬ (IsWithinLimit (scan.signed negative magnitude))) }
@@ -314,8 +323,8 @@ fn whole_number(negative: bool, magnitude: u64) -> Option<i64>
     Some(value as i64)
 }
 
-/// What stands at the front of some bytes: a token with the length of its text, a whole number outside the
-/// limit with that length, or nothing.
+/// What stands at the front of some bytes: a token with the length of its text, an integer outside
+/// the limit with that length, or nothing.
 #[derive(Drop)]
 pub(crate) enum Front {
     Found(TokenKind, usize),
@@ -354,17 +363,18 @@ fn lone_mark(byte: u8) -> Option<Mark>
     }
 }
 
-/// A whole number within the limit and the length of its text.
+/// An integer within the limit and the length of its text.
 #[derive(Drop)]
 pub(crate) struct WholeFront {
     pub(crate) value: i64,
     pub(crate) len: usize,
 }
 
-/// The whole number at the front, where one stands there and is a short one.
+/// The integer at the front, where one stands there and is a short one.
 #[inline(always)]
 pub(crate) fn short_whole(bytes: &[u8]) -> Option<WholeFront>
-    ensures { IfSome result (λ w. (scan.front_of bytes.now ≡ scan.found (Whole w.value) w.len) × IsWithinLimit w.value) }
+    ensures { IfSome result (λ w. (scan.front_of bytes.now ≡ scan.found (Whole w.value) w.len)
+        × IsWithinLimit w.value) }
 {
     match byte_at(bytes, 0) {
         b'0'..=b'9' => match short_number(bytes) {

@@ -17,8 +17,8 @@ pub enum Mark {
     DotDot,
 }
 
-/// What a token is: a word (a name or a reserved word), a whole number with its value, a float, a string, or a mark.
-/// Floats and strings have no value; their text is kept as it stands.
+/// What a token is: a word (a name or a reserved word), an integer with its value, a float, a
+/// string, or a mark. Floats and strings have no value; their text is kept as it stands.
 #[derive(Clone, Copy, Debug, PartialEq, Eq)]
 pub enum TokenKind {
     Word,

@@ -1,5 +1,6 @@
--- In each row of the table an argument that `defines_var` may fill is determined by the others: two values of it with which the row
--- holds are equal. Of `int_lin_eq` this is said of one element of the second array with the coefficient 1 or -1.
+-- In each row of the table an argument that `defines_var` may fill is determined by the others: two
+-- values of it with which the row holds are equal. Of `int_lin_eq` this is said of one element of
+-- the second array with the coefficient 1 or -1.
 use Rattle.std.proofs.Common.{◌≡◌, ℕ, suc, zero, ℤ, pos, negsuc, ◌+ℤ◌, ◌*ℤ◌, neg_ℤ, Bool, true, false, not, ◌&&◌, ◌||◌, cond, List, [], ◌∷◌, ◌++◌, map, length, find, Option, Some, None, refl, sym, ap, subst, ◌∙◌, arith, int_le, int_div, int_rem, unsigned_abs, ◌⊎◌, inl, inr}
 use Rattle.std.specs.Prelude.{⊤}
 use Rattle.std.proofs.lemmas.Int.{ints}
@@ -96,13 +97,16 @@ number_both true false n d e = let h : pos 1 ≡ pos 0 = sym (same_int n (pos 1)
 number_both false true n d e = let h : pos 0 ≡ pos 1 = sym (same_int n (pos 0) d) ∙ same_int n (pos 1) e in cc
 
 -- one element
-element_both : {A : Type 0} (same : A → A → Bool) → ((x y z : A) → same z x ≡ true → same z y ≡ true → x ≡ y) → (o : Option A) (x y : A) → option_map_or (λ w. same w x) o false ≡ true → option_map_or (λ w. same w y) o false ≡ true → x ≡ y
+element_both : {A : Type 0} (same : A → A → Bool) → ((x y z : A) → same z x ≡ true → same z y ≡ true
+    → x ≡ y) → (o : Option A) (x y : A) → option_map_or (λ w. same w x) o false ≡ true
+    → option_map_or (λ w. same w y) o false ≡ true → x ≡ y
 element_both same is None x y d e = no d
 element_both same is (Some w) x y d e = is x y w d e
 
 -- the greatest, and the least
 module _ (below : ℤ → ℤ → Bool) (antisymmetric : (x y : ℤ) → below x y ≡ true → below y x ≡ true → x ≡ y) where
-  each_at : (x : ℤ) (b : List ℤ) → list_any (λ z. z =ℤ x) b ≡ true → (t : ℤ → Bool) → list_all t b ≡ true → t x ≡ true
+  each_at : (x : ℤ) (b : List ℤ) → list_any (λ z. z =ℤ x) b ≡ true → (t : ℤ → Bool)
+      → list_all t b ≡ true → t x ≡ true
   each_at x [] is t all = no is
   each_at x (z ∷ b) is t all =
       elim (z =ℤ x) as (λ r. (z =ℤ x) ≡ r → (r || list_any (λ z. z =ℤ x) b) ≡ true → t x ≡ true) [
@@ -110,14 +114,16 @@ module _ (below : ℤ → ℤ → Bool) (antisymmetric : (x y : ℤ) → below x
         | false ↦ λ _ is. each_at x b is t (and_second (t z) (list_all t b) all)
       ] refl is
 
-  extreme_both : (b : List ℤ) (x y : ℤ) → (is_among x b && list_all (λ z. below z x) b) ≡ true → (is_among y b && list_all (λ z. below z y) b) ≡ true → x ≡ y
+  extreme_both : (b : List ℤ) (x y : ℤ) → (is_among x b && list_all (λ z. below z x) b) ≡ true
+      → (is_among y b && list_all (λ z. below z y) b) ≡ true → x ≡ y
   extreme_both b x y d e =
       antisymmetric x y
       (each_at x b (and_first (is_among x b) _ d) (λ z. below z y) (and_second (is_among y b) _ e))
       (each_at y b (and_first (is_among y b) _ e) (λ z. below z x) (and_second (is_among x b) _ d))
 
   -- the place of the best
-  any_found : (p : ℤ → Bool) (b : List ℤ) → list_any p b ≡ true → (m : ℤ) × ((p m ≡ true) × (is_among m b ≡ true))
+  any_found : (p : ℤ → Bool) (b : List ℤ) → list_any p b ≡ true
+      → (m : ℤ) × ((p m ≡ true) × (is_among m b ≡ true))
   any_found p [] e = no e
   any_found p (z ∷ b) e =
       elim (p z) as (λ r. p z ≡ r → (r || list_any p b) ≡ true → (m : ℤ) × ((p m ≡ true) × (is_among m (z ∷ b) ≡ true))) [
@@ -129,7 +135,8 @@ module _ (below : ℤ → ℤ → Bool) (antisymmetric : (x y : ℤ) → below x
       behind true q h = refl
       behind false q h = h
 
-  index_both : (b : List ℤ) (o x y : ℤ) → is_index_of_best below b o x ≡ true → is_index_of_best below b o y ≡ true → x ≡ y
+  index_both : (b : List ℤ) (o x y : ℤ) → is_index_of_best below b o x ≡ true
+      → is_index_of_best below b o y ≡ true → x ≡ y
   index_both b o x y d e =
       let (m, (h, is)) = any_found (λ m. list_all (λ z. below z m) b && option_map_or (λ j. j =ℤ x) (index_from o b m) false) b d in
       let (n, (k, also)) = any_found (λ m. list_all (λ z. below z m) b && option_map_or (λ j. j =ℤ y) (index_from o b m) false) b e in
@@ -146,7 +153,9 @@ plus_assoc p q r = omega (arith, ints)
 
 -- ---- the sum of products, at one element
 
-sum_at : (as' bs : List ℤ) (a x : ℤ) (cs ds : List ℤ) → length as' ≡ length bs → total (products (as' ++ a ∷ cs) (bs ++ x ∷ ds)) ≡ total (products as' bs) +ℤ ((a *ℤ x) +ℤ total (products cs ds))
+sum_at : (as' bs : List ℤ) (a x : ℤ) (cs ds : List ℤ) → length as' ≡ length bs
+    → total (products (as' ++ a ∷ cs) (bs ++ x ∷ ds))
+    ≡ total (products as' bs) +ℤ ((a *ℤ x) +ℤ total (products cs ds))
 sum_at [] [] a x cs ds e = omega (arith, ints)
 sum_at [] (b ∷ bs) a x cs ds e = absurd (omega arith)
 sum_at (b ∷ as') [] a x cs ds e = absurd (omega arith)
@@ -173,7 +182,8 @@ times_unit a x y p q (inr u) e =
     let k : p +ℤ (neg_ℤ x +ℤ q) ≡ p +ℤ (neg_ℤ y +ℤ q) = rw (less_one_times x, less_one_times y) at h in
     omega (arith, ints)
 
-term_both : DeterminesTerm (ArrayOf IntKind ∷ ArrayOf IntKind ∷ ScalarOf IntKind ∷ []) (λ a b c. total (products a b) =ℤ c)
+term_both : DeterminesTerm (ArrayOf IntKind ∷ ArrayOf IntKind ∷ ScalarOf IntKind ∷ [])
+    (λ a b c. total (products a b) =ℤ c)
 term_both as' bs a x cs ds y same u c d e =
     times_unit a x y (total (products as' bs)) (total (products cs ds)) u
     (sym (sum_at as' bs a x cs ds same) ∙ same_int _ c d ∙ sym (same_int _ c e) ∙ sum_at as' bs a y cs ds same)
@@ -227,8 +237,9 @@ base_rows_determine : (bs : List Builtin) → AllByRecursion RowDetermines (map 
 base_rows_determine [] = tt
 base_rows_determine (b ∷ bs) = (row_determines b, base_rows_determine bs)
 
--- the truth value of a reified row is determined, whatever the row
-reified_determines : (ss : List Shape) (t : Test ss) → Determines (with_bool ss) (with_truth ◌=ᴮ◌ ss t) (length ss)
+-- the Boolean of a reified row is determined, whatever the row
+reified_determines : (ss : List Shape) (t : Test ss)
+    → Determines (with_bool ss) (with_truth ◌=ᴮ◌ ss t) (length ss)
 reified_determines [] t = λ x y. bool_both x y t
 reified_determines (s ∷ ss) t = λ x. reified_determines ss (t x)
 
@@ -246,7 +257,8 @@ rows_determine =
     all_append RowDetermines base_rows (map reified rows_with_forms ++ map implied rows_with_forms) (base_rows_determine builtins)
     (all_append RowDetermines (map reified rows_with_forms) (map implied rows_with_forms) (reified_rows_determine rows_with_forms) (implied_rows_determine rows_with_forms))
 
-pub at_found : {A : Type 0} (P : A → Type 0) (t : A → Bool) (xs : List A) (x : A) → AllByRecursion P xs → find t xs ≡ Some x → P x
+pub at_found : {A : Type 0} (P : A → Type 0) (t : A → Bool) (xs : List A) (x : A)
+    → AllByRecursion P xs → find t xs ≡ Some x → P x
 at_found P t [] x h e = cc
 at_found P t (y ∷ ys) x h e =
     elim (t y) as (λ b. cond b (Some y) (find t ys) ≡ Some x → P x) [

@@ -8,14 +8,17 @@ use Rattle.std.proofs.lemmas.Nat.{le_bytes_8}
 use Rattle.std.proofs.lemmas.Slice.Eq.{bytes_eq-Decides}
 
 -- where the ends are the same, the fronts decide
-pub fronts_decide : (xs ys : List ℕ) (k : ℕ) → drop k xs ≡ drop k ys → bytes_eq (take k xs) (take k ys) ≡ bytes_eq xs ys
+pub fronts_decide : (xs ys : List ℕ) (k : ℕ) → drop k xs ≡ drop k ys
+    → bytes_eq (take k xs) (take k ys) ≡ bytes_eq xs ys
 fronts_decide xs ys k ends =
     let whole = bytes_eq-Decides xs ys in
     let front = bytes_eq-Decides (take k xs) (take k ys) in
     same_from_decides _ _ (λ t. sym (take-append-drop k xs) ∙ ap₂ ◌++◌ (front.0 t) ends ∙ take-append-drop k ys, λ e. front.1 (ap (take k) e)) whole
 
 -- eight bytes are the same where the numbers that they spell are
-pub numbers_decide : (xs ys : List ℕ) → length xs ≡ 8 → length ys ≡ 8 → ((i : ℕ) → get_or xs i 0 < 256) → ((i : ℕ) → get_or ys i 0 < 256) → (from_le_bytes w64 xs == from_le_bytes w64 ys) ≡ bytes_eq xs ys
+pub numbers_decide : (xs ys : List ℕ) → length xs ≡ 8 → length ys ≡ 8
+    → ((i : ℕ) → get_or xs i 0 < 256) → ((i : ℕ) → get_or ys i 0 < 256)
+    → (from_le_bytes w64 xs == from_le_bytes w64 ys) ≡ bytes_eq xs ys
 numbers_decide xs ys eight eight' bytes bytes' =
     let numbers = Decides-eqb (from_le_bytes w64 xs) (from_le_bytes w64 ys) in
     let texts = bytes_eq-Decides xs ys in

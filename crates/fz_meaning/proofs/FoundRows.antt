@@ -22,7 +22,8 @@ found_own IntEq = refl
 found_own _ = refl
 
 -- what holds of all that are listed holds of each
-all_found : (t q : Builtin → Bool) (bs : List Builtin) (b : Builtin) → list_all q bs ≡ true → find t bs ≡ Some b → q b ≡ true
+all_found : (t q : Builtin → Bool) (bs : List Builtin) (b : Builtin) → list_all q bs ≡ true
+    → find t bs ≡ Some b → q b ≡ true
 all_found t q [] b h e = cc
 all_found t q (d ∷ bs) b h e =
     elim (t d) as (λ c. cond c (Some d) (find t bs) ≡ Some b → q b ≡ true) [
@@ -37,13 +38,15 @@ each_builtin q h b = all_found (called (name_of b)) q builtins b h (found_own b)
 pub own_name : (b d : Builtin) → name_of b ≡ name_of d → b ≡ d
 own_name b d e = let same : Some b ≡ Some d = sym (found_own b) ∙ ap (λ n. find (called n) builtins) e ∙ found_own d in cc
 
-find_row : (x : List ℕ) (bs : List Builtin) → find (named x) (map row_at bs) ≡ option_map row_at (find (called x) bs)
+find_row : (x : List ℕ) (bs : List Builtin)
+    → find (named x) (map row_at bs) ≡ option_map row_at (find (called x) bs)
 find_row x [] = refl
 find_row x (b ∷ bs) = elim (called x b) as (λ c. cond c (Some (row_at b)) (find (named x) (map row_at bs)) ≡ option_map row_at (cond c (Some b) (find (called x) bs))) [ true ↦ refl | false ↦ find_row x bs ]
 
 -- ---- the builtins of a name's length
 
-named_alike : (x : List ℕ) (bs : List Builtin) → find (λ b. called x b && (length (name_of b) == length x)) bs ≡ find (called x) bs
+named_alike : (x : List ℕ) (bs : List Builtin)
+    → find (λ b. called x b && (length (name_of b) == length x)) bs ≡ find (called x) bs
 named_alike x [] = refl
 named_alike x (b ∷ bs) =
     (elim (called x b) as (λ c. called x b ≡ c → cond (c && (length (name_of b) == length x)) (Some b) (find (λ d. called x d && (length (name_of d) == length x)) bs) ≡ cond c (Some b) (find (called x) bs)) [
@@ -53,7 +56,8 @@ named_alike x (b ∷ bs) =
     ]) refl
 
 -- a name is looked for among those only
-pub find_by_length : (x : List ℕ) → find (called x) (named_so_long (length x)) ≡ find (called x) builtins
+pub find_by_length : (x : List ℕ)
+    → find (called x) (named_so_long (length x)) ≡ find (called x) builtins
 find_by_length x = find_filter (called x) (λ b. length (name_of b) == length x) builtins ∙ named_alike x builtins
 
 -- ---- the loop over them
@@ -78,7 +82,8 @@ module _ {E : Type 0} (text : E → List ℕ) (what : E → Builtin) where
     found : option_map what (find (λ n. bytes_eq (text n) x) (drop i ns)) ≡ find (called x) builtins
     found = ap (option_map what) so_far ∙ found_in x ns (named_so_long (length x)) listed ∙ find_by_length x
 
-    pub found_here : (d : E) → i < length ns → bytes_eq (text (get_or ns i d)) x ≡ true → Some (what (get_or ns i d)) ≡ find (called x) builtins
+    pub found_here : (d : E) → i < length ns → bytes_eq (text (get_or ns i d)) x ≡ true
+        → Some (what (get_or ns i d)) ≡ find (called x) builtins
     found_here d below e =
         sym (ap (option_map what) (at_drop_more (find (λ n. bytes_eq (text n) x)) ns i d below ∙ ap (λ c. cond c (Some (get_or ns i d)) (find (λ n. bytes_eq (text n) x) (drop (i + 1) ns))) e)) ∙ found
 
@@ -87,7 +92,9 @@ module _ {E : Type 0} (text : E → List ℕ) (what : E → Builtin) where
 
 -- ---- the row of what is found
 
-option_step : (u : Row → Bool) (o : Option Builtin) → option_and_then (λ r. cond (u r) (Some r) None) (option_map row_at o) ≡ option_map row_at (option_and_then (λ b. cond (u (row_at b)) (Some b) None) o)
+option_step : (u : Row → Bool) (o : Option Builtin) → option_and_then
+    (λ r. cond (u r) (Some r) None) (option_map row_at o)
+    ≡ option_map row_at (option_and_then (λ b. cond (u (row_at b)) (Some b) None) o)
 option_step u None = refl
 option_step u (Some b) = (elim (u (row_at b)) as (λ c. cond c (Some (row_at b)) None ≡ option_map row_at (cond c (Some b) None)) [ true ↦ refl | false ↦ refl ])
 
@@ -96,37 +103,46 @@ module _ (x : List ℕ) (o : Option Builtin) (is : o ≡ find (called x) builtin
   found_row = find_row x builtins ∙ ap (option_map row_at) (sym is)
 
   -- a name without a suffix
-  base_is : ((front : List ℕ) → x ≢ front ++ codes "_reif") → ((front : List ℕ) → x ≢ front ++ codes "_imp") → row_named x ≡ option_map row_at o
+  base_is : ((front : List ℕ) → x ≢ front ++ codes "_reif")
+      → ((front : List ℕ) → x ≢ front ++ codes "_imp") → row_named x ≡ option_map row_at o
   base_is not_reified not_implied = row_named_base x not_reified not_implied ∙ found_row
 
   -- a name with one
-  form_is : (f : Form) → HasTruth f → row_named (x ++ suffix_of f) ≡ option_map (λ b. form_at f (row_at b)) (option_and_then (λ b. cond (row_at b).has_forms (Some b) None) o)
+  form_is : (f : Form) → HasTruth f → row_named (x ++ suffix_of f)
+      ≡ option_map (λ b. form_at f (row_at b))
+      (option_and_then (λ b. cond (row_at b).has_forms (Some b) None) o)
   form_is f h =
       row_named_form f h x
       ∙ ap (λ q. option_map (form_at f) (option_and_then (λ r. cond r.has_forms (Some r) None) q)) found_row
       ∙ ap (option_map (form_at f)) (option_step (λ r. r.has_forms) o)
       ∙ twice (option_and_then (λ b. cond (row_at b).has_forms (Some b) None) o)
     where
-      twice : (q : Option Builtin) → option_map (form_at f) (option_map row_at q) ≡ option_map (λ b. form_at f (row_at b)) q
+      twice : (q : Option Builtin) → option_map (form_at f) (option_map row_at q)
+          ≡ option_map (λ b. form_at f (row_at b)) q
       twice None = refl
       twice (Some b) = refl
 
   abbrev with_forms : Form → Option Builtin → Option Row
   with_forms f q = option_map (λ b. form_at f (row_at b)) (option_and_then (λ b. cond (row_at b).has_forms (Some b) None) q)
 
-  pub base_none : ((front : List ℕ) → x ≢ front ++ codes "_reif") → ((front : List ℕ) → x ≢ front ++ codes "_imp") → o ≡ None → row_named x ≡ None
+  pub base_none : ((front : List ℕ) → x ≢ front ++ codes "_reif")
+      → ((front : List ℕ) → x ≢ front ++ codes "_imp") → o ≡ None → row_named x ≡ None
   base_none r i e = base_is r i ∙ ap (option_map row_at) e
 
-  pub base_some : ((front : List ℕ) → x ≢ front ++ codes "_reif") → ((front : List ℕ) → x ≢ front ++ codes "_imp") → (b : Builtin) → o ≡ Some b → row_named x ≡ Some (row_at b)
+  pub base_some : ((front : List ℕ) → x ≢ front ++ codes "_reif")
+      → ((front : List ℕ) → x ≢ front ++ codes "_imp") → (b : Builtin) → o ≡ Some b
+      → row_named x ≡ Some (row_at b)
   base_some r i b e = base_is r i ∙ ap (option_map row_at) e
 
   pub form_none : (f : Form) → HasTruth f → o ≡ None → row_named (x ++ suffix_of f) ≡ None
   form_none f h e = form_is f h ∙ ap (with_forms f) e
 
-  pub form_some : (f : Form) → HasTruth f → (b : Builtin) → o ≡ Some b → (row_at b).has_forms ≡ true → row_named (x ++ suffix_of f) ≡ Some (form_at f (row_at b))
+  pub form_some : (f : Form) → HasTruth f → (b : Builtin) → o ≡ Some b → (row_at b).has_forms ≡ true
+      → row_named (x ++ suffix_of f) ≡ Some (form_at f (row_at b))
   form_some f h b e has = form_is f h ∙ ap (with_forms f) e ∙ ap (λ c. option_map (λ b. form_at f (row_at b)) (cond c (Some b) None)) has
 
-  pub form_lacks : (f : Form) → HasTruth f → (b : Builtin) → o ≡ Some b → (row_at b).has_forms ≡ false → row_named (x ++ suffix_of f) ≡ None
+  pub form_lacks : (f : Form) → HasTruth f → (b : Builtin) → o ≡ Some b
+      → (row_at b).has_forms ≡ false → row_named (x ++ suffix_of f) ≡ None
   form_lacks f h b e has = form_is f h ∙ ap (with_forms f) e ∙ ap (λ c. option_map (λ b. form_at f (row_at b)) (cond c (Some b) None)) has
 
 pub if_none : {A : Type 0} (o : Option A) (P : Type 0) → P → IfNone o P
@@ -135,7 +151,8 @@ if_none (Some a) P p = tt
 
 -- ---- the row of a constraint
 
-pub row_of_known : (p : Posted) (k : Known) → row_named p.name ≡ Some (known_row k) → row_of p ≡ cond (fits (known_row k) p.arguments) (Some (known_row k)) None
+pub row_of_known : (p : Posted) (k : Known) → row_named p.name ≡ Some (known_row k)
+    → row_of p ≡ cond (fits (known_row k) p.arguments) (Some (known_row k)) None
 row_of_known p k h = row_of_is p ∙ ap (option_and_then (λ r. cond (fits r p.arguments) (Some r) None)) h
 
 pub row_of_unknown : (p : Posted) → row_named p.name ≡ None → row_of p ≡ None

@@ -1,5 +1,5 @@
 -- The rows of the table by name: each base row's name is its own, none ends in `_reif` or `_imp`,
--- and each form with a truth value has its base row's name with one of these behind.
+-- and each reified form has its base row's name with one of these behind.
 use Rattle.std.proofs.Common.{◌≡◌, ◌≢◌, ℕ, Bool, true, false, true≢false, not, ◌&&◌, cond, List, [], ◌∷◌, ◌++◌, map, filter, find, length, drop, Option, Some, None, refl, sym, ap, subst, ◌∙◌, arith}
 use Rattle.std.specs.Prelude.{◌==◌, codes, bytes_eq, option_map, option_and_then, ◌-◌}
 use Rattle.std.specs.List.{list_all}
@@ -52,20 +52,23 @@ and_both true false e = cc
 and_both false c e = cc
 
 module _ {A : Type 0} where
-  pub find_none : (t : A → Bool) (xs : List A) → list_all (λ x. not (t x)) xs ≡ true → find t xs ≡ None
+  pub find_none : (t : A → Bool) (xs : List A) → list_all (λ x. not (t x)) xs ≡ true
+      → find t xs ≡ None
   find_none t [] h = refl
   find_none t (x ∷ xs) h =
       let parts = and_both (not (t x)) _ h in
       rw (not_true (t x) parts.0) (find_none t xs parts.1)
 
   -- what fails of the name fails with more asked
-  pub find_none_and : (t u : A → Bool) (xs : List A) → list_all (λ x. not (t x)) xs ≡ true → find (λ x. t x && u x) xs ≡ None
+  pub find_none_and : (t u : A → Bool) (xs : List A) → list_all (λ x. not (t x)) xs ≡ true
+      → find (λ x. t x && u x) xs ≡ None
   find_none_and t u [] h = refl
   find_none_and t u (x ∷ xs) h =
       let parts = and_both (not (t x)) _ h in
       rw (not_true (t x) parts.0) (find_none_and t u xs parts.1)
 
-  pub find_filter : (t u : A → Bool) (xs : List A) → find t (filter u xs) ≡ find (λ x. t x && u x) xs
+  pub find_filter : (t u : A → Bool) (xs : List A)
+      → find t (filter u xs) ≡ find (λ x. t x && u x) xs
   find_filter t u [] = refl
   find_filter t u (x ∷ xs) =
       let rest : find t (filter u xs) ≡ find (λ y. t y && u y) xs = find_filter t u xs in
@@ -75,7 +78,9 @@ module _ {A : Type 0} where
       ])
 
 -- where names are apart, the row of the name is found first, and then asked more of it
-pub find_apart : (x : List ℕ) (u : Row → Bool) (rs : List Row) → apart rs ≡ true → find (λ r. named x r && u r) rs ≡ option_and_then (λ r. cond (u r) (Some r) None) (find (named x) rs)
+pub find_apart : (x : List ℕ) (u : Row → Bool) (rs : List Row) → apart rs ≡ true
+    → find (λ r. named x r && u r) rs
+    ≡ option_and_then (λ r. cond (u r) (Some r) None) (find (named x) rs)
 find_apart x u [] h = refl
 find_apart x u (r ∷ rs) h =
     let parts = and_both (none_named r.name rs) (apart rs) h in
@@ -94,21 +99,24 @@ unfolding rows row_at builtins
 rows_apart = refl
 
 -- the row that a constraint fits is the one of its name, where it fits that
-pub row_of_is : (p : Posted) → row_of p ≡ option_and_then (λ r. cond (fits r p.arguments) (Some r) None) (row_named p.name)
+pub row_of_is : (p : Posted) → row_of p
+    ≡ option_and_then (λ r. cond (fits r p.arguments) (Some r) None) (row_named p.name)
 unfolding row_named
 row_of_is p = find_apart p.name (λ r. fits r p.arguments) rows rows_apart
 
--- ---- the forms with a truth value
+-- ---- the reified forms
 
 -- rows whose names have a suffix more are found under that, and under no name that doesn't end so
 module _ (form : Row → Row) (suffix : List ℕ) (is : (r : Row) → (form r).name ≡ r.name ++ suffix) where
-  find_form : (x : List ℕ) (rs : List Row) → find (named (x ++ suffix)) (map form rs) ≡ option_map form (find (named x) rs)
+  find_form : (x : List ℕ) (rs : List Row)
+      → find (named (x ++ suffix)) (map form rs) ≡ option_map form (find (named x) rs)
   find_form x [] = refl
   find_form x (r ∷ rs) =
       rw (ap (λ n. bytes_eq n (x ++ suffix)) (is r) ∙ suffix_drops r.name x suffix)
       (elim (named x r) as (λ b. cond b (Some (form r)) (find (named (x ++ suffix)) (map form rs)) ≡ option_map form (cond b (Some r) (find (named x) rs))) [ true ↦ refl | false ↦ find_form x rs ])
 
-  find_no_form : (x : List ℕ) → ((front : List ℕ) → x ≢ front ++ suffix) → (rs : List Row) → find (named x) (map form rs) ≡ None
+  find_no_form : (x : List ℕ) → ((front : List ℕ) → x ≢ front ++ suffix) → (rs : List Row)
+      → find (named x) (map form rs) ≡ None
   find_no_form x h [] = refl
   find_no_form x h (r ∷ rs) =
       (elim (named x (form r)) as (λ b. named x (form r) ≡ b → cond b (Some (form r)) (find (named x) (map form rs)) ≡ None) [
@@ -126,11 +134,13 @@ ends_there suffix front =
     let at_end : length front ≡ length (front ++ suffix) - length suffix = simp length-append (omega arith) in
     equal_names _ suffix (drop_at front suffix (length (front ++ suffix) - length suffix) at_end)
 
-pub no_front : (suffix x end : List ℕ) → end ≡ drop (length x - length suffix) x → bytes_eq end suffix ≡ false → (front : List ℕ) → x ≡ front ++ suffix → ⊥
+pub no_front : (suffix x end : List ℕ) → end ≡ drop (length x - length suffix) x
+    → bytes_eq end suffix ≡ false → (front : List ℕ) → x ≡ front ++ suffix → ⊥
 unfolding ends_in
 no_front suffix x end is other front e = true≢false (sym (ends_there suffix front) ∙ ap (ends_in suffix) (sym e) ∙ ap (λ y. bytes_eq y suffix) (sym is) ∙ other)
 
-none_ends_so : (suffix : List ℕ) (rs : List Row) → list_all (λ r. not (ends_in suffix r.name)) rs ≡ true → (front : List ℕ) → list_all (λ r. not (named (front ++ suffix) r)) rs ≡ true
+none_ends_so : (suffix : List ℕ) (rs : List Row) → list_all (λ r. not (ends_in suffix r.name)) rs
+    ≡ true → (front : List ℕ) → list_all (λ r. not (named (front ++ suffix) r)) rs ≡ true
 none_ends_so suffix [] h front = refl
 none_ends_so suffix (r ∷ rs) h front =
     let parts = and_both (not (ends_in suffix r.name)) _ h in
@@ -168,15 +178,20 @@ option_or_none None = refl
 option_or_none (Some r) = refl
 
 -- the row of a name is a base row, or one of the forms
-split : (x : List ℕ) → row_named x ≡ option_or (find (named x) base_rows) (option_or (find (named x) (map reified rows_with_forms)) (find (named x) (map implied rows_with_forms)))
+split : (x : List ℕ) → row_named x ≡ option_or (find (named x) base_rows)
+    (option_or (find (named x) (map reified rows_with_forms))
+    (find (named x) (map implied rows_with_forms)))
 unfolding row_named rows
 split x = find-append (named x) base_rows _ ∙ ap (option_or (find (named x) base_rows)) (find-append (named x) (map reified rows_with_forms) (map implied rows_with_forms))
 
-found_with_forms : (x : List ℕ) → find (named x) rows_with_forms ≡ option_and_then (λ r. cond r.has_forms (Some r) None) (find (named x) base_rows)
+found_with_forms : (x : List ℕ) → find (named x) rows_with_forms
+    ≡ option_and_then (λ r. cond r.has_forms (Some r) None) (find (named x) base_rows)
 found_with_forms x = find_filter (named x) (λ r. r.has_forms) base_rows ∙ find_apart x (λ r. r.has_forms) base_rows base_apart
 
 -- a name with a suffix is the one of a base row's form, where the base row has forms
-pub row_named_form : (f : Form) → HasTruth f → (x : List ℕ) → row_named (x ++ suffix_of f) ≡ option_map (form_at f) (option_and_then (λ r. cond r.has_forms (Some r) None) (find (named x) base_rows))
+pub row_named_form : (f : Form) → HasTruth f → (x : List ℕ)
+    → row_named (x ++ suffix_of f) ≡ option_map (form_at f)
+    (option_and_then (λ r. cond r.has_forms (Some r) None) (find (named x) base_rows))
 row_named_form Base h x = absurd h
 row_named_form Reified h x =
     let y = x ++ codes "_reif" in
@@ -195,7 +210,8 @@ row_named_form Implied h x =
     ∙ ap (option_map implied) (found_with_forms x)
 
 -- and any other is a base row's
-pub row_named_base : (x : List ℕ) → ((front : List ℕ) → x ≢ front ++ codes "_reif") → ((front : List ℕ) → x ≢ front ++ codes "_imp") → row_named x ≡ find (named x) base_rows
+pub row_named_base : (x : List ℕ) → ((front : List ℕ) → x ≢ front ++ codes "_reif")
+    → ((front : List ℕ) → x ≢ front ++ codes "_imp") → row_named x ≡ find (named x) base_rows
 row_named_base x not_reified not_implied =
     split x
     ∙ ap (λ o. option_or (find (named x) base_rows) (option_or o (find (named x) (map implied rows_with_forms)))) (find_no_form reified (codes "_reif") (λ r. refl) x not_reified rows_with_forms)

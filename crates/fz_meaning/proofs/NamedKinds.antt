@@ -1,4 +1,5 @@
--- In the model of a tree without faults each variable that a name stands for, alone or as an array's element, has the kind of that name.
+-- In the model of a tree without faults each variable that a name stands for, alone or as an
+-- array's element, has the kind of that name.
 use Rattle.std.proofs.Common.{◌≡◌, ℕ, suc, pos, Bool, true, false, cond, ◌&&◌, List, [], ◌∷◌, ◌++◌, map, Some, None, refl, sym, ap, subst, ◌∙◌, flat_map, find, inl, inr, IsFalse, IsSomeAnd, bytes_eq, append_assoc}
 use Rattle.std.specs.Prelude.{⊤}
 use Rattle.std.specs.List.{AllByRecursion}
@@ -42,7 +43,9 @@ DeclaredFits m (ArrayOfVariables x k d ts) = AllByRecursion (TermFits m k) ts
 abbrev NumberedFits : Model → (ℕ × Declared) → Type 0
 NumberedFits m q = PlaceFits m (place_named q.0 q.1)
 
-places_fit : (m : Model) (n : ℕ) (ds : List Declared) → AllByRecursion (DeclaredFits m) ds → AllByRecursion (PointFits m) (flat_map declared_points (numbered_from n ds)) → AllByRecursion (NumberedFits m) (numbered_from n ds)
+places_fit : (m : Model) (n : ℕ) (ds : List Declared) → AllByRecursion (DeclaredFits m) ds
+    → AllByRecursion (PointFits m) (flat_map declared_points (numbered_from n ds))
+    → AllByRecursion (NumberedFits m) (numbered_from n ds)
 places_fit m n [] h p = tt
 places_fit m n (Parameter x q ∷ ds) h p = (h.0, places_fit m n ds h.1 p)
 places_fit m n (ScalarVariable x e ∷ ds) h p = (p.0, places_fit m (suc n) ds h.1 (all_right (PointFits m) (definition_points x n e) (flat_map declared_points (numbered_from (suc n) ds)) p.1))
@@ -50,7 +53,8 @@ places_fit m n (ArrayOfVariables x k d ts ∷ ds) h p = (h.0, places_fit m n ds 
 
 -- ---- the parts of a declared value
 
-find_left : (t : Decl → Bool) (xs ys : List Decl) (d : Decl) → find t xs ≡ Some d → find t (xs ++ ys) ≡ Some d
+find_left : (t : Decl → Bool) (xs ys : List Decl) (d : Decl) → find t xs ≡ Some d
+    → find t (xs ++ ys) ≡ Some d
 find_left t [] ys d e = cc
 find_left t (x ∷ xs) ys d e = (elim (t x) as (λ b. cond b (Some x) (find t xs) ≡ Some d → cond b (Some x) (find t (xs ++ ys)) ≡ Some d) [ true ↦ λ e. e | false ↦ λ e. find_left t xs ys d e ]) e
 
@@ -58,7 +62,8 @@ abbrev Known : List Decl → Kind → Basic → Type 0
 Known before k b = ((at : Span) → UnknownAt before b at → ⊥) × ((at : Span) → WrongKindAt before (Some k) b at → ⊥)
 
 module _ (t : LocatedTree) where
-  term_fits : (before rest : List Decl) → before ++ rest ≡ t.decls → (k : Kind) (b : Basic) → Known before k b → TermFits (model_of t) k (term_of t.decls b)
+  term_fits : (before rest : List Decl) → before ++ rest ≡ t.decls → (k : Kind) (b : Basic)
+      → Known before k b → TermFits (model_of t) k (term_of t.decls b)
   term_fits before rest all k (Lit l) known = tt
   term_fits before rest all k (Named x) known =
       let (d, found_before) = declared_found (named_as x.text) before (else_true _ (λ e. known.0 x.span (e, refl))) in
@@ -81,7 +86,8 @@ module _ (t : LocatedTree) where
   terms_fit before rest all k (b ∷ bs) unknown wrong =
       (term_fits before rest all k b ((λ at h. unknown at (inl h)), (λ at h. wrong at (inl h))), terms_fit before rest all k bs (λ at h. unknown at (inr h)) (λ at h. wrong at (inr h)))
 
-  declared_fits : (d : Decl) → AllByRecursion (TermFits (model_of t) (kind_of_base d.base)) (map (term_of t.decls) (parts d.value)) → DeclaredFits (model_of t) (declared_of t.decls d)
+  declared_fits : (d : Decl) → AllByRecursion (TermFits (model_of t) (kind_of_base d.base))
+      (map (term_of t.decls) (parts d.value)) → DeclaredFits (model_of t) (declared_of t.decls d)
   declared_fits d h =
       (elim d.is_var as (λ b. d.is_var ≡ b → DeclaredFits (model_of t) (cond b (cond (is_scalar d) (ScalarVariable (variable_declared d) (definition_of t.decls d.value)) (ArrayOfVariables d.name.text (kind_of_base d.base) (domain_of d.base) (map (term_of t.decls) (parts d.value)))) (Parameter d.name.text (place_of_declared t.decls d)))) [
         | true ↦ λ _. elim (is_scalar d) as (λ c. DeclaredFits (model_of t) (cond c (ScalarVariable (variable_declared d) (definition_of t.decls d.value)) (ArrayOfVariables d.name.text (kind_of_base d.base) (domain_of d.base) (map (term_of t.decls) (parts d.value))))) [ true ↦ tt | false ↦ h ]
@@ -107,7 +113,8 @@ module _ (t : LocatedTree) where
 
 -- ---- what a name stands for
 
-place_found : (m : Model) (x : List ℕ) (qs : List (ℕ × Declared)) (p : Place) → AllByRecursion (NumberedFits m) qs → first_some (place_if_named x) qs ≡ Some p → PlaceFits m p
+place_found : (m : Model) (x : List ℕ) (qs : List (ℕ × Declared)) (p : Place)
+    → AllByRecursion (NumberedFits m) qs → first_some (place_if_named x) qs ≡ Some p → PlaceFits m p
 place_found m x [] p h e = cc
 place_found m x ((n, d) ∷ qs) p h e =
     (elim (bytes_eq (name_of d) x) as (λ b. option_or (cond b (Some (place_named n d)) None) (first_some (place_if_named x) qs) ≡ Some p → PlaceFits m p) [
@@ -116,7 +123,8 @@ place_found m x ((n, d) ∷ qs) p h e =
     ]) e
 
 -- What a name stands for in the model of a tree without faults has variables of its kind.
-pub named_fits : (t : LocatedTree) → HasNoFault t → (x : List ℕ) (p : Place) → find_name (model_of t) x ≡ Some p → PlaceFits (model_of t) p
+pub named_fits : (t : LocatedTree) → HasNoFault t → (x : List ℕ) (p : Place)
+    → find_name (model_of t) x ≡ Some p → PlaceFits (model_of t) p
 named_fits t sound x p found =
     let others : List Use = flat_map (λ c. map (use_of t.decls None) (parts_of_arguments c.args)) t.constraints ++ map (use_of t.decls (Some IntKind)) (goal_parts t.solve.goal) in
     let split : uses t ≡ flat_map (uses_of t) (in_order t) ++ others = append_assoc (flat_map (uses_of t) (in_order t)) (flat_map (λ c. map (use_of t.decls None) (parts_of_arguments c.args)) t.constraints) (map (use_of t.decls (Some IntKind)) (goal_parts t.solve.goal)) in

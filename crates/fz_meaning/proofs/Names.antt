@@ -1,4 +1,5 @@
--- In declarations without a fault: which declaration a name has, its number, and what the model finds by it.
+-- In declarations without a fault: which declaration a name has, its number, and what the model
+-- finds by it.
 use Rattle.std.proofs.Common.{◌≡◌, ℕ, suc, Bool, true, false, cond, ◌&&◌, ◌||◌, List, [], ◌∷◌, ◌++◌, map, Option, Some, None, refl, sym, ap, subst, ◌∙◌, find, append_assoc, option_map, bytes_eq}
 use Rattle.std.specs.Prelude.{⊤}
 use Rattle.std.specs.List.{list_any}
@@ -33,20 +34,24 @@ are_new before (d ∷ ds) e =
 pub sound_names : (t : LocatedTree) → HasNoFault t → AreNew [] t.decls
 sound_names t sound = are_new [] t.decls (declarations_clean t (has_none t sound))
 
-new_at : (before xs : List Decl) (d : Decl) (ys : List Decl) → AreNew before (xs ++ d ∷ ys) → declares (before ++ xs) d.name.text ≡ false
+new_at : (before xs : List Decl) (d : Decl) (ys : List Decl) → AreNew before (xs ++ d ∷ ys)
+    → declares (before ++ xs) d.name.text ≡ false
 new_at before [] d ys h = ap (λ zs. declares zs d.name.text) (append-nil before) ∙ h.0
 new_at before (x ∷ xs) d ys h = ap (λ zs. declares zs d.name.text) (sym (append_assoc before (x ∷ []) xs)) ∙ new_at (before ++ x ∷ []) xs d ys h.1
 
 -- where each name is declared once, none is declared before its declaration
-pub none_earlier : (before : List Decl) (d : Decl) (rest : List Decl) → AreNew [] (before ++ d ∷ rest) → declares before d.name.text ≡ false
+pub none_earlier : (before : List Decl) (d : Decl) (rest : List Decl)
+    → AreNew [] (before ++ d ∷ rest) → declares before d.name.text ≡ false
 none_earlier before d rest h = new_at [] before d rest h
 
 -- the name stands for its declaration
-pub own_declaration : (before : List Decl) (d : Decl) (rest : List Decl) → AreNew [] (before ++ d ∷ rest) → declaration (before ++ d ∷ rest) d.name.text ≡ Some d
+pub own_declaration : (before : List Decl) (d : Decl) (rest : List Decl)
+    → AreNew [] (before ++ d ∷ rest) → declaration (before ++ d ∷ rest) d.name.text ≡ Some d
 own_declaration before d rest h = declaration_here before d rest (none_earlier before d rest h)
 
 -- a scalar variable has the number of those before it
-pub own_number : (before : List Decl) (d : Decl) (rest : List Decl) → AreNew [] (before ++ d ∷ rest) → is_scalar_variable d ≡ true → number_of (before ++ d ∷ rest) d.name.text ≡ next_number before
+pub own_number : (before : List Decl) (d : Decl) (rest : List Decl) → AreNew [] (before ++ d ∷ rest)
+    → is_scalar_variable d ≡ true → number_of (before ++ d ∷ rest) d.name.text ≡ next_number before
 own_number before d rest h is = number_here before d rest (none_earlier before d rest h) is
 
 -- ---- the numbered declarations of a model
@@ -59,7 +64,9 @@ abbrev pub numbered_after : List Decl → List Decl → List Decl → List (ℕ 
 numbered_after all before [] = []
 numbered_after all before (d ∷ ds) = numbered_decl all before d ∷ numbered_after all (before ++ d ∷ []) ds
 
-numbered_next : (n : ℕ) (all : List Decl) (d : Decl) (qs : List Declared) → numbered_from n (declared_of all d ∷ qs) ≡ (n, declared_of all d) ∷ numbered_from (cond (is_scalar_variable d) (suc n) n) qs
+numbered_next : (n : ℕ) (all : List Decl) (d : Decl) (qs : List Declared)
+    → numbered_from n (declared_of all d ∷ qs)
+    ≡ (n, declared_of all d) ∷ numbered_from (cond (is_scalar_variable d) (suc n) n) qs
 numbered_next n all d qs =
     elim d.is_var as (λ b. numbered_from n (cond b (cond (is_scalar d) (ScalarVariable (variable_declared d) (definition_of all d.value)) (ArrayOfVariables d.name.text (kind_of_base d.base) (domain_of d.base) (map (term_of all) (parts d.value)))) (Parameter d.name.text (place_of_declared all d)) ∷ qs)
     ≡ (n, cond b (cond (is_scalar d) (ScalarVariable (variable_declared d) (definition_of all d.value)) (ArrayOfVariables d.name.text (kind_of_base d.base) (domain_of d.base) (map (term_of all) (parts d.value)))) (Parameter d.name.text (place_of_declared all d))) ∷ numbered_from (cond (b && is_scalar d) (suc n) n) qs) [
@@ -68,7 +75,8 @@ numbered_next n all d qs =
           ≡ (n, cond c (ScalarVariable (variable_declared d) (definition_of all d.value)) (ArrayOfVariables d.name.text (kind_of_base d.base) (domain_of d.base) (map (term_of all) (parts d.value)))) ∷ numbered_from (cond c (suc n) n) qs) [ true ↦ refl | false ↦ refl ]
     ]
 
-numbered_by : (all before ds : List Decl) → numbered_from (next_number before) (map (declared_of all) ds) ≡ numbered_after all before ds
+numbered_by : (all before ds : List Decl)
+    → numbered_from (next_number before) (map (declared_of all) ds) ≡ numbered_after all before ds
 numbered_by all before [] = refl
 numbered_by all before (d ∷ ds) =
     numbered_next (next_number before) all d (map (declared_of all) ds)
@@ -79,13 +87,15 @@ numbered_by all before (d ∷ ds) =
 pub numbered_is : (t : LocatedTree) → numbered (model_of t) ≡ numbered_after t.decls [] t.decls
 numbered_is t = numbered_by t.decls [] t.decls
 
-pub numbered_append : (all before xs ys : List Decl) → numbered_after all before (xs ++ ys) ≡ numbered_after all before xs ++ numbered_after all (before ++ xs) ys
+pub numbered_append : (all before xs ys : List Decl) → numbered_after all before (xs ++ ys)
+    ≡ numbered_after all before xs ++ numbered_after all (before ++ xs) ys
 numbered_append all before [] ys = ap (λ zs. numbered_after all zs ys) (sym (append-nil before))
 numbered_append all before (d ∷ xs) ys =
     ap (λ qs. numbered_decl all before d ∷ qs) (numbered_append all (before ++ d ∷ []) xs ys ∙ ap (λ zs. numbered_after all (before ++ d ∷ []) xs ++ numbered_after all zs ys) (append_assoc before (d ∷ []) xs))
 
 -- with one more
-pub numbered_more : (all before : List Decl) (d : Decl) → numbered_after all [] (before ++ d ∷ []) ≡ numbered_after all [] before ++ numbered_decl all before d ∷ []
+pub numbered_more : (all before : List Decl) (d : Decl) → numbered_after all [] (before ++ d ∷ [])
+    ≡ numbered_after all [] before ++ numbered_decl all before d ∷ []
 numbered_more all before d = numbered_append all [] before (d ∷ [])
 
 -- ---- what the model finds by a name
@@ -98,7 +108,9 @@ declared_name all d =
     ]
 
 -- what the declared name stands for in the model is what the declaration stands for
-pub place_named_is : (n : ℕ) (all : List Decl) (d : Decl) → (is_scalar_variable d ≡ true → number_of all d.name.text ≡ n) → place_named n (declared_of all d) ≡ place_of_declared all d
+pub place_named_is : (n : ℕ) (all : List Decl) (d : Decl)
+    → (is_scalar_variable d ≡ true → number_of all d.name.text ≡ n)
+    → place_named n (declared_of all d) ≡ place_of_declared all d
 place_named_is n all d h =
     (elim d.is_var as (λ b. d.is_var ≡ b → place_named n (cond b (cond (is_scalar d) (ScalarVariable (variable_declared d) (definition_of all d.value)) (ArrayOfVariables d.name.text (kind_of_base d.base) (domain_of d.base) (map (term_of all) (parts d.value)))) (Parameter d.name.text (place_of_declared all d))) ≡ place_of_declared all d) [
       | false ↦ λ _. refl
@@ -110,7 +122,9 @@ place_named_is n all d h =
       ]) refl
     ]) refl
 
-find_numbered : (all before ds : List Decl) → before ++ ds ≡ all → AreNew before ds → (x : List ℕ) → first_some (place_if_named x) (numbered_after all before ds) ≡ option_map (place_of_declared all) (find (named_as x) ds)
+find_numbered : (all before ds : List Decl) → before ++ ds ≡ all → AreNew before ds → (x : List ℕ)
+    → first_some (place_if_named x) (numbered_after all before ds)
+    ≡ option_map (place_of_declared all) (find (named_as x) ds)
 find_numbered all before [] e new x = refl
 find_numbered all before (d ∷ ds) e new x =
     let place : place_named (next_number before) (declared_of all d) ≡ place_of_declared all d =
@@ -121,13 +135,16 @@ find_numbered all before (d ∷ ds) e new x =
     ∙ elim (named_as x d) as (λ b. option_or (cond b (Some (place_of_declared all d)) None) (option_map (place_of_declared all) (find (named_as x) ds)) ≡ option_map (place_of_declared all) (cond b (Some d) (find (named_as x) ds))) [ true ↦ refl | false ↦ refl ]
 
 -- By a name the model finds what its declaration stands for.
-pub find_declared : (t : LocatedTree) → AreNew [] t.decls → (x : List ℕ) → find_name (model_of t) x ≡ option_map (place_of_declared t.decls) (declaration t.decls x)
+pub find_declared : (t : LocatedTree) → AreNew [] t.decls → (x : List ℕ)
+    → find_name (model_of t) x ≡ option_map (place_of_declared t.decls) (declaration t.decls x)
 find_declared t new x = ap (first_some (place_if_named x)) (numbered_is t) ∙ find_numbered t.decls [] t.decls refl new x
 
 -- ---- the variable that an annotation names
 
 -- where each name is declared once, a scalar variable of a name is what the name stands for
-only_scalar : (before ds : List Decl) → AreNew before ds → (x : List ℕ) (d : Decl) → declares before x ≡ false → find (named_as x) ds ≡ Some d → is_scalar_variable d ≡ false → list_any (named_as x) (scalar_variables ds) ≡ false
+only_scalar : (before ds : List Decl) → AreNew before ds → (x : List ℕ) (d : Decl)
+    → declares before x ≡ false → find (named_as x) ds ≡ Some d → is_scalar_variable d ≡ false
+    → list_any (named_as x) (scalar_variables ds) ≡ false
 only_scalar before [] new x d absent e h = cc
 only_scalar before (c ∷ ds) new x d absent e h =
     (elim (named_as x c) as (λ b. named_as x c ≡ b → cond b (Some c) (find (named_as x) ds) ≡ Some d → list_any (named_as x) (cond (is_scalar_variable c) (c ∷ scalar_variables ds) (scalar_variables ds)) ≡ false) [
@@ -146,14 +163,17 @@ only_scalar before (c ∷ ds) new x d absent e h =
     or_true true c e = refl
     or_true false c e = ap (λ z. z || false) e
 
-    declares_last : (before : List Decl) (c : Decl) (x : List ℕ) → named_as x c ≡ true → declares (before ++ c ∷ []) x ≡ true
+    declares_last : (before : List Decl) (c : Decl) (x : List ℕ) → named_as x c ≡ true
+        → declares (before ++ c ∷ []) x ≡ true
     declares_last before c x e = list_any-append (named_as x) before (c ∷ []) ∙ or_true (declares before x) (named_as x c) e
 
-    stays : (xs : List Decl) (c : Decl) (x : List ℕ) → declares xs x ≡ true → declares (xs ++ c ∷ []) x ≡ true
+    stays : (xs : List Decl) (c : Decl) (x : List ℕ) → declares xs x ≡ true
+        → declares (xs ++ c ∷ []) x ≡ true
     stays xs c x e = list_any-append (named_as x) xs (c ∷ []) ∙ ap (λ b. b || (named_as x c || false)) e
 
     -- what is declared is not declared again
-    never : (before ds : List Decl) → AreNew before ds → (x : List ℕ) → declares before x ≡ true → list_any (named_as x) ds ≡ false
+    never : (before ds : List Decl) → AreNew before ds → (x : List ℕ) → declares before x ≡ true
+        → list_any (named_as x) ds ≡ false
     never before [] new x e = refl
     never before (d ∷ ds) new x e =
         (elim (named_as x d) as (λ b. named_as x d ≡ b → (b || list_any (named_as x) ds) ≡ false) [
@@ -168,10 +188,13 @@ abbrev pub variable_number : List Decl → Option Decl → Option ℕ
 variable_number ds None = None
 variable_number ds (Some d) = cond (is_scalar_variable d) (Some (number_of ds d.name.text)) None
 
-pub number_by_name : (ds : List Decl) → AreNew [] ds → (x : List ℕ) → scalar_variable_number ds x ≡ variable_number ds (declaration ds x)
+pub number_by_name : (ds : List Decl) → AreNew [] ds → (x : List ℕ)
+    → scalar_variable_number ds x ≡ variable_number ds (declaration ds x)
 number_by_name ds new x = by_declaration (declaration ds x) refl
   where
-    by_declaration : (o : Option Decl) → declaration ds x ≡ o → cond (declares (scalar_variables ds) x) (Some (number_of ds x)) None ≡ variable_number ds o
+    by_declaration : (o : Option Decl) → declaration ds x ≡ o
+        → cond (declares (scalar_variables ds) x) (Some (number_of ds x)) None
+        ≡ variable_number ds o
     by_declaration None e = ap (λ b. cond b (Some (number_of ds x)) None) (none_among (named_as x) is_scalar_variable ds (not_found (named_as x) ds e))
     by_declaration (Some d) e =
         (elim (is_scalar_variable d) as (λ b. is_scalar_variable d ≡ b → cond (declares (scalar_variables ds) x) (Some (number_of ds x)) None ≡ cond b (Some (number_of ds d.name.text)) None) [

@@ -15,7 +15,8 @@ use Rattle.fz_syntax.specs.Tree as tree
 use Rattle.fz_meaning.specs.Located.{bare_basic, bare_expr, bare_decl, bare_constraint, bare_goal, bare_of}
 use Rattle.fz_meaning.specs.View.{located_basic, located_expr, located_value, located_decl, located_constraint, located_goal, located, located_all}
 
-map_twice : {A B C : Type 0} (f : B → C) (g : A → B) (h : A → C) → ((x : A) → f (g x) ≡ h x) → (xs : List A) → map f (map g xs) ≡ map h xs
+map_twice : {A B C : Type 0} (f : B → C) (g : A → B) (h : A → C) → ((x : A) → f (g x) ≡ h x)
+    → (xs : List A) → map f (map g xs) ≡ map h xs
 map_twice f g h same [] = refl
 map_twice f g h same (x ∷ xs) = λ i. same x i ∷ map_twice f g h same xs i
 
@@ -34,7 +35,8 @@ value_is (Some e) = ap Some (expr_is e)
 decl_is : (d : the_decl.Decl) → bare_decl (located_decl d) ≡ plain.bare_decl d
 decl_is d = λ i. record { is_var = d.is_var; length = d.length; base = plain.bare_base d.base; name = d.name.text.now; notes = plain.bare_notes d.notes.items; value = value_is d.value i }
 
-constraint_is : (c : the_constraint.Constraint) → bare_constraint (located_constraint c) ≡ plain.bare_constraint c
+constraint_is : (c : the_constraint.Constraint)
+    → bare_constraint (located_constraint c) ≡ plain.bare_constraint c
 constraint_is c = λ i. record { name = c.name.text.now; args = map_twice bare_expr located_expr plain.bare_expr expr_is c.args.items i; notes = plain.bare_notes c.notes.items }
 
 goal_is : (g : the_goal.Goal) → bare_goal (located_goal g) ≡ plain.bare_goal g

@@ -1,4 +1,5 @@
--- Each point of a model fits it: the variable of a domain's point has the kind that the model has at its number.
+-- Each point of a model fits it: the variable of a domain's point has the kind that the model has
+-- at its number.
 use Rattle.std.proofs.Common.{◌≡◌, ℕ, suc, List, [], ◌∷◌, ◌++◌, length, Option, Some, None, refl, ap, subst, ◌∙◌, option_map, slice_get, flat_map, arith, append_assoc, length-append}
 use Rattle.std.specs.Prelude.{⊤}
 use Rattle.std.specs.List.{AllByRecursion}
@@ -23,16 +24,20 @@ FitsIn xs (DefinitionPoint x n e) = ⊤
 FitsIn xs (ArrayPoint name d ts) = ⊤
 FitsIn xs (ConstraintPoint k p) = ⊤
 
-definition_fits : (xs : List Variable) (x : Variable) (n : ℕ) (e : Option Term) → AllByRecursion (FitsIn xs) (definition_points x n e)
+definition_fits : (xs : List Variable) (x : Variable) (n : ℕ) (e : Option Term)
+    → AllByRecursion (FitsIn xs) (definition_points x n e)
 definition_fits xs x n None = tt
 definition_fits xs x n (Some e) = (tt, tt)
 
-array_fits : (xs : List Variable) (name : List ℕ) (d : Domain) (ts : List Term) → AllByRecursion (FitsIn xs) (array_points name d ts)
+array_fits : (xs : List Variable) (name : List ℕ) (d : Domain) (ts : List Term)
+    → AllByRecursion (FitsIn xs) (array_points name d ts)
 array_fits xs name All ts = tt
 array_fits xs name (Within lo hi) ts = (tt, tt)
 array_fits xs name (Among s) ts = (tt, tt)
 
-declared_fit : (before : List Variable) (n : ℕ) (ds : List Declared) → length before ≡ n → AllByRecursion (FitsIn (before ++ flat_map variable_of ds)) (flat_map declared_points (numbered_from n ds))
+declared_fit : (before : List Variable) (n : ℕ) (ds : List Declared) → length before ≡ n
+    → AllByRecursion (FitsIn (before ++ flat_map variable_of ds))
+    (flat_map declared_points (numbered_from n ds))
 declared_fit before n [] e = tt
 declared_fit before n (Parameter name p ∷ ds) e = declared_fit before n ds e
 declared_fit before n (ArrayOfVariables name k d ts ∷ ds) e =
@@ -45,7 +50,8 @@ declared_fit before n (ScalarVariable x d ∷ ds) e =
     let rest' : AllByRecursion (FitsIn vs) (flat_map declared_points (numbered_from (suc n) ds)) = subst (λ ws. AllByRecursion (FitsIn ws) (flat_map declared_points (numbered_from (suc n) ds))) (append_assoc before (x ∷ []) (flat_map variable_of ds)) rest in
     (here, all_append (FitsIn vs) (definition_points x n d) (flat_map declared_points (numbered_from (suc n) ds)) (definition_fits vs x n d) rest')
 
-constraints_fit : (xs : List Variable) (n : ℕ) (ps : List Posted) → AllByRecursion (FitsIn xs) (constraint_points n ps)
+constraints_fit : (xs : List Variable) (n : ℕ) (ps : List Posted)
+    → AllByRecursion (FitsIn xs) (constraint_points n ps)
 constraints_fit xs n [] = tt
 constraints_fit xs n (p ∷ ps) = (tt, constraints_fit xs (suc n) ps)
 

@@ -1,4 +1,5 @@
--- The places where faults are told are among those of the names and literals that the parser tells, in the same order.
+-- The places where faults are told are among those of the names and literals that the parser tells,
+-- in the same order.
 use Rattle.std.proofs.Common.{◌≡◌, ℕ, ◌≤◌, ◌<◌, List, [], ◌∷◌, ◌++◌, map, Option, Some, None, refl, sym, subst, arith, append_assoc, flat_map}
 use Rattle.std.specs.Prelude.{⊤}
 use Rattle.std.proofs.lemmas.List.{map-append}
@@ -33,18 +34,21 @@ spots_rise source n end (s ∷ ss) h = (h.0, h.1, spots_rise source s.end end ss
 data Among : List Span → List Spot → Type 0 where
   end : Among [] []
   skip : {ps : List Span} {ss : List Spot} (s : Spot) → Among ps ss → Among ps (s ∷ ss)
-  told : {ps : List Span} {ss : List Spot} (p : Span) (s : Spot) → s.start ≡ p.start → s.end ≡ p.end → Among ps ss → Among (p ∷ ps) (s ∷ ss)
+  told : {ps : List Span} {ss : List Spot} (p : Span) (s : Spot) → s.start ≡ p.start → s.end ≡ p.end
+      → Among ps ss → Among (p ∷ ps) (s ∷ ss)
 
 rise_earlier : (n m : ℕ) (ps : List Span) → n ≤ m → RiseFrom m ps → RiseFrom n ps
 rise_earlier n m [] h r = tt
 rise_earlier n m (p ∷ ps) h r = (omega (arith, h, r.0), r.1, r.2)
 
-places_rise : {ps : List Span} {ss : List Spot} → Among ps ss → (n : ℕ) → SpotsRise n ss → RiseFrom n ps
+places_rise : {ps : List Span} {ss : List Spot} → Among ps ss → (n : ℕ) → SpotsRise n ss
+    → RiseFrom n ps
 places_rise end n r = tt
 places_rise (skip {ps = ps} {ss = ss} s a) n r = rise_earlier n s.end ps (omega (arith, r.0, r.1)) (places_rise a s.end r.2)
 places_rise (told {ps = ps} {ss = ss} p s b e a) n r = (omega (arith, b, r.0), omega (arith, b, e, r.1), subst (λ m. RiseFrom m ps) e (places_rise a s.end r.2))
 
-among_append : {ps : List Span} {ss : List Spot} → Among ps ss → (qs : List Span) (ts : List Spot) → Among qs ts → Among (ps ++ qs) (ss ++ ts)
+among_append : {ps : List Span} {ss : List Spot} → Among ps ss → (qs : List Span) (ts : List Spot)
+    → Among qs ts → Among (ps ++ qs) (ss ++ ts)
 among_append end qs ts b = b
 among_append (skip s a) qs ts b = skip s (among_append a qs ts b)
 among_append (told p s x y a) qs ts b = told p s x y (among_append a qs ts b)
@@ -53,7 +57,8 @@ none_among : (ss : List Spot) → Among [] ss
 none_among [] = end
 none_among (s ∷ ss) = skip s (none_among ss)
 
-among_left : {ps : List Span} {ss : List Spot} → Among ps ss → (ts : List Spot) → Among ps (ss ++ ts)
+among_left : {ps : List Span} {ss : List Spot} → Among ps ss → (ts : List Spot)
+    → Among ps (ss ++ ts)
 among_left end ts = none_among ts
 among_left (skip s a) ts = skip s (among_left a ts)
 among_left (told p s x y a) ts = told p s x y (among_left a ts)
@@ -62,7 +67,9 @@ among_right : (ss : List Spot) {ps : List Span} {ts : List Spot} → Among ps ts
 among_right [] a = a
 among_right (s ∷ ss) a = skip s (among_right ss a)
 
-among_each : {A B : Type 0} (f : A → B) (places : B → List Span) (at : A → List Spot) → ((x : A) → Among (places (f x)) (at x)) → (xs : List A) → Among (flat_map places (map f xs)) (flat_map at xs)
+among_each : {A B : Type 0} (f : A → B) (places : B → List Span) (at : A → List Spot)
+    → ((x : A) → Among (places (f x)) (at x)) → (xs : List A)
+    → Among (flat_map places (map f xs)) (flat_map at xs)
 among_each f places at each [] = end
 among_each f places at each (x ∷ xs) = among_append (each x) (flat_map places (map f xs)) (flat_map at xs) (among_each f places at each xs)
 
@@ -72,28 +79,34 @@ basic_among : (b : the_basic.Basic) → Among (span_of (located_basic b) ∷ [])
 basic_among (basics.Lit l) = told l.span (record { start = l.span.start; end = l.span.end; text = None }) refl refl end
 basic_among (basics.Named n) = told n.span (name_spot n) refl refl end
 
-basics_among : (bs : List the_basic.Basic) → Among (map span_of (map located_basic bs)) (flat_map basic_spots bs)
+basics_among : (bs : List the_basic.Basic)
+    → Among (map span_of (map located_basic bs)) (flat_map basic_spots bs)
 basics_among [] = end
 basics_among (b ∷ bs) = among_append (basic_among b) (map span_of (map located_basic bs)) (flat_map basic_spots bs) (basics_among bs)
 
-expr_among : (e : the_expr.Expr) → Among (map span_of (parts (Some (located_expr e)))) (expr_spots e)
+expr_among : (e : the_expr.Expr)
+    → Among (map span_of (parts (Some (located_expr e)))) (expr_spots e)
 expr_among (exprs.One b) = basic_among b
 expr_among (exprs.List bs) = basics_among bs.items
 
-value_among : (o : Option the_expr.Expr) → Among (map span_of (parts (located_value o))) (value_spots o)
+value_among : (o : Option the_expr.Expr)
+    → Among (map span_of (parts (located_value o))) (value_spots o)
 value_among None = end
 value_among (Some e) = expr_among e
 
-decl_among : (d : the_decl.Decl) → Among (d.name.span ∷ map span_of (parts (located_value d.value))) (decl_spots d)
+decl_among : (d : the_decl.Decl)
+    → Among (d.name.span ∷ map span_of (parts (located_value d.value))) (decl_spots d)
 decl_among d = among_right (base_spots d.base) (told d.name.span (name_spot d.name) refl refl (among_right (flat_map note_spots d.notes.items) (value_among d.value)))
 
-arguments_among : (es : List the_expr.Expr) → Among (map span_of (parts_of_arguments (map located_expr es))) (flat_map expr_spots es)
+arguments_among : (es : List the_expr.Expr)
+    → Among (map span_of (parts_of_arguments (map located_expr es))) (flat_map expr_spots es)
 arguments_among [] = end
 arguments_among (e ∷ es) =
     subst (λ ps. Among ps (expr_spots e ++ flat_map expr_spots es)) (sym (map-append span_of (parts (Some (located_expr e))) (parts_of_arguments (map located_expr es))))
     (among_append (expr_among e) (map span_of (parts_of_arguments (map located_expr es))) (flat_map expr_spots es) (arguments_among es))
 
-constraint_among : (c : the_constraint.Constraint) → Among (map span_of (parts_of_arguments (map located_expr c.args.items))) (constraint_spots c)
+constraint_among : (c : the_constraint.Constraint)
+    → Among (map span_of (parts_of_arguments (map located_expr c.args.items))) (constraint_spots c)
 constraint_among c = skip (name_spot c.name) (among_left (arguments_among c.args.items) (flat_map note_spots c.notes.items))
 
 goal_among : (g : the_goal.Goal) → Among (map span_of (goal_parts (located_goal g))) (goal_spots g)
@@ -113,8 +126,10 @@ tree_among t =
     (among_right (flat_map note_spots t.solve.notes.items) (goal_among t.solve.goal)))))
 
 -- What stands in a source one behind the other is in reading order.
-pub all_in_reading_order : (source : List ℕ) (n : ℕ) (t : TreeItems) → Stand source 0 n (spots_all t) → IsInReadingOrder (located_all t)
+pub all_in_reading_order : (source : List ℕ) (n : ℕ) (t : TreeItems)
+    → Stand source 0 n (spots_all t) → IsInReadingOrder (located_all t)
 all_in_reading_order source n t h = places_rise (tree_among t) 0 (spots_rise source 0 n (spots_all t) h)
 
-pub in_reading_order : (source : List ℕ) (n : ℕ) (a : Ast) → Stand source 0 n (spots a) → IsInReadingOrder (located a)
+pub in_reading_order : (source : List ℕ) (n : ℕ) (a : Ast) → Stand source 0 n (spots a)
+    → IsInReadingOrder (located a)
 in_reading_order source n a h = all_in_reading_order source n (items_of_tree a) h

@@ -68,11 +68,13 @@ abs_least : state_of (codes "int_abs") (i MIN ∷ i MAX ∷ []) ≡ Fails
 unfolding rows row_at builtins
 abs_least = refl
 
-element_0 : state_of (codes "array_int_element") (i (pos 0) ∷ is (pos 7 ∷ []) ∷ i (pos 7) ∷ []) ≡ Fails
+element_0 : state_of (codes "array_int_element") (i (pos 0) ∷ is (pos 7 ∷ []) ∷ i (pos 7) ∷ [])
+    ≡ Fails
 unfolding rows row_at builtins
 element_0 = refl
 
-sum_exact : state_of (codes "int_lin_eq") (is (pos big ∷ negsuc (big - 1) ∷ []) ∷ is (pos big ∷ pos big ∷ []) ∷ i (pos 0) ∷ []) ≡ Holds
+sum_exact : state_of (codes "int_lin_eq")
+    (is (pos big ∷ negsuc (big - 1) ∷ []) ∷ is (pos big ∷ pos big ∷ []) ∷ i (pos 0) ∷ []) ≡ Holds
 unfolding rows row_at builtins
 sum_exact = refl
 
@@ -88,11 +90,13 @@ empty_sum_fails : state_of (codes "int_lin_le") (is [] ∷ is [] ∷ i (negsuc 0
 unfolding rows row_at builtins
 empty_sum_fails = refl
 
-unequal_lengths : state_of (codes "int_lin_eq") (is (pos 1 ∷ []) ∷ is (pos 1 ∷ pos 2 ∷ []) ∷ i (pos 3) ∷ []) ≡ Unknown
+unequal_lengths : state_of (codes "int_lin_eq")
+    (is (pos 1 ∷ []) ∷ is (pos 1 ∷ pos 2 ∷ []) ∷ i (pos 3) ∷ []) ≡ Unknown
 unfolding rows row_at builtins
 unequal_lengths = refl
 
-no_such_form : state_of (codes "int_div_reif") (i (pos 1) ∷ i (pos 0) ∷ i (pos 0) ∷ t true ∷ []) ≡ Unknown
+no_such_form : state_of (codes "int_div_reif") (i (pos 1) ∷ i (pos 0) ∷ i (pos 0) ∷ t true ∷ [])
+    ≡ Unknown
 unfolding rows row_at builtins
 no_such_form = refl
 
@@ -124,7 +128,8 @@ empty_maximum : state_of (codes "array_int_maximum") (i (pos 0) ∷ is [] ∷ []
 unfolding rows row_at builtins
 empty_maximum = refl
 
-greatest : state_of (codes "array_int_maximum") (i (pos 5) ∷ is (pos 3 ∷ pos 5 ∷ negsuc 2 ∷ []) ∷ []) ≡ Holds
+greatest : state_of (codes "array_int_maximum")
+    (i (pos 5) ∷ is (pos 3 ∷ pos 5 ∷ negsuc 2 ∷ []) ∷ []) ≡ Holds
 unfolding rows row_at builtins
 greatest = refl
 
@@ -132,11 +137,13 @@ two_for_true : state_of (codes "bool2int") (t true ∷ i (pos 2) ∷ []) ≡ Fai
 unfolding rows row_at builtins
 two_for_true = refl
 
-element_past : state_of (codes "array_bool_element") (i (pos 3) ∷ ts (true ∷ []) ∷ t true ∷ []) ≡ Fails
+element_past : state_of (codes "array_bool_element") (i (pos 3) ∷ ts (true ∷ []) ∷ t true ∷ [])
+    ≡ Fails
 unfolding rows row_at builtins
 element_past = refl
 
-bool_sum : state_of (codes "bool_lin_le") (is (pos 3 ∷ negsuc 0 ∷ []) ∷ ts (true ∷ true ∷ []) ∷ i (pos 2) ∷ []) ≡ Holds
+bool_sum : state_of (codes "bool_lin_le")
+    (is (pos 3 ∷ negsuc 0 ∷ []) ∷ ts (true ∷ true ∷ []) ∷ i (pos 2) ∷ []) ≡ Holds
 unfolding rows row_at builtins
 bool_sum = refl
 
@@ -148,7 +155,8 @@ different_same : state_of (codes "fzn_all_different_int") (is (pos 2 ∷ pos 2 �
 unfolding rows row_at builtins
 different_same = refl
 
-different_apart : state_of (codes "fzn_all_different_int") (is (pos 1 ∷ pos 2 ∷ pos 1 ∷ []) ∷ []) ≡ Fails
+different_apart : state_of (codes "fzn_all_different_int") (is (pos 1 ∷ pos 2 ∷ pos 1 ∷ []) ∷ [])
+    ≡ Fails
 unfolding rows row_at builtins
 different_apart = refl
 
@@ -156,7 +164,8 @@ different_kind : state_of (codes "fzn_all_different_int") (ts (true ∷ []) ∷ 
 unfolding rows row_at builtins
 different_kind = refl
 
-different_reified : state_of (codes "fzn_all_different_int_reif") (is (pos 1 ∷ []) ∷ t true ∷ []) ≡ Unknown
+different_reified : state_of (codes "fzn_all_different_int_reif") (is (pos 1 ∷ []) ∷ t true ∷ [])
+    ≡ Unknown
 unfolding rows row_at builtins
 different_reified = refl
 
@@ -179,17 +188,21 @@ unfolding rows row_at builtins
 two_terms_open = refl
 
 -- with the coefficients MIN, MAX, MIN and three times x no partial sum leaves 128 bits
-three_terms_least : state_at (Some (Int MIN) ∷ []) 1 (model_tree (int_var x ∷ []) (posts (codes "int_lin_le") (is (MIN ∷ MAX ∷ MIN ∷ []) ∷ names (x ∷ x ∷ x ∷ []) ∷ i (pos 0) ∷ []) [] ∷ []) Satisfy) ≡ Fails
+three_terms_least : state_at (Some (Int MIN) ∷ []) 1 (model_tree (int_var x ∷ [])
+    (posts (codes "int_lin_le") (is (MIN ∷ MAX ∷ MIN ∷ []) ∷ names (x ∷ x ∷ x ∷ [])
+    ∷ i (pos 0) ∷ []) [] ∷ []) Satisfy) ≡ Fails
 unfolding rows row_at builtins
 three_terms_least = refl
 
--- the form with a truth value is too large likewise, bool_lin_le never is
-reified_large : state_of (codes "int_lin_le_reif") (is (MIN ∷ MIN ∷ []) ∷ is (MIN ∷ MIN ∷ []) ∷ i (pos 0) ∷ t true ∷ []) ≡ TooLarge
+-- the reified form is too large likewise, bool_lin_le never is
+reified_large : state_of (codes "int_lin_le_reif")
+    (is (MIN ∷ MIN ∷ []) ∷ is (MIN ∷ MIN ∷ []) ∷ i (pos 0) ∷ t true ∷ []) ≡ TooLarge
 unfolding rows row_at builtins
 reified_large = refl
 
 -- the bounds themselves: 2^127 - 1 and -2^127 are no fault, one more and one less are
-at_the_bounds : leaves_128 (pos (2 ^ 127 - 1) ∷ negsuc (2 ^ 127 - 2) ∷ negsuc (2 ^ 127 - 1) ∷ []) ≡ false
+at_the_bounds : leaves_128 (pos (2 ^ 127 - 1) ∷ negsuc (2 ^ 127 - 2) ∷ negsuc (2 ^ 127 - 1) ∷ [])
+    ≡ false
 at_the_bounds = refl
 
 past_the_greatest : leaves_128 (pos (2 ^ 127 - 1) ∷ pos 1 ∷ negsuc 0 ∷ []) ≡ true
@@ -220,7 +233,8 @@ also_length : HasFault two_bs WrongLength (span_at 37 38)
 also_length = inr (inl (refl, refl))
 
 -- solve minimize c;
-nothing_named : HasFault (model_tree [] [] (Minimize (Named (name_at (codes "c") 15 16)))) UnknownName (span_at 15 16)
+nothing_named : HasFault (model_tree [] []
+    (Minimize (Named (name_at (codes "c") 15 16)))) UnknownName (span_at 15 16)
 nothing_named = inl (refl, refl)
 
 -- array [1..0] of int: a = []; solve minimize a;
@@ -240,7 +254,8 @@ nothing = ConstraintPoint 0 (record { name = []; arguments = []; target = None }
 abbrev doubled : LocatedTree
 doubled = model_tree (var_in 0 9 x None ∷ var_in 0 17 z None ∷ []) (posts (codes "int_lin_eq") (is (pos 2 ∷ negsuc 0 ∷ []) ∷ names (x ∷ z ∷ []) ∷ i (pos 0) ∷ []) (defines z) ∷ []) Satisfy
 
-doubled_gives : Gives (model_of doubled) (Some (Int (pos 4)) ∷ None ∷ []) (point_of doubled 2 nothing) 1 (Int (pos 8))
+doubled_gives : Gives (model_of doubled) (Some (Int (pos 4)) ∷ None ∷ [])
+    (point_of doubled 2 nothing) 1 (Int (pos 8))
 unfolding rows row_at builtins
 doubled_gives = record {
   target = (refl, (1, refl, Fixed (Int (negsuc 0)), refl, inr refl));
@@ -262,8 +277,9 @@ twice_gives_nothing k u g = let e = g.only_open in cc
 past_the_limit : WithinLimits (Int (pos (2 ^ 63))) → ⊥
 past_the_limit h = no (lt-ltb _ _ h.sfits)
 
--- The sum without z fits 128 bits, and with z in front a partial sum is 2^127. The step is taken, and the state afterwards is too large.
--- constraint int_lin_eq([1,MIN,MIN,1,MIN,MIN,-1,-1],[z,MIN,MIN+1,MAX,MAX,MAX,MAX,MAX],2) :: defines_var(z);
+-- The sum without z fits 128 bits, and with z in front a partial sum is 2^127. The step is taken,
+-- and the state afterwards is too large. constraint
+-- int_lin_eq([1,MIN,MIN,1,MIN,MIN,-1,-1],[z,MIN,MIN+1,MAX,MAX,MAX,MAX,MAX],2) :: defines_var(z);
 abbrev in_front : LocatedTree
 in_front = model_tree (int_var z ∷ [])
     (posts (codes "int_lin_eq")
@@ -291,18 +307,21 @@ in_front_state = refl
 abbrev AreElements : NumberSet → List ℤ → Type 0
 AreElements u xs = (q : ℤ) → sets.contains u q ≡ list_any (eq_by_cmp int_cmp q) xs
 
-any_append : (p : ℤ → Bool) (xs ys : List ℤ) → list_any p (xs ++ ys) ≡ (list_any p xs || list_any p ys)
+any_append : (p : ℤ → Bool) (xs ys : List ℤ)
+    → list_any p (xs ++ ys) ≡ (list_any p xs || list_any p ys)
 any_append p [] ys = refl
 any_append p (x ∷ xs) ys = elim (p x) as (λ b. (b || list_any p (xs ++ ys)) ≡ ((b || list_any p xs) || list_any p ys)) [ true ↦ refl | false ↦ any_append p xs ys ]
 
-union_elements : (u w : NumberSet) (xs ys : List ℤ) → AreElements u xs → AreElements w ys → AreElements (sets.union u w) (xs ++ ys)
+union_elements : (u w : NumberSet) (xs ys : List ℤ) → AreElements u xs → AreElements w ys
+    → AreElements (sets.union u w) (xs ++ ys)
 union_elements u w xs ys h k q = sets.contains-union int_cmp_total u w q ∙ (λ i. h q i || k q i) ∙ sym (any_append (eq_by_cmp int_cmp q) xs ys)
 
 listed_elements : (xs : List ℤ) → AreElements (set_of xs) xs
 listed_elements xs q = sets.contains-from_list int_cmp_total xs q
 
 -- each element of the list is one of the other
-among_all : (xs ys : List ℤ) (q : ℤ) → list_all (λ x. list_any (eq_by_cmp int_cmp x) ys) xs ≡ true → list_any (eq_by_cmp int_cmp q) xs ≡ true → list_any (eq_by_cmp int_cmp q) ys ≡ true
+among_all : (xs ys : List ℤ) (q : ℤ) → list_all (λ x. list_any (eq_by_cmp int_cmp x) ys) xs ≡ true
+    → list_any (eq_by_cmp int_cmp q) xs ≡ true → list_any (eq_by_cmp int_cmp q) ys ≡ true
 among_all [] ys q all some = no some
 among_all (x ∷ xs) ys q all some =
     elim (eq_by_cmp int_cmp q x) as (λ b. eq_by_cmp int_cmp q x ≡ b → (b || list_any (eq_by_cmp int_cmp q) xs) ≡ true → list_any (eq_by_cmp int_cmp q) ys ≡ true) [
@@ -310,14 +329,19 @@ among_all (x ∷ xs) ys q all some =
       | false ↦ λ _ later. among_all xs ys q (and_second (list_any (eq_by_cmp int_cmp x) ys) _ all) later
     ] refl some
 
-subset_of : (u w : NumberSet) (xs ys : List ℤ) → AreElements u xs → AreElements w ys → list_all (λ x. list_any (eq_by_cmp int_cmp x) ys) xs ≡ true → sets.is_subset u w ≡ true
+subset_of : (u w : NumberSet) (xs ys : List ℤ) → AreElements u xs → AreElements w ys
+    → list_all (λ x. list_any (eq_by_cmp int_cmp x) ys) xs ≡ true → sets.is_subset u w ≡ true
 subset_of u w xs ys h k all = sets.contains-is_subset int_cmp_total u w (λ q e. k q ∙ among_all xs ys q all (sym (h q) ∙ e))
 
-same_elements : (u w : NumberSet) (xs ys : List ℤ) → AreElements u xs → AreElements w ys → list_all (λ x. list_any (eq_by_cmp int_cmp x) ys) xs ≡ true → list_all (λ y. list_any (eq_by_cmp int_cmp y) xs) ys ≡ true → (u =ˢ w) ≡ true
+same_elements : (u w : NumberSet) (xs ys : List ℤ) → AreElements u xs → AreElements w ys
+    → list_all (λ x. list_any (eq_by_cmp int_cmp x) ys) xs ≡ true
+    → list_all (λ y. list_any (eq_by_cmp int_cmp y) xs) ys ≡ true → (u =ˢ w) ≡ true
 same_elements u w xs ys h k all each = and_both (sets.is_subset u w) (sets.is_subset w u) (subset_of u w xs ys h k all) (subset_of w u ys xs k h each)
 
 -- constraint set_union({1,2},2..4,{4,3,2,1})
-union_row : state_of (codes "set_union") (s (pos 1 ∷ pos 2 ∷ []) ∷ One (Lit (literal (Range (pos 2) (pos 4)))) ∷ s (pos 4 ∷ pos 3 ∷ pos 2 ∷ pos 1 ∷ []) ∷ []) ≡ Holds
+union_row : state_of (codes "set_union") (s (pos 1 ∷ pos 2 ∷ [])
+    ∷ One (Lit (literal (Range (pos 2) (pos 4)))) ∷ s (pos 4 ∷ pos 3 ∷ pos 2 ∷ pos 1 ∷ []) ∷ [])
+    ≡ Holds
 unfolding numbers_between counting_from rows row_at builtins
 union_row = ap judged (same_elements (set_of (pos 4 ∷ pos 3 ∷ pos 2 ∷ pos 1 ∷ [])) (sets.union (set_of (pos 1 ∷ pos 2 ∷ [])) (numbers_between (pos 2) (pos 4)))
     (pos 4 ∷ pos 3 ∷ pos 2 ∷ pos 1 ∷ []) (pos 1 ∷ pos 2 ∷ pos 2 ∷ pos 3 ∷ pos 4 ∷ [])

@@ -1,4 +1,5 @@
--- Steps of loops: what is met first in a list of which a part was read, and one more declaration, constraint or part.
+-- Steps of loops: what is met first in a list of which a part was read, and one more declaration,
+-- constraint or part.
 use Rattle.std.proofs.Common.{◌≡◌, ℕ, ◌+◌, ◌<◌, ◌≤◌, Bool, true, false, cond, ◌||◌, List, [], ◌∷◌, ◌++◌, map, length, get_or, take, drop, Option, Some, None, refl, sym, ap, ◌∙◌, flat_map, append_assoc, add-one, drop-cons}
 use Rattle.std.specs.Option.{option_or}
 use Rattle.std.proofs.lemmas.List.{take-append-drop, map-append, append-nil, take_all}
@@ -13,13 +14,15 @@ use Rattle.fz_meaning.specs.FirstFault.{Fault, part_fault, parts_fault, name_fau
 -- ---- a list of which a part was read
 
 -- the whole list: what was read, the one at the place, and what follows
-pub whole_at : {A B : Type 0} (f : A → B) (xs : List A) (i : ℕ) (x : A) → i < length xs → x ≡ get_or xs i x → map f xs ≡ map f (take i xs) ++ f x ∷ map f (drop (i + 1) xs)
+pub whole_at : {A B : Type 0} (f : A → B) (xs : List A) (i : ℕ) (x : A) → i < length xs
+    → x ≡ get_or xs i x → map f xs ≡ map f (take i xs) ++ f x ∷ map f (drop (i + 1) xs)
 whole_at f xs i x h e =
     let rest : drop i xs ≡ x ∷ drop (i + 1) xs = drop-cons xs i x h ∙ (λ j. sym e j ∷ drop (sym (add-one i) j) xs) in
     ap (map f) (sym (take-append-drop i xs)) ∙ map-append f (take i xs) (drop i xs) ∙ ap (λ ys. map f (take i xs) ++ map f ys) rest
 
 -- one more
-pub take_one_more : {A B : Type 0} (f : A → B) (xs : List A) (i : ℕ) (x : A) → i < length xs → x ≡ get_or xs i x → map f (take (i + 1) xs) ≡ map f (take i xs) ++ f x ∷ []
+pub take_one_more : {A B : Type 0} (f : A → B) (xs : List A) (i : ℕ) (x : A) → i < length xs
+    → x ≡ get_or xs i x → map f (take (i + 1) xs) ≡ map f (take i xs) ++ f x ∷ []
 take_one_more f xs i x h e =
     ap (λ n. map f (take n xs)) (add-one i) ∙ ap (map f) (take-suc xs i x h) ∙ map-append f (take i xs) (get_or xs i x ∷ []) ∙ ap (λ y. map f (take i xs) ++ f y ∷ []) (sym e)
 
@@ -29,7 +32,8 @@ pub or_nothing : {A : Type 0} (o : Option A) → option_or o None ≡ o
 or_nothing None = refl
 or_nothing (Some x) = refl
 
-pub or_assoc : {A : Type 0} (o p q : Option A) → option_or (option_or o p) q ≡ option_or o (option_or p q)
+pub or_assoc : {A : Type 0} (o p q : Option A)
+    → option_or (option_or o p) q ≡ option_or o (option_or p q)
 or_assoc None p q = refl
 or_assoc (Some x) p q = refl
 
@@ -44,77 +48,100 @@ second_none (Some x) p e = cc
 pub both_none : {A : Type 0} (o p : Option A) → o ≡ None → p ≡ None → option_or o p ≡ None
 both_none o p a b = ap (λ z. option_or z p) a ∙ b
 
-pub first_append : {A B : Type 0} (f : A → Option B) (xs ys : List A) → first_some f (xs ++ ys) ≡ option_or (first_some f xs) (first_some f ys)
+pub first_append : {A B : Type 0} (f : A → Option B) (xs ys : List A)
+    → first_some f (xs ++ ys) ≡ option_or (first_some f xs) (first_some f ys)
 first_append f [] ys = refl
 first_append f (x ∷ xs) ys = ap (option_or (f x)) (first_append f xs ys) ∙ sym (or_assoc (f x) (first_some f xs) (first_some f ys))
 
-pub first_map : {A B C : Type 0} (f : B → Option C) (g : A → B) (xs : List A) → first_some f (map g xs) ≡ first_some (λ x. f (g x)) xs
+pub first_map : {A B C : Type 0} (f : B → Option C) (g : A → B) (xs : List A)
+    → first_some f (map g xs) ≡ first_some (λ x. f (g x)) xs
 first_map f g [] = refl
 first_map f g (x ∷ xs) = ap (option_or (f (g x))) (first_map f g xs)
 
-pub first_flat : {A B C : Type 0} (f : B → Option C) (g : A → List B) (xs : List A) → first_some f (flat_map g xs) ≡ first_some (λ x. first_some f (g x)) xs
+pub first_flat : {A B C : Type 0} (f : B → Option C) (g : A → List B) (xs : List A)
+    → first_some f (flat_map g xs) ≡ first_some (λ x. first_some f (g x)) xs
 first_flat f g [] = refl
 first_flat f g (x ∷ xs) = first_append f (g x) (flat_map g xs) ∙ ap (option_or (first_some f (g x))) (first_flat f g xs)
 
 -- in a loop over elements whose logical value is `g x`: none so far, and none at the next
-pub first_more : {A B C : Type 0} (f : B → Option C) (g : A → B) (xs : List A) (i : ℕ) (x : A) → i < length xs → x ≡ get_or xs i x → first_some f (map g (take i xs)) ≡ None → f (g x) ≡ None → first_some f (map g (take (i + 1) xs)) ≡ None
+pub first_more : {A B C : Type 0} (f : B → Option C) (g : A → B) (xs : List A) (i : ℕ) (x : A)
+    → i < length xs → x ≡ get_or xs i x → first_some f (map g (take i xs)) ≡ None → f (g x) ≡ None
+    → first_some f (map g (take (i + 1) xs)) ≡ None
 first_more f g xs i x h e none here =
     ap (first_some f) (take_one_more g xs i x h e) ∙ first_append f (map g (take i xs)) (g x ∷ []) ∙ both_none (first_some f (map g (take i xs))) (option_or (f (g x)) None) none (both_none (f (g x)) None here refl)
 
 -- none so far, and one at the next
-pub first_stops : {A B C : Type 0} (f : B → Option C) (g : A → B) (xs : List A) (i : ℕ) (x : A) (y : C) → i < length xs → x ≡ get_or xs i x → first_some f (map g (take i xs)) ≡ None → f (g x) ≡ Some y → first_some f (map g xs) ≡ Some y
+pub first_stops : {A B C : Type 0} (f : B → Option C) (g : A → B) (xs : List A) (i : ℕ) (x : A)
+    (y : C) → i < length xs → x ≡ get_or xs i x → first_some f (map g (take i xs)) ≡ None
+    → f (g x) ≡ Some y → first_some f (map g xs) ≡ Some y
 first_stops f g xs i x y h e none here =
     ap (first_some f) (whole_at g xs i x h e) ∙ first_append f (map g (take i xs)) (g x ∷ map g (drop (i + 1) xs)) ∙ ap (λ o. option_or o (option_or (f (g x)) (first_some f (map g (drop (i + 1) xs))))) none
     ∙ ap (λ o. option_or o (first_some f (map g (drop (i + 1) xs)))) here
 
 -- none up to the end
-pub first_ends : {A B C : Type 0} (f : B → Option C) (g : A → B) (xs : List A) (i : ℕ) → length xs ≤ i → first_some f (map g (take i xs)) ≡ None → first_some f (map g xs) ≡ None
+pub first_ends : {A B C : Type 0} (f : B → Option C) (g : A → B) (xs : List A) (i : ℕ)
+    → length xs ≤ i → first_some f (map g (take i xs)) ≡ None → first_some f (map g xs) ≡ None
 first_ends f g xs i h none = ap (λ ys. first_some f (map g ys)) (sym (take_all i xs h)) ∙ none
 
 -- ---- declarations
 
-pub decls_append : (before xs ys : List Decl) → decls_fault before (xs ++ ys) ≡ option_or (decls_fault before xs) (decls_fault (before ++ xs) ys)
+pub decls_append : (before xs ys : List Decl) → decls_fault before (xs ++ ys)
+    ≡ option_or (decls_fault before xs) (decls_fault (before ++ xs) ys)
 decls_append before [] ys = ap (λ zs. decls_fault zs ys) (sym (append-nil before))
 decls_append before (d ∷ xs) ys =
     ap (option_or (decl_fault before d)) (decls_append (before ++ d ∷ []) xs ys ∙ ap (λ zs. option_or (decls_fault (before ++ d ∷ []) xs) (decls_fault zs ys)) (append_assoc before (d ∷ []) xs))
     ∙ sym (or_assoc (decl_fault before d) (decls_fault (before ++ d ∷ []) xs) (decls_fault (before ++ d ∷ xs) ys))
 
 -- none in what was read, and none at the next
-pub decls_one_more : (before : List Decl) (d : Decl) → decls_fault [] before ≡ None → decl_fault before d ≡ None → decls_fault [] (before ++ d ∷ []) ≡ None
+pub decls_one_more : (before : List Decl) (d : Decl) → decls_fault [] before ≡ None
+    → decl_fault before d ≡ None → decls_fault [] (before ++ d ∷ []) ≡ None
 decls_one_more before d none here = decls_append [] before (d ∷ []) ∙ both_none (decls_fault [] before) (option_or (decl_fault before d) None) none (both_none (decl_fault before d) None here refl)
 
 -- none in what was read, and one at the next
-pub decls_stop : (before : List Decl) (d : Decl) (rest : List Decl) (f : Fault) → decls_fault [] before ≡ None → decl_fault before d ≡ Some f → decls_fault [] (before ++ d ∷ rest) ≡ Some f
+pub decls_stop : (before : List Decl) (d : Decl) (rest : List Decl) (f : Fault)
+    → decls_fault [] before ≡ None → decl_fault before d ≡ Some f
+    → decls_fault [] (before ++ d ∷ rest) ≡ Some f
 decls_stop before d rest f none here =
     decls_append [] before (d ∷ rest) ∙ ap (λ o. option_or o (option_or (decl_fault before d) (decls_fault (before ++ d ∷ []) rest))) none
     ∙ ap (λ o. option_or o (decls_fault (before ++ d ∷ []) rest)) here
 
 -- none in what was read, as none is in the whole list
-pub none_before : (before rest : List Decl) → decls_fault [] (before ++ rest) ≡ None → decls_fault [] before ≡ None
+pub none_before : (before rest : List Decl) → decls_fault [] (before ++ rest) ≡ None
+    → decls_fault [] before ≡ None
 none_before before rest e = first_none (decls_fault [] before) (decls_fault before rest) (sym (decls_append [] before rest) ∙ e)
 
-pub none_at : (before : List Decl) (d : Decl) (rest : List Decl) → decls_fault [] (before ++ d ∷ rest) ≡ None → decl_fault before d ≡ None
+pub none_at : (before : List Decl) (d : Decl) (rest : List Decl)
+    → decls_fault [] (before ++ d ∷ rest) ≡ None → decl_fault before d ≡ None
 none_at before d rest e =
     first_none (decl_fault before d) (decls_fault (before ++ d ∷ []) rest)
     (second_none (decls_fault [] before) (option_or (decl_fault before d) (decls_fault (before ++ d ∷ []) rest)) (sym (decls_append [] before (d ∷ rest)) ∙ e))
 
 -- the same in a loop over the code's declarations, whose logical value is `g x`
-pub decls_more : {A : Type 0} (g : A → Decl) (xs : List A) (i : ℕ) (x : A) → i < length xs → x ≡ get_or xs i x → decls_fault [] (map g (take i xs)) ≡ None → decl_fault (map g (take i xs)) (g x) ≡ None → decls_fault [] (map g (take (i + 1) xs)) ≡ None
+pub decls_more : {A : Type 0} (g : A → Decl) (xs : List A) (i : ℕ) (x : A) → i < length xs
+    → x ≡ get_or xs i x → decls_fault [] (map g (take i xs)) ≡ None
+    → decl_fault (map g (take i xs)) (g x) ≡ None → decls_fault [] (map g (take (i + 1) xs)) ≡ None
 decls_more g xs i x h e none here = ap (decls_fault []) (take_one_more g xs i x h e) ∙ decls_one_more (map g (take i xs)) (g x) none here
 
-pub decls_stops : {A : Type 0} (g : A → Decl) (xs : List A) (i : ℕ) (x : A) (f : Fault) → i < length xs → x ≡ get_or xs i x → decls_fault [] (map g (take i xs)) ≡ None → decl_fault (map g (take i xs)) (g x) ≡ Some f → decls_fault [] (map g xs) ≡ Some f
+pub decls_stops : {A : Type 0} (g : A → Decl) (xs : List A) (i : ℕ) (x : A) (f : Fault)
+    → i < length xs → x ≡ get_or xs i x → decls_fault [] (map g (take i xs)) ≡ None
+    → decl_fault (map g (take i xs)) (g x) ≡ Some f → decls_fault [] (map g xs) ≡ Some f
 decls_stops g xs i x f h e none here = ap (decls_fault []) (whole_at g xs i x h e) ∙ decls_stop (map g (take i xs)) (g x) (map g (drop (i + 1) xs)) f none here
 
 -- ---- at one declaration
 
 -- a name that is new, and a value of the declared length with no fault
-pub decl_clean : (before : List Decl) (d : Decl) → name_fault before d ≡ None → parts_fault before (Some (kind_of_base d.base)) (parts d.value) ≡ None → decl_fault before d ≡ None
+pub decl_clean : (before : List Decl) (d : Decl) → name_fault before d ≡ None
+    → parts_fault before (Some (kind_of_base d.base)) (parts d.value) ≡ None
+    → decl_fault before d ≡ None
 decl_clean before d name value = both_none (name_fault before d) (parts_fault before (Some (kind_of_base d.base)) (parts d.value)) name value
 
-pub decl_at_name : (before : List Decl) (d : Decl) (f : Fault) → name_fault before d ≡ Some f → decl_fault before d ≡ Some f
+pub decl_at_name : (before : List Decl) (d : Decl) (f : Fault) → name_fault before d ≡ Some f
+    → decl_fault before d ≡ Some f
 decl_at_name before d f e = ap (λ o. option_or o (parts_fault before (Some (kind_of_base d.base)) (parts d.value))) e
 
-pub decl_at_part : (before : List Decl) (d : Decl) (f : Fault) → name_fault before d ≡ None → parts_fault before (Some (kind_of_base d.base)) (parts d.value) ≡ Some f → decl_fault before d ≡ Some f
+pub decl_at_part : (before : List Decl) (d : Decl) (f : Fault) → name_fault before d ≡ None
+    → parts_fault before (Some (kind_of_base d.base)) (parts d.value) ≡ Some f
+    → decl_fault before d ≡ Some f
 decl_at_part before d f none e = ap (λ o. option_or o (parts_fault before (Some (kind_of_base d.base)) (parts d.value))) none ∙ e
 
 nothing_first : (b : Bool) (f : Fault) (o : Option Fault) → cond b (Some f) o ≡ None → b ≡ false
@@ -122,41 +149,52 @@ nothing_first true f o e = cc
 nothing_first false f o e = refl
 
 -- a declaration with no fault has a new name
-pub is_new : (before : List Decl) (d : Decl) → decl_fault before d ≡ None → declares before d.name.text ≡ false
+pub is_new : (before : List Decl) (d : Decl) → decl_fault before d ≡ None
+    → declares before d.name.text ≡ false
 is_new before d e = nothing_first (declares before d.name.text) (DuplicateName, d.name.span) (cond (differs_in_length d) (Some (WrongLength, d.name.span)) None) (first_none (name_fault before d) (parts_fault before (Some (kind_of_base d.base)) (parts d.value)) e)
 
 -- ---- what is declared, with one more
 
-pub declares_more : (before : List Decl) (d : Decl) (x : List ℕ) → declares (before ++ d ∷ []) x ≡ (declares before x || named_as x d)
+pub declares_more : (before : List Decl) (d : Decl) (x : List ℕ)
+    → declares (before ++ d ∷ []) x ≡ (declares before x || named_as x d)
 declares_more before d x = list_any-append (named_as x) before (d ∷ []) ∙ ap (λ b. declares before x || b) (or_false (named_as x d))
   where
     or_false : (b : Bool) → (b || false) ≡ b
     or_false true = refl
     or_false false = refl
 
-pub declaration_more : (before : List Decl) (d : Decl) (x : List ℕ) → declaration (before ++ d ∷ []) x ≡ option_or (declaration before x) (cond (named_as x d) (Some d) None)
+pub declaration_more : (before : List Decl) (d : Decl) (x : List ℕ)
+    → declaration (before ++ d ∷ []) x
+    ≡ option_or (declaration before x) (cond (named_as x d) (Some d) None)
 declaration_more before d x = find-append (named_as x) before (d ∷ [])
 
 -- ---- constraints and the objective
 
 -- a constraint's fault is the first one at its arguments
-pub constraint_by_arguments : (known : List Decl) (c : Constraint) → constraint_fault known c ≡ first_some (λ e. parts_fault known None (parts (Some e))) c.args
+pub constraint_by_arguments : (known : List Decl) (c : Constraint)
+    → constraint_fault known c ≡ first_some (λ e. parts_fault known None (parts (Some e))) c.args
 constraint_by_arguments known c = first_flat (part_fault known None) (λ e. parts (Some e)) c.args
 
-pub in_declarations : (t : LocatedTree) (f : Fault) → decls_fault [] t.decls ≡ Some f → first_fault t ≡ Some f
+pub in_declarations : (t : LocatedTree) (f : Fault) → decls_fault [] t.decls ≡ Some f
+    → first_fault t ≡ Some f
 in_declarations t f e = ap (λ o. option_or o (option_or (constraints_fault t.decls t.constraints) (goal_fault t.decls t.solve.goal))) e
 
-pub in_constraints : (t : LocatedTree) (f : Fault) → decls_fault [] t.decls ≡ None → constraints_fault t.decls t.constraints ≡ Some f → first_fault t ≡ Some f
+pub in_constraints : (t : LocatedTree) (f : Fault) → decls_fault [] t.decls ≡ None
+    → constraints_fault t.decls t.constraints ≡ Some f → first_fault t ≡ Some f
 in_constraints t f none e =
     ap (λ o. option_or o (option_or (constraints_fault t.decls t.constraints) (goal_fault t.decls t.solve.goal))) none
     ∙ ap (λ o. option_or o (goal_fault t.decls t.solve.goal)) e
 
-pub in_goal : (t : LocatedTree) (f : Fault) → decls_fault [] t.decls ≡ None → constraints_fault t.decls t.constraints ≡ None → goal_fault t.decls t.solve.goal ≡ Some f → first_fault t ≡ Some f
+pub in_goal : (t : LocatedTree) (f : Fault) → decls_fault [] t.decls ≡ None
+    → constraints_fault t.decls t.constraints ≡ None → goal_fault t.decls t.solve.goal ≡ Some f
+    → first_fault t ≡ Some f
 in_goal t f none here e =
     ap (λ o. option_or o (option_or (constraints_fault t.decls t.constraints) (goal_fault t.decls t.solve.goal))) none
     ∙ ap (λ o. option_or o (goal_fault t.decls t.solve.goal)) here ∙ e
 
-pub nowhere : (t : LocatedTree) → decls_fault [] t.decls ≡ None → constraints_fault t.decls t.constraints ≡ None → goal_fault t.decls t.solve.goal ≡ None → first_fault t ≡ None
+pub nowhere : (t : LocatedTree) → decls_fault [] t.decls ≡ None
+    → constraints_fault t.decls t.constraints ≡ None → goal_fault t.decls t.solve.goal ≡ None
+    → first_fault t ≡ None
 nowhere t a b c = both_none (decls_fault [] t.decls) (option_or (constraints_fault t.decls t.constraints) (goal_fault t.decls t.solve.goal)) a (both_none (constraints_fault t.decls t.constraints) (goal_fault t.decls t.solve.goal) b c)
 
 pub declarations_clean : (t : LocatedTree) → first_fault t ≡ None → decls_fault [] t.decls ≡ None

@@ -1,4 +1,4 @@
--- In a tree without faults the objective is a whole number.
+-- In a tree without faults the objective is an integer.
 use Rattle.std.proofs.Common.{◌≡◌, ℕ, suc, zero, pos, Bool, true, false, cond, ◌&&◌, ◌||◌, List, [], ◌∷◌, ◌++◌, map, Option, Some, None, refl, sym, ap, subst, ◌∙◌, option_map, slice_get, flat_map, find, IsFalse, ◌⊎◌, inl, inr, IsSomeAnd, filter}
 use Rattle.std.specs.Prelude.{⊤}
 use Rattle.std.specs.List.{list_any}
@@ -29,7 +29,7 @@ abbrev pub kind_of_term : Model → Term → Option Kind
 kind_of_term m (Var n) = kind_at m n
 kind_of_term m (Fixed v) = Some (kind_of v)
 
--- what is minimized or maximized is a whole number
+-- what is minimized or maximized is an integer
 abbrev pub HasNumberKind : Model → Aim → Type 0
 HasNumberKind m Aim.Satisfy = ⊤
 HasNumberKind m (Aim.Minimize t) = kind_of_term m t ≡ Some IntKind
@@ -49,7 +49,8 @@ same_kind_is SetKind IntKind e = no e
 same_kind_is SetKind BoolKind e = no e
 same_kind_is SetKind SetKind e = refl
 
-pub some_right : {A : Type 0} (P : A → Type 0) (xs ys : List A) → Some_of P ys → Some_of P (xs ++ ys)
+pub some_right : {A : Type 0} (P : A → Type 0) (xs ys : List A) → Some_of P ys
+    → Some_of P (xs ++ ys)
 some_right P [] ys h = h
 some_right P (x ∷ xs) ys h = inr (some_right P xs ys h)
 
@@ -72,7 +73,8 @@ found_passes t (c ∷ ds) d e =
       | false ↦ λ _ e. found_passes t ds d e
     ]) refl e
 
-found_among : (t q : Decl → Bool) (ds : List Decl) (d : Decl) → find t ds ≡ Some d → q d ≡ true → find t (filter q ds) ≡ Some d
+found_among : (t q : Decl → Bool) (ds : List Decl) (d : Decl) → find t ds ≡ Some d → q d ≡ true
+    → find t (filter q ds) ≡ Some d
 found_among t q [] d e h = e
 found_among t q (c ∷ ds) d e h =
     (elim (t c) as (λ b. t c ≡ b → cond b (Some c) (find t ds) ≡ Some d → find t (cond (q c) (c ∷ filter q ds) (filter q ds)) ≡ Some d) [
@@ -87,18 +89,21 @@ found_among t q (c ∷ ds) d e h =
           ]
     ]) refl e
 
-pub declared_found : (t : Decl → Bool) (ds : List Decl) → list_any t ds ≡ true → (d : Decl) × (find t ds ≡ Some d)
+pub declared_found : (t : Decl → Bool) (ds : List Decl) → list_any t ds ≡ true
+    → (d : Decl) × (find t ds ≡ Some d)
 declared_found t [] e = no e
 declared_found t (c ∷ ds) e =
     elim (t c) as (λ b. (b || list_any t ds) ≡ true → (d : Decl) × (cond b (Some c) (find t ds) ≡ Some d)) [ true ↦ λ _. (c, refl) | false ↦ λ e. declared_found t ds e ] e
 
-slice_get-map : {A B : Type 0} (f : A → B) (xs : List A) (i : ℕ) → slice_get (map f xs) i ≡ option_map f (slice_get xs i)
+slice_get-map : {A B : Type 0} (f : A → B) (xs : List A) (i : ℕ)
+    → slice_get (map f xs) i ≡ option_map f (slice_get xs i)
 slice_get-map f [] i = refl
 slice_get-map f (x ∷ xs) zero = refl
 slice_get-map f (x ∷ xs) (suc i) = slice_get-map f xs i
 
 -- the variables of a tree's model are those of its scalar variables
-variables_are : (all ds : List Decl) → flat_map variable_of (map (declared_of all) ds) ≡ map variable_declared (scalar_variables ds)
+variables_are : (all ds : List Decl)
+    → flat_map variable_of (map (declared_of all) ds) ≡ map variable_declared (scalar_variables ds)
 variables_are all [] = refl
 variables_are all (d ∷ ds) =
     elim d.is_var as (λ b. variable_of (cond b (cond (is_scalar d) (Declared.ScalarVariable (variable_declared d) (definition_of all d.value)) (Declared.ArrayOfVariables d.name.text (kind_of_base d.base) (domain_of d.base) (map (term_of all) (parts d.value)))) (Declared.Parameter d.name.text (place_of_declared all d))) ++ flat_map variable_of (map (declared_of all) ds)
@@ -112,7 +117,9 @@ variables_are all (d ∷ ds) =
     ]
 
 -- the number of a name that a scalar variable has leads to that variable
-pub kind_of_number : (t : LocatedTree) (x : List ℕ) (d : Decl) → declaration t.decls x ≡ Some d → is_scalar_variable d ≡ true → kind_at (model_of t) (number_of t.decls x) ≡ Some (kind_of_base d.base)
+pub kind_of_number : (t : LocatedTree) (x : List ℕ) (d : Decl) → declaration t.decls x ≡ Some d
+    → is_scalar_variable d ≡ true → kind_at (model_of t) (number_of t.decls x)
+    ≡ Some (kind_of_base d.base)
 kind_of_number t x d found is =
     let at : slice_get (scalar_variables t.decls) (number_of t.decls x) ≡ Some d = sym (find_at (named_as x) (scalar_variables t.decls)) ∙ found_among (named_as x) is_scalar_variable t.decls d found is in
     ap (λ vs. option_map (λ v. v.kind) (slice_get vs (number_of t.decls x))) (variables_are t.decls t.decls)
@@ -128,7 +135,8 @@ in_order_has P before (c ∷ ds) t d e h =
       | false ↦ λ e. inr (in_order_has P (before ++ c ∷ []) ds t d e h)
     ]) e
 
-some_flat : {A B : Type 0} (P : B → Type 0) (f : A → List B) (xs : List A) → Some_of (λ x. Some_of P (f x)) xs → Some_of P (flat_map f xs)
+some_flat : {A B : Type 0} (P : B → Type 0) (f : A → List B) (xs : List A)
+    → Some_of (λ x. Some_of P (f x)) xs → Some_of P (flat_map f xs)
 some_flat P f [] h = h
 some_flat P f (x ∷ xs) h = elim h [ inl here ↦ some_left P (f x) (flat_map f xs) here | inr later ↦ some_right P (f x) (flat_map f xs) (some_flat P f xs later) ]
 
@@ -143,7 +151,8 @@ WrongUse at u = WrongKindAt u.known u.wanted u.what at
 
 module _ (t : LocatedTree) (sound : HasNoFault t) where
   -- a scalar parameter of kind int has the value of kind int
-  literal_kind : (d : Decl) (x : List ℕ) → declaration t.decls x ≡ Some d → (e : Option Expr) → d.value ≡ e → kind_of (literal_of e) ≡ kind_of_base d.base ⊎ (literal_of e ≡ Int (pos 0))
+  literal_kind : (d : Decl) (x : List ℕ) → declaration t.decls x ≡ Some d → (e : Option Expr)
+      → d.value ≡ e → kind_of (literal_of e) ≡ kind_of_base d.base ⊎ (literal_of e ≡ Int (pos 0))
   literal_kind d x found None is = inr refl
   literal_kind d x found (Some (Several bs)) is = inr refl
   literal_kind d x found (Some (One (Named y))) is = inr refl
@@ -156,7 +165,9 @@ module _ (t : LocatedTree) (sound : HasNoFault t) where
       (in_order_has (λ o. Some_of (WrongUse l.span) (map (use_of o.before (Some (kind_of_base o.here.base))) (parts o.here.value))) [] t.decls (named_as x) d found
       (λ earlier. subst (λ v. Some_of (WrongUse l.span) (map (use_of earlier (Some (kind_of_base d.base))) (parts v))) (sym is) (inl (wrong, refl))))))))))
 
-  objective_kind : (b : Basic) → ((at : Span) → UnknownAt t.decls b at → ⊥) → ((at : Span) → WrongKindAt t.decls (Some IntKind) b at → ⊥) → kind_of_term (model_of t) (term_of t.decls b) ≡ Some IntKind
+  objective_kind : (b : Basic) → ((at : Span) → UnknownAt t.decls b at → ⊥)
+      → ((at : Span) → WrongKindAt t.decls (Some IntKind) b at → ⊥)
+      → kind_of_term (model_of t) (term_of t.decls b) ≡ Some IntKind
   objective_kind (Lit l) known right = ap Some (same_kind_is (kind_of (literal_value l.what)) IntKind (else_true _ (λ e. right l.span (e, refl))))
   objective_kind (Named x) known right =
       let (d, found) = declared_found (named_as x.text) t.decls (else_true _ (λ e. known x.span (e, refl))) in

@@ -1,4 +1,5 @@
--- What the states of a point say of it: where the state is that it holds, the point holds; and what fails has the values that show it.
+-- What the states of a point say of it: where the state is that it holds, the point holds; and what
+-- fails has the values that show it.
 use Rattle.std.proofs.Common.{◌≡◌, Bool, true, false, not, cond, ◌&&◌, ◌||◌, List, [], ◌∷◌, Option, Some, None, refl, sym, ap, subst, IsTrue, IsSomeAnd}
 use Rattle.std.specs.List.{AllByRecursion, list_any}
 use Rattle.std.specs.Option.{option_map_or}
@@ -26,34 +27,42 @@ pub judged_false : (b : Bool) → judged b ≡ Fails → b ≡ false
 judged_false true e = cc
 judged_false false e = refl
 
-pub judged_holds : {A : Type 0} (t : A → Bool) (o : Option A) → judged_by t o ≡ Holds → (a : A) × (o ≡ Some a) × (t a ≡ true)
+pub judged_holds : {A : Type 0} (t : A → Bool) (o : Option A) → judged_by t o ≡ Holds
+    → (a : A) × (o ≡ Some a) × (t a ≡ true)
 judged_holds t None e = cc
 judged_holds t (Some a) e = (a, refl, judged_true (t a) e)
 
-pub judged_fails : {A : Type 0} (t : A → Bool) (o : Option A) → judged_by t o ≡ Fails → (a : A) × (o ≡ Some a) × (t a ≡ false)
+pub judged_fails : {A : Type 0} (t : A → Bool) (o : Option A) → judged_by t o ≡ Fails
+    → (a : A) × (o ≡ Some a) × (t a ≡ false)
 judged_fails t None e = cc
 judged_fails t (Some a) e = (a, refl, judged_false (t a) e)
 
-pub both_some : (o p : Option Value) (x : Value × Value) → both o p ≡ Some x → (o ≡ Some x.0) × (p ≡ Some x.1)
+pub both_some : (o p : Option Value) (x : Value × Value) → both o p ≡ Some x
+    → (o ≡ Some x.0) × (p ≡ Some x.1)
 both_some None p x e = cc
 both_some (Some a) None x e = cc
 both_some (Some a) (Some b) x e = let pair : ◌≡◌ {A = Value × Value} (a, b) x = cc in (ap (λ z. Some z.0) pair, ap (λ z. Some z.1) pair)
 
 -- ---- the arguments of a constraint
 
-pub row_state_holds : (K : Partial) (xs : List Argument) (r : Row) (o : Option (List ArgValue)) → state_of_values K xs r o ≡ Holds → (vs : List ArgValue) × (o ≡ Some vs) × (row_holds r vs ≡ true)
+pub row_state_holds : (K : Partial) (xs : List Argument) (r : Row) (o : Option (List ArgValue))
+    → state_of_values K xs r o ≡ Holds
+    → (vs : List ArgValue) × (o ≡ Some vs) × (row_holds r vs ≡ true)
 row_state_holds K xs r None e = cc
 row_state_holds K xs r (Some vs) e =
     (vs, refl, (elim (sums_leave K xs r) as (λ b. cond b TooLarge (judged (row_holds r vs)) ≡ Holds → row_holds r vs ≡ true) [ true ↦ λ e. cc | false ↦ λ e. judged_true (row_holds r vs) e ]) e)
 
-pub row_state_fails : (K : Partial) (xs : List Argument) (r : Row) (o : Option (List ArgValue)) → state_of_values K xs r o ≡ Fails → (vs : List ArgValue) × (o ≡ Some vs) × (row_holds r vs ≡ false)
+pub row_state_fails : (K : Partial) (xs : List Argument) (r : Row) (o : Option (List ArgValue))
+    → state_of_values K xs r o ≡ Fails
+    → (vs : List ArgValue) × (o ≡ Some vs) × (row_holds r vs ≡ false)
 row_state_fails K xs r None e = cc
 row_state_fails K xs r (Some vs) e =
     (vs, refl, (elim (sums_leave K xs r) as (λ b. cond b TooLarge (judged (row_holds r vs)) ≡ Fails → row_holds r vs ≡ false) [ true ↦ λ e. cc | false ↦ λ e. judged_false (row_holds r vs) e ]) e)
 
 -- ---- the elements of an array
 
-array_holds : (b : Bool) (o : Option (List Value)) → cond b Fails (judged_by (λ vs. true) o) ≡ Holds → (b ≡ false) × ((vs : List Value) × (o ≡ Some vs))
+array_holds : (b : Bool) (o : Option (List Value)) → cond b Fails (judged_by (λ vs. true) o) ≡ Holds
+    → (b ≡ false) × ((vs : List Value) × (o ≡ Some vs))
 array_holds true o e = cc
 array_holds false None e = cc
 array_holds false (Some vs) e = (refl, (vs, refl))
@@ -62,7 +71,9 @@ neither_of : (b c : Bool) → (not b || c) ≡ false → (b ≡ true) × (c ≡ 
 neither_of true c e = (refl, e)
 neither_of false c e = no' e
 
-each_inside : (K : Partial) (d : Domain) (ts : List Term) (vs : List Value) → list_any (is_outside K d) ts ≡ false → values K ts ≡ Some vs → AllByRecursion (λ v. IsTrue (inside d v)) vs
+each_inside : (K : Partial) (d : Domain) (ts : List Term) (vs : List Value)
+    → list_any (is_outside K d) ts ≡ false → values K ts ≡ Some vs
+    → AllByRecursion (λ v. IsTrue (inside d v)) vs
 each_inside K d [] vs none e = let nil : [] ≡ vs = cc in subst (AllByRecursion (λ v. IsTrue (inside d v))) nil tt
 each_inside K d (t ∷ ts) vs none e =
     let (v, ws, is, are, cons) = option_cons_parts (value K t) (values K ts) vs e in

@@ -29,7 +29,8 @@ value_at_given [] n v u e = cc
 value_at_given (o ∷ K) zero v u e = cc
 value_at_given (o ∷ K) (suc n) v u e = value_at_given K n v u e
 
-pub value_at_other : (K : Partial) (n k : ℕ) (v : Value) → (k ≡ n → ⊥) → value_at (give K n v) k ≡ value_at K k
+pub value_at_other : (K : Partial) (n k : ℕ) (v : Value) → (k ≡ n → ⊥)
+    → value_at (give K n v) k ≡ value_at K k
 value_at_other [] n k v h = refl
 value_at_other (o ∷ K) zero zero v h = absurd (h refl)
 value_at_other (o ∷ K) zero (suc k) v h = refl
@@ -41,11 +42,13 @@ value_at_other (o ∷ K) (suc n) (suc k) v h = value_at_other K n k v (λ e. h (
 abbrev pub is_open : Partial → Term → Bool
 is_open K t = is_none (value K t)
 
-pub filter-none : {A : Type 0} (p : A → Bool) (x : A) (xs : List A) → filter p (x ∷ xs) ≡ [] → (p x ≡ false) × (filter p xs ≡ [])
+pub filter-none : {A : Type 0} (p : A → Bool) (x : A) (xs : List A) → filter p (x ∷ xs) ≡ []
+    → (p x ≡ false) × (filter p xs ≡ [])
 filter-none p x xs e =
     elim (p x) as (λ b. cond b (x ∷ filter p xs) (filter p xs) ≡ [] → (b ≡ false) × (filter p xs ≡ [])) [ true ↦ λ e. cc | false ↦ λ e. (refl, e) ] e
 
-pub filter-append : {A : Type 0} (p : A → Bool) (xs ys : List A) → filter p (xs ++ ys) ≡ filter p xs ++ filter p ys
+pub filter-append : {A : Type 0} (p : A → Bool) (xs ys : List A)
+    → filter p (xs ++ ys) ≡ filter p xs ++ filter p ys
 filter-append p [] ys = refl
 filter-append p (x ∷ xs) ys =
     elim (p x) as (λ b. cond b (x ∷ filter p (xs ++ ys)) (filter p (xs ++ ys)) ≡ cond b (x ∷ filter p xs) (filter p xs) ++ filter p ys) [
@@ -53,7 +56,8 @@ filter-append p (x ∷ xs) ys =
       | false ↦ filter-append p xs ys
     ]
 
-filter-head : {A : Type 0} (p : A → Bool) (xs ys : List A) (y : A) → filter p xs ≡ y ∷ ys → p y ≡ true
+filter-head : {A : Type 0} (p : A → Bool) (xs ys : List A) (y : A) → filter p xs ≡ y ∷ ys
+    → p y ≡ true
 filter-head p [] ys y e = cc
 filter-head p (x ∷ xs) ys y e =
     elim (p x) as (λ b. p x ≡ b → cond b (x ∷ filter p xs) (filter p xs) ≡ y ∷ ys → p y ≡ true) [
@@ -65,11 +69,13 @@ pub append-nil : {A : Type 0} (xs ys : List A) → xs ++ ys ≡ [] → (xs ≡ [
 append-nil [] ys e = (refl, e)
 append-nil (x ∷ xs) ys e = cc
 
-pub append_one : {A : Type 0} (xs ys : List A) (y : A) → xs ++ ys ≡ y ∷ [] → (ys ≡ [] → ⊥) → (xs ≡ []) × (ys ≡ y ∷ [])
+pub append_one : {A : Type 0} (xs ys : List A) (y : A) → xs ++ ys ≡ y ∷ [] → (ys ≡ [] → ⊥)
+    → (xs ≡ []) × (ys ≡ y ∷ [])
 append_one [] ys y e h = (refl, e)
 append_one (x ∷ xs) ys y e h = let rest : xs ++ ys ≡ [] = cc in absurd (h (append-nil xs ys rest).1)
 
-pub append_one_left : {A : Type 0} (xs ys : List A) (y : A) → xs ++ ys ≡ y ∷ [] → (xs ≡ [] → ⊥) → (xs ≡ y ∷ []) × (ys ≡ [])
+pub append_one_left : {A : Type 0} (xs ys : List A) (y : A) → xs ++ ys ≡ y ∷ [] → (xs ≡ [] → ⊥)
+    → (xs ≡ y ∷ []) × (ys ≡ [])
 append_one_left [] ys y e h = absurd (h refl)
 append_one_left (x ∷ xs) ys y e h =
     let rest : xs ++ ys ≡ [] = cc in
@@ -84,18 +90,21 @@ module _ (K : Partial) (n : ℕ) (none : value_at K n ≡ None) (v : Value) wher
   term_keeps (Var k) closed = value_at_other K n k v (λ e. no' (sym (ap is_none none) ∙ ap (λ j. is_none (value_at K j)) (sym e) ∙ closed))
   term_keeps (Fixed w) closed = refl
 
-  pub terms_keep : (ts : List Term) → filter (is_open K) ts ≡ [] → values (give K n v) ts ≡ values K ts
+  pub terms_keep : (ts : List Term) → filter (is_open K) ts ≡ []
+      → values (give K n v) ts ≡ values K ts
   terms_keep [] e = refl
   terms_keep (t ∷ ts) e =
       let parts : (is_open K t ≡ false) × (filter (is_open K) ts ≡ []) = filter-none (is_open K) t ts e in
       λ i. option_cons (term_keeps t parts.0 i) (terms_keep ts parts.1 i)
 
-  pub argument_keeps : (x : Argument) → filter (is_open K) (terms_in x) ≡ [] → argument_value (give K n v) x ≡ argument_value K x
+  pub argument_keeps : (x : Argument) → filter (is_open K) (terms_in x) ≡ []
+      → argument_value (give K n v) x ≡ argument_value K x
   argument_keeps (One (Scalar k t)) e = ap (option_map OneValue) (term_keeps t (filter-none (is_open K) t [] e).0)
   argument_keeps (One (Array name k ts)) e = ap (option_map ManyValues) (terms_keep ts e)
   argument_keeps (ListOf ps) e = ap (option_map ManyValues) (terms_keep (terms_in (ListOf ps)) e)
 
-  pub arguments_keep : (xs : List Argument) → filter (is_open K) (flat_map terms_in xs) ≡ [] → argument_values (give K n v) xs ≡ argument_values K xs
+  pub arguments_keep : (xs : List Argument) → filter (is_open K) (flat_map terms_in xs) ≡ []
+      → argument_values (give K n v) xs ≡ argument_values K xs
   arguments_keep [] e = refl
   arguments_keep (x ∷ xs) e =
       let parts : (filter (is_open K) (terms_in x) ≡ []) × (filter (is_open K) (flat_map terms_in xs) ≡ []) = append-nil _ _ (sym (filter-append (is_open K) (terms_in x) (flat_map terms_in xs)) ∙ e) in
@@ -108,7 +117,8 @@ pub record Passes (K : Partial) (ss : List Shape) (t : Test ss) (xs : List Argum
   pub are : argument_values K xs ≡ Some arguments
   pub passed : passes ss t arguments ≡ true
 
-both_at : (ss : List Shape) (t u : Test ss) (P : Type 0) → Both ss t u P → (vs : List ArgValue) → passes ss t vs ≡ true → passes ss u vs ≡ true → P
+both_at : (ss : List Shape) (t u : Test ss) (P : Type 0) → Both ss t u P → (vs : List ArgValue)
+    → passes ss t vs ≡ true → passes ss u vs ≡ true → P
 both_at [] t u P h [] d e = h d e
 both_at [] t u P h (v ∷ vs) d e = no d
 both_at (s ∷ ss) t u P h [] d e = no d
@@ -126,12 +136,15 @@ pub record First (K : Partial) (s : Shape) (ss : List Shape) (t : Of s → Test 
   pub reads : read s argument ≡ Some read_as
   pub others : Passes K ss (t read_as) xs
 
-pub option_cons_parts : {A : Type 0} (o : Option A) (os : Option (List A)) (xs : List A) → option_cons o os ≡ Some xs → (x : A) × (ys : List A) × (o ≡ Some x) × (os ≡ Some ys) × (xs ≡ x ∷ ys)
+pub option_cons_parts : {A : Type 0} (o : Option A) (os : Option (List A)) (xs : List A)
+    → option_cons o os ≡ Some xs → (x : A) × (ys : List A) × (o ≡ Some x) × (os ≡ Some ys)
+    × (xs ≡ x ∷ ys)
 option_cons_parts None os xs e = cc
 option_cons_parts (Some x) None xs e = cc
 option_cons_parts (Some x) (Some ys) xs e = let same : x ∷ ys ≡ xs = cc in (x, ys, refl, refl, sym same)
 
-first_of : (K : Partial) (s : Shape) (ss : List Shape) (t : Of s → Test ss) (x : Argument) (xs : List Argument) → Passes K (s ∷ ss) t (x ∷ xs) → First K s ss t x xs
+first_of : (K : Partial) (s : Shape) (ss : List Shape) (t : Of s → Test ss) (x : Argument)
+    (xs : List Argument) → Passes K (s ∷ ss) t (x ∷ xs) → First K s ss t x xs
 first_of K s ss t x xs h =
     let (a, vs, is, are, cons) = option_cons_parts (argument_value K x) (argument_values K xs) h.arguments h.are in
     let passed : option_map_or (λ y. passes ss (t y) vs) (read s a) false ≡ true = subst (λ ws. passes (s ∷ ss) t ws ≡ true) cons h.passed in
@@ -140,7 +153,8 @@ first_of K s ss t x xs h =
       | Some y ↦ λ r d. record { argument = a; is = is; read_as = y; reads = r; others = record { arguments = vs; are = are; passed = d } }
     ]) refl passed
 
-no_more : (K : Partial) (s : Shape) (ss : List Shape) (t : Test (s ∷ ss)) → Passes K (s ∷ ss) t [] → ⊥
+no_more : (K : Partial) (s : Shape) (ss : List Shape) (t : Test (s ∷ ss)) → Passes K (s ∷ ss) t []
+    → ⊥
 no_more K s ss t h = let nil : [] ≡ h.arguments = cc in no (subst (λ ws. passes (s ∷ ss) t ws ≡ true) (sym nil) h.passed)
 
 -- the value that reads as y
@@ -163,7 +177,8 @@ plain_back SetKind (Set s) y e = let h : s ≡ y = cc in ap Set h
 same_some : {A : Type 0} {x y : A} {o p : Option A} → o ≡ Some x → p ≡ Some y → o ≡ p → x ≡ y
 same_some d e h = cc
 
-variable_argument : (K : Partial) (n : ℕ) (v : Value) (k : Kind) (a : ArgValue) → argument_value (give K n v) (One (Scalar k (Var n))) ≡ Some a → a ≡ OneValue v
+variable_argument : (K : Partial) (n : ℕ) (v : Value) (k : Kind) (a : ArgValue)
+    → argument_value (give K n v) (One (Scalar k (Var n))) ≡ Some a → a ≡ OneValue v
 variable_argument K n v k a e =
     elim (value_at (give K n v) n) as (λ o. value_at (give K n v) n ≡ o → option_map OneValue o ≡ Some a → a ≡ OneValue v) [
       | None ↦ λ _ e. cc
@@ -176,10 +191,12 @@ module _ (K : Partial) (n : ℕ) (none : value_at K n ≡ None) (v w : Value) wh
   open_here : filter (is_open K) (Var n ∷ []) ≡ [] → ⊥
   open_here e = no' (sym (ap is_none none) ∙ (filter-none (is_open K) (Var n) [] e).0)
 
-  alone_here : (ts : List Term) → filter (is_open K) (Var n ∷ ts) ≡ Var n ∷ [] → filter (is_open K) ts ≡ []
+  alone_here : (ts : List Term) → filter (is_open K) (Var n ∷ ts) ≡ Var n ∷ []
+      → filter (is_open K) ts ≡ []
   alone_here ts e = (append_one_left (filter (is_open K) (Var n ∷ [])) (filter (is_open K) ts) (Var n) (sym (filter-append (is_open K) (Var n ∷ []) ts) ∙ e) open_here).1
 
-  stands_open : (xs : List Argument) (i : ℕ) (k : Kind) → slice_get xs i ≡ Some (One (Scalar k (Var n))) → filter (is_open K) (flat_map terms_in xs) ≡ [] → ⊥
+  stands_open : (xs : List Argument) (i : ℕ) (k : Kind) → slice_get xs i
+      ≡ Some (One (Scalar k (Var n))) → filter (is_open K) (flat_map terms_in xs) ≡ [] → ⊥
   stands_open [] i k at e = cc
   stands_open (x ∷ xs) zero k at e =
       let same : x ≡ One (Scalar k (Var n)) = cc in
@@ -189,13 +206,16 @@ module _ (K : Partial) (n : ℕ) (none : value_at K n ≡ None) (v w : Value) wh
       let parts : (filter (is_open K) (terms_in x) ≡ []) × (filter (is_open K) (flat_map terms_in xs) ≡ []) = append-nil _ _ (sym (filter-append (is_open K) (terms_in x) (flat_map terms_in xs)) ∙ e) in
       stands_open xs i k at parts.1
 
-  same_others : (xs : List Argument) → filter (is_open K) (flat_map terms_in xs) ≡ [] → argument_values (give K n v) xs ≡ argument_values (give K n w) xs
+  same_others : (xs : List Argument) → filter (is_open K) (flat_map terms_in xs) ≡ []
+      → argument_values (give K n v) xs ≡ argument_values (give K n w) xs
   same_others xs e = arguments_keep K n none v xs e ∙ sym (arguments_keep K n none w xs e)
 
-  same_argument : (x : Argument) → filter (is_open K) (terms_in x) ≡ [] → argument_value (give K n v) x ≡ argument_value (give K n w) x
+  same_argument : (x : Argument) → filter (is_open K) (terms_in x) ≡ []
+      → argument_value (give K n v) x ≡ argument_value (give K n w) x
   same_argument x e = argument_keeps K n none v x e ∙ sym (argument_keeps K n none w x e)
 
-  determined_here : (s : Shape) (ss : List Shape) (t : Of s → Test ss) (k : Kind) (xs : List Argument) → DeterminesHere s ss t
+  determined_here : (s : Shape) (ss : List Shape) (t : Of s → Test ss) (k : Kind)
+      (xs : List Argument) → DeterminesHere s ss t
       → First (give K n v) s ss t (One (Scalar k (Var n))) xs → First (give K n w) s ss t (One (Scalar k (Var n))) xs
       → filter (is_open K) (flat_map terms_in xs) ≡ [] → v ≡ w
   determined_here (ScalarOf j) ss t k xs d f g closed =
@@ -210,7 +230,8 @@ module _ (K : Partial) (n : ℕ) (none : value_at K n ≡ None) (v w : Value) wh
       v_is ∙ ap (back j) equal ∙ sym w_is
   determined_here (ArrayOf j) ss t k xs d f g closed = absurd d
 
-  determined_at : (ss : List Shape) (t : Test ss) (xs : List Argument) (i : ℕ) (k : Kind) → Determines ss t i → slice_get xs i ≡ Some (One (Scalar k (Var n)))
+  determined_at : (ss : List Shape) (t : Test ss) (xs : List Argument) (i : ℕ) (k : Kind)
+      → Determines ss t i → slice_get xs i ≡ Some (One (Scalar k (Var n)))
       → filter (is_open K) (flat_map terms_in xs) ≡ Var n ∷ [] → Passes (give K n v) ss t xs → Passes (give K n w) ss t xs → v ≡ w
   determined_at [] t xs i k d at only p q = absurd d
   determined_at (s ∷ ss) t [] i k d at only p q = absurd (no_more _ s ss t p)
@@ -232,7 +253,7 @@ module _ (K : Partial) (n : ℕ) (none : value_at K n ≡ None) (v w : Value) wh
 
 -- ---- where the variable is an element of the second array with the coefficient 1 or -1
 
--- the values of the terms are these whole numbers
+-- the values of the terms are these integers
 record AreInts (K : Partial) (ts : List Term) (ns : List ℤ) : Type 0 where
   are : List Value
   have : values K ts ≡ Some are
@@ -245,23 +266,28 @@ record FirstInt (K : Partial) (t : Term) (ts : List Term) (ns : List ℤ) : Type
   splits : ns ≡ first ∷ others
   are : AreInts K ts others
 
-plain_and_parts : (o : Option ℤ) (os : Option (List ℤ)) (ns : List ℤ) → plain_and IntKind o os ≡ Some ns → (n : ℤ) × (ms : List ℤ) × (o ≡ Some n) × (os ≡ Some ms) × (ns ≡ n ∷ ms)
+plain_and_parts : (o : Option ℤ) (os : Option (List ℤ)) (ns : List ℤ)
+    → plain_and IntKind o os ≡ Some ns
+    → (n : ℤ) × (ms : List ℤ) × (o ≡ Some n) × (os ≡ Some ms) × (ns ≡ n ∷ ms)
 plain_and_parts None os ns e = cc
 plain_and_parts (Some n) None ns e = cc
 plain_and_parts (Some n) (Some ms) ns e = let same : n ∷ ms ≡ ns = cc in (n, ms, refl, refl, sym same)
 
-first_int : (K : Partial) (t : Term) (ts : List Term) (ns : List ℤ) → AreInts K (t ∷ ts) ns → FirstInt K t ts ns
+first_int : (K : Partial) (t : Term) (ts : List Term) (ns : List ℤ) → AreInts K (t ∷ ts) ns
+    → FirstInt K t ts ns
 first_int K t ts ns h =
     let (v, vs, is, have, cons) = option_cons_parts (value K t) (values K ts) h.are h.have in
     let reads : plain_and IntKind (plain IntKind v) (plain_list IntKind vs) ≡ Some ns = subst (λ ws. plain_list IntKind ws ≡ Some ns) cons h.reads in
     let (n, ms, first, others, splits) = plain_and_parts (plain IntKind v) (plain_list IntKind vs) ns reads in
     record { first = n; others = ms; is = is ∙ ap Some (plain_back IntKind v n first); splits = splits; are = record { are = vs; have = have; reads = others } }
 
-pub map_some : {A B : Type 0} (f : A → B) (o : Option A) (y : B) → option_map f o ≡ Some y → (x : A) × (o ≡ Some x) × (f x ≡ y)
+pub map_some : {A B : Type 0} (f : A → B) (o : Option A) (y : B) → option_map f o ≡ Some y
+    → (x : A) × (o ≡ Some x) × (f x ≡ y)
 map_some f None y e = cc
 map_some f (Some x) y e = (x, refl, cc)
 
-are_ints : (K : Partial) (x : Argument) (a : ArgValue) (ns : List ℤ) → argument_value K x ≡ Some a → read (ArrayOf IntKind) a ≡ Some ns → AreInts K (terms_in x) ns
+are_ints : (K : Partial) (x : Argument) (a : ArgValue) (ns : List ℤ) → argument_value K x ≡ Some a
+    → read (ArrayOf IntKind) a ≡ Some ns → AreInts K (terms_in x) ns
 are_ints K (One (Scalar k t)) a ns e r =
     let (v, _, is) = map_some OneValue (value K t) a e in
     let none : read (ArrayOf IntKind) (OneValue v) ≡ Some ns = subst (λ b. read (ArrayOf IntKind) b ≡ Some ns) (sym is) r in
@@ -280,7 +306,8 @@ record SplitAt (ns : List ℤ) (i : ℕ) (n : ℤ) : Type 0 where
   splits : ns ≡ before ++ n ∷ after
   at : length before ≡ i
 
-split_at : (K : Partial) (ts : List Term) (i : ℕ) (u : Term) (n : ℤ) (ns : List ℤ) → slice_get ts i ≡ Some u → value K u ≡ Some (Int n) → AreInts K ts ns → SplitAt ns i n
+split_at : (K : Partial) (ts : List Term) (i : ℕ) (u : Term) (n : ℤ) (ns : List ℤ)
+    → slice_get ts i ≡ Some u → value K u ≡ Some (Int n) → AreInts K ts ns → SplitAt ns i n
 split_at K [] i u n ns at is h = cc
 split_at K (t ∷ ts) zero u n ns at is h =
     let f : FirstInt K t ts ns = first_int K t ts ns h in
@@ -306,19 +333,23 @@ record DifferAt (ms ns : List ℤ) (i : ℕ) (v w : Value) : Type 0 where
   right_is : w ≡ Int right
 
 module _ (K : Partial) (n : ℕ) (none : value_at K n ≡ None) (v w : Value) where
-  same_ints : (ts : List Term) (ms ns : List ℤ) → filter (is_open K) ts ≡ [] → AreInts (give K n v) ts ms → AreInts (give K n w) ts ns → ms ≡ ns
+  same_ints : (ts : List Term) (ms ns : List ℤ) → filter (is_open K) ts ≡ []
+      → AreInts (give K n v) ts ms → AreInts (give K n w) ts ns → ms ≡ ns
   same_ints ts ms ns closed h g =
       let same : h.are ≡ g.are = same_some h.have g.have (terms_keep K n none v ts closed ∙ sym (terms_keep K n none w ts closed)) in
       same_some h.reads g.reads (ap (plain_list IntKind) same)
 
-  pub variable_open : (ts : List Term) (i : ℕ) → slice_get ts i ≡ Some (Var n) → filter (is_open K) ts ≡ [] → ⊥
+  pub variable_open : (ts : List Term) (i : ℕ) → slice_get ts i ≡ Some (Var n)
+      → filter (is_open K) ts ≡ [] → ⊥
   variable_open [] i at e = cc
   variable_open (t ∷ ts) zero at e =
       let same : t ≡ Var n = cc in
       open_here K n none v w (subst (λ s. filter (is_open K) (s ∷ []) ≡ []) same (ap (λ b. cond b (t ∷ []) []) (filter-none (is_open K) t ts e).0))
   variable_open (t ∷ ts) (suc i) at e = variable_open ts i at (filter-none (is_open K) t ts e).1
 
-  differ_at : (ts : List Term) (i : ℕ) (ms ns : List ℤ) → slice_get ts i ≡ Some (Var n) → filter (is_open K) ts ≡ Var n ∷ [] → AreInts (give K n v) ts ms → AreInts (give K n w) ts ns → DifferAt ms ns i v w
+  differ_at : (ts : List Term) (i : ℕ) (ms ns : List ℤ) → slice_get ts i ≡ Some (Var n)
+      → filter (is_open K) ts ≡ Var n ∷ [] → AreInts (give K n v) ts ms → AreInts (give K n w) ts ns
+      → DifferAt ms ns i v w
   differ_at [] i ms ns at only h g = cc
   differ_at (t ∷ ts) zero ms ns at only h g =
       let same : t ≡ Var n = cc in
@@ -352,14 +383,16 @@ module _ (K : Partial) (n : ℕ) (none : value_at K n ≡ None) (v w : Value) wh
       }
 
   -- a coefficient of 1 or -1
-  unit_of : (u : Term) → (value K u ≡ Some (Int (pos 1))) ⊎ (value K u ≡ Some (Int (negsuc 0))) → (a : ℤ) × (value K u ≡ Some (Int a)) × IsUnit a
+  unit_of : (u : Term) → (value K u ≡ Some (Int (pos 1))) ⊎ (value K u ≡ Some (Int (negsuc 0)))
+      → (a : ℤ) × (value K u ≡ Some (Int a)) × IsUnit a
   unit_of u (inl e) = (pos 1, e, inl refl)
   unit_of u (inr e) = (negsuc 0, e, inr refl)
 
   closed_of : (u : Term) (a : Value) → value K u ≡ Some a → is_open K u ≡ false
   closed_of u a e = ap is_none e
 
-  term_determined : (ss : List Shape) (t : Test ss) (xs : List Argument) → DeterminesTerm ss t → HasUnitCoefficient K xs n
+  term_determined : (ss : List Shape) (t : Test ss) (xs : List Argument) → DeterminesTerm ss t
+      → HasUnitCoefficient K xs n
       → filter (is_open K) (flat_map terms_in xs) ≡ Var n ∷ [] → Passes (give K n v) ss t xs → Passes (give K n w) ss t xs → v ≡ w
   term_determined (ArrayOf IntKind ∷ ArrayOf IntKind ∷ ss) t [] d c only p q = absurd (no_more _ (ArrayOf IntKind) (ArrayOf IntKind ∷ ss) t p)
   term_determined (ArrayOf IntKind ∷ ArrayOf IntKind ∷ ss) t (x ∷ []) d c only p q =
@@ -394,13 +427,15 @@ module _ (K : Partial) (n : ℕ) (none : value_at K n ≡ None) (v w : Value) wh
 
 -- ---- the result of a row
 
-all_at : {A : Type 0} (P : A → Type 0) (xs : List A) (x : A) → AllByRecursion P xs → Contains xs x → P x
+all_at : {A : Type 0} (P : A → Type 0) (xs : List A) (x : A) → AllByRecursion P xs → Contains xs x
+    → P x
 all_at P [] x h (k, below, is) = absurd (omega arith)
 all_at P (y ∷ ys) x h (zero, below, is) = subst P is h.0
 all_at P (y ∷ ys) x h (suc k, below, is) = all_at P ys x h.1 (k, omega arith, is)
 
 module _ (K : Partial) (n : ℕ) (none : value_at K n ≡ None) (v w : Value) where
-  result_determined : (ss : List Shape) (t : Test ss) (xs : List Argument) (r : Result) → DeterminesResult ss t r → IsResult K xs n r
+  result_determined : (ss : List Shape) (t : Test ss) (xs : List Argument) (r : Result)
+      → DeterminesResult ss t r → IsResult K xs n r
       → filter (is_open K) (flat_map terms_in xs) ≡ Var n ∷ [] → Passes (give K n v) ss t xs → Passes (give K n w) ss t xs → v ≡ w
   result_determined ss t xs NoResult d is only p q = absurd is
   result_determined ss t xs (Places ks) d (i, Among, k, at) only p q = determined_at K n none v w ss t xs i k (all_at (Determines ss t) ks i d Among) at only p q
@@ -409,19 +444,23 @@ module _ (K : Partial) (n : ℕ) (none : value_at K n ≡ None) (v w : Value) wh
 -- ---- the point
 
 -- what holds of a value that is there
-pub some_of : {A : Type 0} (P : A → Type 0) (o : Option A) → IsSomeAnd o P → (x : A) × (o ≡ Some x) × P x
+pub some_of : {A : Type 0} (P : A → Type 0) (o : Option A) → IsSomeAnd o P
+    → (x : A) × (o ≡ Some x) × P x
 some_of P None h = absurd h
 some_of P (Some x) h = (x, refl, h)
 
 -- the sides of a definition that holds
-pub definition_sides : (K : Partial) (x : Variable) (n : ℕ) (e : Term) → HoldsUnder K (DefinitionPoint x n e) → (u : Value) × (value_at K n ≡ Some u) × (value K e ≡ Some u)
+pub definition_sides : (K : Partial) (x : Variable) (n : ℕ) (e : Term)
+    → HoldsUnder K (DefinitionPoint x n e)
+    → (u : Value) × (value_at K n ≡ Some u) × (value K e ≡ Some u)
 definition_sides K x n e h =
     let (a, left, rest) = some_of (λ v. IsSomeAnd (value K e) (λ w. v ≡ w)) (value_at K n) h in
     let (b, right, same) = some_of (λ w. a ≡ w) (value K e) rest in
     (a, left, right ∙ ap Some (sym same))
 
 module _ (K : Partial) (n : ℕ) (none : value_at K n ≡ None) (v w : Value) where
-  sides_determined : (x : Variable) (k : ℕ) (e : Term) → filter (is_open K) (Var k ∷ e ∷ []) ≡ Var n ∷ []
+  sides_determined : (x : Variable) (k : ℕ) (e : Term)
+      → filter (is_open K) (Var k ∷ e ∷ []) ≡ Var n ∷ []
       → HoldsUnder (give K n v) (DefinitionPoint x k e) → HoldsUnder (give K n w) (DefinitionPoint x k e) → v ≡ w
   sides_determined x k e only p q =
       let (a, left_v, right_v) = definition_sides (give K n v) x k e p in
@@ -458,7 +497,8 @@ as_number_of (Truth b) e = cc
 as_number_of (Set s) e = cc
 
 -- two values with which the domain of one number holds
-number_determined : (K : Partial) (n : ℕ) (x : Variable) (v w : Value) → HasOneNumber x.domain → kind_of v ≡ IntKind → kind_of w ≡ IntKind
+number_determined : (K : Partial) (n : ℕ) (x : Variable) (v w : Value) → HasOneNumber x.domain
+    → kind_of v ≡ IntKind → kind_of w ≡ IntKind
     → HoldsUnder (give K n v) (DomainPoint x n) → HoldsUnder (give K n w) (DomainPoint x n) → v ≡ w
 number_determined K n x v w (number, is) v_int w_int p q =
     let (u, u_at, u_in) = some_of (λ z. IsTrue (inside x.domain z)) (value_at (give K n v) n) p in
@@ -471,7 +511,9 @@ number_determined K n x v w (number, is) v_int w_int p q =
     let b_is : b ≡ number = (is b).0 (subst (λ z. inside x.domain z ≡ true) t_is t_in) in
     v_is ∙ ap Int (a_is ∙ sym b_is) ∙ sym w_is
 
-row_passes : (K : Partial) (xs : List Argument) (r : Row) → IsSomeAnd (argument_values K xs) (λ vs. IsTrue (row_holds r vs)) → Passes K r.shapes r.holds xs
+row_passes : (K : Partial) (xs : List Argument) (r : Row)
+    → IsSomeAnd (argument_values K xs) (λ vs. IsTrue (row_holds r vs))
+    → Passes K r.shapes r.holds xs
 row_passes K xs r h = let (vs, are, passed) = some_of (λ vs. IsTrue (row_holds r vs)) (argument_values K xs) h in record { arguments = vs; are = are; passed = passed }
 
 pub is_none_true : {A : Type 0} (o : Option A) → is_none o ≡ true → o ≡ None
@@ -479,11 +521,13 @@ is_none_true None e = refl
 is_none_true (Some x) e = no' (sym e)
 
 -- the only scalar without a value has none
-pub only_open_none : (K : Partial) (n : ℕ) (ts : List Term) → filter (is_open K) ts ≡ Var n ∷ [] → value_at K n ≡ None
+pub only_open_none : (K : Partial) (n : ℕ) (ts : List Term) → filter (is_open K) ts ≡ Var n ∷ []
+    → value_at K n ≡ None
 only_open_none K n ts e = is_none_true (value_at K n) (filter-head (is_open K) ts [] (Var n) e)
 
 -- A forced step's value is the only one of its kind with which the point holds.
-pub only_value : (m : Model) (K : Partial) (p : Point) (n : ℕ) (v w : Value) → PointFits m p → Gives m K p n v → kind_of w ≡ kind_of v → HoldsUnder (give K n w) p → v ≡ w
+pub only_value : (m : Model) (K : Partial) (p : Point) (n : ℕ) (v w : Value) → PointFits m p
+    → Gives m K p n v → kind_of w ≡ kind_of v → HoldsUnder (give K n w) p → v ≡ w
 only_value m K (DomainPoint x k) n v w fits g same q =
     let (here, is_int, single_number) = g.target in
     let kind : Some x.kind ≡ Some (kind_of v) = sym fits ∙ ap (kind_at m) here ∙ g.of_kind in

@@ -1,4 +1,4 @@
--- How lists of values are read, and what a form with a truth value says of them.
+-- How lists of values are read, and what a reified form says of them.
 use Rattle.std.proofs.Common.{◌≡◌, ℤ, Bool, false, not, ◌||◌, List, [], ◌∷◌, ◌++◌, map, Some, None, refl, ap}
 use Rattle.std.specs.Prelude.{⊤, IsSome}
 use Rattle.std.specs.Option.{option_map_or}
@@ -12,7 +12,7 @@ use Rattle.fz_meaning.specs.Builtins.ArgValue.{OneValue, ManyValues}
 use Rattle.fz_meaning.specs.Meaning.{row_holds}
 use Rattle.fz_meaning.specs.declared.builtin.Builtin.TheVariants.{IntLinEq}
 
--- ---- lists of values as lists of their numbers, truth values and sets
+-- ---- lists of values as lists of their numbers, Booleans and sets
 
 pub plain_ints : (ns : List ℤ) → plain_list IntKind (map Int ns) ≡ Some ns
 plain_ints [] = refl
@@ -28,11 +28,14 @@ plain_sets (s ∷ ss) = ap (plain_and SetKind (Some s)) (plain_sets ss)
 
 -- ---- a sum, whose arrays are given as lists of values with what they are read as
 
-pub int_lin_eq_holds : (us : List Value) (a : List ℤ) (vs : List Value) (b : List ℤ) (c : ℤ) → plain_list IntKind us ≡ Some a → plain_list IntKind vs ≡ Some b → row_holds (row_at IntLinEq) (ManyValues us ∷ ManyValues vs ∷ OneValue (Int c) ∷ []) ≡ (total (products a b) =ℤ c)
+pub int_lin_eq_holds : (us : List Value) (a : List ℤ) (vs : List Value) (b : List ℤ) (c : ℤ)
+    → plain_list IntKind us ≡ Some a → plain_list IntKind vs ≡ Some b
+    → row_holds (row_at IntLinEq) (ManyValues us ∷ ManyValues vs ∷ OneValue (Int c) ∷ [])
+    ≡ (total (products a b) =ℤ c)
 unfolding row_at
 int_lin_eq_holds us a vs b c h k = rw (h, k) refl
 
--- ---- the forms with a truth value
+-- ---- the reified forms
 
 -- each value can be read as its shape says
 abbrev pub AreRead : List Shape → List ArgValue → Type 0
@@ -40,7 +43,9 @@ AreRead [] [] = ⊤
 AreRead (s ∷ ss) (v ∷ vs) = IsSome (read s v) × AreRead ss vs
 AreRead _ _ = ⊥
 
-passes_form : (says : Bool → Bool → Bool) (ss : List Shape) (t : Test ss) (vs : List ArgValue) (r : Bool) → AreRead ss vs → passes (with_bool ss) (with_truth says ss t) (vs ++ OneValue (Truth r) ∷ []) ≡ says r (passes ss t vs)
+passes_form : (says : Bool → Bool → Bool) (ss : List Shape) (t : Test ss) (vs : List ArgValue)
+    (r : Bool) → AreRead ss vs → passes (with_bool ss) (with_truth says ss t)
+    (vs ++ OneValue (Truth r) ∷ []) ≡ says r (passes ss t vs)
 passes_form says [] t [] r h = refl
 passes_form says [] t (v ∷ vs) r h = absurd h
 passes_form says (s ∷ ss) t [] r h = absurd h
@@ -50,9 +55,11 @@ passes_form says (s ∷ ss) t (v ∷ vs) r h =
       | Some x ↦ λ i. passes_form says ss (t x) vs r h.1
     ]) h.0
 
--- such a form holds where the truth value says so of whether the row does
-pub reified_holds : (row : Row) (vs : List ArgValue) (r : Bool) → AreRead row.shapes vs → row_holds (reified row) (vs ++ OneValue (Truth r) ∷ []) ≡ (r =ᴮ row_holds row vs)
+-- such a form holds where the Boolean says so of whether the row does
+pub reified_holds : (row : Row) (vs : List ArgValue) (r : Bool) → AreRead row.shapes vs
+    → row_holds (reified row) (vs ++ OneValue (Truth r) ∷ []) ≡ (r =ᴮ row_holds row vs)
 reified_holds row vs r h = passes_form ◌=ᴮ◌ row.shapes row.holds vs r h
 
-pub implied_holds : (row : Row) (vs : List ArgValue) (r : Bool) → AreRead row.shapes vs → row_holds (implied row) (vs ++ OneValue (Truth r) ∷ []) ≡ (not r || row_holds row vs)
+pub implied_holds : (row : Row) (vs : List ArgValue) (r : Bool) → AreRead row.shapes vs
+    → row_holds (implied row) (vs ++ OneValue (Truth r) ∷ []) ≡ (not r || row_holds row vs)
 implied_holds row vs r h = passes_form (λ t holds. not t || holds) row.shapes row.holds vs r h

@@ -1,4 +1,4 @@
--- A row's kinds with the truth value of a reified form behind.
+-- A row's kinds with the Boolean of a reified form behind.
 use Rattle.std.proofs.Common.{◌≡◌, ◌+◌, ◌-◌, List, [], ◌∷◌, ◌++◌, map, length, take, refl, sym, ap, ◌∙◌, arith}
 use Rattle.std.proofs.lemmas.List.{length-map, take-map, take_at}
 use Rattle.fz_meaning.specs.Builtins.{Shape as Kinds, B, with_bool}
@@ -13,13 +13,16 @@ length_with : (ss : List Kinds) → length (with_bool ss) ≡ length ss + 1
 length_with [] = refl
 length_with (s ∷ ss) = let rest : length (with_bool ss) ≡ length ss + 1 = length_with ss in omega arith
 
-pub one_more : (l : List Shape) (ss : List Kinds) → map shape_of l ≡ with_bool ss → length l ≡ length ss + 1
+pub one_more : (l : List Shape) (ss : List Kinds) → map shape_of l ≡ with_bool ss
+    → length l ≡ length ss + 1
 one_more l ss e = sym (length-map l shape_of) ∙ ap length e ∙ length_with ss
 
-pub last_place : (l : List Shape) (ss : List Kinds) → map shape_of l ≡ with_bool ss → length l - 1 ≡ length ss
+pub last_place : (l : List Shape) (ss : List Kinds) → map shape_of l ≡ with_bool ss
+    → length l - 1 ≡ length ss
 last_place l ss e = let h : length l ≡ length ss + 1 = one_more l ss e in omega arith
 
-pub front_of : (l : List Shape) (ss : List Kinds) → map shape_of l ≡ with_bool ss → map shape_of (take (length l - 1) l) ≡ ss
+pub front_of : (l : List Shape) (ss : List Kinds) → map shape_of l ≡ with_bool ss
+    → map shape_of (take (length l - 1) l) ≡ ss
 front_of l ss e =
     sym (take-map shape_of (length l - 1) l)
     ∙ ap (take (length l - 1)) (e ∙ with_bool_is ss)

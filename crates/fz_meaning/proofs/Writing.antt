@@ -27,7 +27,7 @@ named t = name_at t 0 0
 abbrev pub literal : tree.Literal → Literal
 literal w = record { what = w; span = nowhere }
 
--- a whole number, a natural number, a name
+-- an integer, a natural number, a name
 abbrev pub whole : ℤ → Basic
 whole z = Lit (literal (Number z))
 
@@ -62,7 +62,7 @@ defines t = Called (codes "defines_var") (MoreArgs (OneBasic (Inner (Called t No
 abbrev pub model_tree : List Decl → List Constraint → Goal → LocatedTree
 model_tree ds cs g = record { predicates = []; decls = ds; constraints = cs; solve = record { notes = []; goal = g } }
 
--- ---- arguments: a number, numbers, a truth value, truth values, a set in braces, names
+-- ---- arguments: a number, numbers, a Boolean, Booleans, a set in braces, names
 
 abbrev pub i : ℤ → Expr
 i z = One (whole z)

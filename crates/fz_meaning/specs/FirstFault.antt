@@ -1,5 +1,5 @@
--- Only private functions use these: the fault that is met first where a tree is read in source order, each declaration with those before it, and what a
--- refusal tells of it.
+-- Only private functions use these: the fault that is met first where a tree is read in source
+-- order, each declaration with those before it, and what a refusal tells of it.
 use Rattle.std.specs.Prelude.{◌≡◌, ⊤, cond, List, [], ◌∷◌, ◌++◌, Option, Some, None}
 use Rattle.std.specs.Option.{option_or}
 use Rattle.fz_base.specs.declared.span.Span.{Span}
@@ -44,11 +44,13 @@ parts_fault known wanted bs = first_some (part_fault known wanted) bs
 
 -- at a declaration's name
 abbrev pub name_fault : List Decl → Decl → Option Fault
-name_fault before d = cond (declares before d.name.text) (Some (DuplicateName, d.name.span)) (cond (differs_in_length d) (Some (WrongLength, d.name.span)) None)
+name_fault before d = cond (declares before d.name.text) (Some (DuplicateName, d.name.span))
+    (cond (differs_in_length d) (Some (WrongLength, d.name.span)) None)
 
 -- at a declaration: at its name, or else at the first part of its value
 abbrev pub decl_fault : List Decl → Decl → Option Fault
-decl_fault before d = option_or (name_fault before d) (parts_fault before (Some (kind_of_base d.base)) (parts d.value))
+decl_fault before d = option_or (name_fault before d)
+    (parts_fault before (Some (kind_of_base d.base)) (parts d.value))
 
 -- at the first of the declarations, each with those before it
 abbrev pub decls_fault : List Decl → List Decl → Option Fault
@@ -62,13 +64,14 @@ constraint_fault known c = parts_fault known None (parts_of_arguments c.args)
 abbrev pub constraints_fault : List Decl → List Constraint → Option Fault
 constraints_fault known cs = first_some (constraint_fault known) cs
 
--- at the objective, which is to be a whole number
+-- at the objective, which is to be an integer
 abbrev pub goal_fault : List Decl → Goal → Option Fault
 goal_fault known g = parts_fault known (Some IntKind) (goal_parts g)
 
 -- of a whole tree: first the declarations, then the constraints, then the objective
 abbrev pub first_fault : LocatedTree → Option Fault
-first_fault t = option_or (decls_fault [] t.decls) (option_or (constraints_fault t.decls t.constraints) (goal_fault t.decls t.solve.goal))
+first_fault t = option_or (decls_fault [] t.decls)
+    (option_or (constraints_fault t.decls t.constraints) (goal_fault t.decls t.solve.goal))
 
 -- A refusal tells the fault that is met, or that memory ran out.
 abbrev pub Refuses : Option Fault → ModelError → Type 0
@@ -90,4 +93,5 @@ NoneIsFirst = (t : LocatedTree) → HasNoFault t → first_fault t ≡ None
 
 -- the fault that is met first is the leftmost one
 abbrev pub FirstFaultIsLeftmost : Type 0
-FirstFaultIsLeftmost = (t : LocatedTree) → IsInReadingOrder t → (k : FaultKind) (at : Span) → first_fault t ≡ Some (k, at) → IsFirstFault t k at
+FirstFaultIsLeftmost = (t : LocatedTree) → IsInReadingOrder t → (k : FaultKind) (at : Span)
+    → first_fault t ≡ Some (k, at) → IsFirstFault t k at

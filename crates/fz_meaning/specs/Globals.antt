@@ -50,12 +50,14 @@ rows_of n xs = rows_within (length xs) n xs
 -- a list that isn't empty is a row of the table, which is written row by row
 abbrev pub is_row_of : {A : Type 0} → (A → A → Bool) → List A → List A → Bool
 is_row_of same [] t = false
-is_row_of same (x ∷ xs) t = nat_eq (length t % length (x ∷ xs)) 0 && list_any (is_same_list same (x ∷ xs)) (rows_of (length (x ∷ xs)) t)
+is_row_of same (x ∷ xs) t = nat_eq (length t % length (x ∷ xs)) 0
+    && list_any (is_same_list same (x ∷ xs)) (rows_of (length (x ∷ xs)) t)
 
 -- the runs of so many neighbours
 abbrev pub windows : {A : Type 0} → ℕ → List A → List (List A)
 windows k [] = []
-windows k (x ∷ xs) = if nat_eq (length (take k (x ∷ xs))) k then take k (x ∷ xs) ∷ windows k xs else []
+windows k (x ∷ xs) =
+    if nat_eq (length (take k (x ∷ xs))) k then take k (x ∷ xs) ∷ windows k xs else []
 
 -- ---- counting
 
@@ -81,7 +83,8 @@ counts_are xs cover ns = all_both (λ v n. count_of xs v =ℤ n) cover ns
 
 -- each value of the cover comes at least and at most so often
 abbrev pub counts_lie : List ℤ → List ℤ → List ℤ → List ℤ → Bool
-counts_lie xs cover least most = all_both (λ v n. int_le n (count_of xs v)) cover least && all_both (λ v n. int_le (count_of xs v) n) cover most
+counts_lie xs cover least most = all_both (λ v n. int_le n (count_of xs v)) cover least
+    && all_both (λ v n. int_le (count_of xs v) n) cover most
 
 -- each element is a value of the cover
 abbrev pub is_closed : List ℤ → List ℤ → Bool
@@ -126,7 +129,8 @@ last_naturally = list_all (λ k. is_natural k.1)
 
 -- no two tasks that last run at one time; strictly, one that doesn't last takes its place too
 abbrev pub is_disjunctive : List Span → Bool
-is_disjunctive tasks = last_naturally tasks && all_pairs (λ a b. is_empty_span a || is_empty_span b || are_apart a b) tasks
+is_disjunctive tasks = last_naturally tasks
+    && all_pairs (λ a b. is_empty_span a || is_empty_span b || are_apart a b) tasks
 
 abbrev pub is_strictly_disjunctive : List Span → Bool
 is_strictly_disjunctive tasks = last_naturally tasks && all_pairs are_apart tasks
@@ -157,7 +161,8 @@ load_of bins weights bin = total (map (λ p. p.1) (filter (λ p. p.0 =ℤ bin) (
 -- each bin from this one on has the load that is given for it
 abbrev pub loads_are : ℤ → List ℤ → List ℤ → List ℤ → Bool
 loads_are bin bins weights [] = true
-loads_are bin bins weights (n ∷ ns) = (n =ℤ load_of bins weights bin) && loads_are (bin +ℤ pos 1) bins weights ns
+loads_are bin bins weights (n ∷ ns) =
+    (n =ℤ load_of bins weights bin) && loads_are (bin +ℤ pos 1) bins weights ns
 
 -- ---- lists that lead from place to place
 
@@ -192,7 +197,8 @@ is_circuit next =
 -- the places, from one on, that don't lead to themselves
 abbrev pub moved_from : ℤ → List ℤ → List ℤ
 moved_from p [] = []
-moved_from p (x ∷ xs) = if x =ℤ p then moved_from (p +ℤ pos 1) xs else p ∷ moved_from (p +ℤ pos 1) xs
+moved_from p (x ∷ xs) =
+    if x =ℤ p then moved_from (p +ℤ pos 1) xs else p ∷ moved_from (p +ℤ pos 1) xs
 
 -- from the first of these places on it leads to as many different ones
 abbrev pub is_one_tour : List ℤ → List ℤ → Bool
@@ -201,12 +207,14 @@ is_one_tour next (p ∷ ps) = all_different (tour next (length (p ∷ ps)) p)
 
 -- a permutation, which leads from one place that it moves to all that it moves
 abbrev pub is_subcircuit : List ℤ → Bool
-is_subcircuit next = are_places (length next) next && all_different next && is_one_tour next (moved_from (pos 1) next)
+is_subcircuit next = are_places (length next) next && all_different next
+    && is_one_tour next (moved_from (pos 1) next)
 
 -- the second list leads back from where the first leads, from this place on
 abbrev pub leads_back : ℤ → List ℤ → List ℤ → Bool
 leads_back p [] g = true
-leads_back p (x ∷ xs) g = option_map_or (λ y. y =ℤ p) (element_at g x) false && leads_back (p +ℤ pos 1) xs g
+leads_back p (x ∷ xs) g =
+    option_map_or (λ y. y =ℤ p) (element_at g x) false && leads_back (p +ℤ pos 1) xs g
 
 abbrev pub are_inverse : List ℤ → List ℤ → Bool
 are_inverse f g = leads_back (pos 1) f g && leads_back (pos 1) g f
@@ -215,17 +223,20 @@ are_inverse f g = leads_back (pos 1) f g && leads_back (pos 1) g f
 
 -- the state to which a symbol leads, by transitions that are written row by row, one for each state
 abbrev pub step : ℤ → ℤ → List ℤ → ℤ → ℤ → Option ℤ
-step states symbols d q x = if lies_between (pos 1) states q && lies_between (pos 1) symbols x then element_at d (((q -ℤ pos 1) *ℤ symbols) +ℤ x) else None
+step states symbols d q x = if lies_between (pos 1) states q && lies_between (pos 1) symbols x
+    then element_at d (((q -ℤ pos 1) *ℤ symbols) +ℤ x) else None
 
 abbrev pub run : ℤ → ℤ → List ℤ → ℤ → List ℤ → Option ℤ
 run states symbols d q [] = Some q
-run states symbols d q (x ∷ xs) = option_and_then (λ p. run states symbols d p xs) (step states symbols d q x)
+run states symbols d q (x ∷ xs) =
+    option_and_then (λ p. run states symbols d p xs) (step states symbols d q x)
 
 -- from the first state the word leads to one of the last
 abbrev pub is_word : List ℤ → ℤ → ℤ → List ℤ → ℤ → NumberSet → Bool
 is_word xs states symbols d first last =
     (pos (length d) =ℤ (states *ℤ symbols))
-    && option_map_or (λ q. lies_between (pos 1) states q && sets.contains last q) (run states symbols d first xs) false
+    && option_map_or (λ q. lies_between (pos 1) states q && sets.contains last q)
+    (run states symbols d first xs) false
 
 -- ---- order
 
@@ -241,7 +252,8 @@ rises_by_one most (x ∷ xs) = int_le x (most +ℤ pos 1) && rises_by_one (int_m
 
 -- the second is the first in ascending order
 abbrev pub is_sorted_form : List ℤ → List ℤ → Bool
-is_sorted_form xs ys = nat_eq (length xs) (length ys) && list_all (λ v. count_of xs v =ℤ count_of ys v) xs && all_neighbours int_le ys
+is_sorted_form xs ys = nat_eq (length xs) (length ys)
+    && list_all (λ v. count_of xs v =ℤ count_of ys v) xs && all_neighbours int_le ys
 
 -- the index of the first element that is the number
 abbrev pub index_from : ℤ → List ℤ → ℤ → Option ℤ
@@ -250,17 +262,21 @@ index_from i (x ∷ xs) n = if x =ℤ n then Some i else index_from (i +ℤ pos 
 
 -- the index is that of the first element that no other exceeds in the order
 abbrev pub is_index_of_best : (ℤ → ℤ → Bool) → List ℤ → ℤ → ℤ → Bool
-is_index_of_best no_better xs o i = list_any (λ m. list_all (λ x. no_better x m) xs && option_map_or (λ j. j =ℤ i) (index_from o xs m) false) xs
+is_index_of_best no_better xs o i =
+    list_any (λ m. list_all (λ x. no_better x m) xs
+    && option_map_or (λ j. j =ℤ i) (index_from o xs m) false) xs
 
 -- ---- sums
 
 -- so many of each thing, their weight and their profit
 abbrev pub is_knapsack : List ℤ → List ℤ → List ℤ → ℤ → ℤ → Bool
 is_knapsack weights profits xs weight profit =
-    list_all is_natural xs && is_natural weight && is_natural profit && (total (products weights xs) =ℤ weight) && (total (products profits xs) =ℤ profit)
+    list_all is_natural xs && is_natural weight && is_natural profit
+    && (total (products weights xs) =ℤ weight) && (total (products profits xs) =ℤ profit)
 
 abbrev pub slides_between : ℤ → ℤ → ℤ → List ℤ → Bool
-slides_between low high k xs = int_le (pos 1) k && list_all (λ w. lies_between low high (total w)) (windows (unsigned_abs k) xs)
+slides_between low high k xs = int_le (pos 1) k
+    && list_all (λ w. lies_between low high (total w)) (windows (unsigned_abs k) xs)
 
 -- ---- sets
 
@@ -274,24 +290,28 @@ union_of (s ∷ ss) = sets.union s (union_of ss)
 abbrev pub is_partition : List NumberSet → NumberSet → Bool
 is_partition ss whole = all_pairs are_disjoint ss && (union_of ss =ˢ whole)
 
--- each truth value, from an index on, says whether that is in the set
+-- each Boolean, from an index on, says whether that is in the set
 abbrev pub flags_are : ℤ → List Bool → NumberSet → Bool
 flags_are i [] s = true
 flags_are i (b ∷ bs) s = (b =ᴮ sets.contains s i) && flags_are (i +ℤ pos 1) bs s
 
--- the set is that of the indices, from o on, whose truth values are true
+-- the set is that of the indices, from o on, whose Booleans are true
 abbrev pub is_flagged : NumberSet → List Bool → ℤ → Bool
-is_flagged s bs o = sets.is_subset s (numbers_between o ((o +ℤ pos (length bs)) -ℤ pos 1)) && flags_are o bs s
+is_flagged s bs o =
+    sets.is_subset s (numbers_between o ((o +ℤ pos (length bs)) -ℤ pos 1)) && flags_are o bs s
 
 -- the indices, from one on, of the elements that are the number
 abbrev pub indices_of : ℤ → List ℤ → ℤ → List ℤ
 indices_of i [] n = []
-indices_of i (x ∷ xs) n = if x =ℤ n then i ∷ indices_of (i +ℤ pos 1) xs n else indices_of (i +ℤ pos 1) xs n
+indices_of i (x ∷ xs) n =
+    if x =ℤ n then i ∷ indices_of (i +ℤ pos 1) xs n else indices_of (i +ℤ pos 1) xs n
 
 -- each set, from an index on, has the indices of the numbers that are that index
 abbrev pub sets_are : ℤ → List NumberSet → List ℤ → ℤ → Bool
 sets_are j [] xs o = true
-sets_are j (s ∷ ss) xs o = (s =ˢ sets.from_list (indices_of o xs j)) && sets_are (j +ℤ pos 1) ss xs o
+sets_are j (s ∷ ss) xs o =
+    (s =ˢ sets.from_list (indices_of o xs j)) && sets_are (j +ℤ pos 1) ss xs o
 
 abbrev pub are_channelled : List ℤ → ℤ → List NumberSet → ℤ → Bool
-are_channelled xs xo ss so = list_all (lies_between so ((so +ℤ pos (length ss)) -ℤ pos 1)) xs && sets_are so ss xs xo
+are_channelled xs xo ss so =
+    list_all (lies_between so ((so +ℤ pos (length ss)) -ℤ pos 1)) xs && sets_are so ss xs xo

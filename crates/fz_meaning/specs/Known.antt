@@ -34,7 +34,7 @@ suffix_of Base = []
 suffix_of Reified = codes "_reif"
 suffix_of Implied = codes "_imp"
 
--- the form has a truth value behind
+-- the form is reified
 abbrev pub HasTruth : Form → Type 0
 HasTruth Base = ⊥
 HasTruth Reified = ⊤

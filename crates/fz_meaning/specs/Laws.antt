@@ -1,5 +1,5 @@
--- What holds of points, steps and models by their definitions (this project's profile). Each law is the contract of a public function
--- of this crate.
+-- What holds of points, steps and models by their definitions (this project's profile). Each law is
+-- the contract of a public function of this crate.
 use Rattle.std.specs.Prelude.{◌≡◌, ◌↔◌, ℕ, None, Some}
 use Rattle.std.specs.List.{slice_get}
 use Rattle.fz_base.specs.declared.value.Value.{Value}
@@ -17,15 +17,19 @@ use Rattle.fz_meaning.specs.Steps.{Gives}
 -- A forced step's value is the only one of its kind with which the point holds.
 abbrev pub StepsAreForced : Type 0
 StepsAreForced =
-    (m : Model) (K : Partial) (k : ℕ) (p : Point) (n : ℕ) (v w : Value) → slice_get (points m) k ≡ Some p → Gives m K p n v → kind_of w ≡ kind_of v → HoldsUnder (give K n w) p → v ≡ w
+    (m : Model) (K : Partial) (k : ℕ) (p : Point) (n : ℕ) (v w : Value)
+    → slice_get (points m) k ≡ Some p → Gives m K p n v → kind_of w ≡ kind_of v
+    → HoldsUnder (give K n w) p → v ≡ w
 
 -- In a tree without faults the scalar variable at place i has the name that is numbered i.
 abbrev pub NumbersAgree : Type 0
-NumbersAgree = (t : LocatedTree) → HasNoFault t → (i : ℕ) (d : Decl) → slice_get (scalar_variables t.decls) i ≡ Some d → number_of t.decls d.name.text ≡ i
+NumbersAgree = (t : LocatedTree) → HasNoFault t → (i : ℕ) (d : Decl)
+    → slice_get (scalar_variables t.decls) i ≡ Some d → number_of t.decls d.name.text ≡ i
 
 -- The state is unknown exactly where the constraint is not known.
 abbrev pub UnknownIsNotKnown : Type 0
-UnknownIsNotKnown = (K : Partial) (k : ℕ) (p : Posted) → (state K (ConstraintPoint k p) ≡ Unknown) ↔ (row_of p ≡ None)
+UnknownIsNotKnown = (K : Partial) (k : ℕ) (p : Posted) → (state K (ConstraintPoint k p) ≡ Unknown)
+    ↔ (row_of p ≡ None)
 
 -- The tree with its places, its places left out, is the plain tree of the parser's tree.
 abbrev pub LocatedIsBare : Type 0

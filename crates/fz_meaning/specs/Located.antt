@@ -1,6 +1,8 @@
--- The syntax tree of a FlatZinc model with the places where its faults are told (MiniZinc Handbook, FlatZinc grammar; what the tree keeps
--- is this project's profile). It is the grammar's tree with a span at each declared name, and at each literal and name of a declaration's
--- value, of a constraint's arguments and of the objective. A span counts the source's bytes from 0 up to an end that is not part of it.
+-- The syntax tree of a FlatZinc model with the places where its faults are told (MiniZinc Handbook,
+-- FlatZinc grammar; what the tree keeps is this project's profile). It is the grammar's tree with a
+-- span at each declared name, and at each literal and name of a declaration's value, of a
+-- constraint's arguments and of the objective. A span counts the source's bytes from 0 up to an end
+-- that is not part of it.
 use Rattle.std.specs.Prelude.{ℕ, Bool, List, Option, map, option_map}
 use Rattle.fz_base.specs.declared.span.Span.{Span}
 use Rattle.fz_syntax.specs.Tree as tree
@@ -23,7 +25,8 @@ pub data Expr : Type 0 where
   One : Basic → Expr
   Several : List Basic → Expr
 
--- a declaration of a parameter or a variable, or where it has a length of an array from 1 up to that length
+-- a declaration of a parameter or a variable, or where it has a length of an array from 1 up to
+-- that length
 pub record Decl : Type 0 where
   pub is_var : Bool
   pub array_length : Option ℕ
@@ -63,7 +66,14 @@ bare_expr (One b) = tree.One (bare_basic b)
 bare_expr (Several bs) = tree.Several (map bare_basic bs)
 
 abbrev pub bare_decl : Decl → tree.Decl
-bare_decl d = record { is_var = d.is_var; length = d.array_length; base = d.base; name = d.name.text; notes = d.notes; value = option_map bare_expr d.value }
+bare_decl d = record {
+  is_var = d.is_var;
+  length = d.array_length;
+  base = d.base;
+  name = d.name.text;
+  notes = d.notes;
+  value = option_map bare_expr d.value;
+}
 
 abbrev pub bare_constraint : Constraint → tree.Constraint
 bare_constraint c = record { name = c.name; args = map bare_expr c.args; notes = c.notes }
@@ -77,4 +87,9 @@ abbrev pub bare_solve : Solve → tree.Solve
 bare_solve s = record { notes = s.notes; goal = bare_goal s.goal }
 
 abbrev pub bare_of : LocatedTree → tree.Tree
-bare_of t = record { predicates = t.predicates; decls = map bare_decl t.decls; constraints = map bare_constraint t.constraints; solve = bare_solve t.solve }
+bare_of t = record {
+  predicates = t.predicates;
+  decls = map bare_decl t.decls;
+  constraints = map bare_constraint t.constraints;
+  solve = bare_solve t.solve;
+}

@@ -1,6 +1,7 @@
--- What a model means, once its names are numbered: assignments, the value of an expression, the domains, the points, solutions, and the
--- state of a point (MiniZinc Handbook, FlatZinc, "variable declarations" and "constraint items"; the points, their order and the states
--- are this project's profile).
+-- What a model means, once its names are numbered: assignments, the value of an expression, the
+-- domains, the points, solutions, and the state of a point (MiniZinc Handbook, FlatZinc, "variable
+-- declarations" and "constraint items"; the points, their order and the states are this project's
+-- profile).
 use Rattle.std.specs.Prelude.{◌≡◌, ℕ, suc, ℤ, ◌*ℤ◌, Bool, true, false, not, cond, ◌&&◌, List, [], ◌∷◌, ◌++◌, length, map, ◌==◌, int_le, Option, Some, None, bytes_eq, option_map, option_and_then, slice_get, slice_set, IsTrue, IsSomeAnd, IfSome, ⊤, ◌⊎◌, flat_map, find}
 use Rattle.std.specs.List.{list_all, list_any, AllByRecursion}
 use Rattle.std.specs.Option.{option_map_or, option_flatten, option_or}
@@ -21,7 +22,8 @@ use Rattle.fz_meaning.specs.Builtins.ArgValue.{OneValue, ManyValues}
 
 -- ---- a model with its names looked up
 
--- what a literal or a name stands for: a scalar of a kind, or an array by its name, its kind and its elements
+-- what a literal or a name stands for: a scalar of a kind, or an array by its name, its kind and
+-- its elements
 pub data Place : Type 0 where
   Scalar : Kind → Term → Place
   Array : List ℕ → Kind → List Term → Place
@@ -71,12 +73,14 @@ variable_of (ArrayOfVariables name k d ts) = []
 abbrev pub variables_of : Model → List Variable
 variables_of m = flat_map variable_of m.declared
 
--- each declaration with the number of scalar variables before it, which is a scalar variable's own number
+-- each declaration with the number of scalar variables before it, which is a scalar variable's own
+-- number
 abbrev pub numbered_from : ℕ → List Declared → List (ℕ × Declared)
 numbered_from n [] = []
 numbered_from n (ScalarVariable x e ∷ ds) = (n, ScalarVariable x e) ∷ numbered_from (suc n) ds
 numbered_from n (Parameter name p ∷ ds) = (n, Parameter name p) ∷ numbered_from n ds
-numbered_from n (ArrayOfVariables name k d ts ∷ ds) = (n, ArrayOfVariables name k d ts) ∷ numbered_from n ds
+numbered_from n (ArrayOfVariables name k d ts ∷ ds) =
+    (n, ArrayOfVariables name k d ts) ∷ numbered_from n ds
 
 abbrev pub numbered : Model → List (ℕ × Declared)
 numbered m = numbered_from 0 m.declared
@@ -169,7 +173,8 @@ admits_all All = true
 admits_all (Within lo hi) = false
 admits_all (Among s) = false
 
--- The value lies in the domain: a number is one of its numbers, and a set is a subset of it. No truth value lies in a domain with bounds.
+-- The value lies in the domain: a number is one of its numbers, and a set is a subset of it. No
+-- Boolean lies in a domain with bounds.
 abbrev pub inside : Domain → Value → Bool
 inside d (Int n) = admits d n
 inside d (Set s) = list_all (admits d) (sets.items s)
@@ -199,7 +204,8 @@ abbrev pub is_term_of : Kind → Place → Bool
 is_term_of k (Scalar j t) = same_kind j k
 is_term_of k (Array x j ts) = false
 
--- the argument has the shape: an array literal where each element is a scalar of the kind, so an empty one fits each kind
+-- the argument has the shape: an array literal where each element is a scalar of the kind, so an
+-- empty one fits each kind
 abbrev pub has_shape : Shape → Argument → Bool
 has_shape (ScalarOf k) (One (Scalar j t)) = same_kind j k
 has_shape (ArrayOf k) (One (Array x j ts)) = same_kind j k
@@ -247,14 +253,16 @@ product_before _ _ ns = ns
 
 -- a[i] * b[i], from the left, at each place where both have values
 abbrev pub known_products : Partial → List Term → List Term → List ℤ
-known_products K (a ∷ as') (b ∷ bs) = product_before (number_at K a) (number_at K b) (known_products K as' bs)
+known_products K (a ∷ as') (b ∷ bs) =
+    product_before (number_at K a) (number_at K b) (known_products K as' bs)
 known_products K _ _ = []
 
 -- A partial sum of the products of the arguments at two places, added from the left over the places
 -- of their elements that have values, leaves signed 128 bits. Where the whole constraint has values
 -- these are all its places, and where one element has none they are the others.
 abbrev pub products_leave : Partial → List Argument → ℕ × ℕ → Bool
-products_leave K xs at = leaves_128 (known_products K (terms_at_argument xs at.0) (terms_at_argument xs at.1))
+products_leave K xs at =
+    leaves_128 (known_products K (terms_at_argument xs at.0) (terms_at_argument xs at.1))
 
 -- a sum of the row does
 abbrev pub sums_leave : Partial → List Argument → Row → Bool
@@ -297,13 +305,18 @@ points m = flat_map declared_points (numbered m) ++ constraint_points 1 m.constr
 
 -- ---- solutions
 
--- Under a partial assignment a domain holds where the values lie in it, a definition where both sides are equal, and a constraint where
--- it is known and its relation holds of the values of its arguments. Numbers have no width here.
+-- Under a partial assignment a domain holds where the values lie in it, a definition where both
+-- sides are equal, and a constraint where it is known and its relation holds of the values of its
+-- arguments. Numbers have no width here.
 abbrev pub HoldsUnder : Partial → Point → Type 0
 HoldsUnder K (DomainPoint x n) = IsSomeAnd (value_at K n) (λ v. IsTrue (inside x.domain v))
-HoldsUnder K (DefinitionPoint x n e) = IsSomeAnd (value_at K n) (λ v. IsSomeAnd (value K e) (λ w. v ≡ w))
-HoldsUnder K (ArrayPoint name d ts) = IsSomeAnd (values K ts) (λ vs. AllByRecursion (λ v. IsTrue (inside d v)) vs)
-HoldsUnder K (ConstraintPoint k p) = IsSomeAnd (row_of p) (λ r. IsSomeAnd (argument_values K p.arguments) (λ vs. IsTrue (row_holds r vs)))
+HoldsUnder K (DefinitionPoint x n e) =
+    IsSomeAnd (value_at K n) (λ v. IsSomeAnd (value K e) (λ w. v ≡ w))
+HoldsUnder K (ArrayPoint name d ts) =
+    IsSomeAnd (values K ts) (λ vs. AllByRecursion (λ v. IsTrue (inside d v)) vs)
+HoldsUnder K (ConstraintPoint k p) =
+    IsSomeAnd (row_of p) (λ r. IsSomeAnd (argument_values K p.arguments)
+    (λ vs. IsTrue (row_holds r vs)))
 
 -- the same, where it is asked of known constraints alone
 abbrev pub HoldsIfKnown : Partial → Point → Type 0
@@ -312,7 +325,8 @@ HoldsIfKnown K (DomainPoint x n) = HoldsUnder K (DomainPoint x n)
 HoldsIfKnown K (DefinitionPoint x n e) = HoldsUnder K (DefinitionPoint x n e)
 HoldsIfKnown K (ArrayPoint name d ts) = HoldsUnder K (ArrayPoint name d ts)
 
--- an assignment inside all domains, with equal sides of every definition, and at which every constraint is known and holds
+-- an assignment inside all domains, with equal sides of every definition, and at which every
+-- constraint is known and holds
 pub record IsSolution (m : Model) (A : Assignment) : Type 0 where
   pub assignment : IsAssignment m A
   pub each_holds : AllByRecursion (HoldsUnder (whole A)) (points m)
@@ -341,7 +355,8 @@ both _ _ = None
 abbrev pub is_outside : Partial → Domain → Term → Bool
 is_outside K d t = option_map_or (λ v. not (inside d v)) (value K t) false
 
--- Where an argument has no value, the constraint has none; then it is too large where a sum leaves 128 bits; else it holds or fails.
+-- Where an argument has no value, the constraint has none; then it is too large where a sum leaves
+-- 128 bits; else it holds or fails.
 abbrev pub state_of_values : Partial → List Argument → Row → Option (List ArgValue) → State
 state_of_values K xs r None = NoValue
 state_of_values K xs r (Some vs) = cond (sums_leave K xs r) TooLarge (judged (row_holds r vs))
@@ -350,12 +365,15 @@ abbrev pub state_of_row : Partial → List Argument → Option Row → State
 state_of_row K xs None = Unknown
 state_of_row K xs (Some r) = state_of_values K xs r (argument_values K xs)
 
--- A domain or a definition holds or fails where there are values, and else has none; an array's domain fails as soon as one element
--- lies outside; a constraint is unknown where it fits no row, whatever its values are.
+-- A domain or a definition holds or fails where there are values, and else has none; an array's
+-- domain fails as soon as one element lies outside; a constraint is unknown where it fits no row,
+-- whatever its values are.
 abbrev pub state : Partial → Point → State
 state K (DomainPoint x n) = judged_by (inside x.domain) (value_at K n)
-state K (DefinitionPoint x n e) = judged_by (λ (v, w). same_value v w) (both (value_at K n) (value K e))
-state K (ArrayPoint name d ts) = cond (list_any (is_outside K d) ts) Fails (judged_by (λ vs. true) (values K ts))
+state K (DefinitionPoint x n e) =
+    judged_by (λ (v, w). same_value v w) (both (value_at K n) (value K e))
+state K (ArrayPoint name d ts) =
+    cond (list_any (is_outside K d) ts) Fails (judged_by (λ vs. true) (values K ts))
 state K (ConstraintPoint k p) = state_of_row K p.arguments (row_of p)
 
 -- ---- the objective
@@ -406,4 +424,8 @@ pub record ShownPosted : Type 0 where
   pub target : Option ℕ
 
 abbrev pub shown_posted : Posted → ShownPosted
-shown_posted p = record { name = p.name; arguments = map shown_argument p.arguments; target = p.target }
+shown_posted p = record {
+  name = p.name;
+  arguments = map shown_argument p.arguments;
+  target = p.target;
+}

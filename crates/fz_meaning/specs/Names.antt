@@ -1,5 +1,6 @@
--- The names of a model: the faults of a tree, and the model that a tree without faults is (MiniZinc Handbook, FlatZinc, "Parameter
--- declaration items" and "Variable declaration items"; which of several faults is told is this project's profile).
+-- The names of a model: the faults of a tree, and the model that a tree without faults is (MiniZinc
+-- Handbook, FlatZinc, "Parameter declaration items" and "Variable declaration items"; which of
+-- several faults is told is this project's profile).
 use Rattle.std.specs.Prelude.{◌≡◌, ℕ, ◌≤◌, ◌<◌, pos, Bool, false, not, cond, ◌&&◌, List, [], ◌∷◌, ◌++◌, length, map, ◌==◌, Option, Some, None, bytes_eq, IsTrue, IsFalse, IsSomeAnd, ⊤, ◌⊎◌, flat_map, find, codes, is_some}
 use Rattle.std.specs.List.{list_any, filter, position_or_len}
 use Rattle.std.specs.Option.{option_map_or}
@@ -91,12 +92,14 @@ pub record InOrder : Type 0 where
 
 abbrev pub in_order_after : List Decl → List Decl → List InOrder
 in_order_after before [] = []
-in_order_after before (d ∷ ds) = record { before = before; here = d } ∷ in_order_after (before ++ d ∷ []) ds
+in_order_after before (d ∷ ds) = record { before = before; here = d }
+    ∷ in_order_after (before ++ d ∷ []) ds
 
 abbrev pub in_order : LocatedTree → List InOrder
 in_order t = in_order_after [] t.decls
 
--- a literal or a name that the tree uses, with the declarations that are known there, and the kind that is wanted of it
+-- a literal or a name that the tree uses, with the declarations that are known there, and the kind
+-- that is wanted of it
 pub record Use : Type 0 where
   pub what : Basic
   pub known : List Decl
@@ -110,11 +113,12 @@ goal_parts Satisfy = []
 goal_parts (Minimize b) = b ∷ []
 goal_parts (Maximize b) = b ∷ []
 
--- Uses are the parts of declared values, where the declared kind is wanted; of the constraints' arguments, where any kind is; and
--- the objective, which is to be a whole number.
+-- Uses are the parts of declared values, where the declared kind is wanted; of the constraints'
+-- arguments, where any kind is; and the objective, which is to be an integer.
 abbrev pub uses : LocatedTree → List Use
 uses t =
-    flat_map (λ o. map (use_of o.before (Some (kind_of_base o.here.base))) (parts o.here.value)) (in_order t)
+    flat_map (λ o. map (use_of o.before (Some (kind_of_base o.here.base))) (parts o.here.value))
+    (in_order t)
     ++ flat_map (λ c. map (use_of t.decls None) (parts_of_arguments c.args)) t.constraints
     ++ map (use_of t.decls (Some IntKind)) (goal_parts t.solve.goal)
 
@@ -134,13 +138,16 @@ UnknownAt known (Named x) at = IsFalse (declares known x.text) × (at ≡ x.span
 -- the literal, or what the name declares, is no scalar of the kind that is wanted
 abbrev pub WrongKindAt : List Decl → Option Kind → Basic → Span → Type 0
 WrongKindAt known None b at = ⊥
-WrongKindAt known (Some k) (Lit l) at = IsFalse (same_kind (kind_of (literal_value l.what)) k) × (at ≡ l.span)
-WrongKindAt known (Some k) (Named x) at = IsSomeAnd (declaration known x.text) (λ d. IsFalse (is_scalar_of k d)) × (at ≡ x.span)
+WrongKindAt known (Some k) (Lit l) at =
+    IsFalse (same_kind (kind_of (literal_value l.what)) k) × (at ≡ l.span)
+WrongKindAt known (Some k) (Named x) at =
+    IsSomeAnd (declaration known x.text) (λ d. IsFalse (is_scalar_of k d)) × (at ≡ x.span)
 
 -- The faults of a tree, each with its place. They are a set over the whole tree.
 abbrev pub HasFault : LocatedTree → FaultKind → Span → Type 0
 -- a name is declared twice: told at the later declaration
-HasFault t DuplicateName at = Some_of (λ o. IsTrue (declares o.before o.here.name.text) × (at ≡ o.here.name.span)) (in_order t)
+HasFault t DuplicateName at = Some_of
+    (λ o. IsTrue (declares o.before o.here.name.text) × (at ≡ o.here.name.span)) (in_order t)
 -- a name is used that no earlier item declares
 HasFault t UnknownName at = Some_of (λ u. UnknownAt u.known u.what at) (uses t)
 -- a declared value, an element of a declared array, or the objective is no scalar of the kind
@@ -172,8 +179,8 @@ abbrev pub span_of : Basic → Span
 span_of (Lit l) = l.span
 span_of (Named x) = x.span
 
--- the places where faults are told, in reading order: of each declaration its name and the parts of its value, of each constraint the
--- parts of its arguments, and the objective
+-- the places where faults are told, in reading order: of each declaration its name and the parts of
+-- its value, of each constraint the parts of its arguments, and the objective
 abbrev pub fault_places : LocatedTree → List Span
 fault_places t =
     flat_map (λ d. d.name.span ∷ map span_of (parts d.value)) t.decls
@@ -189,8 +196,10 @@ RiseFrom n (s ∷ ss) = (n ≤ s.start) × (s.start < s.end) × RiseFrom s.end s
 abbrev pub IsInReadingOrder : LocatedTree → Type 0
 IsInReadingOrder t = RiseFrom 0 (fault_places t)
 
--- ---- What a name stands for. In a tree with the shapes of the grammar and without faults each name is declared and each declaration has
--- the parts that are read here; nothing rests on what stands for the others.
+-- ---- what a name stands for
+--
+-- In a tree with the shapes of the grammar and without faults each name is declared and each
+-- declaration has the parts that are read here; nothing rests on what stands for the others.
 
 abbrev pub scalar_variables : List Decl → List Decl
 scalar_variables ds = filter is_scalar_variable ds
@@ -214,17 +223,25 @@ term_of ds (Named x) = option_map_or (scalar_term ds) (declaration ds x.text) (F
 -- an array stands for the list of its elements
 abbrev pub place_of_declared : List Decl → Decl → Place
 place_of_declared ds d =
-    cond (is_scalar d) (Scalar (kind_of_base d.base) (scalar_term ds d)) (Array d.name.text (kind_of_base d.base) (map (term_of ds) (parts d.value)))
+    cond (is_scalar d) (Scalar (kind_of_base d.base) (scalar_term ds d))
+    (Array d.name.text (kind_of_base d.base) (map (term_of ds) (parts d.value)))
 
 abbrev pub place_of : List Decl → Basic → Place
 place_of ds (Lit l) = Scalar (kind_of (literal_value l.what)) (Fixed (literal_value l.what))
-place_of ds (Named x) = option_map_or (place_of_declared ds) (declaration ds x.text) (Array x.text IntKind [])
+place_of ds (Named x) =
+    option_map_or (place_of_declared ds) (declaration ds x.text) (Array x.text IntKind [])
 
 -- ---- the model of a tree
 
 abbrev pub domain_of_literal : Option tree.Literal → Domain
 domain_of_literal None = All
-domain_of_literal (Some l) = elim l [ Range lo hi ↦ Within lo hi | Braces ns ↦ Among (set_of ns) | Number n ↦ All | TruthWord b ↦ All ]
+domain_of_literal (Some l) = elim l [
+  | Range lo hi ↦ Within lo hi
+  | Braces ns ↦ Among
+      (set_of ns)
+  | Number n ↦ All
+  | TruthWord b ↦ All
+]
 
 abbrev pub domain_of : tree.Base → Domain
 domain_of BoolBase = All
@@ -232,7 +249,11 @@ domain_of (IntBase d) = domain_of_literal d
 domain_of (SetBase d) = domain_of_literal d
 
 abbrev pub variable_declared : Decl → Variable
-variable_declared d = record { name = d.name.text; kind = kind_of_base d.base; domain = domain_of d.base }
+variable_declared d = record {
+  name = d.name.text;
+  kind = kind_of_base d.base;
+  domain = domain_of d.base;
+}
 
 abbrev pub definition_of : List Decl → Option Expr → Option Term
 definition_of ds (Some (One b)) = Some (term_of ds b)
@@ -243,7 +264,8 @@ declared_of ds d =
     cond d.is_var
     (cond (is_scalar d)
     (ScalarVariable (variable_declared d) (definition_of ds d.value))
-    (ArrayOfVariables d.name.text (kind_of_base d.base) (domain_of d.base) (map (term_of ds) (parts d.value))))
+    (ArrayOfVariables d.name.text (kind_of_base d.base) (domain_of d.base)
+    (map (term_of ds) (parts d.value))))
     (Parameter d.name.text (place_of_declared ds d))
 
 abbrev pub argument_of : List Decl → Expr → Argument
@@ -255,11 +277,16 @@ abbrev pub scalar_variable_number : List Decl → List ℕ → Option ℕ
 scalar_variable_number ds x = cond (declares (scalar_variables ds) x) (Some (number_of ds x)) None
 
 abbrev pub defined_by : List Decl → tree.Note → Option ℕ
-defined_by ds (Called n (MoreArgs (OneBasic (Inner (Called x NoMoreArgs))) NoMoreArgs)) = cond (bytes_eq n (codes "defines_var")) (scalar_variable_number ds x) None
+defined_by ds (Called n (MoreArgs (OneBasic (Inner (Called x NoMoreArgs))) NoMoreArgs)) = cond
+    (bytes_eq n (codes "defines_var")) (scalar_variable_number ds x) None
 defined_by ds _ = None
 
 abbrev pub posted_of : List Decl → Constraint → Posted
-posted_of ds c = record { name = c.name; arguments = map (argument_of ds) c.args; target = first_some (defined_by ds) c.notes }
+posted_of ds c = record {
+  name = c.name;
+  arguments = map (argument_of ds) c.args;
+  target = first_some (defined_by ds) c.notes;
+}
 
 abbrev pub aim_of : List Decl → Goal → Aim
 aim_of ds Satisfy = Aim.Satisfy

@@ -1,4 +1,5 @@
--- What is in reading order (this project's profile). The law is the contract of a function with no code.
+-- What is in reading order (this project's profile). The law is the contract of a function with no
+-- code.
 use Rattle.std.specs.Prelude.{ℕ, List}
 use Rattle.fz_syntax.specs.Spots.{Stand, spots}
 use Rattle.fz_syntax.specs.declared.tree.Ast.{Ast}
@@ -7,4 +8,5 @@ use Rattle.fz_meaning.specs.Names.{IsInReadingOrder}
 
 -- A tree whose names and literals stand in a source one behind the other is in reading order.
 abbrev pub SourcesAreInReadingOrder : Type 0
-SourcesAreInReadingOrder = (source : List ℕ) (n : ℕ) (a : Ast) → Stand source 0 n (spots a) → IsInReadingOrder (located a)
+SourcesAreInReadingOrder =
+    (source : List ℕ) (n : ℕ) (a : Ast) → Stand source 0 n (spots a) → IsInReadingOrder (located a)

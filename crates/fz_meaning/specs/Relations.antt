@@ -4,7 +4,7 @@ use Rattle.std.specs.List.{list_all, list_any}
 use Rattle.std.specs.Option.{option_map_or}
 use Rattle.fz_meaning.specs.Values.{◌=ℤ◌}
 
--- the sum of whole numbers
+-- the sum of integers
 abbrev pub total : List ℤ → ℤ
 total [] = pos 0
 total (n ∷ ns) = n +ℤ total ns

@@ -1,4 +1,5 @@
--- The forced step of a point: the one value that a check point leaves to a variable (this project's profile).
+-- The forced step of a point: the one value that a check point leaves to a variable (this project's
+-- profile).
 use Rattle.std.specs.Prelude.{◌≡◌, ℕ, ℤ, pos, negsuc, List, [], ◌∷◌, Option, Some, option_map, IsTrue, IsFalse, IsSomeAnd, IfSome, ⊤, ◌⊎◌, ◌↔◌, ◌&&◌, flat_map, slice_get, Contains, is_none, FitsSigned}
 use Rattle.std.specs.Int.{w64}
 use Rattle.std.specs.List.{filter}
@@ -35,32 +36,36 @@ HasOneNumber d = (n : ℤ) × ((k : ℤ) → IsTrue (admits d k) ↔ (k ≡ n))
 
 -- the scalar variable stands as a name by itself in one of the places
 abbrev pub StandsAt : List Argument → ℕ → List ℕ → Type 0
-StandsAt xs n is = (i : ℕ) × Contains is i × (k : Kind) × (slice_get xs i ≡ Some (One (Scalar k (Var n))))
+StandsAt xs n is =
+    (i : ℕ) × Contains is i × (k : Kind) × (slice_get xs i ≡ Some (One (Scalar k (Var n))))
 
 -- the variable is an element of the second array, and its coefficient is 1 or -1
 abbrev pub HasUnitCoefficient : Partial → List Argument → ℕ → Type 0
 HasUnitCoefficient K xs n =
     (i : ℕ) × (slice_get (terms_at_argument xs 1) i ≡ Some (Var n))
-    × (u : Term) × (slice_get (terms_at_argument xs 0) i ≡ Some u) × ((value K u ≡ Some (Int (pos 1))) ⊎ (value K u ≡ Some (Int (negsuc 0))))
+    × (u : Term) × (slice_get (terms_at_argument xs 0) i ≡ Some u)
+    × ((value K u ≡ Some (Int (pos 1))) ⊎ (value K u ≡ Some (Int (negsuc 0))))
 
 abbrev pub IsResult : Partial → List Argument → ℕ → Result → Type 0
 IsResult K xs n NoResult = ⊥
 IsResult K xs n (Places is) = StandsAt xs n is
 IsResult K xs n UnitTerm = HasUnitCoefficient K xs n
 
--- The variable is a target of the point: of the domain of an int variable that has exactly one number; either side of a definition;
--- of a known constraint, what its first `defines_var` names, where that stands in a result place.
+-- The variable is a target of the point: of the domain of an int variable that has exactly one
+-- number; either side of a definition; of a known constraint, what its first `defines_var` names,
+-- where that stands in a result place.
 abbrev pub IsTarget : Partial → Point → ℕ → Type 0
 IsTarget K (DomainPoint x n) y = (n ≡ y) × (x.kind ≡ IntKind) × HasOneNumber x.domain
 IsTarget K (DefinitionPoint x n e) y = (n ≡ y) ⊎ (e ≡ Var y)
 IsTarget K (ArrayPoint name d ts) y = ⊥
-IsTarget K (ConstraintPoint k p) y = (p.target ≡ Some y) × IsSomeAnd (row_of p) (λ r. IsResult K p.arguments y r.result)
+IsTarget K (ConstraintPoint k p) y =
+    (p.target ≡ Some y) × IsSomeAnd (row_of p) (λ r. IsResult K p.arguments y r.result)
 
 -- the kind of the variable with this number
 abbrev pub kind_at : Model → ℕ → Option Kind
 kind_at m n = option_map (λ x. x.kind) (slice_get (variables_of m) n)
 
--- a whole number has signed 64 bits
+-- an integer has signed 64 bits
 abbrev pub WithinLimits : Value → Type 0
 WithinLimits (Int n) = FitsSigned w64 n
 WithinLimits (Truth b) = ⊤
@@ -74,8 +79,9 @@ SumsFit K (DefinitionPoint x n e) = ⊤
 SumsFit K (ArrayPoint name d ts) = ⊤
 SumsFit K (ConstraintPoint k p) = IfSome (row_of p) (λ r. IsFalse (sums_leave K p.arguments r))
 
--- The point gives the variable the value: the variable is its target, it is the point's only scalar without a value, no sum that the
--- step needs leaves 128 bits, and with the value, which is of the variable's kind and within the limits, the point holds.
+-- The point gives the variable the value: the variable is its target, it is the point's only scalar
+-- without a value, no sum that the step needs leaves 128 bits, and with the value, which is of the
+-- variable's kind and within the limits, the point holds.
 pub record Gives (m : Model) (K : Partial) (p : Point) (n : ℕ) (v : Value) : Type 0 where
   pub target : IsTarget K p n
   pub only_open : open_terms K (terms_of p) ≡ Var n ∷ []

@@ -1,5 +1,6 @@
--- The values of FlatZinc's int, bool and set of int, and when two are equal (MiniZinc Handbook, FlatZinc, "Types"). Numbers have no
--- width, and a set is the mathematical finite set: two sets with the same elements are equal.
+-- The values of FlatZinc's int, bool and set of int, and when two are equal (MiniZinc Handbook,
+-- FlatZinc, "Types"). Numbers have no width, and a set is the mathematical finite set: two sets
+-- with the same elements are equal.
 use Rattle.std.specs.Prelude.{ℤ, Bool, true, false, not, ◌&&◌, List, [], ◌∷◌}
 use Rattle.std.specs.Ordering.{int_eq}
 use Rattle.std.specs.FinSet as sets

@@ -1,4 +1,5 @@
--- What the parser's tree and a refusal of names stand for: the tree with its places, and the leftmost fault (this project's profile).
+-- What the parser's tree and a refusal of names stand for: the tree with its places, and the
+-- leftmost fault (this project's profile).
 use Rattle.std.specs.Prelude.{map, option_map, Option, ⊤}
 use Rattle.fz_syntax.specs.Offering.{TreeItems}
 use Rattle.fz_syntax.specs.View.{bare_literal, bare_base, bare_notes, bare_predicate}
@@ -42,10 +43,21 @@ abbrev pub located_value : Option the_expr.Expr → Option Expr
 located_value o = option_map located_expr o
 
 abbrev pub located_decl : the_decl.Decl → Decl
-located_decl d = record { is_var = d.is_var; array_length = d.length; base = bare_base d.base; name = located_name d.name; notes = bare_notes d.notes.items; value = located_value d.value }
+located_decl d = record {
+  is_var = d.is_var;
+  array_length = d.length;
+  base = bare_base d.base;
+  name = located_name d.name;
+  notes = bare_notes d.notes.items;
+  value = located_value d.value;
+}
 
 abbrev pub located_constraint : the_constraint.Constraint → Constraint
-located_constraint c = record { name = c.name.text.now; args = map located_expr c.args.items; notes = bare_notes c.notes.items }
+located_constraint c = record {
+  name = c.name.text.now;
+  args = map located_expr c.args.items;
+  notes = bare_notes c.notes.items;
+}
 
 abbrev pub located_goal : the_goal.Goal → Goal
 located_goal goals.Satisfy = Satisfy
@@ -57,15 +69,26 @@ located_solve s = record { notes = bare_notes s.notes.items; goal = located_goal
 
 -- the tree with its places
 abbrev pub located : Ast → LocatedTree
-located a = record { predicates = map bare_predicate a.predicates.items; decls = map located_decl a.decls.items; constraints = map located_constraint a.constraints.items; solve = located_solve a.solve }
+located a = record {
+  predicates = map bare_predicate a.predicates.items;
+  decls = map located_decl a.decls.items;
+  constraints = map located_constraint a.constraints.items;
+  solve = located_solve a.solve;
+}
 
 -- the same of a tree by its items
 abbrev pub located_all : TreeItems → LocatedTree
-located_all t = record { predicates = map bare_predicate t.predicates; decls = map located_decl t.decls; constraints = map located_constraint t.constraints; solve = located_solve t.solve }
+located_all t = record {
+  predicates = map bare_predicate t.predicates;
+  decls = map located_decl t.decls;
+  constraints = map located_constraint t.constraints;
+  solve = located_solve t.solve;
+}
 
 -- ---- refusals
 
--- what a refusal tells of the tree: a fault that it has, at the place told, or nothing where memory ran out
+-- what a refusal tells of the tree: a fault that it has, at the place told, or nothing where memory
+-- ran out
 abbrev pub TellsFault : LocatedTree → ModelError → Type 0
 TellsFault t (errors.DuplicateName at) = HasFault t DuplicateName at
 TellsFault t (errors.UnknownName at) = HasFault t UnknownName at

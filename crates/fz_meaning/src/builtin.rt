@@ -135,7 +135,8 @@ impl Builtin {
     // The builtins whose names are so long, each behind its name.
     #[tactic(auto, unfolding(crate::specs::Builtins::builtins, crate::specs::Builtins::row_at))]
     fn named_so_long(length: usize) -> &'static [(&'static [u8], Builtin)]
-        ensures { map {B = List ℕ × Builtin} (λ n. (n.0.now, n.1)) result.now ≡ map (λ b. (name_of b, b)) (named_so_long length) }
+        ensures { map {B = List ℕ × Builtin} (λ n. (n.0.now, n.1)) result.now
+            ≡ map (λ b. (name_of b, b)) (named_so_long length) }
     {
         match length {
             5 => &[(b"count", Builtin::Count)],

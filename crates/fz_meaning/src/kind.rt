@@ -1,6 +1,6 @@
 //! The kinds of values.
 
-/// What a value is: a whole number, a truth value or a finite set of whole numbers.
+/// What a value is: an integer, a Boolean or a finite set of integers.
 #[derive(Clone, Copy, Debug, PartialEq, Eq)]
 pub enum Kind {
     Int,

@@ -1,4 +1,4 @@
-//! A builtin or its form with a truth value.
+//! A builtin or its reified form.
 
 ghost use Rattle.std.specs.Prelude.{◌≡◌, ◌++◌, IfNone, IfSome, List, MatchOption, None, Some, ℕ, map};
 ghost use Rattle.fz_meaning.specs.Known.{HasTruth, known_row, result_of, row_named, shape_of, suffix_of};
@@ -12,14 +12,14 @@ use crate::text::same_text;
 pub enum Form {
     /// That it holds.
     Base,
-    /// That it holds exactly where the truth value behind its arguments is true: a name with
+    /// That it holds exactly where the Boolean behind its arguments is true: a name with
     /// `_reif`.
     Reified,
-    /// That it holds where that truth value is true: a name with `_imp`.
+    /// That it holds where that Boolean is true: a name with `_imp`.
     Implied,
 }
 
-/// A row of the table: a base row, or one of its forms with a truth value behind.
+/// A row of the table: a base row, or one of its reified forms.
 #[derive(Clone, Copy, Debug, PartialEq, Eq)]
 pub struct Known {
     pub builtin: Builtin,
@@ -29,7 +29,8 @@ pub struct Known {
 /// What stands before the suffix in a name that ends so.
 #[inline]
 fn without<'n>(name: &'n [u8], suffix: &[u8]) -> Option<&'n [u8]>
-    ensures { MatchOption result ((base : List ℕ) → name.now ≡ base ++ suffix.now → ⊥) (λ base. name.now ≡ base.now ++ suffix.now) }
+    ensures { MatchOption result ((base : List ℕ) → name.now ≡ base ++ suffix.now → ⊥)
+        (λ base. name.now ≡ base.now ++ suffix.now) }
 {
     if name.len() < suffix.len() {
         return None;
@@ -43,7 +44,8 @@ fn without<'n>(name: &'n [u8], suffix: &[u8]) -> Option<&'n [u8]>
 }
 
 impl Known {
-    /// What a constraint's name means, if the table has a row of that name. It is compared with few names.
+    /// What a constraint's name means, if the table has a row of that name. It is compared with few
+    /// names.
     pub fn find(name: &[u8]) -> Option<Known>
         ensures has_row { IfSome result (λ k. row_named name.now ≡ Some (known_row k)) }
         ensures none { IfNone result (row_named name.now ≡ None) }
@@ -61,10 +63,11 @@ impl Known {
         })
     }
 
-    // A form with a truth value of the base row of this name.
+    // A reified form of the base row of this name.
     fn in_form(base: &[u8], form: Form) -> Option<Known>
         requires { HasTruth form }
-        ensures has_row { IfSome result (λ k. row_named (base.now ++ suffix_of form) ≡ Some (known_row k)) }
+        ensures has_row { IfSome result
+            (λ k. row_named (base.now ++ suffix_of form) ≡ Some (known_row k)) }
         ensures none { IfNone result (row_named (base.now ++ suffix_of form) ≡ None) }
     {
         let builtin = Builtin::called(base)?;
@@ -113,7 +116,7 @@ impl Known {
         }
     }
 
-    /// Which arguments `defines_var` may fill: of a form with `_reif`, its truth value.
+    /// Which arguments `defines_var` may fill: of a form with `_reif`, its Boolean.
     pub fn filled(self) -> Filled
         ensures { result_of result ≡ (known_row self).result }
     {

@@ -1,8 +1,8 @@
-//! What a FlatZinc model means: names, the table of builtins, points and their states, forced steps, and the leftmost fault of names.
-//! The inner crate below `fz_model`, which offers all of it.
+//! What a FlatZinc model means: names, the table of builtins, points and their states, forced
+//! steps, and the leftmost fault of names. An internal crate of `fz_model`, which offers all of it.
 //!
 //! The table of builtins stands here as data too. [`Known::find`] says what a constraint's name
-//! means: a [`Builtin`], or a [`Form`] of it with a truth value behind. A [`Known`] tells what its
+//! means: a [`Builtin`], or a reified [`Form`] of it. A [`Known`] tells what its
 //! row asks: the kinds of its arguments, which arrays have to be of equal lengths, which sums are
 //! added in 128 bits, and which arguments may be filled. What the row holds of is the definition's:
 //! `Builtins`.

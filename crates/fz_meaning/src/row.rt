@@ -36,8 +36,8 @@ pub(crate) enum Lengths {
     Packed,
 }
 
-// The kinds of a base row's arguments with the truth value of its forms behind, what may be filled,
-// which lengths are equal, and whether there are forms with a truth value.
+// The kinds of a base row's arguments with the Boolean of its forms behind, what may be filled,
+// which lengths are equal, and whether there are reified forms.
 #[derive(Clone, Copy)]
 pub(crate) struct BaseRow(
     pub(crate) &'static [Shape],

@@ -2,9 +2,10 @@
 
 ghost use Rattle.std.specs.Prelude.{◌≡◌, bytes_eq, length};
 
-/// Whether two texts are the same. They are compared from their ends, since names of one length mostly differ in their last bytes: eight
-/// bytes at a time, and what is left at the front byte by byte. For short names that takes fewer instructions than the comparison of
-/// slices. It takes no memory.
+/// Whether two texts are the same. They are compared from their ends, since names of one length
+/// mostly differ in their last bytes: eight bytes at a time, and what is left at the front byte by
+/// byte. For short names that takes fewer instructions than the comparison of slices. It takes no
+/// memory.
 #[inline]
 pub fn same_text(left: &[u8], right: &[u8]) -> bool
     ensures { result ≡ bytes_eq left.now right.now }
@@ -27,7 +28,8 @@ pub fn same_text(left: &[u8], right: &[u8]) -> bool
     same_bytes(left_rest, right_rest)
 }
 
-/// Whether eight bytes are the same. They are read as numbers, since those take a single comparison.
+/// Whether eight bytes are the same. They are read as numbers, since those take a single
+/// comparison.
 #[inline]
 fn same_eight(left: &[u8; 8], right: &[u8; 8]) -> bool
     ensures { result ≡ bytes_eq left.now right.now }
@@ -35,7 +37,8 @@ fn same_eight(left: &[u8; 8], right: &[u8; 8]) -> bool
     u64::from_le_bytes(*left) == u64::from_le_bytes(*right)
 }
 
-/// Whether two texts of one length are the same, byte by byte from the end. This is for what is too short for a comparison of eight.
+/// Whether two texts of one length are the same, byte by byte from the end. This is for what is too
+/// short for a comparison of eight.
 #[inline]
 fn same_bytes(left: &[u8], right: &[u8]) -> bool
     requires { length left.now ≡ length right.now }

@@ -3,12 +3,15 @@ use Rattle.std.proofs.Common.{◌≡◌, ◌<◌, ◌+◌, ℕ, List, [], ◌∷
 use Rattle.std.proofs.lemmas.List.{append-nil, append_assoc, take_more}
 use Rattle.std.proofs.lemmas.Str.{encodes-append}
 
-pub added : {T E : Type 0} (r : Result T E) (new old piece : List ℕ) → new ≡ (if is_ok r then old ++ piece else old) → OnOk r (new ≡ old ++ piece)
+pub added : {T E : Type 0} (r : Result T E) (new old piece : List ℕ)
+    → new ≡ (if is_ok r then old ++ piece else old) → OnOk r (new ≡ old ++ piece)
 added (Ok x) new old piece h = h
 added (Err e) new old piece h = tt
 
 -- one character more
-pub letters_next : (cs : List ℕ) (k c : ℕ) (old so_far new : List ℕ) → k < length cs → c ≡ slice_index_or cs k c → so_far ≡ old ++ encode_utf8_all (take k cs) → new ≡ so_far ++ encode_utf8 c
+pub letters_next : (cs : List ℕ) (k c : ℕ) (old so_far new : List ℕ) → k < length cs
+    → c ≡ slice_index_or cs k c → so_far ≡ old ++ encode_utf8_all (take k cs)
+    → new ≡ so_far ++ encode_utf8 c
     → new ≡ old ++ encode_utf8_all (take (k + 1) cs)
 letters_next cs k c old so_far new h is before e =
     let front = take k cs in

@@ -10,7 +10,8 @@ all_append [] c = omega arith
 all_append (x ∷ xs) c = omega (arith, all_append xs c)
 
 -- one more
-pub columns_next : (cs : List ℕ) (k d count : ℕ) → k < length cs → count ≡ columns (take k cs) → columns (take (k + 1) cs) ≡ min (count + width (slice_index_or cs k d)) 121
+pub columns_next : (cs : List ℕ) (k d count : ℕ) → k < length cs → count ≡ columns (take k cs)
+    → columns (take (k + 1) cs) ≡ min (count + width (slice_index_or cs k d)) 121
 columns_next cs k d count h e =
     let all : all_columns (take (k + 1) cs) ≡ all_columns (take k cs) + width (slice_index_or cs k d) = ap all_columns (take_more cs k d h) ∙ all_append (take k cs) (slice_index_or cs k d) in
     omega (arith, all, e)
@@ -31,11 +32,13 @@ whole_end : (room : ℕ) (cs : List ℕ) → all_columns cs ≤ room → end_wit
 whole_end room [] h = refl
 whole_end room (c ∷ cs) h = ap (λ b. cond b (c ∷ cs) (end_within room cs)) (fits_true (all_columns (c ∷ cs)) room h)
 
-without_first : (room c : ℕ) (cs : List ℕ) → room < all_columns (c ∷ cs) → end_within room (c ∷ cs) ≡ end_within room cs
+without_first : (room c : ℕ) (cs : List ℕ) → room < all_columns (c ∷ cs)
+    → end_within room (c ∷ cs) ≡ end_within room cs
 without_first room c cs h = ap (λ b. cond b (c ∷ cs) (end_within room cs)) (fits_false (all_columns (c ∷ cs)) room h)
 
 -- an end that has room, where that with one character more has none
-pub end_is_longest : (room : ℕ) (cs : List ℕ) (k : ℕ) → all_columns (drop (suc k) cs) ≤ room → room < all_columns (drop k cs) → end_within room cs ≡ drop (suc k) cs
+pub end_is_longest : (room : ℕ) (cs : List ℕ) (k : ℕ) → all_columns (drop (suc k) cs) ≤ room
+    → room < all_columns (drop k cs) → end_within room cs ≡ drop (suc k) cs
 end_is_longest room [] zero h less = refl
 end_is_longest room [] (suc k) h less = refl
 end_is_longest room (c ∷ cs) zero h less = without_first room c cs less ∙ whole_end room cs h
@@ -44,7 +47,8 @@ end_is_longest room (c ∷ cs) (suc k) h less =
 
 -- of a search from the end that stopped at a place: at the front, or before a character that has no
 -- room
-pub end_found : (room left start : ℕ) (cs : List ℕ) → start ≤ length cs → all_columns (drop start cs) + left ≡ room
+pub end_found : (room left start : ℕ) (cs : List ℕ) → start ≤ length cs
+    → all_columns (drop start cs) + left ≡ room
     → (0 < start → (d : ℕ) × (left < width (slice_index_or cs (start - 1) d))) → take (length cs - start) (drop start cs) ≡ end_within room cs
 end_found room left zero cs within so_far stopped = take_all (length cs - 0) cs (omega arith) ∙ sym (whole_end room cs (omega (arith, so_far)))
 end_found room left (suc k) cs within so_far stopped =

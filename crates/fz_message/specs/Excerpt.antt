@@ -5,7 +5,8 @@ use Rattle.fz_message.specs.declared.excerpt.Excerpt.{Excerpt}
 
 -- the bytes without a carriage return at their end
 abbrev pub without_return : List ℕ → List ℕ
-without_return bytes = cond (slice_index_or bytes (length bytes - 1) 0 == 13) (take (length bytes - 1) bytes) bytes
+without_return bytes =
+    cond (slice_index_or bytes (length bytes - 1) 0 == 13) (take (length bytes - 1) bytes) bytes
 
 -- the columns that the front may take: half of them, or as many as those behind leave
 abbrev pub front_room : List ℕ → ℕ
@@ -19,5 +20,6 @@ mark_count marked behind = max (min (columns marked) (columns behind)) 1
 abbrev pub IsExcerpt : List ℕ → List ℕ → ℕ → Excerpt → Type 0
 IsExcerpt front behind marked e =
     (e.front.items ≡ cut_front (front_room (shown (without_return behind))) (shown front))
-    × (e.behind.items ≡ cut_end (most_columns - columns e.front.items) (shown (without_return behind)))
+    × (e.behind.items ≡ cut_end (most_columns - columns e.front.items)
+    (shown (without_return behind)))
     × (e.marks ≡ mark_count (shown (take marked behind)) e.behind.items)

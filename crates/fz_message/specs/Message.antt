@@ -21,7 +21,8 @@ use Rattle.fz_message.specs.declared.values.ShownValue.TheVariants as shown
 
 -- one number, or the least and the greatest
 abbrev pub range_text : Range → List ℕ
-range_text r = cond (int_eq r.lo r.hi) (signed_decimal r.lo) (signed_decimal r.lo ++ codes ".." ++ signed_decimal r.hi)
+range_text r = cond (int_eq r.lo r.hi) (signed_decimal r.lo)
+    (signed_decimal r.lo ++ codes ".." ++ signed_decimal r.hi)
 
 abbrev pub further_range : Range → List ℕ
 further_range r = codes "," ++ range_text r
@@ -53,13 +54,16 @@ line_text line = codes ", line " ++ decimal line
 abbrev pub origin_text : Origin → List ℕ
 origin_text origins.Printed = codes "printed"
 origin_text origins.Domain = codes "by its domain"
-origin_text (origins.Definition x line) = codes "by definition of " ++ string_bytes x ++ line_text line
-origin_text (origins.Constraint k x line) = codes "by constraint " ++ decimal k ++ codes " " ++ string_bytes x ++ line_text line
+origin_text (origins.Definition x line) =
+    codes "by definition of " ++ string_bytes x ++ line_text line
+origin_text (origins.Constraint k x line) =
+    codes "by constraint " ++ decimal k ++ codes " " ++ string_bytes x ++ line_text line
 origin_text origins.Filled = codes "filled in"
 origin_text origins.Nothing = codes "no rule gives it one; print it"
 
 abbrev pub help_text : Help → List ℕ
-help_text PrintAll = codes "let the solver run `fzcheck show --print-all`, or look for it by --complete"
+help_text PrintAll =
+    codes "let the solver run `fzcheck show --print-all`, or look for it by --complete"
 help_text UseLibrary = codes "compile with the library in minizinc/, or with the standard one"
 help_text TightenDomains = codes "tighten the domains, so that no sum leaves 128 bits"
 
@@ -70,7 +74,8 @@ variable_text x None o = x ++ codes " = none: " ++ origin_text o
 abbrev pub note_text : Note → List ℕ
 note_text (notes.Variable x v o) = variable_text (string_bytes x) v o
 note_text (notes.LeftOut n) = codes "... and " ++ decimal n ++ codes " more ..."
-note_text (notes.Bounds lo hi) = codes "the domain is " ++ signed_decimal lo ++ codes ".." ++ signed_decimal hi
+note_text (notes.Bounds lo hi) =
+    codes "the domain is " ++ signed_decimal lo ++ codes ".." ++ signed_decimal hi
 note_text (notes.Among s) = codes "the domain is " ++ set_text s
 note_text (notes.OtherBlock n) = codes "the other value is that of block " ++ decimal n
 note_text (notes.LeavesAt n) = codes "the sum leaves 128 bits at element " ++ decimal n
@@ -87,19 +92,23 @@ blanks n = repeated (codes " ") n
 
 -- file:line:column: what is said
 abbrev pub head_line : Message → List ℕ
-head_line m = string_bytes m.source ++ codes ":" ++ decimal m.line ++ codes ":" ++ decimal m.column ++ codes ": " ++ string_bytes m.said ++ codes "\n"
+head_line m = string_bytes m.source ++ codes ":" ++ decimal m.line ++ codes ":" ++ decimal m.column
+    ++ codes ": " ++ string_bytes m.said ++ codes "\n"
 
 -- the line's number and what is shown of it
 abbrev pub source_line : Message → List ℕ
-source_line m = codes "   " ++ decimal m.line ++ codes " | " ++ encode_utf8_all m.excerpt.front.items ++ encode_utf8_all m.excerpt.behind.items ++ codes "\n"
+source_line m = codes "   " ++ decimal m.line ++ codes " | "
+    ++ encode_utf8_all m.excerpt.front.items ++ encode_utf8_all m.excerpt.behind.items ++ codes "\n"
 
 -- marks below the place
 abbrev pub mark_line : ℕ → Excerpt → List ℕ
-mark_line digits e = codes "   " ++ blanks digits ++ codes " | " ++ blanks (columns e.front.items) ++ repeated (codes "^") e.marks ++ codes "\n"
+mark_line digits e = codes "   " ++ blanks digits ++ codes " | " ++ blanks (columns e.front.items)
+    ++ repeated (codes "^") e.marks ++ codes "\n"
 
 -- a note stands below the bar
 abbrev pub note_line : ℕ → Note → List ℕ
 note_line digits n = blanks digits ++ codes "    = " ++ note_text n ++ codes "\n"
 
 abbrev pub message_text : Message → List ℕ
-message_text m = head_line m ++ source_line m ++ mark_line (length (decimal m.line)) m.excerpt ++ flat_map (note_line (length (decimal m.line))) m.notes.items
+message_text m = head_line m ++ source_line m ++ mark_line (length (decimal m.line)) m.excerpt
+    ++ flat_map (note_line (length (decimal m.line))) m.notes.items

@@ -18,5 +18,6 @@ IsMessageOn s before rest marked m =
 
 abbrev pub IsMessageAt : Source → Span → List ℕ → Message → Type 0
 IsMessageAt s place said m =
-    IsMessageOn s (take (place.start - s.bytes_before) s.bytes.now) (drop (place.start - s.bytes_before) s.bytes.now) (place.end - place.start) m
+    IsMessageOn s (take (place.start - s.bytes_before) s.bytes.now)
+    (drop (place.start - s.bytes_before) s.bytes.now) (place.end - place.start) m
     × (string_bytes m.said ≡ said)

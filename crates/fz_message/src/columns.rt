@@ -23,7 +23,7 @@ fn visible(letter: char) -> char
 ///
 /// # Errors
 ///
-/// Want of memory.
+/// Out of memory.
 pub(crate) fn shown(alloc: Global, bytes: &[u8]) -> Result<Vec<char>, AllocError>
     ensures { IfOk result (λ letters. letters.items ≡ shown bytes.now) }
 {
@@ -39,7 +39,7 @@ pub(crate) fn shown(alloc: Global, bytes: &[u8]) -> Result<Vec<char>, AllocError
 ///
 /// # Errors
 ///
-/// Want of memory.
+/// Out of memory.
 pub fn shown_text(alloc: Global, bytes: &[u8]) -> Result<String, AllocError>
     ensures { IfOk result (λ text. string_bytes text ≡ encode_utf8_all (shown bytes.now)) }
 {
@@ -50,7 +50,8 @@ pub fn shown_text(alloc: Global, bytes: &[u8]) -> Result<String, AllocError>
 
 /// Adds characters to a text.
 pub(crate) fn push_letters(text: &mut String, letters: &[char]) -> Result<(), AllocError>
-    ensures { OnOk result (string_bytes text.new ≡ string_bytes text.old ++ encode_utf8_all letters.now) }
+    ensures { OnOk result (string_bytes text.new
+        ≡ string_bytes text.old ++ encode_utf8_all letters.now) }
 {
     for letter in letters {
         text.push(*letter)?;

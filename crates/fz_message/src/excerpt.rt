@@ -49,7 +49,7 @@ impl Excerpt {
     ///
     /// # Errors
     ///
-    /// Want of memory.
+    /// Out of memory.
     pub(crate) fn new(
         alloc: Global,
         front: &[u8],

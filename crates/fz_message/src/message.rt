@@ -21,7 +21,8 @@ pub struct Message {
 }
 
 fn push_repeated(text: &mut String, piece: &str, count: usize) -> Result<(), AllocError>
-    ensures { OnOk result (string_bytes text.new ≡ string_bytes text.old ++ repeated piece.now count) }
+    ensures { OnOk result (string_bytes text.new
+        ≡ string_bytes text.old ++ repeated piece.now count) }
 {
     for _ in 0..count {
         text.push_str(piece)?;
@@ -45,7 +46,8 @@ fn push_head(text: &mut String, message: &Message) -> Result<(), AllocError>
 
 /// Adds the line of the source.
 fn push_source(text: &mut String, message: &Message) -> Result<(), AllocError>
-    ensures { OnOk result (string_bytes text.new ≡ string_bytes text.old ++ source_line message.now) }
+    ensures { OnOk result (string_bytes text.new
+        ≡ string_bytes text.old ++ source_line message.now) }
 {
     let line = message.line;
     write!(text, "   {line} | ")?;
@@ -56,7 +58,8 @@ fn push_source(text: &mut String, message: &Message) -> Result<(), AllocError>
 
 /// Adds the marks below it.
 fn push_marks(text: &mut String, digits: usize, excerpt: &Excerpt) -> Result<(), AllocError>
-    ensures { OnOk result (string_bytes text.new ≡ string_bytes text.old ++ mark_line digits excerpt.now) }
+    ensures { OnOk result (string_bytes text.new
+        ≡ string_bytes text.old ++ mark_line digits excerpt.now) }
 {
     text.push_str("   ")?;
     push_repeated(text, " ", digits)?;
@@ -68,7 +71,8 @@ fn push_marks(text: &mut String, digits: usize, excerpt: &Excerpt) -> Result<(),
 
 /// Adds a line for each note.
 fn push_notes(text: &mut String, digits: usize, notes: &[Note]) -> Result<(), AllocError>
-    ensures { OnOk result (string_bytes text.new ≡ string_bytes text.old ++ flat_map (note_line digits) notes.now) }
+    ensures { OnOk result (string_bytes text.new
+        ≡ string_bytes text.old ++ flat_map (note_line digits) notes.now) }
 {
     for note in notes {
         push_repeated(text, " ", digits)?;
@@ -83,7 +87,7 @@ fn push_notes(text: &mut String, digits: usize, notes: &[Note]) -> Result<(), Al
 ///
 /// # Errors
 ///
-/// Want of memory.
+/// Out of memory.
 pub fn message_text(alloc: Global, message: &Message) -> Result<String, AllocError>
     ensures { IfOk result (λ text. string_bytes text ≡ message_text message.now) }
 {

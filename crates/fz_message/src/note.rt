@@ -65,7 +65,8 @@ fn push_range(text: &mut String, range: Range) -> Result<(), AllocError>
 }
 
 fn push_further(text: &mut String, ranges: &[Range]) -> Result<(), AllocError>
-    ensures { OnOk result (string_bytes text.new ≡ string_bytes text.old ++ flat_map further_range ranges.now) }
+    ensures { OnOk result (string_bytes text.new
+        ≡ string_bytes text.old ++ flat_map further_range ranges.now) }
 {
     for range in ranges {
         text.push_str(",")?;
@@ -106,7 +107,8 @@ fn push_line(text: &mut String, line: usize) -> Result<(), AllocError>
 }
 
 fn push_origin(text: &mut String, origin: &Origin) -> Result<(), AllocError>
-    ensures { OnOk result (string_bytes text.new ≡ string_bytes text.old ++ origin_text origin.now) }
+    ensures { OnOk result (string_bytes text.new
+        ≡ string_bytes text.old ++ origin_text origin.now) }
 {
     match origin {
         Origin::Printed => text.push_str("printed"),
@@ -144,7 +146,8 @@ fn push_variable(
     value: &Option<ShownValue>,
     origin: &Origin,
 ) -> Result<(), AllocError>
-    ensures { OnOk result (string_bytes text.new ≡ string_bytes text.old ++ variable_text name.now value.now origin.now) }
+    ensures { OnOk result (string_bytes text.new
+        ≡ string_bytes text.old ++ variable_text name.now value.now origin.now) }
 {
     text.push_str(name)?;
     text.push_str(" = ")?;

@@ -23,7 +23,7 @@ pub struct Source<'a> {
 ///
 /// # Errors
 ///
-/// Want of memory.
+/// Out of memory.
 pub fn message_at(
     alloc: Global,
     source: &Source<'_>,

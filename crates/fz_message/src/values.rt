@@ -28,7 +28,7 @@ pub enum ShownValue {
 ///
 /// # Errors
 ///
-/// Want of memory.
+/// Out of memory.
 pub fn shown_set(alloc: Global, set: &IntSet) -> Result<ShownSet, AllocError>
     ensures { IfOk result (IsShownSet set.now) }
 {
@@ -42,7 +42,7 @@ pub fn shown_set(alloc: Global, set: &IntSet) -> Result<ShownSet, AllocError>
 ///
 /// # Errors
 ///
-/// Want of memory.
+/// Out of memory.
 pub fn shown_value(alloc: Global, value: &Value) -> Result<ShownValue, AllocError>
     ensures { IfOk result (IsShownValue value.now) }
 {

@@ -1,7 +1,7 @@
-//! Models of FlatZinc: names, kinds and lengths, and what they mean. The inner crate `fz_meaning`
-//! has the definitions, the table of builtins and the theory of faults, `fz_data` the loaded model;
-//! `fz_arguments`, `fz_kernel` and `fz_eval` tell the state of a point, `fz_force` the step that it
-//! forces.
+//! Models of FlatZinc: names, kinds and lengths, and what they mean. The internal crate
+//! `fz_meaning` has the definitions, the table of builtins and the theory of faults, `fz_data` the
+//! loaded model; `fz_arguments`, `fz_kernel` and `fz_eval` tell the state of a point, `fz_force`
+//! the step that it forces.
 #![tactic(auto)]
 
 pub use fz_force::fz_data::{

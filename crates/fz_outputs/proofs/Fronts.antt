@@ -8,7 +8,8 @@ turned f zero xs = xs
 turned f (suc n) [] = []
 turned f (suc n) (x ∷ xs) = f x ∷ turned f n xs
 
-pub all_turned : {A : Type 0} (f : A → A) (xs : List A) (n : ℕ) → length xs ≤ n → turned f n xs ≡ map f xs
+pub all_turned : {A : Type 0} (f : A → A) (xs : List A) (n : ℕ) → length xs ≤ n
+    → turned f n xs ≡ map f xs
 all_turned f [] zero h = refl
 all_turned f [] (suc n) h = refl
 all_turned f (x ∷ xs) zero h = absurd (omega arith)
@@ -22,7 +23,8 @@ abbrev tail_of : {A : Type 0} → List A → List A
 tail_of [] = []
 tail_of (y ∷ ys) = ys
 
-turned_at : {A B : Type 0} (view : B → A) (f : A → A) (xs : List B) (zs : List A) (n : ℕ) (old new : B) → n < length xs → old ≡ slice_index_or xs n old → view new ≡ f (view old)
+turned_at : {A B : Type 0} (view : B → A) (f : A → A) (xs : List B) (zs : List A) (n : ℕ)
+    (old new : B) → n < length xs → old ≡ slice_index_or xs n old → view new ≡ f (view old)
     → map view xs ≡ turned f n zs → map view (slice_set xs n new) ≡ turned f (suc n) zs
 turned_at view f [] zs n old new h e same so_far = absurd (omega arith)
 turned_at view f (x ∷ xs) zs zero old new h e same so_far =
@@ -34,6 +36,7 @@ turned_at view f (x ∷ xs) (z ∷ zs) (suc n) old new h e same so_far =
     λ i. head i ∷ rest i
 
 -- one more
-pub one_more_turned : {A B : Type 0} (view : B → A) (f : A → A) (xs : List B) (zs : List A) (n : ℕ) (old new : B) → n < length xs → old ≡ slice_index_or xs n old → view new ≡ f (view old)
+pub one_more_turned : {A B : Type 0} (view : B → A) (f : A → A) (xs : List B) (zs : List A) (n : ℕ)
+    (old new : B) → n < length xs → old ≡ slice_index_or xs n old → view new ≡ f (view old)
     → map view xs ≡ turned f n zs → map view (slice_set xs n new) ≡ turned f (n + 1) zs
 one_more_turned view f xs zs n old new h e same so_far = turned_at view f xs zs n old new h e same so_far ∙ ap (λ k. turned f k zs) (sym (add-one n))

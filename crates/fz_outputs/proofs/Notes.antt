@@ -10,11 +10,14 @@ use Rattle.fz_syntax.specs.View.{bare_note, bare_notes, bare_base, bare_arg, arg
 use Rattle.fz_meaning.specs.View.{located_decl, located_name, located_value}
 use Rattle.fz_outputs.specs.Outputs.{output_var, is_unprinted, printed_decl}
 
-pub unfolds : (n : Note) → bare_note n ≡ tree.Called n.name.text.now (arg_list (map bare_arg n.args.items))
+pub unfolds : (n : Note) → bare_note n
+    ≡ tree.Called n.name.text.now (arg_list (map bare_arg n.args.items))
 unfolds n = fold_out-Note tree.NoteArg tree.NoteBasic tree.Note bare_arg_layer bare_basic_layer bare_note_layer n
 
 -- the declaration with one more annotation, which is output_var
-pub noted : (d : the_decl.Decl) (notes : Vec Note) (n : Note) → notes.items ≡ d.notes.items ++ n ∷ [] → n.name.text.now ≡ codes "output_var" → n.args.items ≡ []
+pub noted : (d : the_decl.Decl) (notes : Vec Note) (n : Note)
+    → notes.items ≡ d.notes.items ++ n ∷ [] → n.name.text.now ≡ codes "output_var"
+    → n.args.items ≡ []
     → is_unprinted (located_decl d) ≡ true
     → located_decl (record { is_var = d.is_var; length = d.length; base = d.base; name = d.name; notes = notes; value = d.value }) ≡ printed_decl (located_decl d)
 noted d notes n longer name none lacks =

@@ -1,4 +1,5 @@
--- The model of a tree is that of the tree that asks for every scalar variable: no name, value or number rests on a declaration's annotations.
+-- The model of a tree is that of the tree that asks for every scalar variable: no name, value or
+-- number rests on a declaration's annotations.
 use Rattle.std.proofs.Common.{◌≡◌, ℕ, Bool, true, false, cond, List, [], ◌∷◌, map, Option, Some, None, option_map, refl, ap, ◌∙◌, bytes_eq, codes, find, not, ◌+◌, ◌||◌, pos}
 use Rattle.std.specs.List.{list_any, filter, position_or_len, prefix_len}
 use Rattle.std.specs.Option.{option_map_or}
@@ -30,7 +31,8 @@ pub declared_still : (ds : List Decl) (x : List ℕ) → declares (printed ds) x
 declared_still [] x = refl
 declared_still (d ∷ ds) x = ap (λ b. named_as x d || b) (declared_still ds x)
 
-pub found_still : (ds : List Decl) (x : List ℕ) → declaration (printed ds) x ≡ option_map printed_decl (declaration ds x)
+pub found_still : (ds : List Decl) (x : List ℕ)
+    → declaration (printed ds) x ≡ option_map printed_decl (declaration ds x)
 found_still [] x = refl
 found_still (d ∷ ds) x = elim (named_as x d) as (λ b. cond b (Some (printed_decl d)) (declaration (printed ds) x) ≡ option_map printed_decl (cond b (Some d) (declaration ds x))) [
   | true ↦ refl
@@ -44,25 +46,30 @@ variables_still (d ∷ ds) = elim (is_scalar_variable d) as (λ b. cond b (print
   | false ↦ variables_still ds
 ]
 
-placed_still : (ds : List Decl) (x : List ℕ) → position_or_len (named_as x) (printed ds) ≡ position_or_len (named_as x) ds
+placed_still : (ds : List Decl) (x : List ℕ)
+    → position_or_len (named_as x) (printed ds) ≡ position_or_len (named_as x) ds
 placed_still [] x = refl
 placed_still (d ∷ ds) x = ap (λ n. cond (not (named_as x d)) (1 + n) 0) (placed_still ds x)
 
 numbered_still : (ds : List Decl) (x : List ℕ) → number_of (printed ds) x ≡ number_of ds x
 numbered_still ds x = ap (position_or_len (named_as x)) (variables_still ds) ∙ placed_still (scalar_variables ds) x
 
-variable_still : (ds : List Decl) (x : List ℕ) → scalar_variable_number (printed ds) x ≡ scalar_variable_number ds x
+variable_still : (ds : List Decl) (x : List ℕ)
+    → scalar_variable_number (printed ds) x ≡ scalar_variable_number ds x
 variable_still ds x =
     let is : declares (scalar_variables (printed ds)) x ≡ declares (scalar_variables ds) x = ap (λ vs. declares vs x) (variables_still ds) ∙ declared_still (scalar_variables ds) x in
     λ i. cond (is i) (Some (numbered_still ds x i)) None
 
 -- ---- what a name and a part stand for
 
-found_as : {A : Type 0} (g f : Decl → A) → ((d : Decl) → g (printed_decl d) ≡ f d) → (o : Option Decl) (otherwise : A) → option_map_or g (option_map printed_decl o) otherwise ≡ option_map_or f o otherwise
+found_as : {A : Type 0} (g f : Decl → A) → ((d : Decl) → g (printed_decl d) ≡ f d)
+    → (o : Option Decl) (otherwise : A)
+    → option_map_or g (option_map printed_decl o) otherwise ≡ option_map_or f o otherwise
 found_as g f same None otherwise = refl
 found_as g f same (Some d) otherwise = same d
 
-scalar_still : (ds : List Decl) (d : Decl) → scalar_term (printed ds) (printed_decl d) ≡ scalar_term ds d
+scalar_still : (ds : List Decl) (d : Decl)
+    → scalar_term (printed ds) (printed_decl d) ≡ scalar_term ds d
 scalar_still ds d = ap (λ n. cond d.is_var (Var n) (Fixed (literal_of d.value))) (numbered_still ds d.name.text)
 
 term_still : (ds : List Decl) (b : Basic) → term_of (printed ds) b ≡ term_of ds b
@@ -71,10 +78,12 @@ term_still ds (Named x) =
     ap (λ o. option_map_or (scalar_term (printed ds)) o (Fixed (Int (pos 0)))) (found_still ds x.text)
     ∙ found_as (scalar_term (printed ds)) (scalar_term ds) (scalar_still ds) (declaration ds x.text) (Fixed (Int (pos 0)))
 
-terms_still : (ds : List Decl) (bs : List Basic) → map (term_of (printed ds)) bs ≡ map (term_of ds) bs
+terms_still : (ds : List Decl) (bs : List Basic)
+    → map (term_of (printed ds)) bs ≡ map (term_of ds) bs
 terms_still ds bs = λ i. map (λ b. term_still ds b i) bs
 
-place_declared_still : (ds : List Decl) (d : Decl) → place_of_declared (printed ds) (printed_decl d) ≡ place_of_declared ds d
+place_declared_still : (ds : List Decl) (d : Decl)
+    → place_of_declared (printed ds) (printed_decl d) ≡ place_of_declared ds d
 place_declared_still ds d = λ i.
     cond (is_scalar d) (Scalar (kind_of_base d.base) (scalar_still ds d i)) (Array d.name.text (kind_of_base d.base) (terms_still ds (parts d.value) i))
 
@@ -86,12 +95,14 @@ place_still ds (Named x) =
 
 -- ---- items
 
-definition_still : (ds : List Decl) (v : Option Expr) → definition_of (printed ds) v ≡ definition_of ds v
+definition_still : (ds : List Decl) (v : Option Expr)
+    → definition_of (printed ds) v ≡ definition_of ds v
 definition_still ds None = refl
 definition_still ds (Some (One b)) = ap Some (term_still ds b)
 definition_still ds (Some (Several bs)) = refl
 
-item_still : (ds : List Decl) (d : Decl) → declared_of (printed ds) (printed_decl d) ≡ declared_of ds d
+item_still : (ds : List Decl) (d : Decl)
+    → declared_of (printed ds) (printed_decl d) ≡ declared_of ds d
 item_still ds d = λ i.
     cond d.is_var
     (cond (is_scalar d)
@@ -99,7 +110,8 @@ item_still ds d = λ i.
     (ArrayOfVariables d.name.text (kind_of_base d.base) (domain_of d.base) (terms_still ds (parts d.value) i)))
     (Parameter d.name.text (place_declared_still ds d i))
 
-items_still : (all ds : List Decl) → map (declared_of (printed all)) (printed ds) ≡ map (declared_of all) ds
+items_still : (all ds : List Decl)
+    → map (declared_of (printed all)) (printed ds) ≡ map (declared_of all) ds
 items_still all [] = refl
 items_still all (d ∷ ds) = λ i. item_still all d i ∷ items_still all ds i
 

@@ -1,5 +1,5 @@
--- The tree that asks for every scalar variable to be printed (MiniZinc Handbook, FlatZinc, "Annotations": a solver prints the variables
--- that have the annotation output_var).
+-- The tree that asks for every scalar variable to be printed (MiniZinc Handbook, FlatZinc,
+-- "Annotations": a solver prints the variables that have the annotation output_var).
 use Rattle.std.specs.Prelude.{List, [], ◌∷◌, ◌++◌, map, Bool, false, not, ◌&&◌, cond, bytes_eq, codes}
 use Rattle.std.specs.List.{list_any}
 use Rattle.fz_syntax.specs.Tree as tree
@@ -32,4 +32,9 @@ printed_decl d = record {
 
 -- the tree in which each scalar variable has it
 abbrev pub with_all_printed : LocatedTree → LocatedTree
-with_all_printed t = record { predicates = t.predicates; decls = map printed_decl t.decls; constraints = t.constraints; solve = t.solve }
+with_all_printed t = record {
+  predicates = t.predicates;
+  decls = map printed_decl t.decls;
+  constraints = t.constraints;
+  solve = t.solve;
+}

@@ -64,7 +64,8 @@ fn print_decl(alloc: Global, decl: &mut Decl<'_>) -> Result<(), AllocError>
 }
 
 fn print_decls(alloc: Global, decls: &mut [Decl<'_>]) -> Result<(), AllocError>
-    ensures { OnOk result (map located_decl decls.new ≡ map printed_decl (map located_decl decls.old)) }
+    ensures { OnOk result (map located_decl decls.new
+        ≡ map printed_decl (map located_decl decls.old)) }
 {
     for decl in decls.iter_mut() {
         print_decl(alloc, decl)?;
@@ -76,7 +77,7 @@ fn print_decls(alloc: Global, decls: &mut [Decl<'_>]) -> Result<(), AllocError>
 ///
 /// # Errors
 ///
-/// Want of memory.
+/// Out of memory.
 pub fn print_all(alloc: Global, ast: &mut Ast<'_>) -> Result<(), AllocError>
     ensures { OnOk result (located ast.new ≡ with_all_printed (located ast.old)) }
 {

@@ -1,4 +1,5 @@
--- Lines and characters of a text (this project's profile: a line ends with LF, and characters are those of UTF-8).
+-- Lines and characters of a text (this project's profile: a line ends with LF, and characters are
+-- those of UTF-8).
 use Rattle.std.specs.Prelude.{ℕ, List, [], ◌∷◌, ◌++◌, length, Bool, cond, ◌==◌, ◌||◌, nat_lt}
 use Rattle.std.specs.List.{filter}
 

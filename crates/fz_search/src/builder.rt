@@ -173,7 +173,7 @@ impl Builder {
         }))
     }
 
-    /// What the truth value of a row says of it, if anything.
+    /// What the Boolean of a row says of it, if anything.
     fn add_truth(&mut self, truth: Scalar<'_>, form: Form) -> Result<Option<Claim>, AllocError> {
         match truth {
             Scalar::Variable(number) => {

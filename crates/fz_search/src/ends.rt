@@ -1,4 +1,4 @@
-//! Bounds of variables. A truth value is 0 or 1 there.
+//! Bounds of variables. A Boolean is 0 or 1 there.
 
 use fz_base::{IntSet, Value};
 use fz_model::{Domain, Kind};
@@ -80,7 +80,7 @@ pub(crate) fn number_of(value: &Value) -> Option<i64> {
     }
 }
 
-/// The value that is read as a number: a whole number where no truth value is asked for.
+/// The value that is read as a number: an integer where no Boolean is asked for.
 pub(crate) fn value_of(kind: Kind, number: i64) -> Value {
     match kind {
         Kind::Bool => Value::Bool(number != 0),

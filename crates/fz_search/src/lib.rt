@@ -1,4 +1,4 @@
-//! Values that a solver left out are looked for. The inner crate below `fz_judge`.
+//! Values that a solver left out are looked for. An internal crate of `fz_judge`.
 #![tactic(auto)]
 
 mod agenda;

@@ -1,4 +1,4 @@
-//! What linear rows leave: bounds of their variables, and truth values.
+//! What linear rows leave: bounds of their variables, and Booleans.
 
 use crate::ends::Ends;
 use crate::row::{Claim, Product, Relation, Row};
@@ -72,7 +72,7 @@ impl<'k, 'm, 'a> Work<'k, 'm, 'a> {
         }
     }
 
-    /// The truth value of a variable, where it has one.
+    /// The Boolean of a variable, where it has one.
     fn truth(&self, variable: usize) -> Option<bool> {
         if self.proposal.has(variable) {
             Some(self.proposal.values().truth(variable))

@@ -1,4 +1,4 @@
-//! Constraints as linear rows. A truth value is 0 or 1 there.
+//! Constraints as linear rows. A Boolean is 0 or 1 there.
 
 use crate::row::Relation;
 use fz_model::{Builtin, Form, Known};
@@ -23,7 +23,7 @@ pub(crate) enum Terms {
 }
 
 /// A linear row as its name tells it: its sum, what this is compared with, and the place of the
-/// truth value that tells whether it holds.
+/// Boolean that tells whether it holds.
 #[derive(Clone, Copy)]
 pub(crate) struct Shape {
     pub(crate) terms: Terms,
@@ -70,7 +70,7 @@ fn base_shape(builtin: Builtin) -> Option<Shape> {
     }
 }
 
-/// The linear row of a constraint, where it has one. The truth value of a form stands last.
+/// The linear row of a constraint, where it has one. The Boolean of a form stands last.
 pub(crate) fn shape_of(known: Known) -> Option<Shape> {
     let base = base_shape(known.builtin)?;
     match known.form {

@@ -35,17 +35,20 @@ module _ (h : Held) (body : List Line) (line : Line) (l : HasLine h body line) w
   text_is = ap (take h.line) l.bytes ∙ take_at (joined body) line h.line (sym l.place)
 
   -- the step that was taken is that of the line
-  pub step_is : (at : ℕ) (b : Option ℕ) (slice : List ℕ) (k : LineKind) (t s : Step) → b ≡ begun_of h.line h.before → slice ≡ h.buffer.items
+  pub step_is : (at : ℕ) (b : Option ℕ) (slice : List ℕ) (k : LineKind) (t s : Step)
+      → b ≡ begun_of h.line h.before → slice ≡ h.buffer.items
       → k ≡ kind_of (take (length slice - h.line) (drop h.line slice)) → t ≡ step_of b at k → t ≡ s → step_of (begun_of h.line h.before) at (kind_of line) ≡ s
   step_is at b slice k t s begun same kind step is =
       let kinds : k ≡ kind_of line = kind ∙ ap kind_of (ap (λ x. take (length x - h.line) (drop h.line x)) same ∙ line_is) in
       ap (λ o. step_of o at (kind_of line)) (sym begun) ∙ ap (step_of b at) (sym kinds) ∙ sym step ∙ is
 
   module _ (at : ℕ) where
-    pub goes_on_none : step_of (begun_of h.line h.before) at (kind_of line) ≡ GoesOn None → (new : Held) → new.buffer.items ≡ [] → new.line ≡ 0 → GoesOnHolding h new body line
+    pub goes_on_none : step_of (begun_of h.line h.before) at (kind_of line) ≡ GoesOn None
+        → (new : Held) → new.buffer.items ≡ [] → new.line ≡ 0 → GoesOnHolding h new body line
     goes_on_none s new empty zero = by (begun_of h.line h.before) refl s
       where
-        by : (o : Option ℕ) → begun_of h.line h.before ≡ o → step_of o at (kind_of line) ≡ GoesOn None → GoesOnHolding h new body line
+        by : (o : Option ℕ) → begun_of h.line h.before ≡ o
+            → step_of o at (kind_of line) ≡ GoesOn None → GoesOnHolding h new body line
         by (Some n) e s = absurd (let w = goes_some at n (kind_of line) None s in let no : None ≡ Some n = w.1 in cc)
         by None e s = inl (record {
           none = begun_none body h.line h.before l.whole l.place e;
@@ -54,13 +57,16 @@ module _ (h : Held) (body : List Line) (line : Line) (l : HasLine h body line) w
           line_is = zero;
         })
 
-    pub goes_on_some : (n : ℕ) → step_of (begun_of h.line h.before) at (kind_of line) ≡ GoesOn (Some n) → (new : Held) → new.buffer.items ≡ h.buffer.items → new.line ≡ length h.buffer.items → GoesOnHolding h new body line
+    pub goes_on_some : (n : ℕ) → step_of (begun_of h.line h.before) at (kind_of line)
+        ≡ GoesOn (Some n) → (new : Held) → new.buffer.items ≡ h.buffer.items
+        → new.line ≡ length h.buffer.items → GoesOnHolding h new body line
     goes_on_some n s new same all = by (begun_of h.line h.before) refl s
       where
         made : AreBlockLines (body ++ line ∷ []) → GoesOnHolding h new body line
         made own = inr (record { own = own; same = same; line_is = all })
 
-        by : (o : Option ℕ) → begun_of h.line h.before ≡ o → step_of o at (kind_of line) ≡ GoesOn (Some n) → GoesOnHolding h new body line
+        by : (o : Option ℕ) → begun_of h.line h.before ≡ o
+            → step_of o at (kind_of line) ≡ GoesOn (Some n) → GoesOnHolding h new body line
         by (Some m) e s =
             let w = begun_some body h.line h.before m l.place e in
             made (joins_body body line w.0.0 w.0.1 w.0.2 l.own (goes_some at m (kind_of line) (Some n) s).0)
@@ -70,7 +76,9 @@ module _ (h : Held) (body : List Line) (line : Line) (l : HasLine h body line) w
             made (opens_body body line none item)
 
     -- the line is a marker
-    pub ends_with_block : (start : ℕ) → step_of (begun_of h.line h.before) at (kind_of line) ≡ EndsBlock start → (items : List Printed) → IsBlockText (take h.line h.buffer.items) items → EndsPart h body line BlockEnded
+    pub ends_with_block : (start : ℕ) → step_of (begun_of h.line h.before) at (kind_of line)
+        ≡ EndsBlock start → (items : List Printed) → IsBlockText (take h.line h.buffer.items) items
+        → EndsPart h body line BlockEnded
     ends_with_block start s items t = record {
       part = BlockPart (record { offset = h.before; text = take h.line h.buffer.items; items = items });
       is = (refl, refl);
@@ -89,7 +97,8 @@ module _ (h : Held) (body : List Line) (line : Line) (l : HasLine h body line) w
     }
 
     -- the line is a claim
-    pub ends_with_claim : (c : ClaimKind) → step_of (begun_of h.line h.before) at (kind_of line) ≡ Claims c → EndsPart h body line (ClaimEnded c)
+    pub ends_with_claim : (c : ClaimKind) → step_of (begun_of h.line h.before) at (kind_of line)
+        ≡ Claims c → EndsPart h body line (ClaimEnded c)
     ends_with_claim c s =
         let k = claims_claim at (kind_of line) (begun_of h.line h.before) c s in
         let none : body ≡ [] = begun_none body h.line h.before l.whole l.place k.1 in
@@ -103,7 +112,9 @@ module _ (h : Held) (body : List Line) (line : Line) (l : HasLine h body line) w
     none_apart i j d l m e = omega (arith, m)
 
     -- the text before a marker is none of a block
-    pub breaks_block : (start : ℕ) → step_of (begun_of h.line h.before) at (kind_of line) ≡ EndsBlock start → ((items : List Printed) → IsBlockText (take h.line h.buffer.items) items → ⊥)
+    pub breaks_block : (start : ℕ) → step_of (begun_of h.line h.before) at (kind_of line)
+        ≡ EndsBlock start → ((items : List Printed) → IsBlockText (take h.line h.buffer.items) items
+        → ⊥)
         → (e : StreamError) → TellsOfText h.before (take h.line h.buffer.items) e → BreaksBlock h.before body line e
     breaks_block start s none fault told = by body refl
       where
@@ -117,7 +128,9 @@ module _ (h : Held) (body : List Line) (line : Line) (l : HasLine h body line) w
         }
 
     -- a claim stands in an open block
-    pub breaks_claim_in : (n : ℕ) → step_of (begun_of h.line h.before) at (kind_of line) ≡ Breaks n → (span : Span) → span.start ≡ n → span.end ≡ h.before + h.line → BreaksBlock h.before body line (Unfinished span)
+    pub breaks_claim_in : (n : ℕ) → step_of (begun_of h.line h.before) at (kind_of line) ≡ Breaks n
+        → (span : Span) → span.start ≡ n → span.end ≡ h.before + h.line
+        → BreaksBlock h.before body line (Unfinished span)
     breaks_claim_in n s span from upto =
         let k = breaks_claim at (kind_of line) (begun_of h.line h.before) n s in
         let w = begun_some body h.line h.before n l.place k.1 in
@@ -128,6 +141,7 @@ module _ (h : Held) (body : List Line) (line : Line) (l : HasLine h body line) w
         }
 
 -- what ended stands beside whatever items are kept
-pub beside_kept : (h : Held) (kept : Option KeptItems) (body : List Line) (line : Line) (ended : Ended) → EndsPart h body line ended
+pub beside_kept : (h : Held) (kept : Option KeptItems) (body : List Line) (line : Line)
+    (ended : Ended) → EndsPart h body line ended
     → EndsPart (record { buffer = h.buffer; line = h.line; before = h.before; kept = kept }) body line ended
 beside_kept h kept body line ended e = record { part = e.part; is = e.is; lines = e.lines }

@@ -57,7 +57,8 @@ placed_more n m (TooMany span) l h = (h.0, omega (arith, h.1, l))
 placed_more n m TextMemory l h = tt
 
 -- a place in a text is one in the stream
-pub placed_fault : (offset n : ℕ) (e : SyntaxError) → IsPlacedWithin n e → IsFaultWithin (offset + n) (item_fault offset e)
+pub placed_fault : (offset n : ℕ) (e : SyntaxError) → IsPlacedWithin n e
+    → IsFaultWithin (offset + n) (item_fault offset e)
 placed_fault offset n TextTooLong h = tt
 placed_fault offset n (BadByte span) h = (omega (arith, h.0), omega (arith, h.1))
 placed_fault offset n (TooLarge span) h = (omega (arith, h.0), omega (arith, h.1))
@@ -67,7 +68,8 @@ placed_fault offset n (TooDeep span) h = (omega (arith, h.0), omega (arith, h.1)
 placed_fault offset n (TooMany span) h = (omega (arith, h.0), omega (arith, h.1))
 placed_fault offset n TextMemory h = tt
 
-fault_of_text : (text : List ℕ) (e : SyntaxError) → ((items : List Plain) → IsTextOfItems text items → ⊥) → IsRefusalOf text e → e ≢ TextMemory → e ≢ TextTooLong → IsPlacedWithin (length text) e
+fault_of_text : (text : List ℕ) (e : SyntaxError) → ((items : List Plain) → IsTextOfItems text items
+    → ⊥) → IsRefusalOf text e → e ≢ TextMemory → e ≢ TextTooLong → IsPlacedWithin (length text) e
     → IsFaultOfText text e
 fault_of_text text e none order memory long place = record { no_items = none; order = order; kind = (memory, long); place = place }
 
@@ -85,7 +87,8 @@ tells_text offset text (TooMany span) short only order h = (TooMany span, fault_
 tells_text offset text TextMemory short only order h = tt
 
 -- what it tells where a marker stands behind the text
-pub tells_before_marker : (offset : ℕ) (text : List ℕ) (behind : Option LineKind) (e : StreamError) → behind ≡ Some Marker → TellsOfText offset text e → TellsOf offset text behind e
+pub tells_before_marker : (offset : ℕ) (text : List ℕ) (behind : Option LineKind) (e : StreamError)
+    → behind ≡ Some Marker → TellsOfText offset text e → TellsOf offset text behind e
 tells_before_marker offset text behind TooLong marker h = h
 tells_before_marker offset text behind (Item f) marker h = (marker, h)
 tells_before_marker offset text behind (DuplicateName span) marker h = (marker, h)
@@ -94,7 +97,8 @@ tells_before_marker offset text behind Memory marker h = tt
 tells_before_marker offset text behind Failed marker h = h
 
 -- what a text is refused as is a fault of a block, where the text isn't too long
-pub block_fault : (offset : ℕ) (e : SyntaxError) → e ≢ TextTooLong → IsBlockFault (item_fault offset e)
+pub block_fault : (offset : ℕ) (e : SyntaxError) → e ≢ TextTooLong
+    → IsBlockFault (item_fault offset e)
 block_fault offset TextTooLong short = absurd (short (let same : TextTooLong ≡ TextTooLong = cc in same))
 block_fault offset (BadByte span) short = ((λ q. let no : BadByte _ ≡ TextMemory = q in cc), (λ q. let no : BadByte _ ≡ TextTooLong = q in cc))
 block_fault offset (TooLarge span) short = ((λ q. let no : TooLarge _ ≡ TextMemory = q in cc), (λ q. let no : TooLarge _ ≡ TextTooLong = q in cc))
@@ -104,7 +108,7 @@ block_fault offset (TooDeep span) short = ((λ q. let no : TooDeep _ ≡ TextMem
 block_fault offset (TooMany span) short = ((λ q. let no : TooMany _ ≡ TextMemory = q in cc), (λ q. let no : TooMany _ ≡ TextTooLong = q in cc))
 block_fault offset TextMemory short = tt
 
--- what isn't want of memory is refused only where there is no value
+-- what is refused while memory is left, is refused only where there is no value
 pub no_value : (offset : ℕ) (e : SyntaxError) (value : List Plain) → item_fault offset e ≢ Memory → IsValue {X = Vec Printed Global} (λ given. bare_items given.items) (Err e) value → ⊥
 no_value offset TextTooLong value known h = h
 no_value offset (BadByte span) value known h = h

@@ -20,32 +20,41 @@ made_state held ended stage = record {
   stage = stage;
 }
 
-waits_for : (ended : Ended) (offset : ℕ) (text : List ℕ) (front : List StreamPart) (part : StreamPart) → EndedAs ended offset text part → WaitsForLast (waiting_of (Some ended) offset text) (front ++ part ∷ [])
+waits_for : (ended : Ended) (offset : ℕ) (text : List ℕ) (front : List StreamPart)
+    (part : StreamPart) → EndedAs ended offset text part
+    → WaitsForLast (waiting_of (Some ended) offset text) (front ++ part ∷ [])
 waits_for BlockEnded offset text front (BlockPart block) is = (front, BlockPart block, refl, (sym is.0, sym is.1))
 waits_for BlockEnded offset text front (ClaimPart kind) is = absurd is
 waits_for (ClaimEnded kind) offset text front (BlockPart block) is = absurd is
 waits_for (ClaimEnded kind) offset text front (ClaimPart other) is = (front, ClaimPart other, refl, is)
 
-waits_for_more : (ended : Ended) (offset : ℕ) (text : List ℕ) (part : StreamPart) → EndedAs ended offset text part → WaitsForMore (waiting_of (Some ended) offset text) (part ∷ [])
+waits_for_more : (ended : Ended) (offset : ℕ) (text : List ℕ) (part : StreamPart)
+    → EndedAs ended offset text part
+    → WaitsForMore (waiting_of (Some ended) offset text) (part ∷ [])
 waits_for_more BlockEnded offset text (BlockPart block) is = (sym is.0, sym is.1)
 waits_for_more BlockEnded offset text (ClaimPart kind) is = absurd is
 waits_for_more (ClaimEnded kind) offset text (BlockPart block) is = absurd is
 waits_for_more (ClaimEnded kind) offset text (ClaimPart other) is = is
 
-some_waits : (ended : Ended) (offset : ℕ) (text : List ℕ) → IsSome (waiting_of (Some ended) offset text)
+some_waits : (ended : Ended) (offset : ℕ) (text : List ℕ)
+    → IsSome (waiting_of (Some ended) offset text)
 some_waits BlockEnded offset text = refl
 some_waits (ClaimEnded kind) offset text = refl
 
-held_now : {h : Held} {bytes : List ℕ} {parts : List StreamPart} → IsHeld h → Keeps bytes parts h.buffer.items → Holds bytes parts h.buffer.items
+held_now : {h : Held} {bytes : List ℕ} {parts : List StreamPart} → IsHeld h
+    → Keeps bytes parts h.buffer.items → Holds bytes parts h.buffer.items
 held_now {h} {bytes} {parts} i k = holds_current bytes parts h.buffer.items k i.body i.lines.whole i.lines.own i.current i.lines.bytes i.begun
 
 -- what fits a state is kept by what stands for it
-pub kept_by : (s : SplitterState) (old : Held) → old.buffer.items ≡ s.held → (bytes : List ℕ) (parts : List StreamPart) → Fits s bytes parts → Keeps bytes parts old.buffer.items
+pub kept_by : (s : SplitterState) (old : Held) → old.buffer.items ≡ s.held
+    → (bytes : List ℕ) (parts : List StreamPart) → Fits s bytes parts
+    → Keeps bytes parts old.buffer.items
 kept_by s old held bytes parts f = keeps_held bytes parts old.buffer.items (subst (Holds bytes parts) (sym held) f.holds)
 
 module _ (s : SplitterState) (old new : Held) (piece : List ℕ) (n : ℕ) (stage : Stage) (running : stage ≡ Running) (within : n ≤ length piece)
     (held : old.buffer.items ≡ s.held) (taken : old.before + length old.buffer.items ≡ s.taken) (count : new.before + length new.buffer.items ≡ old.before + length old.buffer.items + n) where
-  kept : (bytes : List ℕ) (parts : List StreamPart) → Fits s bytes parts → Keeps bytes parts old.buffer.items
+  kept : (bytes : List ℕ) (parts : List StreamPart) → Fits s bytes parts
+      → Keeps bytes parts old.buffer.items
   kept = kept_by s old held
 
   pub fed : (ended : Option Ended) → (ended ≡ None → KeepsAll old new piece n)
@@ -79,12 +88,14 @@ module _ (s : SplitterState) (old new : Held) (piece : List ℕ) (n : ℕ) (stag
       })
 
 -- no more is held than the buffer has
-pub short_held : (ended : Option Ended) (bytes : List ℕ) (n : ℕ) → length bytes ≤ n → length (held_while ended bytes) ≤ n
+pub short_held : (ended : Option Ended) (bytes : List ℕ) (n : ℕ) → length bytes ≤ n
+    → length (held_while ended bytes) ≤ n
 short_held None bytes n h = h
 short_held (Some ended) bytes n h = omega arith
 
 -- what `finish` promises
-pub ended_with : (s : SplitterState) (old new : Held) (stage : Stage) → old.buffer.items ≡ s.held → old.before + length old.buffer.items ≡ s.taken → (ended : Option Ended)
+pub ended_with : (s : SplitterState) (old new : Held) (stage : Stage) → old.buffer.items ≡ s.held
+    → old.before + length old.buffer.items ≡ s.taken → (ended : Option Ended)
     → ((bytes : List ℕ) (parts : List StreamPart) → Keeps bytes parts old.buffer.items → old.before + length old.buffer.items ≡ length bytes → EndsStream new bytes parts ended)
     → (bytes : List ℕ) (parts : List StreamPart) → Fits s bytes parts → (more : List StreamPart) × EndsWith (made_state new ended stage) bytes parts more
 ended_with s old new stage held taken None ends bytes parts f =
@@ -94,7 +105,8 @@ ended_with s old new stage held taken (Some e) ends bytes parts f =
     (t.0 ∷ [], record { text = t.2; waits = waits_for_more e _ _ t.0 t.1 })
 
 -- what a splitter that has taken nothing fits
-pub fits_nothing : (s : SplitterState) → s.stage ≡ Running → s.taken ≡ 0 → s.held ≡ [] → s.waits ≡ None → Fits s [] []
+pub fits_nothing : (s : SplitterState) → s.stage ≡ Running → s.taken ≡ 0 → s.held ≡ []
+    → s.waits ≡ None → Fits s [] []
 fits_nothing s running taken held waits = record {
   running = running;
   taken = taken;

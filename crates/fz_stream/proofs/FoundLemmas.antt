@@ -7,20 +7,25 @@ use Rattle.fz_stream.specs.Parts.{SolutionBlock, StreamPart, BlockPart, ClaimPar
 use Rattle.fz_stream.specs.Found.{blocks_in, claims_in, IsReadAs, AreInOrder, StandsBeforeMarker}
 use Rattle.fz_stream.proofs.PartLemmas.{joined-append}
 
-in_order_from : (least more most : ℕ) (claims : List Claim) → least ≤ more → AreInOrder more most claims → AreInOrder least most claims
+in_order_from : (least more most : ℕ) (claims : List Claim) → least ≤ more
+    → AreInOrder more most claims → AreInOrder least most claims
 in_order_from least more most [] l h = tt
 in_order_from least more most (claim ∷ claims) l h = (omega (arith, l, h.0), h.1, h.2)
 
-claims_in_order : (n most : ℕ) (parts : List StreamPart) → n + length (blocks_in parts) ≤ most → AreInOrder n most (claims_in n parts)
+claims_in_order : (n most : ℕ) (parts : List StreamPart) → n + length (blocks_in parts) ≤ most
+    → AreInOrder n most (claims_in n parts)
 claims_in_order n most [] h = tt
 claims_in_order n most (BlockPart block ∷ parts) h = in_order_from n (n + 1) most (claims_in (n + 1) parts) (omega arith) (claims_in_order (n + 1) most parts (omega (arith, h)))
 claims_in_order n most (ClaimPart kind ∷ parts) h = (omega arith, omega (arith, h), claims_in_order n most parts h)
 
 -- the claims of a stream that was read don't fall
-pub read_in_order : (bytes : List ℕ) (blocks : List SolutionBlock) (claims : List Claim) (most : ℕ) → IsReadAs bytes blocks claims → length blocks ≤ most → AreInOrder 0 most claims
+pub read_in_order : (bytes : List ℕ) (blocks : List SolutionBlock) (claims : List Claim) (most : ℕ)
+    → IsReadAs bytes blocks claims → length blocks ≤ most → AreInOrder 0 most claims
 read_in_order bytes blocks claims most r h = subst (AreInOrder 0 most) (sym r.claims_are) (claims_in_order 0 most r.parts (omega (arith, h, ap length r.blocks_are)))
 
-stand_before : (bytes : List ℕ) (before covered rest : List Line) (start : ℕ) (parts : List StreamPart) → lines_of bytes ≡ before ++ (covered ++ rest) → start ≡ length (joined before)
+stand_before : (bytes : List ℕ) (before covered rest : List Line) (start : ℕ)
+    (parts : List StreamPart) → lines_of bytes ≡ before ++ (covered ++ rest)
+    → start ≡ length (joined before)
     → AreLinesOf start covered parts → AllByRecursion (StandsBeforeMarker bytes) (blocks_in parts)
 stand_before bytes before covered rest start [] e s h = tt
 stand_before bytes before covered rest start (ClaimPart kind ∷ parts) e s h =
@@ -49,6 +54,7 @@ stand_before bytes before covered rest start (BlockPart block ∷ parts) e s h =
     )
 
 -- each block of a stream that was read stands before a marker line
-pub read_before_markers : (bytes : List ℕ) (blocks : List SolutionBlock) (claims : List Claim) → IsReadAs bytes blocks claims → AllByRecursion (StandsBeforeMarker bytes) blocks
+pub read_before_markers : (bytes : List ℕ) (blocks : List SolutionBlock) (claims : List Claim)
+    → IsReadAs bytes blocks claims → AllByRecursion (StandsBeforeMarker bytes) blocks
 read_before_markers bytes blocks claims r =
     subst (AllByRecursion (StandsBeforeMarker bytes)) (sym r.blocks_are) (stand_before bytes [] r.text.covers.covered r.text.rest 0 r.parts r.text.covers.whole refl r.text.covers.of_parts)

@@ -13,7 +13,8 @@ use Rattle.fz_stream.proofs.PlaceLemmas.{stand_before, stand_behind}
 
 module _ (text : List ℕ) (upto : ℕ) where
   -- an item's name is the text at its place
-  pub same_items : (from : ℕ) (items : List Printed) → Stand text from upto (item_spots items) → map (bare_kept text) (map kept_of items) ≡ bare_items items
+  pub same_items : (from : ℕ) (items : List Printed) → Stand text from upto (item_spots items)
+      → map (bare_kept text) (map kept_of items) ≡ bare_items items
   same_items from [] h = refl
   same_items from (p ∷ items) h =
       let name : p.name.text.now ≡ slice_range text p.name.span.start p.name.span.end = h.2 in
@@ -25,7 +26,8 @@ module _ (text : List ℕ) (upto : ℕ) where
       record_of : List ℕ → Printed → tree.Printed
       record_of n p = record { name = n; value = bare_printed_value p.value }
 
-  pub same_spots : (from : ℕ) (items : List Printed) → Stand text from upto (item_spots items) → flat_map (kept_spots text) (map kept_of items) ≡ item_spots items
+  pub same_spots : (from : ℕ) (items : List Printed) → Stand text from upto (item_spots items)
+      → flat_map (kept_spots text) (map kept_of items) ≡ item_spots items
   same_spots from [] h = refl
   same_spots from (p ∷ items) h =
       let name : p.name.text.now ≡ slice_range text p.name.span.start p.name.span.end = h.2 in
@@ -38,7 +40,9 @@ module _ (text : List ℕ) (upto : ℕ) where
       spot_of n p = record { start = p.name.span.start; end = p.name.span.end; text = Some n }
 
   -- the place of each name lies in the text
-  pub placed_kept : (from : ℕ) (kept : List KeptItem) (k : ℕ) (d : KeptItem) → k < length kept → Stand text from upto (flat_map (kept_spots text) kept) → IsSpanWithin upto (get_or kept k d).name
+  pub placed_kept : (from : ℕ) (kept : List KeptItem) (k : ℕ) (d : KeptItem) → k < length kept
+      → Stand text from upto (flat_map (kept_spots text) kept)
+      → IsSpanWithin upto (get_or kept k d).name
   placed_kept from [] k d l h = absurd (omega (arith, l))
   placed_kept from (x ∷ kept) zero d l h =
       let here : x.name.start < x.name.end = h.1 in
@@ -48,14 +52,16 @@ module _ (text : List ℕ) (upto : ℕ) where
       placed_kept w.0 kept k d (omega arith) w.1
 
   -- the place of the name that comes next, behind the items before it
-  pub placed_next : (items : List Printed) (x : KeptItem) (more all : List KeptItem) → item_spots items ++ flat_map (kept_spots text) (x ∷ more) ≡ flat_map (kept_spots text) all
+  pub placed_next : (items : List Printed) (x : KeptItem) (more all : List KeptItem)
+      → item_spots items ++ flat_map (kept_spots text) (x ∷ more) ≡ flat_map (kept_spots text) all
       → Stand text 0 upto (flat_map (kept_spots text) all) → IsSpanWithin upto x.name
   placed_next items x more all e h =
       let w = stand_behind text upto 0 (item_spots items) (flat_map (kept_spots text) (x ∷ more)) (subst (Stand text 0 upto) (sym e) h) in
       placed_kept w.0 (x ∷ more) zero x (omega arith) w.1
 
 -- what is kept of a block's items
-pub are_kept : (text : List ℕ) (items : List Printed) (kept : List KeptItem) → kept ≡ map kept_of items → IsBlockText text (bare_items items)
+pub are_kept : (text : List ℕ) (items : List Printed) (kept : List KeptItem)
+    → kept ≡ map kept_of items → IsBlockText text (bare_items items)
     → ((others : List tree.Printed) → IsBlockText text others → others ≡ bare_items items) → Stand text 0 (length text) (item_spots items) → AreKept text kept
 are_kept text items kept is block only stand =
     let same : map (bare_kept text) kept ≡ bare_items items = ap (map (bare_kept text)) is ∙ same_items text (length text) 0 items stand in

@@ -15,7 +15,8 @@ use Rattle.fz_stream.proofs.PartLemmas.{every_append, joined-append, joined_one,
 use Rattle.fz_stream.proofs.SplitLemmas.{lines_after, lines_of-begun, no_end}
 
 -- the current line isn't empty
-pub some_current : (h : Held) (i : IsHeld h) → h.line < length h.buffer.items → (first : ℕ) × (rest : List ℕ) × (i.current ≡ first ∷ rest)
+pub some_current : (h : Held) (i : IsHeld h) → h.line < length h.buffer.items
+    → (first : ℕ) × (rest : List ℕ) × (i.current ≡ first ∷ rest)
 some_current h i l = by i.current (omega (arith, l, i.lines.place, ap length i.lines.bytes, length-append (joined i.body) i.current))
   where
     by : (c : List ℕ) → 0 < length c → (first : ℕ) × (rest : List ℕ) × (c ≡ first ∷ rest)
@@ -33,12 +34,14 @@ no_current h i e = by i.current (omega (arith, e, i.lines.place, ap length i.lin
 abbrev IsOpenAt : ℕ → List Line → Type 0
 IsOpenAt n body = (n ≡ 0 → body ≡ []) × (n ≢ 0 → body ≢ [])
 
-filled : (l : Line) (lines : List Line) → AreBlockLines (l ∷ lines) → 0 < length (joined (l ∷ lines))
+filled : (l : Line) (lines : List Line) → AreBlockLines (l ∷ lines)
+    → 0 < length (joined (l ∷ lines))
 unfolding kind_of
 filled [] lines own = absurd (let no : Blank ≡ Item = own.0 in cc)
 filled (x ∷ l) lines own = omega arith
 
-open_at : (body : List Line) (n : ℕ) → n ≡ length (joined body) → AreBlockLines body → IsOpenAt n body
+open_at : (body : List Line) (n : ℕ) → n ≡ length (joined body) → AreBlockLines body
+    → IsOpenAt n body
 open_at [] n e own = ((λ z. refl), (λ z. absurd (z e)))
 open_at (l ∷ body) n e own =
     let some = filled l body own in
@@ -49,7 +52,8 @@ module _ (bytes : List ℕ) (parts : List StreamPart) (h : Held) (i : IsHeld h) 
   place : h.before ≡ length (joined k.covered) + length (joined k.gap)
   place = omega (arith, all, ap length k.whole, length-append (joined k.covered) (joined k.gap ++ h.buffer.items), length-append (joined k.gap) h.buffer.items)
 
-  abbrev stands_with : (rest : List Line) → lines_of i.current ≡ rest → GoesOnAfter bytes parts k.gap i.body rest
+  abbrev stands_with : (rest : List Line) → lines_of i.current ≡ rest
+      → GoesOnAfter bytes parts k.gap i.body rest
   stands_with rest e = record {
     covers = record {
       covered = k.covered;
@@ -84,7 +88,9 @@ module _ (bytes : List ℕ) (parts : List StreamPart) (h : Held) (i : IsHeld h) 
     stands = stands_with (i.current ∷ []) last_is
 
     -- the last line ends nothing
-    pub ends_open : (new : Held) → new.before + length new.buffer.items ≡ h.before + length h.buffer.items → GoesOnHolding h new i.body i.current → EndsOpen new bytes parts
+    pub ends_open : (new : Held) → new.before + length new.buffer.items
+        ≡ h.before + length h.buffer.items → GoesOnHolding h new i.body i.current
+        → EndsOpen new bytes parts
     ends_open new count g = ⊎_elim dropped joined_to g
       where
         dropped : DropsLine new i.body i.current → EndsOpen new bytes parts
@@ -130,7 +136,9 @@ module _ (bytes : List ℕ) (parts : List StreamPart) (h : Held) (i : IsHeld h) 
             nothing (x ∷ b) e = (let no : x ∷ (b ++ i.current ∷ []) ≡ [] = e in cc)
 
     -- the last line ends a part
-    pub ends_stream : (new : Held) (ended : Ended) → new.before + length new.buffer.items ≡ h.before + length h.buffer.items → new.buffer.items ≡ h.buffer.items → EndsPart new i.body i.current ended
+    pub ends_stream : (new : Held) (ended : Ended) → new.before + length new.buffer.items
+        ≡ h.before + length h.buffer.items → new.buffer.items ≡ h.buffer.items
+        → EndsPart new i.body i.current ended
         → EndsStream new bytes parts (Some ended)
     ends_stream new ended count same e =
         let place' : length (joined k.covered) + length (joined k.gap) ≡ new.before =
@@ -152,7 +160,8 @@ module _ (bytes : List ℕ) (parts : List StreamPart) (h : Held) (i : IsHeld h) 
         )
 
     -- the last line can't stand there
-    pub ends_broken : (e : StreamError) → BreaksBlock h.before i.body i.current e → IsBrokenAtEndAfter bytes parts e
+    pub ends_broken : (e : StreamError) → BreaksBlock h.before i.body i.current e
+        → IsBrokenAtEndAfter bytes parts e
     ends_broken e b = record {
       gap = k.gap;
       body = i.body;
@@ -164,7 +173,8 @@ module _ (bytes : List ℕ) (parts : List StreamPart) (h : Held) (i : IsHeld h) 
     }
 
 -- no block is left open
-pub ends_text : (bytes : List ℕ) (parts : List StreamPart) (h : Held) → EndsOpen h bytes parts → h.line ≡ 0 → IsStreamText bytes parts
+pub ends_text : (bytes : List ℕ) (parts : List StreamPart) (h : Held) → EndsOpen h bytes parts
+    → h.line ≡ 0 → IsStreamText bytes parts
 ends_text bytes parts h e z = record {
   rest = e.gap;
   covers = record {
@@ -176,7 +186,9 @@ ends_text bytes parts h e z = record {
 }
 
 -- a block is left open
-pub ends_left_open : (bytes : List ℕ) (parts : List StreamPart) (h : Held) → EndsOpen h bytes parts → h.line ≢ 0 → (span : Span) → span.start ≡ h.before → span.end ≡ h.before + length h.buffer.items
+pub ends_left_open : (bytes : List ℕ) (parts : List StreamPart) (h : Held) → EndsOpen h bytes parts
+    → h.line ≢ 0 → (span : Span) → span.start ≡ h.before
+    → span.end ≡ h.before + length h.buffer.items
     → IsBrokenAtEndAfter bytes parts (Unfinished span)
 ends_left_open bytes parts h e z span from upto = record {
   gap = e.gap;
@@ -190,19 +202,25 @@ ends_left_open bytes parts h e z span from upto = record {
 
 -- the same for what the end of the last line answers
 module _ (h new : Held) (i : IsHeld h) (l : h.line < length h.buffer.items) where
-  pub all_goes_on : (r : Result (Option Ended) StreamError) → new.before + length new.buffer.items ≡ h.before + length h.buffer.items → IfOk r (λ r. r ≡ None → (body : List Line) (line : Line) → HasLine h body line → GoesOnHolding h new body line)
+  pub all_goes_on : (r : Result (Option Ended) StreamError)
+      → new.before + length new.buffer.items ≡ h.before + length h.buffer.items
+      → IfOk r (λ r. r ≡ None → (body : List Line) (line : Line) → HasLine h body line
+      → GoesOnHolding h new body line)
       → IfOk r (λ r. r ≡ None → (bytes : List ℕ) (parts : List StreamPart) → Keeps bytes parts h.buffer.items → h.before + length h.buffer.items ≡ length bytes → EndsOpen new bytes parts)
   all_goes_on (Ok r) count g = λ none bytes parts k size. ends_open bytes parts h i k size l new count (g none i.body i.current i.lines)
   all_goes_on (Err e) count g = tt
 
-  pub all_ends : (r : Result (Option Ended) StreamError) → new.before + length new.buffer.items ≡ h.before + length h.buffer.items
+  pub all_ends : (r : Result (Option Ended) StreamError)
+      → new.before + length new.buffer.items ≡ h.before + length h.buffer.items
       → IfOk r (λ r. IsSome r → (new.buffer.items ≡ h.buffer.items) × (new.line ≡ h.line))
       → IfOk r (λ r. (ended : Ended) → r ≡ Some ended → (body : List Line) (line : Line) → HasLine h body line → EndsPart new body line ended)
       → IfOk r (λ r. (ended : Ended) → r ≡ Some ended → (bytes : List ℕ) (parts : List StreamPart) → Keeps bytes parts h.buffer.items → h.before + length h.buffer.items ≡ length bytes → EndsStream new bytes parts (Some ended))
   all_ends (Ok r) count same g = λ ended is bytes parts k size. ends_stream bytes parts h i k size l new ended count (same (ap is_some is)).0 (g ended is i.body i.current i.lines)
   all_ends (Err e) count same g = tt
 
-  pub all_broken : (r : Result (Option Ended) StreamError) → IfErr r (λ e. e ≢ Memory → (body : List Line) (line : Line) → HasLine h body line → BreaksBlock h.before body line e)
+  pub all_broken : (r : Result (Option Ended) StreamError)
+      → IfErr r (λ e. e ≢ Memory → (body : List Line) (line : Line) → HasLine h body line
+      → BreaksBlock h.before body line e)
       → IfErr r (λ e. e ≢ Memory → (bytes : List ℕ) (parts : List StreamPart) → Keeps bytes parts h.buffer.items → h.before + length h.buffer.items ≡ length bytes → IsBrokenAtEndAfter bytes parts e)
   all_broken (Ok r) g = tt
   all_broken (Err e) g = λ known bytes parts k size. ends_broken bytes parts h i k size l e (g known i.body i.current i.lines)

@@ -25,17 +25,20 @@ module _ (ps : List CodePrinted) (i : ℕ) (d : CodePrinted) (lt : i < length ps
   count : (i' : ℕ) → i' ≡ length (map text_of (take i ps)) → i' ≡ i
   count n e = omega (arith, e, length-map (take i ps) text_of, length-take i ps)
 
-  before : (k : ℕ) (x : Bor (List ℕ)) → k < length (map text_of (take i ps)) → get_or (map text_of (take i ps)) k x ≡ text_of (get_or ps k d)
+  before : (k : ℕ) (x : Bor (List ℕ)) → k < length (map text_of (take i ps))
+      → get_or (map text_of (take i ps)) k x ≡ text_of (get_or ps k d)
   before k x l =
       let lk : k < i = omega (arith, count _ refl) in
       let lt' : k < length (take i ps) = omega (arith, length-take i ps) in
       get_or-map text_of (take i ps) k d x lt' ∙ ap text_of (get_or-take i ps k d lk)
 
-  item_at : (k : ℕ) (e : Printed) → k < length ps → get_or (bare_items ps) k e ≡ bare_printed (get_or ps k d)
+  item_at : (k : ℕ) (e : Printed) → k < length ps
+      → get_or (bare_items ps) k e ≡ bare_printed (get_or ps k d)
   item_at k e l = get_or-map bare_printed ps k d e l
 
   -- a name that is found among those before it is printed twice
-  pub repeated : list_any (same (text_of (get_or ps i d))) (map text_of (take i ps)) ≡ true → HasDistinctNames (bare_items ps) → ⊥
+  pub repeated : list_any (same (text_of (get_or ps i d))) (map text_of (take i ps)) ≡ true
+      → HasDistinctNames (bare_items ps) → ⊥
   repeated found apart =
       let w = Any-from_list_any (same (text_of (get_or ps i d))) (map text_of (take i ps)) found in
       let k : ℕ = w.0 in
@@ -48,7 +51,8 @@ module _ (ps : List CodePrinted) (i : ℕ) (d : CodePrinted) (lt : i < length ps
       (ap (λ (j : Printed). j.name) (item_at k e (omega arith)) ∙ sym there ∙ sym names ∙ sym (ap (λ (j : Printed). j.name) (item_at i e lt)))
 
   -- a name that isn't found differs from all before it
-  pub apart_more : list_any (same (text_of (get_or ps i d))) (map text_of (take i ps)) ≡ false → HasDistinctNames (bare_items (take i ps)) → HasDistinctNames (bare_items (take (i + 1) ps))
+  pub apart_more : list_any (same (text_of (get_or ps i d))) (map text_of (take i ps)) ≡ false
+      → HasDistinctNames (bare_items (take i ps)) → HasDistinctNames (bare_items (take (i + 1) ps))
   apart_more missing apart =
       let p : CodePrinted = get_or ps i d in
       let differs : (k : ℕ) (e : Printed) → k < length (bare_items (take i ps)) → (get_or (bare_items (take i ps)) k e).name ≡ p.name.text.now → ⊥ = λ k e l names.
@@ -61,26 +65,32 @@ module _ (ps : List CodePrinted) (i : ℕ) (d : CodePrinted) (lt : i < length ps
       subst (λ qs. HasDistinctNames (bare_items qs)) (sym (take_more ps i d lt))
       (subst HasDistinctNames (sym (map_push bare_printed (take i ps) p)) (all_pairs_push (λ (a b : Printed). a.name ≢ b.name) (bare_items (take i ps)) (bare_printed p) apart differs))
 
-  pub names_more : list_any (same (text_of (get_or ps i d))) (map text_of (take i ps)) ≡ false → insert_key same (map text_of (take i ps)) (text_of (get_or ps i d)) ≡ map text_of (take (i + 1) ps)
+  pub names_more : list_any (same (text_of (get_or ps i d))) (map text_of (take i ps)) ≡ false
+      → insert_key same (map text_of (take i ps)) (text_of (get_or ps i d))
+      ≡ map text_of (take (i + 1) ps)
   names_more missing =
       ap (λ b. cond b (map text_of (take i ps)) (map text_of (take i ps) ++ text_of (get_or ps i d) ∷ [])) missing ∙ sym (map_more text_of ps i d lt)
 
 -- the same of an item p that stands at i, where the names before it are kept in a list
 module _ (ps : List CodePrinted) (i : ℕ) (p : CodePrinted) (is : p ≡ get_or ps i p) (lt : i < length ps) (ks : List (Bor (List ℕ))) (are : ks ≡ map text_of (take i ps)) where
-  as_read : {r : Bool} → list_any (same (text_of p)) ks ≡ r → list_any (same (text_of (get_or ps i p))) (map text_of (take i ps)) ≡ r
+  as_read : {r : Bool} → list_any (same (text_of p)) ks ≡ r
+      → list_any (same (text_of (get_or ps i p))) (map text_of (take i ps)) ≡ r
   as_read {r} h = ap (λ q. list_any (same (text_of q)) (map text_of (take i ps))) (sym is) ∙ ap (list_any (same (text_of p))) (sym are) ∙ h
 
   pub repeated_in : list_any (same (text_of p)) ks ≡ true → HasDistinctNames (bare_items ps) → ⊥
   repeated_in h = repeated ps i p lt (as_read h)
 
-  pub apart_in : list_any (same (text_of p)) ks ≡ false → HasDistinctNames (bare_items (take i ps)) → HasDistinctNames (bare_items (take (i + 1) ps))
+  pub apart_in : list_any (same (text_of p)) ks ≡ false → HasDistinctNames (bare_items (take i ps))
+      → HasDistinctNames (bare_items (take (i + 1) ps))
   apart_in h = apart_more ps i p lt (as_read h)
 
-  pub names_in : (new : List (Bor (List ℕ))) → list_any (same (text_of p)) ks ≡ false → new ≡ insert_key same ks (text_of p) → new ≡ map text_of (take (i + 1) ps)
+  pub names_in : (new : List (Bor (List ℕ))) → list_any (same (text_of p)) ks ≡ false
+      → new ≡ insert_key same ks (text_of p) → new ≡ map text_of (take (i + 1) ps)
   names_in new h e = e ∙ ap (λ l. insert_key same l (text_of p)) are ∙ ap (λ q. insert_key same (map text_of (take i ps)) (text_of q)) is ∙ names_more ps i p lt (as_read h)
 
   -- a name that is found is printed again
-  pub prints_again : list_any (same (text_of p)) ks ≡ true → HasDistinctNames (bare_items (take i ps)) → PrintsAgain ps p
+  pub prints_again : list_any (same (text_of p)) ks ≡ true
+      → HasDistinctNames (bare_items (take i ps)) → PrintsAgain ps p
   prints_again found distinct =
       let w = Any-from_list_any (same (text_of p)) (map text_of (take i ps)) (ap (list_any (same (text_of p))) (sym are) ∙ found) in
       let k : ℕ = w.0 in

@@ -11,7 +11,9 @@ use Rattle.fz_stream.proofs.PartLemmas.{EndAfter, end_after, IsPartOf, next_part
 use Rattle.fz_stream.proofs.ReadingLemmas.{three}
 
 -- the part that these lines make is the block
-same_block : (start : ℕ) (gap body : List Line) (line : Line) (block : SolutionBlock) → kind_of line ≡ Marker → block.offset ≡ start + length (joined gap) → block.text ≡ joined body → IsBlockText block.text block.items
+same_block : (start : ℕ) (gap body : List Line) (line : Line) (block : SolutionBlock)
+    → kind_of line ≡ Marker → block.offset ≡ start + length (joined gap) → block.text ≡ joined body
+    → IsBlockText block.text block.items
     → (other : StreamPart) → IsPartOf start gap body line other → other ≡ BlockPart block
 same_block start gap body line block marker offset text items (BlockPart b) is =
     let texts : b.text ≡ block.text = is.2 ∙ sym text in
@@ -19,11 +21,14 @@ same_block start gap body line block marker offset text items (BlockPart b) is =
 same_block start gap body line block marker offset text items (ClaimPart kind) is = absurd (let no : Marker ≡ Claim kind = sym marker ∙ is.0 in cc)
 
 -- or the claim
-same_claim : (start : ℕ) (gap body : List Line) (line : Line) (kind : ClaimKind) → kind_of line ≡ Claim kind → (other : StreamPart) → IsPartOf start gap body line other → other ≡ ClaimPart kind
+same_claim : (start : ℕ) (gap body : List Line) (line : Line) (kind : ClaimKind)
+    → kind_of line ≡ Claim kind → (other : StreamPart) → IsPartOf start gap body line other
+    → other ≡ ClaimPart kind
 same_claim start gap body line kind claim (BlockPart b) is = absurd (let no : Claim kind ≡ Marker = sym claim ∙ is.0 in cc)
 same_claim start gap body line kind claim (ClaimPart other) is = (let same : Claim other ≡ Claim kind = sym is.0 ∙ claim in let inside : other ≡ kind = cc in ap ClaimPart inside)
 
-one_list : (start : ℕ) (lines : List Line) (parts others : List StreamPart) → EndAfter start lines parts → EndAfter start lines others → others ≡ parts
+one_list : (start : ℕ) (lines : List Line) (parts others : List StreamPart)
+    → EndAfter start lines parts → EndAfter start lines others → others ≡ parts
 one_list start lines [] others h g =
     let fills : AllByRecursion IsFiller lines = subst (AllByRecursion IsFiller) (sym (h.whole ∙ ap (λ l. l ++ h.tail) h.of_parts)) h.fillers in
     (no_part start lines (inner_from_filler lines fills) others g).0
@@ -47,5 +52,6 @@ one_list start lines (ClaimPart kind ∷ parts) others h g =
     ∙ ap (λ ps. ClaimPart kind ∷ ps) (one_list (start + length (joined (k.gap ++ k.line ∷ []))) (p.1 ++ h.tail) parts n.more own n.others)
 
 -- a stream's bytes are a text of one list of parts
-pub parts_once : (bytes : List ℕ) (parts others : List StreamPart) → IsStreamText bytes parts → IsStreamText bytes others → others ≡ parts
+pub parts_once : (bytes : List ℕ) (parts others : List StreamPart) → IsStreamText bytes parts
+    → IsStreamText bytes others → others ≡ parts
 parts_once bytes parts others t u = one_list 0 (lines_of bytes) parts others (end_after bytes parts t) (end_after bytes others u)

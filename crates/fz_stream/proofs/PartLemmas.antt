@@ -7,7 +7,8 @@ use Rattle.fz_stream.specs.declared.line.LineKind.TheVariants.{Blank, Comment, M
 use Rattle.fz_stream.specs.Lines.{Line, lines_of, joined, kind_of, IsFiller, IsFillerKind, IsInner, IsInnerKind}
 use Rattle.fz_stream.specs.Parts.{StreamPart, BlockPart, ClaimPart, IsBlockText, AreBlockLines, AreLinesOfPart, AreLinesOf, IsStreamText}
 
--- The lines, of which the first stands at byte start, are those of the parts, and then blank lines and comments.
+-- The lines, of which the first stands at byte start, are those of the parts, and then blank lines
+-- and comments.
 pub record EndAfter (start : ℕ) (lines : List Line) (parts : List StreamPart) : Type 0 where
   pub covered : List Line
   pub tail : List Line
@@ -15,14 +16,17 @@ pub record EndAfter (start : ℕ) (lines : List Line) (parts : List StreamPart) 
   pub of_parts : AreLinesOf start covered parts
   pub fillers : AllByRecursion IsFiller tail
 
-pub stream_text : (bytes : List ℕ) (parts : List StreamPart) → EndAfter 0 (lines_of bytes) parts → IsStreamText bytes parts
+pub stream_text : (bytes : List ℕ) (parts : List StreamPart) → EndAfter 0 (lines_of bytes) parts
+    → IsStreamText bytes parts
 stream_text bytes parts e = record { rest = e.tail; covers = record { covered = e.covered; whole = e.whole; of_parts = e.of_parts }; fillers = e.fillers }
 
-pub end_after : (bytes : List ℕ) (parts : List StreamPart) → IsStreamText bytes parts → EndAfter 0 (lines_of bytes) parts
+pub end_after : (bytes : List ℕ) (parts : List StreamPart) → IsStreamText bytes parts
+    → EndAfter 0 (lines_of bytes) parts
 end_after bytes parts t = record { covered = t.covers.covered; tail = t.rest; whole = t.covers.whole; of_parts = t.covers.of_parts; fillers = t.fillers }
 
 module _ {X : Type 0} (P : X → Type 0) where
-  pub every_append : (xs ys : List X) → AllByRecursion P xs → AllByRecursion P ys → AllByRecursion P (xs ++ ys)
+  pub every_append : (xs ys : List X) → AllByRecursion P xs → AllByRecursion P ys
+      → AllByRecursion P (xs ++ ys)
   every_append [] ys p q = q
   every_append (x ∷ xs) ys p q = (p.0, every_append xs ys p.1 q)
 
@@ -69,7 +73,8 @@ inner_body [] h = tt
 inner_body (x ∷ xs) h = (item_inner (kind_of x) h.0, h.1)
 
 -- the first line that closes something stands at one place
-pub split_once : (xs ys : List Line) (x y : Line) (r s : List Line) → AllByRecursion IsInner xs → AllByRecursion IsInner ys → (IsInner x → ⊥) → (IsInner y → ⊥)
+pub split_once : (xs ys : List Line) (x y : Line) (r s : List Line) → AllByRecursion IsInner xs
+    → AllByRecursion IsInner ys → (IsInner x → ⊥) → (IsInner y → ⊥)
     → xs ++ (x ∷ r) ≡ ys ++ (y ∷ s) → (xs ≡ ys) × (x ≡ y) × (r ≡ s)
 split_once [] [] x y r s p q cx cy e = (refl, cc, cc)
 split_once [] (b ∷ ys) x y r s p q cx cy e = let h : x ≡ b = cc in absurd (cx (subst IsInner (sym h) q.0))
@@ -81,7 +86,8 @@ split_once (a ∷ xs) (b ∷ ys) x y r s p q cx cy e =
     (ap (λ l. a ∷ l) w.0 ∙ ap (λ l. l ∷ ys) h, w.1, w.2)
 
 -- the first item line after blank lines and comments stands at one place
-pub split_item : (g h b c : List Line) → AllByRecursion IsFiller g → AllByRecursion IsFiller h → AreBlockLines b → AreBlockLines c
+pub split_item : (g h b c : List Line) → AllByRecursion IsFiller g → AllByRecursion IsFiller h
+    → AreBlockLines b → AreBlockLines c
     → g ++ b ≡ h ++ c → (g ≡ h) × (b ≡ c)
 split_item [] [] b c p q u v e = (refl, e)
 split_item [] (y ∷ h) [] c p q u v e = absurd (let no : [] ≡ y ∷ (h ++ c) = e in cc)
@@ -95,7 +101,8 @@ split_item (x ∷ g) (y ∷ h) b c p q u v e =
     (ap (λ l. x ∷ l) w.0 ∙ ap (λ l. l ∷ h) s, w.1)
 
 -- no line closes anything
-pub none_closes : (xs ys : List Line) (y : Line) (s : List Line) → AllByRecursion IsInner xs → (IsInner y → ⊥) → xs ≡ ys ++ (y ∷ s) → ⊥
+pub none_closes : (xs ys : List Line) (y : Line) (s : List Line) → AllByRecursion IsInner xs
+    → (IsInner y → ⊥) → xs ≡ ys ++ (y ∷ s) → ⊥
 none_closes xs ys y s p c e = c ((every_right IsInner ys (y ∷ s) (subst (AllByRecursion IsInner) e p)).0)
 
 -- what the lines gap, body and line, of which the first stands at byte start, make of a part
@@ -119,7 +126,8 @@ module _ (start : ℕ) (gap body : List Line) (line : Line) (rest : List Line) (
   grouped : gap ++ (body ++ (line ∷ rest)) ≡ (gap ++ body) ++ (line ∷ rest)
   grouped = sym (append_assoc gap body (line ∷ rest))
 
-  pub next_part : (parts : List StreamPart) → EndAfter start (gap ++ (body ++ (line ∷ rest))) parts → Next start gap body line rest parts
+  pub next_part : (parts : List StreamPart) → EndAfter start (gap ++ (body ++ (line ∷ rest))) parts
+      → Next start gap body line rest parts
   next_part [] h =
       let all : gap ++ (body ++ (line ∷ rest)) ≡ h.tail = h.whole ∙ ap (λ l. l ++ h.tail) h.of_parts in
       let filled = subst (AllByRecursion IsFiller) (sym (sym grouped ∙ all)) h.fillers in
@@ -159,7 +167,9 @@ module _ (start : ℕ) (gap body : List Line) (line : Line) (rest : List Line) (
       }
 
 -- where no line closes anything there is no part, and all lines are blank or comments
-pub no_part : (start : ℕ) (lines : List Line) → AllByRecursion IsInner lines → (parts : List StreamPart) → EndAfter start lines parts → (parts ≡ []) × AllByRecursion IsFiller lines
+pub no_part : (start : ℕ) (lines : List Line) → AllByRecursion IsInner lines
+    → (parts : List StreamPart) → EndAfter start lines parts
+    → (parts ≡ []) × AllByRecursion IsFiller lines
 no_part start lines inner [] h = (refl, subst (AllByRecursion IsFiller) (sym (h.whole ∙ ap (λ l. l ++ h.tail) h.of_parts)) h.fillers)
 no_part start lines inner (BlockPart block ∷ parts) h =
     let p = h.of_parts in
@@ -173,7 +183,8 @@ no_part start lines inner (ClaimPart kind ∷ parts) h =
     absurd (none_closes lines k.gap k.line (p.1 ++ h.tail) inner (claim_closes (kind_of k.line) kind k.claims) cut)
 
 -- one more part
-pub AreLinesOf-push : (start : ℕ) (covered own : List Line) (parts : List StreamPart) (part : StreamPart) → AreLinesOf start covered parts
+pub AreLinesOf-push : (start : ℕ) (covered own : List Line) (parts : List StreamPart)
+    (part : StreamPart) → AreLinesOf start covered parts
     → AreLinesOfPart (start + length (joined covered)) own part → AreLinesOf start (covered ++ own) (parts ++ part ∷ [])
 AreLinesOf-push start covered own [] part h k =
     let at : start + length (joined covered) ≡ start = omega (arith, ap (λ l. length (joined l)) h) in

@@ -15,11 +15,13 @@ module _ (source : List ℕ) (upto : ℕ) where
   stand_before from [] h = h
   stand_before from (s ∷ spots) h = let more = stand_before s.end spots h.3 in omega (arith, h.0, h.1, more)
 
-  pub stand_behind : (from : ℕ) (xs ys : List Spot) → Stand source from upto (xs ++ ys) → (next : ℕ) × Stand source next upto ys
+  pub stand_behind : (from : ℕ) (xs ys : List Spot) → Stand source from upto (xs ++ ys)
+      → (next : ℕ) × Stand source next upto ys
   stand_behind from [] ys h = (from, h)
   stand_behind from (x ∷ xs) ys h = stand_behind x.end xs ys h.3
 
-  placed_at : (from : ℕ) (items : List Printed) (k : ℕ) (d : Printed) → k < length items → Stand source from upto (item_spots items) → IsSpanWithin upto (get_or items k d).name.span
+  placed_at : (from : ℕ) (items : List Printed) (k : ℕ) (d : Printed) → k < length items
+      → Stand source from upto (item_spots items) → IsSpanWithin upto (get_or items k d).name.span
   placed_at from [] k d l h = absurd (omega (arith, l))
   placed_at from (p ∷ items) zero d l h = let here : p.name.span.start < p.name.span.end = h.1 in (omega (arith, here), stand_before p.name.span.end (printed_value_spots p.value ++ item_spots items) h.3)
   placed_at from (p ∷ items) (suc k) d l h =
@@ -27,7 +29,8 @@ module _ (source : List ℕ) (upto : ℕ) where
       placed_at w.0 items k d (omega arith) w.1
 
   -- the place of the item that stands behind the front
-  pub placed_again : (items : List Printed) (again : Printed) → PrintsAgain items again → Stand source 0 upto (item_spots items) → IsSpanWithin upto again.name.span
+  pub placed_again : (items : List Printed) (again : Printed) → PrintsAgain items again
+      → Stand source 0 upto (item_spots items) → IsSpanWithin upto again.name.span
   placed_again items again p h =
       let there : get_or items (length p.front) again ≡ again = ap (λ xs. get_or xs (length p.front) again) p.items_are ∙ get_or_at p.front again p.rest again (length p.front) refl in
       let within : length p.front < length items = omega (arith, ap length p.items_are, length-append p.front (again ∷ p.rest)) in
@@ -37,15 +40,20 @@ abbrev AgainAt : List Printed → Span → Type 0
 AgainAt items span = (again : Printed) × PrintsAgain items again × (span ≡ again.name.span)
 
 -- what was found among equal items
-pub again_in : (items others : List Printed) (found : Option Span) (span : Span) → found ≡ Some span → others ≡ items → IfSome found (λ span. (again : Printed) × PrintsAgain others again × (span ≡ again.name.span)) → AgainAt items span
+pub again_in : (items others : List Printed) (found : Option Span) (span : Span) → found ≡ Some span
+    → others ≡ items → IfSome found (λ span. (again : Printed) × PrintsAgain others again
+    × (span ≡ again.name.span)) → AgainAt items span
 again_in items others found span is same h = subst (λ (xs : List Printed). AgainAt xs span) same (subst (λ (o : Option Span). IfSome o (λ span. AgainAt others span)) is h)
 
 -- its place lies in the text
-pub again_within : (text : List ℕ) (items : List Printed) (span : Span) → AgainAt items span → Stand text 0 (length text) (item_spots items) → IsSpanWithin (length text) span
+pub again_within : (text : List ℕ) (items : List Printed) (span : Span) → AgainAt items span
+    → Stand text 0 (length text) (item_spots items) → IsSpanWithin (length text) span
 again_within text items span w h = subst (IsSpanWithin (length text)) (sym w.2) (placed_again text (length text) items w.0 w.1 h)
 
 -- and it is the second printing
-pub second_printing : (offset : ℕ) (text : List ℕ) (items : List Printed) (span moved : Span) → AgainAt items span → IsTextOfItems text (bare_items items) → Stand text 0 (length text) (item_spots items)
+pub second_printing : (offset : ℕ) (text : List ℕ) (items : List Printed) (span moved : Span)
+    → AgainAt items span → IsTextOfItems text (bare_items items)
+    → Stand text 0 (length text) (item_spots items)
     → moved ≡ moved_span offset span → IsSecondPrinting offset text moved
 second_printing offset text items span moved w t h e = record {
   items = items;

@@ -37,7 +37,9 @@ pub record Reading (all rest : List Line) (begun : Option ℕ) (place : ℕ) (pa
   pub own : AreBlockLines body
   pub begins : Begins body (length (joined covered) + length (joined gap)) begun
   -- any parts of the whole begin with these, and go on behind them
-  pub only : (others : List StreamPart) → EndAfter 0 all others → (more : List StreamPart) × (others ≡ parts ++ more) × EndAfter (length (joined covered)) (gap ++ (body ++ rest)) more
+  pub only : (others : List StreamPart) → EndAfter 0 all others
+      → (more : List StreamPart) × (others ≡ parts ++ more)
+      × EndAfter (length (joined covered)) (gap ++ (body ++ rest)) more
 
 pub start_reading : (all : List Line) → Reading all all None 0 []
 start_reading all = record {
@@ -74,7 +76,8 @@ module _ (all : List Line) (line : Line) (rest : List Line) (begun : Option ℕ)
       }
 
   -- a line joins the body, or opens one
-  into_body : (next : Option ℕ) → AreBlockLines (r.body ++ line ∷ []) → Begins (r.body ++ line ∷ []) (length (joined r.covered) + length (joined r.gap)) next
+  into_body : (next : Option ℕ) → AreBlockLines (r.body ++ line ∷ [])
+      → Begins (r.body ++ line ∷ []) (length (joined r.covered) + length (joined r.gap)) next
       → Reading all rest next (place + length line) parts
   into_body next own begins =
       let joint : r.gap ++ (r.body ++ (line ∷ rest)) ≡ r.gap ++ ((r.body ++ line ∷ []) ++ rest) = ap (λ b. r.gap ++ b) (sym (append_assoc r.body (line ∷ []) rest)) in
@@ -93,7 +96,8 @@ module _ (all : List Line) (line : Line) (rest : List Line) (begun : Option ℕ)
         only = λ others h. (let w = r.only others h in (w.0, w.1, subst (λ l. EndAfter (length (joined r.covered)) l w.0) joint w.2));
       }
 
-  push_inner : (b : List Line) (start : ℕ) (n : ℕ) → AreBlockLines b → Begins b start (Some n) → IsInner line → AreBlockLines (b ++ line ∷ []) × Begins (b ++ line ∷ []) start (Some n)
+  push_inner : (b : List Line) (start : ℕ) (n : ℕ) → AreBlockLines b → Begins b start (Some n)
+      → IsInner line → AreBlockLines (b ++ line ∷ []) × Begins (b ++ line ∷ []) start (Some n)
   push_inner [] start n own begins inner = absurd (let no : Some n ≡ None = begins in cc)
   push_inner (x ∷ b) start n own begins inner = ((own.0, every_append IsInner b (line ∷ []) own.1 (inner, tt)), begins)
 
@@ -101,7 +105,8 @@ module _ (all : List Line) (line : Line) (rest : List Line) (begun : Option ℕ)
   no_body [] start h = refl
   no_body (x ∷ b) start h = absurd (let no : None ≡ Some start = h in cc)
 
-  goes_on_kind : (k : LineKind) → kind_of line ≡ k → (b : Option ℕ) → begun ≡ b → (next : Option ℕ) → step_of b place k ≡ GoesOn next → Reading all rest next (place + length line) parts
+  goes_on_kind : (k : LineKind) → kind_of line ≡ k → (b : Option ℕ) → begun ≡ b → (next : Option ℕ)
+      → step_of b place k ≡ GoesOn next → Reading all rest next (place + length line) parts
   goes_on_kind Blank e None t next s = subst (λ o. Reading all rest o (place + length line) parts) (t ∙ (let h : None ≡ next = cc in h)) (into_gap (no_body r.body _ (subst (Begins r.body _) t r.begins)) (subst IsFillerKind (sym e) tt))
   goes_on_kind Comment e None t next s = subst (λ o. Reading all rest o (place + length line) parts) (t ∙ (let h : None ≡ next = cc in h)) (into_gap (no_body r.body _ (subst (Begins r.body _) t r.begins)) (subst IsFillerKind (sym e) tt))
   goes_on_kind ItemLine e None t next s =
@@ -129,7 +134,8 @@ module _ (all : List Line) (line : Line) (rest : List Line) (begun : Option ℕ)
   goes_on_kind (Claim c) e (Some n) t next s = absurd (let no : Breaks n ≡ GoesOn next = s in cc)
 
   -- a line after which nothing ends
-  pub goes_on : (next : Option ℕ) → step_of begun place (kind_of line) ≡ GoesOn next → Reading all rest next (place + length line) parts
+  pub goes_on : (next : Option ℕ) → step_of begun place (kind_of line) ≡ GoesOn next
+      → Reading all rest next (place + length line) parts
   goes_on next s = goes_on_kind (kind_of line) refl begun refl next s
 
   abbrev pub whole_own : List Line
@@ -153,7 +159,8 @@ module _ (all : List Line) (line : Line) (rest : List Line) (begun : Option ℕ)
   lines_own = r.lines ∙ simp append_assoc
 
   -- a part ends with this line, and no other part could
-  pub ends_part : (part : StreamPart) → (IsInner line → ⊥) → AreLinesOfPart (length (joined r.covered)) whole_own part
+  pub ends_part : (part : StreamPart) → (IsInner line → ⊥)
+      → AreLinesOfPart (length (joined r.covered)) whole_own part
       → ((other : StreamPart) → IsPartOf (length (joined r.covered)) r.gap r.body line other → other ≡ part)
       → Reading all rest None (place + length line) (parts ++ part ∷ [])
   ends_part part closes here once = record {
@@ -176,7 +183,9 @@ module _ (all : List Line) (line : Line) (rest : List Line) (begun : Option ℕ)
         (n.more, front, subst (λ s. EndAfter s rest n.more) size n.others));
   }
 
-  pub start_is : (b : List Line) → r.body ≡ b → (o : Option ℕ) → begun ≡ o → (start : ℕ) → step_of o place Marker ≡ EndsBlock start → start ≡ length (joined r.covered) + length (joined r.gap)
+  pub start_is : (b : List Line) → r.body ≡ b → (o : Option ℕ) → begun ≡ o → (start : ℕ)
+      → step_of o place Marker ≡ EndsBlock start
+      → start ≡ length (joined r.covered) + length (joined r.gap)
   start_is [] e None t start s = omega (arith, r.place_is, ap (λ l. length (joined l)) e, (let h : place ≡ start = cc in h))
   start_is (x ∷ b) e None t start s = absurd (let h : None ≡ Some (length (joined r.covered) + length (joined r.gap)) = sym t ∙ subst (λ l. Begins l (length (joined r.covered) + length (joined r.gap)) begun) e r.begins in cc)
   start_is [] e (Some n) t start s = absurd (let h : Some n ≡ None = sym t ∙ subst (λ l. Begins l (length (joined r.covered) + length (joined r.gap)) begun) e r.begins in cc)
@@ -185,7 +194,8 @@ module _ (all : List Line) (line : Line) (rest : List Line) (begun : Option ℕ)
       let k : n ≡ start = cc in
       cc
 
-  ends_marker : (k : LineKind) (o : Option ℕ) (start : ℕ) → step_of o place k ≡ EndsBlock start → k ≡ Marker
+  ends_marker : (k : LineKind) (o : Option ℕ) (start : ℕ) → step_of o place k ≡ EndsBlock start
+      → k ≡ Marker
   ends_marker Marker o start s = refl
   ends_marker Blank o start s = absurd (let h : GoesOn o ≡ EndsBlock start = s in cc)
   ends_marker Comment o start s = absurd (let h : GoesOn o ≡ EndsBlock start = s in cc)
@@ -194,7 +204,8 @@ module _ (all : List Line) (line : Line) (rest : List Line) (begun : Option ℕ)
   ends_marker (Claim c) None start s = absurd (let h : Claims c ≡ EndsBlock start = s in cc)
   ends_marker (Claim c) (Some n) start s = absurd (let h : Breaks n ≡ EndsBlock start = s in cc)
 
-  pub claims_claim : (k : LineKind) (o : Option ℕ) (c : ClaimKind) → step_of o place k ≡ Claims c → (k ≡ Claim c) × (o ≡ None)
+  pub claims_claim : (k : LineKind) (o : Option ℕ) (c : ClaimKind) → step_of o place k ≡ Claims c
+      → (k ≡ Claim c) × (o ≡ None)
   claims_claim Marker None c s = absurd (let h : EndsBlock place ≡ Claims c = s in cc)
   claims_claim Marker (Some n) c s = absurd (let h : EndsBlock n ≡ Claims c = s in cc)
   claims_claim Blank o c s = absurd (let h : GoesOn o ≡ Claims c = s in cc)
@@ -204,7 +215,8 @@ module _ (all : List Line) (line : Line) (rest : List Line) (begun : Option ℕ)
   claims_claim (Claim d) None c s = ((let h : d ≡ c = cc in ap Claim h), refl)
   claims_claim (Claim d) (Some n) c s = absurd (let h : Breaks n ≡ Claims c = s in cc)
 
-  pub breaks_claim : (k : LineKind) (o : Option ℕ) (n : ℕ) → step_of o place k ≡ Breaks n → ((c : ClaimKind) × (k ≡ Claim c)) × (o ≡ Some n)
+  pub breaks_claim : (k : LineKind) (o : Option ℕ) (n : ℕ) → step_of o place k ≡ Breaks n
+      → ((c : ClaimKind) × (k ≡ Claim c)) × (o ≡ Some n)
   breaks_claim Marker None n s = absurd (let h : EndsBlock place ≡ Breaks n = s in cc)
   breaks_claim Marker (Some m) n s = absurd (let h : EndsBlock m ≡ Breaks n = s in cc)
   breaks_claim Blank o n s = absurd (let h : GoesOn o ≡ Breaks n = s in cc)
@@ -215,7 +227,9 @@ module _ (all : List Line) (line : Line) (rest : List Line) (begun : Option ℕ)
   breaks_claim (Claim d) (Some m) n s = ((d, refl), (let h : m ≡ n = cc in ap Some h))
 
   -- what stands between the start of the open block and this line
-  pub text_is : (bytes : List ℕ) → joined all ≡ bytes → (start : ℕ) → start ≡ length (joined r.covered) + length (joined r.gap) → take (place - start) (drop start bytes) ≡ joined r.body
+  pub text_is : (bytes : List ℕ) → joined all ≡ bytes → (start : ℕ)
+      → start ≡ length (joined r.covered) + length (joined r.gap)
+      → take (place - start) (drop start bytes) ≡ joined r.body
   text_is bytes e start at =
       let front : List ℕ = joined r.covered ++ joined r.gap in
       let size : length front ≡ start = omega (arith, length-append (joined r.covered) (joined r.gap), at) in
@@ -226,7 +240,9 @@ module _ (all : List Line) (line : Line) (rest : List Line) (begun : Option ℕ)
       ap (take (place - start)) dropped ∙ take_at (joined r.body) (joined (line ∷ rest)) (place - start) (omega (arith, r.place_is, at))
 
   -- the line closes a block of this text
-  pub ends_block : (bytes : List ℕ) → joined all ≡ bytes → (start : ℕ) → step_of begun place (kind_of line) ≡ EndsBlock start → (block : SolutionBlock) → block.offset ≡ start
+  pub ends_block : (bytes : List ℕ) → joined all ≡ bytes → (start : ℕ)
+      → step_of begun place (kind_of line) ≡ EndsBlock start → (block : SolutionBlock)
+      → block.offset ≡ start
       → block.text ≡ take (place - start) (drop start bytes) → IsBlockText block.text block.items
       → ((others : List Printed) → IsBlockText block.text others → others ≡ block.items)
       → Reading all rest None (place + length line) (parts ++ BlockPart block ∷ [])
@@ -238,7 +254,9 @@ module _ (all : List Line) (line : Line) (rest : List Line) (begun : Option ℕ)
       (record { gap = r.gap; body = r.body; marker = line; whole = refl; fillers = r.fillers; own = r.own; closes = marker; offset = offset ∙ at; text = own_text; items = items })
       (same_block block marker (offset ∙ at) own_text once)
     where
-      same_block : (block : SolutionBlock) → kind_of line ≡ Marker → block.offset ≡ length (joined r.covered) + length (joined r.gap) → block.text ≡ joined r.body
+      same_block : (block : SolutionBlock) → kind_of line ≡ Marker
+          → block.offset ≡ length (joined r.covered) + length (joined r.gap)
+          → block.text ≡ joined r.body
           → ((others : List Printed) → IsBlockText block.text others → others ≡ block.items) → (other : StreamPart) → IsPartOf (length (joined r.covered)) r.gap r.body line other → other ≡ BlockPart block
       same_block block marker offset text once (BlockPart b) h =
           let texts : b.text ≡ block.text = h.2 ∙ sym text in
@@ -247,7 +265,8 @@ module _ (all : List Line) (line : Line) (rest : List Line) (begun : Option ℕ)
       same_block block marker offset text once (ClaimPart k) h = absurd (let no : Marker ≡ Claim k = sym marker ∙ h.0 in cc)
 
   -- no items spell the text before a marker: no parts spell the whole
-  pub no_block : (bytes : List ℕ) → joined all ≡ bytes → (start : ℕ) → step_of begun place (kind_of line) ≡ EndsBlock start
+  pub no_block : (bytes : List ℕ) → joined all ≡ bytes → (start : ℕ)
+      → step_of begun place (kind_of line) ≡ EndsBlock start
       → ((items : List Printed) → IsBlockText (take (place - start) (drop start bytes)) items → ⊥) → (others : List StreamPart) → EndAfter 0 all others → ⊥
   no_block bytes e start s none others h =
       let marker : kind_of line ≡ Marker = ends_marker (kind_of line) begun start s in
@@ -256,12 +275,15 @@ module _ (all : List Line) (line : Line) (rest : List Line) (begun : Option ℕ)
       let n = next_part (length (joined r.covered)) r.gap r.body line rest r.fillers r.own (marker_closes (kind_of line) marker) w.0 w.2 in
       refuse marker (text_is bytes e start at) none n.part n.is
     where
-      refuse : {t : List ℕ} → kind_of line ≡ Marker → t ≡ joined r.body → ((items : List Printed) → IsBlockText t items → ⊥) → (other : StreamPart) → IsPartOf (length (joined r.covered)) r.gap r.body line other → ⊥
+      refuse : {t : List ℕ} → kind_of line ≡ Marker → t ≡ joined r.body
+          → ((items : List Printed) → IsBlockText t items → ⊥) → (other : StreamPart)
+          → IsPartOf (length (joined r.covered)) r.gap r.body line other → ⊥
       refuse {t} marker text none (BlockPart b) h = none b.items (subst (λ x. IsBlockText x b.items) (h.2 ∙ sym text) h.3)
       refuse {t} marker text none (ClaimPart k) h = (let no : Marker ≡ Claim k = sym marker ∙ h.0 in cc)
 
   -- the line is a claim
-  pub claims_one : (c : ClaimKind) → step_of begun place (kind_of line) ≡ Claims c → Reading all rest None (place + length line) (parts ++ ClaimPart c ∷ [])
+  pub claims_one : (c : ClaimKind) → step_of begun place (kind_of line) ≡ Claims c
+      → Reading all rest None (place + length line) (parts ++ ClaimPart c ∷ [])
   claims_one c s =
       let k = claims_claim (kind_of line) begun c s in
       let none : r.body ≡ [] = no_body r.body _ (subst (Begins r.body _) k.1 r.begins) in
@@ -269,12 +291,14 @@ module _ (all : List Line) (line : Line) (rest : List Line) (begun : Option ℕ)
       (record { gap = r.gap; line = line; whole = ap (λ b. r.gap ++ (b ++ line ∷ [])) none; fillers = r.fillers; claims = k.0 })
       (same_claim c k.0)
     where
-      same_claim : (c : ClaimKind) → kind_of line ≡ Claim c → (other : StreamPart) → IsPartOf (length (joined r.covered)) r.gap r.body line other → other ≡ ClaimPart c
+      same_claim : (c : ClaimKind) → kind_of line ≡ Claim c → (other : StreamPart)
+          → IsPartOf (length (joined r.covered)) r.gap r.body line other → other ≡ ClaimPart c
       same_claim c e (BlockPart b) h = absurd (let no : Claim c ≡ Marker = sym e ∙ h.0 in cc)
       same_claim c e (ClaimPart d) h = (let same : Claim d ≡ Claim c = sym h.0 ∙ e in let inside : d ≡ c = cc in ap ClaimPart inside)
 
   -- a claim in an open block: no parts spell the whole
-  pub no_claim : (n : ℕ) → step_of begun place (kind_of line) ≡ Breaks n → (others : List StreamPart) → EndAfter 0 all others → ⊥
+  pub no_claim : (n : ℕ) → step_of begun place (kind_of line) ≡ Breaks n
+      → (others : List StreamPart) → EndAfter 0 all others → ⊥
   no_claim n s others h =
       let k = breaks_claim (kind_of line) begun n s in
       let w = r.only others h in
@@ -285,12 +309,15 @@ module _ (all : List Line) (line : Line) (rest : List Line) (begun : Option ℕ)
       opened [] start n e h = (let no : Some n ≡ None = h in cc)
       opened (x ∷ b) start n e h = (let no : x ∷ b ≡ [] = e in cc)
 
-      refuse : (c : ClaimKind) → kind_of line ≡ Claim c → (n : ℕ) → begun ≡ Some n → (other : StreamPart) → IsPartOf (length (joined r.covered)) r.gap r.body line other → ⊥
+      refuse : (c : ClaimKind) → kind_of line ≡ Claim c → (n : ℕ) → begun ≡ Some n
+          → (other : StreamPart) → IsPartOf (length (joined r.covered)) r.gap r.body line other → ⊥
       refuse c e n t (BlockPart b) h = (let no : Claim c ≡ Marker = sym e ∙ h.0 in cc)
       refuse c e n t (ClaimPart d) h = opened r.body _ n h.1 (subst (Begins r.body _) t r.begins)
 
 -- the whole is read, and no block is open
-pub text_read : (all : List Line) (place : ℕ) (parts : List StreamPart) → Reading all [] None place parts → EndAfter 0 all parts × ((others : List StreamPart) → EndAfter 0 all others → others ≡ parts)
+pub text_read : (all : List Line) (place : ℕ) (parts : List StreamPart)
+    → Reading all [] None place parts
+    → EndAfter 0 all parts × ((others : List StreamPart) → EndAfter 0 all others → others ≡ parts)
 text_read all place parts r =
     let none : r.body ≡ [] = nothing r.body _ r.begins in
     let tail : r.gap ++ (r.body ++ []) ≡ r.gap = ap (λ b. r.gap ++ (b ++ [])) none ∙ append-nil r.gap in (
@@ -306,7 +333,8 @@ text_read all place parts r =
     nothing (x ∷ b) start h = absurd (let no : None ≡ Some start = h in cc)
 
 -- the whole is read, and a block is open
-pub left_open : (all : List Line) (place n : ℕ) (parts : List StreamPart) → Reading all [] (Some n) place parts → (others : List StreamPart) → EndAfter 0 all others → ⊥
+pub left_open : (all : List Line) (place n : ℕ) (parts : List StreamPart)
+    → Reading all [] (Some n) place parts → (others : List StreamPart) → EndAfter 0 all others → ⊥
 left_open all place n parts r others h =
     let w = r.only others h in
     let tail : r.gap ++ (r.body ++ []) ≡ r.gap ++ r.body = ap (λ b. r.gap ++ b) (append-nil r.body) in
@@ -314,16 +342,19 @@ left_open all place n parts r others h =
     let m = no_part _ (r.gap ++ r.body) inner w.0 (subst (λ l. EndAfter (length (joined r.covered)) l w.0) tail w.2) in
     some r.body _ n r.own r.begins (every_right IsFiller r.gap r.body m.1)
   where
-    some : (b : List Line) (start n : ℕ) → AreBlockLines b → Begins b start (Some n) → AllByRecursion IsFiller b → ⊥
+    some : (b : List Line) (start n : ℕ) → AreBlockLines b → Begins b start (Some n)
+        → AllByRecursion IsFiller b → ⊥
     some [] start n o h f = (let no : Some n ≡ None = h in cc)
     some (x ∷ b) start n o h f = item_no_filler (kind_of x) o.0 f.0
 
-pub blocks_in-append : (ps qs : List StreamPart) → blocks_in (ps ++ qs) ≡ blocks_in ps ++ blocks_in qs
+pub blocks_in-append : (ps qs : List StreamPart)
+    → blocks_in (ps ++ qs) ≡ blocks_in ps ++ blocks_in qs
 blocks_in-append [] qs = refl
 blocks_in-append (BlockPart b ∷ ps) qs = ap (λ l. b ∷ l) (blocks_in-append ps qs)
 blocks_in-append (ClaimPart k ∷ ps) qs = blocks_in-append ps qs
 
-pub claims_in-append : (n : ℕ) (ps qs : List StreamPart) → claims_in n (ps ++ qs) ≡ claims_in n ps ++ claims_in (n + length (blocks_in ps)) qs
+pub claims_in-append : (n : ℕ) (ps qs : List StreamPart)
+    → claims_in n (ps ++ qs) ≡ claims_in n ps ++ claims_in (n + length (blocks_in ps)) qs
 claims_in-append n [] qs = ap (λ m. claims_in m qs) (let e : n ≡ n + 0 = omega arith in e)
 claims_in-append n (BlockPart b ∷ ps) qs =
     claims_in-append (n + 1) ps qs ∙ ap (λ m. claims_in (n + 1) ps ++ claims_in m qs) (let e : (n + 1) + length (blocks_in ps) ≡ n + length (b ∷ blocks_in ps) = omega arith in e)

@@ -14,7 +14,8 @@ feed : List ℕ
 feed = 10 ∷ []
 
 -- ten dashes, then `-` nine times and a last line without LF
-cut_marker : lines_of (codes "----------" ++ (10 ∷ codes "-----")) ≡ (codes "----------" ++ 10 ∷ []) ∷ codes "-----" ∷ []
+cut_marker : lines_of (codes "----------" ++ (10 ∷ codes "-----"))
+    ≡ (codes "----------" ++ 10 ∷ []) ∷ codes "-----" ∷ []
 cut_marker = refl
 
 cut_nothing : lines_of [] ≡ []
@@ -63,7 +64,8 @@ item = refl
 none_apart : HasDistinctNames []
 none_apart i j d l m e = omega (arith, m)
 
-row_empty : IsStreamText (codes "% a" ++ (10 ∷ codes "----------" ++ (10 ∷ codes "=====ERROR=====")))
+row_empty : IsStreamText (codes "% a"
+    ++ (10 ∷ codes "----------" ++ (10 ∷ codes "=====ERROR=====")))
     (BlockPart (record { offset = 4; text = []; items = [] }) ∷ ClaimPart Error ∷ [])
 unfolding kind_of
 row_empty = record {

@@ -35,13 +35,15 @@ module _ (stream : List ℕ) (begun : Option ℕ) (at : ℕ) (blocks : List Solu
   rest_is : lines_of (drop at stream) ≡ line ∷ lines_of (drop (at + length line) stream)
   rest_is = ap lines_of (sym left) ∙ cut ∙ ap (λ l. line ∷ lines_of l) (ap (drop (length line)) left ∙ drop-drop (length line) at stream)
 
-  now : Reading (lines_of stream) (line ∷ lines_of (drop (at + length line) stream)) begun at s.parts
+  now : Reading (lines_of stream)
+      (line ∷ lines_of (drop (at + length line) stream)) begun at s.parts
   now = subst (λ l. Reading (lines_of stream) l begun at s.parts) rest_is s.reading
 
   inside : at + length line ≤ length stream
   inside = omega (arith, s.within, within, ap length left, length-drop at stream)
 
-  pub so_far_goes_on : (next : Option ℕ) → step_of begun at (kind_of line) ≡ GoesOn next → ReadSoFar stream next (at + length line) blocks claims
+  pub so_far_goes_on : (next : Option ℕ) → step_of begun at (kind_of line) ≡ GoesOn next
+      → ReadSoFar stream next (at + length line) blocks claims
   so_far_goes_on next e = record {
     parts = s.parts;
     reading = goes_on _ _ _ _ _ _ now next e;
@@ -50,7 +52,8 @@ module _ (stream : List ℕ) (begun : Option ℕ) (at : ℕ) (blocks : List Solu
     claims_are = s.claims_are;
   }
 
-  pub so_far_block : (start : ℕ) → step_of begun at (kind_of line) ≡ EndsBlock start → (block : SolutionBlock) → block.offset ≡ start
+  pub so_far_block : (start : ℕ) → step_of begun at (kind_of line) ≡ EndsBlock start
+      → (block : SolutionBlock) → block.offset ≡ start
       → block.text ≡ take (at - start) (drop start stream) → IsBlockText block.text block.items → ((others : List Printed) → IsBlockText block.text others → others ≡ block.items)
       → ReadSoFar stream None (at + length line) (blocks ++ block ∷ []) claims
   so_far_block start e block offset text items once = record {
@@ -77,22 +80,28 @@ module _ (stream : List ℕ) (begun : Option ℕ) (at : ℕ) (blocks : List Solu
       claim_from : ℕ → ClaimKind → ClaimRead
       claim_from n k = record { after = n; kind = k }
 
-  pub so_far_no_block : (start : ℕ) → step_of begun at (kind_of line) ≡ EndsBlock start → ((items : List Printed) → IsBlockText (take (at - start) (drop start stream)) items → ⊥)
+  pub so_far_no_block : (start : ℕ) → step_of begun at (kind_of line) ≡ EndsBlock start
+      → ((items : List Printed) → IsBlockText (take (at - start) (drop start stream)) items → ⊥)
       → (parts : List StreamPart) → IsStreamText stream parts → ⊥
   so_far_no_block start e none parts t = no_block _ _ _ _ _ _ now stream (joined-lines_of stream) start e none parts (end_after stream parts t)
 
-  pub so_far_no_claim : (n : ℕ) → step_of begun at (kind_of line) ≡ Breaks n → (parts : List StreamPart) → IsStreamText stream parts → ⊥
+  pub so_far_no_claim : (n : ℕ) → step_of begun at (kind_of line) ≡ Breaks n
+      → (parts : List StreamPart) → IsStreamText stream parts → ⊥
   so_far_no_claim n e parts t = no_claim _ _ _ _ _ _ now n e parts (end_after stream parts t)
 
-  pub so_far_stops_at_marker : (start : ℕ) → step_of begun at (kind_of line) ≡ EndsBlock start → ((items : List Printed) → IsBlockText (take (at - start) (drop start stream)) items → ⊥)
+  pub so_far_stops_at_marker : (start : ℕ) → step_of begun at (kind_of line) ≡ EndsBlock start
+      → ((items : List Printed) → IsBlockText (take (at - start) (drop start stream)) items → ⊥)
       → (fault : StreamError) → TellsOfText start (take (at - start) (drop start stream)) fault → (parts : List StreamPart) × StopsAfter stream parts fault
   so_far_stops_at_marker start e none fault told = stops_at_marker _ _ _ _ _ _ now (joined-lines_of stream) start e none fault told
 
-  pub so_far_text_within : (start : ℕ) → step_of begun at (kind_of line) ≡ EndsBlock start → (offset : ℕ) (text : List ℕ) → offset ≡ start → text ≡ take (at - start) (drop start stream)
+  pub so_far_text_within : (start : ℕ) → step_of begun at (kind_of line) ≡ EndsBlock start
+      → (offset : ℕ) (text : List ℕ) → offset ≡ start → text ≡ take (at - start) (drop start stream)
       → offset + length text ≤ length stream
   so_far_text_within start e offset text from is = omega (arith, from, ap length is, text_within _ _ _ _ _ _ now s.within start e)
 
-  pub so_far_stops_at_claim : (n : ℕ) → step_of begun at (kind_of line) ≡ Breaks n → (span : Span) → span.start ≡ n → span.end ≡ at → (parts : List StreamPart) × StopsAfter stream parts (Unfinished span)
+  pub so_far_stops_at_claim : (n : ℕ) → step_of begun at (kind_of line) ≡ Breaks n → (span : Span)
+      → span.start ≡ n → span.end ≡ at
+      → (parts : List StreamPart) × StopsAfter stream parts (Unfinished span)
   so_far_stops_at_claim n e span from upto = stops_at_claim _ _ _ _ _ _ now n e span from upto
 
 module _ (stream : List ℕ) (at : ℕ) (blocks : List SolutionBlock) (claims : List ClaimRead) (end : length stream ≤ at) where
@@ -104,18 +113,22 @@ module _ (stream : List ℕ) (at : ℕ) (blocks : List SolutionBlock) (claims : 
       let w = text_read (lines_of stream) at s.parts (subst (λ l. Reading (lines_of stream) l None at s.parts) all_read s.reading) in
       record { parts = s.parts; text = stream_text stream s.parts w.0; only = λ others t. w.1 others (end_after stream others t); blocks_are = s.blocks_are; claims_are = s.claims_are }
 
-  pub so_far_open : (n : ℕ) → ReadSoFar stream (Some n) at blocks claims → (parts : List StreamPart) → IsStreamText stream parts → ⊥
+  pub so_far_open : (n : ℕ) → ReadSoFar stream (Some n) at blocks claims → (parts : List StreamPart)
+      → IsStreamText stream parts → ⊥
   so_far_open n s parts t = left_open (lines_of stream) at n s.parts (subst (λ l. Reading (lines_of stream) l (Some n) at s.parts) all_read s.reading) parts (end_after stream parts t)
 
 -- the same where what is open is known by an equation
 module _ (stream : List ℕ) (at : ℕ) (blocks : List SolutionBlock) (claims : List ClaimRead) (end : length stream ≤ at) (begun : Option ℕ) where
-  pub so_far_read_at : begun ≡ None → ReadSoFar stream begun at blocks claims → IsReadAs stream blocks claims
+  pub so_far_read_at : begun ≡ None → ReadSoFar stream begun at blocks claims
+      → IsReadAs stream blocks claims
   so_far_read_at e s = so_far_read stream at blocks claims end (subst (λ b. ReadSoFar stream b at blocks claims) e s)
 
-  pub so_far_open_at : (n : ℕ) → begun ≡ Some n → ReadSoFar stream begun at blocks claims → (parts : List StreamPart) → IsStreamText stream parts → ⊥
+  pub so_far_open_at : (n : ℕ) → begun ≡ Some n → ReadSoFar stream begun at blocks claims
+      → (parts : List StreamPart) → IsStreamText stream parts → ⊥
   so_far_open_at n e s = so_far_open stream at blocks claims end n (subst (λ b. ReadSoFar stream b at blocks claims) e s)
 
-  pub so_far_stops_at_end : (n : ℕ) → begun ≡ Some n → ReadSoFar stream begun at blocks claims → (span : Span) → span.start ≡ n → span.end ≡ length stream
+  pub so_far_stops_at_end : (n : ℕ) → begun ≡ Some n → ReadSoFar stream begun at blocks claims
+      → (span : Span) → span.start ≡ n → span.end ≡ length stream
       → (parts : List StreamPart) × StopsAfter stream parts (Unfinished span)
   so_far_stops_at_end n e s span from upto =
       stops_at_end stream begun at s.parts (subst (λ l. Reading (lines_of stream) l begun at s.parts) (ap lines_of (drop_all at stream end)) s.reading) n e span from (omega (arith, upto, end, s.within))

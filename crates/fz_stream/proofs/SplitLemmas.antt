@@ -18,16 +18,19 @@ onto : (x : ℕ) (xs : List ℕ) → x ≢ 10 → lines_of (x ∷ xs) ≡ onto_f
 onto x xs n = ap (λ t. cond t ((x ∷ []) ∷ lines_of xs) (onto_first x (lines_of xs))) (ne_eqb x 10 n)
 
 -- a whole line is the first of what begins with it
-lines_of-front : (front rest : List ℕ) → HasNoFeed front → lines_of (front ++ (10 ∷ rest)) ≡ (front ++ 10 ∷ []) ∷ lines_of rest
+lines_of-front : (front rest : List ℕ) → HasNoFeed front
+    → lines_of (front ++ (10 ∷ rest)) ≡ (front ++ 10 ∷ []) ∷ lines_of rest
 lines_of-front [] rest h = refl
 lines_of-front (x ∷ front) rest h = onto x (front ++ (10 ∷ rest)) h.0 ∙ ap (onto_first x) (lines_of-front front rest h.1)
 
-lines_of-line : (line rest : List ℕ) → EndsWithFeed line → lines_of (line ++ rest) ≡ line ∷ lines_of rest
+lines_of-line : (line rest : List ℕ) → EndsWithFeed line
+    → lines_of (line ++ rest) ≡ line ∷ lines_of rest
 lines_of-line line rest w =
     ap (λ l. lines_of (l ++ rest)) w.2 ∙ ap lines_of (append_assoc w.0 (10 ∷ []) rest) ∙ lines_of-front w.0 rest w.1 ∙ ap (λ l. l ∷ lines_of rest) (sym w.2)
 
 -- whole lines are the first lines of what begins with them
-pub lines_of-lines : (lines : List Line) (rest : List ℕ) → AllByRecursion EndsWithFeed lines → lines_of (joined lines ++ rest) ≡ lines ++ lines_of rest
+pub lines_of-lines : (lines : List Line) (rest : List ℕ) → AllByRecursion EndsWithFeed lines
+    → lines_of (joined lines ++ rest) ≡ lines ++ lines_of rest
 lines_of-lines [] rest h = refl
 lines_of-lines (l ∷ lines) rest h = ap lines_of (append_assoc l (joined lines) rest) ∙ lines_of-line l (joined lines ++ rest) h.0 ∙ ap (λ ls. l ∷ ls) (lines_of-lines lines rest h.1)
 
@@ -59,17 +62,20 @@ module _ (bytes : List ℕ) (parts : List StreamPart) (held : List ℕ) (h : Kee
         (every_append EndsWithFeed h.gap body (every_right EndsWithFeed h.covered h.gap h.ended) whole)
 
     -- the lines of all that was taken
-    pub lines_after : (current : List ℕ) → held ≡ joined body ++ current → lines_of bytes ≡ h.covered ++ (h.gap ++ (body ++ lines_of current))
+    pub lines_after : (current : List ℕ) → held ≡ joined body ++ current
+        → lines_of bytes ≡ h.covered ++ (h.gap ++ (body ++ lines_of current))
     lines_after current e =
         let grouped : joined (h.covered ++ (h.gap ++ body)) ++ current ≡ joined h.covered ++ (joined h.gap ++ (joined body ++ current)) =
         ap (λ l. l ++ current) (joined-append h.covered (h.gap ++ body) ∙ ap (λ l. joined h.covered ++ l) (joined-append h.gap body)) ∙ simp append_assoc in
         ap lines_of (h.whole ∙ ap (λ l. joined h.covered ++ (joined h.gap ++ l)) e ∙ sym grouped) ∙ lines_of-lines (h.covered ++ (h.gap ++ body)) current all_ended ∙ simp append_assoc
 
     -- after the parts stand the gap, the body and the lines of what follows it
-    pub goes_on_after : (current : List ℕ) → held ≡ joined body ++ current → GoesOnAfter bytes parts h.gap body (lines_of current)
+    pub goes_on_after : (current : List ℕ) → held ≡ joined body ++ current
+        → GoesOnAfter bytes parts h.gap body (lines_of current)
     goes_on_after current e = record { covers = record { covered = h.covered; whole = lines_after current e; of_parts = h.of_parts }; fillers = h.fillers; own = own }
 
-    pub holds_current : (current : List ℕ) → held ≡ joined body ++ current → HasNoFeed current → Holds bytes parts held
+    pub holds_current : (current : List ℕ) → held ≡ joined body ++ current → HasNoFeed current
+        → Holds bytes parts held
     holds_current current e begun = record {
       gap = h.gap;
       body = body;
@@ -134,7 +140,9 @@ module _ (bytes : List ℕ) (parts : List StreamPart) (held : List ℕ) (h : Kee
         }
 
       -- the line can't follow the open block, whatever bytes follow it
-      pub breaks : body ≢ [] → CannotFollow (joined body) (kind_of line) → (fault : StreamError) → TellsOf (length (joined h.covered) + length (joined h.gap)) (joined body) (Some (kind_of line)) fault
+      pub breaks : body ≢ [] → CannotFollow (joined body) (kind_of line) → (fault : StreamError)
+          → TellsOf (length (joined h.covered) + length (joined h.gap)) (joined body)
+          (Some (kind_of line)) fault
           → (rest : List ℕ) → IsBrokenAfter (bytes ++ (more ++ rest)) parts fault
       breaks begun cannot fault tells rest = record {
         gap = h.gap;
@@ -148,13 +156,15 @@ module _ (bytes : List ℕ) (parts : List StreamPart) (held : List ℕ) (h : Kee
         tells = tells;
       }
         where
-          lines : lines_of (bytes ++ (more ++ rest)) ≡ h.covered ++ (h.gap ++ (body ++ (line ∷ lines_of rest)))
+          lines : lines_of (bytes ++ (more ++ rest))
+              ≡ h.covered ++ (h.gap ++ (body ++ (line ∷ lines_of rest)))
           lines =
               ap lines_of (sym (append_assoc bytes more rest) ∙ ap (λ l. l ++ rest) as_lines) ∙ lines_of-lines (h.covered ++ (h.gap ++ (body ++ line ∷ []))) rest all_whole
               ∙ simp append_assoc
 
 -- what is held, without what it is
-pub keeps_held : (bytes : List ℕ) (parts : List StreamPart) (held : List ℕ) → Holds bytes parts held → Keeps bytes parts held
+pub keeps_held : (bytes : List ℕ) (parts : List StreamPart) (held : List ℕ) → Holds bytes parts held
+    → Keeps bytes parts held
 keeps_held bytes parts held h = record {
   covered = h.stands.covers.covered;
   gap = h.gap;
@@ -167,11 +177,14 @@ keeps_held bytes parts held h = record {
 }
 
 -- the first line of some bytes is whole, or has no LF
-pub first_cut : (xs : List ℕ) (line : Line) (lines : List Line) → lines_of xs ≡ line ∷ lines → EndsWithFeed line ⊎ HasNoFeed line
+pub first_cut : (xs : List ℕ) (line : Line) (lines : List Line) → lines_of xs ≡ line ∷ lines
+    → EndsWithFeed line ⊎ HasNoFeed line
 first_cut [] line lines e = absurd (let no : [] ≡ line ∷ lines = e in cc)
 first_cut (x ∷ xs) line lines e = by (cases_eq x 10) (lines_of xs) refl (first_cut xs)
   where
-    by : (x ≡ 10) ⊎ (x ≡ 10 → ⊥) → (ls : List Line) → lines_of xs ≡ ls → ((l : Line) (m : List Line) → lines_of xs ≡ l ∷ m → EndsWithFeed l ⊎ HasNoFeed l) → EndsWithFeed line ⊎ HasNoFeed line
+    by : (x ≡ 10) ⊎ (x ≡ 10 → ⊥) → (ls : List Line) → lines_of xs ≡ ls
+        → ((l : Line) (m : List Line) → lines_of xs ≡ l ∷ m → EndsWithFeed l ⊎ HasNoFeed l)
+        → EndsWithFeed line ⊎ HasNoFeed line
     by (inl t) ls s ih =
         let h : (x ∷ []) ∷ lines_of xs ≡ line ∷ lines = sym (ap (λ b. cond b ((x ∷ []) ∷ lines_of xs) (onto_first x (lines_of xs))) (eq-eqb x 10 t)) ∙ e in
         let k : x ∷ [] ≡ line = cc in
@@ -191,22 +204,26 @@ no_feed_at (x ∷ line) zero h l e = h.0 e
 no_feed_at (x ∷ line) (suc i) h l e = no_feed_at line i h.1 (omega (arith, l)) e
 
 -- the last byte tells which
-pub whole_from_last : (line : Line) → EndsWithFeed line ⊎ HasNoFeed line → 0 < length line → get_or line (length line - 1) 0 ≡ 10 → EndsWithFeed line
+pub whole_from_last : (line : Line) → EndsWithFeed line ⊎ HasNoFeed line → 0 < length line
+    → get_or line (length line - 1) 0 ≡ 10 → EndsWithFeed line
 whole_from_last line (inl w) l e = w
 whole_from_last line (inr n) l e = absurd (no_feed_at line (length line - 1) n (omega arith) e)
 
-pub begun_from_last : (line : Line) → EndsWithFeed line ⊎ HasNoFeed line → (get_or line (length line - 1) 0 ≡ 10 → ⊥) → HasNoFeed line
+pub begun_from_last : (line : Line) → EndsWithFeed line ⊎ HasNoFeed line
+    → (get_or line (length line - 1) 0 ≡ 10 → ⊥) → HasNoFeed line
 begun_from_last line (inr n) e = n
 begun_from_last line (inl w) e =
     let size : length line ≡ length w.0 + 1 = ap length w.2 ∙ length-append w.0 (10 ∷ []) in
     absurd (e (ap (λ l. get_or l (length line - 1) 0) w.2 ∙ get_or_at w.0 10 [] 0 (length line - 1) (omega (arith, size))))
 
 -- a line that has begun, and the rest of it
-pub whole_joined : (current part : List ℕ) → HasNoFeed current → EndsWithFeed part → EndsWithFeed (current ++ part)
+pub whole_joined : (current part : List ℕ) → HasNoFeed current → EndsWithFeed part
+    → EndsWithFeed (current ++ part)
 whole_joined current part n w = (current ++ w.0, every_append (λ b. b ≢ 10) current w.0 n w.1, ap (λ l. current ++ l) w.2 ∙ sym (append_assoc current w.0 (10 ∷ [])))
 
 -- bytes that end with LF have none before their last
-no_feed_front : (front line : List ℕ) (n : ℕ) → HasNoFeed front → line ≡ front ++ 10 ∷ [] → n < length line → HasNoFeed (take n line)
+no_feed_front : (front line : List ℕ) (n : ℕ) → HasNoFeed front → line ≡ front ++ 10 ∷ []
+    → n < length line → HasNoFeed (take n line)
 no_feed_front front [] n h e l = absurd (omega arith)
 no_feed_front front (x ∷ line) zero h e l = tt
 no_feed_front [] (x ∷ line) (suc n) h e l = absurd (let t : line ≡ [] = cc in omega (arith, l, ap length t))
@@ -221,6 +238,7 @@ no_feed_take [] (suc n) h = tt
 no_feed_take (x ∷ line) (suc n) h = (h.0, no_feed_take line n h.1)
 
 -- a line has no LF before its last byte
-pub no_feed_before : (line : Line) (n : ℕ) → EndsWithFeed line ⊎ HasNoFeed line → n < length line → HasNoFeed (take n line)
+pub no_feed_before : (line : Line) (n : ℕ) → EndsWithFeed line ⊎ HasNoFeed line → n < length line
+    → HasNoFeed (take n line)
 no_feed_before line n (inl w) l = no_feed_front w.0 line n w.1 w.2 l
 no_feed_before line n (inr h) l = no_feed_take line n h

@@ -31,7 +31,9 @@ some_lines [] none e = none [] (none_text, none_apart)
 some_lines (x ∷ b) none e = (let no : x ∷ b ≡ [] = e in cc)
 
 module _ (bytes : List ℕ) (rest : List Line) (begun : Option ℕ) (place : ℕ) (parts : List StreamPart) (r : Reading (lines_of bytes) rest begun place parts) where
-  stops_at : r.body ≢ [] → BreaksText (joined r.body) rest → (fault : StreamError) → TellsOf (length (joined r.covered) + length (joined r.gap)) (joined r.body) (first_kind rest) fault → (ps : List StreamPart) × StopsAfter bytes ps fault
+  stops_at : r.body ≢ [] → BreaksText (joined r.body) rest → (fault : StreamError)
+      → TellsOf (length (joined r.covered) + length (joined r.gap)) (joined r.body)
+      (first_kind rest) fault → (ps : List StreamPart) × StopsAfter bytes ps fault
   stops_at some breaks fault tells = (
     parts,
     record {
@@ -46,11 +48,13 @@ module _ (bytes : List ℕ) (rest : List Line) (begun : Option ℕ) (place : ℕ
   )
 
   -- what is open begins there
-  opened : (n : ℕ) → begun ≡ Some n → (r.body ≢ []) × (n ≡ length (joined r.covered) + length (joined r.gap))
+  opened : (n : ℕ) → begun ≡ Some n
+      → (r.body ≢ []) × (n ≡ length (joined r.covered) + length (joined r.gap))
   opened n e = begun_at r.body _ n (subst (Begins r.body _) e r.begins)
 
 -- the text before a marker is none of a block
-pub stops_at_marker : (bytes : List ℕ) (line : Line) (rest : List Line) (begun : Option ℕ) (place : ℕ) (parts : List StreamPart) → Reading (lines_of bytes) (line ∷ rest) begun place parts
+pub stops_at_marker : (bytes : List ℕ) (line : Line) (rest : List Line) (begun : Option ℕ)
+    (place : ℕ) (parts : List StreamPart) → Reading (lines_of bytes) (line ∷ rest) begun place parts
     → joined (lines_of bytes) ≡ bytes → (start : ℕ) → step_of begun place (kind_of line) ≡ EndsBlock start
     → ((items : List Printed) → IsBlockText (take (place - start) (drop start bytes)) items → ⊥)
     → (fault : StreamError) → TellsOfText start (take (place - start) (drop start bytes)) fault → (ps : List StreamPart) × StopsAfter bytes ps fault
@@ -63,7 +67,8 @@ stops_at_marker bytes line rest begun place parts r whole start s none fault tol
     (tells_before_marker _ (joined r.body) (Some (kind_of line)) fault (ap Some marker) (subst (λ n. TellsOfText n (joined r.body) fault) at (subst (λ x. TellsOfText start x fault) text told)))
 
 -- the text before a marker ends at the marker's line
-pub text_within : (bytes : List ℕ) (line : Line) (rest : List Line) (begun : Option ℕ) (place : ℕ) (parts : List StreamPart) → Reading (lines_of bytes) (line ∷ rest) begun place parts
+pub text_within : (bytes : List ℕ) (line : Line) (rest : List Line) (begun : Option ℕ) (place : ℕ)
+    (parts : List StreamPart) → Reading (lines_of bytes) (line ∷ rest) begun place parts
     → place ≤ length bytes → (start : ℕ) → step_of begun place (kind_of line) ≡ EndsBlock start → start + length (take (place - start) (drop start bytes)) ≤ length bytes
 text_within bytes line rest begun place parts r within start s =
     let marker : kind_of line ≡ Marker = ends_marker place (kind_of line) begun start s in
@@ -71,7 +76,8 @@ text_within bytes line rest begun place parts r within start s =
     omega (arith, at, r.place_is, within, length-take (place - start) (drop start bytes), length-drop start bytes)
 
 -- a claim stands in an open block
-pub stops_at_claim : (bytes : List ℕ) (line : Line) (rest : List Line) (begun : Option ℕ) (place : ℕ) (parts : List StreamPart) → Reading (lines_of bytes) (line ∷ rest) begun place parts
+pub stops_at_claim : (bytes : List ℕ) (line : Line) (rest : List Line) (begun : Option ℕ)
+    (place : ℕ) (parts : List StreamPart) → Reading (lines_of bytes) (line ∷ rest) begun place parts
     → (n : ℕ) → step_of begun place (kind_of line) ≡ Breaks n → (span : Span) → span.start ≡ n → span.end ≡ place → (ps : List StreamPart) × StopsAfter bytes ps (Unfinished span)
 stops_at_claim bytes line rest begun place parts r n s span from upto =
     let k = breaks_claim place (kind_of line) begun n s in
@@ -79,7 +85,8 @@ stops_at_claim bytes line rest begun place parts r n s span from upto =
     stops_at bytes (line ∷ rest) begun place parts r w.0 (subst (CannotFollow (joined r.body)) (sym k.0.1) tt) (Unfinished span) (k.0, from ∙ w.1, omega (arith, upto, r.place_is))
 
 -- the stream ends in an open block
-pub stops_at_end : (bytes : List ℕ) (begun : Option ℕ) (place : ℕ) (parts : List StreamPart) → Reading (lines_of bytes) [] begun place parts
+pub stops_at_end : (bytes : List ℕ) (begun : Option ℕ) (place : ℕ) (parts : List StreamPart)
+    → Reading (lines_of bytes) [] begun place parts
     → (n : ℕ) → begun ≡ Some n → (span : Span) → span.start ≡ n → span.end ≡ place → (ps : List StreamPart) × StopsAfter bytes ps (Unfinished span)
 stops_at_end bytes begun place parts r n e span from upto =
     let w = opened bytes [] begun place parts r n e in

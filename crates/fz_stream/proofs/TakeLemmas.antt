@@ -22,10 +22,14 @@ pub record Taking (old now : Held) (piece : List ℕ) (at : ℕ) : Type 0 where
   pub most : length now.buffer.items ≤ 2 ^ 24
   pub most_taken : now.before + length now.buffer.items ≤ 2 ^ 40
   pub held : IsHeld now
-  pub keeps : (bytes : List ℕ) (parts : List StreamPart) → Keeps bytes parts old.buffer.items → Keeps (bytes ++ take at piece) parts now.buffer.items
-  pub room : (bytes : List ℕ) (parts : List StreamPart) → Keeps bytes parts old.buffer.items → old.before + length old.buffer.items ≡ length bytes → HasRoomFor bytes piece parts at
+  pub keeps : (bytes : List ℕ) (parts : List StreamPart) → Keeps bytes parts old.buffer.items
+      → Keeps (bytes ++ take at piece) parts now.buffer.items
+  pub room : (bytes : List ℕ) (parts : List StreamPart) → Keeps bytes parts old.buffer.items
+      → old.before + length old.buffer.items ≡ length bytes → HasRoomFor bytes piece parts at
 
-pub start_taking : (old : Held) (piece : List ℕ) → old.line ≤ length old.buffer.items → length old.buffer.items ≤ 2 ^ 24 → old.before + length old.buffer.items ≤ 2 ^ 40 → IsHeld old → Taking old old piece 0
+pub start_taking : (old : Held) (piece : List ℕ) → old.line ≤ length old.buffer.items
+    → length old.buffer.items ≤ 2 ^ 24 → old.before + length old.buffer.items ≤ 2 ^ 40 → IsHeld old
+    → Taking old old piece 0
 start_taking old piece l r m h = record {
   most = r;
   most_taken = m;
@@ -37,7 +41,8 @@ start_taking old piece l r m h = record {
   room = λ bytes parts k size i l. absurd (omega (arith, l));
 }
 
-pub all_taken : (old now : Held) (piece : List ℕ) (at : ℕ) → Taking old now piece at → length piece ≤ at → KeepsAll old now piece at
+pub all_taken : (old now : Held) (piece : List ℕ) (at : ℕ) → Taking old now piece at
+    → length piece ≤ at → KeepsAll old now piece at
 all_taken old now piece at t end = record {
   whole = omega (arith, t.within);
   held = t.held;
@@ -61,7 +66,9 @@ module _ (old now : Held) (piece : List ℕ) (at : ℕ) (t : Taking old now piec
   front_next n l = take-add at n piece ∙ ap (λ m. take at piece ++ m) (ap (take n) (sym left) ∙ sym (take-take n (length part) rest (omega arith)) ∙ sym (ap (take n) front))
 
   -- what is held with so many bytes of the line, but not all
-  holds_front : (n : ℕ) → n < length part → (bytes : List ℕ) (parts : List StreamPart) → Keeps bytes parts old.buffer.items → Holds (bytes ++ take (at + n) piece) parts (now.buffer.items ++ take n part)
+  holds_front : (n : ℕ) → n < length part → (bytes : List ℕ) (parts : List StreamPart)
+      → Keeps bytes parts old.buffer.items
+      → Holds (bytes ++ take (at + n) piece) parts (now.buffer.items ++ take n part)
   holds_front n l bytes parts k =
       let begun : HasNoFeed (t.held.current ++ take n part) = every_append (λ b. b ≢ 10) t.held.current (take n part) t.held.begun (no_feed_before part n either l) in
       let kept : Keeps (bytes ++ take (at + n) piece) parts (now.buffer.items ++ take n part) =
@@ -71,7 +78,8 @@ module _ (old now : Held) (piece : List ℕ) (at : ℕ) (t : Taking old now piec
       (ap (λ m. m ++ take n part) t.held.lines.bytes ∙ append_assoc (joined t.held.body) t.held.current (take n part)) begun
 
   -- the line fits: there is room for each of its bytes
-  pub room_next : length now.buffer.items + length part ≤ 2 ^ 24 → now.before + length now.buffer.items + length part ≤ 2 ^ 40
+  pub room_next : length now.buffer.items + length part ≤ 2 ^ 24
+      → now.before + length now.buffer.items + length part ≤ 2 ^ 40
       → (bytes : List ℕ) (parts : List StreamPart) → Keeps bytes parts old.buffer.items → old.before + length old.buffer.items ≡ length bytes → HasRoomFor bytes piece parts (at + length part)
   room_next fits over bytes parts k size i l =
       ⊎_elim (λ before. t.room bytes parts k size i before)
@@ -86,7 +94,8 @@ module _ (old now : Held) (piece : List ℕ) (at : ℕ) (t : Taking old now piec
       )
 
   -- the line doesn't fit: of its bytes n could be taken
-  pub passes_limit : (n : ℕ) → n < length part → (bytes : List ℕ) (parts : List StreamPart) → Keeps bytes parts old.buffer.items → old.before + length old.buffer.items ≡ length bytes
+  pub passes_limit : (n : ℕ) → n < length part → (bytes : List ℕ) (parts : List StreamPart)
+      → Keeps bytes parts old.buffer.items → old.before + length old.buffer.items ≡ length bytes
       → (length now.buffer.items + n ≡ 2 ^ 24) ⊎ (now.before + length now.buffer.items + n ≡ 2 ^ 40) → PassesLimit bytes piece parts
   passes_limit n l bytes parts k size full =
       let some : length (take n part) ≡ n = omega (arith, length-take n part, l) in
@@ -110,16 +119,19 @@ module _ (old now : Held) (piece : List ℕ) (at : ℕ) (t : Taking old now piec
     pub lines_mid : HasLine mid t.held.body (t.held.current ++ part)
     lines_mid = record { bytes = pushed ∙ bytes_mid; place = same_line ∙ t.held.lines.place; whole = t.held.lines.whole; own = t.held.lines.own }
 
-    joined_next : (bytes : List ℕ) → (bytes ++ take at piece) ++ part ≡ bytes ++ take (at + length part) piece
+    joined_next : (bytes : List ℕ)
+        → (bytes ++ take at piece) ++ part ≡ bytes ++ take (at + length part) piece
     joined_next bytes = append_assoc bytes (take at piece) part ∙ ap (λ l. bytes ++ l) (sym next)
 
     -- the bytes are kept with the line's
-    keeps_mid : (bytes : List ℕ) (parts : List StreamPart) → Keeps bytes parts old.buffer.items → Keeps (bytes ++ take (at + length part) piece) parts mid.buffer.items
+    keeps_mid : (bytes : List ℕ) (parts : List StreamPart) → Keeps bytes parts old.buffer.items
+        → Keeps (bytes ++ take (at + length part) piece) parts mid.buffer.items
     keeps_mid bytes parts k =
         subst (λ b. Keeps b parts mid.buffer.items) (joined_next bytes) (subst (Keeps ((bytes ++ take at piece) ++ part) parts) (sym pushed) (keeps_more (bytes ++ take at piece) parts now.buffer.items (t.keeps bytes parts k) part))
 
     -- no line ended
-    pub taking_begun : (get_or part (length part - 1) 0 ≡ 10 → ⊥) → Taking old mid piece (at + length part)
+    pub taking_begun : (get_or part (length part - 1) 0 ≡ 10 → ⊥)
+        → Taking old mid piece (at + length part)
     taking_begun unended = record {
       within = inside;
       line = omega (arith, t.line, sizes, same_line);
@@ -136,7 +148,9 @@ module _ (old now : Held) (piece : List ℕ) (at : ℕ) (t : Taking old now piec
       ends_whole = whole_joined t.held.current part t.held.begun (whole_from_last part either some closed)
 
       -- a line ended, and no part
-      pub taking_line : (new : Held) → new.line ≤ length new.buffer.items → new.before + length new.buffer.items ≡ mid.before + length mid.buffer.items → length new.buffer.items ≤ length mid.buffer.items
+      pub taking_line : (new : Held) → new.line ≤ length new.buffer.items
+          → new.before + length new.buffer.items ≡ mid.before + length mid.buffer.items
+          → length new.buffer.items ≤ length mid.buffer.items
           → GoesOnHolding mid new t.held.body (t.held.current ++ part) → Taking old new piece (at + length part)
       taking_line new line count shorter g = record {
         within = inside;
@@ -149,7 +163,8 @@ module _ (old now : Held) (piece : List ℕ) (at : ℕ) (t : Taking old now piec
         room = room_next room left_over;
       }
         where
-          body_next : joined t.held.body ++ (t.held.current ++ part) ≡ joined (t.held.body ++ (t.held.current ++ part) ∷ []) ++ []
+          body_next : joined t.held.body ++ (t.held.current ++ part)
+              ≡ joined (t.held.body ++ (t.held.current ++ part) ∷ []) ++ []
           body_next = sym (append-nil _ ∙ joined-append t.held.body ((t.held.current ++ part) ∷ []) ∙ ap (λ l. joined t.held.body ++ l) (joined_one (t.held.current ++ part)))
 
           dropped : DropsLine new t.held.body (t.held.current ++ part) → IsHeld new
@@ -168,14 +183,18 @@ module _ (old now : Held) (piece : List ℕ) (at : ℕ) (t : Taking old now piec
             begun = tt;
           }
 
-          dropped_keeps : (bytes : List ℕ) (parts : List StreamPart) → Keeps bytes parts old.buffer.items → DropsLine new t.held.body (t.held.current ++ part) → Keeps (bytes ++ take (at + length part) piece) parts new.buffer.items
+          dropped_keeps : (bytes : List ℕ) (parts : List StreamPart)
+              → Keeps bytes parts old.buffer.items → DropsLine new t.held.body
+              (t.held.current ++ part) → Keeps
+              (bytes ++ take (at + length part) piece) parts new.buffer.items
           dropped_keeps bytes parts k d =
               subst (λ b. Keeps b parts new.buffer.items) (joined_next bytes)
               (subst (Keeps ((bytes ++ take at piece) ++ part) parts) (sym d.empty)
               (keeps_filler (bytes ++ take at piece) parts now.buffer.items (t.keeps bytes parts k) t.held.body t.held.lines.whole t.held.lines.own part (t.held.current ++ part) bytes_mid ends_whole d.none d.fills))
 
       -- a part ended
-      pub takes_part : (new : Held) (ended : Ended) → new.before + length new.buffer.items ≡ mid.before + length mid.buffer.items → new.buffer.items ≡ mid.buffer.items
+      pub takes_part : (new : Held) (ended : Ended) → new.before + length new.buffer.items
+          ≡ mid.before + length mid.buffer.items → new.buffer.items ≡ mid.buffer.items
           → EndsPart new t.held.body (t.held.current ++ part) ended → (bytes : List ℕ) (parts : List StreamPart) → Keeps bytes parts old.buffer.items → old.before + length old.buffer.items ≡ length bytes
           → TakesPart new bytes (take (at + length part) piece) parts ended
       takes_part new ended count same e bytes parts k size =
@@ -207,7 +226,9 @@ module _ (old now : Held) (piece : List ℕ) (at : ℕ) (t : Taking old now piec
           }
 
       -- the line can't stand there
-      pub takes_broken : (e : StreamError) → BreaksBlock now.before t.held.body (t.held.current ++ part) e → (bytes : List ℕ) (parts : List StreamPart) → Keeps bytes parts old.buffer.items
+      pub takes_broken : (e : StreamError) → BreaksBlock now.before t.held.body
+          (t.held.current ++ part) e → (bytes : List ℕ) (parts : List StreamPart)
+          → Keeps bytes parts old.buffer.items
           → old.before + length old.buffer.items ≡ length bytes → IsBrokenAfter (bytes ++ piece) parts e
       takes_broken e b bytes parts k size =
           let h = t.keeps bytes parts k in

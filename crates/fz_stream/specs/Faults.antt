@@ -6,7 +6,7 @@ use Rattle.fz_syntax.specs.SyntaxError.TheVariants.{TooLong as TextTooLong, Memo
 use Rattle.fz_stream.specs.declared.error.StreamError.{StreamError}
 use Rattle.fz_stream.specs.declared.error.StreamError.TheVariants.{TooLong, Item, DuplicateName, Unfinished, Memory, Failed}
 
--- a fault of a block's text: neither want of memory, nor too many bytes, which no block has
+-- a fault of a block's text: neither out of memory, nor too many bytes, which no block has
 abbrev pub IsItemFault : SyntaxError → Type 0
 IsItemFault e = (e ≢ TextMemory) × (e ≢ TextTooLong)
 

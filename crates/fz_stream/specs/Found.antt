@@ -12,7 +12,8 @@ use Rattle.fz_stream.specs.Parts.{SolutionBlock, StreamPart, BlockPart, ClaimPar
 abbrev pub block_of : Block → SolutionBlock
 block_of b = record { offset = b.offset; text = b.text.now; items = bare_items b.items.items }
 
--- the names and literals of the block's items stand in its text, one behind the other, and each name is a slice of it
+-- the names and literals of the block's items stand in its text, one behind the other, and each
+-- name is a slice of it
 abbrev pub HasPlaces : Block → Type 0
 HasPlaces b = Stand b.text.now 0 (length b.text.now) (item_spots b.items.items)
 
@@ -26,15 +27,17 @@ blocks_in [] = []
 blocks_in (BlockPart block ∷ parts) = block ∷ blocks_in parts
 blocks_in (ClaimPart kind ∷ parts) = blocks_in parts
 
--- the claims among the parts, each with the number of blocks before it, of which n come before the parts
+-- the claims among the parts, each with the number of blocks before it, of which n come before the
+-- parts
 abbrev pub claims_in : ℕ → List StreamPart → List Claim
 claims_in n [] = []
 claims_in n (BlockPart block ∷ parts) = claims_in (n + 1) parts
 claims_in n (ClaimPart kind ∷ parts) = record { after = n; kind = kind } ∷ claims_in n parts
 
--- The stream has these blocks and claims, and no others: they are those of parts of which the bytes are a text, and the
--- bytes are a text of no other parts.
-pub record IsReadAs (bytes : List ℕ) (blocks : List SolutionBlock) (claims : List Claim) : Type 0 where
+-- The stream has these blocks and claims, and no others: they are those of parts of which the bytes
+-- are a text, and the bytes are a text of no other parts.
+pub record IsReadAs (bytes : List ℕ) (blocks : List SolutionBlock)
+    (claims : List Claim) : Type 0 where
   pub parts : List StreamPart
   pub text : IsStreamText bytes parts
   pub only : (others : List StreamPart) → IsStreamText bytes others → others ≡ parts
@@ -44,7 +47,8 @@ pub record IsReadAs (bytes : List ℕ) (blocks : List SolutionBlock) (claims : L
 -- the numbers of blocks before the claims don't fall, and lie between these two
 abbrev pub AreInOrder : ℕ → ℕ → List Claim → Type 0
 AreInOrder least most [] = Unit {0}
-AreInOrder least most (claim ∷ claims) = (least ≤ claim.after) × (claim.after ≤ most) × AreInOrder claim.after most claims
+AreInOrder least most (claim ∷ claims) =
+    (least ≤ claim.after) × (claim.after ≤ most) × AreInOrder claim.after most claims
 
 -- The block's text stands in the stream at its offset, and a marker line follows it.
 pub record StandsBeforeMarker (bytes : List ℕ) (block : SolutionBlock) : Type 0 where

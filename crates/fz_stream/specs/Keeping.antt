@@ -1,5 +1,5 @@
--- The text of an open block and the current line, as a splitter keeps them. It serves private functions alone: a reader
--- of the public contracts need not believe it.
+-- The text of an open block and the current line, as a splitter keeps them. It serves private
+-- functions alone: a reader of the public contracts need not believe it.
 use Rattle.std.specs.Prelude.{◌≡◌, ◌≢◌, ℕ, ◌+◌, List, [], ◌∷◌, ◌++◌, length, take, Option, Some, None, IfSome, ◌⊎◌}
 use Rattle.std.specs.List.{AllByRecursion}
 use Rattle.fz_stream.specs.declared.error.StreamError.{StreamError}
@@ -64,10 +64,14 @@ EndedAs (ClaimEnded kind) offset text (ClaimPart other) = kind ≡ other
 pub record EndsPart (h : Held) (body : List Line) (line : Line) (ended : Ended) : Type 0 where
   pub part : StreamPart
   pub is : EndedAs ended h.before (take h.line h.buffer.items) part
-  pub lines : (start : ℕ) (gap : List Line) → AllByRecursion IsFiller gap → start + length (joined gap) ≡ h.before → AreLinesOfPart start (gap ++ (body ++ line ∷ [])) part
+  pub lines : (start : ℕ) (gap : List Line) → AllByRecursion IsFiller gap
+      → start + length (joined gap) ≡ h.before
+      → AreLinesOfPart start (gap ++ (body ++ line ∷ [])) part
 
--- The line can't follow the open block, whose text begins at the offset, and the fault tells of both.
-pub record BreaksBlock (offset : ℕ) (body : List Line) (line : Line) (fault : StreamError) : Type 0 where
+-- The line can't follow the open block, whose text begins at the offset, and the fault tells of
+-- both.
+pub record BreaksBlock (offset : ℕ) (body : List Line) (line : Line)
+    (fault : StreamError) : Type 0 where
   pub begun : body ≢ []
   pub cannot : CannotFollow (joined body) (kind_of line)
   pub tells : TellsOf offset (joined body) (Some (kind_of line)) fault
@@ -87,10 +91,12 @@ IsKept (Some (ClaimEnded kind)) h = Unit {0}
 pub record KeepsAll (old new : Held) (piece : List ℕ) (n : ℕ) : Type 0 where
   pub whole : n ≡ length piece
   pub held : IsHeld new
-  pub keeps : (bytes : List ℕ) (parts : List StreamPart) → Keeps bytes parts old.buffer.items → Keeps (bytes ++ piece) parts new.buffer.items
+  pub keeps : (bytes : List ℕ) (parts : List StreamPart) → Keeps bytes parts old.buffer.items
+      → Keeps (bytes ++ piece) parts new.buffer.items
 
 -- A part ended with the last of the bytes that were taken.
-pub record TakesPart (new : Held) (bytes taken : List ℕ) (parts : List StreamPart) (ended : Ended) : Type 0 where
+pub record TakesPart (new : Held) (bytes taken : List ℕ) (parts : List StreamPart)
+    (ended : Ended) : Type 0 where
   pub part : StreamPart
   pub is : EndedAs ended new.before (take new.line new.buffer.items) part
   pub completes : Covers (bytes ++ taken) (parts ++ part ∷ []) []
@@ -106,11 +112,13 @@ pub record EndsOpen (h : Held) (bytes : List ℕ) (parts : List StreamPart) : Ty
   pub place : h.line ≢ 0 → h.before ≡ length (joined stands.covers.covered) + length (joined gap)
   pub size : h.line ≢ 0 → length h.buffer.items ≡ length (joined body)
 
--- What stands at the end of the stream: the bytes are a text of the parts, and of one more where one ended.
+-- What stands at the end of the stream: the bytes are a text of the parts, and of one more where
+-- one ended.
 abbrev pub EndsStream : Held → List ℕ → List StreamPart → Option Ended → Type 0
 EndsStream h bytes parts None = IsStreamText bytes parts
 EndsStream h bytes parts (Some ended) =
-    (part : StreamPart) × EndedAs ended h.before (take h.line h.buffer.items) part × IsStreamText bytes (parts ++ part ∷ [])
+    (part : StreamPart) × EndedAs ended h.before (take h.line h.buffer.items) part
+    × IsStreamText bytes (parts ++ part ∷ [])
 
 -- what is held while nothing waits, or a part does
 abbrev pub held_while : Option Ended → List ℕ → List ℕ

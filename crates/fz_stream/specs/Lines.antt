@@ -1,4 +1,5 @@
--- The lines of a stream of solver output, and their kinds (MiniZinc Handbook, output of a FlatZinc solver; this project's profile).
+-- The lines of a stream of solver output, and their kinds (MiniZinc Handbook, output of a FlatZinc
+-- solver; this project's profile).
 use Rattle.std.specs.Prelude.{◌≡◌, ◌≢◌, ℕ, List, [], ◌∷◌, ◌++◌, reverse, if◌then◌else◌, ◌==◌, codes}
 use Rattle.std.specs.List.{AllByRecursion}
 use Rattle.std.specs.Str.{bytes_eq}
@@ -16,10 +17,12 @@ abbrev pub onto_first : ℕ → List Line → List Line
 onto_first b [] = (b ∷ []) ∷ []
 onto_first b (line ∷ lines) = (b ∷ line) ∷ lines
 
--- The lines of a stream: it is cut behind each LF, and what follows the last LF is a line where it isn't empty.
+-- The lines of a stream: it is cut behind each LF, and what follows the last LF is a line where it
+-- isn't empty.
 abbrev pub lines_of : List ℕ → List Line
 lines_of [] = []
-lines_of (b ∷ bytes) = if b == 10 then ((b ∷ []) ∷ lines_of bytes) else onto_first b (lines_of bytes)
+lines_of (b ∷ bytes) =
+    if b == 10 then ((b ∷ []) ∷ lines_of bytes) else onto_first b (lines_of bytes)
 
 -- the bytes of lines, one line after another
 abbrev pub joined : List Line → List ℕ
@@ -43,7 +46,8 @@ skip_blanks (b ∷ bytes) = if is_blank b then skip_blanks bytes else (b ∷ byt
 abbrev pub trimmed : Line → List ℕ
 trimmed line = reverse (skip_blanks (reverse (skip_blanks line)))
 
--- Ten dashes close a solution. Ten equality signs and the five named lines are claims on the search. All else begins or continues an item.
+-- Ten dashes close a solution. Ten equality signs and the five named lines are claims on the
+-- search. All else begins or continues an item.
 abbrev pub kind_of_words : List ℕ → LineKind
 kind_of_words words =
     if bytes_eq words (codes "----------") then Marker

@@ -1,4 +1,5 @@
--- The parts of a stream of solver output: solution blocks and claims (MiniZinc Handbook, output of a FlatZinc solver; this project's profile).
+-- The parts of a stream of solver output: solution blocks and claims (MiniZinc Handbook, output of
+-- a FlatZinc solver; this project's profile).
 use Rattle.std.specs.Prelude.{◌≡◌, ◌≢◌, ℕ, ◌+◌, List, [], ◌∷◌, ◌++◌, length}
 use Rattle.std.specs.List.{AllByRecursion, AllPairs}
 use Rattle.fz_syntax.specs.Tree.{Printed}
@@ -26,13 +27,14 @@ HasDistinctNames items = AllPairs (λ a b. a.name ≢ b.name) items
 abbrev pub IsBlockText : List ℕ → List Printed → Type 0
 IsBlockText text items = IsTextOfItems text items × HasDistinctNames items
 
--- the lines of a block before its marker: none, or an item line, and then item lines, blank lines and comments
+-- the lines of a block before its marker: none, or an item line, and then item lines, blank lines
+-- and comments
 abbrev pub AreBlockLines : List Line → Type 0
 AreBlockLines [] = Unit {0}
 AreBlockLines (line ∷ lines) = (kind_of line ≡ Item) × AllByRecursion IsInner lines
 
--- The lines, of which the first stands at byte start, are those of the block: blank lines and comments, its own
--- lines, and its marker.
+-- The lines, of which the first stands at byte start, are those of the block: blank lines and
+-- comments, its own lines, and its marker.
 pub record AreLinesOfBlock (start : ℕ) (lines : List Line) (block : SolutionBlock) : Type 0 where
   pub gap : List Line
   pub body : List Line
@@ -61,23 +63,28 @@ AreLinesOfPart start lines (ClaimPart kind) = AreLinesOfClaim lines kind
 abbrev pub AreLinesOf : ℕ → List Line → List StreamPart → Type 0
 AreLinesOf start lines [] = lines ≡ []
 AreLinesOf start lines (part ∷ parts) =
-    (own : List Line) × (others : List Line) × (lines ≡ own ++ others) × AreLinesOfPart start own part × AreLinesOf (start + length (joined own)) others parts
+    (own : List Line) × (others : List Line) × (lines ≡ own ++ others)
+    × AreLinesOfPart start own part × AreLinesOf (start + length (joined own)) others parts
 
--- The parts cover the bytes up to a place: the lines before it are those of the parts, and rest are the lines from it on.
+-- The parts cover the bytes up to a place: the lines before it are those of the parts, and rest are
+-- the lines from it on.
 pub record Covers (bytes : List ℕ) (parts : List StreamPart) (rest : List Line) : Type 0 where
   pub covered : List Line
   pub whole : lines_of bytes ≡ covered ++ rest
   pub of_parts : AreLinesOf 0 covered parts
 
--- The bytes are a text of the parts: the parts cover them up to a place, from which only blank lines and comments follow.
+-- The bytes are a text of the parts: the parts cover them up to a place, from which only blank
+-- lines and comments follow.
 pub record IsStreamText (bytes : List ℕ) (parts : List StreamPart) : Type 0 where
   pub rest : List Line
   pub covers : Covers bytes parts rest
   pub fillers : AllByRecursion IsFiller rest
 
--- The parts cover the bytes up to a place, from which blank lines and comments follow, the gap; then the lines of a
--- block that no marker has closed, its body, which has no line where no block is open; and then the rest.
-pub record GoesOnAfter (bytes : List ℕ) (parts : List StreamPart) (gap body rest : List Line) : Type 0 where
+-- The parts cover the bytes up to a place, from which blank lines and comments follow, the gap;
+-- then the lines of a block that no marker has closed, its body, which has no line where no block
+-- is open; and then the rest.
+pub record GoesOnAfter (bytes : List ℕ) (parts : List StreamPart)
+    (gap body rest : List Line) : Type 0 where
   pub covers : Covers bytes parts (gap ++ (body ++ rest))
   pub fillers : AllByRecursion IsFiller gap
   pub own : AreBlockLines body

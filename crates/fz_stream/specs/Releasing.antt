@@ -1,4 +1,5 @@
--- The items that a splitter releases. That they are those of the block that waits is a promise of `release` and a premise of `lend`.
+-- The items that a splitter releases. That they are those of the block that waits is a promise of
+-- `release` and a premise of `lend`.
 use Rattle.std.specs.Prelude.{Option, Some, None}
 use Rattle.fz_stream.specs.declared.kept.KeptItems.{KeptItems}
 use Rattle.fz_stream.specs.Kept.{AreKeptOf}

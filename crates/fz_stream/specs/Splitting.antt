@@ -20,8 +20,8 @@ pub data WaitingPart : Type 0 where
   WaitingBlock : ℕ → List ℕ → WaitingPart
   WaitingClaim : ClaimKind → WaitingPart
 
--- The bytes held (the text of the open block and the current line), the number of bytes taken, the part that waits, and
--- whether it finished or failed.
+-- The bytes held (the text of the open block and the current line), the number of bytes taken, the
+-- part that waits, and whether it finished or failed.
 pub record SplitterState : Type 0 where
   pub held : List ℕ
   pub taken : ℕ
@@ -30,7 +30,8 @@ pub record SplitterState : Type 0 where
 
 -- the waiting part is this part, with its place and text
 abbrev pub WaitsFor : WaitingPart → StreamPart → Type 0
-WaitsFor (WaitingBlock offset text) (BlockPart block) = (offset ≡ block.offset) × (text ≡ block.text)
+WaitsFor (WaitingBlock offset text) (BlockPart block) =
+    (offset ≡ block.offset) × (text ≡ block.text)
 WaitsFor (WaitingBlock offset text) (ClaimPart kind) = ⊥
 WaitsFor (WaitingClaim kind) (BlockPart block) = ⊥
 WaitsFor (WaitingClaim kind) (ClaimPart other) = kind ≡ other
@@ -38,7 +39,9 @@ WaitsFor (WaitingClaim kind) (ClaimPart other) = kind ≡ other
 -- the part that waits, if one does, is the last of the parts
 abbrev pub WaitsForLast : Option WaitingPart → List StreamPart → Type 0
 WaitsForLast None parts = Unit {0}
-WaitsForLast (Some waiting) parts = (front : List StreamPart) × (part : StreamPart) × (parts ≡ front ++ part ∷ []) × WaitsFor waiting part
+WaitsForLast (Some waiting) parts =
+    (front : List StreamPart) × (part : StreamPart) × (parts ≡ front ++ part ∷ [])
+    × WaitsFor waiting part
 
 -- no part waits and there is none more, or the one more waits
 abbrev pub WaitsForMore : Option WaitingPart → List StreamPart → Type 0
@@ -48,8 +51,9 @@ WaitsForMore None (part ∷ more) = ⊥
 WaitsForMore (Some waiting) [] = ⊥
 WaitsForMore (Some waiting) (part ∷ next ∷ more) = ⊥
 
--- Of the bytes these parts have ended, and these bytes are held: after the parts stand blank lines and comments, then the
--- whole lines of a block that is open, then the current line, which has no LF yet. The last two are held.
+-- Of the bytes these parts have ended, and these bytes are held: after the parts stand blank lines
+-- and comments, then the whole lines of a block that is open, then the current line, which has no
+-- LF yet. The last two are held.
 pub record Holds (bytes : List ℕ) (parts : List StreamPart) (held : List ℕ) : Type 0 where
   pub gap : List Line
   pub body : List Line
@@ -67,13 +71,16 @@ pub record Fits (s : SplitterState) (bytes : List ℕ) (parts : List StreamPart)
   pub waits : WaitsForLast s.waits parts
 
 -- The splitter took the whole piece, and no part ended.
-pub record TakesAll (s : SplitterState) (bytes piece : List ℕ) (parts : List StreamPart) (n : ℕ) : Type 0 where
+pub record TakesAll (s : SplitterState) (bytes piece : List ℕ) (parts : List StreamPart)
+    (n : ℕ) : Type 0 where
   pub whole : n ≡ length piece
   pub none : s.waits ≡ None
   pub fits : Fits s (bytes ++ piece) parts
 
--- The splitter took the first n bytes of the piece, of which the last completes a part, which waits.
-pub record CompletesPart (s : SplitterState) (bytes piece : List ℕ) (parts : List StreamPart) (n : ℕ) : Type 0 where
+-- The splitter took the first n bytes of the piece, of which the last completes a part, which
+-- waits.
+pub record CompletesPart (s : SplitterState) (bytes piece : List ℕ) (parts : List StreamPart)
+    (n : ℕ) : Type 0 where
   pub part : StreamPart
   pub within : n ≤ length piece
   pub some : IsSome s.waits
@@ -83,8 +90,9 @@ pub record CompletesPart (s : SplitterState) (bytes piece : List ℕ) (parts : L
 abbrev pub Fed : SplitterState → List ℕ → List ℕ → List StreamPart → ℕ → Type 0
 Fed s bytes piece parts n = TakesAll s bytes piece parts n ⊎ CompletesPart s bytes piece parts n
 
--- After the bytes, in which these parts ended, the piece has a byte that a splitter doesn't take: none of the bytes of the
--- piece before it completes a part, and with them as many are held, or as many are taken in all, as may be.
+-- After the bytes, in which these parts ended, the piece has a byte that a splitter doesn't take:
+-- none of the bytes of the piece before it completes a part, and with them as many are held, or as
+-- many are taken in all, as may be.
 pub record PassesLimit (bytes piece : List ℕ) (parts : List StreamPart) : Type 0 where
   pub n : ℕ
   pub within : n < length piece
@@ -92,17 +100,20 @@ pub record PassesLimit (bytes piece : List ℕ) (parts : List StreamPart) : Type
   pub holds : Holds (bytes ++ take n piece) parts held
   pub full : (length held ≡ most_held) ⊎ (length (bytes ++ take n piece) ≡ most_taken)
 
--- After the bytes and the first k of the piece no part has ended but these, and there is room for one more byte: fewer are
--- held, and fewer were taken in all, than may be.
+-- After the bytes and the first k of the piece no part has ended but these, and there is room for
+-- one more byte: fewer are held, and fewer were taken in all, than may be.
 abbrev pub HasRoomAt : List ℕ → List ℕ → List StreamPart → ℕ → Type 0
-HasRoomAt bytes piece parts k = (held : List ℕ) × Holds (bytes ++ take k piece) parts held × (length held < most_held) × (length (bytes ++ take k piece) < most_taken)
+HasRoomAt bytes piece parts k = (held : List ℕ) × Holds (bytes ++ take k piece) parts held
+    × (length held < most_held) × (length (bytes ++ take k piece) < most_taken)
 
 -- there is room for each of the first n bytes of the piece
 abbrev pub HasRoomFor : List ℕ → List ℕ → List StreamPart → ℕ → Type 0
 HasRoomFor bytes piece parts n = (k : ℕ) → k < n → HasRoomAt bytes piece parts k
 
--- The stream has ended: the bytes are a text of the parts and no part waits, or of the parts and one more, which waits.
-pub record EndsWith (s : SplitterState) (bytes : List ℕ) (parts more : List StreamPart) : Type 0 where
+-- The stream has ended: the bytes are a text of the parts and no part waits, or of the parts and
+-- one more, which waits.
+pub record EndsWith (s : SplitterState) (bytes : List ℕ)
+    (parts more : List StreamPart) : Type 0 where
   pub text : IsStreamText bytes (parts ++ more)
   pub waits : WaitsForMore s.waits more
 
@@ -115,7 +126,9 @@ Lends (Some waiting) None = ⊥
 
 -- the part's text is one of its items, and of no others
 abbrev pub IsPartOfItems : StreamPart → Type 0
-IsPartOfItems (BlockPart block) = IsBlockText block.text block.items × ((others : List Printed) → IsBlockText block.text others → others ≡ block.items)
+IsPartOfItems (BlockPart block) =
+    IsBlockText block.text block.items
+    × ((others : List Printed) → IsBlockText block.text others → others ≡ block.items)
 IsPartOfItems (ClaimPart kind) = Unit {0}
 
 -- the part, or none

@@ -1,5 +1,5 @@
--- How one line changes what is open. It serves private functions alone: a reader of the public contracts need not
--- believe it.
+-- How one line changes what is open. It serves private functions alone: a reader of the public
+-- contracts need not believe it.
 use Rattle.std.specs.Prelude.{ℕ, Option, Some, None, if◌then◌else◌, ◌==◌}
 use Rattle.fz_stream.specs.declared.line.LineKind.{LineKind}
 use Rattle.fz_stream.specs.declared.line.LineKind.TheVariants.{Blank, Comment, Marker, Claim, Item}
@@ -20,7 +20,7 @@ step_of (Some start) at Marker = EndsBlock start
 step_of None at (Claim kind) = Claims kind
 step_of (Some start) at (Claim kind) = Breaks start
 
--- what may be wrong with a block's text, or want of memory
+-- what may be wrong with a block's text, or out of memory
 abbrev pub IsBlockFault : StreamError → Type 0
 IsBlockFault TooLong = ⊥
 IsBlockFault (OfItem e) = IsItemFault e

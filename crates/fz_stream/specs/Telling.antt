@@ -18,7 +18,8 @@ use Rattle.fz_stream.specs.Lines.{Line, kind_of}
 use Rattle.fz_stream.specs.Moving.{moved_span, item_fault}
 use Rattle.fz_stream.specs.Parts.{HasDistinctNames}
 
--- The item is the first that prints a name again: the names of the items before it are distinct, and its own is one of them.
+-- The item is the first that prints a name again: the names of the items before it are distinct,
+-- and its own is one of them.
 pub record PrintsAgain (items : List Printed) (again : Printed) : Type 0 where
   pub front : List Printed
   pub rest : List Printed
@@ -35,8 +36,8 @@ pub record IsSecondPrinting (offset : ℕ) (text : List ℕ) (span : Span) : Typ
   pub prints : PrintsAgain items again
   pub span_is : span ≡ moved_span offset again.name.span
 
--- The text is one of no items, and the fault tells of it: it comes in the order of faults, neither want of memory nor too
--- many bytes, and its place lies in the text.
+-- The text is one of no items, and the fault tells of it: it comes in the order of faults, neither
+-- out of memory nor too many bytes, and its place lies in the text.
 pub record IsFaultOfText (text : List ℕ) (fault : SyntaxError) : Type 0 where
   pub no_items : (items : List PlainPrinted) → IsTextOfItems text items → ⊥
   pub order : IsRefusalOf text fault
@@ -45,7 +46,8 @@ pub record IsFaultOfText (text : List ℕ) (fault : SyntaxError) : Type 0 where
 
 -- what a fault tells of a block's text, which begins at the offset
 abbrev pub TellsOfText : ℕ → List ℕ → StreamError → Type 0
-TellsOfText offset text (Item fault) = (own : SyntaxError) × IsFaultOfText text own × (Item fault ≡ item_fault offset own)
+TellsOfText offset text (Item fault) =
+    (own : SyntaxError) × IsFaultOfText text own × (Item fault ≡ item_fault offset own)
 TellsOfText offset text (DuplicateName span) = IsSecondPrinting offset text span
 TellsOfText offset text (Unfinished span) = ⊥
 TellsOfText offset text TooLong = ⊥
@@ -62,12 +64,16 @@ abbrev pub IsNoneOrClaim : Option LineKind → Type 0
 IsNoneOrClaim None = Unit {0}
 IsNoneOrClaim (Some kind) = (claim : ClaimKind) × (kind ≡ Claim claim)
 
--- What a fault tells of an open block's text, which begins at the offset, and of what stands behind it: an unfinished
--- block reaches up to a claim or the end of the stream, and other faults are those of a text that a marker closes.
+-- What a fault tells of an open block's text, which begins at the offset, and of what stands behind
+-- it: an unfinished block reaches up to a claim or the end of the stream, and other faults are
+-- those of a text that a marker closes.
 abbrev pub TellsOf : ℕ → List ℕ → Option LineKind → StreamError → Type 0
-TellsOf offset text behind (Unfinished span) = IsNoneOrClaim behind × (span.start ≡ offset) × (span.end ≡ offset + length text)
-TellsOf offset text behind (Item fault) = (behind ≡ Some Marker) × TellsOfText offset text (Item fault)
-TellsOf offset text behind (DuplicateName span) = (behind ≡ Some Marker) × TellsOfText offset text (DuplicateName span)
+TellsOf offset text behind (Unfinished span) =
+    IsNoneOrClaim behind × (span.start ≡ offset) × (span.end ≡ offset + length text)
+TellsOf offset text behind (Item fault) =
+    (behind ≡ Some Marker) × TellsOfText offset text (Item fault)
+TellsOf offset text behind (DuplicateName span) =
+    (behind ≡ Some Marker) × TellsOfText offset text (DuplicateName span)
 TellsOf offset text behind TooLong = ⊥
 TellsOf offset text behind Failed = ⊥
 TellsOf offset text behind Memory = Unit {0}

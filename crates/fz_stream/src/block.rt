@@ -29,8 +29,10 @@ pub struct Block<'a> {
 /// The place of the first name that is printed a second time.
 fn repeated_name(alloc: Global, items: &[Printed<'_>]) -> Result<Option<Span>, AllocError>
     ensures none { IfOk result (λ found. IfNone found (HasDistinctNames (bare_items items.now))) }
-    ensures some { IfOk result (λ found. IfSome found (λ _. HasDistinctNames (bare_items items.now) → ⊥)) }
-    ensures place { IfOk result (λ found. IfSome found (λ span. (again : Printed) × PrintsAgain items.now again × (span ≡ again.name.span))) }
+    ensures some { IfOk result (λ found. IfSome found
+        (λ _. HasDistinctNames (bare_items items.now) → ⊥)) }
+    ensures place { IfOk result (λ found. IfSome found
+        (λ span. (again : Printed) × PrintsAgain items.now again × (span ≡ again.name.span))) }
 {
     if items.len() < 2 {
         return Ok(None);
@@ -56,9 +58,11 @@ pub fn read_block<'a>(
     ensures offset { IfOk result (λ b. b.offset ≡ offset) }
     ensures text { IfOk result (λ b. b.text.now ≡ text.now) }
     ensures items { IfOk result (λ b. IsBlockText text.now (bare_items b.items.items)) }
-    ensures only { IfOk result (λ b. (others : List PlainPrinted) → IsBlockText text.now others → others ≡ bare_items b.items.items) }
+    ensures only { IfOk result (λ b. (others : List PlainPrinted) → IsBlockText text.now others
+        → others ≡ bare_items b.items.items) }
     ensures places { IfOk result HasPlaces }
-    ensures refused { IfErr result (λ e. e ≢ StreamError.Memory → (items : List PlainPrinted) → IsBlockText text.now items → ⊥) }
+    ensures refused { IfErr result (λ e. e ≢ StreamError.Memory → (items : List PlainPrinted)
+        → IsBlockText text.now items → ⊥) }
     ensures fault { IfErr result IsBlockFault }
     ensures place { IfErr result (IsFaultWithin (offset + length text.now)) }
     ensures tells { IfErr result (TellsOfText offset text.now) }

@@ -54,13 +54,19 @@ fn end_line(alloc: Global, held: &mut Held) -> Result<Option<Ended>, StreamError
     requires most { length held.old.buffer.items ≤ most_held }
     requires taken { held.old.before + length held.old.buffer.items ≤ most_taken }
     ensures line_after { held.new.line ≤ length held.new.buffer.items }
-    ensures taken { held.new.before + length held.new.buffer.items ≡ held.old.before + length held.old.buffer.items }
+    ensures taken { held.new.before + length held.new.buffer.items
+        ≡ held.old.before + length held.old.buffer.items }
     ensures shorter { length held.new.buffer.items ≤ length held.old.buffer.items }
-    ensures goes_on { IfOk result (λ r. r ≡ None → (body : List Line) (line : Line) → HasLine held.old body line → GoesOnHolding held.old held.new body line) }
-    ensures ends { IfOk result (λ r. (ended : Ended) → r ≡ Some ended → (body : List Line) (line : Line) → HasLine held.old body line → EndsPart held.new body line ended) }
-    ensures same { IfOk result (λ r. IsSome r → (held.new.buffer.items ≡ held.old.buffer.items) × (held.new.line ≡ held.old.line)) }
+    ensures goes_on { IfOk result (λ r. r ≡ None → (body : List Line) (line : Line)
+        → HasLine held.old body line → GoesOnHolding held.old held.new body line) }
+    ensures ends { IfOk result (λ r. (ended : Ended) → r ≡ Some ended
+        → (body : List Line) (line : Line) → HasLine held.old body line
+        → EndsPart held.new body line ended) }
+    ensures same { IfOk result (λ r. IsSome r
+        → (held.new.buffer.items ≡ held.old.buffer.items) × (held.new.line ≡ held.old.line)) }
     ensures kept { IfOk result (λ r. IsKept r held.new) }
-    ensures breaks { IfErr result (λ e. e ≢ StreamError.Memory → (body : List Line) (line : Line) → HasLine held.old body line → BreaksBlock held.old.before body line e) }
+    ensures breaks { IfErr result (λ e. e ≢ StreamError.Memory → (body : List Line) (line : Line)
+        → HasLine held.old body line → BreaksBlock held.old.before body line e) }
     ensures fault { IfErr result IsLineFault }
     ensures place { IfErr result (IsFaultWithin (held.old.before + length held.old.buffer.items)) }
 {
@@ -95,7 +101,8 @@ pub fn drop_part(held: &mut Held, ended: Option<Ended>)
     requires taken { held.old.before + length held.old.buffer.items ≤ most_taken }
     ensures kept { held.new.buffer.items ≡ held_while ended held.old.buffer.items }
     ensures shorter { length held.new.buffer.items ≤ length held.old.buffer.items }
-    ensures taken { held.new.before + length held.new.buffer.items ≡ held.old.before + length held.old.buffer.items }
+    ensures taken { held.new.before + length held.new.buffer.items
+        ≡ held.old.before + length held.old.buffer.items }
     ensures line_after { held.new.line ≤ length held.new.buffer.items }
     ensures held { (ended ≡ None → IsHeld held.old) → IsHeld held.new }
 {
@@ -120,20 +127,29 @@ pub fn take_bytes(
     ensures most_after { length held.new.buffer.items ≤ most_held }
     ensures taken_after { held.new.before + length held.new.buffer.items ≤ most_taken }
     ensures within { IfOk result (λ r. r.0 ≤ length piece.now) }
-    ensures count { IfOk result (λ r. held.new.before + length held.new.buffer.items ≡ held.old.before + length held.old.buffer.items + r.0) }
+    ensures count { IfOk result (λ r. held.new.before + length held.new.buffer.items
+        ≡ held.old.before + length held.old.buffer.items + r.0) }
     ensures all { IfOk result (λ r. r.1 ≡ None → KeepsAll held.old held.new piece.now r.0) }
-    ensures part { IfOk result (λ r. (ended : Ended) → r.1 ≡ Some ended → (bytes : List ℕ) (parts : List StreamPart) → Keeps bytes parts held.old.buffer.items →
-        held.old.before + length held.old.buffer.items ≡ length bytes → TakesPart held.new bytes (take r.0 piece.now) parts ended) }
+    ensures part { IfOk result (λ r. (ended : Ended) → r.1 ≡ Some ended
+        → (bytes : List ℕ) (parts : List StreamPart) → Keeps bytes parts held.old.buffer.items →
+        held.old.before + length held.old.buffer.items ≡ length bytes
+        → TakesPart held.new bytes (take r.0 piece.now) parts ended) }
     ensures kept { IfOk result (λ r. IsKept r.1 held.new) }
-    ensures room { IfOk result (λ r. (bytes : List ℕ) (parts : List StreamPart) → Keeps bytes parts held.old.buffer.items →
-        held.old.before + length held.old.buffer.items ≡ length bytes → HasRoomFor bytes piece.now parts r.0) }
+    ensures room { IfOk result (λ r. (bytes : List ℕ) (parts : List StreamPart)
+        → Keeps bytes parts held.old.buffer.items →
+        held.old.before + length held.old.buffer.items ≡ length bytes
+        → HasRoomFor bytes piece.now parts r.0) }
     ensures broken { IfErr result (λ e. e ≢ StreamError.Memory → e ≢ StreamError.TooLong →
         (bytes : List ℕ) (parts : List StreamPart) → Keeps bytes parts held.old.buffer.items →
-        held.old.before + length held.old.buffer.items ≡ length bytes → IsBrokenAfter (bytes ++ piece.now) parts e) }
-    ensures too_long { result ≡ Err StreamError.TooLong → (bytes : List ℕ) (parts : List StreamPart) → Keeps bytes parts held.old.buffer.items →
-        held.old.before + length held.old.buffer.items ≡ length bytes → PassesLimit bytes piece.now parts }
+        held.old.before + length held.old.buffer.items ≡ length bytes
+        → IsBrokenAfter (bytes ++ piece.now) parts e) }
+    ensures too_long { result ≡ Err StreamError.TooLong → (bytes : List ℕ) (parts : List StreamPart)
+        → Keeps bytes parts held.old.buffer.items →
+        held.old.before + length held.old.buffer.items ≡ length bytes
+        → PassesLimit bytes piece.now parts }
     ensures fault { IfErr result (λ e. e ≢ StreamError.TooLong → IsLineFault e) }
-    ensures place { IfErr result (IsFaultWithin (held.old.before + length held.old.buffer.items + length piece.now)) }
+    ensures place { IfErr result (IsFaultWithin
+        (held.old.before + length held.old.buffer.items + length piece.now)) }
 {
     let mut at = 0;
     while at < piece.len() {
@@ -162,15 +178,22 @@ fn end_last_line(alloc: Global, held: &mut Held) -> Result<Option<Ended>, Stream
     requires taken { held.old.before + length held.old.buffer.items ≤ most_taken }
     requires held { IsHeld held.old }
     ensures line_after { held.new.line ≤ length held.new.buffer.items }
-    ensures taken { held.new.before + length held.new.buffer.items ≡ held.old.before + length held.old.buffer.items }
+    ensures taken { held.new.before + length held.new.buffer.items
+        ≡ held.old.before + length held.old.buffer.items }
     ensures shorter { length held.new.buffer.items ≤ length held.old.buffer.items }
-    ensures goes_on { IfOk result (λ r. r ≡ None → (bytes : List ℕ) (parts : List StreamPart) → Keeps bytes parts held.old.buffer.items →
-        held.old.before + length held.old.buffer.items ≡ length bytes → EndsOpen held.new bytes parts) }
-    ensures ends { IfOk result (λ r. (ended : Ended) → r ≡ Some ended → (bytes : List ℕ) (parts : List StreamPart) → Keeps bytes parts held.old.buffer.items →
-        held.old.before + length held.old.buffer.items ≡ length bytes → EndsStream held.new bytes parts (Some ended)) }
+    ensures goes_on { IfOk result (λ r. r ≡ None → (bytes : List ℕ) (parts : List StreamPart)
+        → Keeps bytes parts held.old.buffer.items →
+        held.old.before + length held.old.buffer.items ≡ length bytes
+        → EndsOpen held.new bytes parts) }
+    ensures ends { IfOk result (λ r. (ended : Ended) → r ≡ Some ended
+        → (bytes : List ℕ) (parts : List StreamPart) → Keeps bytes parts held.old.buffer.items →
+        held.old.before + length held.old.buffer.items ≡ length bytes
+        → EndsStream held.new bytes parts (Some ended)) }
     ensures kept { IfOk result (λ r. IsKept r held.new) }
-    ensures broken { IfErr result (λ e. e ≢ StreamError.Memory → (bytes : List ℕ) (parts : List StreamPart) → Keeps bytes parts held.old.buffer.items →
-        held.old.before + length held.old.buffer.items ≡ length bytes → IsBrokenAtEndAfter bytes parts e) }
+    ensures broken { IfErr result (λ e. e ≢ StreamError.Memory
+        → (bytes : List ℕ) (parts : List StreamPart) → Keeps bytes parts held.old.buffer.items →
+        held.old.before + length held.old.buffer.items ≡ length bytes
+        → IsBrokenAtEndAfter bytes parts e) }
     ensures fault { IfErr result IsLineFault }
     ensures place { IfErr result (IsFaultWithin (held.old.before + length held.old.buffer.items)) }
 {
@@ -187,13 +210,18 @@ pub fn end_stream(alloc: Global, held: &mut Held) -> Result<Option<Ended>, Strea
     requires taken { held.old.before + length held.old.buffer.items ≤ most_taken }
     requires held { IsHeld held.old }
     ensures line_after { held.new.line ≤ length held.new.buffer.items }
-    ensures taken { held.new.before + length held.new.buffer.items ≡ held.old.before + length held.old.buffer.items }
+    ensures taken { held.new.before + length held.new.buffer.items
+        ≡ held.old.before + length held.old.buffer.items }
     ensures shorter { length held.new.buffer.items ≤ length held.old.buffer.items }
-    ensures ends { IfOk result (λ r. (bytes : List ℕ) (parts : List StreamPart) → Keeps bytes parts held.old.buffer.items →
-        held.old.before + length held.old.buffer.items ≡ length bytes → EndsStream held.new bytes parts r) }
+    ensures ends { IfOk result (λ r. (bytes : List ℕ) (parts : List StreamPart)
+        → Keeps bytes parts held.old.buffer.items →
+        held.old.before + length held.old.buffer.items ≡ length bytes
+        → EndsStream held.new bytes parts r) }
     ensures kept { IfOk result (λ r. IsKept r held.new) }
-    ensures broken { IfErr result (λ e. e ≢ StreamError.Memory → (bytes : List ℕ) (parts : List StreamPart) → Keeps bytes parts held.old.buffer.items →
-        held.old.before + length held.old.buffer.items ≡ length bytes → IsBrokenAtEndAfter bytes parts e) }
+    ensures broken { IfErr result (λ e. e ≢ StreamError.Memory
+        → (bytes : List ℕ) (parts : List StreamPart) → Keeps bytes parts held.old.buffer.items →
+        held.old.before + length held.old.buffer.items ≡ length bytes
+        → IsBrokenAtEndAfter bytes parts e) }
     ensures fault { IfErr result IsLineFault }
     ensures place { IfErr result (IsFaultWithin (held.old.before + length held.old.buffer.items)) }
 {

@@ -25,7 +25,8 @@ pub struct KeptItem {
     pub value: PrintedValue,
 }
 
-/// The items of a block that waits, which a splitter releases, so that it can lend them without a copy.
+/// The items of a block that waits, which a splitter releases, so that it can lend them without a
+/// copy.
 #[derive(Drop)]
 pub struct KeptItems {
     items: Vec<KeptItem>,
@@ -50,7 +51,8 @@ pub fn read_kept(alloc: Global, offset: usize, text: &[u8]) -> Result<KeptItems,
     requires fits { offset + length text.now ≤ usize.MAX }
     requires short { length text.now ≤ most_bytes }
     ensures kept { IfOk result (AreKeptOf text.now) }
-    ensures refused { IfErr result (λ e. e ≢ StreamError.Memory → (items : List PlainPrinted) → IsBlockText text.now items → ⊥) }
+    ensures refused { IfErr result (λ e. e ≢ StreamError.Memory → (items : List PlainPrinted)
+        → IsBlockText text.now items → ⊥) }
     ensures fault { IfErr result IsBlockFault }
     ensures place { IfErr result (IsFaultWithin (offset + length text.now)) }
     ensures tells { IfErr result (TellsOfText offset text.now) }
@@ -81,8 +83,10 @@ fn copied_literal(alloc: Global, literal: &Literal) -> Result<Literal, AllocErro
 }
 
 fn copied_literals(alloc: Global, literals: &[Literal]) -> Result<Vec<Literal>, AllocError>
-    ensures bare { IfOk result (λ copy. map bare_literal copy.items ≡ map bare_literal literals.now) }
-    ensures places { IfOk result (λ copy. flat_map literal_spots copy.items ≡ flat_map literal_spots literals.now) }
+    ensures bare { IfOk result (λ copy. map bare_literal copy.items
+        ≡ map bare_literal literals.now) }
+    ensures places { IfOk result (λ copy. flat_map literal_spots copy.items
+        ≡ flat_map literal_spots literals.now) }
 {
     let mut copy = Vec::with_capacity(alloc, literals.len())?;
     for literal in literals {
@@ -93,7 +97,8 @@ fn copied_literals(alloc: Global, literals: &[Literal]) -> Result<Vec<Literal>, 
 
 fn copied_value(alloc: Global, value: &PrintedValue) -> Result<PrintedValue, AllocError>
     ensures bare { IfOk result (λ copy. bare_printed_value copy ≡ bare_printed_value value.now) }
-    ensures places { IfOk result (λ copy. printed_value_spots copy ≡ printed_value_spots value.now) }
+    ensures places { IfOk result (λ copy. printed_value_spots copy
+        ≡ printed_value_spots value.now) }
 {
     match value {
         PrintedValue::One(literal) => Ok(PrintedValue::One(copied_literal(alloc, literal)?)),
@@ -119,8 +124,10 @@ fn lent_items<'a>(
     kept: &[KeptItem],
 ) -> Result<Vec<Printed<'a>>, AllocError>
     requires { Stand text.now 0 (length text.now) (flat_map (kept_spots text.now) kept.now) }
-    ensures bare { IfOk result (λ items. bare_items items.items ≡ map (bare_kept text.now) kept.now) }
-    ensures places { IfOk result (λ items. item_spots items.items ≡ flat_map (kept_spots text.now) kept.now) }
+    ensures bare { IfOk result (λ items. bare_items items.items
+        ≡ map (bare_kept text.now) kept.now) }
+    ensures places { IfOk result (λ items. item_spots items.items
+        ≡ flat_map (kept_spots text.now) kept.now) }
 {
     let mut items = Vec::with_capacity(alloc, kept.len())?;
     for item in kept {
@@ -141,8 +148,10 @@ fn moved_items<'a>(
     kept: Vec<KeptItem>,
 ) -> Result<Vec<Printed<'a>>, AllocError>
     requires { Stand text.now 0 (length text.now) (flat_map (kept_spots text.now) kept.items) }
-    ensures bare { IfOk result (λ items. bare_items items.items ≡ map (bare_kept text.now) kept.items) }
-    ensures places { IfOk result (λ items. item_spots items.items ≡ flat_map (kept_spots text.now) kept.items) }
+    ensures bare { IfOk result (λ items. bare_items items.items
+        ≡ map (bare_kept text.now) kept.items) }
+    ensures places { IfOk result (λ items. item_spots items.items
+        ≡ flat_map (kept_spots text.now) kept.items) }
 {
     let mut items = Vec::with_capacity(alloc, kept.len())?;
     for item in kept {
@@ -169,7 +178,8 @@ fn copied_block<'a>(
     ensures offset { IfOk result (λ b. b.offset ≡ offset) }
     ensures text { IfOk result (λ b. b.text.now ≡ text.now) }
     ensures items { IfOk result (λ b. IsBlockText text.now (bare_items b.items.items)) }
-    ensures only { IfOk result (λ b. (others : List PlainPrinted) → IsBlockText text.now others → others ≡ bare_items b.items.items) }
+    ensures only { IfOk result (λ b. (others : List PlainPrinted) → IsBlockText text.now others
+        → others ≡ bare_items b.items.items) }
     ensures places { IfOk result HasPlaces }
 {
     let items = lent_items(alloc, text, &kept.items)?;
@@ -191,7 +201,8 @@ fn moved_block<'a>(
     ensures offset { IfOk result (λ b. b.offset ≡ offset) }
     ensures text { IfOk result (λ b. b.text.now ≡ text.now) }
     ensures items { IfOk result (λ b. IsBlockText text.now (bare_items b.items.items)) }
-    ensures only { IfOk result (λ b. (others : List PlainPrinted) → IsBlockText text.now others → others ≡ bare_items b.items.items) }
+    ensures only { IfOk result (λ b. (others : List PlainPrinted) → IsBlockText text.now others
+        → others ≡ bare_items b.items.items) }
     ensures places { IfOk result HasPlaces }
 {
     let items = moved_items(alloc, text, kept.items)?;
@@ -202,7 +213,8 @@ fn moved_block<'a>(
     })
 }
 
-/// The block of a text that was read before. Its kept items are copied; where they were released, the text is read again.
+/// The block of a text that was read before. Its kept items are copied; where they were released,
+/// the text is read again.
 fn kept_block<'a>(
     alloc: Global,
     offset: usize,
@@ -216,7 +228,8 @@ fn kept_block<'a>(
     ensures offset { IfOk result (λ b. b.offset ≡ offset) }
     ensures text { IfOk result (λ b. b.text.now ≡ text.now) }
     ensures items { IfOk result (λ b. IsBlockText text.now (bare_items b.items.items)) }
-    ensures only { IfOk result (λ b. (others : List PlainPrinted) → IsBlockText text.now others → others ≡ bare_items b.items.items) }
+    ensures only { IfOk result (λ b. (others : List PlainPrinted) → IsBlockText text.now others
+        → others ≡ bare_items b.items.items) }
     ensures places { IfOk result HasPlaces }
     ensures refused { IfErr result (λ e. e ≡ StreamError.Memory) }
 {
@@ -229,7 +242,8 @@ fn kept_block<'a>(
     }
 }
 
-/// The block of a text that was read before. The items that were released, if any, are moved into it.
+/// The block of a text that was read before. The items that were released, if any, are moved into
+/// it.
 pub fn lent_block<'a>(
     alloc: Global,
     offset: usize,
@@ -245,7 +259,8 @@ pub fn lent_block<'a>(
     ensures offset { IfOk result (λ b. b.offset ≡ offset) }
     ensures text { IfOk result (λ b. b.text.now ≡ text.now) }
     ensures items { IfOk result (λ b. IsBlockText text.now (bare_items b.items.items)) }
-    ensures only { IfOk result (λ b. (others : List PlainPrinted) → IsBlockText text.now others → others ≡ bare_items b.items.items) }
+    ensures only { IfOk result (λ b. (others : List PlainPrinted) → IsBlockText text.now others
+        → others ≡ bare_items b.items.items) }
     ensures places { IfOk result HasPlaces }
     ensures refused { IfErr result (λ e. e ≡ StreamError.Memory) }
 {

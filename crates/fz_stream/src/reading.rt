@@ -35,19 +35,26 @@ const MOST_BYTES: usize = 16_777_216;
 /// order is answered: of a block's text where its closing line comes, of its names after that.
 pub fn blocks<'a>(alloc: Global, stream: &'a [u8]) -> Result<Stream<'a>, StreamError>
     // The blocks and claims of the stream, and no others.
-    ensures read { IfOk result (λ found. IsReadAs stream.now (map block_of found.blocks.items) found.claims.items) }
+    ensures read { IfOk result (λ found. IsReadAs stream.now
+        (map block_of found.blocks.items) found.claims.items) }
     // Each block's text is the stream's, up to a marker line.
-    ensures before_markers { IfOk result (λ found. AllByRecursion (StandsBeforeMarker stream.now) (map block_of found.blocks.items)) }
+    ensures before_markers { IfOk result (λ found. AllByRecursion (StandsBeforeMarker stream.now)
+        (map block_of found.blocks.items)) }
     // Places in a block's items count from its text's first byte.
     ensures places { IfOk result (λ found. AllByRecursion HasPlaces found.blocks.items) }
-    ensures within { IfOk result (λ found. AllByRecursion (EndsWithin (length stream.now)) found.blocks.items) }
-    ensures claims_in_order { IfOk result (λ found. AreInOrder 0 (vec_len found.blocks) found.claims.items) }
+    ensures within { IfOk result (λ found. AllByRecursion
+        (EndsWithin (length stream.now)) found.blocks.items) }
+    ensures claims_in_order { IfOk result
+        (λ found. AreInOrder 0 (vec_len found.blocks) found.claims.items) }
 
     ensures too_long { (result ≡ Err StreamError.TooLong) ↔ (most_bytes < length stream.now) }
     // All else is refused only where the bytes are a text of no parts.
-    ensures refused { IfErr result (λ e. e ≢ StreamError.Memory → e ≢ StreamError.TooLong → (parts : List StreamPart) → IsStreamText stream.now parts → ⊥) }
-    // The fault is that of the first block that is broken: it tells of its text and of what breaks it.
-    ensures stops { IfErr result (λ e. e ≢ StreamError.Memory → e ≢ StreamError.TooLong → (parts : List StreamPart) × StopsAfter stream.now parts e) }
+    ensures refused { IfErr result (λ e. e ≢ StreamError.Memory → e ≢ StreamError.TooLong
+        → (parts : List StreamPart) → IsStreamText stream.now parts → ⊥) }
+    // The fault is that of the first block that is broken: it tells of its text and of what breaks
+    // it.
+    ensures stops { IfErr result (λ e. e ≢ StreamError.Memory → e ≢ StreamError.TooLong
+        → (parts : List StreamPart) × StopsAfter stream.now parts e) }
     ensures fault { IfErr result IsStreamFault }
     ensures place { IfErr result (IsFaultWithin (length stream.now)) }
 {

@@ -78,7 +78,7 @@ impl Splitter {
         self.ended.is_some()
     }
 
-    /// Lends the part that waits, as often as it is called. Want of memory changes nothing.
+    /// Lends the part that waits, as often as it is called. Running out of memory changes nothing.
     pub fn take(&self) -> Result<Option<Part<'_>>, StreamError>
         ensures lent { IfOk result (λ part. Lends self.now.waits (option_map part_of part)) }
         ensures items { IfOk result (λ part. IfSome part (λ p. IsPartOfItems (part_of p))) }
@@ -86,9 +86,11 @@ impl Splitter {
         ensures within { IfOk result (λ part. IfSome part (PartEndsWithin most_taken)) }
 
         // It is the last of the parts, whatever was taken before.
-        ensures given { IfOk result (λ part. (bytes : List ℕ) (parts : List StreamPart) → Fits self.now bytes parts → IsSome part →
+        ensures given { IfOk result (λ part. (bytes : List ℕ) (parts : List StreamPart)
+            → Fits self.now bytes parts → IsSome part →
             (front : List StreamPart) × (parts ≡ front ++ parts_of (option_map part_of part))) }
-        ensures given_at_end { IfOk result (λ part. (bytes : List ℕ) (parts more : List StreamPart) → EndsWith self.now bytes parts more → more ≡ parts_of (option_map part_of part)) }
+        ensures given_at_end { IfOk result (λ part. (bytes : List ℕ) (parts more : List StreamPart)
+            → EndsWith self.now bytes parts more → more ≡ parts_of (option_map part_of part)) }
 
         ensures failed { (result ≡ Err StreamError.Failed) ↔ (self.now.stage ≡ FailedStage) }
         ensures refused { IfErr result (λ e. (e ≡ StreamError.Memory) ⊎ (e ≡ StreamError.Failed)) }
@@ -96,8 +98,8 @@ impl Splitter {
         self.lend(None)
     }
 
-    /// Takes the items of the block that waits out of the splitter, so that `lend` moves them and copies none. Where no block waits,
-    /// or its items were taken out before, it answers none.
+    /// Takes the items of the block that waits out of the splitter, so that `lend` moves them and
+    /// copies none. Where no block waits, or its items were taken out before, it answers none.
     pub fn release(&mut self) -> Option<KeptItems>
         ensures same { self.new ≡ self.old }
         ensures items { IfSome result (AreOfWaiting self.old.waits) }
@@ -108,7 +110,8 @@ impl Splitter {
         }
     }
 
-    /// Lends the part that waits, as `take` does, and moves into it the items that were released, if they are given back.
+    /// Lends the part that waits, as `take` does, and moves into it the items that were released,
+    /// if they are given back.
     pub fn lend(&self, released: Option<KeptItems>) -> Result<Option<Part<'_>>, StreamError>
         // They are those of the block that waits, as `release` answered them.
         requires { IfSome released (AreOfWaiting self.now.waits) }
@@ -118,9 +121,11 @@ impl Splitter {
         ensures within { IfOk result (λ part. IfSome part (PartEndsWithin most_taken)) }
 
         // It is the last of the parts, whatever was taken before.
-        ensures given { IfOk result (λ part. (bytes : List ℕ) (parts : List StreamPart) → Fits self.now bytes parts → IsSome part →
+        ensures given { IfOk result (λ part. (bytes : List ℕ) (parts : List StreamPart)
+            → Fits self.now bytes parts → IsSome part →
             (front : List StreamPart) × (parts ≡ front ++ parts_of (option_map part_of part))) }
-        ensures given_at_end { IfOk result (λ part. (bytes : List ℕ) (parts more : List StreamPart) → EndsWith self.now bytes parts more → more ≡ parts_of (option_map part_of part)) }
+        ensures given_at_end { IfOk result (λ part. (bytes : List ℕ) (parts more : List StreamPart)
+            → EndsWith self.now bytes parts more → more ≡ parts_of (option_map part_of part)) }
 
         ensures failed { (result ≡ Err StreamError.Failed) ↔ (self.now.stage ≡ FailedStage) }
         ensures refused { IfErr result (λ e. (e ≡ StreamError.Memory) ⊎ (e ≡ StreamError.Failed)) }
@@ -153,18 +158,24 @@ impl Splitter {
     pub fn feed(&mut self, piece: &[u8]) -> Result<usize, StreamError>
         requires { self.old.stage ≢ Finished }
         // What is kept is what may be kept after these bytes, whatever was taken before.
-        ensures fits { IfOk result (λ n. (bytes : List ℕ) (parts : List StreamPart) → Fits self.old bytes parts → Fed self.new bytes piece.now parts n) }
+        ensures fits { IfOk result (λ n. (bytes : List ℕ) (parts : List StreamPart)
+            → Fits self.old bytes parts → Fed self.new bytes piece.now parts n) }
         ensures within { IfOk result (λ n. n ≤ length piece.now) }
         ensures ok { OnOk result (self.new.stage ≡ Running) }
         ensures held { OnOk result (length self.new.held ≤ most_held) }
         ensures taken { OnOk result (self.new.taken ≤ most_taken) }
         // The limits bind at each byte that is taken.
-        ensures room { IfOk result (λ n. (bytes : List ℕ) (parts : List StreamPart) → Fits self.old bytes parts → HasRoomFor bytes piece.now parts n) }
+        ensures room { IfOk result (λ n. (bytes : List ℕ) (parts : List StreamPart)
+            → Fits self.old bytes parts → HasRoomFor bytes piece.now parts n) }
 
         // A fault comes only where no further bytes can mend the stream.
-        ensures broken { IfErr result (λ e. e ≢ StreamError.Memory → e ≢ StreamError.TooLong → e ≢ StreamError.Failed →
-            (bytes : List ℕ) (parts : List StreamPart) → Fits self.old bytes parts → IsBrokenAfter (bytes ++ piece.now) parts e) }
-        ensures too_long { result ≡ Err StreamError.TooLong → (bytes : List ℕ) (parts : List StreamPart) → Fits self.old bytes parts → PassesLimit bytes piece.now parts }
+        ensures broken { IfErr result (λ e. e ≢ StreamError.Memory → e ≢ StreamError.TooLong
+            → e ≢ StreamError.Failed →
+            (bytes : List ℕ) (parts : List StreamPart) → Fits self.old bytes parts
+            → IsBrokenAfter (bytes ++ piece.now) parts e) }
+        ensures too_long { result ≡ Err StreamError.TooLong
+            → (bytes : List ℕ) (parts : List StreamPart) → Fits self.old bytes parts
+            → PassesLimit bytes piece.now parts }
         ensures failed { (result ≡ Err StreamError.Failed) ↔ (self.old.stage ≡ FailedStage) }
         ensures fault { IfErr result (λ e. e ≢ StreamError.Failed → IsStreamFault e) }
         ensures place { IfErr result (IsFaultWithin (self.old.taken + length piece.now)) }
@@ -192,13 +203,15 @@ impl Splitter {
     /// its last. After that a part may wait. After an error the splitter has failed for good.
     pub fn finish(&mut self) -> Result<(), StreamError>
         requires { self.old.stage ≢ Finished }
-        ensures ends { OnOk result ((bytes : List ℕ) (parts : List StreamPart) → Fits self.old bytes parts →
+        ensures ends { OnOk result ((bytes : List ℕ) (parts : List StreamPart)
+            → Fits self.old bytes parts →
             (more : List StreamPart) × EndsWith self.new bytes parts more) }
         ensures ok { OnOk result (self.new.stage ≡ Finished) }
 
         // A fault comes only where the bytes that were taken are a text of no parts.
         ensures broken { IfErr result (λ e. e ≢ StreamError.Memory → e ≢ StreamError.Failed →
-            (bytes : List ℕ) (parts : List StreamPart) → Fits self.old bytes parts → IsBrokenAtEndAfter bytes parts e) }
+            (bytes : List ℕ) (parts : List StreamPart) → Fits self.old bytes parts
+            → IsBrokenAtEndAfter bytes parts e) }
         ensures not_too_long { result ≢ Err StreamError.TooLong }
         ensures failed { (result ≡ Err StreamError.Failed) ↔ (self.old.stage ≡ FailedStage) }
         ensures fault { IfErr result (λ e. e ≢ StreamError.Failed → IsStreamFault e) }

@@ -15,23 +15,28 @@ lines_few : (bytes : List ℕ) → length (lines_of bytes) ≤ length bytes
 lines_few [] = omega arith
 lines_few (x ∷ xs) = by (eqb x 10) refl (lines_few xs)
   where
-    by : (r : Bool) → eqb x 10 ≡ r → length (lines_of xs) ≤ length xs → length (lines_of (x ∷ xs)) ≤ length (x ∷ xs)
+    by : (r : Bool) → eqb x 10 ≡ r → length (lines_of xs) ≤ length xs
+        → length (lines_of (x ∷ xs)) ≤ length (x ∷ xs)
     by true e h = omega (arith, h, ap (λ t. length (cond t ((x ∷ []) ∷ lines_of xs) (onto_first x (lines_of xs)))) e)
     by false e h = omega (arith, onto_few x (lines_of xs) (length xs) h, ap (λ t. length (cond t ((x ∷ []) ∷ lines_of xs) (onto_first x (lines_of xs)))) e)
 
-own_some : (part : StreamPart) (start : ℕ) (own : List Line) → AreLinesOfPart start own part → 0 < length own
+own_some : (part : StreamPart) (start : ℕ) (own : List Line) → AreLinesOfPart start own part
+    → 0 < length own
 own_some (BlockPart block) start own k = omega (arith, ap length k.whole, length-append k.gap (k.body ++ k.marker ∷ []), length-append k.body (k.marker ∷ []))
 own_some (ClaimPart kind) start own k = omega (arith, ap length k.whole, length-append k.gap (k.line ∷ []))
 
-parts_few : (parts : List StreamPart) (start : ℕ) (lines : List Line) → AreLinesOf start lines parts → length parts ≤ length lines
+parts_few : (parts : List StreamPart) (start : ℕ) (lines : List Line) → AreLinesOf start lines parts
+    → length parts ≤ length lines
 parts_few [] start lines h = omega arith
 parts_few (part ∷ parts) start lines h = omega (arith, own_some part start h.0 h.3, parts_few parts (start + length (joined h.0)) h.1 h.4, ap length h.2, length-append h.0 h.1)
 
-covers_few : (bytes : List ℕ) (parts : List StreamPart) (rest : List Line) → Covers bytes parts rest → length parts ≤ length bytes
+covers_few : (bytes : List ℕ) (parts : List StreamPart) (rest : List Line) → Covers bytes parts rest
+    → length parts ≤ length bytes
 covers_few bytes parts rest c = omega (arith, parts_few parts 0 c.covered c.of_parts, ap length c.whole, length-append c.covered rest, lines_few bytes)
 
 -- and those of one that is read are few enough to be counted
-pub few_parts : (s : ReaderState) (left : Option (List ℕ)) (given : List ℕ) (parts : List StreamPart) → StandsAt s left given parts → length parts ≤ most_taken
+pub few_parts : (s : ReaderState) (left : Option (List ℕ)) (given : List ℕ)
+    (parts : List StreamPart) → StandsAt s left given parts → length parts ≤ most_taken
 few_parts s left given parts st =
     ⊎_elim (λ (h : HasRead s given parts). (let few = covers_few h.taken parts _ h.fits.holds.stands.covers in omega (arith, few, h.short)))
     (λ (h : IsAtEnd left × HasEnded s given parts). (let few = covers_few given (h.1.front ++ h.1.more) _ h.1.ends.text.covers in omega (arith, few, h.1.short, ap length h.1.parts_are))) st

@@ -1,4 +1,5 @@
--- A splitter that ends a part takes a byte at least: of the bytes that it had before, no more parts have ended.
+-- A splitter that ends a part takes a byte at least: of the bytes that it had before, no more parts
+-- have ended.
 use Rattle.std.proofs.Common.{◌≡◌, ℕ, zero, suc, ◌+◌, ◌<◌, List, [], ◌∷◌, ◌++◌, length, refl, sym, ap, ◌∙◌, subst, append_assoc, append-nil, arith}
 use Rattle.std.specs.List.{AllByRecursion}
 use Rattle.fz_stream.specs.Lines.{Line, lines_of, joined, kind_of, HasNoFeed, EndsWithFeed, IsInner}
@@ -16,7 +17,8 @@ begun_no_end [] h = tt
 begun_no_end (x ∷ xs) h = subst HasNoEnd (sym (lines_of-begun x xs h)) (no_end (x ∷ xs) h, tt)
 
 -- the whole lines at the front are cut off in one way
-whole_front : (xs ys s t : List Line) → AllByRecursion EndsWithFeed xs → AllByRecursion EndsWithFeed ys → HasNoEnd s → HasNoEnd t → xs ++ s ≡ ys ++ t → xs ≡ ys
+whole_front : (xs ys s t : List Line) → AllByRecursion EndsWithFeed xs
+    → AllByRecursion EndsWithFeed ys → HasNoEnd s → HasNoEnd t → xs ++ s ≡ ys ++ t → xs ≡ ys
 whole_front [] [] s t p q u v e = refl
 whole_front [] (y ∷ ys) [] t p q u v e = absurd (let no : [] ≡ y ∷ (ys ++ t) = e in cc)
 whole_front [] (y ∷ ys) (z ∷ s) t p q u v e = let h : z ≡ y = cc in absurd (u.0 (subst EndsWithFeed (sym h) q.0))
@@ -28,7 +30,9 @@ whole_front (x ∷ xs) (y ∷ ys) s t p q u v e =
     ap (λ l. l ∷ xs) h ∙ ap (λ l. y ∷ l) (whole_front xs ys s t p.1 q.1 u v r)
 
 -- the lines of a part that stand at the front
-same_own : (part : StreamPart) (start : ℕ) (own own' more more' : List Line) → AreLinesOfPart start own part → AreLinesOfPart start own' part → own ++ more ≡ own' ++ more' → (own ≡ own') × (more ≡ more')
+same_own : (part : StreamPart) (start : ℕ) (own own' more more' : List Line)
+    → AreLinesOfPart start own part → AreLinesOfPart start own' part → own ++ more ≡ own' ++ more'
+    → (own ≡ own') × (more ≡ more')
 same_own (BlockPart block) start own own' more more' k k' e =
     let cut : (k.gap ++ k.body) ++ (k.marker ∷ more) ≡ (k'.gap ++ k'.body) ++ (k'.marker ∷ more') =
     sym (ap (λ l. l ++ more) k.whole ∙ simp append_assoc) ∙ e ∙ ap (λ l. l ++ more') k'.whole ∙ simp append_assoc in
@@ -43,7 +47,8 @@ same_own (ClaimPart kind) start own own' more more' k k' e =
     (k.whole ∙ ap (λ g. g ++ k.line ∷ []) w.0 ∙ ap (λ m. k'.gap ++ m ∷ []) w.1 ∙ sym k'.whole, w.2)
 
 -- a part has a line that closes something
-part_closes : (part : StreamPart) (start : ℕ) (own more inner : List Line) → AreLinesOfPart start own part → AllByRecursion IsInner inner → inner ≡ own ++ more → ⊥
+part_closes : (part : StreamPart) (start : ℕ) (own more inner : List Line)
+    → AreLinesOfPart start own part → AllByRecursion IsInner inner → inner ≡ own ++ more → ⊥
 part_closes (BlockPart block) start own more inner k all e =
     let cut : inner ≡ (k.gap ++ k.body) ++ (k.marker ∷ more) = e ∙ ap (λ l. l ++ more) k.whole ∙ simp append_assoc in
     none_closes inner (k.gap ++ k.body) k.marker more all (marker_closes (kind_of k.marker) k.closes) cut
@@ -52,7 +57,9 @@ part_closes (ClaimPart kind) start own more inner k all e =
     none_closes inner k.gap k.line more all (claim_closes (kind_of k.line) kind k.claims) cut
 
 -- behind the lines of the parts stand only lines that close nothing, so there is no further part
-no_further : (parts : List StreamPart) (part : StreamPart) (start : ℕ) (lines lines' inner more : List Line) → AreLinesOf start lines parts → AreLinesOf start lines' (parts ++ part ∷ [])
+no_further : (parts : List StreamPart) (part : StreamPart) (start : ℕ)
+    (lines lines' inner more : List Line) → AreLinesOf start lines parts
+    → AreLinesOf start lines' (parts ++ part ∷ [])
     → AllByRecursion IsInner inner → lines ++ inner ≡ lines' ++ more → ⊥
 no_further [] part start lines lines' inner more h k all e =
     part_closes part start k.0 (k.1 ++ more) inner k.3 all (sym (ap (λ l. l ++ inner) h) ∙ e ∙ ap (λ l. l ++ more) k.2 ∙ append_assoc k.0 k.1 more)
@@ -62,7 +69,8 @@ no_further (p ∷ parts) part start lines lines' inner more h k all e =
     no_further parts part (start + length (joined h.0)) h.1 k.1 inner more h.4 (subst (λ o. AreLinesOf (start + length (joined o)) k.1 (parts ++ part ∷ [])) (sym w.0) k.4) all w.1
 
 -- what is held after bytes tells the number of their parts
-held_once : (bytes held held' : List ℕ) (parts : List StreamPart) (part : StreamPart) → Holds bytes parts held → Holds bytes (parts ++ part ∷ []) held' → ⊥
+held_once : (bytes held held' : List ℕ) (parts : List StreamPart) (part : StreamPart)
+    → Holds bytes parts held → Holds bytes (parts ++ part ∷ []) held' → ⊥
 held_once bytes held held' parts part h k =
     let hc = h.stands.covers in
     let kc = k.stands.covers in
@@ -72,6 +80,7 @@ held_once bytes held held' parts part h k =
     no_further parts part 0 hc.covered kc.covered (h.gap ++ h.body) (k.gap ++ k.body) hc.of_parts kc.of_parts
     (every_append IsInner h.gap h.body (inner_from_filler h.gap h.stands.fillers) (inner_body h.body h.stands.own)) same
 
-pub part_takes_bytes : (s t : SplitterState) (bytes piece : List ℕ) (parts : List StreamPart) (n : ℕ) → Fits s bytes parts → CompletesPart t bytes piece parts n → 0 < n
+pub part_takes_bytes : (s t : SplitterState) (bytes piece : List ℕ) (parts : List StreamPart)
+    (n : ℕ) → Fits s bytes parts → CompletesPart t bytes piece parts n → 0 < n
 part_takes_bytes s t bytes piece parts zero f c = absurd (held_once bytes s.held t.held parts c.part f.holds (subst (λ b. Holds b (parts ++ c.part ∷ []) t.held) (append-nil bytes) c.fits.holds))
 part_takes_bytes s t bytes piece parts (suc n) f c = omega arith

@@ -16,7 +16,9 @@ is_running Finished a b = absurd (a refl)
 is_running Failed a b = absurd (b refl)
 
 -- what is left of a slice of the buffer
-pub pending_left : (buffer : List ℕ) (next end n : ℕ) → n ≤ length (take (end - next) (drop next buffer)) → take (end - (next + n)) (drop (next + n) buffer) ≡ drop n (take (end - next) (drop next buffer))
+pub pending_left : (buffer : List ℕ) (next end n : ℕ) → n ≤ length
+    (take (end - next) (drop next buffer)) → take (end - (next + n)) (drop (next + n) buffer)
+    ≡ drop n (take (end - next) (drop next buffer))
 pending_left buffer next end n h =
     let size : end - next ≡ n + (end - (next + n)) = omega (arith, h, length-take (end - next) (drop next buffer)) in
     sym (ap (λ m. drop n (take m (drop next buffer))) size ∙ drop-take n (end - (next + n)) (drop next buffer) ∙ ap (λ l. take (end - (next + n)) l) (drop-drop n next buffer))
@@ -28,10 +30,12 @@ some_none (Some x) s e = absurd (let no : Some x ≡ None = e in cc)
 -- what `feed` promises, from what the splitter's own promises
 module _ (old new : ReaderState) (s : SplitterState) (piece : List ℕ) (n : ℕ) (same : old.splitter ≡ s) (pending : piece ≡ old.pending)
     (fed : (bytes : List ℕ) (parts : List StreamPart) → Fits s bytes parts → Fed new.splitter bytes piece parts n) (left : new.pending ≡ drop n old.pending) (most : new.splitter.taken ≤ most_taken) where
-  taken_by : (bytes : List ℕ) (parts : List StreamPart) → Fits old.splitter bytes parts → Fed new.splitter bytes old.pending parts n
+  taken_by : (bytes : List ℕ) (parts : List StreamPart) → Fits old.splitter bytes parts
+      → Fed new.splitter bytes old.pending parts n
   taken_by bytes parts f = subst (λ p. Fed new.splitter bytes p parts n) pending (fed bytes parts (subst (λ t. Fits t bytes parts) same f))
 
-  pub fed_more : IsSome new.splitter.waits → (given : List ℕ) (parts : List StreamPart) → HasRead old given parts → (part : StreamPart) × HasRead new given (parts ++ part ∷ [])
+  pub fed_more : IsSome new.splitter.waits → (given : List ℕ) (parts : List StreamPart)
+      → HasRead old given parts → (part : StreamPart) × HasRead new given (parts ++ part ∷ [])
   fed_more some given parts h =
       ⊎_elim (λ (t : TakesAll new.splitter h.taken old.pending parts n). absurd (some_none new.splitter.waits some t.none))
       (λ (t : CompletesPart new.splitter h.taken old.pending parts n). (
@@ -45,7 +49,8 @@ module _ (old new : ReaderState) (s : SplitterState) (piece : List ℕ) (n : ℕ
       ))
       (taken_by h.taken parts h.fits)
 
-  pub fed_fewer : IsSome new.splitter.waits → (taken : List ℕ) (parts : List StreamPart) → Fits old.splitter taken parts → length new.pending < length old.pending
+  pub fed_fewer : IsSome new.splitter.waits → (taken : List ℕ) (parts : List StreamPart)
+      → Fits old.splitter taken parts → length new.pending < length old.pending
   fed_fewer some taken parts f =
       ⊎_elim (λ (t : TakesAll new.splitter taken old.pending parts n). absurd (some_none new.splitter.waits some t.none))
       (λ (t : CompletesPart new.splitter taken old.pending parts n).
@@ -63,7 +68,8 @@ module _ (old new : ReaderState) (s : SplitterState) (piece : List ℕ) (n : ℕ
     pub fed_all : new.pending ≡ []
     fed_all = left ∙ drop_all n old.pending (omega (arith, took_all.whole))
 
-  pub fed_none : (IsSome new.splitter.waits → ⊥) → (given : List ℕ) (parts : List StreamPart) → HasRead old given parts → HasRead new given parts
+  pub fed_none : (IsSome new.splitter.waits → ⊥) → (given : List ℕ) (parts : List StreamPart)
+      → HasRead old given parts → HasRead new given parts
   fed_none not_some given parts h = record {
     taken = h.taken ++ old.pending;
     whole = h.whole ∙ sym (append-nil (h.taken ++ old.pending)) ∙ ap (λ l. (h.taken ++ old.pending) ++ l) (sym (fed_all not_some h.taken parts h.fits));
@@ -72,18 +78,22 @@ module _ (old new : ReaderState) (s : SplitterState) (piece : List ℕ) (n : ℕ
   }
 
 -- that there is a stream which the splitter fits, is kept
-pub still_fits : (new : SplitterState) (taken piece : List ℕ) (parts : List StreamPart) (n : ℕ) → Fed new taken piece parts n → (taken : List ℕ) × (parts : List StreamPart) × Fits new taken parts
+pub still_fits : (new : SplitterState) (taken piece : List ℕ) (parts : List StreamPart) (n : ℕ)
+    → Fed new taken piece parts n → (taken : List ℕ) × (parts : List StreamPart)
+    × Fits new taken parts
 still_fits new taken piece parts n fed =
     ⊎_elim (λ (t : TakesAll new taken piece parts n). (taken ++ piece, parts, t.fits))
     (λ (t : CompletesPart new taken piece parts n). (taken ++ take n piece, parts ++ t.part ∷ [], t.fits)) fed
 
-one_more : (waits : Option WaitingPart) (more : List StreamPart) → IsSome waits → WaitsForMore waits more → (part : StreamPart) × (more ≡ part ∷ [])
+one_more : (waits : Option WaitingPart) (more : List StreamPart) → IsSome waits
+    → WaitsForMore waits more → (part : StreamPart) × (more ≡ part ∷ [])
 one_more None more some w = absurd (let no : false ≡ true = some in cc)
 one_more (Some waiting) [] some w = absurd w
 one_more (Some waiting) (part ∷ []) some w = (part, refl)
 one_more (Some waiting) (part ∷ next ∷ more) some w = absurd w
 
-no_more : (waits : Option WaitingPart) (more : List StreamPart) → (IsSome waits → ⊥) → WaitsForMore waits more → more ≡ []
+no_more : (waits : Option WaitingPart) (more : List StreamPart) → (IsSome waits → ⊥)
+    → WaitsForMore waits more → more ≡ []
 no_more None [] none w = refl
 no_more None (part ∷ more) none w = absurd w
 no_more (Some waiting) more none w = absurd (none refl)
@@ -97,7 +107,8 @@ module _ (old new : ReaderState) (s : SplitterState) (same : old.splitter ≡ s)
       let all : h.taken ≡ given = sym (h.whole ∙ ap (λ l. h.taken ++ l) none ∙ append-nil h.taken) in
       (e.0, subst (λ l. EndsWith new.splitter l parts e.0) all e.1)
 
-  pub ended_more : new.splitter.stage ≡ Finished → IsSome new.splitter.waits → (part : StreamPart) × HasEnded new given (parts ++ part ∷ [])
+  pub ended_more : new.splitter.stage ≡ Finished → IsSome new.splitter.waits
+      → (part : StreamPart) × HasEnded new given (parts ++ part ∷ [])
   ended_more finished some =
       let one = one_more new.splitter.waits ended.0 some ended.1.waits in
       (one.0, record { finished = finished; front = parts; more = ended.0; parts_are = ap (λ l. parts ++ l) (sym one.1); ends = ended.1; short = omega (arith, h.short, ap length h.whole, ap length none, length-append h.taken old.pending) })
@@ -105,7 +116,8 @@ module _ (old new : ReaderState) (s : SplitterState) (same : old.splitter ≡ s)
   pub ended_none : (IsSome new.splitter.waits → ⊥) → IsStreamText given parts
   ended_none not_some = subst (IsStreamText given) (ap (λ l. parts ++ l) (no_more new.splitter.waits ended.0 not_some ended.1.waits) ∙ append-nil parts) ended.1.text
 
-pub ended_broken : (old : ReaderState) (s : SplitterState) → old.splitter ≡ s → old.pending ≡ [] → (given : List ℕ) (parts : List StreamPart) → HasRead old given parts → (e : StreamError)
+pub ended_broken : (old : ReaderState) (s : SplitterState) → old.splitter ≡ s → old.pending ≡ []
+    → (given : List ℕ) (parts : List StreamPart) → HasRead old given parts → (e : StreamError)
     → ((bytes : List ℕ) (parts : List StreamPart) → Fits s bytes parts → IsBrokenAtEndAfter bytes parts e) → IsBrokenAtEndAfter given parts e
 ended_broken old s same none given parts h e broken =
     let all : h.taken ≡ given = sym (h.whole ∙ ap (λ l. h.taken ++ l) none ∙ append-nil h.taken) in

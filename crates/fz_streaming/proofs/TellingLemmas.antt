@@ -21,11 +21,13 @@ use Rattle.fz_streaming.specs.declared.tally.Tally.{Tally}
 use Rattle.fz_streaming.specs.Streaming.{lines_text}
 use Rattle.fz_streaming.specs.Telling.{Tallies, HasTold, TellsOneMore, RefusesPart, JudgesBlock, CountsOne}
 
-pub text_of_more : (lines more : List (List ℕ)) → text_of_lines (lines ++ more) ≡ text_of_lines lines ++ text_of_lines more
+pub text_of_more : (lines more : List (List ℕ))
+    → text_of_lines (lines ++ more) ≡ text_of_lines lines ++ text_of_lines more
 text_of_more [] more = refl
 text_of_more (line ∷ lines) more = ap (λ l. (line ++ 10 ∷ []) ++ l) (text_of_more lines more) ∙ sym (append_assoc (line ++ 10 ∷ []) (text_of_lines lines) (text_of_lines more))
 
-tallies_more : (old new : Tally) (vs : List Verdict) (v : Verdict) → Tallies old vs → CountsOne old new v → Tallies new (vs ++ v ∷ [])
+tallies_more : (old new : Tally) (vs : List Verdict) (v : Verdict) → Tallies old vs
+    → CountsOne old new v → Tallies new (vs ++ v ∷ [])
 tallies_more old new vs v t c =
     let count : old.blocks + 1 ≡ 1 + length vs = omega (arith, t.blocks) in
     record {
@@ -34,7 +36,8 @@ tallies_more old new vs v t c =
       undecided = c.undecided ∙ ap (λ o. option_or o (cond (is_undecided v) (Some (old.blocks + 1)) None)) t.undecided ∙ ap (λ n. option_or (first_number 1 is_undecided vs) (cond (is_undecided v) (Some n) None)) count ∙ sym (first_number_more 1 is_undecided vs v);
     }
 
-append_map : {B : Type 0} (f : the_block.Block → B) (bs : List the_block.Block) (b : the_block.Block) → map f (bs ++ b ∷ []) ≡ map f bs ++ f b ∷ []
+append_map : {B : Type 0} (f : the_block.Block → B) (bs : List the_block.Block)
+    (b : the_block.Block) → map f (bs ++ b ∷ []) ≡ map f bs ++ f b ∷ []
 append_map f [] b = refl
 append_map f (x ∷ bs) b = ap (λ l. f x ∷ l) (append_map f bs b)
 
@@ -50,10 +53,13 @@ pub record IsJudgedAs (c : Completion) (m : Model) (j j' : JudgeState) (block : 
   pub told : IsToldBy c m block j.found filling (verdict m filling block j.before) v j'.found
   pub kept_is : j'.before ≡ objective m filling
 
-pub judged_as : (c : Completion) (m : Model) (j j' : JudgeState) (block : Block) (v : Verdict) → j.completion ≡ c → j.model ≡ m → IsJudged j j' block v → IsJudgedAs c m j j' block v
+pub judged_as : (c : Completion) (m : Model) (j j' : JudgeState) (block : Block) (v : Verdict)
+    → j.completion ≡ c → j.model ≡ m → IsJudged j j' block v → IsJudgedAs c m j j' block v
 judged_as c m j j' block v same_completion same_model judged = subst₂ (λ d n. IsJudgedAs d n j j' block v) same_completion same_model (record { filling = judged.filling; is_filled = judged.is_filled; told = judged.told; kept_is = judged.kept_is })
 
-pub told_claim : (c : Completion) (m : Model) (j : JudgeState) (t : Tally) (parts : List StreamPart) (vs : List Verdict) (kind : ClaimKind) (old line : List ℕ) → old ≡ [] → line ≡ old ++ text_of_lines (claim_line kind ∷ [])
+pub told_claim : (c : Completion) (m : Model) (j : JudgeState) (t : Tally) (parts : List StreamPart)
+    (vs : List Verdict) (kind : ClaimKind) (old line : List ℕ) → old ≡ []
+    → line ≡ old ++ text_of_lines (claim_line kind ∷ [])
     → HasTold c m j t parts vs → TellsOneMore c m j t parts vs (ClaimPart kind) line
 told_claim c m j t parts vs kind old line none is h = record {
   more = vs;
@@ -70,7 +76,9 @@ told_claim c m j t parts vs kind old line none is h = record {
   lines = ap text_of_lines (lines_with_claim 0 vs parts kind h.one_each) ∙ text_of_more (part_lines 0 vs parts) (claim_line kind ∷ []) ∙ ap (λ l. lines_text vs parts ++ l) (sym (is ∙ ap (λ o. o ++ text_of_lines (claim_line kind ∷ [])) none));
 }
 
-pub told_block : (c : Completion) (m : Model) (j j' : JudgeState) (t t' : Tally) (parts : List StreamPart) (vs : List Verdict) (block : the_block.Block) (v : Verdict) (old line : List ℕ) → JudgesBlock j j' (located_block block) v → CountsOne t t' v
+pub told_block : (c : Completion) (m : Model) (j j' : JudgeState) (t t' : Tally)
+    (parts : List StreamPart) (vs : List Verdict) (block : the_block.Block) (v : Verdict)
+    (old line : List ℕ) → JudgesBlock j j' (located_block block) v → CountsOne t t' v
     → old ≡ [] → line ≡ old ++ text_of_lines (block_line (suc t.blocks) v ∷ []) → HasPlaces block → HasTold c m j t parts vs → TellsOneMore c m j' t' parts vs (BlockPart (block_of block)) line
 told_block c m j j' t t' parts vs block v old line judges counts none is places h = record {
   more = vs ++ v ∷ [];
@@ -91,7 +99,9 @@ told_block c m j j' t t' parts vs block v old line judges counts none is places 
       ∙ ap (λ l. lines_text vs parts ++ l) (ap (λ n. text_of_lines (block_line (suc n) v ∷ [])) (let z : 0 + length vs ≡ t.blocks = omega (arith, h.tallies.blocks) in z) ∙ sym (is ∙ ap (λ o. o ++ text_of_lines (block_line (suc t.blocks) v ∷ [])) none));
 }
 
-pub refused_block : (c : Completion) (m : Model) (j : JudgeState) (t : Tally) (parts : List StreamPart) (vs : List Verdict) (block : the_block.Block) (n : ℕ) (e : BlockError) → HasTold c m j t parts vs → n ≡ suc t.blocks → e ≢ Memory
+pub refused_block : (c : Completion) (m : Model) (j : JudgeState) (t : Tally)
+    (parts : List StreamPart) (vs : List Verdict) (block : the_block.Block) (n : ℕ) (e : BlockError)
+    → HasTold c m j t parts vs → n ≡ suc t.blocks → e ≢ Memory
     → HasPlaces block → IsBlockRefusal j.model (located_block block) e → RefusesPart m parts (BlockPart (block_of block)) n e
 refused_block c m j t parts vs block n e h number not_memory places refused = record {
   block = block;

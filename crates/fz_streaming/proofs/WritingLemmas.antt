@@ -7,23 +7,27 @@ use Rattle.fz_streaming.specs.Writing.{WritesFront, Wrote}
 pub wrote_none : (a : Option (List ℕ)) (bytes : List ℕ) → Wrote a a bytes bytes
 wrote_none a bytes = record { front = []; whole = refl; appends = Appends-nil a }
 
-pub wrote_more : (a b c : Option (List ℕ)) (bytes rest left : List ℕ) (n : ℕ) → Wrote a b bytes rest → Appends b c (take n rest) → left ≡ drop n rest → Wrote a c bytes left
+pub wrote_more : (a b c : Option (List ℕ)) (bytes rest left : List ℕ) (n : ℕ) → Wrote a b bytes rest
+    → Appends b c (take n rest) → left ≡ drop n rest → Wrote a c bytes left
 wrote_more a b c bytes rest left n w h e = record {
   front = w.front ++ take n rest;
   whole = w.whole ∙ ap (λ l. w.front ++ l) (sym (take-append-drop n rest) ∙ ap (λ l. take n rest ++ l) (sym e)) ∙ sym (append_assoc w.front (take n rest) left);
   appends = Appends-trans a b c w.front (take n rest) w.appends h;
 }
 
-pub wrote_front : (a b c : Option (List ℕ)) (bytes rest : List ℕ) → Wrote a b bytes rest → Keeps b c → WritesFront a c bytes
+pub wrote_front : (a b c : Option (List ℕ)) (bytes rest : List ℕ) → Wrote a b bytes rest → Keeps b c
+    → WritesFront a c bytes
 wrote_front a b c bytes rest w k = record { front = w.front; rest = rest; whole = w.whole; appends = Appends-kept a b c w.front w.appends k }
 
 -- ---- bytes that wait and are written later
 
 -- all of them were written
-pub wrote_whole : (a b : Option (List ℕ)) (bytes rest : List ℕ) → Appends a b bytes → rest ≡ [] → Wrote a b bytes rest
+pub wrote_whole : (a b : Option (List ℕ)) (bytes rest : List ℕ) → Appends a b bytes → rest ≡ []
+    → Wrote a b bytes rest
 wrote_whole a b bytes rest h none = record { front = bytes; whole = sym (ap (λ l. bytes ++ l) none ∙ append-nil bytes); appends = h }
 
-pub wrote_on : (a b c : Option (List ℕ)) (bytes rest left : List ℕ) → Wrote a b bytes rest → Wrote b c rest left → Wrote a c bytes left
+pub wrote_on : (a b c : Option (List ℕ)) (bytes rest left : List ℕ) → Wrote a b bytes rest
+    → Wrote b c rest left → Wrote a c bytes left
 wrote_on a b c bytes rest left v w = record {
   front = v.front ++ w.front;
   whole = v.whole ∙ ap (λ l. v.front ++ l) w.whole ∙ sym (append_assoc v.front w.front left);
@@ -31,7 +35,8 @@ wrote_on a b c bytes rest left v w = record {
 }
 
 -- there are more of them, and these wait
-pub wrote_longer : (a b : Option (List ℕ)) (bytes rest bytes' rest' more : List ℕ) → Wrote a b bytes rest → bytes' ≡ bytes ++ more → rest' ≡ rest ++ more → Wrote a b bytes' rest'
+pub wrote_longer : (a b : Option (List ℕ)) (bytes rest bytes' rest' more : List ℕ)
+    → Wrote a b bytes rest → bytes' ≡ bytes ++ more → rest' ≡ rest ++ more → Wrote a b bytes' rest'
 wrote_longer a b bytes rest bytes' rest' more w longer waits = record {
   front = w.front;
   whole = longer ∙ ap (λ l. l ++ more) w.whole ∙ append_assoc w.front rest more ∙ ap (λ l. w.front ++ l) (sym waits);
@@ -39,10 +44,12 @@ wrote_longer a b bytes rest bytes' rest' more w longer waits = record {
 }
 
 -- those that wait are written, or a front of them
-pub wrote_all : (a b c : Option (List ℕ)) (bytes rest : List ℕ) → Wrote a b bytes rest → Appends b c rest → Appends a c bytes
+pub wrote_all : (a b c : Option (List ℕ)) (bytes rest : List ℕ) → Wrote a b bytes rest
+    → Appends b c rest → Appends a c bytes
 wrote_all a b c bytes rest w h = subst (Appends a c) (sym w.whole) (Appends-trans a b c w.front rest w.appends h)
 
-pub wrote_part : (a b c : Option (List ℕ)) (bytes rest : List ℕ) → Wrote a b bytes rest → WritesFront b c rest → WritesFront a c bytes
+pub wrote_part : (a b c : Option (List ℕ)) (bytes rest : List ℕ) → Wrote a b bytes rest
+    → WritesFront b c rest → WritesFront a c bytes
 wrote_part a b c bytes rest w f = record {
   front = w.front ++ f.front;
   rest = f.rest;
@@ -50,7 +57,8 @@ wrote_part a b c bytes rest w f = record {
   appends = Appends-trans a b c w.front f.front w.appends f.appends;
 }
 
-pub all_is_front : (a b : Option (List ℕ)) (bytes : List ℕ) → Appends a b bytes → WritesFront a b bytes
+pub all_is_front : (a b : Option (List ℕ)) (bytes : List ℕ) → Appends a b bytes
+    → WritesFront a b bytes
 all_is_front a b bytes h = record { front = bytes; rest = []; whole = sym (append-nil bytes); appends = h }
 
 no_front : (xs ys : List ℕ) → [] ≡ xs ++ ys → xs ≡ []
@@ -58,11 +66,13 @@ no_front [] ys e = refl
 no_front (x ∷ xs) ys e = absurd (let no : [] ≡ x ∷ (xs ++ ys) = e in cc)
 
 -- of more of them it is one too
-pub front_longer : (a b : Option (List ℕ)) (bytes more : List ℕ) → WritesFront a b bytes → WritesFront a b (bytes ++ more)
+pub front_longer : (a b : Option (List ℕ)) (bytes more : List ℕ) → WritesFront a b bytes
+    → WritesFront a b (bytes ++ more)
 front_longer a b bytes more f = record { front = f.front; rest = f.rest ++ more; whole = ap (λ l. l ++ more) f.whole ∙ append_assoc f.front f.rest more; appends = f.appends }
 
 -- a write failed, and none waits
-pub front_and_none : (a b c : Option (List ℕ)) (bytes rest : List ℕ) → WritesFront a b bytes → rest ≡ [] → WritesFront b c rest → WritesFront a c bytes
+pub front_and_none : (a b c : Option (List ℕ)) (bytes rest : List ℕ) → WritesFront a b bytes
+    → rest ≡ [] → WritesFront b c rest → WritesFront a c bytes
 front_and_none a b c bytes rest f none g =
     let empty = no_front g.front g.rest (sym none ∙ g.whole) in
     record {

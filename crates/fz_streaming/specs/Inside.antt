@@ -1,5 +1,5 @@
--- What contracts see of what is read, `pieces_of`, and of a reader of parts, `state_of`. The invariants serve private functions alone: a
--- reader of the public contracts need not believe them.
+-- What contracts see of what is read, `pieces_of`, and of a reader of parts, `state_of`. The
+-- invariants serve private functions alone: a reader of the public contracts need not believe them.
 use Rattle.std.specs.Prelude.{◌≡◌, ℕ, ◌-◌, ◌≤◌, List, take, drop, None, true, ◌↔◌}
 use Rattle.fz_stream.specs.declared.splitter.Stage.TheVariants.{Running, Finished, Failed}
 use Rattle.fz_stream.specs.Parts.{StreamPart}
@@ -20,5 +20,6 @@ state_of s = record { splitter = s.splitter; pending = s.pieces.pending; reads =
 
 pub record IsReader (s : Inside) : Type 0 where
   pub ended : (s.has_ended ≡ true) ↔ (s.splitter.stage ≡ Finished)
-  pub fits : s.splitter.stage ≡ Running → (taken : List ℕ) × (parts : List StreamPart) × Fits s.splitter taken parts
+  pub fits : s.splitter.stage ≡ Running
+      → (taken : List ℕ) × (parts : List StreamPart) × Fits s.splitter taken parts
   pub failed : s.splitter.stage ≡ Failed → s.splitter.waits ≡ None

@@ -1,4 +1,5 @@
--- What is answered where a splitter refuses a stream's bytes, or the next part is not known (this project's profile).
+-- What is answered where a splitter refuses a stream's bytes, or the next part is not known (this
+-- project's profile).
 use Rattle.fz_stream.specs.declared.error.StreamError.{StreamError}
 use Rattle.fz_stream.specs.declared.error.StreamError.TheVariants as faults
 use Rattle.fz_streaming.specs.declared.error.PartError.{PartError}
@@ -6,7 +7,7 @@ use Rattle.fz_streaming.specs.declared.error.PartError.TheVariants as errors
 use Rattle.fz_streaming.specs.declared.error.StreamingError.{StreamingError}
 use Rattle.fz_streaming.specs.declared.error.StreamingError.TheVariants as streaming
 
--- want of memory is told as such, and any other fault as one of the stream
+-- out of memory is told as such, and any other fault as one of the stream
 abbrev pub part_refusal : StreamError → PartError
 part_refusal faults.Memory = errors.Memory
 part_refusal e = errors.Stream e

@@ -43,7 +43,8 @@ pub enum StreamingError {
     /// The stream's bytes are refused. The fault is not `Memory`.
     #[error("stream: {0}")]
     Stream(StreamError),
-    /// The block of this number, from 1, has this fault against the model. The fault is not `Memory`.
+    /// The block of this number, from 1, has this fault against the model. The fault is not
+    /// `Memory`.
     #[error("block {0}: {1}")]
     Block(usize, BlockError),
     #[error("memory")]

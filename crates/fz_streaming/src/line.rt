@@ -39,7 +39,8 @@ fn claim_text(kind: ClaimKind) -> &'static [u8]
 
 /// Adds the line of a claim.
 pub fn push_claim(text: &mut Vec<u8>, kind: ClaimKind) -> Result<(), AllocError>
-    ensures { OnOk result (text.new.items ≡ text.old.items ++ text_of_lines (claim_line kind ∷ [])) }
+    ensures { OnOk result (text.new.items
+        ≡ text.old.items ++ text_of_lines (claim_line kind ∷ [])) }
 {
     push_bytes(text, b"claim: ")?;
     push_bytes(text, claim_text(kind))?;
@@ -49,7 +50,8 @@ pub fn push_claim(text: &mut Vec<u8>, kind: ClaimKind) -> Result<(), AllocError>
 
 /// Adds a verdict without its LF.
 fn push_verdict(text: &mut Vec<u8>, verdict: &Verdict<'_>) -> Result<(), AllocError>
-    ensures { OnOk result (text.new.items ≡ text.old.items ++ verdict_text (verdict_view verdict.now)) }
+    ensures { OnOk result (text.new.items
+        ≡ text.old.items ++ verdict_text (verdict_view verdict.now)) }
 {
     match verdict {
         Verdict::Satisfied => push_bytes(text, b"satisfied"),
@@ -72,7 +74,8 @@ pub fn push_block(
     number: usize,
     verdict: &Verdict<'_>,
 ) -> Result<(), AllocError>
-    ensures { OnOk result (text.new.items ≡ text.old.items ++ text_of_lines (block_line number (verdict_view verdict.now) ∷ [])) }
+    ensures { OnOk result (text.new.items
+        ≡ text.old.items ++ text_of_lines (block_line number (verdict_view verdict.now) ∷ [])) }
 {
     push_bytes(text, b"block ")?;
     push_count(text, number)?;
@@ -84,7 +87,8 @@ pub fn push_block(
 
 /// Adds the line of the answer.
 pub fn push_answer(text: &mut Vec<u8>, answer: Answer) -> Result<(), AllocError>
-    ensures { OnOk result (text.new.items ≡ text.old.items ++ text_of_lines (answer_line (answer_view answer) ∷ [])) }
+    ensures { OnOk result (text.new.items
+        ≡ text.old.items ++ text_of_lines (answer_line (answer_view answer) ∷ [])) }
 {
     match answer {
         Answer::Accepted(count) => push_numbered(text, b"accepted: blocks ", count),
@@ -96,7 +100,8 @@ pub fn push_answer(text: &mut Vec<u8>, answer: Answer) -> Result<(), AllocError>
 
 /// Adds words and a number as a line.
 fn push_numbered(text: &mut Vec<u8>, words: &[u8], number: usize) -> Result<(), AllocError>
-    ensures { OnOk result (text.new.items ≡ text.old.items ++ text_of_lines ((words.now ++ decimal number) ∷ [])) }
+    ensures { OnOk result (text.new.items
+        ≡ text.old.items ++ text_of_lines ((words.now ++ decimal number) ∷ [])) }
 {
     push_bytes(text, words)?;
     push_count(text, number)?;

@@ -70,11 +70,13 @@ impl Pieces {
     /// Reads once, and tells whether the reader gave anything.
     pub(crate) fn read<R: Read>(&mut self, reader: &mut R) -> Result<bool, ReadFailed>
         requires none { self.old.pending ≡ [] }
-        ensures given { Consumes (R.remaining reader.old) (R.remaining reader.new) self.new.pending }
+        ensures given { Consumes (R.remaining reader.old)
+            (R.remaining reader.new) self.new.pending }
         ensures size { length self.new.pending ≤ piece_size }
         ensures reads { OnOk result (self.new.reads + 1 ≡ self.old.reads) }
         ensures fewer { self.new.reads ≤ self.old.reads }
-        ensures end { result ≡ Ok false → (self.new.pending ≡ []) × IsAtEnd (R.remaining reader.new) }
+        ensures end { result ≡ Ok false
+            → (self.new.pending ≡ []) × IsAtEnd (R.remaining reader.new) }
         ensures none_given { OnErr result (self.new.pending ≡ []) }
     {
         if self.reads == 0 {

@@ -16,7 +16,8 @@ use std::alloc::Global;
 use std::io::{Read, Write};
 use std::marker::Model;
 
-/// The parts of a stream whose bytes a reader gives, one after another. At most 4,096 bytes are read at a time, and one block is held.
+/// The parts of a stream whose bytes a reader gives, one after another. At most 4,096 bytes are
+/// read at a time, and one block is held.
 #[derive(Drop)]
 pub struct PartReader {
     splitter: Splitter,
@@ -52,17 +53,23 @@ impl PartReader {
         }
     }
 
-    /// Lets the splitter take of what was read until the next part has ended, and tells whether one has.
+    /// Lets the splitter take of what was read until the next part has ended, and tells whether one
+    /// has.
     fn feed(&mut self) -> Result<bool, StreamError>
         requires going { self.old.splitter.stage ≢ Finished }
         ensures going { OnOk result (self.new.splitter.stage ≡ Running) }
         ensures reads { self.new.reads ≡ self.old.reads }
         ensures waits { result ≡ Ok true → IsSome self.new.splitter.waits }
         ensures fewer { result ≡ Ok true → length self.new.pending < length self.old.pending }
-        ensures more { result ≡ Ok true → (given : List ℕ) (parts : List StreamPart) → HasRead self.old given parts → (part : StreamPart) × HasRead self.new given (parts ++ part ∷ []) }
+        ensures more { result ≡ Ok true → (given : List ℕ) (parts : List StreamPart)
+            → HasRead self.old given parts
+            → (part : StreamPart) × HasRead self.new given (parts ++ part ∷ []) }
         ensures all { result ≡ Ok false → self.new.pending ≡ [] }
-        ensures none { result ≡ Ok false → (given : List ℕ) (parts : List StreamPart) → HasRead self.old given parts → HasRead self.new given parts }
-        ensures refused { IfErr result (λ e. e ≢ StreamError.Memory → (given : List ℕ) (parts : List StreamPart) → HasRead self.old given parts → IsRefusedInside given parts e) }
+        ensures none { result ≡ Ok false → (given : List ℕ) (parts : List StreamPart)
+            → HasRead self.old given parts → HasRead self.new given parts }
+        ensures refused { IfErr result (λ e. e ≢ StreamError.Memory
+            → (given : List ℕ) (parts : List StreamPart) → HasRead self.old given parts
+            → IsRefusedInside given parts e) }
         ensures failed { OnErr result (self.new.splitter.stage ≡ FailedStage) }
         ensures fault { IfErr result (λ e. e ≢ StreamError.Failed → IsStreamFault e) }
         ensures before { result ≡ Err StreamError.Failed → self.old.splitter.stage ≡ FailedStage }
@@ -84,11 +91,13 @@ impl PartReader {
     fn read<R: Read>(&mut self, reader: &mut R) -> Result<bool, ReadFailed>
         requires none { self.old.pending ≡ [] }
         ensures same { self.new.splitter ≡ self.old.splitter }
-        ensures given { Consumes (R.remaining reader.old) (R.remaining reader.new) self.new.pending }
+        ensures given { Consumes (R.remaining reader.old)
+            (R.remaining reader.new) self.new.pending }
         ensures size { length self.new.pending ≤ piece_size }
         ensures reads { OnOk result (self.new.reads + 1 ≡ self.old.reads) }
         ensures fewer { self.new.reads ≤ self.old.reads }
-        ensures end { result ≡ Ok false → (self.new.pending ≡ []) × IsAtEnd (R.remaining reader.new) }
+        ensures end { result ≡ Ok false
+            → (self.new.pending ≡ []) × IsAtEnd (R.remaining reader.new) }
         ensures none_given { OnErr result (self.new.pending ≡ []) }
     {
         self.pieces.read(reader)
@@ -102,9 +111,14 @@ impl PartReader {
         ensures pending { self.new.pending ≡ [] }
         ensures ended { OnOk result (self.new.splitter.stage ≡ Finished) }
         ensures waits { result ≡ Ok true → IsSome self.new.splitter.waits }
-        ensures more { result ≡ Ok true → (given : List ℕ) (parts : List StreamPart) → HasRead self.old given parts → (part : StreamPart) × HasEnded self.new given (parts ++ part ∷ []) }
-        ensures none { result ≡ Ok false → (given : List ℕ) (parts : List StreamPart) → HasRead self.old given parts → IsStreamText given parts }
-        ensures refused { IfErr result (λ e. e ≢ StreamError.Memory → (given : List ℕ) (parts : List StreamPart) → HasRead self.old given parts → IsBrokenAtEndAfter given parts e) }
+        ensures more { result ≡ Ok true → (given : List ℕ) (parts : List StreamPart)
+            → HasRead self.old given parts
+            → (part : StreamPart) × HasEnded self.new given (parts ++ part ∷ []) }
+        ensures none { result ≡ Ok false → (given : List ℕ) (parts : List StreamPart)
+            → HasRead self.old given parts → IsStreamText given parts }
+        ensures refused { IfErr result (λ e. e ≢ StreamError.Memory
+            → (given : List ℕ) (parts : List StreamPart) → HasRead self.old given parts
+            → IsBrokenAtEndAfter given parts e) }
         ensures failed { OnErr result (self.new.splitter.stage ≡ FailedStage) }
         ensures fault { IfErr result (λ e. e ≢ StreamError.Failed → IsStreamFault e) }
         ensures before { result ≡ Err StreamError.Failed → self.old.splitter.stage ≡ FailedStage }
@@ -126,8 +140,8 @@ impl PartReader {
     /// # Errors
     ///
     /// `Read` where a read fails, or where the last one that may be made brings no end of the
-    /// stream; `Write` where a write fails or takes nothing; the stream's first fault; want of
-    /// memory.
+    /// stream; `Write` where a write fails or takes nothing; the stream's first fault; `Memory`
+    /// where memory runs out.
     pub fn advance<R: Read, W: Write>(
         &mut self,
         reader: &mut R,
@@ -135,26 +149,41 @@ impl PartReader {
         lines: &mut Vec<u8>,
     ) -> Result<bool, PartError>
         // A further part has ended and waits.
-        ensures more { result ≡ Ok true → ReadsOn self.old (R.remaining reader.old) (R.remaining reader.new) (HasOneMore self.new (R.remaining reader.new)) }
+        ensures more { result ≡ Ok true → ReadsOn self.old (R.remaining reader.old)
+            (R.remaining reader.new) (HasOneMore self.new (R.remaining reader.new)) }
         ensures waits { result ≡ Ok true → IsSome self.new.splitter.waits }
         ensures fewer { result ≡ Ok true → steps_left self.new < steps_left self.old }
-        // Each read that is made brings 4,096 bytes at most, and the one that finds the end brings none.
-        ensures spends { SpendsReads (without_bytes self.old) (without_bytes self.new) (R.remaining reader.old) (R.remaining reader.new) }
+        // Each read that is made brings 4,096 bytes at most, and the one that finds the end brings
+        // none.
+        ensures spends { SpendsReads (without_bytes self.old) (without_bytes self.new)
+            (R.remaining reader.old) (R.remaining reader.new) }
         ensures at_end { result ≡ Ok false → self.new.splitter.stage ≡ Finished }
         // The bytes have ended, and are a text of the parts so far.
-        ensures end { result ≡ Ok false → ReadsOn self.old (R.remaining reader.old) (R.remaining reader.new) (λ given parts. IsAtEnd (R.remaining reader.new) × IsStreamText given parts) }
+        ensures end { result ≡ Ok false → ReadsOn self.old (R.remaining reader.old)
+            (R.remaining reader.new) (λ given parts. IsAtEnd (R.remaining reader.new)
+            × IsStreamText given parts) }
         // No further part has ended in what was read.
-        ensures read { result ≡ Err PartError.Read → ReadsOn self.old (R.remaining reader.old) (R.remaining reader.new) (λ given parts. HasRead self.new given parts × HasNoMore given parts) }
-        ensures refused { (e : StreamError) → result ≡ Err (PartError.Stream e) → ReadsOn self.old (R.remaining reader.old) (R.remaining reader.new) (λ given parts. IsRefusedAfter (R.remaining reader.new) given parts e) }
-        ensures fault { (e : StreamError) → result ≡ Err (PartError.Stream e) → (e ≢ StreamError.Memory) × (self.old.splitter.stage ≢ FailedStage → IsStreamFault e) }
+        ensures read { result ≡ Err PartError.Read → ReadsOn self.old (R.remaining reader.old)
+            (R.remaining reader.new) (λ given parts. HasRead self.new given parts
+            × HasNoMore given parts) }
+        ensures refused { (e : StreamError) → result ≡ Err (PartError.Stream e)
+            → ReadsOn self.old (R.remaining reader.old) (R.remaining reader.new)
+            (λ given parts. IsRefusedAfter (R.remaining reader.new) given parts e) }
+        ensures fault { (e : StreamError) → result ≡ Err (PartError.Stream e)
+            → (e ≢ StreamError.Memory) × (self.old.splitter.stage ≢ FailedStage → IsStreamFault e) }
         ensures ended { self.old.splitter.stage ≡ Finished → result ≡ Ok false }
-        ensures failed { OnErr result (result ≢ Err PartError.Read → result ≢ Err PartError.Write → self.new.splitter.stage ≡ FailedStage) }
-        ensures other { OnErr result (ReadsOn self.old (R.remaining reader.old) (R.remaining reader.new) (λ given parts. ⊤)) }
+        ensures failed { OnErr result (result ≢ Err PartError.Read → result ≢ Err PartError.Write
+            → self.new.splitter.stage ≡ FailedStage) }
+        ensures other { OnErr result (ReadsOn self.old (R.remaining reader.old)
+            (R.remaining reader.new) (λ given parts. ⊤)) }
         // The lines that aren't left were written, and all are where a read was made.
-        ensures written { result ≢ Err PartError.Write → Wrote (W.contents writer.old) (W.contents writer.new) lines.old.items lines.new.items }
+        ensures written { result ≢ Err PartError.Write → Wrote (W.contents writer.old)
+            (W.contents writer.new) lines.old.items lines.new.items }
         ensures none_left { self.new.reads < self.old.reads → lines.new.items ≡ [] }
         // After a failed write a front of them was written, and none is left.
-        ensures unwritten { result ≡ Err PartError.Write → WritesFront (W.contents writer.old) (W.contents writer.new) lines.old.items × (lines.new.items ≡ []) }
+        ensures unwritten { result ≡ Err PartError.Write
+            → WritesFront (W.contents writer.old) (W.contents writer.new) lines.old.items
+            × (lines.new.items ≡ []) }
     {
         if self.has_ended {
             return Ok(false);
@@ -181,8 +210,8 @@ impl PartReader {
         }
     }
 
-    /// Takes the items of the block that waits out, so that `lend` moves them and copies none. Where no block waits, or its items were taken
-    /// out before, it answers none.
+    /// Takes the items of the block that waits out, so that `lend` moves them and copies none.
+    /// Where no block waits, or its items were taken out before, it answers none.
     pub fn release(&mut self) -> Option<KeptItems>
         ensures same { self.new ≡ self.old }
         ensures items { IfSome result (AreOfWaiting self.old.splitter.waits) }
@@ -191,11 +220,11 @@ impl PartReader {
     }
 
     /// Lends the part that waits, as often as it is called, and moves into it the items that were
-    /// released, if they are given back. Want of memory changes nothing.
+    /// released, if they are given back. Running out of memory changes nothing.
     ///
     /// # Errors
     ///
-    /// Want of memory.
+    /// Out of memory.
     pub fn lend(&self, released: Option<KeptItems>) -> Result<Part<'_>, PartError>
         requires waits { IsSome self.now.splitter.waits }
         // They are those of the block that waits, as `release` answered them.
@@ -205,7 +234,8 @@ impl PartReader {
         ensures places { IfOk result HasPlacesOfItems }
         ensures within { IfOk result (PartEndsWithin most_taken) }
         // It is the last of the parts, whatever was read before.
-        ensures given { IfOk result (λ part. (left : Option (List ℕ)) (given : List ℕ) (parts : List StreamPart) → StandsAt self.now left given parts →
+        ensures given { IfOk result (λ part. (left : Option (List ℕ)) (given : List ℕ)
+            (parts : List StreamPart) → StandsAt self.now left given parts →
             (front : List StreamPart) × (parts ≡ front ++ part_of part ∷ [])) }
         ensures refused { IfErr result (λ e. e ≡ PartError.Memory) }
     {

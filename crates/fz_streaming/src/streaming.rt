@@ -30,8 +30,9 @@ use std::io::{Read, Write};
 ///
 /// # Errors
 ///
-/// `Stream` with the stream's first fault, `Block` with the first block that has a fault against the model, whichever comes first; `Read`
-/// where a read fails, or as many as may be bring no end; `Write` where a write fails or takes nothing; want of memory.
+/// `Stream` with the stream's first fault, `Block` with the first block that has a fault against
+/// the model, whichever comes first; `Read` where a read fails, or as many as may be bring no end;
+/// `Write` where a write fails or takes nothing; `Memory` where memory runs out.
 pub fn check_parts<R: Read, W: Write>(
     alloc: Global,
     model: &Model<'_>,
@@ -42,16 +43,30 @@ pub fn check_parts<R: Read, W: Write>(
 ) -> Result<Answer, StreamingError>
     // It reads at most so often, and before there is an answer one read finds the end.
     ensures reads { SpendsReads reads 0 (R.remaining reader.old) (R.remaining reader.new) }
-    ensures end_read { IfOk result (λ _. SpendsReads reads 1 (R.remaining reader.old) (R.remaining reader.new)) }
+    ensures end_read { IfOk result
+        (λ _. SpendsReads reads 1 (R.remaining reader.old) (R.remaining reader.new)) }
     // The writer got the report on all that the reader gave up to its end, and nothing else.
-    ensures answered { IfOk result (λ a. IsAnswered completion model.now (R.remaining reader.old) (R.remaining reader.new) (W.contents writer.old) (W.contents writer.new) (answer_view a)) }
-    // After a refusal the lines of all parts that ended before the fault were written, and nothing else.
-    ensures stream { (e : StreamError) → result ≡ Err (StreamingError.Stream e) → StopsAfterLines completion model.now (R.remaining reader.old) (R.remaining reader.new) (W.contents writer.old) (W.contents writer.new) (λ given parts. IsRefusedAfter (R.remaining reader.new) given parts e) }
-    ensures fault { (e : StreamError) → result ≡ Err (StreamingError.Stream e) → IsStreamFault e × (e ≢ StreamError.Memory) }
-    ensures block { (n : ℕ) (e : BlockError) → result ≡ Err (StreamingError.Block n e) → StopsAfterLines completion model.now (R.remaining reader.old) (R.remaining reader.new) (W.contents writer.old) (W.contents writer.new) (λ given parts. BlockIsRefused model.now (R.remaining reader.new) given parts n e) }
-    ensures read { result ≡ Err StreamingError.Read → StopsAfterLines completion model.now (R.remaining reader.old) (R.remaining reader.new) (W.contents writer.old) (W.contents writer.new) HasNoMore }
-    // After any error a front of the lines for the bytes that were read was written, and nothing else.
-    ensures front { OnErr result (WritesFrontOfLines completion model.now (R.remaining reader.old) (R.remaining reader.new) (W.contents writer.old) (W.contents writer.new)) }
+    ensures answered { IfOk result (λ a. IsAnswered completion model.now (R.remaining reader.old)
+        (R.remaining reader.new) (W.contents writer.old) (W.contents writer.new) (answer_view a)) }
+    // After a refusal the lines of all parts that ended before the fault were written, and nothing
+    // else.
+    ensures stream { (e : StreamError) → result ≡ Err (StreamingError.Stream e)
+        → StopsAfterLines completion model.now (R.remaining reader.old) (R.remaining reader.new)
+        (W.contents writer.old) (W.contents writer.new)
+        (λ given parts. IsRefusedAfter (R.remaining reader.new) given parts e) }
+    ensures fault { (e : StreamError) → result ≡ Err (StreamingError.Stream e)
+        → IsStreamFault e × (e ≢ StreamError.Memory) }
+    ensures block { (n : ℕ) (e : BlockError) → result ≡ Err (StreamingError.Block n e)
+        → StopsAfterLines completion model.now (R.remaining reader.old) (R.remaining reader.new)
+        (W.contents writer.old) (W.contents writer.new)
+        (λ given parts. BlockIsRefused model.now (R.remaining reader.new) given parts n e) }
+    ensures read { result ≡ Err StreamingError.Read → StopsAfterLines completion model.now
+        (R.remaining reader.old) (R.remaining reader.new) (W.contents writer.old)
+        (W.contents writer.new) HasNoMore }
+    // After any error a front of the lines for the bytes that were read was written, and nothing
+    // else.
+    ensures front { OnErr result (WritesFrontOfLines completion model.now (R.remaining reader.old)
+        (R.remaining reader.new) (W.contents writer.old) (W.contents writer.new)) }
 {
     let mut lines = Vec::new(alloc);
     let outcome = tell_parts(alloc, model, reader, writer, reads, completion, &mut lines);
@@ -61,8 +76,8 @@ pub fn check_parts<R: Read, W: Write>(
     }
 }
 
-/// Judges each block, and gathers the lines. All are written before each read; those that came after
-/// the last one are left to be written.
+/// Judges each block, and gathers the lines. All are written before each read; those that came
+/// after the last one are left to be written.
 fn tell_parts<R: Read, W: Write>(
     alloc: Global,
     model: &Model<'_>,
@@ -74,22 +89,37 @@ fn tell_parts<R: Read, W: Write>(
 ) -> Result<Answer, StreamingError>
     requires { lines.old.items ≡ [] }
     ensures reads { SpendsReads reads 0 (R.remaining reader.old) (R.remaining reader.new) }
-    ensures end_read { IfOk result (λ _. SpendsReads reads 1 (R.remaining reader.old) (R.remaining reader.new)) }
+    ensures end_read { IfOk result
+        (λ _. SpendsReads reads 1 (R.remaining reader.old) (R.remaining reader.new)) }
     // Each of these holds once the lines that are left are written too.
-    ensures answered { IfOk result (λ a. (next : Option (List ℕ)) → Appends (W.contents writer.new) next lines.new.items → IsAnswered completion model.now (R.remaining reader.old) (R.remaining reader.new) (W.contents writer.old) next (answer_view a)) }
-    ensures stream { (e : StreamError) → result ≡ Err (StreamingError.Stream e) → (next : Option (List ℕ)) → Appends (W.contents writer.new) next lines.new.items
-        → StopsAfterLines completion model.now (R.remaining reader.old) (R.remaining reader.new) (W.contents writer.old) next (λ given parts. IsRefusedAfter (R.remaining reader.new) given parts e) }
-    ensures fault { (e : StreamError) → result ≡ Err (StreamingError.Stream e) → IsStreamFault e × (e ≢ StreamError.Memory) }
-    ensures block { (n : ℕ) (e : BlockError) → result ≡ Err (StreamingError.Block n e) → (next : Option (List ℕ)) → Appends (W.contents writer.new) next lines.new.items
-        → StopsAfterLines completion model.now (R.remaining reader.old) (R.remaining reader.new) (W.contents writer.old) next (λ given parts. BlockIsRefused model.now (R.remaining reader.new) given parts n e) }
-    ensures read { result ≡ Err StreamingError.Read → (next : Option (List ℕ)) → Appends (W.contents writer.new) next lines.new.items
-        → StopsAfterLines completion model.now (R.remaining reader.old) (R.remaining reader.new) (W.contents writer.old) next HasNoMore }
+    ensures answered { IfOk result (λ a. (next : Option (List ℕ))
+        → Appends (W.contents writer.new) next lines.new.items
+        → IsAnswered completion model.now (R.remaining reader.old) (R.remaining reader.new)
+        (W.contents writer.old) next (answer_view a)) }
+    ensures stream { (e : StreamError) → result ≡ Err (StreamingError.Stream e)
+        → (next : Option (List ℕ)) → Appends (W.contents writer.new) next lines.new.items
+        → StopsAfterLines completion model.now (R.remaining reader.old) (R.remaining reader.new)
+        (W.contents writer.old) next (λ given parts. IsRefusedAfter
+        (R.remaining reader.new) given parts e) }
+    ensures fault { (e : StreamError) → result ≡ Err (StreamingError.Stream e)
+        → IsStreamFault e × (e ≢ StreamError.Memory) }
+    ensures block { (n : ℕ) (e : BlockError) → result ≡ Err (StreamingError.Block n e)
+        → (next : Option (List ℕ)) → Appends (W.contents writer.new) next lines.new.items
+        → StopsAfterLines completion model.now (R.remaining reader.old) (R.remaining reader.new)
+        (W.contents writer.old) next (λ given parts. BlockIsRefused model.now
+        (R.remaining reader.new) given parts n e) }
+    ensures read { result ≡ Err StreamingError.Read → (next : Option (List ℕ))
+        → Appends (W.contents writer.new) next lines.new.items
+        → StopsAfterLines completion model.now (R.remaining reader.old) (R.remaining reader.new)
+        (W.contents writer.old) next HasNoMore }
     // Or once a front of them is.
-    ensures front { (next : Option (List ℕ)) → WritesFront (W.contents writer.new) next lines.new.items → WritesFrontOfLines completion model.now (R.remaining reader.old) (R.remaining reader.new) (W.contents writer.old) next }
+    ensures front { (next : Option (List ℕ)) → WritesFront
+        (W.contents writer.new) next lines.new.items → WritesFrontOfLines completion model.now
+        (R.remaining reader.old) (R.remaining reader.new) (W.contents writer.old) next }
 {
     let mut judge = Judge::new(model, completion);
     let mut tally = Tally::new();
-    // A line is made apart, so that want of memory in its midst leaves whole lines.
+    // A line is made apart, so that running out of memory in its midst leaves whole lines.
     let mut line = Vec::new(alloc);
     let mut parts = PartReader::new(alloc, reads);
     loop {

@@ -7,7 +7,8 @@ ghost use Rattle.fz_streaming.specs.View.{answer_view};
 use crate::line::Answer;
 use fz_judge::Verdict;
 
-/// How many blocks were judged, and the numbers of the first violated and of the first undecided one, from 1.
+/// How many blocks were judged, and the numbers of the first violated and of the first undecided
+/// one, from 1.
 #[derive(Clone, Copy, Debug)]
 pub(crate) struct Tally {
     pub(crate) blocks: usize,
@@ -33,7 +34,8 @@ fn is_undecided(verdict: &Verdict<'_>) -> bool
     }
 }
 
-/// The number of the first block of a kind, where this one has the number and is of the kind or not.
+/// The number of the first block of a kind, where this one has the number and is of the kind or
+/// not.
 fn first(before: Option<usize>, is: bool, number: usize) -> Option<usize>
     ensures { result ≡ option_or before (cond is (Some number) None) }
 {
@@ -58,8 +60,10 @@ impl Tally {
     pub(crate) fn count(&mut self, verdict: &Verdict<'_>)
         requires { self.old.blocks < usize.MAX }
         ensures blocks { self.new.blocks ≡ self.old.blocks + 1 }
-        ensures violated { self.new.violated ≡ option_or self.old.violated (cond (is_violated (verdict_view verdict.now)) (Some (self.old.blocks + 1)) None) }
-        ensures undecided { self.new.undecided ≡ option_or self.old.undecided (cond (is_undecided (verdict_view verdict.now)) (Some (self.old.blocks + 1)) None) }
+        ensures violated { self.new.violated ≡ option_or self.old.violated
+            (cond (is_violated (verdict_view verdict.now)) (Some (self.old.blocks + 1)) None) }
+        ensures undecided { self.new.undecided ≡ option_or self.old.undecided
+            (cond (is_undecided (verdict_view verdict.now)) (Some (self.old.blocks + 1)) None) }
     {
         self.blocks += 1;
         self.violated = first(self.violated, is_violated(verdict), self.blocks);

@@ -37,8 +37,14 @@ fn tell_block(
     block: &Block<'_>,
 ) -> Result<(), StreamingError>
     requires { tally.old.blocks < usize.MAX }
-    ensures told { OnOk result ((v : PlainVerdict) × JudgesBlock judge.old judge.new (located_block block.now) v × CountsOne tally.old tally.new v × (line.new.items ≡ line.old.items ++ text_of_lines (block_line (suc tally.old.blocks) v ∷ []))) }
-    ensures refused { (n : ℕ) (e : Refusal) → result ≡ Err (StreamingError.Block n e) → (n ≡ suc tally.old.blocks) × (e ≢ BlockError.Memory) × (HasPlaces block.now → EndsWithin usize.MAX block.now → IsBlockRefusal judge.old.model (located_block block.now) e) }
+    ensures told { OnOk result ((v : PlainVerdict) × JudgesBlock judge.old judge.new
+        (located_block block.now) v × CountsOne tally.old tally.new v
+        × (line.new.items ≡ line.old.items
+        ++ text_of_lines (block_line (suc tally.old.blocks) v ∷ []))) }
+    ensures refused { (n : ℕ) (e : Refusal) → result ≡ Err (StreamingError.Block n e)
+        → (n ≡ suc tally.old.blocks) × (e ≢ BlockError.Memory)
+        × (HasPlaces block.now → EndsWithin usize.MAX block.now
+        → IsBlockRefusal judge.old.model (located_block block.now) e) }
     ensures kinds { IfErr result IsTellingRefusal }
 {
     let verdict = match judge.judge(alloc, block) {
@@ -62,9 +68,15 @@ pub(crate) fn tell(
     part: &Part<'_>,
 ) -> Result<(), StreamingError>
     requires { tally.old.blocks < usize.MAX }
-    ensures told { OnOk result ((c : Completion) (m : Model) (parts : List StreamPart) (verdicts : List PlainVerdict) → HasTold c m judge.old tally.old parts verdicts → HasPlacesOfItems part.now → TellsOneMore c m judge.new tally.new parts verdicts (part_of part.now) line.new.items) }
-    ensures refused { (n : ℕ) (e : Refusal) → result ≡ Err (StreamingError.Block n e) → (c : Completion) (m : Model) (parts : List StreamPart) (verdicts : List PlainVerdict) → HasTold c m judge.old tally.old parts verdicts
-        → HasPlacesOfItems part.now → PartEndsWithin most_taken part.now → RefusesPart m parts (part_of part.now) n e }
+    ensures told { OnOk result ((c : Completion) (m : Model) (parts : List StreamPart)
+        (verdicts : List PlainVerdict) → HasTold c m judge.old tally.old parts verdicts
+        → HasPlacesOfItems part.now → TellsOneMore c m judge.new tally.new parts verdicts
+        (part_of part.now) line.new.items) }
+    ensures refused { (n : ℕ) (e : Refusal) → result ≡ Err (StreamingError.Block n e)
+        → (c : Completion) (m : Model) (parts : List StreamPart) (verdicts : List PlainVerdict)
+        → HasTold c m judge.old tally.old parts verdicts
+        → HasPlacesOfItems part.now → PartEndsWithin most_taken part.now
+        → RefusesPart m parts (part_of part.now) n e }
     ensures kinds { IfErr result IsTellingRefusal }
 {
     line.clear();
@@ -88,8 +100,10 @@ pub(crate) fn tell_next(
     requires waits { IsSome parts.old.splitter.waits }
     requires room { tally.old.blocks < usize.MAX }
     ensures same { parts.new ≡ parts.old }
-    ensures told { OnOk result (IsTold parts.old judge.old judge.new tally.old tally.new line.new.items) }
-    ensures refused { (n : ℕ) (e : Refusal) → result ≡ Err (StreamingError.Block n e) → IsRefused parts.old judge.old tally.old n e }
+    ensures told { OnOk result (IsTold parts.old judge.old judge.new tally.old tally.new
+        line.new.items) }
+    ensures refused { (n : ℕ) (e : Refusal) → result ≡ Err (StreamingError.Block n e)
+        → IsRefused parts.old judge.old tally.old n e }
     ensures kinds { IfErr result IsTellingRefusal }
 {
     let released = parts.release();
@@ -107,9 +121,12 @@ pub(crate) fn gather<W: Write>(
     lines: &mut Vec<u8>,
     line: &[u8],
 ) -> Result<(), StreamingError>
-    ensures gathered { OnOk result (Wrote (W.contents writer.old) (W.contents writer.new) (lines.old.items ++ line.now) lines.new.items) }
+    ensures gathered { OnOk result (Wrote (W.contents writer.old) (W.contents writer.new)
+        (lines.old.items ++ line.now) lines.new.items) }
     // Once a front of those that are left is written, it is one of all.
-    ensures front { OnErr result ((next : Option (List ℕ)) → WritesFront (W.contents writer.new) next lines.new.items → WritesFront (W.contents writer.old) next (lines.old.items ++ line.now)) }
+    ensures front { OnErr result ((next : Option (List ℕ))
+        → WritesFront (W.contents writer.new) next lines.new.items
+        → WritesFront (W.contents writer.old) next (lines.old.items ++ line.now)) }
     ensures kinds { IfErr result IsWritingRefusal }
 {
     match lines.extend_from_slice(line) {
@@ -131,7 +148,8 @@ pub(crate) fn tell_answer(
     lines: &mut Vec<u8>,
     answer: Answer,
 ) -> Result<(), StreamingError>
-    ensures told { OnOk result (lines.new.items ≡ lines.old.items ++ text_of_lines (answer_line (answer_view answer) ∷ [])) }
+    ensures told { OnOk result (lines.new.items
+        ≡ lines.old.items ++ text_of_lines (answer_line (answer_view answer) ∷ [])) }
     ensures untold { OnErr result (lines.new.items ≡ lines.old.items) }
     ensures kinds { IfErr result (λ e. e ≡ StreamingError.Memory) }
 {

@@ -71,7 +71,8 @@ pub(crate) fn push_fault(text: &mut Vec<u8>, fault: &Fault<'_>) -> Result<(), Al
 
 /// Adds what is undecided to the end of a text.
 pub(crate) fn push_reason(text: &mut Vec<u8>, reason: &Reason<'_>) -> Result<(), AllocError>
-    ensures { OnOk result (text.new.items ≡ text.old.items ++ reason_text (reason_view reason.now)) }
+    ensures { OnOk result (text.new.items
+        ≡ text.old.items ++ reason_text (reason_view reason.now)) }
 {
     match *reason {
         Reason::NoValue(name) => {

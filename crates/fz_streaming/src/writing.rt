@@ -10,14 +10,17 @@ use thiserror::Error;
 #[error("write")]
 pub struct WriteFailed;
 
-/// Writes all of the bytes. After an error a front of them was written. A failed write is not repeated, of whatever kind it is.
+/// Writes all of the bytes. After an error a front of them was written. A failed write is not
+/// repeated, of whatever kind it is.
 ///
 /// # Errors
 ///
 /// A write failed, or took nothing.
 pub fn write_whole<W: Write>(writer: &mut W, bytes: &[u8]) -> Result<(), WriteFailed>
-    ensures whole { OnOk result (Appends (W.contents writer.old) (W.contents writer.new) bytes.now) }
-    ensures front { OnErr result (WritesFront (W.contents writer.old) (W.contents writer.new) bytes.now) }
+    ensures whole { OnOk result (Appends (W.contents writer.old)
+        (W.contents writer.new) bytes.now) }
+    ensures front { OnErr result (WritesFront (W.contents writer.old)
+        (W.contents writer.new) bytes.now) }
 {
     let mut rest = bytes;
     while !rest.is_empty() {
@@ -35,8 +38,10 @@ pub fn write_whole<W: Write>(writer: &mut W, bytes: &[u8]) -> Result<(), WriteFa
 ///
 /// A write failed, or took nothing.
 pub(crate) fn write_lines<W: Write>(writer: &mut W, lines: &mut Vec<u8>) -> Result<(), WriteFailed>
-    ensures whole { OnOk result (Appends (W.contents writer.old) (W.contents writer.new) lines.old.items) }
-    ensures front { OnErr result (WritesFront (W.contents writer.old) (W.contents writer.new) lines.old.items) }
+    ensures whole { OnOk result (Appends (W.contents writer.old)
+        (W.contents writer.new) lines.old.items) }
+    ensures front { OnErr result (WritesFront (W.contents writer.old)
+        (W.contents writer.new) lines.old.items) }
     ensures none_left { lines.new.items ≡ [] }
 {
     let outcome = write_whole(writer, lines);

@@ -19,7 +19,8 @@ pub record Ends (rest : List TokenValue) : Type 0 where
   pub no_args : next_is OpenParen rest ≡ false
 
 -- what is spelled with a token at least is read with one
-pub shortens_from : {A : Type 0} (toks : A → List TokenValue) (Is : A → Type 0) (read : Reader A) → Takes toks Is read → ((x : A) → 0 < length (toks x)) → Shortens read
+pub shortens_from : {A : Type 0} (toks : A → List TokenValue) (Is : A → Type 0) (read : Reader A)
+    → Takes toks Is read → ((x : A) → 0 < length (toks x)) → Shortens read
 shortens_from toks Is read takes some tokens x rest e =
     let t = takes tokens (x, rest) e in
     omega (arith, ap length t.parts, length-append (toks x) rest, some x)
@@ -28,7 +29,7 @@ pub all_always : {A : Type 0} (xs : List A) → AllByRecursion Always xs
 all_always [] = tt
 all_always (x ∷ xs) = (tt, all_always xs)
 
--- ---- whole numbers and names
+-- ---- integers and names
 
 pub whole_takes : Takes number_toks Always whole_at
 unfolding whole_at
@@ -43,7 +44,8 @@ pub whole_again : (n : ℤ) (rest : List TokenValue) → whole_at (Whole n ∷ r
 unfolding whole_at
 whole_again n rest = refl
 
-whole_starts : (tokens : List TokenValue) (x : ℤ × List TokenValue) → whole_at tokens ≡ Ok x → next_passes is_whole tokens ≡ true
+whole_starts : (tokens : List TokenValue) (x : ℤ × List TokenValue) → whole_at tokens ≡ Ok x
+    → next_passes is_whole tokens ≡ true
 unfolding whole_at
 whole_starts [] x e = absurd cc
 whole_starts (Whole n ∷ ts) x e = refl
@@ -65,7 +67,8 @@ name_takes (FloatText n ∷ ts) x e = absurd cc
 name_takes (StringText n ∷ ts) x e = absurd cc
 name_takes (Marked n ∷ ts) x e = absurd cc
 
-pub name_again : (name : List ℕ) (rest : List TokenValue) → IsName name → name_at (Word name ∷ rest) ≡ Ok (name, rest)
+pub name_again : (name : List ℕ) (rest : List TokenValue) → IsName name
+    → name_at (Word name ∷ rest) ≡ Ok (name, rest)
 unfolding name_at
 name_again name rest is = rw is refl
 
@@ -74,7 +77,9 @@ name_again name rest is = rw is refl
 abbrev element : Limits → ℕ → Reader ℤ
 element limits = at_most limits.elements is_whole whole_at
 
-pub braces_take : (limits : Limits) (tokens : List TokenValue) (x : Literal × List TokenValue) → braces_at limits tokens ≡ Ok x → Took literal_toks (IsBounds limits) (Marked OpenBrace ∷ tokens) x
+pub braces_take : (limits : Limits) (tokens : List TokenValue) (x : Literal × List TokenValue)
+    → braces_at limits tokens ≡ Ok x
+    → Took literal_toks (IsBounds limits) (Marked OpenBrace ∷ tokens) x
 unfolding braces_at
 braces_take limits tokens x e =
     let a = bind_ok (list_at CloseBrace (element limits) tokens) (λ numbers. Ok (Braces numbers.0, numbers.1)) x e in
@@ -84,14 +89,18 @@ braces_take limits tokens x e =
     subst (Took literal_toks (IsBounds limits) (Marked OpenBrace ∷ tokens)) (ok_is made x a.2)
     (record { parts = ap (λ (ys : List TokenValue). Marked OpenBrace ∷ ys) t.parts; fits = n })
 
-pub braces_again : (limits : Limits) (numbers : List ℤ) (rest : List TokenValue) → length numbers ≤ limits.elements → braces_at limits ((separated number_toks numbers ++ mark CloseBrace) ++ rest) ≡ Ok (Braces numbers, rest)
+pub braces_again : (limits : Limits) (numbers : List ℤ) (rest : List TokenValue)
+    → length numbers ≤ limits.elements → braces_at limits
+    ((separated number_toks numbers ++ mark CloseBrace) ++ rest) ≡ Ok (Braces numbers, rest)
 unfolding braces_at
 braces_again limits numbers rest fits =
     let again = list_again Always number_toks Always CloseBrace (element limits) (at_most_shortens limits.elements is_whole whole_at whole_shortens) limits.elements
     (λ i n ts lt is ends. at_most_again limits.elements is_whole whole_at i (Whole n ∷ ts) lt ∙ whole_again n ts) (λ ts. tt) (λ ts. tt) refl refl (λ n ts is. refl) numbers rest fits (all_always numbers) in
     rw again refl
 
-from_whole_takes : (limits : Limits) (low : ℤ) (tokens : List TokenValue) (x : Literal × List TokenValue) → from_whole low tokens ≡ Ok x → Took literal_toks (IsLiteral limits) (Whole low ∷ tokens) x
+from_whole_takes : (limits : Limits) (low : ℤ) (tokens : List TokenValue)
+    (x : Literal × List TokenValue) → from_whole low tokens ≡ Ok x
+    → Took literal_toks (IsLiteral limits) (Whole low ∷ tokens) x
 unfolding from_whole
 from_whole_takes limits low tokens x e =
     elim (chosen (next_is DotDot tokens) _ _ (Ok x) e) [
@@ -131,7 +140,8 @@ literal_takes limits tokens x e =
       ]
     ]
 
-pub literal_again : (limits : Limits) (l : Literal) (rest : List TokenValue) → IsLiteral limits l → next_is DotDot rest ≡ false → literal_at limits (literal_toks l ++ rest) ≡ Ok (l, rest)
+pub literal_again : (limits : Limits) (l : Literal) (rest : List TokenValue) → IsLiteral limits l
+    → next_is DotDot rest ≡ false → literal_at limits (literal_toks l ++ rest) ≡ Ok (l, rest)
 unfolding literal_at whole_at from_whole
 literal_again limits (Number n) rest is ends = rw ends refl
 literal_again limits (Truth true) rest is ends = refl
@@ -147,7 +157,8 @@ or_second : (a b : Bool) → b ≡ true → (a || b) ≡ true
 or_second true b e = refl
 or_second false b e = e
 
-tests_any : (t : TokenValue) (rest : List TokenValue) (limits : Limits) (x : Literal × List TokenValue) → literal_at limits (t ∷ rest) ≡ Ok x → begins_literal t ≡ true
+tests_any : (t : TokenValue) (rest : List TokenValue) (limits : Limits)
+    (x : Literal × List TokenValue) → literal_at limits (t ∷ rest) ≡ Ok x → begins_literal t ≡ true
 unfolding literal_at
 tests_any t rest limits x e =
     elim (chosen (is_whole t) _ _ (Ok x) e) [
@@ -164,7 +175,8 @@ tests_any t rest limits x e =
       ]
     ]
 
-pub literal_starts : (limits : Limits) (tokens : List TokenValue) (x : Literal × List TokenValue) → literal_at limits tokens ≡ Ok x → next_passes begins_literal tokens ≡ true
+pub literal_starts : (limits : Limits) (tokens : List TokenValue) (x : Literal × List TokenValue)
+    → literal_at limits tokens ≡ Ok x → next_passes begins_literal tokens ≡ true
 unfolding literal_at
 literal_starts limits [] x e = absurd cc
 literal_starts limits (t ∷ rest) x e = tests_any t rest limits x e
@@ -188,19 +200,22 @@ basic_takes limits tokens x e =
     ]
 
 -- a literal begins with no name
-pub literal_no_name : (l : Literal) (rest : List TokenValue) → next_passes is_name (literal_toks l ++ rest) ≡ false
+pub literal_no_name : (l : Literal) (rest : List TokenValue)
+    → next_passes is_name (literal_toks l ++ rest) ≡ false
 literal_no_name (Number n) rest = refl
 literal_no_name (Truth true) rest = refl
 literal_no_name (Truth false) rest = refl
 literal_no_name (Range low high) rest = refl
 literal_no_name (Braces numbers) rest = refl
 
-pub basic_again : (limits : Limits) (b : Basic) (rest : List TokenValue) → IsBasic limits b → next_is DotDot rest ≡ false → basic_at limits (basic_toks b ++ rest) ≡ Ok (b, rest)
+pub basic_again : (limits : Limits) (b : Basic) (rest : List TokenValue) → IsBasic limits b
+    → next_is DotDot rest ≡ false → basic_at limits (basic_toks b ++ rest) ≡ Ok (b, rest)
 unfolding basic_at
 basic_again limits (Named name) rest is ends = rw (is, name_again name rest is) refl
 basic_again limits (Lit l) rest is ends = rw (literal_no_name l rest, literal_again limits l rest is ends) refl
 
-starts_one_of : (limits : Limits) (t : TokenValue) (rest : List TokenValue) (x : Basic × List TokenValue) → basic_at limits (t ∷ rest) ≡ Ok x → begins_basic t ≡ true
+starts_one_of : (limits : Limits) (t : TokenValue) (rest : List TokenValue)
+    (x : Basic × List TokenValue) → basic_at limits (t ∷ rest) ≡ Ok x → begins_basic t ≡ true
 unfolding basic_at
 starts_one_of limits t rest x e =
     elim (chosen (is_name t) _ _ (Ok x) e) [
@@ -210,7 +225,8 @@ starts_one_of limits t rest x e =
           or_second (is_name t) _ (tests_any t rest limits a.0 a.1)
     ]
 
-basic_starts : (limits : Limits) (tokens : List TokenValue) (x : Basic × List TokenValue) → basic_at limits tokens ≡ Ok x → next_passes begins_basic tokens ≡ true
+basic_starts : (limits : Limits) (tokens : List TokenValue) (x : Basic × List TokenValue)
+    → basic_at limits tokens ≡ Ok x → next_passes begins_basic tokens ≡ true
 unfolding basic_at literal_at
 basic_starts limits [] x e = absurd cc
 basic_starts limits (t ∷ rest) x e = starts_one_of limits t rest x e
@@ -229,14 +245,16 @@ pub basic_shortens : (limits : Limits) → Shortens (basic_at limits)
 basic_shortens limits = shortens_from basic_toks (IsBasic limits) (basic_at limits) (basic_takes limits) basic_some
 
 -- a basic expression begins with no bracket
-pub basic_no_bracket : (b : Basic) (rest : List TokenValue) → next_is OpenBracket (basic_toks b ++ rest) ≡ false
+pub basic_no_bracket : (b : Basic) (rest : List TokenValue)
+    → next_is OpenBracket (basic_toks b ++ rest) ≡ false
 basic_no_bracket (Lit (Number n)) rest = refl
 basic_no_bracket (Lit (Truth b)) rest = refl
 basic_no_bracket (Lit (Range low high)) rest = refl
 basic_no_bracket (Lit (Braces numbers)) rest = refl
 basic_no_bracket (Named name) rest = refl
 
-basic_no_close : (b : Basic) (rest : List TokenValue) → next_is CloseBracket (basic_toks b ++ rest) ≡ false
+basic_no_close : (b : Basic) (rest : List TokenValue)
+    → next_is CloseBracket (basic_toks b ++ rest) ≡ false
 basic_no_close (Lit (Number n)) rest = refl
 basic_no_close (Lit (Truth b)) rest = refl
 basic_no_close (Lit (Range low high)) rest = refl
@@ -248,20 +266,24 @@ basic_no_close (Named name) rest = refl
 abbrev listed : Limits → ℕ → Reader Basic
 listed limits = at_most limits.elements begins_basic (basic_at limits)
 
-pub listed_shrinks : (limits : Limits) → Shrinks (at_most limits.elements begins_basic (basic_at limits))
+pub listed_shrinks : (limits : Limits)
+    → Shrinks (at_most limits.elements begins_basic (basic_at limits))
 listed_shrinks limits = at_most_shortens limits.elements begins_basic (basic_at limits) (basic_shortens limits)
 
 abbrev AreBasics : Limits → List Basic → Type 0
 AreBasics limits bs = (length bs ≤ limits.elements) × AllByRecursion (IsBasic limits) bs
 
-pub expr_list_takes : (limits : Limits) → Takes (λ bs. separated basic_toks bs ++ mark CloseBracket) (AreBasics limits) (expr_list_at limits)
+pub expr_list_takes : (limits : Limits) → Takes (λ bs. separated basic_toks bs ++ mark CloseBracket)
+    (AreBasics limits) (expr_list_at limits)
 unfolding expr_list_at
 expr_list_takes limits tokens x e =
     let t = list_takes basic_toks (IsBasic limits) CloseBracket (listed limits) (at_most_takes basic_toks (IsBasic limits) limits.elements begins_basic (basic_at limits) (basic_takes limits)) tokens x e in
     let n = list_count limits.elements CloseBracket (listed limits) (at_most_below limits.elements begins_basic (basic_at limits) (basic_starts limits)) tokens x e in
     record { parts = t.parts; fits = (n, t.fits) }
 
-pub expr_list_again : (limits : Limits) (bs : List Basic) (rest : List TokenValue) → AreBasics limits bs → expr_list_at limits ((separated basic_toks bs ++ mark CloseBracket) ++ rest) ≡ Ok (bs, rest)
+pub expr_list_again : (limits : Limits) (bs : List Basic) (rest : List TokenValue)
+    → AreBasics limits bs → expr_list_at limits
+    ((separated basic_toks bs ++ mark CloseBracket) ++ rest) ≡ Ok (bs, rest)
 unfolding expr_list_at
 expr_list_again limits bs rest is =
     let NoRange : List TokenValue → Type 0 = λ ts. next_is DotDot ts ≡ false in
@@ -284,7 +306,8 @@ expr_takes limits tokens x e =
           subst (Took expr_toks (IsExpr limits) tokens) (ok_is made x a.2) (record { parts = t.parts; fits = t.fits })
     ]
 
-pub expr_again : (limits : Limits) (e : Expr) (rest : List TokenValue) → IsExpr limits e → next_is DotDot rest ≡ false → expr_at limits (expr_toks e ++ rest) ≡ Ok (e, rest)
+pub expr_again : (limits : Limits) (e : Expr) (rest : List TokenValue) → IsExpr limits e
+    → next_is DotDot rest ≡ false → expr_at limits (expr_toks e ++ rest) ≡ Ok (e, rest)
 unfolding expr_at
 expr_again limits (One b) rest is ends = rw (basic_no_bracket b rest, basic_again limits b rest is ends) refl
 expr_again limits (Several bs) rest is ends = rw (expr_list_again limits bs rest is) refl
@@ -295,7 +318,8 @@ expr_some (Several bs) = omega arith
 
 -- ---- literals as basic expressions
 
-pub literal_basic_takes : (limits : Limits) → Takes basic_toks (IsLiteralBasic limits) (literal_basic_at limits)
+pub literal_basic_takes : (limits : Limits)
+    → Takes basic_toks (IsLiteralBasic limits) (literal_basic_at limits)
 unfolding literal_basic_at
 literal_basic_takes limits tokens x e =
     let a = bind_ok (literal_at limits tokens) (λ l. Ok (Lit l.0, l.1)) x e in
@@ -303,16 +327,20 @@ literal_basic_takes limits tokens x e =
     let made : Basic × List TokenValue = (Lit a.0.0, a.0.1) in
     subst (Took basic_toks (IsLiteralBasic limits) tokens) (ok_is made x a.2) (record { parts = t.parts; fits = t.fits })
 
-literal_basic_starts : (limits : Limits) (tokens : List TokenValue) (x : Basic × List TokenValue) → literal_basic_at limits tokens ≡ Ok x → next_passes begins_literal tokens ≡ true
+literal_basic_starts : (limits : Limits) (tokens : List TokenValue) (x : Basic × List TokenValue)
+    → literal_basic_at limits tokens ≡ Ok x → next_passes begins_literal tokens ≡ true
 unfolding literal_basic_at
 literal_basic_starts limits tokens x e =
     let a = bind_ok (literal_at limits tokens) (λ l. Ok (Lit l.0, l.1)) x e in
     literal_starts limits tokens a.0 a.1
 
-pub literals_shrink : (limits : Limits) → Shrinks (at_most limits.elements begins_literal (literal_basic_at limits))
+pub literals_shrink : (limits : Limits)
+    → Shrinks (at_most limits.elements begins_literal (literal_basic_at limits))
 literals_shrink limits = at_most_shortens limits.elements begins_literal (literal_basic_at limits) (shortens_from basic_toks (IsLiteralBasic limits) (literal_basic_at limits) (literal_basic_takes limits) basic_some)
 
-pub literal_list_takes : (limits : Limits) → Takes (λ bs. separated basic_toks bs ++ mark CloseBracket) (λ bs. (length bs ≤ limits.elements) × AllByRecursion (IsLiteralBasic limits) bs)
+pub literal_list_takes : (limits : Limits) → Takes (λ bs. separated basic_toks bs
+    ++ mark CloseBracket) (λ bs. (length bs ≤ limits.elements)
+    × AllByRecursion (IsLiteralBasic limits) bs)
     (list_at CloseBracket (at_most limits.elements begins_literal (literal_basic_at limits)))
 literal_list_takes limits tokens x e =
     let t = list_takes basic_toks (IsLiteralBasic limits) CloseBracket (at_most limits.elements begins_literal (literal_basic_at limits)) (at_most_takes basic_toks (IsLiteralBasic limits) limits.elements begins_literal (literal_basic_at limits) (literal_basic_takes limits)) tokens x e in

@@ -14,5 +14,6 @@ use Rattle.fz_syntax.specs.Placed.{PlacedToken, placed_name, placed_between, pla
 pub note_unfolds : (n : Name) (args : Vec NoteArg Global) → placed_note (roll-Note (record { name = n; args = args })) ≡ placed_name n ++ placed_args (map placed_arg args.items)
 note_unfolds n args = fold-roll-Note (List PlacedToken) (List PlacedToken) (List PlacedToken) placed_arg_layer placed_note_basic_layer placed_note_layer (record { name = n; args = args })
 
-pub list_unfolds : (bs : Vec NoteBasic Global) → placed_arg (views.List bs) ≡ placed_between OpenBracket CloseBracket (placed_parts (map placed_note_basic bs.items))
+pub list_unfolds : (bs : Vec NoteBasic Global) → placed_arg (views.List bs)
+    ≡ placed_between OpenBracket CloseBracket (placed_parts (map placed_note_basic bs.items))
 list_unfolds bs = ap placed_arg (sym (variants.rolls-List bs)) ∙ fold-roll-NoteArg (List PlacedToken) (List PlacedToken) (List PlacedToken) placed_arg_layer placed_note_basic_layer placed_note_layer (NoteArg-F.List bs)

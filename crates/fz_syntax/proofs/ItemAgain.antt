@@ -16,7 +16,8 @@ use Rattle.fz_syntax.proofs.ItemLaws.{exprs_shrink}
 
 -- ---- types
 
-pub bounds_again : (limits : Limits) (l : Literal) (rest : List TokenValue) → IsBounds limits l → bounds_at limits (literal_toks l ++ rest) ≡ Ok (l, rest)
+pub bounds_again : (limits : Limits) (l : Literal) (rest : List TokenValue) → IsBounds limits l
+    → bounds_at limits (literal_toks l ++ rest) ≡ Ok (l, rest)
 unfolding bounds_at range_at whole_at mark_at
 bounds_again limits (Number n) rest is = absurd is
 bounds_again limits (Truth b) rest is = absurd is
@@ -24,18 +25,21 @@ bounds_again limits (Range low high) rest is = refl
 bounds_again limits (Braces numbers) rest is = braces_again limits numbers rest is
 
 -- bounds begin with no word
-pub bounds_no_word : (limits : Limits) (text : List ℕ) (l : Literal) (rest : List TokenValue) → IsBounds limits l → next_word text (literal_toks l ++ rest) ≡ false
+pub bounds_no_word : (limits : Limits) (text : List ℕ) (l : Literal) (rest : List TokenValue)
+    → IsBounds limits l → next_word text (literal_toks l ++ rest) ≡ false
 bounds_no_word limits text (Number n) rest is = absurd is
 bounds_no_word limits text (Truth b) rest is = absurd is
 bounds_no_word limits text (Range low high) rest is = refl
 bounds_no_word limits text (Braces numbers) rest is = refl
 
-int_again : (limits : Limits) (o : Option Literal) (rest : List TokenValue) → IfSome o (IsBounds limits) → int_at limits (bounds_toks o ++ rest) ≡ Ok (o, rest)
+int_again : (limits : Limits) (o : Option Literal) (rest : List TokenValue)
+    → IfSome o (IsBounds limits) → int_at limits (bounds_toks o ++ rest) ≡ Ok (o, rest)
 unfolding int_at
 int_again limits None rest is = refl
 int_again limits (Some l) rest is = rw (bounds_no_word limits (codes "int") l rest is, bounds_again limits l rest is) refl
 
-pub base_again : (limits : Limits) (b : Base) (rest : List TokenValue) → IsBase limits b → base_at limits (base_toks b ++ rest) ≡ Ok (b, rest)
+pub base_again : (limits : Limits) (b : Base) (rest : List TokenValue) → IsBase limits b
+    → base_at limits (base_toks b ++ rest) ≡ Ok (b, rest)
 unfolding base_at word_at
 base_again limits BoolBase rest is = refl
 base_again limits (IntBase None) rest is = rw (int_again limits None rest is) refl
@@ -43,7 +47,8 @@ base_again limits (IntBase (Some l)) rest is =
     rw (bounds_no_word limits (codes "bool") l rest is, bounds_no_word limits (codes "set") l rest is, int_again limits (Some l) rest is) refl
 base_again limits (SetBase o) rest is = rw (int_again limits o rest is) refl
 
-pub plain_again : (b : Base) (rest : List TokenValue) → IsPlain b → plain_at (base_toks b ++ rest) ≡ Ok (b, rest)
+pub plain_again : (b : Base) (rest : List TokenValue) → IsPlain b
+    → plain_at (base_toks b ++ rest) ≡ Ok (b, rest)
 unfolding plain_at word_at
 plain_again BoolBase rest is = refl
 plain_again (IntBase None) rest is = refl
@@ -54,13 +59,15 @@ plain_again (SetBase (Some l)) rest is = absurd cc
 nat_le_yes : (a b : ℕ) → a ≤ b → nat_le a b ≡ true
 nat_le_yes a b le = grind (arith, nat_tests)
 
-pub index_again : (limits : Limits) (n : ℕ) (rest : List TokenValue) → n ≤ limits.size → index_at limits (index_toks n ++ rest) ≡ Ok (n, rest)
+pub index_again : (limits : Limits) (n : ℕ) (rest : List TokenValue) → n ≤ limits.size
+    → index_at limits (index_toks n ++ rest) ≡ Ok (n, rest)
 unfolding index_at one_at mark_at size_at
 index_again limits n rest fits = rw (nat_le_yes n limits.size fits) refl
 
 -- ---- constraints and the solve item
 
-expr_no_close : (e : Expr) (rest : List TokenValue) → next_is CloseParen (expr_toks e ++ rest) ≡ false
+expr_no_close : (e : Expr) (rest : List TokenValue)
+    → next_is CloseParen (expr_toks e ++ rest) ≡ false
 expr_no_close (One (Lit (Number n))) rest = refl
 expr_no_close (One (Lit (Truth b))) rest = refl
 expr_no_close (One (Lit (Range low high))) rest = refl
@@ -71,7 +78,8 @@ expr_no_close (Several bs) rest = refl
 semicolon_ends : (rest : List TokenValue) → Ends (Marked Semicolon ∷ rest)
 semicolon_ends rest = record { no_range = refl; no_args = refl }
 
-pub constraint_again : (limits : Limits) (c : Constraint) (rest : List TokenValue) → IsConstraint limits c → constraint_at limits (constraint_toks c ++ rest) ≡ Ok (c, rest)
+pub constraint_again : (limits : Limits) (c : Constraint) (rest : List TokenValue)
+    → IsConstraint limits c → constraint_at limits (constraint_toks c ++ rest) ≡ Ok (c, rest)
 unfolding constraint_at word_at
 constraint_again limits c rest is =
     let S : List TokenValue = separated expr_toks c.args ++ mark CloseParen in
@@ -89,18 +97,21 @@ goal_ends Satisfy rest = record { no_range = refl; no_args = refl }
 goal_ends (Minimize e) rest = record { no_range = refl; no_args = refl }
 goal_ends (Maximize e) rest = record { no_range = refl; no_args = refl }
 
-goal_no_note : (g : Goal) (rest : List TokenValue) → next_is ColonColon (goal_toks g ++ rest) ≡ false
+goal_no_note : (g : Goal) (rest : List TokenValue)
+    → next_is ColonColon (goal_toks g ++ rest) ≡ false
 goal_no_note Satisfy rest = refl
 goal_no_note (Minimize e) rest = refl
 goal_no_note (Maximize e) rest = refl
 
-goal_again : (limits : Limits) (g : Goal) (rest : List TokenValue) → IsGoal limits g → next_is DotDot rest ≡ false → goal_at limits (goal_toks g ++ rest) ≡ Ok (g, rest)
+goal_again : (limits : Limits) (g : Goal) (rest : List TokenValue) → IsGoal limits g
+    → next_is DotDot rest ≡ false → goal_at limits (goal_toks g ++ rest) ≡ Ok (g, rest)
 unfolding goal_at word_at
 goal_again limits Satisfy rest is ends = refl
 goal_again limits (Minimize e) rest is ends = rw (basic_again limits e rest is ends) refl
 goal_again limits (Maximize e) rest is ends = rw (basic_again limits e rest is ends) refl
 
-pub solve_again : (limits : Limits) (s : Solve) (rest : List TokenValue) → IsSolve limits s → solve_at limits (solve_toks s ++ rest) ≡ Ok (s, rest)
+pub solve_again : (limits : Limits) (s : Solve) (rest : List TokenValue) → IsSolve limits s
+    → solve_at limits (solve_toks s ++ rest) ≡ Ok (s, rest)
 unfolding solve_at word_at
 solve_again limits s rest is =
     let N : List TokenValue = notes_toks s.notes in

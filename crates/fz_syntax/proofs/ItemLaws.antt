@@ -22,7 +22,8 @@ exprs_shrink limits i = shortens_from expr_toks (IsExpr limits) (expr_at limits)
 front : {ts us : List TokenValue} (T : List TokenValue) → ts ≡ us → T ++ ts ≡ T ++ us
 front T e = ap (λ (ys : List TokenValue). T ++ ys) e
 
-pub constraint_takes : (limits : Limits) → Takes constraint_toks (IsConstraint limits) (constraint_at limits)
+pub constraint_takes : (limits : Limits)
+    → Takes constraint_toks (IsConstraint limits) (constraint_at limits)
 unfolding constraint_at
 constraint_takes limits tokens x e =
     let a = bind_ok _ _ x e in
@@ -167,7 +168,8 @@ plain_takes tokens x e =
       ]
     ]
 
-one_tokens : (tokens : List TokenValue) → next_passes is_one tokens ≡ true → tokens ≡ Whole (pos 1) ∷ drop 1 tokens
+one_tokens : (tokens : List TokenValue) → next_passes is_one tokens ≡ true
+    → tokens ≡ Whole (pos 1) ∷ drop 1 tokens
 one_tokens [] e = absurd cc
 one_tokens (Whole n ∷ rest) e = ap (λ k. Whole k ∷ rest) ((Decides-int_eq n (pos 1)).0 e)
 one_tokens (Word w ∷ rest) e = absurd cc
@@ -186,7 +188,8 @@ one_takes tokens x e =
 nat_le_true : (a b : ℕ) → nat_le a b ≡ true → a ≤ b
 nat_le_true a b e = grind (arith, nat_tests)
 
-size_takes : (limits : Limits) → Takes (λ n. Whole (pos n) ∷ []) (λ n. n ≤ limits.size) (size_at limits)
+size_takes : (limits : Limits) → Takes (λ n. Whole (pos n) ∷ []) (λ n. n ≤ limits.size)
+    (size_at limits)
 unfolding size_at
 size_takes limits [] x e = absurd cc
 size_takes limits (Whole (pos n) ∷ rest) x e =
@@ -210,7 +213,9 @@ index_takes limits tokens x e =
     let tc = size_takes limits b.0.1 x b.2 in
     record { parts = ta.parts ∙ front (Whole (pos 1) ∷ []) (tb.parts ∙ front (mark DotDot) tc.parts); fits = tc.fits }
 
-array_takes : {A : Type 0} (toks : A → List TokenValue) (Is : A → Type 0) (index : Reader A) → Takes toks Is index → Takes (λ x. in_brackets (toks x) ++ word (codes "of")) Is (array_at index)
+array_takes : {A : Type 0} (toks : A → List TokenValue) (Is : A → Type 0) (index : Reader A)
+    → Takes toks Is index → Takes (λ x. in_brackets (toks x) ++ word (codes "of")) Is
+    (array_at index)
 unfolding array_at
 array_takes {A} toks Is index takes tokens x e =
     let a = bind_ok _ _ x e in
@@ -240,7 +245,8 @@ any_index_takes limits tokens x e =
           subst (Took any_index_toks (IsAnyIndex limits) tokens) (ok_is made x a.2) (record { parts = t.parts; fits = t.fits })
     ]
 
-any_index_begins : (limits : Limits) (tokens : List TokenValue) (x : Option ℕ × List TokenValue) → any_index_at limits tokens ≡ Ok x → next_passes begins_index tokens ≡ true
+any_index_begins : (limits : Limits) (tokens : List TokenValue) (x : Option ℕ × List TokenValue)
+    → any_index_at limits tokens ≡ Ok x → next_passes begins_index tokens ≡ true
 unfolding any_index_at index_at one_at
 any_index_begins limits [] x e = absurd cc
 any_index_begins limits (Whole n ∷ rest) x e = refl
@@ -265,7 +271,8 @@ pub indexes_shrink : (limits : Limits) → Shrinks (listed_index limits)
 indexes_shrink limits = at_most_shortens most_indexes begins_index (any_index_at limits) (shortens_from any_index_toks (IsAnyIndex limits) (any_index_at limits) (any_index_takes limits) any_index_some)
 
 -- elements with commas between them are one at least
-separated_some : {A : Type 0} (element : ℕ → Reader A) (tokens : List TokenValue) (xs : List A × List TokenValue) → separated_at element tokens ≡ Ok xs → 1 ≤ length xs.0
+separated_some : {A : Type 0} (element : ℕ → Reader A) (tokens : List TokenValue)
+    (xs : List A × List TokenValue) → separated_at element tokens ≡ Ok xs → 1 ≤ length xs.0
 unfolding separated_at
 separated_some {A} element tokens xs e =
     let a = bind_ok (element 0 tokens) (λ first. many_at (is_mark Comma) (after_token element) 1 first.1 >>= λ others. Ok (first.0 ∷ others.0, others.1)) xs e in
@@ -273,14 +280,16 @@ separated_some {A} element tokens xs e =
     let made : List A × List TokenValue = (a.0.0 ∷ b.0.0, b.0.1) in
     subst (λ (y : List A × List TokenValue). 1 ≤ length y.0) (ok_is made xs b.2) (omega arith)
 
-indexes_takes : (limits : Limits) → Takes (separated any_index_toks) (λ is. IsParamArray limits (Some is)) (indexes_at limits)
+indexes_takes : (limits : Limits)
+    → Takes (separated any_index_toks) (λ is. IsParamArray limits (Some is)) (indexes_at limits)
 unfolding indexes_at
 indexes_takes limits tokens x e =
     let t = separated_takes any_index_toks (IsAnyIndex limits) (listed_index limits) (at_most_takes any_index_toks (IsAnyIndex limits) most_indexes begins_index (any_index_at limits) (any_index_takes limits)) tokens x e in
     let n = separated_count most_indexes (listed_index limits) (at_most_below most_indexes begins_index (any_index_at limits) (any_index_begins limits)) tokens x e in
     record { parts = t.parts; fits = (separated_some (listed_index limits) tokens x e, n, t.fits) }
 
-pub param_prefix_takes : (limits : Limits) → Takes param_prefix_toks (IsParamArray limits) (param_prefix_at limits)
+pub param_prefix_takes : (limits : Limits)
+    → Takes param_prefix_toks (IsParamArray limits) (param_prefix_at limits)
 unfolding param_prefix_at
 param_prefix_takes limits tokens x e =
     elim (chosen (next_word (codes "array") tokens) _ _ (Ok x) e) [
@@ -293,7 +302,8 @@ param_prefix_takes limits tokens x e =
       | inr c ↦ subst (Took param_prefix_toks (IsParamArray limits) tokens) (ok_is (None, tokens) x c.1) (record { parts = refl; fits = tt })
     ]
 
-pub prefix_takes : (limits : Limits) → Takes prefix_toks (λ o. IfSome o (λ n. n ≤ limits.size)) (prefix_at limits)
+pub prefix_takes : (limits : Limits)
+    → Takes prefix_toks (λ o. IfSome o (λ n. n ≤ limits.size)) (prefix_at limits)
 unfolding prefix_at
 prefix_takes limits tokens x e =
     elim (chosen (next_word (codes "array") tokens) _ _ (Ok x) e) [
@@ -317,7 +327,8 @@ var_takes tokens x e =
 -- ---- predicates
 
 -- five parts, and what stands behind them
-pub flat5 : (a b c d e rest : List TokenValue) → ((((a ++ b) ++ c) ++ d) ++ e) ++ rest ≡ a ++ (b ++ (c ++ (d ++ (e ++ rest))))
+pub flat5 : (a b c d e rest : List TokenValue)
+    → ((((a ++ b) ++ c) ++ d) ++ e) ++ rest ≡ a ++ (b ++ (c ++ (d ++ (e ++ rest))))
 flat5 a b c d e rest = simp append_assoc
 
 param_takes : (limits : Limits) → Takes param_toks (IsParam limits) (param_at limits)
@@ -347,7 +358,8 @@ param_some p = omega (arith, length-append (((param_prefix_toks p.array ++ var_t
 pub params_shrink : (limits : Limits) → Shrinks (any_number (param_at limits))
 params_shrink limits i = shortens_from param_toks (IsParam limits) (param_at limits) (param_takes limits) param_some
 
-pub predicate_takes : (limits : Limits) → Takes predicate_toks (IsPredicate limits) (predicate_at limits)
+pub predicate_takes : (limits : Limits)
+    → Takes predicate_toks (IsPredicate limits) (predicate_at limits)
 unfolding predicate_at
 predicate_takes limits tokens x e =
     let a = bind_ok _ _ x e in
@@ -381,7 +393,8 @@ constraints_shrink limits i = shortens_from constraint_toks (IsConstraint limits
 
 -- ---- declarations
 
-type_takes : (limits : Limits) (is_var : Bool) → Takes base_toks (IsBaseOf limits is_var) (type_at limits is_var)
+type_takes : (limits : Limits) (is_var : Bool)
+    → Takes base_toks (IsBaseOf limits is_var) (type_at limits is_var)
 unfolding type_at
 type_takes limits true tokens x e = let t = base_takes limits tokens x e in record { parts = t.parts; fits = t.fits }
 type_takes limits false tokens x e = let t = plain_takes tokens x e in record { parts = t.parts; fits = t.fits }
@@ -389,7 +402,8 @@ type_takes limits false tokens x e = let t = plain_takes tokens x e in record { 
 abbrev ValueOf : Limits → Bool → Option ℕ → Expr → Type 0
 ValueOf limits is_var length e = IsValueOf limits is_var length (Some e)
 
-value_takes : (limits : Limits) (is_var : Bool) (length : Option ℕ) → Takes expr_toks (ValueOf limits is_var length) (value_at limits is_var length)
+value_takes : (limits : Limits) (is_var : Bool) (length : Option ℕ)
+    → Takes expr_toks (ValueOf limits is_var length) (value_at limits is_var length)
 unfolding value_at
 value_takes limits true None tokens x e =
     let a = bind_ok (basic_at limits tokens) (λ b. Ok (One b.0, b.1)) x e in
@@ -416,13 +430,15 @@ value_takes limits false (Some n) tokens x e =
     let made : Expr × List TokenValue = (Several b.0.0, b.0.1) in
     subst (Took expr_toks (ValueOf limits false (Some n)) tokens) (ok_is made x b.2) (record { parts = t.parts ∙ front (mark OpenBracket) u.parts; fits = u.fits })
 
-no_value : (limits : Limits) (is_var : Bool) (length : Option ℕ) (b : Bool) → (may_lack_value is_var length && b) ≡ true → IsValueOf limits is_var length None
+no_value : (limits : Limits) (is_var : Bool) (length : Option ℕ) (b : Bool)
+    → (may_lack_value is_var length && b) ≡ true → IsValueOf limits is_var length None
 no_value limits true None b e = tt
 no_value limits true (Some n) b e = absurd cc
 no_value limits false None b e = absurd cc
 no_value limits false (Some n) b e = absurd cc
 
-given_value_takes : (limits : Limits) (is_var : Bool) (length : Option ℕ) → Takes value_toks (IsValueOf limits is_var length) (given_value_at limits is_var length)
+given_value_takes : (limits : Limits) (is_var : Bool) (length : Option ℕ)
+    → Takes value_toks (IsValueOf limits is_var length) (given_value_at limits is_var length)
 unfolding given_value_at
 given_value_takes limits is_var length tokens x e =
     elim (chosen (may_lack_value is_var length && not (next_is Equals tokens)) _ _ (Ok x) e) [
@@ -436,7 +452,8 @@ given_value_takes limits is_var length tokens x e =
           subst (Took value_toks (IsValueOf limits is_var length) tokens) (ok_is made x b.2) (record { parts = t.parts ∙ front (mark Equals) u.parts; fits = u.fits })
     ]
 
-pub flat8 : (a b c d e f g h rest : List TokenValue) → (((((((a ++ b) ++ c) ++ d) ++ e) ++ f) ++ g) ++ h) ++ rest ≡ a ++ (b ++ (c ++ (d ++ (e ++ (f ++ (g ++ (h ++ rest)))))))
+pub flat8 : (a b c d e f g h rest : List TokenValue) → (((((((a ++ b) ++ c) ++ d) ++ e) ++ f) ++ g)
+    ++ h) ++ rest ≡ a ++ (b ++ (c ++ (d ++ (e ++ (f ++ (g ++ (h ++ rest)))))))
 flat8 a b c d e f g h rest = simp append_assoc
 
 pub decl_takes : (limits : Limits) → Takes decl_toks (IsDecl limits) (decl_at limits)
@@ -477,7 +494,8 @@ decls_shrink limits i = shortens_from decl_toks (IsDecl limits) (decl_at limits)
 
 -- ---- the whole tree
 
-pub flat4 : (a b c d rest : List TokenValue) → (((a ++ b) ++ c) ++ d) ++ rest ≡ a ++ (b ++ (c ++ (d ++ rest)))
+pub flat4 : (a b c d rest : List TokenValue)
+    → (((a ++ b) ++ c) ++ d) ++ rest ≡ a ++ (b ++ (c ++ (d ++ rest)))
 flat4 a b c d rest = simp append_assoc
 
 pub tree_takes : (limits : Limits) → Takes toks (HasShape limits) (tree_at limits)

@@ -11,14 +11,18 @@ use Rattle.fz_syntax.proofs.Lists.{Shrinks, many_step, many_ends}
 use Rattle.fz_syntax.proofs.Separated.{Shrinks-after_token}
 use Rattle.fz_syntax.proofs.ListLaws.{mark_again}
 
-pub flat_map_first : {A : Type 0} (toks : A → List TokenValue) (x : A) (xs : List A) (rest : List TokenValue) → flat_map toks (x ∷ xs) ++ rest ≡ toks x ++ (flat_map toks xs ++ rest)
+pub flat_map_first : {A : Type 0} (toks : A → List TokenValue) (x : A) (xs : List A)
+    (rest : List TokenValue) → flat_map toks (x ∷ xs) ++ rest ≡ toks x ++ (flat_map toks xs ++ rest)
 flat_map_first toks x xs rest = ap (λ (ys : List TokenValue). ys ++ rest) (flat_map-cons toks x xs) ∙ append_assoc (toks x) (flat_map toks xs) rest
 
-ends_before : {A : Type 0} (Ends : List TokenValue → Type 0) (toks : A → List TokenValue) → ((x : A) (rest : List TokenValue) → Ends (toks x ++ rest)) → (xs : List A) (rest : List TokenValue) → Ends rest → Ends (flat_map toks xs ++ rest)
+ends_before : {A : Type 0} (Ends : List TokenValue → Type 0) (toks : A → List TokenValue)
+    → ((x : A) (rest : List TokenValue) → Ends (toks x ++ rest))
+    → (xs : List A) (rest : List TokenValue) → Ends rest → Ends (flat_map toks xs ++ rest)
 ends_before Ends toks ends [] rest h = h
 ends_before Ends toks ends (x ∷ xs) rest h = subst Ends (sym (flat_map_first toks x xs rest)) (ends x (flat_map toks xs ++ rest))
 
-pub many_again : {A : Type 0} (Ends : List TokenValue → Type 0) (toks : A → List TokenValue) (Is : A → Type 0) (more : TokenValue → Bool) (part : ℕ → Reader A) → Shrinks part → (n : ℕ)
+pub many_again : {A : Type 0} (Ends : List TokenValue → Type 0) (toks : A → List TokenValue)
+    (Is : A → Type 0) (more : TokenValue → Bool) (part : ℕ → Reader A) → Shrinks part → (n : ℕ)
     → ((i : ℕ) (x : A) (rest : List TokenValue) → i < n → Is x → Ends rest → part i (toks x ++ rest) ≡ Ok (x, rest))
     → ((x : A) (rest : List TokenValue) → Is x → next_passes more (toks x ++ rest) ≡ true)
     → ((x : A) (rest : List TokenValue) → Ends (toks x ++ rest))
@@ -31,7 +35,8 @@ many_again Ends toks Is more part shrinks n again wants ends i (x ∷ xs) rest f
     let others = many_again Ends toks Is more part shrinks n again wants ends (i + 1) xs rest (omega arith) is.1 h over in
     ap (many_at more part i) (flat_map_first toks x xs rest) ∙ one ∙ ap (λ r. r >>= λ ys. Ok (x ∷ ys.0, ys.1)) others
 
-pub separated_again : {A : Type 0} (Ends : List TokenValue → Type 0) (toks : A → List TokenValue) (Is : A → Type 0) (element : ℕ → Reader A) → Shrinks element → (n : ℕ)
+pub separated_again : {A : Type 0} (Ends : List TokenValue → Type 0) (toks : A → List TokenValue)
+    (Is : A → Type 0) (element : ℕ → Reader A) → Shrinks element → (n : ℕ)
     → ((i : ℕ) (x : A) (rest : List TokenValue) → i < n → Is x → Ends rest → element i (toks x ++ rest) ≡ Ok (x, rest))
     → ((rest : List TokenValue) → Ends (Marked Comma ∷ rest))
     → (x : A) (xs : List A) (rest : List TokenValue) → length xs + 1 ≤ n → Is x → AllByRecursion Is xs → Ends rest → next_is Comma rest ≡ false
@@ -43,7 +48,8 @@ separated_again {A} Ends toks Is element shrinks n again comma x xs rest fits is
     let others = many_again Ends behind Is (is_mark Comma) (after_token element) (Shrinks-after_token element shrinks) n (λ i y ts lt it e. again i y ts lt it e) (λ y ts it. refl) (λ y ts. comma (toks y ++ ts)) 1 xs rest (omega arith) all h over in
     ap (separated_at element) (append_assoc (toks x) (flat_map behind xs) rest) ∙ rw (first, others) refl
 
-pub list_again : {A : Type 0} (Ends : List TokenValue → Type 0) (toks : A → List TokenValue) (Is : A → Type 0) (close : Mark) (element : ℕ → Reader A) → Shrinks element → (n : ℕ)
+pub list_again : {A : Type 0} (Ends : List TokenValue → Type 0) (toks : A → List TokenValue)
+    (Is : A → Type 0) (close : Mark) (element : ℕ → Reader A) → Shrinks element → (n : ℕ)
     → ((i : ℕ) (x : A) (rest : List TokenValue) → i < n → Is x → Ends rest → element i (toks x ++ rest) ≡ Ok (x, rest))
     → ((rest : List TokenValue) → Ends (Marked Comma ∷ rest)) → ((rest : List TokenValue) → Ends (Marked close ∷ rest)) → is_mark Comma (Marked close) ≡ false → is_mark close (Marked close) ≡ true
     → ((x : A) (rest : List TokenValue) → Is x → next_is close (toks x ++ rest) ≡ false)

@@ -21,7 +21,8 @@ abbrev pub Takes : {A : Type 0} → (A → List TokenValue) → (A → Type 0) �
 Takes {A} toks Is read = (tokens : List TokenValue) (x : A × List TokenValue) → read tokens ≡ Ok x → Took toks Is tokens x
 
 -- which way a test went
-pub chosen : {A : Type 0} (b : Bool) (x y z : A) → cond b x y ≡ z → ((b ≡ true) × (x ≡ z)) ⊎ ((b ≡ false) × (y ≡ z))
+pub chosen : {A : Type 0} (b : Bool) (x y z : A) → cond b x y ≡ z
+    → ((b ≡ true) × (x ≡ z)) ⊎ ((b ≡ false) × (y ≡ z))
 chosen true x y z e = inl (refl, e)
 chosen false x y z e = inr (refl, e)
 
@@ -47,7 +48,8 @@ same_mark : (m n : Mark) → is_mark m (Marked n) ≡ true → m ≡ n
 same_mark m n e = sym (mark_of-mark_number m) ∙ ap mark_of (eqb-true (mark_number m) (mark_number n) e) ∙ mark_of-mark_number n
 
 -- tokens whose first is this mark
-pub marked_tokens : (m : Mark) (tokens : List TokenValue) → next_is m tokens ≡ true → tokens ≡ Marked m ∷ drop 1 tokens
+pub marked_tokens : (m : Mark) (tokens : List TokenValue) → next_is m tokens ≡ true
+    → tokens ≡ Marked m ∷ drop 1 tokens
 marked_tokens m [] e = absurd cc
 marked_tokens m (Marked n ∷ rest) e = ap (λ k. Marked k ∷ rest) (sym (same_mark m n e))
 marked_tokens m (Word n ∷ rest) e = absurd cc
@@ -56,7 +58,8 @@ marked_tokens m (FloatText n ∷ rest) e = absurd cc
 marked_tokens m (StringText n ∷ rest) e = absurd cc
 
 -- tokens whose first is this word
-pub worded_tokens : (text : List ℕ) (tokens : List TokenValue) → next_word text tokens ≡ true → tokens ≡ Word text ∷ drop 1 tokens
+pub worded_tokens : (text : List ℕ) (tokens : List TokenValue) → next_word text tokens ≡ true
+    → tokens ≡ Word text ∷ drop 1 tokens
 worded_tokens text [] e = absurd cc
 worded_tokens text (Word w ∷ rest) e = ap (λ k. Word k ∷ rest) ((bytes_eq-Decides w text).0 e)
 worded_tokens text (Marked n ∷ rest) e = absurd cc
@@ -65,7 +68,8 @@ worded_tokens text (FloatText n ∷ rest) e = absurd cc
 worded_tokens text (StringText n ∷ rest) e = absurd cc
 
 -- a test that did not fail
-guard_passed : {A : Type 0} (b : Bool) (f : Fault) (x y : A × List TokenValue) → cond b (Ok x) (Err f) ≡ Ok y → (b ≡ true) × (x ≡ y)
+guard_passed : {A : Type 0} (b : Bool) (f : Fault) (x y : A × List TokenValue)
+    → cond b (Ok x) (Err f) ≡ Ok y → (b ≡ true) × (x ≡ y)
 guard_passed true f x y e = (refl, ok_is x y e)
 guard_passed false f x y e = absurd cc
 
@@ -91,13 +95,15 @@ word_takes text tokens x e =
     let g = guard_passed (next_word text tokens) _ (tt, drop 1 tokens) x e in
     subst (Took (λ _. Word text ∷ []) Always tokens) g.1 (record { parts = worded_tokens text tokens g.0; fits = tt })
 
-pub word_again : (text : List ℕ) (rest : List TokenValue) → word_at text (Word text ∷ rest) ≡ Ok (tt, rest)
+pub word_again : (text : List ℕ) (rest : List TokenValue)
+    → word_at text (Word text ∷ rest) ≡ Ok (tt, rest)
 unfolding word_at
 word_again text rest = rw ((bytes_eq-Decides text text).1 refl) refl
 
 -- ---- many parts
 
-many_upto_takes : {A : Type 0} (toks : A → List TokenValue) (Is : A → Type 0) (more : TokenValue → Bool) (part : ℕ → Reader A)
+many_upto_takes : {A : Type 0} (toks : A → List TokenValue) (Is : A → Type 0)
+    (more : TokenValue → Bool) (part : ℕ → Reader A)
     → ((i : ℕ) (tokens : List TokenValue) (x : A × List TokenValue) → next_passes more tokens ≡ true → part i tokens ≡ Ok x → Took toks Is tokens x)
     → (fuel i : ℕ) (tokens : List TokenValue) (xs : List A × List TokenValue) → many_upto fuel more part i tokens ≡ Ok xs → Took (flat_map toks) (AllByRecursion Is) tokens xs
 unfolding many_upto
@@ -116,7 +122,8 @@ many_upto_takes {A} toks Is more part takes (suc fuel) i tokens xs e =
       | inr c ↦ subst (Took (flat_map toks) (AllByRecursion Is) tokens) (ok_is ([], tokens) xs c.1) (record { parts = refl; fits = tt })
     ]
 
-pub many_takes : {A : Type 0} (toks : A → List TokenValue) (Is : A → Type 0) (more : TokenValue → Bool) (part : ℕ → Reader A)
+pub many_takes : {A : Type 0} (toks : A → List TokenValue) (Is : A → Type 0)
+    (more : TokenValue → Bool) (part : ℕ → Reader A)
     → ((i : ℕ) (tokens : List TokenValue) (x : A × List TokenValue) → next_passes more tokens ≡ true → part i tokens ≡ Ok x → Took toks Is tokens x)
     → (i : ℕ) (tokens : List TokenValue) (xs : List A × List TokenValue) → many_at more part i tokens ≡ Ok xs → Took (flat_map toks) (AllByRecursion Is) tokens xs
 unfolding many_at
@@ -143,7 +150,9 @@ many_upto_count {A} limit more part below (suc fuel) i tokens xs fits e =
 
 -- ---- elements with commas between them
 
-pub separated_takes : {A : Type 0} (toks : A → List TokenValue) (Is : A → Type 0) (element : ℕ → Reader A) → ((i : ℕ) → Takes toks Is (element i)) → Takes (separated toks) (AllByRecursion Is) (separated_at element)
+pub separated_takes : {A : Type 0} (toks : A → List TokenValue) (Is : A → Type 0)
+    (element : ℕ → Reader A) → ((i : ℕ) → Takes toks Is (element i))
+    → Takes (separated toks) (AllByRecursion Is) (separated_at element)
 unfolding separated_at many_at
 separated_takes {A} toks Is element takes tokens xs e =
     let a = bind_ok (element 0 tokens) (λ first. many_at (is_mark Comma) (after_token element) 1 first.1 >>= λ others. Ok (first.0 ∷ others.0, others.1)) xs e in
@@ -157,7 +166,9 @@ separated_takes {A} toks Is element takes tokens xs e =
     (record { parts = t.parts ∙ ap (λ (ys : List TokenValue). toks a.0.0 ++ ys) ts.parts ∙ sym (append_assoc (toks a.0.0) (flat_map behind b.0.0) b.0.1); fits = (t.fits, ts.fits) })
 
 -- how many
-pub separated_count : {A : Type 0} (limit : ℕ) (element : ℕ → Reader A) → ((i : ℕ) (tokens : List TokenValue) (x : A × List TokenValue) → element i tokens ≡ Ok x → i < limit)
+pub separated_count : {A : Type 0} (limit : ℕ) (element : ℕ → Reader A)
+    → ((i : ℕ) (tokens : List TokenValue) (x : A × List TokenValue) → element i tokens ≡ Ok x
+    → i < limit)
     → (tokens : List TokenValue) (xs : List A × List TokenValue) → separated_at element tokens ≡ Ok xs → length xs.0 ≤ limit
 unfolding separated_at many_at
 separated_count {A} limit element below tokens xs e =
@@ -170,7 +181,9 @@ separated_count {A} limit element below tokens xs e =
 
 -- ---- lists up to the mark that closes them
 
-pub list_takes : {A : Type 0} (toks : A → List TokenValue) (Is : A → Type 0) (close : Mark) (element : ℕ → Reader A) → ((i : ℕ) → Takes toks Is (element i)) → Takes (λ xs. separated toks xs ++ mark close) (AllByRecursion Is) (list_at close element)
+pub list_takes : {A : Type 0} (toks : A → List TokenValue) (Is : A → Type 0) (close : Mark)
+    (element : ℕ → Reader A) → ((i : ℕ) → Takes toks Is (element i))
+    → Takes (λ xs. separated toks xs ++ mark close) (AllByRecursion Is) (list_at close element)
 unfolding list_at
 list_takes {A} toks Is close element takes tokens xs e =
     elim (chosen (next_is close tokens) _ _ (Ok xs) e) [
@@ -185,7 +198,9 @@ list_takes {A} toks Is close element takes tokens xs e =
           (record { parts = t.parts ∙ ap (λ (ys : List TokenValue). separated toks a.0.0 ++ ys) u.parts ∙ sym (append_assoc (separated toks a.0.0) (mark close) b.0.1); fits = t.fits })
     ]
 
-pub list_count : {A : Type 0} (limit : ℕ) (close : Mark) (element : ℕ → Reader A) → ((i : ℕ) (tokens : List TokenValue) (x : A × List TokenValue) → element i tokens ≡ Ok x → i < limit)
+pub list_count : {A : Type 0} (limit : ℕ) (close : Mark) (element : ℕ → Reader A)
+    → ((i : ℕ) (tokens : List TokenValue) (x : A × List TokenValue) → element i tokens ≡ Ok x
+    → i < limit)
     → (tokens : List TokenValue) (xs : List A × List TokenValue) → list_at close element tokens ≡ Ok xs → length xs.0 ≤ limit
 unfolding list_at
 list_count {A} limit close element below tokens xs e =
@@ -207,11 +222,14 @@ nat_le_false a b e = grind (arith, nat_tests)
 nat_le_no : (a b : ℕ) → b < a → nat_le a b ≡ false
 nat_le_no a b lt = grind (arith, nat_tests)
 
-crowded : {A : Type 0} (b : Bool) (tokens : List TokenValue) (read : Read A) (x : A × List TokenValue) → cond b (too_many tokens) read ≡ Ok x → (b ≡ false) × (read ≡ Ok x)
+crowded : {A : Type 0} (b : Bool) (tokens : List TokenValue) (read : Read A)
+    (x : A × List TokenValue) → cond b (too_many tokens) read ≡ Ok x → (b ≡ false) × (read ≡ Ok x)
 crowded true tokens read x e = absurd cc
 crowded false tokens read x e = (refl, e)
 
-pub at_most_takes : {A : Type 0} (toks : A → List TokenValue) (Is : A → Type 0) (limit : ℕ) (begins : TokenValue → Bool) (element : Reader A) → Takes toks Is element → (i : ℕ) → Takes toks Is (at_most limit begins element i)
+pub at_most_takes : {A : Type 0} (toks : A → List TokenValue) (Is : A → Type 0) (limit : ℕ)
+    (begins : TokenValue → Bool) (element : Reader A) → Takes toks Is element → (i : ℕ)
+    → Takes toks Is (at_most limit begins element i)
 at_most_takes toks Is limit begins element takes i tokens x e = takes tokens x (crowded (nat_le limit i && next_passes begins tokens) tokens (element tokens) x e).1
 
 not_both : (a b : Bool) → (a && b) ≡ false → b ≡ true → a ≡ false
@@ -220,12 +238,16 @@ not_both true false e f = absurd cc
 not_both false b e f = refl
 
 -- where what is read begins as an element does
-pub at_most_below : {A : Type 0} (limit : ℕ) (begins : TokenValue → Bool) (element : Reader A) → ((tokens : List TokenValue) (x : A × List TokenValue) → element tokens ≡ Ok x → next_passes begins tokens ≡ true)
+pub at_most_below : {A : Type 0} (limit : ℕ) (begins : TokenValue → Bool) (element : Reader A)
+    → ((tokens : List TokenValue) (x : A × List TokenValue) → element tokens ≡ Ok x
+    → next_passes begins tokens ≡ true)
     → (i : ℕ) (tokens : List TokenValue) (x : A × List TokenValue) → at_most limit begins element i tokens ≡ Ok x → i < limit
 at_most_below limit begins element starts i tokens x e =
     let c = crowded (nat_le limit i && next_passes begins tokens) tokens (element tokens) x e in
     let free : nat_le limit i ≡ false = not_both (nat_le limit i) (next_passes begins tokens) c.0 (starts tokens x c.1) in
     nat_le_false limit i free
 
-pub at_most_again : {A : Type 0} (limit : ℕ) (begins : TokenValue → Bool) (element : Reader A) (i : ℕ) (tokens : List TokenValue) → i < limit → at_most limit begins element i tokens ≡ element tokens
+pub at_most_again : {A : Type 0} (limit : ℕ) (begins : TokenValue → Bool) (element : Reader A)
+    (i : ℕ) (tokens : List TokenValue) → i < limit
+    → at_most limit begins element i tokens ≡ element tokens
 at_most_again limit begins element i tokens lt = rw (nat_le_no limit i lt) refl

@@ -9,7 +9,9 @@ abbrev done : {A : Type 0} → A × List TokenValue → Read A
 done x = Ok x
 
 -- the value of a step that did not fail
-pub bind_ok : {A B : Type 0} (r : Read A) (f : A × List TokenValue → Read B) (y : B × List TokenValue) → (r >>= f) ≡ Ok y → (x : A × List TokenValue) × (r ≡ Ok x) × (f x ≡ Ok y)
+pub bind_ok : {A B : Type 0} (r : Read A) (f : A × List TokenValue → Read B)
+    (y : B × List TokenValue) → (r >>= f) ≡ Ok y
+    → (x : A × List TokenValue) × (r ≡ Ok x) × (f x ≡ Ok y)
 bind_ok (Ok x) f y e = (x, refl, e)
 bind_ok (Err d) f y e = absurd cc
 
@@ -20,7 +22,8 @@ ok_is x y e = cc
 abbrev pub Shrinks : {A : Type 0} → (ℕ → Reader A) → Type 0
 Shrinks {A} part = (i : ℕ) (tokens : List TokenValue) (x : A) (rest : List TokenValue) → part i tokens ≡ Ok (x, rest) → length rest < length tokens
 
-bind_same : {A B : Type 0} (r : Read A) (f g : A × List TokenValue → Read B) → ((x : A × List TokenValue) → r ≡ Ok x → f x ≡ g x) → (r >>= f) ≡ (r >>= g)
+bind_same : {A B : Type 0} (r : Read A) (f g : A × List TokenValue → Read B)
+    → ((x : A × List TokenValue) → r ≡ Ok x → f x ≡ g x) → (r >>= f) ≡ (r >>= g)
 bind_same (Ok x) f g h = h x refl
 bind_same (Err e) f g h = refl
 
@@ -29,7 +32,8 @@ bind_same (Err e) f g h = refl
 abbrev put_first : {A : Type 0} → A → Read (List A) → Read (List A)
 put_first x read = read >>= λ others. Ok (x ∷ others.0, others.1)
 
-many_enough : {A : Type 0} (more : TokenValue → Bool) (part : ℕ → Reader A) → Shrinks part → (f g i : ℕ) (tokens : List TokenValue) → length tokens ≤ f → length tokens ≤ g
+many_enough : {A : Type 0} (more : TokenValue → Bool) (part : ℕ → Reader A) → Shrinks part
+    → (f g i : ℕ) (tokens : List TokenValue) → length tokens ≤ f → length tokens ≤ g
     → many_upto f more part i tokens ≡ many_upto g more part i tokens
 unfolding many_upto
 many_enough more part shrinks zero zero i tokens a b = refl
@@ -42,7 +46,9 @@ many_enough {A} more part shrinks (suc f) (suc g) i tokens a b =
     (bind_same (part i tokens) _ _ (λ x e. let less = shrinks i tokens x.0 x.1 e in ap (put_first x.0) (many_enough more part shrinks f g (i + 1) x.1 (omega arith) (omega arith))))
 
 -- one more part, and the rest of them
-pub many_step : {A : Type 0} (more : TokenValue → Bool) (part : ℕ → Reader A) → Shrinks part → (i : ℕ) (tokens : List TokenValue) (x : A) (rest : List TokenValue) → next_passes more tokens ≡ true → part i tokens ≡ Ok (x, rest)
+pub many_step : {A : Type 0} (more : TokenValue → Bool) (part : ℕ → Reader A) → Shrinks part
+    → (i : ℕ) (tokens : List TokenValue) (x : A) (rest : List TokenValue)
+    → next_passes more tokens ≡ true → part i tokens ≡ Ok (x, rest)
     → many_at more part i tokens ≡ put_first x (many_at more part (i + 1) rest)
 unfolding many_upto many_at
 many_step more part shrinks i [] x rest wanted found = absurd cc
@@ -50,33 +56,42 @@ many_step more part shrinks i (t ∷ ts) x rest wanted found =
     let less = shrinks i (t ∷ ts) x rest found in
     rw (wanted, found) (ap (put_first x) (many_enough more part shrinks (length ts) (length rest) (i + 1) rest (omega arith) (omega arith)))
 
-pub many_fails : {A : Type 0} (more : TokenValue → Bool) (part : ℕ → Reader A) (i : ℕ) (tokens : List TokenValue) (f : Fault) → next_passes more tokens ≡ true → part i tokens ≡ Err f
+pub many_fails : {A : Type 0} (more : TokenValue → Bool) (part : ℕ → Reader A) (i : ℕ)
+    (tokens : List TokenValue) (f : Fault) → next_passes more tokens ≡ true → part i tokens ≡ Err f
     → many_at more part i tokens ≡ Err f
 unfolding many_upto many_at
 many_fails more part i [] f wanted found = absurd cc
 many_fails more part i (t ∷ ts) f wanted found = rw (wanted, found) refl
 
-pub many_ends : {A : Type 0} (more : TokenValue → Bool) (part : ℕ → Reader A) (i : ℕ) (tokens : List TokenValue) → next_passes more tokens ≡ false → many_at more part i tokens ≡ Ok ([], tokens)
+pub many_ends : {A : Type 0} (more : TokenValue → Bool) (part : ℕ → Reader A) (i : ℕ)
+    (tokens : List TokenValue) → next_passes more tokens ≡ false
+    → many_at more part i tokens ≡ Ok ([], tokens)
 unfolding many_upto many_at
 many_ends more part i [] wanted = refl
 many_ends more part i (t ∷ ts) wanted = rw wanted refl
 
 -- ---- the same in a loop, with what was read before in front
 
-regroup : {A : Type 0} (front : List A) (x : A) (read : Read (List A)) → with_front front (put_first x read) ≡ with_front (front ++ x ∷ []) read
+regroup : {A : Type 0} (front : List A) (x : A) (read : Read (List A))
+    → with_front front (put_first x read) ≡ with_front (front ++ x ∷ []) read
 regroup front x (Ok y) = ap (λ xs. Ok (xs, y.1)) (simp append_assoc)
 regroup front x (Err f) = refl
 
-pub loop_step : {A : Type 0} (more : TokenValue → Bool) (part : ℕ → Reader A) → Shrinks part → (front : List A) (i : ℕ) (tokens : List TokenValue) (x : A) (rest : List TokenValue) (all : Read (List A)) → next_passes more tokens ≡ true → part i tokens ≡ Ok (x, rest)
+pub loop_step : {A : Type 0} (more : TokenValue → Bool) (part : ℕ → Reader A) → Shrinks part
+    → (front : List A) (i : ℕ) (tokens : List TokenValue) (x : A) (rest : List TokenValue)
+    (all : Read (List A)) → next_passes more tokens ≡ true → part i tokens ≡ Ok (x, rest)
     → with_front front (many_at more part i tokens) ≡ all → with_front (front ++ x ∷ []) (many_at more part (i + 1) rest) ≡ all
 loop_step more part shrinks front i tokens x rest all wanted found so_far =
     sym (regroup front x (many_at more part (i + 1) rest)) ∙ ap (with_front front) (sym (many_step more part shrinks i tokens x rest wanted found)) ∙ so_far
 
-pub loop_fails : {A : Type 0} (more : TokenValue → Bool) (part : ℕ → Reader A) (front : List A) (i : ℕ) (tokens : List TokenValue) (f : Fault) (all : Read (List A)) → next_passes more tokens ≡ true → part i tokens ≡ Err f
+pub loop_fails : {A : Type 0} (more : TokenValue → Bool) (part : ℕ → Reader A) (front : List A)
+    (i : ℕ) (tokens : List TokenValue) (f : Fault) (all : Read (List A))
+    → next_passes more tokens ≡ true → part i tokens ≡ Err f
     → with_front front (many_at more part i tokens) ≡ all → all ≡ Err f
 loop_fails more part front i tokens f all wanted found so_far = sym so_far ∙ ap (with_front front) (many_fails more part i tokens f wanted found)
 
-pub loop_ends : {A : Type 0} (more : TokenValue → Bool) (part : ℕ → Reader A) (front : List A) (i : ℕ) (tokens : List TokenValue) (all : Read (List A)) → next_passes more tokens ≡ false
+pub loop_ends : {A : Type 0} (more : TokenValue → Bool) (part : ℕ → Reader A) (front : List A)
+    (i : ℕ) (tokens : List TokenValue) (all : Read (List A)) → next_passes more tokens ≡ false
     → with_front front (many_at more part i tokens) ≡ all → all ≡ Ok (front, tokens)
 loop_ends more part front i tokens all wanted so_far =
     sym so_far ∙ ap (with_front front) (many_ends more part i tokens wanted) ∙ ap (λ xs. Ok (xs, tokens)) (append-nil front)

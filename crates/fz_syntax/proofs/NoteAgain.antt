@@ -41,15 +41,18 @@ paren_ends : (rest : List TokenValue) → Ends (Marked CloseParen ∷ rest)
 paren_ends rest = record { no_range = refl; no_args = refl }
 
 -- an element and those behind commas: what stands behind the first ends it
-more_basics_end : (bs : NoteBasics) (rest : List TokenValue) → Ends (more_basics_toks bs ++ (Marked CloseBracket ∷ rest))
+more_basics_end : (bs : NoteBasics) (rest : List TokenValue)
+    → Ends (more_basics_toks bs ++ (Marked CloseBracket ∷ rest))
 more_basics_end NoMoreBasics rest = bracket_ends rest
 more_basics_end (MoreBasics b others) rest = comma_ends _
 
-more_args_end : (args : NoteArgs) (rest : List TokenValue) → Ends (more_args_toks args ++ (Marked CloseParen ∷ rest))
+more_args_end : (args : NoteArgs) (rest : List TokenValue)
+    → Ends (more_args_toks args ++ (Marked CloseParen ∷ rest))
 more_args_end NoMoreArgs rest = paren_ends rest
 more_args_end (MoreArgs a others) rest = comma_ends _
 
-basic_no_close : (b : NoteBasic) (rest : List TokenValue) → next_is CloseBracket (note_basic_toks b ++ rest) ≡ false
+basic_no_close : (b : NoteBasic) (rest : List TokenValue)
+    → next_is CloseBracket (note_basic_toks b ++ rest) ≡ false
 basic_no_close (NoteLiteral (Number n)) rest = refl
 basic_no_close (NoteLiteral (Truth b)) rest = refl
 basic_no_close (NoteLiteral (Range low high)) rest = refl
@@ -58,7 +61,8 @@ basic_no_close (NoteFloat text) rest = refl
 basic_no_close (NoteString text) rest = refl
 basic_no_close (Inner (Called name args)) rest = refl
 
-basic_no_bracket : (b : NoteBasic) (rest : List TokenValue) → next_is OpenBracket (note_basic_toks b ++ rest) ≡ false
+basic_no_bracket : (b : NoteBasic) (rest : List TokenValue)
+    → next_is OpenBracket (note_basic_toks b ++ rest) ≡ false
 basic_no_bracket (NoteLiteral (Number n)) rest = refl
 basic_no_bracket (NoteLiteral (Truth b)) rest = refl
 basic_no_bracket (NoteLiteral (Range low high)) rest = refl
@@ -74,7 +78,8 @@ abbrev argument : Limits → ℕ → ℕ → Reader NoteArg
 argument limits depth = any_number (note_arg_at limits depth (note_at limits depth))
 
 -- a literal among the arguments
-as_literal : (l : Literal) (limits : Limits) (inner : Reader Note) (rest : List TokenValue) → note_basic_at limits inner (literal_toks l ++ rest)
+as_literal : (l : Literal) (limits : Limits) (inner : Reader Note) (rest : List TokenValue)
+    → note_basic_at limits inner (literal_toks l ++ rest)
     ≡ cond (next_passes is_name (literal_toks l ++ rest)) (inner (literal_toks l ++ rest) >>= λ n. Ok (Inner n.0, n.1)) (literal_at limits (literal_toks l ++ rest) >>= λ k. Ok (NoteLiteral k.0, k.1))
 unfolding note_basic_at
 as_literal (Number n) limits inner rest = refl
@@ -83,31 +88,41 @@ as_literal (Truth false) limits inner rest = refl
 as_literal (Range low high) limits inner rest = refl
 as_literal (Braces numbers) limits inner rest = refl
 
-note_literal_again : (l : Literal) (limits : Limits) (inner : Reader Note) (rest : List TokenValue) → IsLiteral limits l → Ends rest → note_basic_at limits inner (literal_toks l ++ rest) ≡ Ok (NoteLiteral l, rest)
+note_literal_again : (l : Literal) (limits : Limits) (inner : Reader Note) (rest : List TokenValue)
+    → IsLiteral limits l → Ends rest
+    → note_basic_at limits inner (literal_toks l ++ rest) ≡ Ok (NoteLiteral l, rest)
 note_literal_again l limits inner rest is ends = as_literal l limits inner rest ∙ rw (literal_no_name l rest, literal_again limits l rest is ends.no_range) refl
 
 -- an annotation among the arguments
-note_name : (n : Note) (limits : Limits) (depth : ℕ) (rest : List TokenValue) → IsNote n limits depth → next_passes is_name (note_toks n ++ rest) ≡ true
+note_name : (n : Note) (limits : Limits) (depth : ℕ) (rest : List TokenValue)
+    → IsNote n limits depth → next_passes is_name (note_toks n ++ rest) ≡ true
 note_name (Called name args) limits zero rest is = absurd is
 note_name (Called name args) limits (suc depth) rest is = ap not is.0
 
-as_note : (n : Note) (limits : Limits) (inner : Reader Note) (rest : List TokenValue) → note_basic_at limits inner (note_toks n ++ rest)
+as_note : (n : Note) (limits : Limits) (inner : Reader Note) (rest : List TokenValue)
+    → note_basic_at limits inner (note_toks n ++ rest)
     ≡ cond (next_passes is_name (note_toks n ++ rest)) (inner (note_toks n ++ rest) >>= λ m. Ok (Inner m.0, m.1)) (literal_at limits (note_toks n ++ rest) >>= λ k. Ok (NoteLiteral k.0, k.1))
 unfolding note_basic_at
 as_note (Called name args) limits inner rest = refl
 
-inner_again : (n : Note) (limits : Limits) (depth : ℕ) (rest : List TokenValue) → IsNote n limits depth → note_at limits depth (note_toks n ++ rest) ≡ Ok (n, rest) → note_basic_at limits (note_at limits depth) (note_toks n ++ rest) ≡ Ok (Inner n, rest)
+inner_again : (n : Note) (limits : Limits) (depth : ℕ) (rest : List TokenValue)
+    → IsNote n limits depth → note_at limits depth (note_toks n ++ rest) ≡ Ok (n, rest)
+    → note_basic_at limits (note_at limits depth) (note_toks n ++ rest) ≡ Ok (Inner n, rest)
 inner_again n limits depth rest is again = as_note n limits (note_at limits depth) rest ∙ rw (note_name n limits depth rest is, again) refl
 
 mutual
   unfolding note_at note_args_at note_arg_at note_list_at note_basic_at list_at separated_at
 
-  pub note_again : (n : Note) (limits : Limits) (depth : ℕ) (rest : List TokenValue) → IsNote n limits depth → Ends rest → note_at limits depth (note_toks n ++ rest) ≡ Ok (n, rest)
+  pub note_again : (n : Note) (limits : Limits) (depth : ℕ) (rest : List TokenValue)
+      → IsNote n limits depth → Ends rest
+      → note_at limits depth (note_toks n ++ rest) ≡ Ok (n, rest)
   note_again (Called name args) limits zero rest is ends = absurd is
   note_again (Called name args) limits (suc depth) rest is ends =
       rw (name_again name (args_toks args ++ rest) is.0) (rw (args_again args limits depth rest is.1 ends) (ap (λ (a : NoteArgs). Ok (Called name a, rest)) (arg_list-args_in args)))
 
-  args_again : (args : NoteArgs) (limits : Limits) (depth : ℕ) (rest : List TokenValue) → AreArgs args limits depth → Ends rest → note_args_at limits depth (note_at limits depth) (args_toks args ++ rest) ≡ Ok (args_in args, rest)
+  args_again : (args : NoteArgs) (limits : Limits) (depth : ℕ) (rest : List TokenValue)
+      → AreArgs args limits depth → Ends rest → note_args_at limits depth (note_at limits depth)
+      (args_toks args ++ rest) ≡ Ok (args_in args, rest)
   args_again NoMoreArgs limits depth rest is ends = rw ends.no_args refl
   args_again (MoreArgs a others) limits depth rest is ends =
       let A : List TokenValue = arg_toks a in
@@ -117,7 +132,10 @@ mutual
       let more = more_args_again others limits depth 1 rest is.1 in
       rw (regrouped, first, more, mark_again CloseParen rest) refl
 
-  more_args_again : (args : NoteArgs) (limits : Limits) (depth i : ℕ) (rest : List TokenValue) → AreArgs args limits depth → many_at (is_mark Comma) (after_token (argument limits depth)) i (more_args_toks args ++ (Marked CloseParen ∷ rest)) ≡ Ok (args_in args, Marked CloseParen ∷ rest)
+  more_args_again : (args : NoteArgs) (limits : Limits) (depth i : ℕ) (rest : List TokenValue)
+      → AreArgs args limits depth → many_at (is_mark Comma) (after_token (argument limits depth)) i
+      (more_args_toks args ++ (Marked CloseParen ∷ rest))
+      ≡ Ok (args_in args, Marked CloseParen ∷ rest)
   more_args_again NoMoreArgs limits depth i rest is = many_ends (is_mark Comma) (after_token (argument limits depth)) i (Marked CloseParen ∷ rest) refl
   more_args_again (MoreArgs a others) limits depth i rest is =
       let Z : List TokenValue = more_args_toks others ++ (Marked CloseParen ∷ rest) in
@@ -127,7 +145,9 @@ mutual
       ∙ many_step (is_mark Comma) (after_token (argument limits depth)) (Shrinks-after_token (argument limits depth) (note_args_shrink limits depth)) i ((Marked Comma ∷ arg_toks a) ++ Z) a Z refl first
       ∙ ap (λ r. r >>= λ ys. Ok (a ∷ ys.0, ys.1)) (more_args_again others limits depth (i + 1) rest is.1)
 
-  arg_again : (a : NoteArg) (limits : Limits) (depth : ℕ) (rest : List TokenValue) → IsArg a limits depth → Ends rest → note_arg_at limits depth (note_at limits depth) (arg_toks a ++ rest) ≡ Ok (a, rest)
+  arg_again : (a : NoteArg) (limits : Limits) (depth : ℕ) (rest : List TokenValue)
+      → IsArg a limits depth → Ends rest
+      → note_arg_at limits depth (note_at limits depth) (arg_toks a ++ rest) ≡ Ok (a, rest)
   arg_again (OneBasic b) limits depth rest is ends = rw (basic_no_bracket b rest, note_basic_again b limits depth rest is ends) refl
   arg_again (ListOf NoMoreBasics) limits depth rest is ends = refl
   arg_again (ListOf (MoreBasics b others)) limits depth rest is ends =
@@ -140,7 +160,8 @@ mutual
       let more = more_basics_again others limits depth 1 rest is.1.1 (omega (arith, is.0)) in
       rw (regrouped, basic_no_close b Z, first, more, mark_again CloseBracket rest) (ap (λ (bs : NoteBasics). Ok (ListOf (MoreBasics b bs), rest)) (basic_list-basics_in others))
 
-  more_basics_again : (bs : NoteBasics) (limits : Limits) (depth i : ℕ) (rest : List TokenValue) → AreBasics bs limits depth → i + count_basics bs ≤ limits.elements
+  more_basics_again : (bs : NoteBasics) (limits : Limits) (depth i : ℕ) (rest : List TokenValue)
+      → AreBasics bs limits depth → i + count_basics bs ≤ limits.elements
       → many_at (is_mark Comma) (after_token (listed limits depth)) i (more_basics_toks bs ++ (Marked CloseBracket ∷ rest)) ≡ Ok (basics_in bs, Marked CloseBracket ∷ rest)
   more_basics_again NoMoreBasics limits depth i rest is fits = many_ends (is_mark Comma) (after_token (listed limits depth)) i (Marked CloseBracket ∷ rest) refl
   more_basics_again (MoreBasics b others) limits depth i rest is fits =
@@ -151,14 +172,18 @@ mutual
       ∙ many_step (is_mark Comma) (after_token (listed limits depth)) (Shrinks-after_token (listed limits depth) (note_list_shrinks limits depth)) i ((Marked Comma ∷ note_basic_toks b) ++ Z) b Z refl first
       ∙ ap (λ r. r >>= λ ys. Ok (b ∷ ys.0, ys.1)) (more_basics_again others limits depth (i + 1) rest is.1 (omega arith))
 
-  note_basic_again : (b : NoteBasic) (limits : Limits) (depth : ℕ) (rest : List TokenValue) → IsNoteBasic b limits depth → Ends rest → note_basic_at limits (note_at limits depth) (note_basic_toks b ++ rest) ≡ Ok (b, rest)
+  note_basic_again : (b : NoteBasic) (limits : Limits) (depth : ℕ) (rest : List TokenValue)
+      → IsNoteBasic b limits depth → Ends rest
+      → note_basic_at limits (note_at limits depth) (note_basic_toks b ++ rest) ≡ Ok (b, rest)
   note_basic_again (NoteLiteral l) limits depth rest is ends = note_literal_again l limits (note_at limits depth) rest is ends
   note_basic_again (NoteFloat text) limits depth rest is ends = refl
   note_basic_again (NoteString text) limits depth rest is ends = refl
   note_basic_again (Inner n) limits depth rest is ends = inner_again n limits depth rest is (note_again n limits depth rest is ends)
 
 -- annotations, each behind `::`, where no further one follows
-pub notes_again : (limits : Limits) (notes : List Note) (rest : List TokenValue) → AreNotes limits notes → Ends rest → next_is ColonColon rest ≡ false → notes_at limits (notes_toks notes ++ rest) ≡ Ok (notes, rest)
+pub notes_again : (limits : Limits) (notes : List Note) (rest : List TokenValue)
+    → AreNotes limits notes → Ends rest → next_is ColonColon rest ≡ false
+    → notes_at limits (notes_toks notes ++ rest) ≡ Ok (notes, rest)
 unfolding notes_at
 notes_again limits notes rest are ends over =
     let behind : Note → List TokenValue = λ n. Marked ColonColon ∷ note_toks n in

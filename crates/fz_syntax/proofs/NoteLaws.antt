@@ -20,14 +20,17 @@ arg_list-more : (args : List NoteArg) → more_args_toks (arg_list args) ≡ aft
 arg_list-more [] = refl
 arg_list-more (a ∷ rest) = ap (λ (ys : List TokenValue). (Marked Comma ∷ arg_toks a) ++ ys) (arg_list-more rest) ∙ sym (flat_map-cons (λ x. Marked Comma ∷ arg_toks x) a rest)
 
-arg_list-toks : (first : NoteArg) (args : List NoteArg) → args_toks (arg_list (first ∷ args)) ≡ in_parens (separated arg_toks (first ∷ args))
+arg_list-toks : (first : NoteArg) (args : List NoteArg)
+    → args_toks (arg_list (first ∷ args)) ≡ in_parens (separated arg_toks (first ∷ args))
 arg_list-toks first args = ap (λ (ys : List TokenValue). in_parens (arg_toks first ++ ys)) (arg_list-more args)
 
-arg_list-all : (args : List NoteArg) (limits : Limits) (depth : ℕ) → AllByRecursion (λ a. IsArg a limits depth) args → AreArgs (arg_list args) limits depth
+arg_list-all : (args : List NoteArg) (limits : Limits) (depth : ℕ)
+    → AllByRecursion (λ a. IsArg a limits depth) args → AreArgs (arg_list args) limits depth
 arg_list-all [] limits depth h = tt
 arg_list-all (a ∷ rest) limits depth h = (h.0, arg_list-all rest limits depth h.1)
 
-basic_list-more : (bs : List NoteBasic) → more_basics_toks (basic_list bs) ≡ after_commas note_basic_toks bs
+basic_list-more : (bs : List NoteBasic)
+    → more_basics_toks (basic_list bs) ≡ after_commas note_basic_toks bs
 basic_list-more [] = refl
 basic_list-more (b ∷ rest) = ap (λ (ys : List TokenValue). (Marked Comma ∷ note_basic_toks b) ++ ys) (basic_list-more rest) ∙ sym (flat_map-cons (λ x. Marked Comma ∷ note_basic_toks x) b rest)
 
@@ -35,7 +38,8 @@ basic_list-toks : (bs : List NoteBasic) → basics_toks (basic_list bs) ≡ sepa
 basic_list-toks [] = refl
 basic_list-toks (b ∷ rest) = ap (λ (ys : List TokenValue). note_basic_toks b ++ ys) (basic_list-more rest)
 
-basic_list-all : (bs : List NoteBasic) (limits : Limits) (depth : ℕ) → AllByRecursion (λ b. IsNoteBasic b limits depth) bs → AreBasics (basic_list bs) limits depth
+basic_list-all : (bs : List NoteBasic) (limits : Limits) (depth : ℕ)
+    → AllByRecursion (λ b. IsNoteBasic b limits depth) bs → AreBasics (basic_list bs) limits depth
 basic_list-all [] limits depth h = tt
 basic_list-all (b ∷ rest) limits depth h = (h.0, basic_list-all rest limits depth h.1)
 
@@ -51,7 +55,8 @@ IsInner limits depth n = IsNote n limits depth
 abbrev IsElement : Limits → ℕ → NoteBasic → Type 0
 IsElement limits depth b = IsNoteBasic b limits depth
 
-note_basic_takes_plain : (limits : Limits) (depth : ℕ) (inner : Reader Note) → Takes note_toks (IsInner limits depth) inner
+note_basic_takes_plain : (limits : Limits) (depth : ℕ) (inner : Reader Note)
+    → Takes note_toks (IsInner limits depth) inner
     → (tokens : List TokenValue) (x : NoteBasic × List TokenValue) → cond (next_passes is_name tokens) (inner tokens >>= λ n. Ok (Inner n.0, n.1)) (literal_at limits tokens >>= λ l. Ok (NoteLiteral l.0, l.1)) ≡ Ok x
     → Took note_basic_toks (IsElement limits depth) tokens x
 note_basic_takes_plain limits depth inner takes tokens x e =
@@ -68,7 +73,9 @@ note_basic_takes_plain limits depth inner takes tokens x e =
           subst (Took note_basic_toks (IsElement limits depth) tokens) (ok_is made x a.2) (record { parts = t.parts; fits = t.fits })
     ]
 
-pub note_basic_takes : (limits : Limits) (depth : ℕ) (inner : Reader Note) → Takes note_toks (IsInner limits depth) inner → Takes note_basic_toks (IsElement limits depth) (note_basic_at limits inner)
+pub note_basic_takes : (limits : Limits) (depth : ℕ) (inner : Reader Note)
+    → Takes note_toks (IsInner limits depth) inner
+    → Takes note_basic_toks (IsElement limits depth) (note_basic_at limits inner)
 unfolding note_basic_at
 note_basic_takes limits depth inner takes [] x e = note_basic_takes_plain limits depth inner takes [] x e
 note_basic_takes limits depth inner takes (FloatText text ∷ rest) x e =
@@ -79,7 +86,8 @@ note_basic_takes limits depth inner takes (Word w ∷ rest) x e = note_basic_tak
 note_basic_takes limits depth inner takes (Whole n ∷ rest) x e = note_basic_takes_plain limits depth inner takes (Whole n ∷ rest) x e
 note_basic_takes limits depth inner takes (Marked m ∷ rest) x e = note_basic_takes_plain limits depth inner takes (Marked m ∷ rest) x e
 
--- a note basic begins as one does, where the inner reader's first token is a name that isn't too deep
+-- a note basic begins as one does, where the inner reader's first token is a name that isn't too
+-- deep
 StartsDeep : ℕ → Reader Note → Type 0
 StartsDeep depth inner = (tokens : List TokenValue) (x : Note × List TokenValue) → inner tokens ≡ Ok x → next_passes (is_deep_name depth) tokens ≡ true
 
@@ -105,7 +113,9 @@ plain_starts limits depth inner starts t rest x e =
           or_second (is_quoted t) _ (or_second (is_deep_name depth t) _ (literal_starts limits (t ∷ rest) a.0 a.1))
     ]
 
-note_basic_starts : (limits : Limits) (depth : ℕ) (inner : Reader Note) → StartsDeep depth inner → (tokens : List TokenValue) (x : NoteBasic × List TokenValue) → note_basic_at limits inner tokens ≡ Ok x → next_passes (begins_note_basic depth) tokens ≡ true
+note_basic_starts : (limits : Limits) (depth : ℕ) (inner : Reader Note) → StartsDeep depth inner
+    → (tokens : List TokenValue) (x : NoteBasic × List TokenValue)
+    → note_basic_at limits inner tokens ≡ Ok x → next_passes (begins_note_basic depth) tokens ≡ true
 unfolding note_basic_at literal_at
 note_basic_starts limits depth inner starts [] x e = absurd cc
 note_basic_starts limits depth inner starts (FloatText text ∷ rest) x e = refl
@@ -138,7 +148,8 @@ arg_some (ListOf bs) = omega arith
 abbrev listed : Limits → ℕ → Reader Note → ℕ → Reader NoteBasic
 listed limits depth inner = at_most limits.elements (begins_note_basic depth) (note_basic_at limits inner)
 
-listed_shrinks_from : (limits : Limits) (depth : ℕ) (inner : Reader Note) → Takes note_toks (IsInner limits depth) inner → Shrinks (listed limits depth inner)
+listed_shrinks_from : (limits : Limits) (depth : ℕ) (inner : Reader Note)
+    → Takes note_toks (IsInner limits depth) inner → Shrinks (listed limits depth inner)
 listed_shrinks_from limits depth inner takes =
     at_most_shortens limits.elements (begins_note_basic depth) (note_basic_at limits inner)
     (shortens_from note_basic_toks (IsElement limits depth) (note_basic_at limits inner) (note_basic_takes limits depth inner takes) note_basic_some)
@@ -146,7 +157,8 @@ listed_shrinks_from limits depth inner takes =
 abbrev AreElements : Limits → ℕ → List NoteBasic → Type 0
 AreElements limits depth bs = (length bs ≤ limits.elements) × AllByRecursion (IsElement limits depth) bs
 
-note_list_takes : (limits : Limits) (depth : ℕ) (inner : Reader Note) → Takes note_toks (IsInner limits depth) inner → StartsDeep depth inner
+note_list_takes : (limits : Limits) (depth : ℕ) (inner : Reader Note)
+    → Takes note_toks (IsInner limits depth) inner → StartsDeep depth inner
     → Takes (λ bs. separated note_basic_toks bs ++ mark CloseBracket) (AreElements limits depth) (note_list_at limits depth inner)
 unfolding note_list_at
 note_list_takes limits depth inner takes starts tokens x e =
@@ -159,7 +171,8 @@ note_list_takes limits depth inner takes starts tokens x e =
 abbrev IsArgument : Limits → ℕ → NoteArg → Type 0
 IsArgument limits depth a = IsArg a limits depth
 
-note_arg_takes : (limits : Limits) (depth : ℕ) (inner : Reader Note) → Takes note_toks (IsInner limits depth) inner → StartsDeep depth inner
+note_arg_takes : (limits : Limits) (depth : ℕ) (inner : Reader Note)
+    → Takes note_toks (IsInner limits depth) inner → StartsDeep depth inner
     → Takes arg_toks (IsArgument limits depth) (note_arg_at limits depth inner)
 unfolding note_arg_at
 note_arg_takes limits depth inner takes starts tokens x e =
@@ -185,14 +198,18 @@ note_arg_takes limits depth inner takes starts tokens x e =
 abbrev argument : Limits → ℕ → Reader Note → ℕ → Reader NoteArg
 argument limits depth inner = any_number (note_arg_at limits depth inner)
 
-argument_shrinks_from : (limits : Limits) (depth : ℕ) (inner : Reader Note) → Takes note_toks (IsInner limits depth) inner → StartsDeep depth inner → Shrinks (argument limits depth inner)
+argument_shrinks_from : (limits : Limits) (depth : ℕ) (inner : Reader Note)
+    → Takes note_toks (IsInner limits depth) inner → StartsDeep depth inner
+    → Shrinks (argument limits depth inner)
 argument_shrinks_from limits depth inner takes starts i =
     shortens_from arg_toks (IsArgument limits depth) (note_arg_at limits depth inner) (note_arg_takes limits depth inner takes starts) arg_some
 
 abbrev ListToks : List NoteArg → List TokenValue
 ListToks args = args_toks (arg_list args)
 
-separated_some : (element : ℕ → Reader NoteArg) (tokens : List TokenValue) (x : List NoteArg × List TokenValue) → separated_at element tokens ≡ Ok x → (first : NoteArg) × (others : List NoteArg) × (x.0 ≡ first ∷ others)
+separated_some : (element : ℕ → Reader NoteArg) (tokens : List TokenValue)
+    (x : List NoteArg × List TokenValue) → separated_at element tokens ≡ Ok x
+    → (first : NoteArg) × (others : List NoteArg) × (x.0 ≡ first ∷ others)
 unfolding separated_at
 separated_some element tokens x e =
     let a = bind_ok (element 0 tokens) (λ first. many_at (is_mark Comma) (after_token element) 1 first.1 >>= λ others. Ok (first.0 ∷ others.0, others.1)) x e in
@@ -200,7 +217,8 @@ separated_some element tokens x e =
     let made : List NoteArg × List TokenValue = (a.0.0 ∷ b.0.0, b.0.1) in
     (a.0.0, b.0.0, ap (λ (p : List NoteArg × List TokenValue). p.0) (sym (ok_is made x b.2)))
 
-note_args_take : (limits : Limits) (depth : ℕ) (inner : Reader Note) → Takes note_toks (IsInner limits depth) inner → StartsDeep depth inner
+note_args_take : (limits : Limits) (depth : ℕ) (inner : Reader Note)
+    → Takes note_toks (IsInner limits depth) inner → StartsDeep depth inner
     → Takes ListToks (AllByRecursion (IsArgument limits depth)) (note_args_at limits depth inner)
 unfolding note_args_at
 note_args_take limits depth inner takes starts tokens x e =
@@ -222,7 +240,8 @@ note_args_take limits depth inner takes starts tokens x e =
 
 -- ---- annotations, by the number of levels
 
-name_starts : (tokens : List TokenValue) (x : List ℕ × List TokenValue) → name_at tokens ≡ Ok x → next_passes is_name tokens ≡ true
+name_starts : (tokens : List TokenValue) (x : List ℕ × List TokenValue) → name_at tokens ≡ Ok x
+    → next_passes is_name tokens ≡ true
 unfolding name_at
 name_starts [] x e = absurd cc
 name_starts (Word w ∷ ts) x e =
@@ -235,11 +254,13 @@ name_starts (FloatText n ∷ ts) x e = absurd cc
 name_starts (StringText n ∷ ts) x e = absurd cc
 name_starts (Marked n ∷ ts) x e = absurd cc
 
-deep_name : (d : ℕ) (tokens : List TokenValue) → next_passes is_name tokens ≡ true → next_passes (is_deep_name (suc d)) tokens ≡ true
+deep_name : (d : ℕ) (tokens : List TokenValue) → next_passes is_name tokens ≡ true
+    → next_passes (is_deep_name (suc d)) tokens ≡ true
 deep_name d [] e = absurd cc
 deep_name d (t ∷ ts) e = e
 
-no_level : (b : Bool) (tokens : List TokenValue) (x : Note × List TokenValue) → cond b (too_deep tokens) (unexpected tokens) ≡ Ok x → ⊥
+no_level : (b : Bool) (tokens : List TokenValue) (x : Note × List TokenValue)
+    → cond b (too_deep tokens) (unexpected tokens) ≡ Ok x → ⊥
 no_level true tokens x e = cc
 no_level false tokens x e = cc
 
@@ -250,7 +271,8 @@ note_starts limits (suc d) tokens x e =
     let a = bind_ok (name_at tokens) (λ name. note_args_at limits d (note_at limits d) name.1 >>= λ args. Ok (Called name.0 (arg_list args.0), args.1)) x e in
     deep_name d tokens (name_starts tokens a.0 a.1)
 
-pub note_takes : (limits : Limits) (depth : ℕ) → Takes note_toks (IsInner limits depth) (note_at limits depth)
+pub note_takes : (limits : Limits) (depth : ℕ)
+    → Takes note_toks (IsInner limits depth) (note_at limits depth)
 unfolding note_at
 note_takes limits zero tokens x e = absurd (no_level (next_passes is_name tokens) tokens x e)
 note_takes limits (suc d) tokens x e =
@@ -262,10 +284,13 @@ note_takes limits (suc d) tokens x e =
     subst (Took note_toks (IsInner limits (suc d)) tokens) (ok_is made x b.2)
     (record { parts = t.parts ∙ ap (λ (ys : List TokenValue). Word a.0.0 ∷ ys) u.parts; fits = (t.fits, arg_list-all b.0.0 limits d u.fits) })
 
-pub note_list_shrinks : (limits : Limits) (depth : ℕ) → Shrinks (at_most limits.elements (begins_note_basic depth) (note_basic_at limits (note_at limits depth)))
+pub note_list_shrinks : (limits : Limits) (depth : ℕ) → Shrinks
+    (at_most limits.elements (begins_note_basic depth)
+    (note_basic_at limits (note_at limits depth)))
 note_list_shrinks limits depth = listed_shrinks_from limits depth (note_at limits depth) (note_takes limits depth)
 
-pub note_args_shrink : (limits : Limits) (depth : ℕ) → Shrinks (any_number (note_arg_at limits depth (note_at limits depth)))
+pub note_args_shrink : (limits : Limits) (depth : ℕ)
+    → Shrinks (any_number (note_arg_at limits depth (note_at limits depth)))
 note_args_shrink limits depth = argument_shrinks_from limits depth (note_at limits depth) (note_takes limits depth) (note_starts limits depth)
 
 note_shortens : (limits : Limits) (depth : ℕ) → Shortens (note_at limits depth)

@@ -31,12 +31,14 @@ use Rattle.fz_syntax.proofs.PrintedLaws.{items_take, items_of_toks}
 abbrev pub values : List SpannedToken → List TokenValue
 values ts = map (λ t. t.token) ts
 
-of_values : (tokens : List SpannedToken) → AllByRecursion (λ t. IsTokenText t.token) tokens → AllByRecursion IsTokenText (values tokens)
+of_values : (tokens : List SpannedToken) → AllByRecursion (λ t. IsTokenText t.token) tokens
+    → AllByRecursion IsTokenText (values tokens)
 of_values [] h = tt
 of_values (t ∷ ts) h = (h.0, of_values ts h.1)
 
 -- the tokens of any text of the source are those ahead of its first byte
-pub tokens_are : (source : List ℕ) (ts : List TokenValue) → IsTextOfTokens source ts → values (tokens_ahead source 0) ≡ ts
+pub tokens_are : (source : List ℕ) (ts : List TokenValue) → IsTextOfTokens source ts
+    → values (tokens_ahead source 0) ≡ ts
 tokens_are source ts (others, lexed, e) = sym (ap values (lexed_ahead source others lexed.lexes lexed.numbers)) ∙ e
 
 -- A parser at the first token of a source, what it read, and what the tokens behind it showed.
@@ -44,11 +46,15 @@ module _ (source : List ℕ) (p : Parser) (all : ahead p ≡ tokens_ahead source
   seen : (ts : List TokenValue) → lexemes p ≡ ts → values (tokens_ahead source 0) ≡ ts
   seen ts e = sym (ap values all) ∙ e
 
-  text_of : (ts : List TokenValue) → length source ≤ most_bytes → LexesToSpanned source (tokens_ahead source 0) → AreWithinLimit (tokens_ahead source 0) → lexemes p ≡ ts → IsTextOfTokens source ts
+  text_of : (ts : List TokenValue) → length source ≤ most_bytes
+      → LexesToSpanned source (tokens_ahead source 0) → AreWithinLimit (tokens_ahead source 0)
+      → lexemes p ≡ ts → IsTextOfTokens source ts
   text_of ts short lexes numbers e = (tokens_ahead source 0, record { short = short; lexes = lexes; numbers = numbers }, seen ts e)
 
   -- the tree that was read is one of which the source is a text
-  pub tree_found : (t : Tree) → length source ≤ most_bytes → LexesToSpanned source (tokens_ahead source 0) → AreWithinLimit (tokens_ahead source 0) → tree_of the_limits (lexemes p) ≡ Ok t → IsTextOfTree source t
+  pub tree_found : (t : Tree) → length source ≤ most_bytes
+      → LexesToSpanned source (tokens_ahead source 0) → AreWithinLimit (tokens_ahead source 0)
+      → tree_of the_limits (lexemes p) ≡ Ok t → IsTextOfTree source t
   unfolding tree_of
   tree_found t short lexes numbers read =
       let result : Result Tree SyntaxError = Ok t in
@@ -59,13 +65,18 @@ module _ (source : List ℕ) (p : Parser) (all : ahead p ≡ tokens_ahead source
       }
 
   -- a tree of which the source is a text is the one that was read
-  pub tree_only : (result : Result Tree SyntaxError) → IsWhole (λ (u : Tree). u) result (tree_of the_limits (lexemes p)) → (t : Tree) → IsTextOfTree source t → IsValue (λ (u : Tree). u) result t
+  pub tree_only : (result : Result Tree SyntaxError) → IsWhole (λ (u : Tree). u) result
+      (tree_of the_limits (lexemes p)) → (t : Tree) → IsTextOfTree source t
+      → IsValue (λ (u : Tree). u) result t
   unfolding tree_of
   tree_only result read t text =
       only_of (λ (u : Tree). u) toks (HasShape the_limits) (tree_at the_limits) (tree_of_toks the_limits) result (lexemes p) read t text.of_grammar.shape (ap values all ∙ tokens_are source (toks t) text.lexes)
 
   -- the items that were read are some of which the source is a text
-  pub items_found : (v : Vec Item Global) → length source ≤ most_bytes → LexesToSpanned source (tokens_ahead source 0) → AreWithinLimit (tokens_ahead source 0) → items_of the_limits (lexemes p) ≡ Ok (bare_items v.items) → IsTextOfItems source (bare_items v.items)
+  pub items_found : (v : Vec Item Global) → length source ≤ most_bytes
+      → LexesToSpanned source (tokens_ahead source 0) → AreWithinLimit (tokens_ahead source 0)
+      → items_of the_limits (lexemes p) ≡ Ok (bare_items v.items)
+      → IsTextOfItems source (bare_items v.items)
   unfolding items_of
   items_found v short lexes numbers read =
       let result : Result (Vec Item Global) SyntaxError = Ok v in
@@ -73,7 +84,10 @@ module _ (source : List ℕ) (p : Parser) (all : ahead p ≡ tokens_ahead source
       record { lexes = text_of (itoks (bare_items v.items)) short lexes numbers h.1; of_grammar = h.0 }
 
   -- items of which the source is a text are those that were read
-  pub items_only : (result : Result (Vec Item Global) SyntaxError) → IsWhole (λ (x : Vec Item Global). bare_items x.items) result (items_of the_limits (lexemes p)) → (items : List Printed) → IsTextOfItems source items → IsValue (λ (x : Vec Item Global). bare_items x.items) result items
+  pub items_only : (result : Result (Vec Item Global) SyntaxError)
+      → IsWhole (λ (x : Vec Item Global). bare_items x.items) result
+      (items_of the_limits (lexemes p)) → (items : List Printed) → IsTextOfItems source items
+      → IsValue (λ (x : Vec Item Global). bare_items x.items) result items
   unfolding items_of
   items_only result read items text =
       only_of (λ (x : Vec Item Global). bare_items x.items) itoks (AllByRecursion (IsPrinted the_limits)) (items_at the_limits) (items_of_toks the_limits) result (lexemes p) read items text.of_grammar (ap values all ∙ tokens_are source (itoks items) text.lexes)
@@ -86,7 +100,9 @@ none_seen : (items : List Item) → map bare_printed items ≡ [] → items ≡ 
 none_seen [] e = refl
 none_seen (x ∷ xs) e = absurd cc
 
-empty_of_none : {X : Type 0} (items_of : X → List Item) (result : Result X SyntaxError) → IsValue (λ given. bare_items (items_of given)) result [] → MatchResult result (λ given. items_of given ≡ []) (λ e. e ≡ errors.Memory)
+empty_of_none : {X : Type 0} (items_of : X → List Item) (result : Result X SyntaxError)
+    → IsValue (λ given. bare_items (items_of given)) result []
+    → MatchResult result (λ given. items_of given ≡ []) (λ e. e ≡ errors.Memory)
 empty_of_none items_of (Ok v) h = none_seen (items_of v) h
 empty_of_none items_of (Err errors.Memory) h = refl
 empty_of_none items_of (Err errors.TooLong) h = absurd h
@@ -98,16 +114,20 @@ empty_of_none items_of (Err (errors.TooDeep p)) h = absurd h
 empty_of_none items_of (Err (errors.TooMany p)) h = absurd h
 
 -- what is read of the empty text
-pub empty_of_only : {X : Type 0} (items_of : X → List Item) (result : Result X SyntaxError) (source : List ℕ) → ((items : List Printed) → IsTextOfItems source items → IsValue (λ given. bare_items (items_of given)) result items)
+pub empty_of_only : {X : Type 0} (items_of : X → List Item) (result : Result X SyntaxError)
+    (source : List ℕ) → ((items : List Printed) → IsTextOfItems source items
+    → IsValue (λ given. bare_items (items_of given)) result items)
     → source ≡ [] → MatchResult result (λ given. items_of given ≡ []) (λ e. e ≡ errors.Memory)
 empty_of_only items_of result source only empty = empty_of_none items_of result (only [] (subst (λ (s : List ℕ). IsTextOfItems s []) (sym empty) none_text))
 
 -- tokens in order lie within the source
-within_source : (from end : ℕ) (tokens : List SpannedToken) → AreInOrder from end tokens → AllByRecursion (λ t. (t.start ≤ t.end) × (t.end ≤ end)) tokens × (from ≤ end)
+within_source : (from end : ℕ) (tokens : List SpannedToken) → AreInOrder from end tokens
+    → AllByRecursion (λ t. (t.start ≤ t.end) × (t.end ≤ end)) tokens × (from ≤ end)
 within_source from end [] h = (tt, h)
 within_source from end (t ∷ ts) (a, b, rest) =
     let others = within_source t.end end ts rest in
     (((omega arith, others.1), others.0), omega (arith, others.1))
 
-pub all_within : (from end : ℕ) (tokens : List SpannedToken) → AreInOrder from end tokens → All (λ t. (t.start ≤ t.end) × (t.end ≤ end)) tokens
+pub all_within : (from end : ℕ) (tokens : List SpannedToken) → AreInOrder from end tokens
+    → All (λ t. (t.start ≤ t.end) × (t.end ≤ end)) tokens
 all_within from end tokens h = All-from_recursion (λ t. (t.start ≤ t.end) × (t.end ≤ end)) tokens (within_source from end tokens h).0

@@ -13,15 +13,22 @@ use Rattle.fz_syntax.specs.Spots.{Spot, note_spots, arg_spots, note_basic_spots,
 use Rattle.fz_syntax.specs.Placed.{PlacedToken, unplaced, placed_mark, placed_parts, placed_args, placed_arg, placed_note_basic, placed_note, placed_arg_layer, placed_note_basic_layer, placed_note_layer}
 use Rattle.fz_syntax.proofs.Fits.{Fits, fits_plain, fits_then, fits_skip, fits_between, fits_name, fits_literal}
 
-commas_fit : {A : Type 0} (f : A → List PlacedToken) (g : A → List Spot) (es : List ((x : A) × Fits (f x) (g x))) → Fits (flat_map (λ part. unplaced (Marked Comma) ∷ part) (map f (map (λ e. e.0) es))) (flat_map (λ part. part) (map g (map (λ e. e.0) es)))
+commas_fit : {A : Type 0} (f : A → List PlacedToken) (g : A → List Spot)
+    (es : List ((x : A) × Fits (f x) (g x))) → Fits (flat_map
+    (λ part. unplaced (Marked Comma) ∷ part) (map f (map (λ e. e.0) es)))
+    (flat_map (λ part. part) (map g (map (λ e. e.0) es)))
 commas_fit f g [] = fits_plain []
 commas_fit f g (e ∷ es) = fits_then (fits_skip (placed_mark Comma) e.1) (commas_fit f g es)
 
-parts_fit : {A : Type 0} (f : A → List PlacedToken) (g : A → List Spot) (es : List ((x : A) × Fits (f x) (g x))) → Fits (placed_parts (map f (map (λ e. e.0) es))) (flat_map (λ part. part) (map g (map (λ e. e.0) es)))
+parts_fit : {A : Type 0} (f : A → List PlacedToken) (g : A → List Spot)
+    (es : List ((x : A) × Fits (f x) (g x))) → Fits (placed_parts (map f (map (λ e. e.0) es)))
+    (flat_map (λ part. part) (map g (map (λ e. e.0) es)))
 parts_fit f g [] = fits_plain []
 parts_fit f g (e ∷ es) = fits_then e.1 (commas_fit f g es)
 
-args_fit : (es : List ((a : NoteArg) × Fits (placed_arg a) (arg_spots a))) → Fits (placed_args (map placed_arg (map (λ e. e.0) es))) (flat_map (λ part. part) (map arg_spots (map (λ e. e.0) es)))
+args_fit : (es : List ((a : NoteArg) × Fits (placed_arg a) (arg_spots a)))
+    → Fits (placed_args (map placed_arg (map (λ e. e.0) es)))
+    (flat_map (λ part. part) (map arg_spots (map (λ e. e.0) es)))
 args_fit [] = fits_plain []
 args_fit (e ∷ es) = fits_between OpenParen CloseParen (parts_fit placed_arg arg_spots (e ∷ es))
 
@@ -53,7 +60,8 @@ ANote = (n : Note) × NoteFits n
 refit : {s t : P} {a b : S} → s ≡ t → a ≡ b → Fits t b → Fits s a
 refit {s} {t} {a} {b} e f fits = subst (λ (x : P). Fits x a) (sym e) (subst (λ (x : S). Fits t x) (sym f) fits)
 
-arg_fits : (y : NoteArg-F AnArg ABasic ANote) → ArgFits (roll-NoteArg (map-NoteArg AnArg ABasic ANote NoteArg NoteBasic Note (λ e. e.0) (λ e. e.0) (λ e. e.0) y))
+arg_fits : (y : NoteArg-F AnArg ABasic ANote) → ArgFits (roll-NoteArg
+    (map-NoteArg AnArg ABasic ANote NoteArg NoteBasic Note (λ e. e.0) (λ e. e.0) (λ e. e.0) y))
 arg_fits (NoteArg-F.One b) =
     refit (fold-roll-NoteArg P P P placed_arg_layer placed_note_basic_layer placed_note_layer (NoteArg-F.One b.0)) (fold-roll-NoteArg S S S arg_layer_spots note_basic_layer_spots note_layer_spots (NoteArg-F.One b.0)) b.1
 arg_fits (NoteArg-F.List bs) =
@@ -61,7 +69,9 @@ arg_fits (NoteArg-F.List bs) =
     refit (fold-roll-NoteArg P P P placed_arg_layer placed_note_basic_layer placed_note_layer x) (fold-roll-NoteArg S S S arg_layer_spots note_basic_layer_spots note_layer_spots x)
     (fits_between OpenBracket CloseBracket (parts_fit placed_note_basic note_basic_spots bs.items))
 
-basic_fits : (y : NoteBasic-F AnArg ABasic ANote) → BasicFits (roll-NoteBasic (map-NoteBasic AnArg ABasic ANote NoteArg NoteBasic Note (λ e. e.0) (λ e. e.0) (λ e. e.0) y))
+basic_fits : (y : NoteBasic-F AnArg ABasic ANote) → BasicFits
+    (roll-NoteBasic (map-NoteBasic AnArg ABasic ANote NoteArg NoteBasic Note (λ e. e.0) (λ e. e.0)
+    (λ e. e.0) y))
 basic_fits (NoteBasic-F.Lit l) =
     refit (fold-roll-NoteBasic P P P placed_arg_layer placed_note_basic_layer placed_note_layer (NoteBasic-F.Lit l)) (fold-roll-NoteBasic S S S arg_layer_spots note_basic_layer_spots note_layer_spots (NoteBasic-F.Lit l)) (fits_literal l)
 basic_fits (NoteBasic-F.Float text) =
@@ -73,7 +83,8 @@ basic_fits (NoteBasic-F.Str text) =
 basic_fits (NoteBasic-F.Inner n) =
     refit (fold-roll-NoteBasic P P P placed_arg_layer placed_note_basic_layer placed_note_layer (NoteBasic-F.Inner n.0)) (fold-roll-NoteBasic S S S arg_layer_spots note_basic_layer_spots note_layer_spots (NoteBasic-F.Inner n.0)) n.1
 
-note_fits : (y : Note-F AnArg ABasic ANote) → NoteFits (roll-Note (map-Note AnArg ABasic ANote NoteArg NoteBasic Note (λ e. e.0) (λ e. e.0) (λ e. e.0) y))
+note_fits : (y : Note-F AnArg ABasic ANote) → NoteFits (roll-Note
+    (map-Note AnArg ABasic ANote NoteArg NoteBasic Note (λ e. e.0) (λ e. e.0) (λ e. e.0) y))
 note_fits y =
     let x : Note-F NoteArg NoteBasic Note = map-Note AnArg ABasic ANote NoteArg NoteBasic Note (λ e. e.0) (λ e. e.0) (λ e. e.0) y in
     refit (fold-roll-Note P P P placed_arg_layer placed_note_basic_layer placed_note_layer x) (fold-roll-Note S S S arg_layer_spots note_basic_layer_spots note_layer_spots x) (fits_then (fits_name y.name) (args_fit y.args.items))

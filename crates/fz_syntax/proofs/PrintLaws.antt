@@ -1,4 +1,5 @@
--- The canonical text of each part of a tree is cut into the tokens of the part, whatever stands behind it.
+-- The canonical text of each part of a tree is cut into the tokens of the part, whatever stands
+-- behind it.
 use Rattle.std.proofs.Common.{ℕ, ℤ, pos, Bool, true, false, List, [], ◌∷◌, ◌++◌, Option, Some, None, ap, refl, sym, subst, append_assoc, arith}
 use Rattle.std.specs.Prelude.{codes}
 use Rattle.std.specs.List.{flat_map, AllByRecursion}
@@ -25,10 +26,12 @@ Anything rest = Unit {0}
 
 -- The text is cut into the tokens, in front of any rest of this kind that is cut into tokens.
 pub record Prints (Before : List ℕ → Type 0) (bytes : List ℕ) (tokens : List TokenValue) : Type 0 where
-  pub joins : AllByRecursion IsPrintable tokens → (rest : List ℕ) (T : List TokenValue) → Before rest → Joins rest T → Joins (bytes ++ rest) (tokens ++ T)
+  pub joins : AllByRecursion IsPrintable tokens → (rest : List ℕ) (T : List TokenValue)
+      → Before rest → Joins rest T → Joins (bytes ++ rest) (tokens ++ T)
 
 -- a text behind a text, of whatever the first one needs
-then : {N M : List ℕ → Type 0} {a b : List ℕ} {s t : List TokenValue} → Prints N a s → Prints M b t → ((rest : List ℕ) → M rest → N (b ++ rest)) → Prints M (a ++ b) (s ++ t)
+then : {N M : List ℕ → Type 0} {a b : List ℕ} {s t : List TokenValue} → Prints N a s → Prints M b t
+    → ((rest : List ℕ) → M rest → N (b ++ rest)) → Prints M (a ++ b) (s ++ t)
 then {a} {b} {s} {t} first second keeps = record {
   joins = λ h rest T before joined.
       let inner = second.joins (all_right IsPrintable s t h) rest T before joined in
@@ -37,22 +40,28 @@ then {a} {b} {s} {t} first second keeps = record {
 }
 
 -- a text behind one that needs nothing
-free : {M : List ℕ → Type 0} {a b : List ℕ} {s t : List TokenValue} → Prints Anything a s → Prints M b t → Prints M (a ++ b) (s ++ t)
+free : {M : List ℕ → Type 0} {a b : List ℕ} {s t : List TokenValue} → Prints Anything a s
+    → Prints M b t → Prints M (a ++ b) (s ++ t)
 free first second = then first second (λ rest m. tt)
 
 -- a text that needs nothing, where something is given
-closed : {bytes : List ℕ} {tokens : List TokenValue} → Prints Anything bytes tokens → Prints EndsNumber bytes tokens
+closed : {bytes : List ℕ} {tokens : List TokenValue} → Prints Anything bytes tokens
+    → Prints EndsNumber bytes tokens
 closed p = record { joins = λ h rest T e j. p.joins h rest T tt j }
 
 nothing_prints : {N : List ℕ → Type 0} → Prints N [] []
 nothing_prints = record { joins = λ h rest T n j. j }
 
 -- texts one behind another
-many_keep : {A : Type 0} (N : List ℕ → Type 0) (f : A → List ℕ) → ((x : A) (rest : List ℕ) → N rest → N (f x ++ rest)) → (xs : List A) (rest : List ℕ) → N rest → N (flat_map f xs ++ rest)
+many_keep : {A : Type 0} (N : List ℕ → Type 0) (f : A → List ℕ)
+    → ((x : A) (rest : List ℕ) → N rest → N (f x ++ rest)) → (xs : List A) (rest : List ℕ) → N rest
+    → N (flat_map f xs ++ rest)
 many_keep N f keeps [] rest n = n
 many_keep N f keeps (x ∷ xs) rest n = subst N (sym (append_assoc (f x) (flat_map f xs) rest)) (keeps x (flat_map f xs ++ rest) (many_keep N f keeps xs rest n))
 
-many_print : {A : Type 0} (N : List ℕ → Type 0) (f : A → List ℕ) (g : A → List TokenValue) → ((x : A) → Prints N (f x) (g x)) → ((x : A) (rest : List ℕ) → N rest → N (f x ++ rest)) → (xs : List A) → Prints N (flat_map f xs) (flat_map g xs)
+many_print : {A : Type 0} (N : List ℕ → Type 0) (f : A → List ℕ) (g : A → List TokenValue)
+    → ((x : A) → Prints N (f x) (g x)) → ((x : A) (rest : List ℕ) → N rest → N (f x ++ rest))
+    → (xs : List A) → Prints N (flat_map f xs) (flat_map g xs)
 many_print N f g each keeps [] = nothing_prints
 many_print N f g each keeps (x ∷ xs) = then (each x) (many_print N f g each keeps xs) (many_keep N f keeps xs)
 
@@ -141,27 +150,34 @@ end_prints : Prints Anything (codes ";\n") (mark Semicolon)
 end_prints = record { joins = λ h rest T e j. mark_joins Semicolon (codes "\n" ++ rest) T tt (line_feed_joins rest T j) }
 
 -- a blank in front of a text
-behind_blank : {N : List ℕ → Type 0} {bytes : List ℕ} {tokens : List TokenValue} → Prints N bytes tokens → Prints N (codes " " ++ bytes) tokens
+behind_blank : {N : List ℕ → Type 0} {bytes : List ℕ} {tokens : List TokenValue}
+    → Prints N bytes tokens → Prints N (codes " " ++ bytes) tokens
 behind_blank {bytes} {tokens} p = record { joins = λ h rest T e j. blank_joins (bytes ++ rest) (tokens ++ T) (p.joins h rest T e j) }
 
 -- ---- lists with commas
 
-behind_comma : {bytes : List ℕ} {tokens : List TokenValue} → Prints EndsNumber bytes tokens → Prints EndsNumber (codes "," ++ bytes) (Marked Comma ∷ tokens)
+behind_comma : {bytes : List ℕ} {tokens : List TokenValue} → Prints EndsNumber bytes tokens
+    → Prints EndsNumber (codes "," ++ bytes) (Marked Comma ∷ tokens)
 behind_comma p = free comma_prints p
 
-separated_prints : {A : Type 0} (f : A → List ℕ) (g : A → List TokenValue) → ((x : A) → Prints EndsNumber (f x) (g x)) → (xs : List A) → Prints EndsNumber (separated_text f xs) (separated g xs)
+separated_prints : {A : Type 0} (f : A → List ℕ) (g : A → List TokenValue)
+    → ((x : A) → Prints EndsNumber (f x) (g x)) → (xs : List A)
+    → Prints EndsNumber (separated_text f xs) (separated g xs)
 separated_prints f g each [] = nothing_prints
 separated_prints f g each (x ∷ xs) =
     then (each x) (many_print EndsNumber (λ y. codes "," ++ f y) (λ y. Marked Comma ∷ g y) (λ y. behind_comma (each y)) (λ y rest e. comma_ends (f y ++ rest)) xs)
     (many_keep EndsNumber (λ y. codes "," ++ f y) (λ y rest e. comma_ends (f y ++ rest)) xs)
 
-parens_print : {bytes : List ℕ} {tokens : List TokenValue} → Prints EndsNumber bytes tokens → Prints Anything (codes "(" ++ bytes ++ codes ")") (in_parens tokens)
+parens_print : {bytes : List ℕ} {tokens : List TokenValue} → Prints EndsNumber bytes tokens
+    → Prints Anything (codes "(" ++ bytes ++ codes ")") (in_parens tokens)
 parens_print p = then (free open_paren_prints p) close_paren_prints (λ rest e. close_paren_ends rest)
 
-brackets_print : {bytes : List ℕ} {tokens : List TokenValue} → Prints EndsNumber bytes tokens → Prints Anything (codes "[" ++ bytes ++ codes "]") (in_brackets tokens)
+brackets_print : {bytes : List ℕ} {tokens : List TokenValue} → Prints EndsNumber bytes tokens
+    → Prints Anything (codes "[" ++ bytes ++ codes "]") (in_brackets tokens)
 brackets_print p = then (free open_bracket_prints p) close_bracket_prints (λ rest e. bracket_ends rest)
 
-braces_print : {bytes : List ℕ} {tokens : List TokenValue} → Prints EndsNumber bytes tokens → Prints Anything (codes "{" ++ bytes ++ codes "}") (in_braces tokens)
+braces_print : {bytes : List ℕ} {tokens : List TokenValue} → Prints EndsNumber bytes tokens
+    → Prints Anything (codes "{" ++ bytes ++ codes "}") (in_braces tokens)
 braces_print p = then (free open_brace_prints p) close_brace_prints (λ rest e. brace_ends rest)
 
 -- ---- expressions
@@ -182,15 +198,18 @@ expr_prints (Several bs) = closed (brackets_print (separated_prints basic_text b
 
 -- ---- annotations
 
-args_keep : (args : NoteArgs) (rest : List ℕ) → EndsNumber rest → EndsNumber (args_text args ++ rest)
+args_keep : (args : NoteArgs) (rest : List ℕ) → EndsNumber rest
+    → EndsNumber (args_text args ++ rest)
 args_keep NoMoreArgs rest e = e
 args_keep (MoreArgs first others) rest e = open_paren_ends _
 
-more_args_keep : (args : NoteArgs) (rest : List ℕ) → EndsNumber rest → EndsNumber (more_args_text args ++ rest)
+more_args_keep : (args : NoteArgs) (rest : List ℕ) → EndsNumber rest
+    → EndsNumber (more_args_text args ++ rest)
 more_args_keep NoMoreArgs rest e = e
 more_args_keep (MoreArgs first others) rest e = comma_ends _
 
-more_basics_keep : (basics : NoteBasics) (rest : List ℕ) → EndsNumber rest → EndsNumber (more_basics_text basics ++ rest)
+more_basics_keep : (basics : NoteBasics) (rest : List ℕ) → EndsNumber rest
+    → EndsNumber (more_basics_text basics ++ rest)
 more_basics_keep NoMoreBasics rest e = e
 more_basics_keep (MoreBasics first others) rest e = comma_ends _
 
@@ -202,7 +221,8 @@ mutual
   args_print NoMoreArgs = nothing_prints
   args_print (MoreArgs first others) = closed (parens_print (then (arg_prints first) (more_args_print others) (more_args_keep others)))
 
-  more_args_print : (args : NoteArgs) → Prints EndsNumber (more_args_text args) (more_args_toks args)
+  more_args_print : (args : NoteArgs)
+      → Prints EndsNumber (more_args_text args) (more_args_toks args)
   more_args_print NoMoreArgs = nothing_prints
   more_args_print (MoreArgs first others) = then (behind_comma (arg_prints first)) (more_args_print others) (more_args_keep others)
 
@@ -214,7 +234,8 @@ mutual
   basics_print NoMoreBasics = nothing_prints
   basics_print (MoreBasics first others) = then (note_basic_prints first) (more_basics_print others) (more_basics_keep others)
 
-  more_basics_print : (basics : NoteBasics) → Prints EndsNumber (more_basics_text basics) (more_basics_toks basics)
+  more_basics_print : (basics : NoteBasics)
+      → Prints EndsNumber (more_basics_text basics) (more_basics_toks basics)
   more_basics_print NoMoreBasics = nothing_prints
   more_basics_print (MoreBasics first others) = then (behind_comma (note_basic_prints first)) (more_basics_print others) (more_basics_keep others)
 
@@ -224,7 +245,8 @@ mutual
   note_basic_prints (NoteString string) = string_prints string
   note_basic_prints (Inner n) = note_prints n
 
-notes_keep : (notes : List Note) (rest : List ℕ) → EndsNumber rest → EndsNumber (notes_text notes ++ rest)
+notes_keep : (notes : List Note) (rest : List ℕ) → EndsNumber rest
+    → EndsNumber (notes_text notes ++ rest)
 notes_keep notes = many_keep EndsNumber (λ n. codes " :: " ++ note_text n) (λ n rest e. blank_ends _) notes
 
 notes_print : (notes : List Note) → Prints EndsNumber (notes_text notes) (notes_toks notes)
@@ -232,7 +254,8 @@ notes_print notes = many_print EndsNumber (λ n. codes " :: " ++ note_text n) (�
 
 -- ---- types
 
-bounds_print : (bounds : Option Literal) → Prints EndsNumber (bounds_text bounds) (bounds_toks bounds)
+bounds_print : (bounds : Option Literal)
+    → Prints EndsNumber (bounds_text bounds) (bounds_toks bounds)
 bounds_print None = name_prints (codes "int")
 bounds_print (Some l) = literal_prints l
 
@@ -259,7 +282,8 @@ any_index_prints : (o : Option ℕ) → Prints EndsNumber (any_index_text o) (an
 any_index_prints None = name_prints (codes "int")
 any_index_prints (Some n) = free (then one_prints dots_print (λ rest e. ends_at_dots rest)) (number_prints (pos n))
 
-param_prefix_prints : (array : Option (List (Option ℕ))) → Prints Anything (param_prefix_text array) (param_prefix_toks array)
+param_prefix_prints : (array : Option (List (Option ℕ)))
+    → Prints Anything (param_prefix_text array) (param_prefix_toks array)
 param_prefix_prints None = nothing_prints
 param_prefix_prints (Some indexes) =
     subst (Prints Anything (param_prefix_text (Some indexes))) (ap (λ ts. Word (codes "array") ∷ Marked OpenBracket ∷ ts) (sym (append_assoc (separated any_index_toks indexes) (mark CloseBracket) (word (codes "of")))))
@@ -278,7 +302,8 @@ predicate_prints p =
     let params = parens_print (separated_prints param_text param_toks param_prints p.params) in
     free (then named params (λ rest e. open_paren_ends _)) end_prints
 
-value_keep : (value : Option Expr) (rest : List ℕ) → EndsNumber rest → EndsNumber (value_text value ++ rest)
+value_keep : (value : Option Expr) (rest : List ℕ) → EndsNumber rest
+    → EndsNumber (value_text value ++ rest)
 value_keep None rest e = e
 value_keep (Some v) rest e = blank_ends _
 
@@ -317,7 +342,9 @@ solve_prints s =
     let asked = then noted (goal_prints s.goal) (λ rest e. goal_ends s.goal rest) in
     then asked end_prints (λ rest e. semicolon_ends _)
 
-items_print : {A : Type 0} (f : A → List ℕ) (g : A → List TokenValue) → ((x : A) → Prints Anything (f x) (g x)) → (xs : List A) → Prints Anything (flat_map f xs) (flat_map g xs)
+items_print : {A : Type 0} (f : A → List ℕ) (g : A → List TokenValue)
+    → ((x : A) → Prints Anything (f x) (g x)) → (xs : List A)
+    → Prints Anything (flat_map f xs) (flat_map g xs)
 items_print f g each xs = many_print Anything f g each (λ x rest e. tt) xs
 
 tree_prints : (t : Tree) → Prints Anything (tree_text t) (toks t)

@@ -10,14 +10,18 @@ use Rattle.fz_syntax.specs.View.{arg_list, basic_list}
 use Rattle.fz_syntax.specs.Print.{text_after_commas, args_text, more_args_text, arg_text, basics_text, more_basics_text, note_basic_text}
 
 -- a part behind a part
-pub behind : (start now next a b : List ℕ) → now ≡ start ++ a → next ≡ now ++ b → next ≡ start ++ (a ++ b)
+pub behind : (start now next a b : List ℕ) → now ≡ start ++ a → next ≡ now ++ b
+    → next ≡ start ++ (a ++ b)
 behind start now next a b before printed = printed ∙ (ap (λ t. t ++ b) before ∙ append_assoc start a b)
 
-pub last_behind : {E : Type 0} (r : Result (Unit {0}) E) (start now next a b : List ℕ) → now ≡ start ++ a → OnOk r (next ≡ now ++ b) → OnOk r (next ≡ start ++ (a ++ b))
+pub last_behind : {E : Type 0} (r : Result (Unit {0}) E) (start now next a b : List ℕ)
+    → now ≡ start ++ a → OnOk r (next ≡ now ++ b) → OnOk r (next ≡ start ++ (a ++ b))
 last_behind r start now next a b before = on_ok_weaker r (behind start now next a b before)
 
 -- the text of one element more
-pub one_more : {A B : Type 0} (text : B → List ℕ) (view : A → B) (xs : List A) (i : ℕ) (x : A) (start now next : List ℕ) → i < length xs → x ≡ get_or xs i x → now ≡ start ++ flat_map text (map view (take i xs)) → next ≡ now ++ text (view x)
+pub one_more : {A B : Type 0} (text : B → List ℕ) (view : A → B) (xs : List A) (i : ℕ) (x : A)
+    (start now next : List ℕ) → i < length xs → x ≡ get_or xs i x
+    → now ≡ start ++ flat_map text (map view (take i xs)) → next ≡ now ++ text (view x)
     → next ≡ start ++ flat_map text (map view (take (i + 1) xs))
 one_more text view xs i x start now next within is before printed =
     let taken = take_more xs i x within ∙ ap (λ y. take i xs ++ y ∷ []) (sym is) in
@@ -25,11 +29,13 @@ one_more text view xs i x start now next within is before printed =
     let texts = ap (λ ys. flat_map text (map view ys)) taken ∙ (ap (flat_map text) (map-append view (take i xs) (x ∷ [])) ∙ (flat_map-append text (map view (take i xs)) (view x ∷ []) ∙ ap (λ t. flat_map text (map view (take i xs)) ++ t) last)) in
     behind start now next _ _ before printed ∙ ap (λ t. start ++ t) (sym texts)
 
-more_args_listed : (xs : List NoteArg) → more_args_text (arg_list xs) ≡ text_after_commas arg_text xs
+more_args_listed : (xs : List NoteArg)
+    → more_args_text (arg_list xs) ≡ text_after_commas arg_text xs
 more_args_listed [] = refl
 more_args_listed (x ∷ xs) = ap (λ t. (codes "," ++ arg_text x) ++ t) (more_args_listed xs)
 
-more_basics_listed : (xs : List NoteBasic) → more_basics_text (basic_list xs) ≡ text_after_commas note_basic_text xs
+more_basics_listed : (xs : List NoteBasic)
+    → more_basics_text (basic_list xs) ≡ text_after_commas note_basic_text xs
 more_basics_listed [] = refl
 more_basics_listed (x ∷ xs) = ap (λ t. (codes "," ++ note_basic_text x) ++ t) (more_basics_listed xs)
 
@@ -37,18 +43,25 @@ more_basics_listed (x ∷ xs) = ap (λ t. (codes "," ++ note_basic_text x) ++ t)
 abbrev pub behind_first : {A : Type 0} → List A → List A
 behind_first xs = take (length xs - 1) (drop 1 xs)
 
-first_and_others : {A : Type 0} (xs : List A) (first : A) → 1 ≤ length xs → first ≡ get_or xs 0 first → xs ≡ first ∷ drop 1 xs
+first_and_others : {A : Type 0} (xs : List A) (first : A) → 1 ≤ length xs
+    → first ≡ get_or xs 0 first → xs ≡ first ∷ drop 1 xs
 first_and_others [] first some is = absurd (omega (arith, some))
 first_and_others (x ∷ xs) first some is = ap (λ y. y ∷ xs) (sym is)
 
 -- a list that is not empty, by its first element and the others
-all_elements : {A : Type 0} (xs : List A) (first : A) (i : ℕ) → 1 ≤ length xs → first ≡ get_or xs 0 first → length (behind_first xs) ≤ i → first ∷ take i (behind_first xs) ≡ xs
+all_elements : {A : Type 0} (xs : List A) (first : A) (i : ℕ) → 1 ≤ length xs
+    → first ≡ get_or xs 0 first → length (behind_first xs) ≤ i
+    → first ∷ take i (behind_first xs) ≡ xs
 all_elements xs first i some is all =
     let others : take i (behind_first xs) ≡ drop 1 xs = take_all i (behind_first xs) all ∙ take_all (length xs - 1) (drop 1 xs) (omega (arith, length-drop 1 xs)) in
     ap (λ ys. first ∷ ys) others ∙ sym (first_and_others xs first some is)
 
 -- the arguments of an annotation were printed
-pub args_printed : {A : Type 0} (view : A → NoteArg) (xs : List A) (first : A) (i : ℕ) (start t1 t2 t3 t4 : List ℕ) → 1 ≤ length xs → first ≡ get_or xs 0 first → length (behind_first xs) ≤ i → t1 ≡ start ++ codes "(" → t2 ≡ t1 ++ arg_text (view first) → t3 ≡ t2 ++ text_after_commas arg_text (map view (take i (behind_first xs))) → t4 ≡ t3 ++ codes ")"
+pub args_printed : {A : Type 0} (view : A → NoteArg) (xs : List A) (first : A) (i : ℕ)
+    (start t1 t2 t3 t4 : List ℕ) → 1 ≤ length xs → first ≡ get_or xs 0 first
+    → length (behind_first xs) ≤ i → t1 ≡ start ++ codes "(" → t2 ≡ t1 ++ arg_text (view first)
+    → t3 ≡ t2 ++ text_after_commas arg_text (map view (take i (behind_first xs)))
+    → t4 ≡ t3 ++ codes ")"
     → t4 ≡ start ++ args_text (arg_list (map view xs))
 args_printed view xs first i start t1 t2 t3 t4 some is all e1 e2 e3 e4 =
     let others = map view (take i (behind_first xs)) in
@@ -57,7 +70,10 @@ args_printed view xs first i start t1 t2 t3 t4 some is all e1 e2 e3 e4 =
     closed ∙ (ap (λ t. start ++ (codes "(" ++ (arg_text (view first) ++ t) ++ codes ")")) (sym (more_args_listed others)) ∙ ap (λ ys. start ++ args_text (arg_list (map view ys))) (all_elements xs first i some is all))
 
 -- the elements of a list among them were printed
-pub basics_printed : {A : Type 0} (view : A → NoteBasic) (xs : List A) (first : A) (i : ℕ) (start t1 t2 : List ℕ) → 1 ≤ length xs → first ≡ get_or xs 0 first → length (behind_first xs) ≤ i → t1 ≡ start ++ note_basic_text (view first) → t2 ≡ t1 ++ text_after_commas note_basic_text (map view (take i (behind_first xs)))
+pub basics_printed : {A : Type 0} (view : A → NoteBasic) (xs : List A) (first : A) (i : ℕ)
+    (start t1 t2 : List ℕ) → 1 ≤ length xs → first ≡ get_or xs 0 first
+    → length (behind_first xs) ≤ i → t1 ≡ start ++ note_basic_text (view first)
+    → t2 ≡ t1 ++ text_after_commas note_basic_text (map view (take i (behind_first xs)))
     → t2 ≡ start ++ basics_text (basic_list (map view xs))
 basics_printed view xs first i start t1 t2 some is all e1 e2 =
     let others = map view (take i (behind_first xs)) in

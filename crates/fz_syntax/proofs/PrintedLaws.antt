@@ -52,7 +52,9 @@ array_word_of w n e some =
       ]
     ]
 
-pub array_tokens : (tokens : List TokenValue) → 0 < next_dimensions tokens → (tokens ≡ Word (array_word (next_dimensions tokens)) ∷ drop 1 tokens) × (1 ≤ next_dimensions tokens) × (next_dimensions tokens ≤ 6)
+pub array_tokens : (tokens : List TokenValue) → 0 < next_dimensions tokens
+    → (tokens ≡ Word (array_word (next_dimensions tokens)) ∷ drop 1 tokens)
+    × (1 ≤ next_dimensions tokens) × (next_dimensions tokens ≤ 6)
 array_tokens [] some = absurd (omega arith)
 array_tokens (Word w ∷ rest) some =
     let is = array_word_of w (dimensions_of w) refl some in
@@ -91,7 +93,8 @@ index_set_takes limits tokens x e =
 abbrev AreIndexSets : Limits → ℕ → List Literal → Type 0
 AreIndexSets limits n ls = (length ls ≡ n) × AllByRecursion (IsBounds limits) ls
 
-pub index_sets_take : (limits : Limits) (n : ℕ) → Takes (flat_map index_set_toks) (AreIndexSets limits n) (index_sets_at limits n)
+pub index_sets_take : (limits : Limits) (n : ℕ)
+    → Takes (flat_map index_set_toks) (AreIndexSets limits n) (index_sets_at limits n)
 unfolding index_sets_at
 index_sets_take limits zero tokens x e = subst (Took (flat_map index_set_toks) (AreIndexSets limits zero) tokens) (ok_is ([], tokens) x e) (record { parts = refl; fits = (refl, tt) })
 index_sets_take limits (suc n) tokens x e =
@@ -103,11 +106,14 @@ index_sets_take limits (suc n) tokens x e =
     subst (Took (flat_map index_set_toks) (AreIndexSets limits (suc n)) tokens) (ok_is made x b.2)
     (record { parts = ta.parts ∙ front (index_set_toks a.0.0) tb.parts ∙ sym (flat_map_first index_set_toks a.0.0 b.0.0 b.0.1); fits = (ap suc tb.fits.0, (ta.fits, tb.fits.1)) })
 
-index_set_again : (limits : Limits) (l : Literal) (rest : List TokenValue) → IsBounds limits l → index_set_at limits (index_set_toks l ++ rest) ≡ Ok (l, rest)
+index_set_again : (limits : Limits) (l : Literal) (rest : List TokenValue) → IsBounds limits l
+    → index_set_at limits (index_set_toks l ++ rest) ≡ Ok (l, rest)
 unfolding index_set_at
 index_set_again limits l rest is = ap (index_set_at limits) (append_assoc (literal_toks l) (mark Comma) rest) ∙ rw (bounds_again limits l (Marked Comma ∷ rest) is, mark_again Comma rest) refl
 
-index_sets_again : (limits : Limits) (ls : List Literal) (rest : List TokenValue) → AllByRecursion (IsBounds limits) ls → index_sets_at limits (length ls) (flat_map index_set_toks ls ++ rest) ≡ Ok (ls, rest)
+index_sets_again : (limits : Limits) (ls : List Literal) (rest : List TokenValue)
+    → AllByRecursion (IsBounds limits) ls
+    → index_sets_at limits (length ls) (flat_map index_set_toks ls ++ rest) ≡ Ok (ls, rest)
 unfolding index_sets_at
 index_sets_again limits [] rest are = refl
 index_sets_again limits (l ∷ ls) rest are =
@@ -118,26 +124,31 @@ index_sets_again limits (l ∷ ls) rest are =
 abbrev listed : Limits → ℕ → Reader Literal
 listed limits = at_most limits.elements begins_literal (literal_at limits)
 
-pub elements_shrink : (limits : Limits) → Shrinks (at_most limits.elements begins_literal (literal_at limits))
+pub elements_shrink : (limits : Limits)
+    → Shrinks (at_most limits.elements begins_literal (literal_at limits))
 elements_shrink limits = at_most_shortens limits.elements begins_literal (literal_at limits) (shortens_from literal_toks (IsLiteral limits) (literal_at limits) (literal_takes limits) literal_some)
 
 abbrev AreElements : Limits → List Literal → Type 0
 AreElements limits ls = (length ls ≤ limits.elements) × AllByRecursion (IsLiteral limits) ls
 
-elements_take : (limits : Limits) → Takes (λ ls. separated literal_toks ls ++ mark CloseBracket) (AreElements limits) (elements_at limits)
+elements_take : (limits : Limits) → Takes (λ ls. separated literal_toks ls ++ mark CloseBracket)
+    (AreElements limits) (elements_at limits)
 unfolding elements_at
 elements_take limits tokens x e =
     let t = list_takes literal_toks (IsLiteral limits) CloseBracket (listed limits) (at_most_takes literal_toks (IsLiteral limits) limits.elements begins_literal (literal_at limits) (literal_takes limits)) tokens x e in
     let n = list_count limits.elements CloseBracket (listed limits) (at_most_below limits.elements begins_literal (literal_at limits) (literal_starts limits)) tokens x e in
     record { parts = t.parts; fits = (n, t.fits) }
 
-literal_no_close : (l : Literal) (rest : List TokenValue) → next_is CloseBracket (literal_toks l ++ rest) ≡ false
+literal_no_close : (l : Literal) (rest : List TokenValue)
+    → next_is CloseBracket (literal_toks l ++ rest) ≡ false
 literal_no_close (Number n) rest = refl
 literal_no_close (Truth b) rest = refl
 literal_no_close (Range low high) rest = refl
 literal_no_close (Braces numbers) rest = refl
 
-elements_again : (limits : Limits) (ls : List Literal) (rest : List TokenValue) → AreElements limits ls → elements_at limits ((separated literal_toks ls ++ mark CloseBracket) ++ rest) ≡ Ok (ls, rest)
+elements_again : (limits : Limits) (ls : List Literal) (rest : List TokenValue)
+    → AreElements limits ls → elements_at limits
+    ((separated literal_toks ls ++ mark CloseBracket) ++ rest) ≡ Ok (ls, rest)
 unfolding elements_at
 elements_again limits ls rest are =
     let NoRange : List TokenValue → Type 0 = λ ts. next_is DotDot ts ≡ false in
@@ -149,10 +160,13 @@ elements_again limits ls rest are =
 abbrev array_tail : List TokenValue → List TokenValue → List TokenValue → List TokenValue
 array_tail I S rest = Marked OpenParen ∷ (((I ++ (Marked OpenBracket ∷ S)) ++ mark CloseParen) ++ rest)
 
-array_regroup : (I S rest : List TokenValue) → array_tail I S rest ≡ Marked OpenParen ∷ (I ++ (Marked OpenBracket ∷ (S ++ (Marked CloseParen ∷ rest))))
+array_regroup : (I S rest : List TokenValue) → array_tail I S rest
+    ≡ Marked OpenParen ∷ (I ++ (Marked OpenBracket ∷ (S ++ (Marked CloseParen ∷ rest))))
 array_regroup I S rest = ap (λ (zs : List TokenValue). Marked OpenParen ∷ zs) (append_assoc (I ++ (Marked OpenBracket ∷ S)) (mark CloseParen) rest ∙ append_assoc I (Marked OpenBracket ∷ S) (mark CloseParen ++ rest))
 
-printed_array_takes : (limits : Limits) (n : ℕ) (tokens : List TokenValue) (x : PrintedValue × List TokenValue) → 1 ≤ n → n ≤ 6 → printed_array_at limits n tokens ≡ Ok x → Took printed_value_toks (IsPrintedValue limits) (Word (array_word n) ∷ tokens) x
+printed_array_takes : (limits : Limits) (n : ℕ) (tokens : List TokenValue)
+    (x : PrintedValue × List TokenValue) → 1 ≤ n → n ≤ 6 → printed_array_at limits n tokens ≡ Ok x
+    → Took printed_value_toks (IsPrintedValue limits) (Word (array_word n) ∷ tokens) x
 unfolding printed_array_at
 printed_array_takes limits n tokens x some few e =
     let a = bind_ok _ _ x e in
@@ -180,7 +194,8 @@ zero_or_some : (n : ℕ) → eqb n 0 ≡ false → 0 < n
 zero_or_some zero e = absurd cc
 zero_or_some (suc n) e = omega arith
 
-printed_value_takes : (limits : Limits) → Takes printed_value_toks (IsPrintedValue limits) (printed_value_at limits)
+printed_value_takes : (limits : Limits)
+    → Takes printed_value_toks (IsPrintedValue limits) (printed_value_at limits)
 unfolding printed_value_at
 printed_value_takes limits tokens x e =
     elim (chosen (eqb (next_dimensions tokens) 0) _ _ (Ok x) e) [
@@ -195,14 +210,16 @@ printed_value_takes limits tokens x e =
           record { parts = is.0 ∙ t.parts; fits = t.fits }
     ]
 
-literal_no_array : (l : Literal) (rest : List TokenValue) → next_dimensions (literal_toks l ++ rest) ≡ 0
+literal_no_array : (l : Literal) (rest : List TokenValue)
+    → next_dimensions (literal_toks l ++ rest) ≡ 0
 literal_no_array (Number n) rest = refl
 literal_no_array (Truth true) rest = refl
 literal_no_array (Truth false) rest = refl
 literal_no_array (Range low high) rest = refl
 literal_no_array (Braces numbers) rest = refl
 
-printed_array_again : (limits : Limits) (ls es : List Literal) (rest : List TokenValue) → AllByRecursion (IsBounds limits) ls → AreElements limits es
+printed_array_again : (limits : Limits) (ls es : List Literal) (rest : List TokenValue)
+    → AllByRecursion (IsBounds limits) ls → AreElements limits es
     → printed_array_at limits (length ls) (array_tail (flat_map index_set_toks ls) (separated literal_toks es ++ mark CloseBracket) rest) ≡ Ok (ArrayOf ls es, rest)
 unfolding printed_array_at
 printed_array_again limits ls es rest sets elements =
@@ -216,7 +233,9 @@ some_not_zero : (n : ℕ) → 1 ≤ n → eqb n 0 ≡ false
 some_not_zero zero some = absurd (omega arith)
 some_not_zero (suc n) some = grind (arith, nat_tests)
 
-printed_value_again : (limits : Limits) (v : PrintedValue) (rest : List TokenValue) → IsPrintedValue limits v → next_is DotDot rest ≡ false → printed_value_at limits (printed_value_toks v ++ rest) ≡ Ok (v, rest)
+printed_value_again : (limits : Limits) (v : PrintedValue) (rest : List TokenValue)
+    → IsPrintedValue limits v → next_is DotDot rest ≡ false
+    → printed_value_at limits (printed_value_toks v ++ rest) ≡ Ok (v, rest)
 unfolding printed_value_at
 printed_value_again limits (OneValue l) rest is ends = rw (literal_no_array l rest, literal_again limits l rest is ends) refl
 printed_value_again limits (ArrayOf ls es) rest (some, few, sets, most, literals) ends =
@@ -247,7 +266,8 @@ printed_some p = omega (arith, length-append ((name_toks p.name ++ mark Equals) 
 pub printed_shrink : (limits : Limits) → Shrinks (any_number (printed_at limits))
 printed_shrink limits i = shortens_from printed_toks (IsPrinted limits) (printed_at limits) (printed_takes limits) printed_some
 
-printed_again : (limits : Limits) (p : Printed) (rest : List TokenValue) → IsPrinted limits p → printed_at limits (printed_toks p ++ rest) ≡ Ok (p, rest)
+printed_again : (limits : Limits) (p : Printed) (rest : List TokenValue) → IsPrinted limits p
+    → printed_at limits (printed_toks p ++ rest) ≡ Ok (p, rest)
 unfolding printed_at
 printed_again limits p rest is =
     let V : List TokenValue = printed_value_toks p.value in
@@ -255,20 +275,24 @@ printed_again limits p rest is =
     ap (printed_at limits) (flat4 (name_toks p.name) (mark Equals) V (mark Semicolon) rest)
     ∙ rw (name_again p.name (Marked Equals ∷ Y) is.name, mark_again Equals Y, printed_value_again limits p.value (Marked Semicolon ∷ rest) is.value refl, mark_again Semicolon rest) refl
 
-pub items_take : (limits : Limits) → Takes itoks (AllByRecursion (IsPrinted limits)) (items_at limits)
+pub items_take : (limits : Limits)
+    → Takes itoks (AllByRecursion (IsPrinted limits)) (items_at limits)
 unfolding items_at
 items_take limits tokens x e = many_takes printed_toks (IsPrinted limits) is_name (any_number (printed_at limits)) (λ i ys y wanted found. printed_takes limits ys y found) 0 tokens x e
 
-printed_begins : (limits : Limits) (p : Printed) (rest : List TokenValue) → IsPrinted limits p → next_passes is_name (printed_toks p ++ rest) ≡ true
+printed_begins : (limits : Limits) (p : Printed) (rest : List TokenValue) → IsPrinted limits p
+    → next_passes is_name (printed_toks p ++ rest) ≡ true
 printed_begins limits p rest is = rw is.name refl
 
-items_again : (limits : Limits) (ps : List Printed) → AllByRecursion (IsPrinted limits) ps → items_at limits (itoks ps) ≡ Ok (ps, [])
+items_again : (limits : Limits) (ps : List Printed) → AllByRecursion (IsPrinted limits) ps
+    → items_at limits (itoks ps) ≡ Ok (ps, [])
 unfolding items_at
 items_again limits ps are =
     ap (items_at limits) (sym (append-nil (itoks ps)))
     ∙ many_again Always printed_toks (IsPrinted limits) is_name (any_number (printed_at limits)) (printed_shrink limits) (length ps) (λ i p ts lt it e. printed_again limits p ts it) (λ p ts it. printed_begins limits p ts it) (λ p ts. tt) 0 ps [] (omega arith) are tt refl
 
 -- items of the grammar within the limits are what their tokens are read as
-pub items_of_toks : (limits : Limits) (ps : List Printed) → AllByRecursion (IsPrinted limits) ps → items_of limits (itoks ps) ≡ Ok ps
+pub items_of_toks : (limits : Limits) (ps : List Printed) → AllByRecursion (IsPrinted limits) ps
+    → items_of limits (itoks ps) ≡ Ok ps
 unfolding items_of ended
 items_of_toks limits ps are = rw (items_again limits ps are) refl

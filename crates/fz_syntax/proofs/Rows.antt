@@ -1,4 +1,5 @@
--- The definitions, computed on worked texts. Each row gives the tokens of a text and the tree that stands for it.
+-- The definitions, computed on worked texts. Each row gives the tokens of a text and the tree that
+-- stands for it.
 use Rattle.std.proofs.Common.{◌≡◌, pos, true, false, List, [], ◌∷◌, Some, None, Ok, Err, refl}
 use Rattle.std.specs.Prelude.{codes}
 use Rattle.fz_lex.specs.declared.token.Mark.TheVariants.{OpenParen, CloseParen, OpenBracket, CloseBracket, OpenBrace, CloseBrace, Comma, Semicolon, Colon, ColonColon, DotDot}
@@ -45,7 +46,10 @@ restart_is = refl
 s_param : Param
 s_param = record { array = Some (None ∷ []); is_var = true; base = SetBase (Some (Range (pos 1) (pos 5))); name = codes "s" }
 
-s_is : param_toks s_param ≡ Word (codes "array") ∷ Marked OpenBracket ∷ Word (codes "int") ∷ Marked CloseBracket ∷ Word (codes "of") ∷ Word (codes "var") ∷ Word (codes "set") ∷ Word (codes "of") ∷ Whole (pos 1) ∷ Marked DotDot ∷ Whole (pos 5) ∷ Marked Colon ∷ Word (codes "s") ∷ []
+s_is : param_toks s_param ≡ Word (codes "array") ∷ Marked OpenBracket ∷ Word (codes "int")
+    ∷ Marked CloseBracket ∷ Word (codes "of") ∷ Word (codes "var") ∷ Word (codes "set")
+    ∷ Word (codes "of") ∷ Whole (pos 1) ∷ Marked DotDot ∷ Whole (pos 5) ∷ Marked Colon
+    ∷ Word (codes "s") ∷ []
 unfolding s_param
 s_is = refl
 
@@ -71,7 +75,8 @@ unfolding restart restart_tokens solve_at word_at name_at mark_at notes_at separ
 restart_read = refl
 
 -- `constraint p(1.5);` is refused at the float
-float_refused : constraint_at the_limits (Word (codes "constraint") ∷ Word (codes "p") ∷ Marked OpenParen ∷ FloatText (codes "1.5") ∷ Marked CloseParen ∷ Marked Semicolon ∷ [])
+float_refused : constraint_at the_limits (Word (codes "constraint") ∷ Word (codes "p")
+    ∷ Marked OpenParen ∷ FloatText (codes "1.5") ∷ Marked CloseParen ∷ Marked Semicolon ∷ [])
     ≡ Err (record { kind = Float; left = FloatText (codes "1.5") ∷ Marked CloseParen ∷ Marked Semicolon ∷ [] })
 unfolding constraint_at word_at name_at mark_at list_at separated_at expr_at basic_at literal_at
 float_refused = refl
@@ -82,13 +87,15 @@ unfolding solve_at word_at mark_at notes_at many_at many_upto goal_at
 end_refused = refl
 
 -- `array [1..1048577] of int: a = [];` has a length past the limit
-length_refused : decl_at the_limits (Word (codes "array") ∷ Marked OpenBracket ∷ Whole (pos 1) ∷ Marked DotDot ∷ Whole (pos 1048577) ∷ Marked CloseBracket ∷ [])
+length_refused : decl_at the_limits (Word (codes "array") ∷ Marked OpenBracket ∷ Whole (pos 1)
+    ∷ Marked DotDot ∷ Whole (pos 1048577) ∷ Marked CloseBracket ∷ [])
     ≡ Err (record { kind = TooMany; left = Whole (pos 1048577) ∷ Marked CloseBracket ∷ [] })
 unfolding decl_at prefix_at array_at index_at one_at size_at mark_at
 length_refused = refl
 
 -- `a(a(a))` has three levels: with two the third name is refused
-deep_refused : note_at the_limits 2 (Word (codes "a") ∷ Marked OpenParen ∷ Word (codes "a") ∷ Marked OpenParen ∷ Word (codes "a") ∷ Marked CloseParen ∷ Marked CloseParen ∷ [])
+deep_refused : note_at the_limits 2 (Word (codes "a") ∷ Marked OpenParen ∷ Word (codes "a")
+    ∷ Marked OpenParen ∷ Word (codes "a") ∷ Marked CloseParen ∷ Marked CloseParen ∷ [])
     ≡ Err (record { kind = TooDeep; left = Word (codes "a") ∷ Marked CloseParen ∷ Marked CloseParen ∷ [] })
 unfolding note_at name_at note_args_at note_arg_at note_basic_at separated_at many_at many_upto
 deep_refused = refl

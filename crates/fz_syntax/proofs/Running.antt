@@ -19,32 +19,43 @@ pub record Continues {A : Type 0} (m : Mark) (part : ℕ → Reader A) (front : 
   pub so_far : with_front front (many_at (is_mark m) (after_token part) (length front) tokens) ≡ all
 
 -- a list that grew by one
-pub grown : {A B : Type 0} (view : A → B) (items front : List A) (x : A) → items ≡ front ++ x ∷ [] → map view items ≡ map view front ++ view x ∷ []
+pub grown : {A B : Type 0} (view : A → B) (items front : List A) (x : A) → items ≡ front ++ x ∷ []
+    → map view items ≡ map view front ++ view x ∷ []
 grown view items front x e = ap (map view) e ∙ map_push view front x
 
-pub separated_init : {A : Type 0} (element : ℕ → Reader A) (tokens : List TokenValue) (x : A) (rest : List TokenValue) (made items : List A) → made ≡ [] → items ≡ made ++ x ∷ [] → element 0 tokens ≡ Ok (x, rest)
+pub separated_init : {A : Type 0} (element : ℕ → Reader A) (tokens : List TokenValue) (x : A)
+    (rest : List TokenValue) (made items : List A) → made ≡ [] → items ≡ made ++ x ∷ []
+    → element 0 tokens ≡ Ok (x, rest)
     → Continues Comma element items rest (separated_at element tokens)
 separated_init {A} element tokens x rest made items empty one found =
     let only : items ≡ x ∷ [] = one ∙ ap (λ (xs : List A). xs ++ x ∷ []) empty in
     subst (λ (xs : List A). Continues Comma element xs rest (separated_at element tokens)) (sym only) (record { so_far = separated_starts element tokens x rest found })
 
-pub keeps_on : {A : Type 0} (m : Mark) (part : ℕ → Reader A) → Shrinks part → (front items : List A) (before after : List TokenValue) (x : A) (rest : List TokenValue) (all : Read (List A)) → (i : ℕ) → i ≡ length front → items ≡ front ++ x ∷ [] → (b : Bool) → b ≡ true → b ≡ next_is m before → Taken m before after
+pub keeps_on : {A : Type 0} (m : Mark) (part : ℕ → Reader A) → Shrinks part
+    → (front items : List A) (before after : List TokenValue) (x : A) (rest : List TokenValue)
+    (all : Read (List A)) → (i : ℕ) → i ≡ length front → items ≡ front ++ x ∷ [] → (b : Bool)
+    → b ≡ true → b ≡ next_is m before → Taken m before after
     → part i after ≡ Ok (x, rest) → Continues m part front before all → Continues m part items rest all
 keeps_on {A} m part shrinks front items before after x rest all i at grew b wanted tested taken found c =
     let one : length (front ++ x ∷ []) ≡ length front + 1 = omega (arith, length-append front (x ∷ [])) in
     let step = marked_step m part shrinks front (length front) before after x rest all (sym tested ∙ wanted) taken (ap (λ j. part j after) (sym at) ∙ found) c.so_far in
     subst (λ (xs : List A). Continues m part xs rest all) (sym grew) (record { so_far = subst (λ (n : ℕ). with_front (front ++ x ∷ []) (many_at (is_mark m) (after_token part) n rest) ≡ all) (sym one) step })
 
-pub stops : {A : Type 0} (e : Refusal) (m : Mark) (part : ℕ → Reader A) (front : List A) (before after left : List TokenValue) (all : Read (List A)) (i : ℕ) → i ≡ length front → (b : Bool) → b ≡ true → b ≡ next_is m before → Taken m before after
+pub stops : {A : Type 0} (e : Refusal) (m : Mark) (part : ℕ → Reader A) (front : List A)
+    (before after left : List TokenValue) (all : Read (List A)) (i : ℕ) → i ≡ length front
+    → (b : Bool) → b ≡ true → b ≡ next_is m before → Taken m before after
     → Continues m part front before all → Fails e (part i after) left → Fails e all left
 stops e m part front before after left all i at b wanted tested taken c h =
     marked_fails e m part front (length front) before after left all (sym tested ∙ wanted) taken c.so_far (subst (λ (j : ℕ). Fails e (part j after) left) at h)
 
-pub is_whole_list : {A : Type 0} (m : Mark) (part : ℕ → Reader A) (front : List A) (before after : List TokenValue) (all : Read (List A)) (b : Bool) → b ≡ false → b ≡ next_is m before → Taken m before after
+pub is_whole_list : {A : Type 0} (m : Mark) (part : ℕ → Reader A) (front : List A)
+    (before after : List TokenValue) (all : Read (List A)) (b : Bool) → b ≡ false
+    → b ≡ next_is m before → Taken m before after
     → Continues m part front before all → all ≡ Ok (front, after)
 is_whole_list m part front before after all b wanted tested taken c = marked_ends m part front (length front) before after all (sym tested ∙ wanted) taken c.so_far
 
--- The parts so far are all but those from here on: the mark was taken behind which the next one stands.
+-- The parts so far are all but those from here on: the mark was taken behind which the next one
+-- stands.
 pub record Awaits {A : Type 0} (m : Mark) (part : ℕ → Reader A) (front : List A) (tokens : List TokenValue) (all : Read (List A)) : Type 0 where
   pub before : List TokenValue
   pub marked : next_is m before ≡ true
@@ -52,34 +63,42 @@ pub record Awaits {A : Type 0} (m : Mark) (part : ℕ → Reader A) (front : Lis
   pub so_far : Continues m part front before all
 
 -- the mark is taken
-pub awaits_first : {A : Type 0} (m : Mark) (part : ℕ → Reader A) (front : List A) (before after : List TokenValue) (all : Read (List A)) (b : Bool) → b ≡ true → b ≡ next_is m before → Taken m before after
+pub awaits_first : {A : Type 0} (m : Mark) (part : ℕ → Reader A) (front : List A)
+    (before after : List TokenValue) (all : Read (List A)) (b : Bool) → b ≡ true
+    → b ≡ next_is m before → Taken m before after
     → Continues m part front before all → Awaits m part front after all
 awaits_first m part front before after all b wanted tested taken c = record { before = before; marked = sym tested ∙ wanted; taken = taken; so_far = c }
 
 -- the part is read
-pub awaits_part : {A : Type 0} (m : Mark) (part : ℕ → Reader A) → Shrinks part → (front items : List A) (after : List TokenValue) (x : A) (rest : List TokenValue) (all : Read (List A)) → (i : ℕ) → i ≡ length front → items ≡ front ++ x ∷ []
+pub awaits_part : {A : Type 0} (m : Mark) (part : ℕ → Reader A) → Shrinks part
+    → (front items : List A) (after : List TokenValue) (x : A) (rest : List TokenValue)
+    (all : Read (List A)) → (i : ℕ) → i ≡ length front → items ≡ front ++ x ∷ []
     → part i after ≡ Ok (x, rest) → Awaits m part front after all → Continues m part items rest all
 awaits_part m part shrinks front items after x rest all i at grew found a = keeps_on m part shrinks front items a.before after x rest all i at grew true refl (sym a.marked) a.taken found a.so_far
 
-pub awaits_fails : {A : Type 0} (e : Refusal) (m : Mark) (part : ℕ → Reader A) (front : List A) (after left : List TokenValue) (all : Read (List A)) (i : ℕ) → i ≡ length front
+pub awaits_fails : {A : Type 0} (e : Refusal) (m : Mark) (part : ℕ → Reader A) (front : List A)
+    (after left : List TokenValue) (all : Read (List A)) (i : ℕ) → i ≡ length front
     → Awaits m part front after all → Fails e (part i after) left → Fails e all left
 awaits_fails e m part front after left all i at a h = stops e m part front a.before after left all i at true refl (sym a.marked) a.taken a.so_far h
 
--- The parts so far, and those that are still read, of which the next is an element: none is there yet, or the comma was
--- taken behind which the next one stands.
+-- The parts so far, and those that are still read, of which the next is an element: none is there
+-- yet, or the comma was taken behind which the next one stands.
 pub data Wants {A : Type 0} (element : ℕ → Reader A) (front : List A) (tokens : List TokenValue) (all : Read (List A)) : Type 0 where
   wants_first : front ≡ [] → separated_at element tokens ≡ all → Wants element front tokens all
   wants_next : Awaits Comma element front tokens all → Wants element front tokens all
 
 -- the element is read
-pub wants_part : {A : Type 0} (element : ℕ → Reader A) → Shrinks element → (front items : List A) (after : List TokenValue) (x : A) (rest : List TokenValue) (all : Read (List A)) → (i : ℕ) → i ≡ length front → items ≡ front ++ x ∷ []
+pub wants_part : {A : Type 0} (element : ℕ → Reader A) → Shrinks element
+    → (front items : List A) (after : List TokenValue) (x : A) (rest : List TokenValue)
+    (all : Read (List A)) → (i : ℕ) → i ≡ length front → items ≡ front ++ x ∷ []
     → element i after ≡ Ok (x, rest) → Wants element front after all → Continues Comma element items rest all
 wants_part {A} element shrinks front items after x rest all i at grew found (wants_first none begins) =
     let first : element 0 after ≡ Ok (x, rest) = ap (λ n. element n after) (sym (ap (λ (xs : List A). length xs) none) ∙ sym at) ∙ found in
     subst (λ r. Continues Comma element items rest r) begins (separated_init element after x rest front items none grew first)
 wants_part element shrinks front items after x rest all i at grew found (wants_next a) = awaits_part Comma element shrinks front items after x rest all i at grew found a
 
-pub wants_fails : {A : Type 0} (e : Refusal) (element : ℕ → Reader A) (front : List A) (after left : List TokenValue) (all : Read (List A)) (i : ℕ) → i ≡ length front
+pub wants_fails : {A : Type 0} (e : Refusal) (element : ℕ → Reader A) (front : List A)
+    (after left : List TokenValue) (all : Read (List A)) (i : ℕ) → i ≡ length front
     → Wants element front after all → Fails e (element i after) left → Fails e all left
 wants_fails {A} e element front after left all i at (wants_first none begins) h =
     let zeroth : i ≡ 0 = at ∙ ap (λ (xs : List A). length xs) none in
@@ -87,7 +106,10 @@ wants_fails {A} e element front after left all i at (wants_first none begins) h 
 wants_fails e element front after left all i at (wants_next a) h = awaits_fails e Comma element front after left all i at a h
 
 -- the element is read, and the comma behind it is taken
-pub wants_more : {A : Type 0} (element : ℕ → Reader A) → Shrinks element → (front items : List A) (after : List TokenValue) (x : A) (rest : List TokenValue) (all : Read (List A)) → (i : ℕ) → i ≡ length front → items ≡ front ++ x ∷ [] → next_is Comma rest ≡ true
+pub wants_more : {A : Type 0} (element : ℕ → Reader A) → Shrinks element
+    → (front items : List A) (after : List TokenValue) (x : A) (rest : List TokenValue)
+    (all : Read (List A)) → (i : ℕ) → i ≡ length front → items ≡ front ++ x ∷ []
+    → next_is Comma rest ≡ true
     → element i after ≡ Ok (x, rest) → Wants element front after all → Wants element items (drop 1 rest) all
 wants_more element shrinks front items after x rest all i at grew marked found w =
     wants_next (record { before = rest; marked = marked; taken = sym (ap (λ b. cond b (drop 1 rest) rest) marked); so_far = wants_part element shrinks front items after x rest all i at grew found w })
@@ -101,28 +123,39 @@ front_of_none (Ok x) = refl
 front_of_none (Err f) = refl
 
 -- no annotation was read yet
-pub notes_begin : (limits : Limits) (tokens : List TokenValue) (front : List Note) → front ≡ [] → Continues ColonColon (any_number (note_at limits limits.depth)) front tokens (notes_at limits tokens)
+pub notes_begin : (limits : Limits) (tokens : List TokenValue) (front : List Note) → front ≡ []
+    → Continues ColonColon (any_number (note_at limits limits.depth)) front tokens
+    (notes_at limits tokens)
 unfolding notes_at
 notes_begin limits tokens front empty =
     subst (λ (xs : List Note). Continues ColonColon (any_number (note_at limits limits.depth)) xs tokens (notes_at limits tokens)) (sym empty)
     (record { so_far = front_of_none (many_at (is_mark ColonColon) (after_token (any_number (note_at limits limits.depth))) 0 tokens) })
 
-pub gathers_begin : {A : Type 0} (more : TokenValue → Bool) (item : Reader A) (tokens : List TokenValue) (front : List A) → front ≡ [] → Gathers more item front tokens (many_at more (any_number item) 0 tokens)
+pub gathers_begin : {A : Type 0} (more : TokenValue → Bool) (item : Reader A)
+    (tokens : List TokenValue) (front : List A) → front ≡ []
+    → Gathers more item front tokens (many_at more (any_number item) 0 tokens)
 gathers_begin {A} more item tokens front empty =
     subst (λ (xs : List A). Gathers more item xs tokens (many_at more (any_number item) 0 tokens)) (sym empty) (record { so_far = front_of_none (many_at more (any_number item) 0 tokens) })
 
-pub gathers_on : {A : Type 0} (more : TokenValue → Bool) (item : Reader A) → Shrinks (any_number item) → (front items : List A) (tokens : List TokenValue) (x : A) (rest : List TokenValue) (all : Read (List A)) → items ≡ front ++ x ∷ [] → (b : Bool) → b ≡ true → b ≡ next_passes more tokens
+pub gathers_on : {A : Type 0} (more : TokenValue → Bool) (item : Reader A)
+    → Shrinks (any_number item) → (front items : List A) (tokens : List TokenValue) (x : A)
+    (rest : List TokenValue) (all : Read (List A)) → items ≡ front ++ x ∷ [] → (b : Bool) → b ≡ true
+    → b ≡ next_passes more tokens
     → item tokens ≡ Ok (x, rest) → Gathers more item front tokens all → Gathers more item items rest all
 gathers_on {A} more item shrinks front items tokens x rest all grew b wanted tested found g =
     let one : length (front ++ x ∷ []) ≡ length front + 1 = omega (arith, length-append front (x ∷ [])) in
     let step = loop_step more (any_number item) shrinks front (length front) tokens x rest all (sym tested ∙ wanted) found g.so_far in
     subst (λ (xs : List A). Gathers more item xs rest all) (sym grew) (record { so_far = subst (λ (n : ℕ). with_front (front ++ x ∷ []) (many_at more (any_number item) n rest) ≡ all) (sym one) step })
 
-pub gathers_stop : {A : Type 0} (e : Refusal) (more : TokenValue → Bool) (item : Reader A) (front : List A) (tokens left : List TokenValue) (all : Read (List A)) (b : Bool) → b ≡ true → b ≡ next_passes more tokens
+pub gathers_stop : {A : Type 0} (e : Refusal) (more : TokenValue → Bool) (item : Reader A)
+    (front : List A) (tokens left : List TokenValue) (all : Read (List A)) (b : Bool) → b ≡ true
+    → b ≡ next_passes more tokens
     → Gathers more item front tokens all → Fails e (item tokens) left → Fails e all left
 gathers_stop e more item front tokens left all b wanted tested g h =
     fails_like e (item tokens) all left (λ f found. loop_fails more (any_number item) front (length front) tokens f all (sym tested ∙ wanted) found g.so_far) h
 
-pub gathers_all : {A : Type 0} (more : TokenValue → Bool) (item : Reader A) (front : List A) (tokens : List TokenValue) (all : Read (List A)) (b : Bool) → b ≡ false → b ≡ next_passes more tokens
+pub gathers_all : {A : Type 0} (more : TokenValue → Bool) (item : Reader A) (front : List A)
+    (tokens : List TokenValue) (all : Read (List A)) (b : Bool) → b ≡ false
+    → b ≡ next_passes more tokens
     → Gathers more item front tokens all → all ≡ Ok (front, tokens)
 gathers_all more item front tokens all b wanted tested g = loop_ends more (any_number item) front (length front) tokens all (sym tested ∙ wanted) g.so_far

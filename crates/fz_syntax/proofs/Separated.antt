@@ -1,4 +1,5 @@
--- The steps of a loop over elements with commas between them, and of one over parts that each begin with a mark.
+-- The steps of a loop over elements with commas between them, and of one over parts that each begin
+-- with a mark.
 use Rattle.std.proofs.Common.{◌≡◌, ℕ, ◌+◌, true, false, cond, List, [], ◌∷◌, ◌++◌, drop, Ok, Err, refl, sym, ap, ◌∙◌, arith, length-drop}
 use Rattle.fz_syntax.specs.declared.parser.refusal.Refusal.{Refusal}
 use Rattle.fz_syntax.specs.declared.parser.refusal.Refusal.TheVariants as refusals
@@ -14,7 +15,8 @@ abbrev fault : FaultKind → List TokenValue → Fault
 fault kind left = record { kind = kind; left = left }
 
 -- what fails at its first step fails
-pub fails_bind : {A B : Type 0} (e : Refusal) (read : Read A) (f : A × List TokenValue → Read B) (left : List TokenValue) → Fails e read left → Fails e (read >>= f) left
+pub fails_bind : {A B : Type 0} (e : Refusal) (read : Read A) (f : A × List TokenValue → Read B)
+    (left : List TokenValue) → Fails e read left → Fails e (read >>= f) left
 fails_bind refusals.Memory read f left h = tt
 fails_bind refusals.Syntax read f left h = ap (λ r. r >>= f) h
 fails_bind refusals.Float read f left h = ap (λ r. r >>= f) h
@@ -22,14 +24,17 @@ fails_bind refusals.TooDeep read f left h = ap (λ r. r >>= f) h
 fails_bind refusals.TooMany read f left h = ap (λ r. r >>= f) h
 
 -- two readings that fail alike
-pub fails_like : {A B : Type 0} (e : Refusal) (read : Read A) (all : Read B) (left : List TokenValue) → ((f : Fault) → read ≡ Err f → all ≡ Err f) → Fails e read left → Fails e all left
+pub fails_like : {A B : Type 0} (e : Refusal) (read : Read A) (all : Read B)
+    (left : List TokenValue) → ((f : Fault) → read ≡ Err f → all ≡ Err f) → Fails e read left
+    → Fails e all left
 fails_like refusals.Memory read all left like h = tt
 fails_like refusals.Syntax read all left like h = like (fault Syntax left) h
 fails_like refusals.Float read all left like h = like (fault Float left) h
 fails_like refusals.TooDeep read all left like h = like (fault TooDeep left) h
 fails_like refusals.TooMany read all left like h = like (fault TooMany left) h
 
-pub Shrinks-after_token : {A : Type 0} (part : ℕ → Reader A) → Shrinks part → Shrinks (after_token part)
+pub Shrinks-after_token : {A : Type 0} (part : ℕ → Reader A) → Shrinks part
+    → Shrinks (after_token part)
 Shrinks-after_token part shrinks i tokens x rest found = let less = shrinks i (drop 1 tokens) x rest found in omega (arith, length-drop 1 tokens)
 
 -- a loop's tokens before and after it took the mark
@@ -37,29 +42,39 @@ abbrev pub Taken : Mark → List TokenValue → List TokenValue → Type 0
 Taken m before after = after ≡ cond (next_is m before) (drop 1 before) before
 
 -- the first element was read
-pub separated_starts : {A : Type 0} (element : ℕ → Reader A) (tokens : List TokenValue) (x : A) (rest : List TokenValue) → element 0 tokens ≡ Ok (x, rest)
+pub separated_starts : {A : Type 0} (element : ℕ → Reader A) (tokens : List TokenValue) (x : A)
+    (rest : List TokenValue) → element 0 tokens ≡ Ok (x, rest)
     → with_front (x ∷ []) (many_at (is_mark Comma) (after_token element) 1 rest) ≡ separated_at element tokens
 unfolding separated_at
 separated_starts element tokens x rest found = rw found refl
 
-pub separated_fails : {A : Type 0} (e : Refusal) (element : ℕ → Reader A) (tokens left : List TokenValue) → Fails e (element 0 tokens) left → Fails e (separated_at element tokens) left
+pub separated_fails : {A : Type 0} (e : Refusal) (element : ℕ → Reader A)
+    (tokens left : List TokenValue) → Fails e (element 0 tokens) left
+    → Fails e (separated_at element tokens) left
 unfolding separated_at
 separated_fails e element tokens left h = fails_bind e (element 0 tokens) _ left h
 
 -- a mark was taken, and the part behind it
-pub marked_step : {A : Type 0} (m : Mark) (part : ℕ → Reader A) → Shrinks part → (front : List A) (i : ℕ) (before after : List TokenValue) (x : A) (rest : List TokenValue) (all : Read (List A)) → next_is m before ≡ true → Taken m before after → part i after ≡ Ok (x, rest)
+pub marked_step : {A : Type 0} (m : Mark) (part : ℕ → Reader A) → Shrinks part
+    → (front : List A) (i : ℕ) (before after : List TokenValue) (x : A) (rest : List TokenValue)
+    (all : Read (List A)) → next_is m before ≡ true → Taken m before after
+    → part i after ≡ Ok (x, rest)
     → with_front front (many_at (is_mark m) (after_token part) i before) ≡ all → with_front (front ++ x ∷ []) (many_at (is_mark m) (after_token part) (i + 1) rest) ≡ all
 marked_step m part shrinks front i before after x rest all wanted taken found so_far =
     let behind : after ≡ drop 1 before = taken ∙ ap (λ b. cond b (drop 1 before) before) wanted in
     loop_step (is_mark m) (after_token part) (Shrinks-after_token part shrinks) front i before x rest all wanted (ap (part i) (sym behind) ∙ found) so_far
 
-pub marked_fails : {A : Type 0} (e : Refusal) (m : Mark) (part : ℕ → Reader A) (front : List A) (i : ℕ) (before after left : List TokenValue) (all : Read (List A)) → next_is m before ≡ true → Taken m before after
+pub marked_fails : {A : Type 0} (e : Refusal) (m : Mark) (part : ℕ → Reader A) (front : List A)
+    (i : ℕ) (before after left : List TokenValue) (all : Read (List A)) → next_is m before ≡ true
+    → Taken m before after
     → with_front front (many_at (is_mark m) (after_token part) i before) ≡ all → Fails e (part i after) left → Fails e all left
 marked_fails e m part front i before after left all wanted taken so_far h =
     let behind : after ≡ drop 1 before = taken ∙ ap (λ b. cond b (drop 1 before) before) wanted in
     fails_like e (part i after) all left (λ f found. loop_fails (is_mark m) (after_token part) front i before f all wanted (ap (part i) (sym behind) ∙ found) so_far) h
 
-pub marked_ends : {A : Type 0} (m : Mark) (part : ℕ → Reader A) (front : List A) (i : ℕ) (before after : List TokenValue) (all : Read (List A)) → next_is m before ≡ false → Taken m before after
+pub marked_ends : {A : Type 0} (m : Mark) (part : ℕ → Reader A) (front : List A) (i : ℕ)
+    (before after : List TokenValue) (all : Read (List A)) → next_is m before ≡ false
+    → Taken m before after
     → with_front front (many_at (is_mark m) (after_token part) i before) ≡ all → all ≡ Ok (front, after)
 marked_ends m part front i before after all wanted taken so_far =
     let behind : after ≡ before = taken ∙ ap (λ b. cond b (drop 1 before) before) wanted in

@@ -8,11 +8,14 @@ use Rattle.fz_syntax.proofs.Lists.{Shrinks, ok_is}
 abbrev pub Shortens : {A : Type 0} → Reader A → Type 0
 Shortens {A} read = (tokens : List TokenValue) (x : A) (rest : List TokenValue) → read tokens ≡ Ok (x, rest) → length rest < length tokens
 
-limit_shortens : {A : Type 0} (b : Bool) (element : Reader A) → Shortens element → (tokens : List TokenValue) (x : A) (rest : List TokenValue) → cond b (too_many tokens) (element tokens) ≡ Ok (x, rest) → length rest < length tokens
+limit_shortens : {A : Type 0} (b : Bool) (element : Reader A) → Shortens element
+    → (tokens : List TokenValue) (x : A) (rest : List TokenValue)
+    → cond b (too_many tokens) (element tokens) ≡ Ok (x, rest) → length rest < length tokens
 limit_shortens true element h tokens x rest e = absurd cc
 limit_shortens false element h tokens x rest e = h tokens x rest e
 
-pub at_most_shortens : {A : Type 0} (limit : ℕ) (begins : TokenValue → Bool) (element : Reader A) → Shortens element → Shrinks (at_most limit begins element)
+pub at_most_shortens : {A : Type 0} (limit : ℕ) (begins : TokenValue → Bool) (element : Reader A)
+    → Shortens element → Shrinks (at_most limit begins element)
 at_most_shortens limit begins element h i tokens x rest e = limit_shortens (nat_le limit i && next_passes begins tokens) element h tokens x rest e
 
 pub whole_shortens : Shortens whole_at

@@ -18,7 +18,9 @@ use Rattle.fz_syntax.proofs.ItemAgain.{bounds_no_word, base_again, plain_again, 
 
 -- ---- the part before a type
 
-array_again : {A : Type 0} (toks : A → List TokenValue) (index : Reader A) (x : A) → ((rest : List TokenValue) → index (toks x ++ rest) ≡ Ok (x, rest)) → (rest : List TokenValue) → array_at index ((in_brackets (toks x) ++ word (codes "of")) ++ rest) ≡ Ok (x, rest)
+array_again : {A : Type 0} (toks : A → List TokenValue) (index : Reader A) (x : A)
+    → ((rest : List TokenValue) → index (toks x ++ rest) ≡ Ok (x, rest)) → (rest : List TokenValue)
+    → array_at index ((in_brackets (toks x) ++ word (codes "of")) ++ rest) ≡ Ok (x, rest)
 unfolding array_at word_at
 array_again toks index x again rest =
     let I : List TokenValue = toks x in
@@ -26,7 +28,9 @@ array_again toks index x again rest =
     rw (mark_again OpenBracket (((I ++ mark CloseBracket) ++ word (codes "of")) ++ rest), regrouped, again (Marked CloseBracket ∷ (Word (codes "of") ∷ rest)), mark_again CloseBracket (Word (codes "of") ∷ rest)) refl
 
 -- the same where the index sets end at the bracket
-array_of_again : {A : Type 0} (toks : A → List TokenValue) (index : Reader A) (x : A) → ((rest : List TokenValue) → index (toks x ++ (Marked CloseBracket ∷ rest)) ≡ Ok (x, Marked CloseBracket ∷ rest)) → (rest : List TokenValue)
+array_of_again : {A : Type 0} (toks : A → List TokenValue) (index : Reader A) (x : A)
+    → ((rest : List TokenValue) → index (toks x ++ (Marked CloseBracket ∷ rest))
+    ≡ Ok (x, Marked CloseBracket ∷ rest)) → (rest : List TokenValue)
     → array_at index ((in_brackets (toks x) ++ word (codes "of")) ++ rest) ≡ Ok (x, rest)
 unfolding array_at word_at
 array_of_again toks index x again rest =
@@ -34,47 +38,59 @@ array_of_again toks index x again rest =
     let regrouped : ((I ++ mark CloseBracket) ++ word (codes "of")) ++ rest ≡ I ++ (Marked CloseBracket ∷ (Word (codes "of") ∷ rest)) = append_assoc (I ++ mark CloseBracket) (word (codes "of")) rest ∙ append_assoc I (mark CloseBracket) (Word (codes "of") ∷ rest) in
     rw (mark_again OpenBracket (((I ++ mark CloseBracket) ++ word (codes "of")) ++ rest), regrouped, again (Word (codes "of") ∷ rest), mark_again CloseBracket (Word (codes "of") ∷ rest)) refl
 
-prefix_again : (limits : Limits) (o : Option ℕ) (rest : List TokenValue) → IfSome o (λ n. n ≤ limits.size) → next_word (codes "array") rest ≡ false → prefix_at limits (prefix_toks o ++ rest) ≡ Ok (o, rest)
+prefix_again : (limits : Limits) (o : Option ℕ) (rest : List TokenValue)
+    → IfSome o (λ n. n ≤ limits.size) → next_word (codes "array") rest ≡ false
+    → prefix_at limits (prefix_toks o ++ rest) ≡ Ok (o, rest)
 unfolding prefix_at
 prefix_again limits None rest is other = rw other refl
 prefix_again limits (Some n) rest is other = rw (array_again index_toks (index_at limits) n (λ ts. index_again limits n ts is) rest) refl
 
-any_index_again : (limits : Limits) (o : Option ℕ) (rest : List TokenValue) → IsAnyIndex limits o → any_index_at limits (any_index_toks o ++ rest) ≡ Ok (o, rest)
+any_index_again : (limits : Limits) (o : Option ℕ) (rest : List TokenValue) → IsAnyIndex limits o
+    → any_index_at limits (any_index_toks o ++ rest) ≡ Ok (o, rest)
 unfolding any_index_at
 any_index_again limits None rest is = refl
 any_index_again limits (Some n) rest is = ap (λ r. r >>= λ k. Ok (Some k.0, k.1)) (index_again limits n rest is)
 
-indexes_again : (limits : Limits) (x : Option ℕ) (xs : List (Option ℕ)) (rest : List TokenValue) → IsParamArray limits (Some (x ∷ xs)) → indexes_at limits (separated any_index_toks (x ∷ xs) ++ (Marked CloseBracket ∷ rest)) ≡ Ok (x ∷ xs, Marked CloseBracket ∷ rest)
+indexes_again : (limits : Limits) (x : Option ℕ) (xs : List (Option ℕ)) (rest : List TokenValue)
+    → IsParamArray limits (Some (x ∷ xs)) → indexes_at limits
+    (separated any_index_toks (x ∷ xs) ++ (Marked CloseBracket ∷ rest))
+    ≡ Ok (x ∷ xs, Marked CloseBracket ∷ rest)
 unfolding indexes_at
 indexes_again limits x xs rest is =
     separated_again (λ ts. Unit {0}) any_index_toks (IsAnyIndex limits) (listed_index limits) (indexes_shrink limits) most_indexes
     (λ i o ts lt fits ends. at_most_again most_indexes begins_index (any_index_at limits) i (any_index_toks o ++ ts) lt ∙ any_index_again limits o ts fits) (λ ts. tt) x xs (Marked CloseBracket ∷ rest) (omega (arith, is.1)) is.2.0 is.2.1 tt refl
 
-param_prefix_again : (limits : Limits) (o : Option (List (Option ℕ))) (rest : List TokenValue) → IsParamArray limits o → next_word (codes "array") rest ≡ false → param_prefix_at limits (param_prefix_toks o ++ rest) ≡ Ok (o, rest)
+param_prefix_again : (limits : Limits) (o : Option (List (Option ℕ))) (rest : List TokenValue)
+    → IsParamArray limits o → next_word (codes "array") rest ≡ false
+    → param_prefix_at limits (param_prefix_toks o ++ rest) ≡ Ok (o, rest)
 unfolding param_prefix_at
 param_prefix_again limits None rest is other = rw other refl
 param_prefix_again limits (Some []) rest is other = absurd (omega (arith, is.0))
 param_prefix_again limits (Some (x ∷ xs)) rest is other =
     ap (λ r. r >>= λ a. Ok (Some a.0, a.1)) (array_of_again (separated any_index_toks) (indexes_at limits) (x ∷ xs) (λ ts. indexes_again limits x xs ts is) rest)
 
-var_again : (v : Bool) (rest : List TokenValue) → next_word (codes "var") rest ≡ false → var_at (var_toks v ++ rest) ≡ Ok (v, rest)
+var_again : (v : Bool) (rest : List TokenValue) → next_word (codes "var") rest ≡ false
+    → var_at (var_toks v ++ rest) ≡ Ok (v, rest)
 unfolding var_at
 var_again true rest other = refl
 var_again false rest other = rw other refl
 
-base_no_var : (limits : Limits) (b : Base) (rest : List TokenValue) → IsBase limits b → next_word (codes "var") (base_toks b ++ rest) ≡ false
+base_no_var : (limits : Limits) (b : Base) (rest : List TokenValue) → IsBase limits b
+    → next_word (codes "var") (base_toks b ++ rest) ≡ false
 base_no_var limits BoolBase rest is = refl
 base_no_var limits (IntBase None) rest is = refl
 base_no_var limits (IntBase (Some l)) rest is = bounds_no_word limits (codes "var") l rest is
 base_no_var limits (SetBase o) rest is = refl
 
-base_no_array : (limits : Limits) (b : Base) (rest : List TokenValue) → IsBase limits b → next_word (codes "array") (base_toks b ++ rest) ≡ false
+base_no_array : (limits : Limits) (b : Base) (rest : List TokenValue) → IsBase limits b
+    → next_word (codes "array") (base_toks b ++ rest) ≡ false
 base_no_array limits BoolBase rest is = refl
 base_no_array limits (IntBase None) rest is = refl
 base_no_array limits (IntBase (Some l)) rest is = bounds_no_word limits (codes "array") l rest is
 base_no_array limits (SetBase o) rest is = refl
 
-var_no_array : (limits : Limits) (v : Bool) (b : Base) (rest : List TokenValue) → IsBase limits b → next_word (codes "array") (var_toks v ++ (base_toks b ++ rest)) ≡ false
+var_no_array : (limits : Limits) (v : Bool) (b : Base) (rest : List TokenValue) → IsBase limits b
+    → next_word (codes "array") (var_toks v ++ (base_toks b ++ rest)) ≡ false
 var_no_array limits true b rest is = refl
 var_no_array limits false b rest is = base_no_array limits b rest is
 
@@ -89,14 +105,16 @@ base_of : (limits : Limits) (v : Bool) (b : Base) → IsBaseOf limits v b → Is
 base_of limits true b is = is
 base_of limits false b is = plain_is_base limits b is
 
-type_again : (limits : Limits) (v : Bool) (b : Base) (rest : List TokenValue) → IsBaseOf limits v b → type_at limits v (base_toks b ++ rest) ≡ Ok (b, rest)
+type_again : (limits : Limits) (v : Bool) (b : Base) (rest : List TokenValue) → IsBaseOf limits v b
+    → type_at limits v (base_toks b ++ rest) ≡ Ok (b, rest)
 unfolding type_at
 type_again limits true b rest is = base_again limits b rest is
 type_again limits false b rest is = plain_again b rest is
 
 -- ---- predicates
 
-param_again : (limits : Limits) (p : Param) (rest : List TokenValue) → IsParam limits p → param_at limits (param_toks p ++ rest) ≡ Ok (p, rest)
+param_again : (limits : Limits) (p : Param) (rest : List TokenValue) → IsParam limits p
+    → param_at limits (param_toks p ++ rest) ≡ Ok (p, rest)
 unfolding param_at
 param_again limits p rest is =
     let B : List TokenValue = base_toks p.base in
@@ -105,7 +123,8 @@ param_again limits p rest is =
     ap (param_at limits) (flat5 (param_prefix_toks p.array) V B (mark Colon) (name_toks p.name) rest)
     ∙ rw (param_prefix_again limits p.array (V ++ (B ++ Z)) is.array (var_no_array limits p.is_var p.base Z is.base), var_again p.is_var (B ++ Z) (base_no_var limits p.base Z is.base), base_again limits p.base Z is.base, mark_again Colon (Word p.name ∷ rest), name_again p.name rest is.name) refl
 
-base_no_close : (limits : Limits) (b : Base) (rest : List TokenValue) → IsBase limits b → next_is CloseParen (base_toks b ++ rest) ≡ false
+base_no_close : (limits : Limits) (b : Base) (rest : List TokenValue) → IsBase limits b
+    → next_is CloseParen (base_toks b ++ rest) ≡ false
 base_no_close limits BoolBase rest is = refl
 base_no_close limits (IntBase None) rest is = refl
 base_no_close limits (IntBase (Some (Number n))) rest is = refl
@@ -114,16 +133,20 @@ base_no_close limits (IntBase (Some (Range low high))) rest is = refl
 base_no_close limits (IntBase (Some (Braces numbers))) rest is = refl
 base_no_close limits (SetBase o) rest is = refl
 
-prefixed_no_close : (limits : Limits) (o : Option (List (Option ℕ))) (v : Bool) (b : Base) (rest : List TokenValue) → IsBase limits b → next_is CloseParen (param_prefix_toks o ++ (var_toks v ++ (base_toks b ++ rest))) ≡ false
+prefixed_no_close : (limits : Limits) (o : Option (List (Option ℕ))) (v : Bool) (b : Base)
+    (rest : List TokenValue) → IsBase limits b
+    → next_is CloseParen (param_prefix_toks o ++ (var_toks v ++ (base_toks b ++ rest))) ≡ false
 prefixed_no_close limits None true b rest is = refl
 prefixed_no_close limits None false b rest is = base_no_close limits b rest is
 prefixed_no_close limits (Some indexes) v b rest is = refl
 
-param_no_close : (limits : Limits) (p : Param) (rest : List TokenValue) → IsParam limits p → next_is CloseParen (param_toks p ++ rest) ≡ false
+param_no_close : (limits : Limits) (p : Param) (rest : List TokenValue) → IsParam limits p
+    → next_is CloseParen (param_toks p ++ rest) ≡ false
 param_no_close limits p rest is =
     ap (next_is CloseParen) (flat5 (param_prefix_toks p.array) (var_toks p.is_var) (base_toks p.base) (mark Colon) (name_toks p.name) rest) ∙ prefixed_no_close limits p.array p.is_var p.base (Marked Colon ∷ (Word p.name ∷ rest)) is.base
 
-predicate_again : (limits : Limits) (p : Predicate) (rest : List TokenValue) → IsPredicate limits p → predicate_at limits (predicate_toks p ++ rest) ≡ Ok (p, rest)
+predicate_again : (limits : Limits) (p : Predicate) (rest : List TokenValue) → IsPredicate limits p
+    → predicate_at limits (predicate_toks p ++ rest) ≡ Ok (p, rest)
 unfolding predicate_at word_at
 predicate_again limits p rest is =
     let S : List TokenValue = separated param_toks p.params ++ mark CloseParen in
@@ -134,26 +157,32 @@ predicate_again limits p rest is =
 
 -- ---- declarations
 
-literal_basic_again : (limits : Limits) (b : Basic) (rest : List TokenValue) → IsLiteralBasic limits b → next_is DotDot rest ≡ false → literal_basic_at limits (basic_toks b ++ rest) ≡ Ok (b, rest)
+literal_basic_again : (limits : Limits) (b : Basic) (rest : List TokenValue)
+    → IsLiteralBasic limits b → next_is DotDot rest ≡ false
+    → literal_basic_at limits (basic_toks b ++ rest) ≡ Ok (b, rest)
 unfolding literal_basic_at
 literal_basic_again limits (Lit l) rest is ends = rw (literal_again limits l rest is ends) refl
 literal_basic_again limits (Named name) rest is ends = absurd is
 
-basic_no_close : (b : Basic) (rest : List TokenValue) → next_is CloseBracket (basic_toks b ++ rest) ≡ false
+basic_no_close : (b : Basic) (rest : List TokenValue)
+    → next_is CloseBracket (basic_toks b ++ rest) ≡ false
 basic_no_close (Lit (Number n)) rest = refl
 basic_no_close (Lit (Truth b)) rest = refl
 basic_no_close (Lit (Range low high)) rest = refl
 basic_no_close (Lit (Braces numbers)) rest = refl
 basic_no_close (Named name) rest = refl
 
-literal_list_again : (limits : Limits) (bs : List Basic) (rest : List TokenValue) → length bs ≤ limits.elements → AllByRecursion (IsLiteralBasic limits) bs
+literal_list_again : (limits : Limits) (bs : List Basic) (rest : List TokenValue)
+    → length bs ≤ limits.elements → AllByRecursion (IsLiteralBasic limits) bs
     → list_at CloseBracket (at_most limits.elements begins_literal (literal_basic_at limits)) ((separated basic_toks bs ++ mark CloseBracket) ++ rest) ≡ Ok (bs, rest)
 literal_list_again limits bs rest fits all =
     let NoRange : List TokenValue → Type 0 = λ ts. next_is DotDot ts ≡ false in
     list_again NoRange basic_toks (IsLiteralBasic limits) CloseBracket (at_most limits.elements begins_literal (literal_basic_at limits)) (literals_shrink limits) limits.elements
     (λ i b ts lt it ends. at_most_again limits.elements begins_literal (literal_basic_at limits) i (basic_toks b ++ ts) lt ∙ literal_basic_again limits b ts it ends) (λ ts. refl) (λ ts. refl) refl refl (λ b ts it. basic_no_close b ts) bs rest fits all
 
-value_again : (limits : Limits) (v : Bool) (o : Option ℕ) (e : Expr) (rest : List TokenValue) → IsValueOf limits v o (Some e) → next_is DotDot rest ≡ false → value_at limits v o (expr_toks e ++ rest) ≡ Ok (e, rest)
+value_again : (limits : Limits) (v : Bool) (o : Option ℕ) (e : Expr) (rest : List TokenValue)
+    → IsValueOf limits v o (Some e) → next_is DotDot rest ≡ false
+    → value_at limits v o (expr_toks e ++ rest) ≡ Ok (e, rest)
 unfolding value_at
 value_again limits true None (One b) rest is ends = rw (basic_again limits b rest is ends) refl
 value_again limits true None (Several bs) rest is ends = absurd is
@@ -164,7 +193,9 @@ value_again limits true (Some n) (Several bs) rest is ends = rw (mark_again Open
 value_again limits false (Some n) (One b) rest is ends = absurd is
 value_again limits false (Some n) (Several bs) rest is ends = rw (mark_again OpenBracket ((separated basic_toks bs ++ mark CloseBracket) ++ rest), literal_list_again limits bs rest is.0 is.1) refl
 
-given_value_again : (limits : Limits) (v : Bool) (o : Option ℕ) (e : Option Expr) (rest : List TokenValue) → IsValueOf limits v o e → given_value_at limits v o (value_toks e ++ (Marked Semicolon ∷ rest)) ≡ Ok (e, Marked Semicolon ∷ rest)
+given_value_again : (limits : Limits) (v : Bool) (o : Option ℕ) (e : Option Expr)
+    (rest : List TokenValue) → IsValueOf limits v o e → given_value_at limits v o
+    (value_toks e ++ (Marked Semicolon ∷ rest)) ≡ Ok (e, Marked Semicolon ∷ rest)
 unfolding given_value_at mark_at
 given_value_again limits true None None rest is = refl
 given_value_again limits false None None rest is = absurd is
@@ -175,15 +206,18 @@ given_value_again limits false None (Some e) rest is = rw (value_again limits fa
 given_value_again limits true (Some n) (Some e) rest is = rw (value_again limits true (Some n) e (Marked Semicolon ∷ rest) is refl) refl
 given_value_again limits false (Some n) (Some e) rest is = rw (value_again limits false (Some n) e (Marked Semicolon ∷ rest) is refl) refl
 
-value_ends : (e : Option Expr) (rest : List TokenValue) → Ends (value_toks e ++ (Marked Semicolon ∷ rest))
+value_ends : (e : Option Expr) (rest : List TokenValue)
+    → Ends (value_toks e ++ (Marked Semicolon ∷ rest))
 value_ends None rest = record { no_range = refl; no_args = refl }
 value_ends (Some e) rest = record { no_range = refl; no_args = refl }
 
-value_no_note : (e : Option Expr) (rest : List TokenValue) → next_is ColonColon (value_toks e ++ (Marked Semicolon ∷ rest)) ≡ false
+value_no_note : (e : Option Expr) (rest : List TokenValue)
+    → next_is ColonColon (value_toks e ++ (Marked Semicolon ∷ rest)) ≡ false
 value_no_note None rest = refl
 value_no_note (Some e) rest = refl
 
-decl_again : (limits : Limits) (d : Decl) (rest : List TokenValue) → IsDecl limits d → decl_at limits (decl_toks d ++ rest) ≡ Ok (d, rest)
+decl_again : (limits : Limits) (d : Decl) (rest : List TokenValue) → IsDecl limits d
+    → decl_at limits (decl_toks d ++ rest) ≡ Ok (d, rest)
 unfolding decl_at
 decl_again limits d rest is =
     let V : List TokenValue = var_toks d.is_var in
@@ -207,7 +241,8 @@ decl_again limits d rest is =
 
 -- ---- which item is next
 
-begins_so : (limits : Limits) (o : Option ℕ) (v : Bool) (b : Base) (rest : List TokenValue) → IsBaseOf limits v b
+begins_so : (limits : Limits) (o : Option ℕ) (v : Bool) (b : Base) (rest : List TokenValue)
+    → IsBaseOf limits v b
     → (next_passes begins_decl (prefix_toks o ++ (var_toks v ++ (base_toks b ++ rest))) ≡ true) × (next_word (codes "predicate") (prefix_toks o ++ (var_toks v ++ (base_toks b ++ rest))) ≡ false)
 begins_so limits (Some n) v b rest is = (refl, refl)
 begins_so limits None true b rest is = (refl, refl)
@@ -216,23 +251,30 @@ begins_so limits None false (IntBase None) rest is = (refl, refl)
 begins_so limits None false (IntBase (Some l)) rest is = absurd cc
 begins_so limits None false (SetBase o) rest is = (refl, refl)
 
-decl_begins : (limits : Limits) (d : Decl) (rest : List TokenValue) → IsDecl limits d → (next_passes begins_decl (decl_toks d ++ rest) ≡ true) × (next_word (codes "predicate") (decl_toks d ++ rest) ≡ false)
+decl_begins : (limits : Limits) (d : Decl) (rest : List TokenValue) → IsDecl limits d
+    → (next_passes begins_decl (decl_toks d ++ rest) ≡ true)
+    × (next_word (codes "predicate") (decl_toks d ++ rest) ≡ false)
 decl_begins limits d rest is =
     let flat = flat8 (prefix_toks d.length) (var_toks d.is_var) (base_toks d.base) (mark Colon) (name_toks d.name) (notes_toks d.notes) (value_toks d.value) (mark Semicolon) rest in
     let so = begins_so limits d.length d.is_var d.base (Marked Colon ∷ (Word d.name ∷ (notes_toks d.notes ++ (value_toks d.value ++ (Marked Semicolon ∷ rest))))) is.base in
     (ap (next_passes begins_decl) flat ∙ so.0, ap (next_word (codes "predicate")) flat ∙ so.1)
 
-constraints_next : (test : TokenValue → Bool) (cs : List Constraint) (rest : List TokenValue) → test (Word (codes "constraint")) ≡ false → next_passes test rest ≡ false → next_passes test (flat_map constraint_toks cs ++ rest) ≡ false
+constraints_next : (test : TokenValue → Bool) (cs : List Constraint) (rest : List TokenValue)
+    → test (Word (codes "constraint")) ≡ false → next_passes test rest ≡ false
+    → next_passes test (flat_map constraint_toks cs ++ rest) ≡ false
 constraints_next test [] rest word last = last
 constraints_next test (c ∷ cs) rest word last = ap (next_passes test) (flat_map_first constraint_toks c cs rest) ∙ word
 
-decls_next : (limits : Limits) (ds : List Decl) (rest : List TokenValue) → AllByRecursion (IsDecl limits) ds → next_word (codes "predicate") rest ≡ false → next_word (codes "predicate") (flat_map decl_toks ds ++ rest) ≡ false
+decls_next : (limits : Limits) (ds : List Decl) (rest : List TokenValue)
+    → AllByRecursion (IsDecl limits) ds → next_word (codes "predicate") rest ≡ false
+    → next_word (codes "predicate") (flat_map decl_toks ds ++ rest) ≡ false
 decls_next limits [] rest are last = last
 decls_next limits (d ∷ ds) rest are last = ap (next_word (codes "predicate")) (flat_map_first decl_toks d ds rest) ∙ (decl_begins limits d (flat_map decl_toks ds ++ rest) are.0).1
 
 -- ---- the whole tree
 
-tree_again : (limits : Limits) (m : Tree) (rest : List TokenValue) → HasShape limits m → tree_at limits (toks m ++ rest) ≡ Ok (m, rest)
+tree_again : (limits : Limits) (m : Tree) (rest : List TokenValue) → HasShape limits m
+    → tree_at limits (toks m ++ rest) ≡ Ok (m, rest)
 unfolding tree_at
 tree_again limits m rest is =
     let D : List TokenValue = flat_map decl_toks m.decls in

@@ -16,7 +16,8 @@ use Rattle.fz_lex.specs.View.{IsLexicalFault}
 use Rattle.fz_syntax.specs.Text.{IsValue, IsRefusalOf}
 use Rattle.fz_syntax.proofs.ListLaws.{Takes}
 
-fault_of : {X A : Type 0} (view : X → A) (e : SyntaxError) (f : Fault) (read : Result A Fault) → read ≡ Err f → IsFault e f.kind → IsWhole view (Err e) read
+fault_of : {X A : Type 0} (view : X → A) (e : SyntaxError) (f : Fault) (read : Result A Fault)
+    → read ≡ Err f → IsFault e f.kind → IsWhole view (Err e) read
 fault_of view errors.Memory f read is k = tt
 fault_of view errors.TooLong f read is k = (f, is, k)
 fault_of view (errors.BadByte p) f read is k = (f, is, k)
@@ -26,7 +27,8 @@ fault_of view (errors.Syntax p) f read is k = (f, is, k)
 fault_of view (errors.TooDeep p) f read is k = (f, is, k)
 fault_of view (errors.TooMany p) f read is k = (f, is, k)
 
-error_of : (r : Refusal) (e : SyntaxError) (k : FaultKind) → IsErrorOf r e → IsRefusal r k → IsFault e k
+error_of : (r : Refusal) (e : SyntaxError) (k : FaultKind) → IsErrorOf r e → IsRefusal r k
+    → IsFault e k
 error_of refusals.Syntax (errors.Syntax p) Syntax of is = tt
 error_of refusals.Syntax (errors.Syntax p) _ of is = absurd is
 error_of refusals.Syntax _ _ of is = absurd of
@@ -42,13 +44,18 @@ error_of refusals.TooMany _ _ of is = absurd of
 error_of refusals.Memory _ _ of is = absurd is
 
 -- tokens behind what was read are refused
-pub refused_more : {X A : Type 0} (view : X → A) (r : Refusal) (e : SyntaxError) (read : Reader A) (tokens left : List TokenValue) (x : A) → read tokens ≡ Ok (x, left) → 0 < length left → IsErrorOf r e → IsRefusal r (unexpected_kind left) → IsWhole view (Err e) (whole (read tokens))
+pub refused_more : {X A : Type 0} (view : X → A) (r : Refusal) (e : SyntaxError) (read : Reader A)
+    (tokens left : List TokenValue) (x : A) → read tokens ≡ Ok (x, left) → 0 < length left
+    → IsErrorOf r e → IsRefusal r (unexpected_kind left)
+    → IsWhole view (Err e) (whole (read tokens))
 unfolding ended
 refused_more view r e read tokens [] x found some of k = absurd (omega arith)
 refused_more view r e read tokens (t ∷ rest) x found some of k = fault_of view e (record { kind = unexpected_kind (t ∷ rest); left = t ∷ rest }) (whole (read tokens)) (ap whole found) (error_of r e (unexpected_kind (t ∷ rest)) of k)
 
 -- what is refused is a fault
-pub refused_so : {X A : Type 0} (view : X → A) (r : Refusal) (e : SyntaxError) (read : Reader A) (tokens left : List TokenValue) → Fails r (read tokens) left → IsErrorOf r e → IsWhole view (Err e) (whole (read tokens))
+pub refused_so : {X A : Type 0} (view : X → A) (r : Refusal) (e : SyntaxError) (read : Reader A)
+    (tokens left : List TokenValue) → Fails r (read tokens) left → IsErrorOf r e
+    → IsWhole view (Err e) (whole (read tokens))
 refused_so view refusals.Memory errors.Memory read tokens left h of = tt
 refused_so view refusals.Syntax (errors.Syntax p) read tokens left h of = (record { kind = Syntax; left = left }, ap whole h, tt)
 refused_so view refusals.Float (errors.Float p) read tokens left h of = (record { kind = Float; left = left }, ap whole h, tt)
@@ -63,12 +70,17 @@ ends_whole (Ok (y, t ∷ rest)) x e = absurd cc
 ends_whole (Err f) x e = absurd cc
 
 -- what is read of all of the tokens is of the grammar within the limits, and these are its tokens
-is_found : {A : Type 0} (toks : A → List TokenValue) (Is : A → Type 0) (read : Reader A) → Takes toks Is read → (tokens : List TokenValue) (x : A) → whole (read tokens) ≡ Ok x → Is x × (tokens ≡ toks x)
+is_found : {A : Type 0} (toks : A → List TokenValue) (Is : A → Type 0) (read : Reader A)
+    → Takes toks Is read → (tokens : List TokenValue) (x : A) → whole (read tokens) ≡ Ok x
+    → Is x × (tokens ≡ toks x)
 is_found toks Is read takes tokens x e =
     let t = takes tokens (x, []) (ends_whole (read tokens) x e) in
     (t.fits, t.parts ∙ append-nil (toks x))
 
-pub found_of : {X A : Type 0} (view : X → A) (toks : A → List TokenValue) (Is : A → Type 0) (read : Reader A) → Takes toks Is read → (result : Result X SyntaxError) (tokens : List TokenValue) → IsWhole view result (whole (read tokens)) → IfOk result (λ x. Is (view x) × (tokens ≡ toks (view x)))
+pub found_of : {X A : Type 0} (view : X → A) (toks : A → List TokenValue) (Is : A → Type 0)
+    (read : Reader A) → Takes toks Is read → (result : Result X SyntaxError)
+    (tokens : List TokenValue) → IsWhole view result (whole (read tokens))
+    → IfOk result (λ x. Is (view x) × (tokens ≡ toks (view x)))
 found_of view toks Is read takes (Ok x) tokens e = is_found toks Is read takes tokens (view x) e
 found_of view toks Is read takes (Err e) tokens h = tt
 
@@ -78,7 +90,8 @@ same_ok x y read e f = cc
 no_fault : {A : Type 0} (f : Fault) (y : A) (read : Result A Fault) → read ≡ Err f → read ≡ Ok y → ⊥
 no_fault f y read e g = cc
 
-value_of : {X A : Type 0} (view : X → A) (result : Result X SyntaxError) (read : Result A Fault) (m : A) → IsWhole view result read → read ≡ Ok m → IsValue view result m
+value_of : {X A : Type 0} (view : X → A) (result : Result X SyntaxError) (read : Result A Fault)
+    (m : A) → IsWhole view result read → read ≡ Ok m → IsValue view result m
 value_of view (Ok x) read m e f = same_ok (view x) m read e f
 value_of view (Err errors.Memory) read m h f = tt
 value_of view (Err errors.TooLong) read m h f = no_fault h.0 m read h.1 f
@@ -96,12 +109,14 @@ errors_none TooDeep h = h
 errors_none TooMany h = h
 
 -- what is of the grammar within the limits and has these tokens is what is given
-pub only_of : {X A : Type 0} (view : X → A) (toks : A → List TokenValue) (Is : A → Type 0) (read : Reader A) → ((x : A) → Is x → whole (read (toks x)) ≡ Ok x)
+pub only_of : {X A : Type 0} (view : X → A) (toks : A → List TokenValue) (Is : A → Type 0)
+    (read : Reader A) → ((x : A) → Is x → whole (read (toks x)) ≡ Ok x)
     → (result : Result X SyntaxError) (tokens : List TokenValue) → IsWhole view result (whole (read tokens)) → (x : A) → Is x → tokens ≡ toks x → IsValue view result x
 only_of view toks Is read again result tokens h x is e = value_of view result (whole (read tokens)) x h (ap (λ ts. whole (read ts)) e ∙ again x is)
 
 -- the grammar doesn't refuse a text as too long
-pub not_too_long : {X A : Type 0} (view : X → A) (result : Result X SyntaxError) (read : Result A Fault) → IsWhole view result read → result ≡ Err errors.TooLong → ⊥
+pub not_too_long : {X A : Type 0} (view : X → A) (result : Result X SyntaxError)
+    (read : Result A Fault) → IsWhole view result read → result ≡ Err errors.TooLong → ⊥
 not_too_long view (Ok x) read h e = absurd cc
 not_too_long view (Err errors.Memory) read h e = absurd cc
 not_too_long view (Err errors.TooLong) read h e = errors_none h.0.kind h.2
@@ -125,7 +140,9 @@ large_none p TooDeep h = h
 large_none p TooMany h = h
 
 -- the grammar finds its own faults alone, and here the source lexes
-pub grammar_refuses : {X A : Type 0} (view : X → A) (source : List ℕ) (e : SyntaxError) (read : Result A Fault) (tokens : List SpannedToken) → LexesWithinLimits source tokens → IsWhole view (Err e) read → IsRefusalOf source e
+pub grammar_refuses : {X A : Type 0} (view : X → A) (source : List ℕ) (e : SyntaxError)
+    (read : Result A Fault) (tokens : List SpannedToken) → LexesWithinLimits source tokens
+    → IsWhole view (Err e) read → IsRefusalOf source e
 grammar_refuses view source errors.Memory read tokens lexed h = tt
 grammar_refuses view source errors.TooLong read tokens lexed h = absurd (errors_none h.0.kind h.2)
 grammar_refuses view source (errors.BadByte p) read tokens lexed h = absurd (byte_none p h.0.kind h.2)
@@ -136,7 +153,8 @@ grammar_refuses view source (errors.TooDeep p) read tokens lexed h = (tokens, le
 grammar_refuses view source (errors.TooMany p) read tokens lexed h = (tokens, lexed)
 
 -- the lexer finds its own
-pub lexer_refuses : (source : List ℕ) (e : SyntaxError) → IsLexicalFault source e → IsRefusalOf source e
+pub lexer_refuses : (source : List ℕ) (e : SyntaxError) → IsLexicalFault source e
+    → IsRefusalOf source e
 lexer_refuses source errors.Memory f = tt
 lexer_refuses source errors.TooLong f = f
 lexer_refuses source (errors.BadByte p) f = f

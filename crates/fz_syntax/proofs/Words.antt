@@ -7,7 +7,8 @@ use Rattle.std.proofs.lemmas.Slice.Eq.{bytes_eq-Decides}
 use Rattle.fz_syntax.specs.Shape.{is_one_of, type_words, item_words, truth_words, is_reserved}
 use Rattle.fz_syntax.specs.Words.{may_be_reserved}
 
-one_of_them : (words : List (List ℕ)) → AllByRecursion (λ w. may_be_reserved w ≡ true) words → (text : List ℕ) → is_one_of words text ≡ true → may_be_reserved text ≡ true
+one_of_them : (words : List (List ℕ)) → AllByRecursion (λ w. may_be_reserved w ≡ true) words
+    → (text : List ℕ) → is_one_of words text ≡ true → may_be_reserved text ≡ true
 one_of_them [] all text h = absurd cc
 one_of_them (w ∷ words) all text h =
     ⊎_elim

@@ -38,19 +38,31 @@ pub record TreeItems : Type 0 where
   pub solve : Solve
 
 abbrev pub items_of_tree : Ast → TreeItems
-items_of_tree a = record { predicates = a.predicates.items; decls = a.decls.items; constraints = a.constraints.items; solve = a.solve }
+items_of_tree a = record {
+  predicates = a.predicates.items;
+  decls = a.decls.items;
+  constraints = a.constraints.items;
+  solve = a.solve;
+}
 
 abbrev pub bare_all : TreeItems → tree.Tree
-bare_all t = record { predicates = map bare_predicate t.predicates; decls = map bare_decl t.decls; constraints = map bare_constraint t.constraints; solve = bare_solve t.solve }
+bare_all t = record {
+  predicates = map bare_predicate t.predicates;
+  decls = map bare_decl t.decls;
+  constraints = map bare_constraint t.constraints;
+  solve = bare_solve t.solve;
+}
 
 abbrev pub placed_before : List Predicate → List Decl → List Constraint → List PlacedToken
-placed_before ps ds cs = flat_map placed_predicate ps ++ flat_map placed_decl ds ++ flat_map placed_constraint cs
+placed_before ps ds cs =
+    flat_map placed_predicate ps ++ flat_map placed_decl ds ++ flat_map placed_constraint cs
 
 abbrev pub placed_all : TreeItems → List PlacedToken
 placed_all t = placed_before t.predicates t.decls t.constraints ++ placed_solve t.solve
 
 abbrev pub spots_all : TreeItems → List Spot
-spots_all t = flat_map predicate_spots t.predicates ++ (flat_map decl_spots t.decls ++ (flat_map constraint_spots t.constraints ++ solve_spots t.solve))
+spots_all t = flat_map predicate_spots t.predicates ++ (flat_map decl_spots t.decls
+    ++ (flat_map constraint_spots t.constraints ++ solve_spots t.solve))
 
 -- The source is a text of these items, and they stand where their tokens do: so the names and
 -- literals stand one behind the other.
@@ -69,8 +81,11 @@ pub record IsRefused (source : List ℕ) (e : SyntaxError) : Type 0 where
 -- The grammar refused a token for a reason, and this is told of the source: a lexical fault, or
 -- else the reason, at a place.
 pub data IsRefusedBy (source : List ℕ) (reason : Refusal) (e : SyntaxError) : Type 0 where
-  by_lexer : IsLexicalFault source e → ((tokens : List SpannedToken) → LexesWithinLimits source tokens → ⊥) → IsPlacedWithin (length source) e → IsRefusedBy source reason e
-  by_grammar : LexesWithinLimits source (tokens_ahead source 0) → IsErrorOf reason e → IsPlacedWithin (length source) e → IsRefusedBy source reason e
+  by_lexer : IsLexicalFault source e → ((tokens : List SpannedToken)
+      → LexesWithinLimits source tokens → ⊥) → IsPlacedWithin (length source) e
+      → IsRefusedBy source reason e
+  by_grammar : LexesWithinLimits source (tokens_ahead source 0) → IsErrorOf reason e
+      → IsPlacedWithin (length source) e → IsRefusedBy source reason e
 
 -- ---- what was offered so far
 
@@ -79,7 +94,8 @@ abbrev pub with_front : {A : Type 0} → List A → Read (List A) → Read (List
 with_front front read = read >>= λ x. Ok (front ++ x.0, x.1)
 
 -- The items so far, and those that are still read, are all of them.
-pub record Gathers {A : Type 0} (more : TokenValue → Bool) (item : Reader A) (front : List A) (tokens : List TokenValue) (all : Read (List A)) : Type 0 where
+pub record Gathers {A : Type 0} (more : TokenValue → Bool) (item : Reader A) (front : List A)
+    (tokens : List TokenValue) (all : Read (List A)) : Type 0 where
   pub so_far : with_front front (many_at more (any_number item) (length front) tokens) ≡ all
 
 -- The parser was at the first token of the source, and took these tokens since.
@@ -91,19 +107,22 @@ pub record IsAfter (source : List ℕ) (start now : Parser) (placed : List Place
   pub walked : Walk start now placed
 
 abbrev pub read_predicates : List TokenValue → Read (List tree.Predicate)
-read_predicates tokens = many_at (is_word (codes "predicate")) (any_number (predicate_at the_limits)) 0 tokens
+read_predicates tokens =
+    many_at (is_word (codes "predicate")) (any_number (predicate_at the_limits)) 0 tokens
 
 abbrev pub read_decls : List TokenValue → Read (List tree.Decl)
 read_decls tokens = many_at begins_decl (any_number (decl_at the_limits)) 0 tokens
 
 abbrev pub read_constraints : List TokenValue → Read (List tree.Constraint)
-read_constraints tokens = many_at (is_word (codes "constraint")) (any_number (constraint_at the_limits)) 0 tokens
+read_constraints tokens =
+    many_at (is_word (codes "constraint")) (any_number (constraint_at the_limits)) 0 tokens
 
 -- These predicates were offered.
 pub record AtPredicates (ps : List Predicate) (i : Items) : Type 0 where
   pub start : Parser
   pub after : IsAfter i.source.now start i.parser (placed_before ps [] [])
-  pub gathers : Gathers (is_word (codes "predicate")) (predicate_at the_limits) (map bare_predicate ps) (lexemes i.parser) (read_predicates (lexemes start))
+  pub gathers : Gathers (is_word (codes "predicate")) (predicate_at the_limits)
+      (map bare_predicate ps) (lexemes i.parser) (read_predicates (lexemes start))
 
 -- All predicates are these, and these declarations were offered.
 pub record AtDecls (ps : List Predicate) (ds : List Decl) (i : Items) : Type 0 where
@@ -111,20 +130,24 @@ pub record AtDecls (ps : List Predicate) (ds : List Decl) (i : Items) : Type 0 w
   pub behind_predicates : List TokenValue
   pub after : IsAfter i.source.now start i.parser (placed_before ps ds [])
   pub predicates : read_predicates (lexemes start) ≡ Ok (map bare_predicate ps, behind_predicates)
-  pub gathers : Gathers begins_decl (decl_at the_limits) (map bare_decl ds) (lexemes i.parser) (read_decls behind_predicates)
+  pub gathers : Gathers begins_decl (decl_at the_limits) (map bare_decl ds) (lexemes i.parser)
+      (read_decls behind_predicates)
 
 -- All predicates and declarations are these, and these constraints were offered.
-pub record AtConstraints (ps : List Predicate) (ds : List Decl) (cs : List Constraint) (i : Items) : Type 0 where
+pub record AtConstraints (ps : List Predicate) (ds : List Decl) (cs : List Constraint)
+    (i : Items) : Type 0 where
   pub start : Parser
   pub behind_predicates : List TokenValue
   pub behind_decls : List TokenValue
   pub after : IsAfter i.source.now start i.parser (placed_before ps ds cs)
   pub predicates : read_predicates (lexemes start) ≡ Ok (map bare_predicate ps, behind_predicates)
   pub decls : read_decls behind_predicates ≡ Ok (map bare_decl ds, behind_decls)
-  pub gathers : Gathers (is_word (codes "constraint")) (constraint_at the_limits) (map bare_constraint cs) (lexemes i.parser) (read_constraints behind_decls)
+  pub gathers : Gathers (is_word (codes "constraint")) (constraint_at the_limits)
+      (map bare_constraint cs) (lexemes i.parser) (read_constraints behind_decls)
 
 -- All items before the solve item are these.
-pub record AtSolve (ps : List Predicate) (ds : List Decl) (cs : List Constraint) (i : Items) : Type 0 where
+pub record AtSolve (ps : List Predicate) (ds : List Decl) (cs : List Constraint)
+    (i : Items) : Type 0 where
   pub start : Parser
   pub behind_predicates : List TokenValue
   pub behind_decls : List TokenValue
@@ -138,7 +161,8 @@ abbrev pub left_of : Items → ℕ
 left_of i = length (lexemes i.parser)
 
 -- An item is offered, or there are no more of its kind, or the source is refused.
-abbrev pub Offers : {X : Type 0} → List ℕ → Result (Option X) SyntaxError → (X → Type 0) → Type 0 → Type 0
+abbrev pub Offers : {X : Type 0} → List ℕ → Result (Option X) SyntaxError → (X → Type 0) → Type 0
+    → Type 0
 Offers source (Ok (Some x)) more done = more x
 Offers source (Ok None) more done = done
 Offers source (Err e) more done = IsRefused source e

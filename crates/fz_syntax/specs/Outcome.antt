@@ -1,4 +1,5 @@
--- Of the code; a reader of the contracts need not believe this file. What a method of the parser returned, held against what reading gives.
+-- Of the code; a reader of the contracts need not believe this file. What a method of the parser
+-- returned, held against what reading gives.
 use Rattle.std.specs.Prelude.{◌≡◌, if◌then◌else◌, List, ◌∷◌, Result, Ok, Err}
 use Rattle.fz_lex.specs.declared.error.SyntaxError.{SyntaxError}
 use Rattle.fz_lex.specs.declared.error.SyntaxError.TheVariants as errors
@@ -47,7 +48,8 @@ Fails refusals.Float read left = read ≡ Err (record { kind = Float; left = lef
 Fails refusals.TooDeep read left = read ≡ Err (record { kind = TooDeep; left = left })
 Fails refusals.TooMany read left = read ≡ Err (record { kind = TooMany; left = left })
 
--- A result, seen by view, and the tokens that are left are what reading gives, unless memory ran out.
+-- A result, seen by view, and the tokens that are left are what reading gives, unless memory ran
+-- out.
 abbrev pub Gives : {X A : Type 0} → (X → A) → Result X Refusal → Read A → List TokenValue → Type 0
 Gives view (Ok x) read left = read ≡ Ok (view x, left)
 Gives view (Err e) read left = Fails e read left

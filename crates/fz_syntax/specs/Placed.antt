@@ -1,6 +1,7 @@
--- The tokens of a tree with their places in its source, as far as the tree keeps them: of a name where its token starts
--- and ends, of a literal where its first token starts and where its last one ends. A place counts bytes from 0. Without the
--- places the lists are those of Tokens. (This project's profile.)
+-- The tokens of a tree with their places in its source, as far as the tree keeps them: of a name
+-- where its token starts and ends, of a literal where its first token starts and where its last one
+-- ends. A place counts bytes from 0. Without the places the lists are those of Tokens. (This
+-- project's profile.)
 use Rattle.std.specs.Prelude.{◌≡◌, ℕ, List, [], ◌∷◌, ◌++◌, length, map, Option, Some, None, IfSome, codes}
 use Rattle.std.specs.List.{flat_map}
 use Rattle.fz_lex.specs.declared.token.Mark.{Mark}
@@ -57,7 +58,8 @@ AgreeWith (p ∷ placed) (t ∷ cut) = Agrees p t × AgreeWith placed cut
 
 -- The source is cut into these tokens, and each stands where it is told to. (A source has one cut.)
 abbrev pub ArePlacedIn : List ℕ → List PlacedToken → Type 0
-ArePlacedIn source placed = (cut : List SpannedToken) × LexesToSpanned source cut × AgreeWith placed cut
+ArePlacedIn source placed =
+    (cut : List SpannedToken) × LexesToSpanned source cut × AgreeWith placed cut
 
 -- ---- tokens of which no place is told
 
@@ -85,7 +87,8 @@ placed_between opening closing inside = unplaced (Marked opening) ∷ (inside ++
 -- ---- expressions
 
 abbrev pub placed_name : Name → List PlacedToken
-placed_name n = (record { token = Word n.text.now; start = Some n.span.start; end = Some n.span.end }) ∷ []
+placed_name n =
+    (record { token = Word n.text.now; start = Some n.span.start; end = Some n.span.end }) ∷ []
 
 -- the first token starts here
 abbrev pub starting_at : ℕ → List PlacedToken → List PlacedToken
@@ -99,7 +102,8 @@ ending_at n (t ∷ []) = (record { token = t.token; start = t.start; end = Some 
 ending_at n (t ∷ (u ∷ rest)) = t ∷ ending_at n (u ∷ rest)
 
 abbrev pub placed_literal : Literal → List PlacedToken
-placed_literal l = starting_at l.span.start (ending_at l.span.end (plain (literal_toks (bare_literal l))))
+placed_literal l =
+    starting_at l.span.start (ending_at l.span.end (plain (literal_toks (bare_literal l))))
 
 abbrev pub placed_basic : Basic → List PlacedToken
 placed_basic (basics.Lit l) = placed_literal l
@@ -107,7 +111,8 @@ placed_basic (basics.Named n) = placed_name n
 
 abbrev pub placed_expr : Expr → List PlacedToken
 placed_expr (exprs.One b) = placed_basic b
-placed_expr (exprs.List bs) = placed_between OpenBracket CloseBracket (placed_separated placed_basic bs.items)
+placed_expr (exprs.List bs) =
+    placed_between OpenBracket CloseBracket (placed_separated placed_basic bs.items)
 
 -- ---- annotations, a layer at a time: the parts of a layer are placed already
 
@@ -118,27 +123,34 @@ abbrev pub placed_args : List (List PlacedToken) → List PlacedToken
 placed_args [] = []
 placed_args (first ∷ others) = placed_between OpenParen CloseParen (placed_parts (first ∷ others))
 
-abbrev pub placed_arg_layer : NoteArg-F (List PlacedToken) (List PlacedToken) (List PlacedToken) → List PlacedToken
+abbrev pub placed_arg_layer : NoteArg-F (List PlacedToken) (List PlacedToken) (List PlacedToken)
+    → List PlacedToken
 placed_arg_layer (NoteArg-F.One b) = b
-placed_arg_layer (NoteArg-F.List bs) = placed_between OpenBracket CloseBracket (placed_parts bs.items)
+placed_arg_layer (NoteArg-F.List bs) =
+    placed_between OpenBracket CloseBracket (placed_parts bs.items)
 
-abbrev pub placed_note_basic_layer : NoteBasic-F (List PlacedToken) (List PlacedToken) (List PlacedToken) → List PlacedToken
+abbrev pub placed_note_basic_layer : NoteBasic-F (List PlacedToken) (List PlacedToken)
+    (List PlacedToken) → List PlacedToken
 placed_note_basic_layer (NoteBasic-F.Lit l) = placed_literal l
 placed_note_basic_layer (NoteBasic-F.Float text) = unplaced (FloatText text.now) ∷ []
 placed_note_basic_layer (NoteBasic-F.Str text) = unplaced (StringText text.now) ∷ []
 placed_note_basic_layer (NoteBasic-F.Inner n) = n
 
-abbrev pub placed_note_layer : Note-F (List PlacedToken) (List PlacedToken) (List PlacedToken) → List PlacedToken
+abbrev pub placed_note_layer : Note-F (List PlacedToken) (List PlacedToken) (List PlacedToken)
+    → List PlacedToken
 placed_note_layer x = placed_name x.name ++ placed_args x.args.items
 
 abbrev pub placed_arg : NoteArg → List PlacedToken
-placed_arg = fold-NoteArg (List PlacedToken) (List PlacedToken) (List PlacedToken) placed_arg_layer placed_note_basic_layer placed_note_layer
+placed_arg = fold-NoteArg (List PlacedToken) (List PlacedToken)
+    (List PlacedToken) placed_arg_layer placed_note_basic_layer placed_note_layer
 
 abbrev pub placed_note_basic : NoteBasic → List PlacedToken
-placed_note_basic = fold-NoteBasic (List PlacedToken) (List PlacedToken) (List PlacedToken) placed_arg_layer placed_note_basic_layer placed_note_layer
+placed_note_basic = fold-NoteBasic (List PlacedToken) (List PlacedToken)
+    (List PlacedToken) placed_arg_layer placed_note_basic_layer placed_note_layer
 
 abbrev pub placed_note : Note → List PlacedToken
-placed_note = fold-Note (List PlacedToken) (List PlacedToken) (List PlacedToken) placed_arg_layer placed_note_basic_layer placed_note_layer
+placed_note = fold-Note (List PlacedToken) (List PlacedToken)
+    (List PlacedToken) placed_arg_layer placed_note_basic_layer placed_note_layer
 
 -- annotations, each behind `::`
 abbrev pub placed_notes : List Note → List PlacedToken
@@ -153,18 +165,21 @@ placed_bounds (Some l) = placed_literal l
 abbrev pub placed_base : Base → List PlacedToken
 placed_base bases.Bool = placed_word (codes "bool")
 placed_base (bases.Int bounds) = placed_bounds bounds
-placed_base (bases.Set bounds) = placed_word (codes "set") ++ placed_word (codes "of") ++ placed_bounds bounds
+placed_base (bases.Set bounds) =
+    placed_word (codes "set") ++ placed_word (codes "of") ++ placed_bounds bounds
 
 -- ---- items
 
 abbrev pub placed_param : Param → List PlacedToken
-placed_param p = plain (param_prefix_toks (bare_indexes p.array)) ++ plain (var_toks p.is_var) ++ placed_base p.base ++ placed_mark Colon ++ placed_name p.name
+placed_param p = plain (param_prefix_toks (bare_indexes p.array)) ++ plain (var_toks p.is_var)
+    ++ placed_base p.base ++ placed_mark Colon ++ placed_name p.name
 
 abbrev pub placed_params : List Param → List PlacedToken
 placed_params params = placed_between OpenParen CloseParen (placed_separated placed_param params)
 
 abbrev pub placed_predicate : Predicate → List PlacedToken
-placed_predicate p = placed_word (codes "predicate") ++ placed_name p.name ++ placed_params p.params.items ++ placed_mark Semicolon
+placed_predicate p = placed_word (codes "predicate") ++ placed_name p.name
+    ++ placed_params p.params.items ++ placed_mark Semicolon
 
 abbrev pub placed_value : Option Expr → List PlacedToken
 placed_value None = []
@@ -172,13 +187,16 @@ placed_value (Some e) = placed_mark Equals ++ placed_expr e
 
 abbrev pub placed_decl : Decl → List PlacedToken
 placed_decl d =
-    plain (prefix_toks d.length) ++ plain (var_toks d.is_var) ++ placed_base d.base ++ placed_mark Colon ++ placed_name d.name ++ placed_notes d.notes.items ++ placed_value d.value ++ placed_mark Semicolon
+    plain (prefix_toks d.length) ++ plain (var_toks d.is_var) ++ placed_base d.base
+    ++ placed_mark Colon ++ placed_name d.name ++ placed_notes d.notes.items
+    ++ placed_value d.value ++ placed_mark Semicolon
 
 abbrev pub placed_arguments : List Expr → List PlacedToken
 placed_arguments args = placed_between OpenParen CloseParen (placed_separated placed_expr args)
 
 abbrev pub placed_constraint : Constraint → List PlacedToken
-placed_constraint c = placed_word (codes "constraint") ++ placed_name c.name ++ placed_arguments c.args.items ++ placed_notes c.notes.items ++ placed_mark Semicolon
+placed_constraint c = placed_word (codes "constraint") ++ placed_name c.name
+    ++ placed_arguments c.args.items ++ placed_notes c.notes.items ++ placed_mark Semicolon
 
 abbrev pub placed_goal : Goal → List PlacedToken
 placed_goal goals.Satisfy = placed_word (codes "satisfy")
@@ -186,11 +204,13 @@ placed_goal (goals.Minimize e) = placed_word (codes "minimize") ++ placed_basic 
 placed_goal (goals.Maximize e) = placed_word (codes "maximize") ++ placed_basic e
 
 abbrev pub placed_solve : Solve → List PlacedToken
-placed_solve s = placed_word (codes "solve") ++ placed_notes s.notes.items ++ placed_goal s.goal ++ placed_mark Semicolon
+placed_solve s = placed_word (codes "solve") ++ placed_notes s.notes.items ++ placed_goal s.goal
+    ++ placed_mark Semicolon
 
 -- of a whole tree
 abbrev pub placed_tree : Ast → List PlacedToken
-placed_tree a = flat_map placed_predicate a.predicates.items ++ flat_map placed_decl a.decls.items ++ flat_map placed_constraint a.constraints.items ++ placed_solve a.solve
+placed_tree a = flat_map placed_predicate a.predicates.items ++ flat_map placed_decl a.decls.items
+    ++ flat_map placed_constraint a.constraints.items ++ placed_solve a.solve
 
 -- ---- printed items
 
@@ -198,15 +218,18 @@ abbrev pub placed_indexes : List Literal → List PlacedToken
 placed_indexes indexes = flat_map (λ l. placed_literal l ++ placed_mark Comma) indexes
 
 abbrev pub placed_elements : List Literal → List PlacedToken
-placed_elements elements = placed_between OpenBracket CloseBracket (placed_separated placed_literal elements)
+placed_elements elements =
+    placed_between OpenBracket CloseBracket (placed_separated placed_literal elements)
 
 abbrev pub placed_printed_value : PrintedValue → List PlacedToken
 placed_printed_value (printed.One l) = placed_literal l
 placed_printed_value (printed.Array indexes elements) =
-    placed_word (array_word (length indexes.items)) ++ placed_between OpenParen CloseParen (placed_indexes indexes.items ++ placed_elements elements.items)
+    placed_word (array_word (length indexes.items)) ++ placed_between OpenParen CloseParen
+    (placed_indexes indexes.items ++ placed_elements elements.items)
 
 abbrev pub placed_printed : Printed → List PlacedToken
-placed_printed p = placed_name p.name ++ placed_mark Equals ++ placed_printed_value p.value ++ placed_mark Semicolon
+placed_printed p = placed_name p.name ++ placed_mark Equals ++ placed_printed_value p.value
+    ++ placed_mark Semicolon
 
 -- of printed items
 abbrev pub placed_items : List Printed → List PlacedToken

@@ -1,7 +1,8 @@
--- The canonical text of a tree, byte by byte (this project's profile).
--- Each item is a line. One blank stands on each side of `=` and of each `::`, one behind the `:` of a declaration or a
--- parameter, one behind each reserved word that is followed by more of its type or item, one before `satisfy`,
--- `minimize` and `maximize`, and one on each side of the brackets behind `array`. No others stand outside of strings.
+-- The canonical text of a tree, byte by byte (this project's profile). Each item is a line. One
+-- blank stands on each side of `=` and of each `::`, one behind the `:` of a declaration or a
+-- parameter, one behind each reserved word that is followed by more of its type or item, one before
+-- `satisfy`, `minimize` and `maximize`, and one on each side of the brackets behind `array`. No
+-- others stand outside of strings.
 use Rattle.std.specs.Prelude.{ℕ, pos, Bool, true, false, List, [], ◌∷◌, ◌++◌, Option, Some, None, codes}
 use Rattle.std.specs.List.{flat_map, AllByRecursion}
 use Rattle.std.specs.Fmt.{signed_decimal}
@@ -21,7 +22,7 @@ separated_text text (x ∷ xs) = text x ++ text_after_commas text xs
 
 -- ---- expressions
 
--- whole numbers in decimal, behind `-` where negative
+-- integers in decimal, behind `-` where negative
 abbrev pub literal_text : Literal → List ℕ
 literal_text (Number n) = signed_decimal n
 literal_text (Truth b) = truth_word b
@@ -42,14 +43,16 @@ arguments_text args = codes "(" ++ separated_text expr_text args ++ codes ")"
 
 -- ---- annotations
 
--- Floats and strings stand as they were written. Arguments and elements have commas between them, without blanks.
+-- Floats and strings stand as they were written. Arguments and elements have commas between them,
+-- without blanks.
 abbrev mutual
   pub note_text : Note → List ℕ
   note_text (Called name args) = name ++ args_text args
 
   pub args_text : NoteArgs → List ℕ
   args_text NoMoreArgs = []
-  args_text (MoreArgs first others) = codes "(" ++ (arg_text first ++ more_args_text others) ++ codes ")"
+  args_text (MoreArgs first others) =
+      codes "(" ++ (arg_text first ++ more_args_text others) ++ codes ")"
 
   pub more_args_text : NoteArgs → List ℕ
   more_args_text NoMoreArgs = []
@@ -65,7 +68,8 @@ abbrev mutual
 
   pub more_basics_text : NoteBasics → List ℕ
   more_basics_text NoMoreBasics = []
-  more_basics_text (MoreBasics first others) = (codes "," ++ note_basic_text first) ++ more_basics_text others
+  more_basics_text (MoreBasics first others) =
+      (codes "," ++ note_basic_text first) ++ more_basics_text others
 
   pub note_basic_text : NoteBasic → List ℕ
   note_basic_text (NoteLiteral l) = literal_text l
@@ -104,12 +108,14 @@ any_index_text (Some length) = codes "1.." ++ signed_decimal (pos length)
 -- of a predicate's parameter: no array, or one with index sets
 abbrev pub param_prefix_text : Option (List (Option ℕ)) → List ℕ
 param_prefix_text None = []
-param_prefix_text (Some indexes) = codes "array [" ++ separated_text any_index_text indexes ++ codes "] of "
+param_prefix_text (Some indexes) =
+    codes "array [" ++ separated_text any_index_text indexes ++ codes "] of "
 
 -- ---- items
 
 abbrev pub param_text : Param → List ℕ
-param_text p = param_prefix_text p.array ++ var_text p.is_var ++ base_text p.base ++ codes ": " ++ p.name
+param_text p =
+    param_prefix_text p.array ++ var_text p.is_var ++ base_text p.base ++ codes ": " ++ p.name
 
 abbrev pub params_text : List Param → List ℕ
 params_text params = codes "(" ++ separated_text param_text params ++ codes ")"
@@ -122,10 +128,12 @@ value_text None = []
 value_text (Some e) = codes " = " ++ expr_text e
 
 abbrev pub decl_text : Decl → List ℕ
-decl_text d = prefix_text d.length ++ var_text d.is_var ++ base_text d.base ++ codes ": " ++ d.name ++ notes_text d.notes ++ value_text d.value ++ codes ";\n"
+decl_text d = prefix_text d.length ++ var_text d.is_var ++ base_text d.base ++ codes ": " ++ d.name
+    ++ notes_text d.notes ++ value_text d.value ++ codes ";\n"
 
 abbrev pub constraint_text : Constraint → List ℕ
-constraint_text c = codes "constraint " ++ c.name ++ arguments_text c.args ++ notes_text c.notes ++ codes ";\n"
+constraint_text c =
+    codes "constraint " ++ c.name ++ arguments_text c.args ++ notes_text c.notes ++ codes ";\n"
 
 abbrev pub goal_text : Goal → List ℕ
 goal_text Satisfy = codes " satisfy"
@@ -137,11 +145,13 @@ solve_text s = codes "solve" ++ notes_text s.notes ++ goal_text s.goal ++ codes 
 
 -- the text of a whole tree: its items by kind, each kind in source order
 abbrev pub tree_text : Tree → List ℕ
-tree_text t = flat_map predicate_text t.predicates ++ flat_map decl_text t.decls ++ flat_map constraint_text t.constraints ++ solve_text t.solve
+tree_text t = flat_map predicate_text t.predicates ++ flat_map decl_text t.decls
+    ++ flat_map constraint_text t.constraints ++ solve_text t.solve
 
 -- ---- trees that can be written
 
--- Each token of the tree has a text, and its numbers are within the limit. So it is of each tree that was read.
+-- Each token of the tree has a text, and its numbers are within the limit. So it is of each tree
+-- that was read.
 pub record CanBeWritten (t : Tree) : Type 0 where
   pub texts : AllByRecursion IsTokenText (toks t)
   pub numbers : AllByRecursion IsTokenWithinLimit (toks t)

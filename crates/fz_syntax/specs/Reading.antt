@@ -1,6 +1,8 @@
--- Of the code; a reader of the contracts need not believe this file. Reading a tree from the front of a token list, from left to right: the value and the tokens after it, or the first
--- fault. A fault stands at the first token with which the tokens so far no longer begin a text of the grammar, or where
--- a limit is passed; it keeps the tokens from that one on. (The order of refusals is this project's profile.)
+-- Of the code; a reader of the contracts need not believe this file. Reading a tree from the front
+-- of a token list, from left to right: the value and the tokens after it, or the first fault. A
+-- fault stands at the first token with which the tokens so far no longer begin a text of the
+-- grammar, or where a limit is passed; it keeps the tokens from that one on. (The order of refusals
+-- is this project's profile.)
 use Rattle.std.specs.Prelude.{ℕ, zero, suc, ◌+◌, ℤ, pos, negsuc, Bool, true, false, not, ◌||◌, ◌&&◌, if◌then◌else◌, ◌==◌, nat_le, List, [], ◌∷◌, length, drop, Option, Some, None, Result, Ok, Err, codes}
 use Rattle.std.specs.Str.{bytes_eq}
 use Rattle.std.specs.Ordering.{int_eq}
@@ -78,7 +80,8 @@ is_float _ = false
 
 -- the first token can't stand here
 abbrev pub unexpected : {A : Type 0} → Reader A
-unexpected tokens = Err (record { kind = if next_passes is_float tokens then Float else Syntax; left = tokens })
+unexpected tokens =
+    Err (record { kind = if next_passes is_float tokens then Float else Syntax; left = tokens })
 
 abbrev pub too_many : {A : Type 0} → Reader A
 too_many tokens = Err (record { kind = TooMany; left = tokens })
@@ -105,10 +108,12 @@ whole_at tokens = unexpected tokens
 -- ---- lists
 
 -- Parts one after another, as long as the next token passes a test. A part knows its place.
-unfoldable pub many_upto : {A : Type 0} → ℕ → (TokenValue → Bool) → (ℕ → Reader A) → ℕ → Reader (List A)
+unfoldable pub many_upto : {A : Type 0} → ℕ → (TokenValue → Bool) → (ℕ → Reader A) → ℕ
+    → Reader (List A)
 many_upto zero more part i tokens = Ok ([], tokens)
 many_upto (suc fuel) more part i tokens =
-    if next_passes more tokens then (part i tokens >>= λ first. many_upto fuel more part (i + 1) first.1 >>= λ others. Ok (first.0 ∷ others.0, others.1)) else Ok ([], tokens)
+    if next_passes more tokens then (part i tokens >>= λ first. many_upto fuel more part
+    (i + 1) first.1 >>= λ others. Ok (first.0 ∷ others.0, others.1)) else Ok ([], tokens)
 
 -- Each part takes a token at least, so there are no more parts than tokens.
 unfoldable pub many_at : {A : Type 0} → (TokenValue → Bool) → (ℕ → Reader A) → ℕ → Reader (List A)
@@ -127,15 +132,19 @@ separated_at element tokens = do
 -- elements with commas between them, up to the mark that closes the list
 unfoldable pub list_at : {A : Type 0} → Mark → (ℕ → Reader A) → Reader (List A)
 list_at close element tokens =
-    if next_is close tokens then Ok ([], drop 1 tokens) else (separated_at element tokens >>= λ elements. mark_at close elements.1 >>= λ closed. Ok (elements.0, closed.1))
+    if next_is close tokens then Ok ([], drop 1 tokens) else
+    (separated_at element tokens >>= λ elements. mark_at close elements.1 >>= λ closed. Ok
+    (elements.0, closed.1))
 
 -- an element at any place
 abbrev pub any_number : {A : Type 0} → Reader A → ℕ → Reader A
 any_number element i tokens = element tokens
 
--- an element of a list that holds at most so many; begins says whether an element can begin with a token
+-- an element of a list that holds at most so many; begins says whether an element can begin with a
+-- token
 abbrev pub at_most : {A : Type 0} → ℕ → (TokenValue → Bool) → Reader A → ℕ → Reader A
-at_most limit begins element i tokens = if nat_le limit i && next_passes begins tokens then too_many tokens else element tokens
+at_most limit begins element i tokens =
+    if nat_le limit i && next_passes begins tokens then too_many tokens else element tokens
 
 -- ---- expressions
 
@@ -144,7 +153,8 @@ is_whole (Whole n) = true
 is_whole _ = false
 
 abbrev pub begins_literal : TokenValue → Bool
-begins_literal t = is_whole t || (is_word (codes "true") t || (is_word (codes "false") t || is_mark OpenBrace t))
+begins_literal t =
+    is_whole t || (is_word (codes "true") t || (is_word (codes "false") t || is_mark OpenBrace t))
 
 abbrev pub is_name : TokenValue → Bool
 is_name (Word w) = not (is_reserved w)
@@ -159,10 +169,11 @@ braces_at limits tokens = do
   numbers ← list_at CloseBrace (at_most limits.elements is_whole whole_at) tokens
   Ok (Braces numbers.0, numbers.1)
 
--- behind a whole number: it is the low end of a range, or stands alone
+-- behind an integer: it is the low end of a range, or stands alone
 unfoldable pub from_whole : ℤ → Reader Literal
 from_whole low tokens =
-    if next_is DotDot tokens then (whole_at (drop 1 tokens) >>= λ high. Ok (Range low high.0, high.1)) else Ok (Number low, tokens)
+    if next_is DotDot tokens then (whole_at (drop 1 tokens) >>= λ high. Ok
+    (Range low high.0, high.1)) else Ok (Number low, tokens)
 
 unfoldable pub literal_at : Limits → Reader Literal
 literal_at limits tokens =
@@ -174,14 +185,17 @@ literal_at limits tokens =
 
 unfoldable pub basic_at : Limits → Reader Basic
 basic_at limits tokens =
-    if next_passes is_name tokens then (name_at tokens >>= λ name. Ok (Named name.0, name.1)) else (literal_at limits tokens >>= λ l. Ok (Lit l.0, l.1))
+    if next_passes is_name tokens then (name_at tokens >>= λ name. Ok (Named name.0, name.1))
+    else (literal_at limits tokens >>= λ l. Ok (Lit l.0, l.1))
 
 unfoldable pub expr_list_at : Limits → Reader (List Basic)
-expr_list_at limits tokens = list_at CloseBracket (at_most limits.elements begins_basic (basic_at limits)) tokens
+expr_list_at limits tokens =
+    list_at CloseBracket (at_most limits.elements begins_basic (basic_at limits)) tokens
 
 unfoldable pub expr_at : Limits → Reader Expr
 expr_at limits tokens =
-    if next_is OpenBracket tokens then (expr_list_at limits (drop 1 tokens) >>= λ bs. Ok (Several bs.0, bs.1)) else (basic_at limits tokens >>= λ b. Ok (One b.0, b.1))
+    if next_is OpenBracket tokens then (expr_list_at limits (drop 1 tokens) >>= λ bs. Ok
+    (Several bs.0, bs.1)) else (basic_at limits tokens >>= λ b. Ok (One b.0, b.1))
 
 -- ---- annotations
 
@@ -203,33 +217,40 @@ unfoldable pub note_basic_at : Limits → Reader Note → Reader NoteBasic
 note_basic_at limits inner (FloatText text ∷ rest) = Ok (NoteFloat text, rest)
 note_basic_at limits inner (StringText text ∷ rest) = Ok (NoteString text, rest)
 note_basic_at limits inner tokens =
-    if next_passes is_name tokens then (inner tokens >>= λ n. Ok (Inner n.0, n.1)) else (literal_at limits tokens >>= λ l. Ok (NoteLiteral l.0, l.1))
+    if next_passes is_name tokens then (inner tokens >>= λ n. Ok (Inner n.0, n.1))
+    else (literal_at limits tokens >>= λ l. Ok (NoteLiteral l.0, l.1))
 
 unfoldable pub note_list_at : Limits → ℕ → Reader Note → Reader (List NoteBasic)
-note_list_at limits depth inner tokens = list_at CloseBracket (at_most limits.elements (begins_note_basic depth) (note_basic_at limits inner)) tokens
+note_list_at limits depth inner tokens =
+    list_at CloseBracket (at_most limits.elements (begins_note_basic depth)
+    (note_basic_at limits inner)) tokens
 
 unfoldable pub note_arg_at : Limits → ℕ → Reader Note → Reader NoteArg
 note_arg_at limits depth inner tokens =
-    if next_is OpenBracket tokens then (note_list_at limits depth inner (drop 1 tokens) >>= λ bs. Ok (ListOf (basic_list bs.0), bs.1))
+    if next_is OpenBracket tokens then (note_list_at limits depth inner (drop 1 tokens) >>= λ bs. Ok
+    (ListOf (basic_list bs.0), bs.1))
     else (note_basic_at limits inner tokens >>= λ b. Ok (OneBasic b.0, b.1))
 
 -- behind an annotation's name: its arguments, if it has any
 unfoldable pub note_args_at : Limits → ℕ → Reader Note → Reader (List NoteArg)
 note_args_at limits depth inner tokens =
     if next_is OpenParen tokens
-    then (separated_at (any_number (note_arg_at limits depth inner)) (drop 1 tokens) >>= λ args. mark_at CloseParen args.1 >>= λ closed. Ok (args.0, closed.1))
+    then (separated_at (any_number (note_arg_at limits depth inner))
+    (drop 1 tokens) >>= λ args. mark_at CloseParen args.1 >>= λ closed. Ok (args.0, closed.1))
     else Ok ([], tokens)
 
 -- an annotation that has at most so many levels
 unfoldable pub note_at : Limits → ℕ → Reader Note
-note_at limits zero tokens = if next_passes is_name tokens then too_deep tokens else unexpected tokens
+note_at limits zero tokens =
+    if next_passes is_name tokens then too_deep tokens else unexpected tokens
 note_at limits (suc depth) tokens = do
   name ← name_at tokens
   args ← note_args_at limits depth (note_at limits depth) name.1
   Ok (Called name.0 (arg_list args.0), args.1)
 
 unfoldable pub notes_at : Limits → Reader (List Note)
-notes_at limits tokens = many_at (is_mark ColonColon) (after_token (any_number (note_at limits limits.depth))) 0 tokens
+notes_at limits tokens =
+    many_at (is_mark ColonColon) (after_token (any_number (note_at limits limits.depth))) 0 tokens
 
 -- ---- types
 
@@ -246,24 +267,28 @@ range_at tokens = do
   Ok (Range low.0 high.0, high.1)
 
 unfoldable pub bounds_at : Limits → Reader Literal
-bounds_at limits tokens = if next_is OpenBrace tokens then braces_at limits (drop 1 tokens) else range_at tokens
+bounds_at limits tokens =
+    if next_is OpenBrace tokens then braces_at limits (drop 1 tokens) else range_at tokens
 
 -- the word `int`, or bounds
 unfoldable pub int_at : Limits → Reader (Option Literal)
 int_at limits tokens =
-    if next_word (codes "int") tokens then Ok (None, drop 1 tokens) else (bounds_at limits tokens >>= λ l. Ok (Some l.0, l.1))
+    if next_word (codes "int") tokens then Ok (None, drop 1 tokens)
+    else (bounds_at limits tokens >>= λ l. Ok (Some l.0, l.1))
 
 unfoldable pub base_at : Limits → Reader Base
 base_at limits tokens =
     if next_word (codes "bool") tokens then Ok (BoolBase, drop 1 tokens)
-    else (if next_word (codes "set") tokens then (word_at (codes "of") (drop 1 tokens) >>= λ of. int_at limits of.1 >>= λ bounds. Ok (SetBase bounds.0, bounds.1))
+    else (if next_word (codes "set") tokens then (word_at (codes "of")
+    (drop 1 tokens) >>= λ of. int_at limits of.1 >>= λ bounds. Ok (SetBase bounds.0, bounds.1))
     else (int_at limits tokens >>= λ bounds. Ok (IntBase bounds.0, bounds.1)))
 
 -- the type of a parameter
 unfoldable pub plain_at : Reader Base
 plain_at tokens =
     if next_word (codes "bool") tokens then Ok (BoolBase, drop 1 tokens)
-    else (if next_word (codes "set") tokens then (word_at (codes "of") (drop 1 tokens) >>= λ of. word_at (codes "int") of.1 >>= λ int. Ok (SetBase None, int.1))
+    else (if next_word (codes "set") tokens then (word_at (codes "of")
+    (drop 1 tokens) >>= λ of. word_at (codes "int") of.1 >>= λ int. Ok (SetBase None, int.1))
     else (word_at (codes "int") tokens >>= λ int. Ok (IntBase None, int.1)))
 
 -- the number 1
@@ -276,7 +301,8 @@ one_at tokens = if next_passes is_one tokens then Ok (tt, drop 1 tokens) else un
 
 -- a number that is 0 or more
 abbrev pub size_from : Limits → ℤ → Reader ℕ
-size_from limits (pos n) rest = if nat_le n limits.size then Ok (n, rest) else too_many (Whole (pos n) ∷ rest)
+size_from limits (pos n) rest =
+    if nat_le n limits.size then Ok (n, rest) else too_many (Whole (pos n) ∷ rest)
 size_from limits (negsuc n) rest = unexpected (Whole (negsuc n) ∷ rest)
 
 unfoldable pub size_at : Limits → Reader ℕ
@@ -300,23 +326,27 @@ array_at index tokens = do
 
 unfoldable pub any_index_at : Limits → Reader (Option ℕ)
 any_index_at limits tokens =
-    if next_word (codes "int") tokens then Ok (None, drop 1 tokens) else (index_at limits tokens >>= λ n. Ok (Some n.0, n.1))
+    if next_word (codes "int") tokens then Ok (None, drop 1 tokens)
+    else (index_at limits tokens >>= λ n. Ok (Some n.0, n.1))
 
 -- what an index set begins with
 abbrev pub begins_index : TokenValue → Bool
 begins_index t = is_whole t || is_word (codes "int") t
 
 unfoldable pub indexes_at : Limits → Reader (List (Option ℕ))
-indexes_at limits tokens = separated_at (at_most most_indexes begins_index (any_index_at limits)) tokens
+indexes_at limits tokens =
+    separated_at (at_most most_indexes begins_index (any_index_at limits)) tokens
 
 -- ---- items
 
 unfoldable pub var_at : Reader Bool
-var_at tokens = if next_word (codes "var") tokens then Ok (true, drop 1 tokens) else Ok (false, tokens)
+var_at tokens =
+    if next_word (codes "var") tokens then Ok (true, drop 1 tokens) else Ok (false, tokens)
 
 unfoldable pub param_prefix_at : Limits → Reader (Option (List (Option ℕ)))
 param_prefix_at limits tokens =
-    if next_word (codes "array") tokens then (array_at (indexes_at limits) (drop 1 tokens) >>= λ array. Ok (Some array.0, array.1)) else Ok (None, tokens)
+    if next_word (codes "array") tokens then (array_at (indexes_at limits)
+    (drop 1 tokens) >>= λ array. Ok (Some array.0, array.1)) else Ok (None, tokens)
 
 unfoldable pub param_at : Limits → Reader Param
 param_at limits tokens = do
@@ -338,7 +368,8 @@ predicate_at limits tokens = do
 
 unfoldable pub prefix_at : Limits → Reader (Option ℕ)
 prefix_at limits tokens =
-    if next_word (codes "array") tokens then (array_at (index_at limits) (drop 1 tokens) >>= λ length. Ok (Some length.0, length.1)) else Ok (None, tokens)
+    if next_word (codes "array") tokens then (array_at (index_at limits)
+    (drop 1 tokens) >>= λ length. Ok (Some length.0, length.1)) else Ok (None, tokens)
 
 unfoldable pub literal_basic_at : Limits → Reader Basic
 literal_basic_at limits tokens = literal_at limits tokens >>= λ l. Ok (Lit l.0, l.1)
@@ -347,19 +378,25 @@ literal_basic_at limits tokens = literal_at limits tokens >>= λ l. Ok (Lit l.0,
 unfoldable pub value_at : Limits → (is_var : Bool) → (length : Option ℕ) → Reader Expr
 value_at limits true None tokens = basic_at limits tokens >>= λ b. Ok (One b.0, b.1)
 value_at limits false None tokens = literal_basic_at limits tokens >>= λ b. Ok (One b.0, b.1)
-value_at limits true (Some n) tokens = mark_at OpenBracket tokens >>= λ opened. expr_list_at limits opened.1 >>= λ bs. Ok (Several bs.0, bs.1)
+value_at limits true (Some n) tokens =
+    mark_at OpenBracket tokens >>= λ opened. expr_list_at limits opened.1 >>= λ bs. Ok
+    (Several bs.0, bs.1)
 value_at limits false (Some n) tokens =
-    mark_at OpenBracket tokens >>= λ opened. list_at CloseBracket (at_most limits.elements begins_literal (literal_basic_at limits)) opened.1 >>= λ bs. Ok (Several bs.0, bs.1)
+    mark_at OpenBracket tokens >>= λ opened. list_at CloseBracket
+    (at_most limits.elements begins_literal (literal_basic_at limits)) opened.1 >>= λ bs. Ok
+    (Several bs.0, bs.1)
 
 -- only a scalar variable may go without a value
 abbrev pub may_lack_value : (is_var : Bool) → (length : Option ℕ) → Bool
 may_lack_value true None = true
 may_lack_value _ _ = false
 
-unfoldable pub given_value_at : Limits → (is_var : Bool) → (length : Option ℕ) → Reader (Option Expr)
+unfoldable pub given_value_at : Limits → (is_var : Bool) → (length : Option ℕ)
+    → Reader (Option Expr)
 given_value_at limits is_var length tokens =
     if may_lack_value is_var length && not (next_is Equals tokens) then Ok (None, tokens)
-    else (mark_at Equals tokens >>= λ equals. value_at limits is_var length equals.1 >>= λ e. Ok (Some e.0, e.1))
+    else (mark_at Equals tokens >>= λ equals. value_at limits is_var length equals.1 >>= λ e. Ok
+    (Some e.0, e.1))
 
 unfoldable pub type_at : Limits → (is_var : Bool) → Reader Base
 type_at limits true tokens = base_at limits tokens
@@ -375,7 +412,17 @@ decl_at limits tokens = do
   notes ← notes_at limits name.1
   value ← given_value_at limits is_var.0 length.0 notes.1
   end ← mark_at Semicolon value.1
-  Ok (record { is_var = is_var.0; length = length.0; base = base.0; name = name.0; notes = notes.0; value = value.0 }, end.1)
+  Ok (
+    record {
+      is_var = is_var.0;
+      length = length.0;
+      base = base.0;
+      name = name.0;
+      notes = notes.0;
+      value = value.0;
+    },
+    end.1,
+  )
 
 unfoldable pub constraint_at : Limits → Reader Constraint
 constraint_at limits tokens = do
@@ -389,8 +436,10 @@ constraint_at limits tokens = do
 
 unfoldable pub goal_at : Limits → Reader Goal
 goal_at limits tokens =
-    if next_word (codes "minimize") tokens then (basic_at limits (drop 1 tokens) >>= λ e. Ok (Minimize e.0, e.1))
-    else (if next_word (codes "maximize") tokens then (basic_at limits (drop 1 tokens) >>= λ e. Ok (Maximize e.0, e.1))
+    if next_word (codes "minimize") tokens
+    then (basic_at limits (drop 1 tokens) >>= λ e. Ok (Minimize e.0, e.1))
+    else (if next_word (codes "maximize") tokens
+    then (basic_at limits (drop 1 tokens) >>= λ e. Ok (Maximize e.0, e.1))
     else (word_at (codes "satisfy") tokens >>= λ satisfy. Ok (Satisfy, satisfy.1)))
 
 unfoldable pub solve_at : Limits → Reader Solve
@@ -404,7 +453,8 @@ solve_at limits tokens = do
 -- ---- a whole tree
 
 abbrev pub begins_decl : TokenValue → Bool
-begins_decl t = is_word (codes "var") t || is_word (codes "array") t || is_word (codes "bool") t || is_word (codes "int") t || is_word (codes "set") t
+begins_decl t = is_word (codes "var") t || is_word (codes "array") t || is_word (codes "bool") t
+    || is_word (codes "int") t || is_word (codes "set") t
 
 unfoldable pub tree_at : Limits → Reader Tree
 tree_at limits tokens = do
@@ -412,7 +462,15 @@ tree_at limits tokens = do
   decls ← many_at begins_decl (any_number (decl_at limits)) 0 predicates.1
   constraints ← many_at (is_word (codes "constraint")) (any_number (constraint_at limits)) 0 decls.1
   solve ← solve_at limits constraints.1
-  Ok (record { predicates = predicates.0; decls = decls.0; constraints = constraints.0; solve = solve.0 }, solve.1)
+  Ok (
+    record {
+      predicates = predicates.0;
+      decls = decls.0;
+      constraints = constraints.0;
+      solve = solve.0;
+    },
+    solve.1,
+  )
 
 -- no token is left
 unfoldable pub ended : {A : Type 0} → A × List TokenValue → Result A Fault

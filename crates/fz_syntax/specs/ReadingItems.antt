@@ -1,5 +1,5 @@
--- Of the code; a reader of the contracts need not believe this file. Reading printed items from the front of a token
--- list, as Reading does for a tree.
+-- Of the code; a reader of the contracts need not believe this file. Reading printed items from the
+-- front of a token list, as Reading does for a tree.
 use Rattle.std.specs.Prelude.{ℕ, zero, suc, if◌then◌else◌, ◌==◌, List, [], ◌∷◌, drop, Result, Ok, codes}
 use Rattle.std.specs.Str.{bytes_eq}
 use Rattle.fz_lex.specs.declared.token.Mark.TheVariants.{OpenParen, CloseParen, OpenBracket, CloseBracket, Comma, Semicolon, Equals}
@@ -37,11 +37,14 @@ index_set_at limits tokens = do
 -- so many of them
 unfoldable pub index_sets_at : Limits → ℕ → Reader (List Literal)
 index_sets_at limits zero tokens = Ok ([], tokens)
-index_sets_at limits (suc n) tokens = index_set_at limits tokens >>= λ first. index_sets_at limits n first.1 >>= λ others. Ok (first.0 ∷ others.0, others.1)
+index_sets_at limits (suc n) tokens =
+    index_set_at limits tokens >>= λ first. index_sets_at limits n first.1 >>= λ others. Ok
+    (first.0 ∷ others.0, others.1)
 
 -- literals behind the bracket that opens their list
 unfoldable pub elements_at : Limits → Reader (List Literal)
-elements_at limits tokens = list_at CloseBracket (at_most limits.elements begins_literal (literal_at limits)) tokens
+elements_at limits tokens =
+    list_at CloseBracket (at_most limits.elements begins_literal (literal_at limits)) tokens
 
 -- an array of so many index sets, behind its word
 unfoldable pub printed_array_at : Limits → ℕ → Reader PrintedValue
@@ -55,7 +58,8 @@ printed_array_at limits dimensions tokens = do
 
 unfoldable pub printed_value_at : Limits → Reader PrintedValue
 printed_value_at limits tokens =
-    if next_dimensions tokens == 0 then (literal_at limits tokens >>= λ l. Ok (OneValue l.0, l.1)) else printed_array_at limits (next_dimensions tokens) (drop 1 tokens)
+    if next_dimensions tokens == 0 then (literal_at limits tokens >>= λ l. Ok (OneValue l.0, l.1))
+    else printed_array_at limits (next_dimensions tokens) (drop 1 tokens)
 
 unfoldable pub printed_at : Limits → Reader Printed
 printed_at limits tokens = do

@@ -1,5 +1,5 @@
--- Which plain trees are trees of the grammar, and which lie within the limits.
--- (MiniZinc Handbook, FlatZinc grammar; the limits and the words that are no names are this project's profile.)
+-- Which plain trees are trees of the grammar, and which lie within the limits. (MiniZinc Handbook,
+-- FlatZinc grammar; the limits and the words that are no names are this project's profile.)
 use Rattle.std.specs.Prelude.{◌≡◌, ◌≤◌, ◌+◌, ℕ, zero, suc, Bool, true, false, ◌||◌, List, [], ◌∷◌, length, Option, Some, None, codes, IfSome}
 use Rattle.std.specs.List.{list_any, AllByRecursion}
 use Rattle.std.specs.Str.{bytes_eq}
@@ -9,10 +9,12 @@ use Rattle.fz_syntax.specs.Tree.{Literal, Number, Truth, Range, Braces, Basic, L
 
 -- the words that are no names (MiniZinc Handbook; the list is this project's profile)
 abbrev pub type_words : List (List ℕ)
-type_words = codes "array" ∷ codes "of" ∷ codes "var" ∷ codes "bool" ∷ codes "int" ∷ codes "float" ∷ codes "set" ∷ []
+type_words = codes "array" ∷ codes "of" ∷ codes "var" ∷ codes "bool" ∷ codes "int" ∷ codes "float"
+    ∷ codes "set" ∷ []
 
 abbrev pub item_words : List (List ℕ)
-item_words = codes "predicate" ∷ codes "constraint" ∷ codes "solve" ∷ codes "satisfy" ∷ codes "minimize" ∷ codes "maximize" ∷ []
+item_words = codes "predicate" ∷ codes "constraint" ∷ codes "solve" ∷ codes "satisfy"
+    ∷ codes "minimize" ∷ codes "maximize" ∷ []
 
 abbrev pub truth_words : List (List ℕ)
 truth_words = codes "true" ∷ codes "false" ∷ []
@@ -21,13 +23,14 @@ abbrev pub is_one_of : List (List ℕ) → List ℕ → Bool
 is_one_of words text = list_any (bytes_eq text) words
 
 abbrev pub is_reserved : List ℕ → Bool
-is_reserved text = is_one_of type_words text || (is_one_of item_words text || is_one_of truth_words text)
+is_reserved text =
+    is_one_of type_words text || (is_one_of item_words text || is_one_of truth_words text)
 
 abbrev pub IsName : List ℕ → Type 0
 IsName text = is_reserved text ≡ false
 
--- How large a tree may be: elements of a list in brackets or braces, the length of an array, and how deep
--- annotations stand in one another (this project's profile).
+-- How large a tree may be: elements of a list in brackets or braces, the length of an array, and
+-- how deep annotations stand in one another (this project's profile).
 pub record Limits : Type 0 where
   pub elements : ℕ
   pub size : ℕ
@@ -72,7 +75,8 @@ abbrev mutual
 
   pub AreArgs : NoteArgs → Limits → ℕ → Type 0
   AreArgs NoMoreArgs limits depth = Unit {0}
-  AreArgs (MoreArgs first others) limits depth = IsArg first limits depth × AreArgs others limits depth
+  AreArgs (MoreArgs first others) limits depth =
+      IsArg first limits depth × AreArgs others limits depth
 
   pub IsArg : NoteArg → Limits → ℕ → Type 0
   IsArg (OneBasic b) limits depth = IsNoteBasic b limits depth
@@ -80,7 +84,8 @@ abbrev mutual
 
   pub AreBasics : NoteBasics → Limits → ℕ → Type 0
   AreBasics NoMoreBasics limits depth = Unit {0}
-  AreBasics (MoreBasics first others) limits depth = IsNoteBasic first limits depth × AreBasics others limits depth
+  AreBasics (MoreBasics first others) limits depth =
+      IsNoteBasic first limits depth × AreBasics others limits depth
 
   pub IsNoteBasic : NoteBasic → Limits → ℕ → Type 0
   IsNoteBasic (NoteLiteral l) limits depth = IsLiteral limits l
@@ -113,7 +118,9 @@ most_indexes = 6
 
 abbrev pub IsParamArray : Limits → Option (List (Option ℕ)) → Type 0
 IsParamArray limits None = Unit {0}
-IsParamArray limits (Some indexes) = (1 ≤ length indexes) × (length indexes ≤ most_indexes) × AllByRecursion (IsAnyIndex limits) indexes
+IsParamArray limits (Some indexes) =
+    (1 ≤ length indexes) × (length indexes ≤ most_indexes)
+    × AllByRecursion (IsAnyIndex limits) indexes
 
 -- ---- items
 
@@ -130,11 +137,12 @@ abbrev pub IsLiteralBasic : Limits → Basic → Type 0
 IsLiteralBasic limits (Lit l) = IsLiteral limits l
 IsLiteralBasic limits (Named name) = ⊥
 
--- The value of a declaration: a parameter has one, made of literals; an array has a list; a scalar variable may have
--- one, and no list.
+-- The value of a declaration: a parameter has one, made of literals; an array has a list; a scalar
+-- variable may have one, and no list.
 abbrev pub IsValueOf : Limits → (is_var : Bool) → (length : Option ℕ) → Option Expr → Type 0
 IsValueOf limits false None (Some (One b)) = IsLiteralBasic limits b
-IsValueOf limits false (Some n) (Some (Several bs)) = (length bs ≤ limits.elements) × AllByRecursion (IsLiteralBasic limits) bs
+IsValueOf limits false (Some n) (Some (Several bs)) =
+    (length bs ≤ limits.elements) × AllByRecursion (IsLiteralBasic limits) bs
 IsValueOf limits true None None = Unit {0}
 IsValueOf limits true None (Some (One b)) = IsBasic limits b
 IsValueOf limits true (Some n) (Some (Several bs)) = IsExpr limits (Several bs)
@@ -172,8 +180,8 @@ pub record HasShape (limits : Limits) (m : Tree) : Type 0 where
   pub constraints : AllByRecursion (IsConstraint limits) m.constraints
   pub solve : IsSolve limits m.solve
 
--- A tree of the grammar within the limits: its parts are, and each of its tokens has a text (so a name is a word that
--- can be written, and a float's text is that of a float).
+-- A tree of the grammar within the limits: its parts are, and each of its tokens has a text (so a
+-- name is a word that can be written, and a float's text is that of a float).
 pub record IsTree (limits : Limits) (t : Tree) : Type 0 where
   pub shape : HasShape limits t
   pub texts : AllByRecursion IsTokenText (toks t)
@@ -183,7 +191,8 @@ pub record IsTree (limits : Limits) (t : Tree) : Type 0 where
 abbrev pub IsPrintedValue : Limits → PrintedValue → Type 0
 IsPrintedValue limits (OneValue l) = IsLiteral limits l
 IsPrintedValue limits (ArrayOf indexes elements) =
-    (1 ≤ length indexes) × (length indexes ≤ 6) × AllByRecursion (IsBounds limits) indexes × (length elements ≤ limits.elements) × AllByRecursion (IsLiteral limits) elements
+    (1 ≤ length indexes) × (length indexes ≤ 6) × AllByRecursion (IsBounds limits) indexes
+    × (length elements ≤ limits.elements) × AllByRecursion (IsLiteral limits) elements
 
 pub record IsPrinted (limits : Limits) (p : Printed) : Type 0 where
   pub name : IsName p.name

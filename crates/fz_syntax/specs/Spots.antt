@@ -1,5 +1,5 @@
--- Where the names and literals of a tree stand in its source, in the order of reading. A place counts bytes from 0.
--- (This project's profile.)
+-- Where the names and literals of a tree stand in its source, in the order of reading. A place
+-- counts bytes from 0. (This project's profile.)
 use Rattle.std.specs.Prelude.{◌≡◌, ◌≤◌, ◌<◌, ℕ, List, [], ◌∷◌, ◌++◌, Option, Some, None, IfSome, slice_range}
 use Rattle.std.specs.List.{flat_map}
 use Rattle.fz_syntax.specs.declared.tree.Literal.{Literal}
@@ -33,11 +33,13 @@ pub record Spot : Type 0 where
   pub end : ℕ
   pub text : Option (List ℕ)
 
--- From one place of the source up to another stand the spots, none of them empty, one behind the other, and the text of each name is
--- the slice of the source where it stands.
+-- From one place of the source up to another stand the spots, none of them empty, one behind the
+-- other, and the text of each name is the slice of the source where it stands.
 abbrev pub Stand : (source : List ℕ) → ℕ → ℕ → List Spot → Type 0
 Stand source from upto [] = from ≤ upto
-Stand source from upto (s ∷ spots) = (from ≤ s.start) × (s.start < s.end) × IfSome s.text (λ text. text ≡ slice_range source s.start s.end) × Stand source s.end upto spots
+Stand source from upto (s ∷ spots) =
+    (from ≤ s.start) × (s.start < s.end) × IfSome s.text
+    (λ text. text ≡ slice_range source s.start s.end) × Stand source s.end upto spots
 
 -- ---- expressions
 
@@ -80,13 +82,16 @@ abbrev pub note_layer_spots : Note-F (List Spot) (List Spot) (List Spot) → Lis
 note_layer_spots x = name_spot x.name ∷ joined x.args.items
 
 abbrev pub arg_spots : NoteArg → List Spot
-arg_spots = fold-NoteArg (List Spot) (List Spot) (List Spot) arg_layer_spots note_basic_layer_spots note_layer_spots
+arg_spots = fold-NoteArg (List Spot) (List Spot)
+    (List Spot) arg_layer_spots note_basic_layer_spots note_layer_spots
 
 abbrev pub note_basic_spots : NoteBasic → List Spot
-note_basic_spots = fold-NoteBasic (List Spot) (List Spot) (List Spot) arg_layer_spots note_basic_layer_spots note_layer_spots
+note_basic_spots = fold-NoteBasic (List Spot) (List Spot)
+    (List Spot) arg_layer_spots note_basic_layer_spots note_layer_spots
 
 abbrev pub note_spots : Note → List Spot
-note_spots = fold-Note (List Spot) (List Spot) (List Spot) arg_layer_spots note_basic_layer_spots note_layer_spots
+note_spots = fold-Note (List Spot) (List Spot)
+    (List Spot) arg_layer_spots note_basic_layer_spots note_layer_spots
 
 -- ---- items
 
@@ -110,10 +115,12 @@ value_spots None = []
 value_spots (Some e) = expr_spots e
 
 abbrev pub decl_spots : Decl → List Spot
-decl_spots d = base_spots d.base ++ (name_spots d.name ++ (flat_map note_spots d.notes.items ++ value_spots d.value))
+decl_spots d = base_spots d.base
+    ++ (name_spots d.name ++ (flat_map note_spots d.notes.items ++ value_spots d.value))
 
 abbrev pub constraint_spots : Constraint → List Spot
-constraint_spots c = name_spots c.name ++ (flat_map expr_spots c.args.items ++ flat_map note_spots c.notes.items)
+constraint_spots c =
+    name_spots c.name ++ (flat_map expr_spots c.args.items ++ flat_map note_spots c.notes.items)
 
 abbrev pub goal_spots : Goal → List Spot
 goal_spots goals.Satisfy = []
@@ -125,13 +132,16 @@ solve_spots s = flat_map note_spots s.notes.items ++ goal_spots s.goal
 
 -- of a whole tree
 abbrev pub spots : Ast → List Spot
-spots a = flat_map predicate_spots a.predicates.items ++ (flat_map decl_spots a.decls.items ++ (flat_map constraint_spots a.constraints.items ++ solve_spots a.solve))
+spots a = flat_map predicate_spots a.predicates.items ++
+    (flat_map decl_spots a.decls.items
+    ++ (flat_map constraint_spots a.constraints.items ++ solve_spots a.solve))
 
 -- ---- printed items
 
 abbrev pub printed_value_spots : PrintedValue → List Spot
 printed_value_spots (printed.One l) = literal_spots l
-printed_value_spots (printed.Array indexes elements) = flat_map literal_spots indexes.items ++ flat_map literal_spots elements.items
+printed_value_spots (printed.Array indexes elements) =
+    flat_map literal_spots indexes.items ++ flat_map literal_spots elements.items
 
 abbrev pub printed_spots : Printed → List Spot
 printed_spots p = name_spots p.name ++ printed_value_spots p.value

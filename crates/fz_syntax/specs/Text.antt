@@ -27,24 +27,31 @@ IsValue view (Ok x) value = view x ≡ value
 IsValue view (Err errors.Memory) value = Unit {0}
 IsValue view (Err _) value = ⊥
 
--- What a refusal tells of the source. One by the lexer, which comes first, is its leftmost lexical fault; one by the
--- grammar comes only of a source that lexes within the limits. (The order is this project's profile.)
+-- What a refusal tells of the source. One by the lexer, which comes first, is its leftmost lexical
+-- fault; one by the grammar comes only of a source that lexes within the limits. (The order is this
+-- project's profile.)
 abbrev pub IsRefusalOf : List ℕ → SyntaxError → Type 0
 IsRefusalOf source errors.TooLong = most_bytes < length source
 IsRefusalOf source (errors.BadByte span) = IsLexicalFault source (errors.BadByte span)
 IsRefusalOf source (errors.TooLarge span) = IsLexicalFault source (errors.TooLarge span)
-IsRefusalOf source (errors.Float span) = (tokens : List SpannedToken) × LexesWithinLimits source tokens
-IsRefusalOf source (errors.Syntax span) = (tokens : List SpannedToken) × LexesWithinLimits source tokens
-IsRefusalOf source (errors.TooDeep span) = (tokens : List SpannedToken) × LexesWithinLimits source tokens
-IsRefusalOf source (errors.TooMany span) = (tokens : List SpannedToken) × LexesWithinLimits source tokens
+IsRefusalOf source (errors.Float span) =
+    (tokens : List SpannedToken) × LexesWithinLimits source tokens
+IsRefusalOf source (errors.Syntax span) =
+    (tokens : List SpannedToken) × LexesWithinLimits source tokens
+IsRefusalOf source (errors.TooDeep span) =
+    (tokens : List SpannedToken) × LexesWithinLimits source tokens
+IsRefusalOf source (errors.TooMany span) =
+    (tokens : List SpannedToken) × LexesWithinLimits source tokens
 IsRefusalOf source errors.Memory = Unit {0}
 
 -- ---- laws
 
 -- A text has one tree.
 abbrev pub TextHasOneTree : Type 0
-TextHasOneTree = (source : List ℕ) (t u : Tree) → IsTextOfTree source t → IsTextOfTree source u → t ≡ u
+TextHasOneTree =
+    (source : List ℕ) (t u : Tree) → IsTextOfTree source t → IsTextOfTree source u → t ≡ u
 
 -- A text has one list of printed items.
 abbrev pub TextHasOneListOfItems : Type 0
-TextHasOneListOfItems = (source : List ℕ) (items others : List Printed) → IsTextOfItems source items → IsTextOfItems source others → items ≡ others
+TextHasOneListOfItems = (source : List ℕ) (items others : List Printed) → IsTextOfItems source items
+    → IsTextOfItems source others → items ≡ others

@@ -60,7 +60,8 @@ expr_toks (Several bs) = in_brackets (separated basic_toks bs)
 
 -- ---- annotations
 
--- arguments, each behind a comma; and where the first stands alone, in parentheses, where there is one
+-- arguments, each behind a comma; and where the first stands alone, in parentheses, where there is
+-- one
 abbrev mutual
   pub note_toks : Note → List TokenValue
   note_toks (Called name args) = Word name ∷ args_toks args
@@ -83,7 +84,8 @@ abbrev mutual
 
   pub more_basics_toks : NoteBasics → List TokenValue
   more_basics_toks NoMoreBasics = []
-  more_basics_toks (MoreBasics first others) = (Marked Comma ∷ note_basic_toks first) ++ more_basics_toks others
+  more_basics_toks (MoreBasics first others) =
+      (Marked Comma ∷ note_basic_toks first) ++ more_basics_toks others
 
   pub note_basic_toks : NoteBasic → List TokenValue
   note_basic_toks (NoteLiteral l) = literal_toks l
@@ -134,20 +136,24 @@ param_prefix_toks (Some indexes) = array_toks (separated any_index_toks indexes)
 -- ---- items
 
 abbrev pub param_toks : Param → List TokenValue
-param_toks p = param_prefix_toks p.array ++ var_toks p.is_var ++ base_toks p.base ++ mark Colon ++ name_toks p.name
+param_toks p = param_prefix_toks p.array ++ var_toks p.is_var ++ base_toks p.base ++ mark Colon
+    ++ name_toks p.name
 
 abbrev pub predicate_toks : Predicate → List TokenValue
-predicate_toks p = word (codes "predicate") ++ name_toks p.name ++ in_parens (separated param_toks p.params) ++ mark Semicolon
+predicate_toks p = word (codes "predicate") ++ name_toks p.name
+    ++ in_parens (separated param_toks p.params) ++ mark Semicolon
 
 abbrev pub value_toks : Option Expr → List TokenValue
 value_toks None = []
 value_toks (Some e) = Marked Equals ∷ expr_toks e
 
 abbrev pub decl_toks : Decl → List TokenValue
-decl_toks d = prefix_toks d.length ++ var_toks d.is_var ++ base_toks d.base ++ mark Colon ++ name_toks d.name ++ notes_toks d.notes ++ value_toks d.value ++ mark Semicolon
+decl_toks d = prefix_toks d.length ++ var_toks d.is_var ++ base_toks d.base ++ mark Colon
+    ++ name_toks d.name ++ notes_toks d.notes ++ value_toks d.value ++ mark Semicolon
 
 abbrev pub constraint_toks : Constraint → List TokenValue
-constraint_toks c = word (codes "constraint") ++ name_toks c.name ++ in_parens (separated expr_toks c.args) ++ notes_toks c.notes ++ mark Semicolon
+constraint_toks c = word (codes "constraint") ++ name_toks c.name
+    ++ in_parens (separated expr_toks c.args) ++ notes_toks c.notes ++ mark Semicolon
 
 abbrev pub goal_toks : Goal → List TokenValue
 goal_toks Satisfy = word (codes "satisfy")
@@ -159,18 +165,22 @@ solve_toks s = word (codes "solve") ++ notes_toks s.notes ++ goal_toks s.goal ++
 
 -- the tokens of a tree
 abbrev pub toks : Tree → List TokenValue
-toks m = flat_map predicate_toks m.predicates ++ flat_map decl_toks m.decls ++ flat_map constraint_toks m.constraints ++ solve_toks m.solve
+toks m = flat_map predicate_toks m.predicates ++ flat_map decl_toks m.decls
+    ++ flat_map constraint_toks m.constraints ++ solve_toks m.solve
 
 -- ---- printed items
 
--- the word that begins a printed array of this many index sets, array1d to array6d: 48 is the code of `0`
+-- the word that begins a printed array of this many index sets, array1d to array6d: 48 is the code
+-- of `0`
 abbrev pub array_word : ℕ → List ℕ
 array_word dimensions = codes "array" ++ (48 + dimensions) ∷ codes "d"
 
 abbrev pub printed_value_toks : PrintedValue → List TokenValue
 printed_value_toks (OneValue l) = literal_toks l
 printed_value_toks (ArrayOf indexes elements) =
-    word (array_word (length indexes)) ++ in_parens (flat_map (λ i. literal_toks i ++ mark Comma) indexes ++ in_brackets (separated literal_toks elements))
+    word (array_word (length indexes)) ++ in_parens (flat_map
+    (λ i. literal_toks i ++ mark Comma) indexes
+    ++ in_brackets (separated literal_toks elements))
 
 abbrev pub printed_toks : Printed → List TokenValue
 printed_toks p = name_toks p.name ++ mark Equals ++ printed_value_toks p.value ++ mark Semicolon

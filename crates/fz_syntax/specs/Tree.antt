@@ -5,7 +5,8 @@ use Rattle.std.specs.Prelude.{ℕ, ℤ, Bool, List, Option}
 
 -- ---- expressions
 
--- A literal: a whole number, a truth value, a range by its two ends, or numbers in braces in their written order.
+-- A literal: an integer, a Boolean, a range by its two ends, or numbers in braces in their written
+-- order.
 pub data Literal : Type 0 where
   Number : (value : ℤ) → Literal
   Truth : (value : Bool) → Literal
@@ -25,7 +26,8 @@ pub data Expr : Type 0 where
 -- ---- annotations
 
 -- An annotation is a name, with arguments in parentheses where it has any. An argument is one basic
--- annotation expression or a list of them in brackets; such an expression may again be an annotation.
+-- annotation expression or a list of them in brackets; such an expression may again be an
+-- annotation.
 mutual
   pub data Note : Type 0 where
     Called : (name : List ℕ) (args : NoteArgs) → Note
@@ -58,7 +60,8 @@ pub data Base : Type 0 where
   IntBase : (bounds : Option Literal) → Base
   SetBase : (bounds : Option Literal) → Base
 
--- A parameter of a predicate item. Of an array it keeps the index sets: of each the length, or none where it is `int`.
+-- A parameter of a predicate item. Of an array it keeps the index sets: of each the length, or none
+-- where it is `int`.
 pub record Param : Type 0 where
   pub array : Option (List (Option ℕ))
   pub is_var : Bool

@@ -84,13 +84,16 @@ abbrev pub bare_note_layer : Note-F tree.NoteArg tree.NoteBasic tree.Note → tr
 bare_note_layer x = tree.Called x.name.text.now (arg_list x.args.items)
 
 abbrev pub bare_arg : NoteArg → tree.NoteArg
-bare_arg = fold-NoteArg tree.NoteArg tree.NoteBasic tree.Note bare_arg_layer bare_basic_layer bare_note_layer
+bare_arg = fold-NoteArg tree.NoteArg tree.NoteBasic tree.Note bare_arg_layer bare_basic_layer
+    bare_note_layer
 
 abbrev pub bare_basic : NoteBasic → tree.NoteBasic
-bare_basic = fold-NoteBasic tree.NoteArg tree.NoteBasic tree.Note bare_arg_layer bare_basic_layer bare_note_layer
+bare_basic = fold-NoteBasic tree.NoteArg tree.NoteBasic tree.Note bare_arg_layer bare_basic_layer
+    bare_note_layer
 
 abbrev pub bare_note : Note → tree.Note
-bare_note = fold-Note tree.NoteArg tree.NoteBasic tree.Note bare_arg_layer bare_basic_layer bare_note_layer
+bare_note =
+    fold-Note tree.NoteArg tree.NoteBasic tree.Note bare_arg_layer bare_basic_layer bare_note_layer
 
 -- ---- items
 
@@ -109,7 +112,12 @@ abbrev pub bare_indexes : Option (Vec (Option ℕ)) → Option (List (Option ℕ
 bare_indexes o = option_map (λ v. v.items) o
 
 abbrev pub bare_param : Param → tree.Param
-bare_param p = record { array = bare_indexes p.array; is_var = p.is_var; base = bare_base p.base; name = bare_name p.name }
+bare_param p = record {
+  array = bare_indexes p.array;
+  is_var = p.is_var;
+  base = bare_base p.base;
+  name = bare_name p.name;
+}
 
 abbrev pub bare_predicate : Predicate → tree.Predicate
 bare_predicate p = record { name = bare_name p.name; params = map bare_param p.params.items }
@@ -121,10 +129,21 @@ abbrev pub bare_notes : List Note → List tree.Note
 bare_notes ns = map bare_note ns
 
 abbrev pub bare_decl : Decl → tree.Decl
-bare_decl d = record { is_var = d.is_var; length = d.length; base = bare_base d.base; name = bare_name d.name; notes = bare_notes d.notes.items; value = bare_value d.value }
+bare_decl d = record {
+  is_var = d.is_var;
+  length = d.length;
+  base = bare_base d.base;
+  name = bare_name d.name;
+  notes = bare_notes d.notes.items;
+  value = bare_value d.value;
+}
 
 abbrev pub bare_constraint : Constraint → tree.Constraint
-bare_constraint c = record { name = bare_name c.name; args = map bare_expr c.args.items; notes = bare_notes c.notes.items }
+bare_constraint c = record {
+  name = bare_name c.name;
+  args = map bare_expr c.args.items;
+  notes = bare_notes c.notes.items;
+}
 
 abbrev pub bare_goal : Goal → tree.Goal
 bare_goal goals.Satisfy = tree.Satisfy
@@ -136,13 +155,19 @@ bare_solve s = record { notes = bare_notes s.notes.items; goal = bare_goal s.goa
 
 -- the plain tree of a tree
 abbrev pub bare : Ast → tree.Tree
-bare a = record { predicates = map bare_predicate a.predicates.items; decls = map bare_decl a.decls.items; constraints = map bare_constraint a.constraints.items; solve = bare_solve a.solve }
+bare a = record {
+  predicates = map bare_predicate a.predicates.items;
+  decls = map bare_decl a.decls.items;
+  constraints = map bare_constraint a.constraints.items;
+  solve = bare_solve a.solve;
+}
 
 -- ---- printed items
 
 abbrev pub bare_printed_value : PrintedValue → tree.PrintedValue
 bare_printed_value (printed.One l) = tree.OneValue (bare_literal l)
-bare_printed_value (printed.Array indexes elements) = tree.ArrayOf (map bare_literal indexes.items) (map bare_literal elements.items)
+bare_printed_value (printed.Array indexes elements) =
+    tree.ArrayOf (map bare_literal indexes.items) (map bare_literal elements.items)
 
 abbrev pub bare_printed : Printed → tree.Printed
 bare_printed p = record { name = bare_name p.name; value = bare_printed_value p.value }

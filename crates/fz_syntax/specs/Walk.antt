@@ -1,4 +1,5 @@
--- Of the code; a reader of the contracts need not believe this file. What the parser has left to read, and what it took between two states.
+-- Of the code; a reader of the contracts need not believe this file. What the parser has left to
+-- read, and what it took between two states.
 use Rattle.std.specs.Prelude.{◌≡◌, ℕ, List, [], ◌∷◌, ◌++◌, map, Some}
 use Rattle.fz_lex.specs.of_base.declared.span.Span.{Span}
 use Rattle.fz_lex.specs.declared.token.Mark.TheVariants.{Comma}
@@ -44,4 +45,5 @@ pub record Walk (p q : Parser) (placed : List PlacedToken) : Type 0 where
 
 -- a literal of one token that stands at a span, and the comma behind it
 abbrev pub placed_listed : TokenValue → Span → List PlacedToken
-placed_listed t span = (record { token = t; start = Some span.start; end = Some span.end }) ∷ placed_mark Comma
+placed_listed t span =
+    (record { token = t; start = Some span.start; end = Some span.end }) ∷ placed_mark Comma

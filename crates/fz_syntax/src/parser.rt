@@ -36,7 +36,8 @@ use std::alloc::Global;
 /// The printed items that the tokens are that are left.
 #[tactic(auto, unfolding(crate::specs::ReadingItems::items_of, crate::specs::ReadingItems::items_at, crate::specs::Reading::ended))]
 fn read_all_items<'a>(parser: &mut Parser<'a>) -> Result<Vec<Printed<'a>>, SyntaxError>
-    ensures whole { IsWhole (λ v. bare_items v.items) result (items_of the_limits (lexemes parser.old)) }
+    ensures whole { IsWhole (λ v. bare_items v.items) result
+        (items_of the_limits (lexemes parser.old)) }
     ensures placed { IfErr result (IsPlacedWithin parser.old.end) }
     ensures walked { IfOk result (λ v. Walk parser.old parser.new (placed_items v.items)) }
     ensures ended { IfOk result (λ _. ahead parser.new ≡ []) }
@@ -53,14 +54,16 @@ fn read_all_items<'a>(parser: &mut Parser<'a>) -> Result<Vec<Printed<'a>>, Synta
     }
 }
 
-/// The tree of which the bytes are a text, by the grammar of FlatZinc. Its names and texts are slices of the source.
+/// The tree of which the bytes are a text, by the grammar of FlatZinc. Its names and texts are
+/// slices of the source.
 ///
 /// The tokens are pulled one by one, so that the tree alone takes memory.
 ///
-/// `TooLong`: the source has more than 16,777,216 bytes. `BadByte` and `TooLarge`, which the lexer finds, come next,
-/// from the whole source. `Float`, `Syntax`, `TooDeep` and `TooMany` stand at the first token with which the tokens so
-/// far no longer begin a text of the grammar within the limits; at the end it is the empty span behind the last byte.
-/// `Memory` is answered when it is met, and the source has no lexical fault.
+/// `TooLong`: the source has more than 16,777,216 bytes. `BadByte` and `TooLarge`, which the lexer
+/// finds, come next, from the whole source. `Float`, `Syntax`, `TooDeep` and `TooMany` stand at the
+/// first token with which the tokens so far no longer begin a text of the grammar within the
+/// limits; at the end it is the empty span behind the last byte. `Memory` is answered when it is
+/// met, and the source has no lexical fault.
 pub fn parse<'a>(alloc: Global, source: &'a [u8]) -> Result<Ast<'a>, SyntaxError>
     // The source is a text of the tree that is given.
     ensures found { IfOk result (λ a. IsTextOfTree source.now (bare a)) }
@@ -69,19 +72,22 @@ pub fn parse<'a>(alloc: Global, source: &'a [u8]) -> Result<Ast<'a>, SyntaxError
     ensures only { (t : tree.Tree) → IsTextOfTree source.now t → IsValue bare result t }
 
     // Any tree with the same tokens is this one, whatever its size.
-    ensures same { IfOk result (λ a. (limits : Limits) (t : tree.Tree) → IsTree limits t → toks t ≡ toks (bare a) → t ≡ bare a) }
+    ensures same { IfOk result (λ a. (limits : Limits) (t : tree.Tree) → IsTree limits t
+        → toks t ≡ toks (bare a) → t ≡ bare a) }
 
-    // A source past the limit, and no other, is refused as too long, whatever else is wrong with it.
+    // A source past the limit, and no other, is refused as too long, whatever else is wrong with
+    // it.
     ensures too_long { (result ≡ Err TooLong) ↔ (most_bytes < length source.now) }
 
-    // A fault that the lexer finds is the leftmost one, and it comes before each that the grammar finds.
+    // A fault that the lexer finds is the leftmost one, and it comes before each that the grammar
+    // finds.
     ensures order { IfErr result (IsRefusalOf source.now) }
 
     // The place of an error lies within the source.
     ensures placed { IfErr result (IsPlacedWithin (length source.now)) }
 
-    // The source is cut into the tree's tokens. Each name stands where its own token does, and each literal from where
-    // its first token starts up to where its last one ends.
+    // The source is cut into the tree's tokens. Each name stands where its own token does, and each
+    // literal from where its first token starts up to where its last one ends.
     ensures in_place { IfOk result (λ a. ArePlacedIn source.now (placed_tree a)) }
 
     // So the names and literals stand one behind the other, each name with its text.
@@ -100,35 +106,43 @@ pub fn parse<'a>(alloc: Global, source: &'a [u8]) -> Result<Ast<'a>, SyntaxError
     })
 }
 
-/// The items of a text that a solver printed: `name = value;` each, in order. Spans count from the first byte of the
-/// slice. The errors are those of `parse`.
+/// The items of a text that a solver printed: `name = value;` each, in order. Spans count from the
+/// first byte of the slice. The errors are those of `parse`.
 pub fn read_items<'a>(alloc: Global, source: &'a [u8]) -> Result<Vec<Printed<'a>>, SyntaxError>
     // The source is a text of the items that are given.
     ensures found { IfOk result (λ items. IsTextOfItems source.now (bare_items items.items)) }
 
     // Items of which the source is a text are those given, unless memory runs out.
-    ensures only { (items : List tree.Printed) → IsTextOfItems source.now items → IsValue (λ given. bare_items given.items) result items }
+    ensures only { (items : List tree.Printed) → IsTextOfItems source.now items
+        → IsValue (λ given. bare_items given.items) result items }
 
     // Any items with the same tokens are these, whatever their size.
-    ensures same { IfOk result (λ items. (limits : Limits) (others : List tree.Printed) → AllByRecursion (IsPrinted limits) others → itoks others ≡ itoks (bare_items items.items) → others ≡ bare_items items.items) }
+    ensures same { IfOk result (λ items. (limits : Limits) (others : List tree.Printed)
+        → AllByRecursion (IsPrinted limits) others → itoks others ≡ itoks (bare_items items.items)
+        → others ≡ bare_items items.items) }
 
-    // A source past the limit, and no other, is refused as too long, whatever else is wrong with it.
+    // A source past the limit, and no other, is refused as too long, whatever else is wrong with
+    // it.
     ensures too_long { (result ≡ Err TooLong) ↔ (most_bytes < length source.now) }
 
-    // A fault that the lexer finds is the leftmost one, and it comes before each that the grammar finds.
+    // A fault that the lexer finds is the leftmost one, and it comes before each that the grammar
+    // finds.
     ensures order { IfErr result (IsRefusalOf source.now) }
 
     // The place of an error lies within the source.
     ensures placed { IfErr result (IsPlacedWithin (length source.now)) }
 
-    // The source is cut into the items' tokens, and each name and literal stands where its own tokens do.
+    // The source is cut into the items' tokens, and each name and literal stands where its own
+    // tokens do.
     ensures in_place { IfOk result (λ items. ArePlacedIn source.now (placed_items items.items)) }
 
     // So the names and literals stand one behind the other, each name with its text.
-    ensures stands { IfOk result (λ a. Stand source.now 0 (length source.now) (item_spots a.items)) }
+    ensures stands { IfOk result (λ a. Stand source.now 0 (length source.now)
+        (item_spots a.items)) }
 
     // The empty source has no items.
-    ensures empty { source.now ≡ [] → MatchResult result (λ items. items.items ≡ []) (λ e. e ≡ Memory) }
+    ensures empty { source.now ≡ []
+        → MatchResult result (λ items. items.items ≡ []) (λ e. e ≡ Memory) }
 {
     if source.len() > MOST_BYTES {
         return Err(SyntaxError::TooLong);

@@ -33,11 +33,14 @@ impl Printer {
 pub fn to_text(alloc: Global, ast: &Ast<'_>) -> Result<Vec<u8>, AllocError>
     ensures layout { IfOk result (λ text. text.items ≡ tree_text (bare ast.now)) }
 
-    // It lexes to the tokens of the tree, with numbers within the limit, where the tree's tokens can be written at all.
-    ensures reads_back { IfOk result (λ text. CanBeWritten (bare ast.now) → LexesWithNumbersInLimit text.items (toks (bare ast.now))) }
+    // It lexes to the tokens of the tree, with numbers within the limit, where the tree's tokens
+    // can be written at all.
+    ensures reads_back { IfOk result (λ text. CanBeWritten (bare ast.now)
+        → LexesWithNumbersInLimit text.items (toks (bare ast.now))) }
 
     // Of a tree that was read from a source it is a text too, where it isn't too long.
-    ensures again { IfOk result (λ text. (source : List ℕ) → IsTextOfTree source (bare ast.now) → length text.items ≤ most_bytes → IsTextOfTree text.items (bare ast.now)) }
+    ensures again { IfOk result (λ text. (source : List ℕ) → IsTextOfTree source (bare ast.now)
+        → length text.items ≤ most_bytes → IsTextOfTree text.items (bare ast.now)) }
 {
     let mut printer = Printer {
         text: Vec::new(alloc),

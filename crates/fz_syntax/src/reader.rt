@@ -35,7 +35,8 @@ impl<'a> Items<'a> {
         ensures begins { IfOk result (AtPredicates []) }
         ensures source { IfOk result (λ i. i.source.now ≡ source.now) }
         ensures too_long { (most_bytes < length source.now) → result ≡ Err TooLong }
-        ensures only_too_long { IfErr result (λ e. (e ≡ TooLong) × (most_bytes < length source.now)) }
+        ensures only_too_long { IfErr result
+            (λ e. (e ≡ TooLong) × (most_bytes < length source.now)) }
         ensures refused { IfErr result (IsRefused source.now) }
     {
         if source.len() > MOST_BYTES {
@@ -51,7 +52,8 @@ impl<'a> Items<'a> {
     /// Why the source is refused, where the grammar refuses the next token: a lexical fault comes
     /// first, wherever it is.
     fn refused(&self, refusal: Refusal) -> SyntaxError
-        ensures { self.now.parser.end ≡ length self.now.source.now → IsRefusedBy self.now.source.now refusal result }
+        ensures { self.now.parser.end ≡ length self.now.source.now
+            → IsRefusedBy self.now.source.now refusal result }
     {
         let error = self.parser.refused(refusal);
         match check_tokens(self.source) {
@@ -66,7 +68,9 @@ impl<'a> Items<'a> {
     ///
     /// Those of `parse`.
     pub fn predicate(&mut self) -> Result<Option<Predicate<'a>>, SyntaxError>
-        ensures offers { (ps : List the_predicate.Predicate) → AtPredicates ps self.old → Offers self.old.source.now result (λ p. AtPredicates (ps ++ p ∷ []) self.new) (AtDecls ps [] self.new) }
+        ensures offers { (ps : List the_predicate.Predicate) → AtPredicates ps self.old
+            → Offers self.old.source.now result (λ p. AtPredicates (ps ++ p ∷ []) self.new)
+            (AtDecls ps [] self.new) }
         ensures source { self.new.source.now ≡ self.old.source.now }
         ensures fewer { IfOk result (λ o. IfSome o (λ _. left_of self.new < left_of self.old)) }
     {
@@ -85,7 +89,9 @@ impl<'a> Items<'a> {
     ///
     /// Those of `parse`.
     pub fn decl(&mut self) -> Result<Option<Decl<'a>>, SyntaxError>
-        ensures offers { (ps : List the_predicate.Predicate) (ds : List the_decl.Decl) → AtDecls ps ds self.old → Offers self.old.source.now result (λ d. AtDecls ps (ds ++ d ∷ []) self.new) (AtConstraints ps ds [] self.new) }
+        ensures offers { (ps : List the_predicate.Predicate) (ds : List the_decl.Decl)
+            → AtDecls ps ds self.old → Offers self.old.source.now result
+            (λ d. AtDecls ps (ds ++ d ∷ []) self.new) (AtConstraints ps ds [] self.new) }
         ensures source { self.new.source.now ≡ self.old.source.now }
         ensures fewer { IfOk result (λ o. IfSome o (λ _. left_of self.new < left_of self.old)) }
     {
@@ -104,7 +110,10 @@ impl<'a> Items<'a> {
     ///
     /// Those of `parse`.
     pub fn constraint(&mut self) -> Result<Option<Constraint<'a>>, SyntaxError>
-        ensures offers { (ps : List the_predicate.Predicate) (ds : List the_decl.Decl) (cs : List the_constraint.Constraint) → AtConstraints ps ds cs self.old → Offers self.old.source.now result (λ c. AtConstraints ps ds (cs ++ c ∷ []) self.new) (AtSolve ps ds cs self.new) }
+        ensures offers { (ps : List the_predicate.Predicate) (ds : List the_decl.Decl)
+            (cs : List the_constraint.Constraint) → AtConstraints ps ds cs self.old
+            → Offers self.old.source.now result (λ c. AtConstraints ps ds (cs ++ c ∷ []) self.new)
+            (AtSolve ps ds cs self.new) }
         ensures source { self.new.source.now ≡ self.old.source.now }
         ensures fewer { IfOk result (λ o. IfSome o (λ _. left_of self.new < left_of self.old)) }
     {
@@ -123,7 +132,10 @@ impl<'a> Items<'a> {
     ///
     /// Those of `parse`.
     pub fn solve(mut self) -> Result<Solve<'a>, SyntaxError>
-        ensures text { (ps : List the_predicate.Predicate) (ds : List the_decl.Decl) (cs : List the_constraint.Constraint) → AtSolve ps ds cs self.entry → IsAllOf self.entry.source.now result (λ s. IsTextOfAll self.entry.source.now (record { predicates = ps; decls = ds; constraints = cs; solve = s })) }
+        ensures text { (ps : List the_predicate.Predicate) (ds : List the_decl.Decl)
+            (cs : List the_constraint.Constraint) → AtSolve ps ds cs self.entry
+            → IsAllOf self.entry.source.now result (λ s. IsTextOfAll self.entry.source.now
+            (record { predicates = ps; decls = ds; constraints = cs; solve = s })) }
     {
         let item = match self.parser.solve() {
             Ok(item) => item,
@@ -138,7 +150,8 @@ impl<'a> Items<'a> {
 
     /// All predicate items that are left.
     pub(crate) fn predicates(&mut self) -> Result<Vec<Predicate<'a>>, SyntaxError>
-        ensures all { AtPredicates [] self.old → IsAllOf self.old.source.now result (λ v. AtDecls v.items [] self.new) }
+        ensures all { AtPredicates [] self.old
+            → IsAllOf self.old.source.now result (λ v. AtDecls v.items [] self.new) }
         ensures source { self.new.source.now ≡ self.old.source.now }
     {
         let mut items = Vec::new(self.parser.alloc);
@@ -150,7 +163,8 @@ impl<'a> Items<'a> {
 
     /// All declarations that are left.
     pub(crate) fn decls(&mut self) -> Result<Vec<Decl<'a>>, SyntaxError>
-        ensures all { (ps : List the_predicate.Predicate) → AtDecls ps [] self.old → IsAllOf self.old.source.now result (λ v. AtConstraints ps v.items [] self.new) }
+        ensures all { (ps : List the_predicate.Predicate) → AtDecls ps [] self.old
+            → IsAllOf self.old.source.now result (λ v. AtConstraints ps v.items [] self.new) }
         ensures source { self.new.source.now ≡ self.old.source.now }
     {
         let mut items = Vec::new(self.parser.alloc);
@@ -162,7 +176,9 @@ impl<'a> Items<'a> {
 
     /// All constraints that are left.
     pub(crate) fn constraints(&mut self) -> Result<Vec<Constraint<'a>>, SyntaxError>
-        ensures all { (ps : List the_predicate.Predicate) (ds : List the_decl.Decl) → AtConstraints ps ds [] self.old → IsAllOf self.old.source.now result (λ v. AtSolve ps ds v.items self.new) }
+        ensures all { (ps : List the_predicate.Predicate) (ds : List the_decl.Decl)
+            → AtConstraints ps ds [] self.old
+            → IsAllOf self.old.source.now result (λ v. AtSolve ps ds v.items self.new) }
         ensures source { self.new.source.now ≡ self.old.source.now }
     {
         let mut items = Vec::new(self.parser.alloc);

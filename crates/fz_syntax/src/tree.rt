@@ -16,8 +16,8 @@ pub struct Literal {
     pub what: LiteralKind,
 }
 
-/// A whole number, `true` or `false`, a range by its two ends, or the numbers in braces as they are written, with
-/// repeats.
+/// An integer, `true` or `false`, a range by its two ends, or the numbers in braces as they are
+/// written, with repeats.
 #[derive(Drop)]
 pub enum LiteralKind {
     Whole(i64),
@@ -66,7 +66,8 @@ pub enum NoteBasic<'a> {
     Inner(Note<'a>),
 }
 
-/// A type without `var` and `array`. The literal is its bounds: a range or numbers in braces; `int` has none.
+/// A type without `var` and `array`. The literal is its bounds: a range or numbers in braces; `int`
+/// has none.
 #[derive(Drop)]
 pub enum Base {
     Bool,

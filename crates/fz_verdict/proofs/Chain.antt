@@ -23,7 +23,8 @@ use Rattle.fz_verdict.specs.Filling.{IsFirstStep, Chain, counted_from, IsFilling
 use Rattle.fz_verdict.specs.Filling.Chain.{Ends, Step}
 
 -- what holds of each point holds of the one of a first step
-pub at_first_step : (P : Point → Type 0) (m : Model) (K : Partial) (from k n : ℕ) (v : Value) → AllByRecursion P (points m) → (s : IsFirstStep m K from k n v) → P s.point
+pub at_first_step : (P : Point → Type 0) (m : Model) (K : Partial) (from k n : ℕ) (v : Value)
+    → AllByRecursion P (points m) → (s : IsFirstStep m K from k n v) → P s.point
 at_first_step P m K from k n v h s =
     let each : AllByRecursion (λ q. P q.1) (enumerate_from 0 (points m)) = all_enumerated P 0 (points m) h in
     let counted : AllByRecursion (λ q. P q.1) (counted_from from (enumerate_from 0 (points m))) =
@@ -37,18 +38,21 @@ module _ (K L : Partial) (under : HasAllOf K L) where
   value_under (Var n) v e = under n v e
   value_under (Fixed w) v e = e
 
-  pub values_under : (ts : List Term) (vs : List Value) → values K ts ≡ Some vs → values L ts ≡ Some vs
+  pub values_under : (ts : List Term) (vs : List Value) → values K ts ≡ Some vs
+      → values L ts ≡ Some vs
   values_under [] vs e = e
   values_under (t ∷ ts) vs e =
       let (v, ws, is, are, cons) = option_cons_parts (value K t) (values K ts) vs e in
       (λ i. option_cons (value_under t v is i) (values_under ts ws are i)) ∙ ap Some (sym cons)
 
-  argument_under : (x : Argument) (a : ArgValue) → argument_value K x ≡ Some a → argument_value L x ≡ Some a
+  argument_under : (x : Argument) (a : ArgValue) → argument_value K x ≡ Some a
+      → argument_value L x ≡ Some a
   argument_under (One (Scalar k t)) a e = let (v, is, same) = map_some OneValue (value K t) a e in ap (option_map OneValue) (value_under t v is) ∙ ap Some same
   argument_under (One (Array name k ts)) a e = let (vs, is, same) = map_some ManyValues (values K ts) a e in ap (option_map ManyValues) (values_under ts vs is) ∙ ap Some same
   argument_under (ListOf ps) a e = let (vs, is, same) = map_some ManyValues (values K (terms_in (ListOf ps))) a e in ap (option_map ManyValues) (values_under (terms_in (ListOf ps)) vs is) ∙ ap Some same
 
-  pub arguments_under : (xs : List Argument) (as' : List ArgValue) → argument_values K xs ≡ Some as' → argument_values L xs ≡ Some as'
+  pub arguments_under : (xs : List Argument) (as' : List ArgValue) → argument_values K xs ≡ Some as'
+      → argument_values L xs ≡ Some as'
   arguments_under [] as' e = e
   arguments_under (x ∷ xs) as' e =
       let (a, bs, is, are, cons) = option_cons_parts (argument_value K x) (argument_values K xs) as' e in
@@ -56,18 +60,21 @@ module _ (K L : Partial) (under : HasAllOf K L) where
 
 -- what has a value with one value of the variable has one with another
 module _ (K : Partial) (n : ℕ) (v w : Value) where
-  value_at_defined : (K : Partial) (n k : ℕ) (u : Value) → value_at (give K n v) k ≡ Some u → (t : Value) × (value_at (give K n w) k ≡ Some t)
+  value_at_defined : (K : Partial) (n k : ℕ) (u : Value) → value_at (give K n v) k ≡ Some u
+      → (t : Value) × (value_at (give K n w) k ≡ Some t)
   value_at_defined [] n k u e = (u, e)
   value_at_defined (o ∷ K) zero zero u e = (w, refl)
   value_at_defined (o ∷ K) zero (suc k) u e = (u, e)
   value_at_defined (o ∷ K) (suc n) zero u e = (u, e)
   value_at_defined (o ∷ K) (suc n) (suc k) u e = value_at_defined K n k u e
 
-  value_defined : (t : Term) (u : Value) → value (give K n v) t ≡ Some u → (s : Value) × (value (give K n w) t ≡ Some s)
+  value_defined : (t : Term) (u : Value) → value (give K n v) t ≡ Some u
+      → (s : Value) × (value (give K n w) t ≡ Some s)
   value_defined (Var k) u e = value_at_defined K n k u e
   value_defined (Fixed s) u e = (s, refl)
 
-  values_defined : (ts : List Term) (us : List Value) → values (give K n v) ts ≡ Some us → (ss : List Value) × (values (give K n w) ts ≡ Some ss)
+  values_defined : (ts : List Term) (us : List Value) → values (give K n v) ts ≡ Some us
+      → (ss : List Value) × (values (give K n w) ts ≡ Some ss)
   values_defined [] us e = ([], refl)
   values_defined (t ∷ ts) us e =
       let (u, rest, is, are, cons) = option_cons_parts (value (give K n v) t) (values (give K n v) ts) us e in
@@ -75,7 +82,8 @@ module _ (K : Partial) (n : ℕ) (v w : Value) where
       let (ss, ss_are) = values_defined ts rest are in
       (s ∷ ss, λ i. option_cons (s_is i) (ss_are i))
 
-  argument_defined : (x : Argument) (a : ArgValue) → argument_value (give K n v) x ≡ Some a → (b : ArgValue) × (argument_value (give K n w) x ≡ Some b)
+  argument_defined : (x : Argument) (a : ArgValue) → argument_value (give K n v) x ≡ Some a
+      → (b : ArgValue) × (argument_value (give K n w) x ≡ Some b)
   argument_defined (One (Scalar k t)) a e = let (u, is, same) = map_some OneValue (value (give K n v) t) a e in let (s, s_is) = value_defined t u is in (OneValue s, ap (option_map OneValue) s_is)
   argument_defined (One (Array name k ts)) a e = let (us, is, same) = map_some ManyValues (values (give K n v) ts) a e in let (ss, ss_are) = values_defined ts us is in (ManyValues ss, ap (option_map ManyValues) ss_are)
   argument_defined (ListOf ps) a e =
@@ -83,7 +91,9 @@ module _ (K : Partial) (n : ℕ) (v w : Value) where
       let (ss, ss_are) = values_defined (terms_in (ListOf ps)) us is in
       (ManyValues ss, ap (option_map ManyValues) ss_are)
 
-  arguments_defined : (xs : List Argument) (as' : List ArgValue) → argument_values (give K n v) xs ≡ Some as' → (bs : List ArgValue) × (argument_values (give K n w) xs ≡ Some bs)
+  arguments_defined : (xs : List Argument) (as' : List ArgValue)
+      → argument_values (give K n v) xs ≡ Some as'
+      → (bs : List ArgValue) × (argument_values (give K n w) xs ≡ Some bs)
   arguments_defined [] as' e = ([], refl)
   arguments_defined (x ∷ xs) as' e =
       let (a, rest, is, are, cons) = option_cons_parts (argument_value (give K n v) x) (argument_values (give K n v) xs) as' e in
@@ -91,30 +101,38 @@ module _ (K : Partial) (n : ℕ) (v w : Value) where
       let (bs, bs_are) = arguments_defined xs rest are in
       (b ∷ bs, λ i. option_cons (b_is i) (bs_are i))
 
-given_or_before : (K : Partial) (n k : ℕ) (v u : Value) → value_at (give K n v) k ≡ Some u → ((k ≡ n) × (u ≡ v)) ⊎ (value_at K k ≡ Some u)
+given_or_before : (K : Partial) (n k : ℕ) (v u : Value) → value_at (give K n v) k ≡ Some u
+    → ((k ≡ n) × (u ≡ v)) ⊎ (value_at K k ≡ Some u)
 given_or_before [] n k v u e = inr e
 given_or_before (o ∷ K) zero zero v u e = inl (refl, cc)
 given_or_before (o ∷ K) zero (suc k) v u e = inr e
 given_or_before (o ∷ K) (suc n) zero v u e = inr e
 given_or_before (o ∷ K) (suc n) (suc k) v u e = elim (given_or_before K n k v u e) [ inl h ↦ inl (ap suc h.0, h.1) | inr h ↦ inr h ]
 
-under_give : (K L : Partial) (n : ℕ) (v : Value) → HasAllOf K L → value_at L n ≡ Some v → HasAllOf (give K n v) L
+under_give : (K L : Partial) (n : ℕ) (v : Value) → HasAllOf K L → value_at L n ≡ Some v
+    → HasAllOf (give K n v) L
 under_give K L n v under at k u e = elim (given_or_before K n k v u e) [ inl h ↦ ap (value_at L) h.0 ∙ at ∙ ap Some (sym h.1) | inr h ↦ under k u h ]
 
 -- ---- a step
 
-pub some_and : {A : Type 0} (P : A → Type 0) (o : Option A) (x : A) → IsSomeAnd o P → o ≡ Some x → P x
+pub some_and : {A : Type 0} (P : A → Type 0) (o : Option A) (x : A) → IsSomeAnd o P → o ≡ Some x
+    → P x
 some_and P o x h e = subst (λ p. IsSomeAnd p P) e h
 
 -- an assignment gives each variable a value of its kind
-pub assigned : (xs : List Variable) (A : Assignment) (n : ℕ) (k : Kind) → FitVariables xs (whole A) → option_map (λ x. x.kind) (slice_get xs n) ≡ Some k → (w : Value) × (value_at (whole A) n ≡ Some w) × (kind_of w ≡ k)
+pub assigned : (xs : List Variable) (A : Assignment) (n : ℕ) (k : Kind) → FitVariables xs (whole A)
+    → option_map (λ x. x.kind) (slice_get xs n) ≡ Some k
+    → (w : Value) × (value_at (whole A) n ≡ Some w) × (kind_of w ≡ k)
 assigned [] A n k h e = cc
 assigned (x ∷ xs) [] n k h e = absurd h
 assigned (x ∷ xs) (a ∷ A) zero k h e = let same : x.kind ≡ k = cc in (a, refl, h.0 ∙ same)
 assigned (x ∷ xs) (a ∷ A) (suc n) k h e = assigned xs A n k h.1 e
 
--- where the point holds with one value of the variable, it holds with the one that a known-solution has
-holds_too : (A : Assignment) (K : Partial) (p : Point) (n : ℕ) (v w : Value) → IsTarget K p n → HasAllOf (give K n w) (whole A) → HoldsIfKnown (whole A) p → HoldsUnder (give K n v) p → HoldsUnder (give K n w) p
+-- where the point holds with one value of the variable, it holds with the one that a known-solution
+-- has
+holds_too : (A : Assignment) (K : Partial) (p : Point) (n : ℕ) (v w : Value) → IsTarget K p n
+    → HasAllOf (give K n w) (whole A) → HoldsIfKnown (whole A) p → HoldsUnder (give K n v) p
+    → HoldsUnder (give K n w) p
 holds_too A K (DomainPoint x k) n v w target under h s =
     let (u, at, in') = some_of (λ z. IsTrue (inside x.domain z)) (value_at (give K n v) k) s in
     let (t, t_at) = value_defined K n v w (Var k) u at in
@@ -142,14 +160,17 @@ holds_too A K (ConstraintPoint k p) n v w target under h s =
     ]) h s
 
 -- a known-solution has the value of a forced step
-step_agrees : (m : Model) (A : Assignment) (K : Partial) (p : Point) (n : ℕ) (v : Value) → IsAssignment m A → HoldsIfKnown (whole A) p → PointFits m p → HasAllOf K (whole A) → Gives m K p n v → value_at (whole A) n ≡ Some v
+step_agrees : (m : Model) (A : Assignment) (K : Partial) (p : Point) (n : ℕ) (v : Value)
+    → IsAssignment m A → HoldsIfKnown (whole A) p → PointFits m p → HasAllOf K (whole A)
+    → Gives m K p n v → value_at (whole A) n ≡ Some v
 step_agrees m A K p n v assignment h fits under g =
     let (w, at, kind) = assigned (variables_of m) A n (kind_of v) assignment g.of_kind in
     let same : v ≡ w = only_value m K p n v w fits g kind (holds_too A K p n v w g.target (under_give K (whole A) n w under at) h g.then_holds) in
     at ∙ ap Some (sym same)
 
 -- along the chain a known-solution that agrees with the start agrees with the end
-pub chain_agrees : (m : Model) (A : Assignment) {K : Partial} {from : ℕ} {F : Partial} → IsKnownSolution m A → HasAllOf K (whole A) → Chain m K from F → HasAllOf F (whole A)
+pub chain_agrees : (m : Model) (A : Assignment) {K : Partial} {from : ℕ} {F : Partial}
+    → IsKnownSolution m A → HasAllOf K (whole A) → Chain m K from F → HasAllOf F (whole A)
 chain_agrees m A solution under (Ends h) = under
 chain_agrees m A solution under (Step {K = K} {from = from} {k = k} {n = n} {v = v} s rest) =
     let both : HoldsIfKnown (whole A) s.point × PointFits m s.point =
@@ -162,7 +183,8 @@ abbrev pub Agrees : Partial → (Term × Value) → Type 0
 Agrees K q = value K q.0 ≡ Some q.1
 
 -- the printed scalars of a block have the printed values where the assignment extends the block
-pairs_agree : (K : Partial) (ts : List Term) (vs : List Value) → values K ts ≡ Some vs → AllByRecursion (Agrees K) (pairs ts vs)
+pairs_agree : (K : Partial) (ts : List Term) (vs : List Value) → values K ts ≡ Some vs
+    → AllByRecursion (Agrees K) (pairs ts vs)
 pairs_agree K [] vs e = tt
 pairs_agree K (t ∷ ts) [] e = tt
 pairs_agree K (t ∷ ts) (v ∷ vs) e =
@@ -171,23 +193,28 @@ pairs_agree K (t ∷ ts) (v ∷ vs) e =
     let rest : vs ≡ us = cc in
     (is ∙ ap Some (sym first), pairs_agree K ts vs (are ∙ ap Some (sym rest)))
 
-place_agrees : (K : Partial) (p : Place) (printed : PrintedValue) → HasPrinted K p printed → AllByRecursion (Agrees K) (pairs_at p printed)
+place_agrees : (K : Partial) (p : Place) (printed : PrintedValue) → HasPrinted K p printed
+    → AllByRecursion (Agrees K) (pairs_at p printed)
 place_agrees K (Scalar k t) (PrintedValue.OneValue l) h = (h, tt)
 place_agrees K (Scalar k t) (PrintedValue.ArrayOf is ls) h = absurd h
 place_agrees K (Array name k ts) (PrintedValue.OneValue l) h = absurd h
 place_agrees K (Array name k ts) (PrintedValue.ArrayOf is ls) h = pairs_agree K ts (printed_values ls) h
 
-item_agrees : (A : Assignment) (o : Option Place) (printed : PrintedValue) → IsSomeAnd o (λ p. HasPrinted (whole A) p printed) → AllByRecursion (Agrees (whole A)) (option_map_or (λ p. pairs_at p printed) o [])
+item_agrees : (A : Assignment) (o : Option Place) (printed : PrintedValue)
+    → IsSomeAnd o (λ p. HasPrinted (whole A) p printed)
+    → AllByRecursion (Agrees (whole A)) (option_map_or (λ p. pairs_at p printed) o [])
 item_agrees A None printed h = absurd h
 item_agrees A (Some p) printed h = place_agrees (whole A) p printed h
 
-pub printed_agree : (m : Model) (A : Assignment) (items : List Printed) → ExtendsItems m A items → AllByRecursion (Agrees (whole A)) (printed_scalars m items)
+pub printed_agree : (m : Model) (A : Assignment) (items : List Printed) → ExtendsItems m A items
+    → AllByRecursion (Agrees (whole A)) (printed_scalars m items)
 printed_agree m A [] h = tt
 printed_agree m A (i ∷ block) h =
     all_append (Agrees (whole A)) (option_map_or (λ p. pairs_at p i.value) (find_name m i.name.text) []) (printed_scalars m block) (item_agrees A (find_name m i.name.text) i.value h.0) (printed_agree m A block h.1)
 
 -- the value at the first place where a variable is printed is one of those printed
-first_agrees : (K : Partial) (qs : List (Term × Value)) (n : ℕ) (v : Value) → AllByRecursion (Agrees K) qs → first_printed qs n ≡ Some v → value_at K n ≡ Some v
+first_agrees : (K : Partial) (qs : List (Term × Value)) (n : ℕ) (v : Value)
+    → AllByRecursion (Agrees K) qs → first_printed qs n ≡ Some v → value_at K n ≡ Some v
 first_agrees K [] n v h e = cc
 first_agrees K ((Fixed w, u) ∷ qs) n v h e = first_agrees K qs n v h.1 e
 first_agrees K ((Var k, u) ∷ qs) n v h e =
@@ -199,14 +226,17 @@ first_agrees K ((Var k, u) ∷ qs) n v h e =
     same_number : (a b : ℕ) → (a == b) ≡ true → a ≡ b
     same_number a b e = eqb-true a b e
 
-start_is : (qs : List (Term × Value)) (n : ℕ) (xs : List Variable) (k : ℕ) (v : Value) → value_at (start_from qs n xs) k ≡ Some v → first_printed qs (n + k) ≡ Some v
+start_is : (qs : List (Term × Value)) (n : ℕ) (xs : List Variable) (k : ℕ) (v : Value)
+    → value_at (start_from qs n xs) k ≡ Some v → first_printed qs (n + k) ≡ Some v
 start_is qs n [] k v e = cc
 start_is qs n (x ∷ xs) zero v e = ap (first_printed qs) (add-zero n) ∙ e
 start_is qs n (x ∷ xs) (suc k) v e = let count : n + suc k ≡ suc n + k = omega arith in ap (first_printed qs) count ∙ start_is qs (suc n) xs k v e
 
-start_agrees : (m : Model) (A : Assignment) (block : Block) → Extends m A block → HasAllOf (start m block) (whole A)
+start_agrees : (m : Model) (A : Assignment) (block : Block) → Extends m A block
+    → HasAllOf (start m block) (whole A)
 start_agrees m A block h n v e = first_agrees (whole A) (printed_scalars m block.items) n v (printed_agree m A block.items h) (ap (first_printed (printed_scalars m block.items)) (sym (zero-add n)) ∙ start_is (printed_scalars m block.items) 0 (variables_of m) n v e)
 
 -- a known-solution that extends a block agrees with its filling
-pub filling_agrees : (m : Model) (A : Assignment) (block : Block) (F : Partial) → IsKnownSolution m A → Extends m A block → IsFilling m block F → HasAllOf F (whole A)
+pub filling_agrees : (m : Model) (A : Assignment) (block : Block) (F : Partial)
+    → IsKnownSolution m A → Extends m A block → IsFilling m block F → HasAllOf F (whole A)
 filling_agrees m A block F solution extends filling = chain_agrees m A solution (start_agrees m A block extends) filling

@@ -1,5 +1,5 @@
--- Where values are looked for, and where they aren't: what is told of the blocks is judged under some values, and what is told violated is
--- violated under the filling.
+-- Where values are looked for, and where they aren't: what is told of the blocks is judged under
+-- some values, and what is told violated is violated under the filling.
 use Rattle.std.proofs.Common.{◌≡◌, ℕ, suc, zero, ℤ, List, [], ◌∷◌, length, Option, Some, None, refl, sym, ap, subst, ◌∙◌, slice_get}
 use Rattle.std.specs.List.{AllByRecursion}
 use Rattle.fz_model.specs.Located.{LocatedTree}
@@ -20,13 +20,16 @@ use Rattle.fz_verdict.proofs.Start.{filling_proposed}
 
 -- ---- one block
 
-violated_told : (c : Completion) (m : Model) (block : Block) (before : Option ℤ) (F : Partial) (w v : Verdict) (kept : Option ℤ) (f : Fault) → IsToldBy c m block before F w v kept → v ≡ Violated f → w ≡ Violated f
+violated_told : (c : Completion) (m : Model) (block : Block) (before : Option ℤ) (F : Partial)
+    (w v : Verdict) (kept : Option ℤ) (f : Fault) → IsToldBy c m block before F w v kept
+    → v ≡ Violated f → w ≡ Violated f
 violated_told Off m block before F w v kept f is e = sym is ∙ e
 violated_told On m block before F w v kept f (Found K lacks partial satisfied) e = absurd cc
 violated_told On m block before F w v kept f (AsFilled other) e = e
 violated_told On m block before F w v kept f (NotShownBetter fails) e = absurd cc
 
-keeps_told : (m : Model) (block : Block) (before : Option ℤ) (F : Partial) (w v : Verdict) (kept : Option ℤ) → IsCompleted m block before F w v kept → (LacksValuesAtMost w → ⊥) → v ≡ w
+keeps_told : (m : Model) (block : Block) (before : Option ℤ) (F : Partial) (w v : Verdict)
+    (kept : Option ℤ) → IsCompleted m block before F w v kept → (LacksValuesAtMost w → ⊥) → v ≡ w
 keeps_told m block before F w v kept (Found K lacks partial satisfied) h = absurd (h lacks)
 keeps_told m block before F w v kept (AsFilled other) h = refl
 keeps_told m block before F w v kept (NotShownBetter fails) h = absurd (h tt)
@@ -43,7 +46,9 @@ record SatisfiedUnder (c : Completion) (m : Model) (block : Block) (F : Partial)
   satisfied : verdict m values block (compared c filled found) ≡ Satisfied
   kept_is : objective m values ≡ compared c (objective m F) kept
 
-satisfied_under : (c : Completion) (m : Model) (block : Block) (F : Partial) (filled found kept : Option ℤ) (w v : Verdict) → IsPartial m F → w ≡ verdict m F block filled → IsToldBy c m block found F w v kept → v ≡ Satisfied
+satisfied_under : (c : Completion) (m : Model) (block : Block) (F : Partial)
+    (filled found kept : Option ℤ) (w v : Verdict) → IsPartial m F → w ≡ verdict m F block filled
+    → IsToldBy c m block found F w v kept → v ≡ Satisfied
     → SatisfiedUnder c m block F filled found kept
 satisfied_under Off m block F filled found kept w v partial under is e = record { values = F; partial = partial; satisfied = sym under ∙ sym is ∙ e; kept_is = refl }
 satisfied_under On m block F filled found kept w v partial under (Found K lacks fits satisfied) e = record { values = K; partial = fits; satisfied = satisfied; kept_is = refl }
@@ -52,12 +57,16 @@ satisfied_under On m block F filled found kept w v partial under (NotShownBetter
 
 -- ---- all blocks
 
-pub told_lengths : (c : Completion) (m : Model) {filled found : Option ℤ} {blocks : List Block} {vs : List Verdict} → AreTold c m filled found blocks vs → length blocks ≡ length vs
+pub told_lengths : (c : Completion)
+    (m : Model) {filled found : Option ℤ} {blocks : List Block} {vs : List Verdict}
+    → AreTold c m filled found blocks vs → length blocks ≡ length vs
 told_lengths c m NoneTold = refl
 told_lengths c m (OneTold F is_filled is rest) = ap suc (told_lengths c m rest)
 
 -- where all are told satisfied, they are judged so under some values
-pub told_judged : (c : Completion) (t : LocatedTree) → HasNoFault t → {filled found : Option ℤ} {blocks : List Block} {vs : List Verdict} → AreTold c (model_of t) filled found blocks vs → AllByRecursion (λ v. v ≡ Satisfied) vs
+pub told_judged : (c : Completion) (t : LocatedTree) → HasNoFault t
+    → {filled found : Option ℤ} {blocks : List Block} {vs : List Verdict}
+    → AreTold c (model_of t) filled found blocks vs → AllByRecursion (λ v. v ≡ Satisfied) vs
     → AreJudged (model_of t) (λ b K. IsPartial (model_of t) K) (compared c filled found) blocks vs
 told_judged c t sound NoneTold h = NoneLeft
 told_judged c t sound (OneTold {filled = filled} {found = found} {kept = kept} {block = block} {blocks = blocks} {v = v} {vs = vs} F is_filled is rest) h =
@@ -68,7 +77,9 @@ told_judged c t sound (OneTold {filled = filled} {found = found} {kept = kept} {
     subst (λ u. AreJudged m P (compared c filled found) (block ∷ blocks) (u ∷ vs)) (s.satisfied ∙ sym h.0) (OneMore s.values s.partial others)
 
 -- one that is told satisfied has a solution
-pub told_solved : (c : Completion) (t : LocatedTree) → HasNoFault t → {filled found : Option ℤ} {blocks : List Block} {vs : List Verdict} → AreTold c (model_of t) filled found blocks vs
+pub told_solved : (c : Completion) (t : LocatedTree) → HasNoFault t
+    → {filled found : Option ℤ} {blocks : List Block} {vs : List Verdict}
+    → AreTold c (model_of t) filled found blocks vs
     → (i : ℕ) (block : Block) → slice_get blocks i ≡ Some block → slice_get vs i ≡ Some Satisfied → (A : Assignment) × Extends (model_of t) A block × IsSolution (model_of t) A
 told_solved c t sound NoneTold i block at is = cc
 told_solved c t sound (OneTold {filled = filled} {found = found} {kept = kept} {block = b} {v = v} F is_filled is_told rest) zero block at is =
@@ -85,14 +96,18 @@ pub record FilledVerdicts (c : Completion) (m : Model) (filled : Option ℤ) (bl
   pub verdicts : List Verdict
   pub judged : AreJudged m (IsFilled m) filled blocks verdicts
   pub one_each : length verdicts ≡ length vs
-  pub violated : (i : ℕ) (f : Fault) → slice_get vs i ≡ Some (Violated f) → slice_get verdicts i ≡ Some (Violated f)
+  pub violated : (i : ℕ) (f : Fault) → slice_get vs i ≡ Some (Violated f)
+      → slice_get verdicts i ≡ Some (Violated f)
 
-violated_at : (c : Completion) (m : Model) (block : Block) (before : Option ℤ) (F : Partial) (w v : Verdict) (kept : Option ℤ) (vs ws : List Verdict) → IsToldBy c m block before F w v kept
+violated_at : (c : Completion) (m : Model) (block : Block) (before : Option ℤ) (F : Partial)
+    (w v : Verdict) (kept : Option ℤ) (vs ws : List Verdict) → IsToldBy c m block before F w v kept
     → ((i : ℕ) (f : Fault) → slice_get vs i ≡ Some (Violated f) → slice_get ws i ≡ Some (Violated f)) → (i : ℕ) (f : Fault) → slice_get (v ∷ vs) i ≡ Some (Violated f) → slice_get (w ∷ ws) i ≡ Some (Violated f)
 violated_at c m block before F w v kept vs ws is_told others zero f is = ap Some (violated_told c m block before F w v kept f is_told cc)
 violated_at c m block before F w v kept vs ws is_told others (suc i) f is = others i f is
 
-pub filled_verdicts : (c : Completion) (m : Model) {filled found : Option ℤ} {blocks : List Block} {vs : List Verdict} → AreTold c m filled found blocks vs → FilledVerdicts c m filled blocks vs
+pub filled_verdicts : (c : Completion)
+    (m : Model) {filled found : Option ℤ} {blocks : List Block} {vs : List Verdict}
+    → AreTold c m filled found blocks vs → FilledVerdicts c m filled blocks vs
 filled_verdicts c m NoneTold = record { verdicts = []; judged = NoneLeft; one_each = refl; violated = λ i f is. is }
 filled_verdicts c m (OneTold {filled = filled} {found = found} {kept = kept} {block = block} {blocks = blocks} {v = v} {vs = vs} F is_filled is_told rest) =
     let w : FilledVerdicts c m (objective m F) blocks vs = filled_verdicts c m rest in
@@ -104,24 +119,31 @@ filled_verdicts c m (OneTold {filled = filled} {found = found} {kept = kept} {bl
     }
 
 -- where a report accepts, its blocks are judged under some values
-pub accepted_judged : (c : Completion) (t : LocatedTree) → HasNoFault t → (blocks : List Block) (vs : List Verdict) (n : ℕ) → AreVerdicts c (model_of t) blocks vs → answer_of vs ≡ Accepted n
+pub accepted_judged : (c : Completion) (t : LocatedTree) → HasNoFault t
+    → (blocks : List Block) (vs : List Verdict) (n : ℕ) → AreVerdicts c (model_of t) blocks vs
+    → answer_of vs ≡ Accepted n
     → AreJudged (model_of t) (λ b K. IsPartial (model_of t) K) None blocks vs
 accepted_judged Off t sound blocks vs n told answer = told_judged Off t sound told (all_satisfied vs n answer)
 accepted_judged On t sound blocks vs n told answer = told_judged On t sound told (all_satisfied vs n answer)
 
 -- ---- a report for which values are looked for, beside the one for which they aren't
 
-filled_told : (m : Model) {filled : Option ℤ} {blocks : List Block} {ws : List Verdict} → (found : Option ℤ) → AreJudged m (IsFilled m) filled blocks ws → AreTold Off m filled found blocks ws
+filled_told : (m : Model) {filled : Option ℤ} {blocks : List Block} {ws : List Verdict}
+    → (found : Option ℤ) → AreJudged m (IsFilled m) filled blocks ws
+    → AreTold Off m filled found blocks ws
 filled_told m found NoneLeft = NoneTold
 filled_told m found (OneMore F is_filled rest) = OneTold F is_filled refl (filled_told m found rest)
 
 some_is : {x y : Verdict} → Some x ≡ Some y → x ≡ y
 some_is e = cc
 
-keeps_here : (m : Model) (block : Block) (before : Option ℤ) (F : Partial) (w w' v v' : Verdict) (kept : Option ℤ) → IsCompleted m block before F w v kept → v ≡ v' → w ≡ w' → (LacksValuesAtMost w' → ⊥) → v' ≡ w'
+keeps_here : (m : Model) (block : Block) (before : Option ℤ) (F : Partial) (w w' v v' : Verdict)
+    (kept : Option ℤ) → IsCompleted m block before F w v kept → v ≡ v' → w ≡ w'
+    → (LacksValuesAtMost w' → ⊥) → v' ≡ w'
 keeps_here m block before F w w' v v' kept is_told here there other = sym here ∙ keeps_told m block before F w v kept is_told (λ h. other (subst LacksValuesAtMost there h)) ∙ there
 
-keeps : (m : Model) {filled found : Option ℤ} {blocks : List Block} {vs : List Verdict} → (t : AreTold On m filled found blocks vs) → (i : ℕ) (v w : Verdict)
+keeps : (m : Model) {filled found : Option ℤ} {blocks : List Block} {vs : List Verdict}
+    → (t : AreTold On m filled found blocks vs) → (i : ℕ) (v w : Verdict)
     → slice_get vs i ≡ Some v → slice_get (filled_verdicts On m t).verdicts i ≡ Some w → (LacksValuesAtMost w → ⊥) → v ≡ w
 unfolding filled_verdicts
 keeps m NoneTold i v w at is other = cc
@@ -129,7 +151,8 @@ keeps m (OneTold {filled = filled} {found = found} {kept = kept} {block = block}
     keeps_here m block found F (verdict m F block filled) w u v kept is_told (some_is at) (some_is is) other
 keeps m (OneTold F is_filled is_told rest) (suc i) v w at is other = keeps m rest i v w at is other
 
-pub keeps_verdicts : (m : Model) (blocks : List Block) (vs : List Verdict) → AreVerdicts On m blocks vs
+pub keeps_verdicts : (m : Model) (blocks : List Block) (vs : List Verdict)
+    → AreVerdicts On m blocks vs
     → (ws : List Verdict) × AreVerdicts Off m blocks ws × (length ws ≡ length vs)
     × ((i : ℕ) (v w : Verdict) → slice_get vs i ≡ Some v → slice_get ws i ≡ Some w → (LacksValuesAtMost w → ⊥) → v ≡ w)
     × ((i : ℕ) (f : Fault) → slice_get vs i ≡ Some (Violated f) → slice_get ws i ≡ Some (Violated f))

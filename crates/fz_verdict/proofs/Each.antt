@@ -14,7 +14,8 @@ use Rattle.fz_verdict.specs.Verdict.Fault.{NotBetter}
 use Rattle.fz_verdict.proofs.Completing.{FilledVerdicts, filled_verdicts, told_solved}
 use Rattle.fz_verdict.proofs.Violated.{violated_has_none, not_better_has_none, is_not_better, never_first}
 
--- the block before the one at a place, and what was proposed for it, under which it has the objective
+-- the block before the one at a place, and what was proposed for it, under which it has the
+-- objective
 record BlockBefore (m : Model) (P : Block → Partial → Type 0) (blocks : List Block) (i : ℕ) (kept : Option ℤ) : Type 0 where
   place : ℕ
   block : Block
@@ -32,7 +33,9 @@ record JudgedAt (m : Model) (P : Block → Partial → Type 0) (before : Option 
   is : verdict m proposed block kept ≡ v
   kept_from : ((i ≡ zero) × (kept ≡ before)) ⊎ BlockBefore m P blocks i kept
 
-judged_at : (m : Model) (P : Block → Partial → Type 0) {before : Option ℤ} {blocks : List Block} {vs : List Verdict} → AreJudged m P before blocks vs
+judged_at : (m : Model) (P : Block → Partial
+    → Type 0) {before : Option ℤ} {blocks : List Block} {vs : List Verdict}
+    → AreJudged m P before blocks vs
     → (i : ℕ) (block : Block) (v : Verdict) → slice_get blocks i ≡ Some block → slice_get vs i ≡ Some v → JudgedAt m P before blocks i block v
 judged_at m P NoneLeft i block v at is = cc
 judged_at m P (OneMore {before = before} {block = b} K proposed rest) zero block v at is =
@@ -52,16 +55,21 @@ judged_at m P (OneMore {before = before} {block = b} K proposed rest) (suc i) bl
       ];
     }
 
--- Block number i, counted from 0, that is violated by anything but its objective is extended by no known-solution.
-pub each_violated : (c : Completion) (m : Model) (blocks : List Block) (vs : List Verdict) (i : ℕ) (block : Block) (f : Fault) → AreVerdicts c m blocks vs → slice_get blocks i ≡ Some block → slice_get vs i ≡ Some (Violated f)
+-- Block number i, counted from 0, that is violated by anything but its objective is extended by no
+-- known-solution.
+pub each_violated : (c : Completion) (m : Model) (blocks : List Block) (vs : List Verdict) (i : ℕ)
+    (block : Block) (f : Fault) → AreVerdicts c m blocks vs → slice_get blocks i ≡ Some block
+    → slice_get vs i ≡ Some (Violated f)
     → ((now earlier : ℤ) → f ≡ NotBetter now earlier → ⊥) → (A : Assignment) → IsKnownSolution m A → Extends m A block → ⊥
 each_violated c m blocks vs i block f are at is other =
     let w : FilledVerdicts c m None blocks vs = filled_verdicts c m are in
     let j : JudgedAt m (IsFilled m) None blocks i block (Violated f) = judged_at m (IsFilled m) w.judged i block (Violated f) at (w.violated i f is) in
     violated_has_none m block j.proposed j.kept f j.is_proposed.filling j.is (λ h. let (now, earlier, e) = is_not_better f h in other now earlier e)
 
--- Where it is violated by its objective, there is a block before it, and no two known-solutions that extend the two improve.
-pub each_not_better : (c : Completion) (m : Model) (blocks : List Block) (vs : List Verdict) (i : ℕ) (block : Block) (now before : ℤ) → AreVerdicts c m blocks vs → slice_get blocks i ≡ Some block
+-- Where it is violated by its objective, there is a block before it, and no two known-solutions
+-- that extend the two improve.
+pub each_not_better : (c : Completion) (m : Model) (blocks : List Block) (vs : List Verdict) (i : ℕ)
+    (block : Block) (now before : ℤ) → AreVerdicts c m blocks vs → slice_get blocks i ≡ Some block
     → slice_get vs i ≡ Some (Violated (NotBetter now before))
     → (j : ℕ) × (earlier : Block) × (i ≡ suc j) × (slice_get blocks j ≡ Some earlier)
     × ((A B : Assignment) → IsKnownSolution m A → Extends m A earlier → IsKnownSolution m B → Extends m B block → Improves m (Some A) B → ⊥)
@@ -80,6 +88,8 @@ each_not_better c m blocks vs i block now before are at is =
     ]
 
 -- Block number i that is satisfied has a solution that extends it.
-pub each_satisfied : (c : Completion) (t : LocatedTree) (blocks : List Block) (vs : List Verdict) (i : ℕ) (block : Block) → HasNoFault t → AreVerdicts c (model_of t) blocks vs → slice_get blocks i ≡ Some block
+pub each_satisfied : (c : Completion) (t : LocatedTree) (blocks : List Block) (vs : List Verdict)
+    (i : ℕ) (block : Block) → HasNoFault t → AreVerdicts c (model_of t) blocks vs
+    → slice_get blocks i ≡ Some block
     → slice_get vs i ≡ Some Satisfied → (A : Assignment) × Extends (model_of t) A block × IsSolution (model_of t) A
 each_satisfied c t blocks vs i block sound are at is = told_solved c t sound are i block at is

@@ -1,4 +1,5 @@
--- Lists of blocks and parts as a loop builds them, one more at the end: verdicts, lines, answers, and the chain of the filling.
+-- Lists of blocks and parts as a loop builds them, one more at the end: verdicts, lines, answers,
+-- and the chain of the filling.
 use Rattle.std.proofs.Common.{◌≡◌, ℕ, suc, zero, ◌+◌, ◌≤◌, ◌<◌, ℤ, Bool, true, false, cond, List, [], ◌∷◌, ◌++◌, length, Option, Some, None, refl, sym, ap, subst, subst₂, ◌∙◌, slice_get, take, drop, arith, append_assoc, add-zero}
 use Rattle.std.specs.List.{AllByRecursion, enumerate_from}
 use Rattle.std.specs.Option.{option_or}
@@ -30,28 +31,33 @@ GoesOn c m blocks vs filled found = (more : List Block) (ws : List Verdict) → 
 pub goes_on_at_first : (c : Completion) (m : Model) → GoesOn c m [] [] None None
 goes_on_at_first c m = λ more ws told. told
 
-pub goes_on_after : (c : Completion) (m : Model) (blocks : List Block) (vs : List Verdict) (filled found kept : Option ℤ) (block : Block) (v : Verdict) (F : Partial)
+pub goes_on_after : (c : Completion) (m : Model) (blocks : List Block) (vs : List Verdict)
+    (filled found kept : Option ℤ) (block : Block) (v : Verdict) (F : Partial)
     → GoesOn c m blocks vs filled found → IsFilled m block F → IsToldBy c m block found F (verdict m F block filled) v kept → GoesOn c m (blocks ++ block ∷ []) (vs ++ v ∷ []) (objective m F) kept
 goes_on_after c m blocks vs filled found kept block v F goes is_filled told = λ more ws rest.
     subst₂ (λ bs us. AreVerdicts c m bs us) (sym (append_assoc blocks (block ∷ []) more)) (sym (append_assoc vs (v ∷ []) ws))
     (goes (block ∷ more) (v ∷ ws) (OneMore F is_filled told rest))
 
-pub goes_on_judged : (c : Completion) (m : Model) (blocks : List Block) (vs : List Verdict) (filled found : Option ℤ) → GoesOn c m blocks vs filled found → AreVerdicts c m blocks vs
+pub goes_on_judged : (c : Completion) (m : Model) (blocks : List Block) (vs : List Verdict)
+    (filled found : Option ℤ) → GoesOn c m blocks vs filled found → AreVerdicts c m blocks vs
 goes_on_judged c m blocks vs filled found goes = subst₂ (λ bs us. AreVerdicts c m bs us) (append_nil blocks) (append_nil vs) (goes [] [] NoneLeft)
 
 -- ---- lines and claims
 
-pub blocks_with_block : (ps : List StreamPart) (b : SolutionBlock) → blocks_in (ps ++ BlockPart b ∷ []) ≡ blocks_in ps ++ b ∷ []
+pub blocks_with_block : (ps : List StreamPart) (b : SolutionBlock)
+    → blocks_in (ps ++ BlockPart b ∷ []) ≡ blocks_in ps ++ b ∷ []
 blocks_with_block [] b = refl
 blocks_with_block (BlockPart c ∷ ps) b = ap (λ bs. c ∷ bs) (blocks_with_block ps b)
 blocks_with_block (ClaimPart k ∷ ps) b = blocks_with_block ps b
 
-pub blocks_with_claim : (ps : List StreamPart) (k : ClaimKind) → blocks_in (ps ++ ClaimPart k ∷ []) ≡ blocks_in ps
+pub blocks_with_claim : (ps : List StreamPart) (k : ClaimKind)
+    → blocks_in (ps ++ ClaimPart k ∷ []) ≡ blocks_in ps
 blocks_with_claim [] k = refl
 blocks_with_claim (BlockPart c ∷ ps) k = ap (λ bs. c ∷ bs) (blocks_with_claim ps k)
 blocks_with_claim (ClaimPart j ∷ ps) k = blocks_with_claim ps k
 
-pub lines_with_block : (n : ℕ) (vs : List Verdict) (ps : List StreamPart) (v : Verdict) (b : SolutionBlock) → length vs ≡ length (blocks_in ps)
+pub lines_with_block : (n : ℕ) (vs : List Verdict) (ps : List StreamPart) (v : Verdict)
+    (b : SolutionBlock) → length vs ≡ length (blocks_in ps)
     → part_lines n (vs ++ v ∷ []) (ps ++ BlockPart b ∷ []) ≡ part_lines n vs ps ++ block_line (suc (n + length vs)) v ∷ []
 lines_with_block n [] [] v b e = ap (λ k. block_line (suc k) v ∷ []) (sym (add-zero n))
 lines_with_block n (w ∷ vs) [] v b e = absurd (omega arith)
@@ -61,7 +67,9 @@ lines_with_block n (w ∷ vs) (BlockPart c ∷ ps) v b e =
     ap (λ ls. block_line (suc n) w ∷ ls) (lines_with_block (suc n) vs ps v b (omega arith) ∙ ap (λ k. part_lines (suc n) vs ps ++ block_line (suc k) v ∷ []) count)
 lines_with_block n vs (ClaimPart k ∷ ps) v b e = ap (λ ls. claim_line k ∷ ls) (lines_with_block n vs ps v b e)
 
-pub lines_with_claim : (n : ℕ) (vs : List Verdict) (ps : List StreamPart) (k : ClaimKind) → length vs ≡ length (blocks_in ps) → part_lines n vs (ps ++ ClaimPart k ∷ []) ≡ part_lines n vs ps ++ claim_line k ∷ []
+pub lines_with_claim : (n : ℕ) (vs : List Verdict) (ps : List StreamPart) (k : ClaimKind)
+    → length vs ≡ length (blocks_in ps)
+    → part_lines n vs (ps ++ ClaimPart k ∷ []) ≡ part_lines n vs ps ++ claim_line k ∷ []
 lines_with_claim n [] [] k e = refl
 lines_with_claim n (w ∷ vs) [] k e = absurd (omega arith)
 lines_with_claim n [] (BlockPart c ∷ ps) k e = absurd (omega arith)
@@ -70,7 +78,9 @@ lines_with_claim n vs (ClaimPart j ∷ ps) k e = ap (λ ls. claim_line j ∷ ls)
 
 -- ---- the first verdict of a kind
 
-pub first_number_more : (n : ℕ) (is : Verdict → Bool) (vs : List Verdict) (v : Verdict) → first_number n is (vs ++ v ∷ []) ≡ option_or (first_number n is vs) (cond (is v) (Some (n + length vs)) None)
+pub first_number_more : (n : ℕ) (is : Verdict → Bool) (vs : List Verdict) (v : Verdict)
+    → first_number n is (vs ++ v ∷ [])
+    ≡ option_or (first_number n is vs) (cond (is v) (Some (n + length vs)) None)
 first_number_more n is [] v = ap (λ k. cond (is v) (Some k) None) (sym (add-zero n))
 first_number_more n is (w ∷ vs) v =
     let count : suc n + length vs ≡ n + suc (length vs) = omega arith in
@@ -87,10 +97,12 @@ Reaches m S K from = (F : Partial) → Chain m K from F → Chain m S 0 F
 pub reaches_at_first : (m : Model) (S : Partial) → Reaches m S S 0
 reaches_at_first m S = λ F chain. chain
 
-pub reaches_after : (m : Model) (S K : Partial) (from k n : ℕ) (v : Value) → Reaches m S K from → IsFirstStep m K from k n v → Reaches m S (give K n v) k
+pub reaches_after : (m : Model) (S K : Partial) (from k n : ℕ) (v : Value) → Reaches m S K from
+    → IsFirstStep m K from k n v → Reaches m S (give K n v) k
 reaches_after m S K from k n v reaches first = λ F chain. reaches F (Step first chain)
 
-pub reaches_end : (m : Model) (S K : Partial) (from : ℕ) → Reaches m S K from → AllByRecursion (GivesNothing m K) (points m) → Chain m S 0 K
+pub reaches_end : (m : Model) (S K : Partial) (from : ℕ) → Reaches m S K from
+    → AllByRecursion (GivesNothing m K) (points m) → Chain m S 0 K
 reaches_end m S K from reaches none = reaches K (Ends none)
 
 -- ---- the first step, by the numbers of the points that are skipped
@@ -99,7 +111,9 @@ reaches_end m S K from reaches none = reaches K (Ends none)
 abbrev pub NoneGives : Model → Partial → ℕ → ℕ → Type 0
 NoneGives m K from to = (j : ℕ) (p : Point) → from ≤ j → j < to → slice_get (points m) j ≡ Some p → GivesNothing m K p
 
-enumerated_splits : {A : Type 0} (i k : ℕ) (xs : List A) (x : A) → slice_get xs k ≡ Some x → enumerate_from i xs ≡ take k (enumerate_from i xs) ++ (i + k, x) ∷ drop (suc k) (enumerate_from i xs)
+enumerated_splits : {A : Type 0} (i k : ℕ) (xs : List A) (x : A) → slice_get xs k ≡ Some x
+    → enumerate_from i xs ≡ take k (enumerate_from i xs) ++ (i + k, x)
+    ∷ drop (suc k) (enumerate_from i xs)
 enumerated_splits i k [] x e = cc
 enumerated_splits i zero (y ∷ xs) x e = let same : y ≡ x = cc in λ j. (sym (add-zero i) j, same j) ∷ enumerate_from (i + 1) xs
 enumerated_splits i (suc k) (y ∷ xs) x e =
@@ -107,7 +121,8 @@ enumerated_splits i (suc k) (y ∷ xs) x e =
     ap (λ ys. (i, y) ∷ ys) (enumerated_splits (i + 1) k xs x e ∙ ap (λ n. take k (enumerate_from (i + 1) xs) ++ (n, x) ∷ drop (suc k) (enumerate_from (i + 1) xs)) count)
 
 -- No point gives a step where none of their numbers does.
-pub none_gives : (m : Model) (K : Partial) → NoneGives m K 0 (length (points m)) → AllByRecursion (GivesNothing m K) (points m)
+pub none_gives : (m : Model) (K : Partial) → NoneGives m K 0 (length (points m))
+    → AllByRecursion (GivesNothing m K) (points m)
 none_gives m K none = all_of (points m) (λ j p at. none j p (omega arith) (in_range (points m) j p at) at)
   where
     in_range : (ps : List Point) (j : ℕ) (p : Point) → slice_get ps j ≡ Some p → j < length ps
@@ -115,12 +130,15 @@ none_gives m K none = all_of (points m) (λ j p at. none j p (omega arith) (in_r
     in_range (q ∷ ps) zero p e = omega arith
     in_range (q ∷ ps) (suc j) p e = let below : j < length ps = in_range ps j p e in omega arith
 
-    all_of : (ps : List Point) → ((j : ℕ) (p : Point) → slice_get ps j ≡ Some p → GivesNothing m K p) → AllByRecursion (GivesNothing m K) ps
+    all_of : (ps : List Point) → ((j : ℕ) (p : Point) → slice_get ps j ≡ Some p
+        → GivesNothing m K p) → AllByRecursion (GivesNothing m K) ps
     all_of [] h = tt
     all_of (p ∷ ps) h = (h zero p refl, all_of ps (λ j q e. h (suc j) q e))
 
 -- the parts of an enumeration before and from a number on
-skipped_part : (m : Model) (K : Partial) (from to i : ℕ) (ps : List Point) → ((j : ℕ) (p : Point) → slice_get ps j ≡ Some p → from ≤ i + j → i + j < to → GivesNothing m K p)
+skipped_part : (m : Model) (K : Partial) (from to i : ℕ) (ps : List Point)
+    → ((j : ℕ) (p : Point) → slice_get ps j ≡ Some p → from ≤ i + j → i + j < to
+    → GivesNothing m K p)
     → (k : ℕ) → i + k ≤ to → (f : ℕ) → from ≤ i + f → AllByRecursion (λ q. GivesNothing m K q.1) (drop f (take k (enumerate_from i ps)))
 skipped_part m K from to i [] h zero below zero above = tt
 skipped_part m K from to i [] h zero below (suc f) above = tt
@@ -132,24 +150,29 @@ skipped_part m K from to i (p ∷ ps) h (suc k) below zero above =
     (h zero p refl (omega arith) (omega arith), skipped_part m K from to (i + 1) ps (λ j q e a b. h (suc j) q e (omega arith) (omega arith)) k (omega arith) zero (omega arith))
 skipped_part m K from to i (p ∷ ps) h (suc k) below (suc f) above = skipped_part m K from to (i + 1) ps (λ j q e a b. h (suc j) q e (omega arith) (omega arith)) k (omega arith) f (omega arith)
 
-dropped_part : (m : Model) (K : Partial) (from i : ℕ) (ps : List Point) → ((j : ℕ) (p : Point) → slice_get ps j ≡ Some p → from ≤ i + j → GivesNothing m K p)
+dropped_part : (m : Model) (K : Partial) (from i : ℕ) (ps : List Point)
+    → ((j : ℕ) (p : Point) → slice_get ps j ≡ Some p → from ≤ i + j → GivesNothing m K p)
     → (f : ℕ) → from ≤ i + f → AllByRecursion (λ q. GivesNothing m K q.1) (drop f (enumerate_from i ps))
 dropped_part m K from i [] h zero above = tt
 dropped_part m K from i [] h (suc f) above = tt
 dropped_part m K from i (p ∷ ps) h zero above = (h zero p refl (omega arith), dropped_part m K from (i + 1) ps (λ j q e a. h (suc j) q e (omega arith)) zero (omega arith))
 dropped_part m K from i (p ∷ ps) h (suc f) above = dropped_part m K from (i + 1) ps (λ j q e a. h (suc j) q e (omega arith)) f (omega arith)
 
-drop_append : {A : Type 0} (n : ℕ) (xs ys : List A) → n ≤ length xs → drop n (xs ++ ys) ≡ drop n xs ++ ys
+drop_append : {A : Type 0} (n : ℕ) (xs ys : List A) → n ≤ length xs
+    → drop n (xs ++ ys) ≡ drop n xs ++ ys
 drop_append zero xs ys h = refl
 drop_append (suc n) [] ys h = absurd (omega arith)
 drop_append (suc n) (x ∷ xs) ys h = drop_append n xs ys (omega arith)
 
-take_long : {A : Type 0} (i k : ℕ) (xs : List A) (x : A) → slice_get xs k ≡ Some x → length (take k (enumerate_from i xs)) ≡ k
+take_long : {A : Type 0} (i k : ℕ) (xs : List A) (x : A) → slice_get xs k ≡ Some x
+    → length (take k (enumerate_from i xs)) ≡ k
 take_long i k [] x e = cc
 take_long i zero (y ∷ xs) x e = refl
 take_long i (suc k) (y ∷ xs) x e = ap suc (take_long (i + 1) k xs x e)
 
-take_splits : {A : Type 0} (i from k : ℕ) (xs : List A) (x : A) → slice_get xs k ≡ Some x → k < from → take from (enumerate_from i xs) ≡ take k (enumerate_from i xs) ++ (i + k, x) ∷ drop (suc k) (take from (enumerate_from i xs))
+take_splits : {A : Type 0} (i from k : ℕ) (xs : List A) (x : A) → slice_get xs k ≡ Some x → k < from
+    → take from (enumerate_from i xs)
+    ≡ take k (enumerate_from i xs) ++ (i + k, x) ∷ drop (suc k) (take from (enumerate_from i xs))
 take_splits i from k [] x e below = cc
 take_splits i zero k (y ∷ xs) x e below = absurd (omega arith)
 take_splits i (suc from) zero (y ∷ xs) x e below = let same : y ≡ x = cc in λ j. (sym (add-zero i) j, same j) ∷ take from (enumerate_from (i + 1) xs)
@@ -157,8 +180,11 @@ take_splits i (suc from) (suc k) (y ∷ xs) x e below =
     let count : (i + 1) + k ≡ i + suc k = omega arith in
     ap (λ ys. (i, y) ∷ ys) (take_splits (i + 1) from k xs x e (omega arith) ∙ ap (λ n. take k (enumerate_from (i + 1) xs) ++ (n, x) ∷ drop (suc k) (take from (enumerate_from (i + 1) xs))) count)
 
--- The point at a number from `from` on is the first that gives a step where those from `from` up to it give none.
-pub first_ahead : (m : Model) (K : Partial) (from k n : ℕ) (v : Value) (p : Point) → from ≤ k → slice_get (points m) k ≡ Some p → NoneGives m K from k → Gives m K p n v → IsFirstStep m K from k n v
+-- The point at a number from `from` on is the first that gives a step where those from `from` up to
+-- it give none.
+pub first_ahead : (m : Model) (K : Partial) (from k n : ℕ) (v : Value) (p : Point) → from ≤ k
+    → slice_get (points m) k ≡ Some p → NoneGives m K from k → Gives m K p n v
+    → IsFirstStep m K from k n v
 first_ahead m K from k n v p ahead at none gives =
     let whole : List (ℕ × Point) = enumerate_from 0 (points m) in
     let long : from ≤ length (take k whole) = subst (λ l. from ≤ l) (sym (take_long 0 k (points m) p at)) ahead in
@@ -174,8 +200,10 @@ first_ahead m K from k n v p ahead at none gives =
       gives = gives;
     }
 
--- The point at a number before `from` is the first that gives a step where those from `from` on, and those before it, give none.
-pub first_wrapped : (m : Model) (K : Partial) (from k n : ℕ) (v : Value) (p : Point) → k < from → slice_get (points m) k ≡ Some p
+-- The point at a number before `from` is the first that gives a step where those from `from` on,
+-- and those before it, give none.
+pub first_wrapped : (m : Model) (K : Partial) (from k n : ℕ) (v : Value) (p : Point) → k < from
+    → slice_get (points m) k ≡ Some p
     → ((j : ℕ) (q : Point) → from ≤ j → slice_get (points m) j ≡ Some q → GivesNothing m K q) → NoneGives m K 0 k → Gives m K p n v → IsFirstStep m K from k n v
 first_wrapped m K from k n v p wrapped at none_after none_before gives =
     let whole : List (ℕ × Point) = enumerate_from 0 (points m) in

@@ -33,7 +33,9 @@ skips n (v ∷ vs) k j cs h =
     ap (λ b. block_line (suc n) v ∷ map (λ c. claim_line c.kind) (cond b (record { after = j; kind = k } ∷ filter (λ c. c.after == suc n) cs) (filter (λ c. c.after == suc n) cs)) ++ lines_from (suc n) vs (record { after = j; kind = k } ∷ cs)) other
     ∙ ap (λ ls. block_line (suc n) v ∷ claim_lines (suc n) cs ++ ls) (skips (suc n) vs k j cs (omega arith))
 
-pub lines_agree : (n : ℕ) (vs : List Verdict) (ps : List StreamPart) → length vs ≡ length (blocks_in ps) → claim_lines n (claims_in n ps) ++ lines_from n vs (claims_in n ps) ≡ part_lines n vs ps
+pub lines_agree : (n : ℕ) (vs : List Verdict) (ps : List StreamPart)
+    → length vs ≡ length (blocks_in ps)
+    → claim_lines n (claims_in n ps) ++ lines_from n vs (claims_in n ps) ≡ part_lines n vs ps
 lines_agree n [] [] e = refl
 lines_agree n (v ∷ vs) [] e = absurd (omega arith)
 lines_agree n [] (BlockPart b ∷ ps) e = absurd (omega arith)
@@ -47,7 +49,9 @@ lines_agree n vs (ClaimPart k ∷ ps) e =
     ∙ ap (λ ls. claim_line k ∷ claim_lines n (claims_in n ps) ++ ls) (skips n vs k n (claims_in n ps) (omega arith))
     ∙ ap (λ ls. claim_line k ∷ ls) (lines_agree n vs ps e)
 
-pub lines_of_report : (ps : List StreamPart) (r : Report) → length r.verdicts ≡ length (blocks_in ps) → r.claims ≡ claims_in 0 ps → report_lines r ≡ part_lines 0 r.verdicts ps ++ answer_line r.answer ∷ []
+pub lines_of_report : (ps : List StreamPart) (r : Report)
+    → length r.verdicts ≡ length (blocks_in ps) → r.claims ≡ claims_in 0 ps
+    → report_lines r ≡ part_lines 0 r.verdicts ps ++ answer_line r.answer ∷ []
 lines_of_report ps r count claims =
     ap (λ cs. claim_lines 0 cs ++ lines_from 0 r.verdicts cs ++ answer_line r.answer ∷ []) claims
     ∙ ap (λ ls. ls ++ answer_line r.answer ∷ []) (lines_agree 0 r.verdicts ps count)

@@ -53,7 +53,8 @@ small_3 : verdict_of small (says x (pos 3) ∷ []) None ≡ Satisfied
 unfolding rows row_at builtins
 small_3 = refl
 
-small_1 : verdict_of small (says x (pos 1) ∷ []) None ≡ Violated (ConstraintFault 1 (codes "int_le"))
+small_1 : verdict_of small (says x (pos 1) ∷ []) None
+    ≡ Violated (ConstraintFault 1 (codes "int_le"))
 unfolding rows row_at builtins
 small_1 = refl
 
@@ -65,7 +66,7 @@ small_nothing : verdict_of small [] None ≡ Undecided (NoValueFor x)
 unfolding rows row_at builtins
 small_nothing = refl
 
--- a truth value lies in no domain with bounds, and a block that prints one has a fault
+-- a Boolean lies in no domain with bounds, and a block that prints one has a fault
 abbrev says_true : Printed
 says_true = record { name = named x; value = OneValue (record { what = TruthWord true; span = span_at 4 8 }) }
 
@@ -93,7 +94,8 @@ doubled_4_8 : verdict_of doubled (says x (pos 4) ∷ says z (pos 8) ∷ []) None
 unfolding rows row_at builtins
 doubled_4_8 = refl
 
-doubled_9_18 : verdict_of doubled (says x (pos 9) ∷ says z (pos 18) ∷ []) None ≡ Violated (DomainFault z)
+doubled_9_18 : verdict_of doubled (says x (pos 9) ∷ says z (pos 18) ∷ []) None
+    ≡ Violated (DomainFault z)
 unfolding rows row_at builtins
 doubled_9_18 = refl
 
@@ -102,7 +104,8 @@ doubled_9_18 = refl
 abbrev in_row : LocatedTree
 in_row = model_tree (var_in 0 9 x None ∷ record { is_var = true; array_length = Some 2; base = IntBase None; name = named (codes "q"); notes = []; value = Some (Several (v x ∷ v x ∷ [])) } ∷ []) [] Satisfy
 
-in_row_1_2 : verdict_of in_row (says_list (codes "q") (1 ∷ 2 ∷ []) ∷ []) None ≡ Violated (PrintedFault (codes "q"))
+in_row_1_2 : verdict_of in_row (says_list (codes "q") (1 ∷ 2 ∷ []) ∷ []) None
+    ≡ Violated (PrintedFault (codes "q"))
 unfolding rows row_at builtins
 in_row_1_2 = refl
 
@@ -118,7 +121,8 @@ in_row_length = refl
 abbrev least : LocatedTree
 least = model_tree (var_in 0 9 x None ∷ []) [] (Minimize (v x))
 
-least_5_5 : verdict_of least (says x (pos 5) ∷ []) (Some (pos 5)) ≡ Violated (NotBetter (pos 5) (pos 5))
+least_5_5 : verdict_of least (says x (pos 5) ∷ []) (Some (pos 5))
+    ≡ Violated (NotBetter (pos 5) (pos 5))
 unfolding rows row_at builtins
 least_5_5 = refl
 
@@ -131,16 +135,18 @@ least_7 = refl
 abbrev unheard : LocatedTree
 unheard = model_tree (var_in 1 5 x None ∷ []) (posts (codes "my_global") (names (x ∷ []) ∷ []) [] ∷ posts (codes "int_le") (One (num 2) ∷ One (v x) ∷ []) [] ∷ []) Satisfy
 
-unheard_3 : verdict_of unheard (says x (pos 3) ∷ []) None ≡ Undecided (NotKnown 1 (codes "my_global"))
+unheard_3 : verdict_of unheard (says x (pos 3) ∷ []) None
+    ≡ Undecided (NotKnown 1 (codes "my_global"))
 unfolding rows row_at builtins
 unheard_3 = refl
 
-unheard_1 : verdict_of unheard (says x (pos 1) ∷ []) None ≡ Violated (ConstraintFault 2 (codes "int_le"))
+unheard_1 : verdict_of unheard (says x (pos 1) ∷ []) None
+    ≡ Violated (ConstraintFault 2 (codes "int_le"))
 unfolding rows row_at builtins
 unheard_1 = refl
 
--- the constraint is told before a variable without value that comes later is: the first undecided point counts, and a point without value
--- tells the first variable without one
+-- the constraint is told before a variable without value that comes later is: the first undecided
+-- point counts, and a point without value tells the first variable without one
 unheard_nothing : verdict_of unheard [] None ≡ Undecided (NoValueFor x)
 unfolding rows row_at builtins
 unheard_nothing = refl
@@ -190,7 +196,8 @@ yx_filled =
     })
     (Ends ((λ k u g. let e = g.only_open in cc), ((λ k u g. let e = g.only_open in cc), ((λ k u g. let e = g.only_open in cc), tt)))))
 
-yx_verdict : verdict yx (Some (Int (pos 2)) ∷ Some (Int (pos 1)) ∷ []) (block_of []) None ≡ Violated (DefinitionFault x)
+yx_verdict : verdict yx (Some (Int (pos 2)) ∷ Some (Int (pos 1)) ∷ []) (block_of []) None
+    ≡ Violated (DefinitionFault x)
 unfolding rows row_at builtins
 yx_verdict = refl
 
@@ -206,6 +213,7 @@ report_of_two = refl
 abbrev a_block : SolutionBlock
 a_block = record { offset = 0; text = []; items = [] }
 
-lines_of_three : part_lines 0 two_verdicts (ClaimPart claims.Unbounded ∷ BlockPart a_block ∷ ClaimPart claims.Complete ∷ BlockPart a_block ∷ [])
+lines_of_three : part_lines 0 two_verdicts (ClaimPart claims.Unbounded ∷ BlockPart a_block
+    ∷ ClaimPart claims.Complete ∷ BlockPart a_block ∷ [])
     ≡ claim_line claims.Unbounded ∷ block_line 1 Satisfied ∷ claim_line claims.Complete ∷ block_line 2 (Violated (NotBetter (pos 5) (negsuc 4))) ∷ []
 lines_of_three = refl

@@ -14,7 +14,8 @@ use Rattle.fz_verdict.proofs.Chain.{at_first_step}
 use Rattle.fz_base.specs.declared.value.Value.{Value}
 
 -- the first of a list that is not refused is one
-same_first : {A : Type 0} (Refused : A → Type 0) (before more : List A) (x : A) (rest others : List A) (y : A) → AllByRecursion Refused before → AllByRecursion Refused more
+same_first : {A : Type 0} (Refused : A → Type 0) (before more : List A) (x : A)
+    (rest others : List A) (y : A) → AllByRecursion Refused before → AllByRecursion Refused more
     → (Refused x → ⊥) → (Refused y → ⊥) → before ++ x ∷ rest ≡ more ++ y ∷ others → x ≡ y
 same_first Refused [] [] x rest others y h k nx ny e = cc
 same_first Refused [] (z ∷ more) x rest others y h k nx ny e = let same : z ≡ x = cc in absurd (nx (subst Refused same k.0))
@@ -27,16 +28,19 @@ step_point m K from k n k' n' v v' s t =
     same_first (λ (q : ℕ × Point). GivesNothing m K q.1) s.skipped t.skipped (k, s.point) s.rest t.rest (k', t.point) s.none_skipped t.none_skipped
     (λ no. no n v s.gives) (λ no. no n' v' t.gives) (sym s.order ∙ t.order)
 
-step_number : (m : Model) (K : Partial) (p : Point) (n n' : ℕ) (v v' : Value) → Gives m K p n v → Gives m K p n' v' → n ≡ n'
+step_number : (m : Model) (K : Partial) (p : Point) (n n' : ℕ) (v v' : Value) → Gives m K p n v
+    → Gives m K p n' v' → n ≡ n'
 step_number m K p n n' v v' g h = let same : ◌≡◌ {A = List Term} (Var n ∷ []) (Var n' ∷ []) = sym g.only_open ∙ h.only_open in cc
 
-step_value : (m : Model) (K : Partial) (p : Point) (n : ℕ) (v v' : Value) → PointFits m p → Gives m K p n v → Gives m K p n v' → v ≡ v'
+step_value : (m : Model) (K : Partial) (p : Point) (n : ℕ) (v v' : Value) → PointFits m p
+    → Gives m K p n v → Gives m K p n v' → v ≡ v'
 step_value m K p n v v' fits g h =
     let kinds : Some (kind_of v) ≡ Some (kind_of v') = sym g.of_kind ∙ h.of_kind in
     let same : kind_of v' ≡ kind_of v = cc in
     only_value m K p n v v' fits g same h.then_holds
 
-pub one_end : (m : Model) {K : Partial} {from : ℕ} {F : Partial} → Chain m K from F → (G : Partial) → Chain m K from G → F ≡ G
+pub one_end : (m : Model) {K : Partial} {from : ℕ} {F : Partial} → Chain m K from F → (G : Partial)
+    → Chain m K from G → F ≡ G
 one_end m (Ends h) G (Ends k) = refl
 one_end m (Ends {K = K} {from = from} h) G (Step {k = k} {n = n} {v = v} s rest) = absurd (at_first_step (GivesNothing m K) m K from k n v h s n v s.gives)
 one_end m (Step {K = K} {from = from} {k = k} {n = n} {v = v} s rest) G (Ends h) = absurd (at_first_step (GivesNothing m K) m K from k n v h s n v s.gives)

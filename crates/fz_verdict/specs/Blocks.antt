@@ -1,5 +1,5 @@
--- Solution blocks over a model: what extends one, and its faults (MiniZinc Handbook, FlatZinc, "Output"; which fault is told is this
--- project's profile).
+-- Solution blocks over a model: what extends one, and its faults (MiniZinc Handbook, FlatZinc,
+-- "Output"; which fault is told is this project's profile).
 use Rattle.std.specs.Prelude.{◌≡◌, ℕ, ◌+◌, Bool, not, cond, List, length, map, ◌==◌, Option, Some, None, option_map, IsSomeAnd}
 use Rattle.std.specs.List.{AllByRecursion}
 use Rattle.std.specs.Option.{option_or}
@@ -36,7 +36,8 @@ bare_value (ArrayOf is ls) = tree.ArrayOf (bare_literals is) (bare_literals ls)
 abbrev pub bare_of_printed : Printed → tree.Printed
 bare_of_printed i = record { name = i.name.text; value = bare_value i.value }
 
--- a block: the offset of its text in the stream, its text, and its printed items, whose places count from that text
+-- a block: the offset of its text in the stream, its text, and its printed items, whose places
+-- count from that text
 pub record Block : Type 0 where
   pub offset : ℕ
   pub text : List ℕ
@@ -59,7 +60,8 @@ HasPrinted K _ _ = ⊥
 
 -- each printed name is declared, and its value is the printed one
 abbrev pub ExtendsItems : Model → Assignment → List Printed → Type 0
-ExtendsItems m A items = AllByRecursion (λ i. IsSomeAnd (find_name m i.name.text) (λ p. HasPrinted (whole A) p i.value)) items
+ExtendsItems m A items = AllByRecursion
+    (λ i. IsSomeAnd (find_name m i.name.text) (λ p. HasPrinted (whole A) p i.value)) items
 
 abbrev pub Extends : Model → Assignment → Block → Type 0
 Extends m A block = ExtendsItems m A block.items
@@ -82,14 +84,21 @@ fault_if b k at = cond b (Some (record { kind = k; at = at })) None
 abbrev pub literal_fault : Kind → Literal → Option BlockFault
 literal_fault k l = fault_if (not (same_kind (kind_of (literal_value l.what)) k)) WrongKind l.span
 
--- at the name: one of name and value is an array and the other is not, or the number of elements differs; then the leftmost literal
+-- at the name: one of name and value is an array and the other is not, or the number of elements
+-- differs; then the leftmost literal
 abbrev pub value_fault : Name → Place → PrintedValue → Option BlockFault
 value_fault x (Scalar k t) (OneValue l) = literal_fault k l
-value_fault x (Array y k ts) (ArrayOf is ls) = option_or (fault_if (not (length ls == length ts)) WrongLength x.span) (first_some (literal_fault k) ls)
+value_fault x (Array y k ts) (ArrayOf is ls) =
+    option_or (fault_if (not (length ls == length ts)) WrongLength x.span)
+    (first_some (literal_fault k) ls)
 value_fault x _ _ = Some (record { kind = WrongKind; at = x.span })
 
 abbrev pub printed_fault : Model → Printed → Option BlockFault
-printed_fault m i = elim (find_name m i.name.text) [ None ↦ Some (record { kind = UnknownName; at = i.name.span }) | Some p ↦ value_fault i.name p i.value ]
+printed_fault m i = elim (find_name m i.name.text) [
+  | None ↦ Some
+      (record { kind = UnknownName; at = i.name.span })
+  | Some p ↦ value_fault i.name p i.value
+]
 
 -- the fault of the first printed item that has one, at its place in the block's text
 abbrev pub items_fault : Model → List Printed → Option BlockFault
@@ -101,4 +110,5 @@ moved offset s = record { start = offset + s.start; end = offset + s.end }
 
 -- the fault of a block, at its place in the stream
 abbrev pub block_fault : Model → Block → Option BlockFault
-block_fault m block = option_map (λ f. record { kind = f.kind; at = moved block.offset f.at }) (items_fault m block.items)
+block_fault m block = option_map (λ f. record { kind = f.kind; at = moved block.offset f.at })
+    (items_fault m block.items)

@@ -1,4 +1,5 @@
--- The verdicts of a report, where values that a solver left out are looked for, and where they aren't (this project's profile).
+-- The verdicts of a report, where values that a solver left out are looked for, and where they
+-- aren't (this project's profile).
 use Rattle.std.specs.Prelude.{◌≡◌, ℕ, ℤ, List, [], ◌∷◌, Option, Some, None, ⊤, slice_get}
 use Rattle.std.specs.Option.{option_map_or}
 use Rattle.fz_model.specs.declared.Term.{Term}
@@ -22,33 +23,48 @@ name_of_aim m Satisfy = []
 name_of_aim m (Minimize t) = name_of_term m t
 name_of_aim m (Maximize t) = name_of_term m t
 
--- values may be looked for: the block is satisfied under its filling, or undecided because a variable has no value
+-- values may be looked for: the block is satisfied under its filling, or undecided because a
+-- variable has no value
 abbrev pub LacksValuesAtMost : Verdict → Type 0
 LacksValuesAtMost Satisfied = ⊤
 LacksValuesAtMost (Undecided (NoValueFor x)) = ⊤
 LacksValuesAtMost _ = ⊥
 
--- What is told of a block that has a filling, and a verdict under it, where values are looked for, and the objective that is kept for the
--- next block. The objective kept of the block before is given.
-pub data IsCompleted (m : Model) (block : Block) (before : Option ℤ) (F : Partial) : Verdict → Verdict → Option ℤ → Type 0 where
+-- What is told of a block that has a filling, and a verdict under it, where values are looked for,
+-- and the objective that is kept for the next block. The objective kept of the block before is
+-- given.
+pub data IsCompleted (m : Model) (block : Block) (before : Option ℤ) (F : Partial) : Verdict
+    → Verdict → Option ℤ → Type 0 where
   -- under some values it is satisfied, and its objective better than the one kept
-  Found : {v : Verdict} (K : Partial) → LacksValuesAtMost v → IsPartial m K → verdict m K block before ≡ Satisfied → IsCompleted m block before F v Satisfied (objective m K)
+  Found : {v : Verdict} (K : Partial) → LacksValuesAtMost v → IsPartial m K
+      → verdict m K block before ≡ Satisfied
+      → IsCompleted m block before F v Satisfied (objective m K)
   -- the verdict under the filling is told, which isn't that the block is satisfied
   AsFilled : {v : Verdict} → (v ≡ Satisfied → ⊥) → IsCompleted m block before F v v (objective m F)
-  -- the objective that was kept was looked for, and this one isn't better, which is no fault of the block
-  NotShownBetter : {f : _} → objective_fails m.aim before (objective m F) ≡ Some f → IsCompleted m block before F Satisfied (Undecided (NoValueFor (name_of_aim m m.aim))) (objective m F)
+  -- the objective that was kept was looked for, and this one isn't better, which is no fault of the
+  -- block
+  NotShownBetter : {f : _} → objective_fails m.aim before (objective m F) ≡ Some f
+      → IsCompleted m block before F Satisfied (Undecided (NoValueFor (name_of_aim m m.aim)))
+      (objective m F)
 
--- what is told of a block that has a filling and a verdict under it: that verdict, where nothing is looked for
-abbrev pub IsToldBy : Completion → Model → Block → Option ℤ → Partial → Verdict → Verdict → Option ℤ → Type 0
+-- what is told of a block that has a filling and a verdict under it: that verdict, where nothing is
+-- looked for
+abbrev pub IsToldBy : Completion → Model → Block → Option ℤ → Partial → Verdict → Verdict → Option ℤ
+    → Type 0
 IsToldBy Off m block before F w v kept = v ≡ w
 IsToldBy On m block before F w v kept = IsCompleted m block before F w v kept
 
--- The verdicts of the blocks in order. The verdict of each under its filling compares its objective with that of the block before under
--- its own, the first with the objective given first; what is told of each goes on from the objective kept, the first from the one given next.
-pub data AreTold (c : Completion) (m : Model) : Option ℤ → Option ℤ → List Block → List Verdict → Type 0 where
+-- The verdicts of the blocks in order. The verdict of each under its filling compares its objective
+-- with that of the block before under its own, the first with the objective given first; what is
+-- told of each goes on from the objective kept, the first from the one given next.
+pub data AreTold (c : Completion) (m : Model) : Option ℤ → Option ℤ → List Block → List Verdict
+    → Type 0 where
   NoneLeft : {filled found : Option ℤ} → AreTold c m filled found [] []
-  OneMore : {filled found kept : Option ℤ} {block : Block} {blocks : List Block} {v : Verdict} {vs : List Verdict} (F : Partial) → IsFilled m block F → IsToldBy c m block found F (verdict m F block filled) v kept
-      → AreTold c m (objective m F) kept blocks vs → AreTold c m filled found (block ∷ blocks) (v ∷ vs)
+  OneMore : {filled found kept : Option ℤ} {block : Block} {blocks : List Block} {v : Verdict} {vs :
+      List Verdict} (F : Partial) → IsFilled m block F
+      → IsToldBy c m block found F (verdict m F block filled) v kept
+      → AreTold c m (objective m F) kept blocks vs
+      → AreTold c m filled found (block ∷ blocks) (v ∷ vs)
 
 -- the verdicts of a report
 abbrev pub AreVerdicts : Completion → Model → List Block → List Verdict → Type 0

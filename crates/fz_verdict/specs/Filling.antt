@@ -1,4 +1,5 @@
--- The filling of a block: the values that follow from the printed ones by forced steps (this project's profile).
+-- The filling of a block: the values that follow from the printed ones by forced steps (this
+-- project's profile).
 use Rattle.std.specs.Prelude.{◌≡◌, ℕ, suc, cond, List, [], ◌∷◌, ◌++◌, ◌==◌, Option, Some, None, flat_map, take, drop}
 use Rattle.std.specs.List.{AllByRecursion, enumerate_from}
 use Rattle.std.specs.Option.{option_map_or}
@@ -26,7 +27,8 @@ pairs_at _ _ = []
 
 -- each scalar that is printed, alone or as an array's element, in block order
 abbrev pub printed_scalars : Model → List Printed → List (Term × Value)
-printed_scalars m items = flat_map (λ i. option_map_or (λ p. pairs_at p i.value) (find_name m i.name.text) []) items
+printed_scalars m items =
+    flat_map (λ i. option_map_or (λ p. pairs_at p i.value) (find_name m i.name.text) []) items
 
 abbrev pub if_var : ℕ → (Term × Value) → Option Value
 if_var n (Var k, v) = cond (k == n) (Some v) None
@@ -53,8 +55,8 @@ HasAllOf K L = (n : ℕ) (v : Value) → value_at K n ≡ Some v → value_at L 
 abbrev pub counted_from : {A : Type 0} → ℕ → List A → List A
 counted_from k ps = drop k ps ++ take k ps
 
--- The point with number k is the first that gives a step, counted on from the point with number `from`: the points that are
--- skipped before it give none.
+-- The point with number k is the first that gives a step, counted on from the point with number
+-- `from`: the points that are skipped before it give none.
 pub record IsFirstStep (m : Model) (K : Partial) (from k n : ℕ) (v : Value) : Type 0 where
   pub point : Point
   pub skipped : List (ℕ × Point)
@@ -63,11 +65,12 @@ pub record IsFirstStep (m : Model) (K : Partial) (from k n : ℕ) (v : Value) : 
   pub none_skipped : AllByRecursion (λ q. GivesNothing m K q.1) skipped
   pub gives : Gives m K point n v
 
--- The chain from a partial assignment, counting on from a point, ends at a partial assignment where no point gives a step. A step
--- counts on from the point of the step before.
+-- The chain from a partial assignment, counting on from a point, ends at a partial assignment where
+-- no point gives a step. A step counts on from the point of the step before.
 pub data Chain (m : Model) : Partial → ℕ → Partial → Type 0 where
   Ends : {K : Partial} {from : ℕ} → AllByRecursion (GivesNothing m K) (points m) → Chain m K from K
-  Step : {K F : Partial} {from k n : ℕ} {v : Value} → IsFirstStep m K from k n v → Chain m (give K n v) k F → Chain m K from F
+  Step : {K F : Partial} {from k n : ℕ} {v : Value} → IsFirstStep m K from k n v
+      → Chain m (give K n v) k F → Chain m K from F
 
 -- the partial assignment is the filling of the block
 abbrev pub IsFilling : Model → Block → Partial → Type 0

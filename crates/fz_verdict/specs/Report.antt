@@ -23,7 +23,8 @@ pub record Report : Type 0 where
   pub answer : Answer
 
 -- the report on the parts of a stream, whose blocks, with their places, are these
-pub record IsReport (c : Completion) (m : Model) (blocks : List Block) (parts : List StreamPart) (r : Report) : Type 0 where
+pub record IsReport (c : Completion) (m : Model) (blocks : List Block) (parts : List StreamPart)
+    (r : Report) : Type 0 where
   pub of_parts : map bare_of_block blocks ≡ blocks_in parts
   pub are_verdicts : AreVerdicts c m blocks r.verdicts
   pub claims : r.claims ≡ claims_in 0 parts
@@ -44,11 +45,13 @@ fault_text (PrintedFault name) = codes "printed " ++ name
 fault_text (DomainFault name) = codes "domain of " ++ name
 fault_text (DefinitionFault name) = codes "definition of " ++ name
 fault_text (ConstraintFault k name) = codes "constraint " ++ decimal k ++ codes " " ++ name
-fault_text (NotBetter now before) = codes "objective " ++ signed_decimal now ++ codes " not better than " ++ signed_decimal before
+fault_text (NotBetter now before) =
+    codes "objective " ++ signed_decimal now ++ codes " not better than " ++ signed_decimal before
 
 abbrev pub reason_text : Reason → List ℕ
 reason_text (NoValueFor name) = codes "no value for " ++ name
-reason_text (NotKnown k name) = codes "constraint " ++ decimal k ++ codes " " ++ name ++ codes " not known"
+reason_text (NotKnown k name) =
+    codes "constraint " ++ decimal k ++ codes " " ++ name ++ codes " not known"
 reason_text (SumTooLarge k) = codes "constraint " ++ decimal k ++ codes " too large"
 
 abbrev pub verdict_text : Verdict → List ℕ
@@ -69,7 +72,8 @@ block_line n v = codes "block " ++ decimal n ++ codes ": " ++ verdict_text v
 abbrev pub claim_line : ClaimKind → List ℕ
 claim_line k = codes "claim: " ++ claim_text k ++ codes " not judged"
 
--- the lines of parts of a stream, with the verdicts of their blocks, where n blocks stand before them
+-- the lines of parts of a stream, with the verdicts of their blocks, where n blocks stand before
+-- them
 abbrev pub part_lines : ℕ → List Verdict → List StreamPart → List (List ℕ)
 part_lines n vs [] = []
 part_lines n vs (ClaimPart k ∷ ps) = claim_line k ∷ part_lines n vs ps
@@ -80,14 +84,16 @@ part_lines n (v ∷ vs) (BlockPart b ∷ ps) = block_line (suc n) v ∷ part_lin
 abbrev pub claim_lines : ℕ → List Claim → List (List ℕ)
 claim_lines n cs = map (λ c. claim_line c.kind) (filter (λ c. c.after == n) cs)
 
--- the lines of the blocks from number suc n on, each followed by the claims that come right after it
+-- the lines of the blocks from number suc n on, each followed by the claims that come right after
+-- it
 abbrev pub lines_from : ℕ → List Verdict → List Claim → List (List ℕ)
 lines_from n [] cs = []
 lines_from n (v ∷ vs) cs = block_line (suc n) v ∷ claim_lines (suc n) cs ++ lines_from (suc n) vs cs
 
 -- the lines of a report: blocks and claims in stream order, and then the answer
 abbrev pub report_lines : Report → List (List ℕ)
-report_lines r = claim_lines 0 r.claims ++ lines_from 0 r.verdicts r.claims ++ answer_line r.answer ∷ []
+report_lines r =
+    claim_lines 0 r.claims ++ lines_from 0 r.verdicts r.claims ++ answer_line r.answer ∷ []
 
 -- lines as bytes: each line ends with LF
 abbrev pub text_of_lines : List (List ℕ) → List ℕ

@@ -1,4 +1,5 @@
--- The verdict on a block, and the answer on a list of blocks (the verdicts and their order are this project's profile).
+-- The verdict on a block, and the answer on a list of blocks (the verdicts and their order are this
+-- project's profile).
 use Rattle.std.specs.Prelude.{◌≡◌, ℕ, suc, zero, ℤ, Bool, true, false, cond, List, [], ◌∷◌, length, Option, Some, None, int_lt}
 use Rattle.std.specs.Option.{option_map_or, option_or}
 use Rattle.fz_model.specs.declared.State.{State}
@@ -37,12 +38,15 @@ pub data Verdict : Type 0 where
 
 -- whether the place has a value, and it is the printed one
 abbrev pub has_printed : Partial → Place → PrintedValue → Bool
-has_printed K (Scalar k t) (OneValue l) = option_map_or (λ v. same_value v (literal_value l.what)) (value K t) false
-has_printed K (Array x k ts) (ArrayOf is ls) = option_map_or (λ vs. same_values vs (printed_values ls)) (values K ts) false
+has_printed K (Scalar k t) (OneValue l) =
+    option_map_or (λ v. same_value v (literal_value l.what)) (value K t) false
+has_printed K (Array x k ts) (ArrayOf is ls) =
+    option_map_or (λ vs. same_values vs (printed_values ls)) (values K ts) false
 has_printed K _ _ = false
 
 abbrev pub printed_fails : Model → Partial → Printed → Option Fault
-printed_fails m K i = cond (option_map_or (λ p. has_printed K p i.value) (find_name m i.name.text) false) None (Some (PrintedFault i.name.text))
+printed_fails m K i = cond (option_map_or (λ p. has_printed K p i.value)
+    (find_name m i.name.text) false) None (Some (PrintedFault i.name.text))
 
 -- the fault of a point that fails
 abbrev pub fault_named : PointName → Fault
@@ -57,7 +61,8 @@ fault_at p _ = None
 abbrev pub point_fails : Partial → Point → Option Fault
 point_fails K p = fault_at p (state K p)
 
--- whether the objective now is better than the one before; where one of them is missing nothing is compared
+-- whether the objective now is better than the one before; where one of them is missing nothing is
+-- compared
 abbrev pub not_better_if : Bool → ℤ → ℤ → Option Fault
 not_better_if better now before = cond better None (Some (NotBetter now before))
 
@@ -83,8 +88,8 @@ too_large_at (ConstraintOf k x) = Some (SumTooLarge k)
 too_large_at (DomainOf x) = None
 too_large_at (DefinitionOf x) = None
 
--- What is undecided at a point: it has no value, and then the first variable without value is told, or it is a constraint that is not
--- known or whose sums are too large.
+-- What is undecided at a point: it has no value, and then the first variable without value is told,
+-- or it is a constraint that is not known or whose sums are too large.
 abbrev pub reason_at : Model → Partial → Point → State → Option Reason
 reason_at m K p NoValue = Some (NoValueFor (first_unset (variables_of m) K))
 reason_at m K p Unknown = not_known_at (shown_point p)
@@ -100,23 +105,31 @@ verdict_by (Some f) r = Violated f
 verdict_by None (Some r) = Undecided r
 verdict_by None None = Satisfied
 
--- The verdict on a block for a partial assignment and the objective of the block before: the first that fails of the printed names in
--- block order, then the points, then the objective; else the first point that is undecided; else satisfied.
+-- The verdict on a block for a partial assignment and the objective of the block before: the first
+-- that fails of the printed names in block order, then the points, then the objective; else the
+-- first point that is undecided; else satisfied.
 abbrev pub verdict : Model → Partial → Block → Option ℤ → Verdict
 verdict m K block before =
     verdict_by
-    (option_or (first_some (printed_fails m K) block.items) (option_or (first_some (point_fails K) (points m)) (objective_fails m.aim before (objective m K))))
+    (option_or (first_some (printed_fails m K) block.items)
+    (option_or (first_some (point_fails K) (points m))
+    (objective_fails m.aim before (objective m K))))
     (first_some (point_undecided m K) (points m))
 
 -- ---- the verdicts of a list of blocks
 
--- The verdicts of the blocks in order, each for a partial assignment that is as proposed for its block, with the objective under the
--- partial assignment of the block before; the first is compared with the objective given.
-pub data AreJudged (m : Model) (Proposed : Block → Partial → Type 0) : Option ℤ → List Block → List Verdict → Type 0 where
+-- The verdicts of the blocks in order, each for a partial assignment that is as proposed for its
+-- block, with the objective under the partial assignment of the block before; the first is compared
+-- with the objective given.
+pub data AreJudged (m : Model) (Proposed : Block → Partial → Type 0) : Option ℤ → List Block
+    → List Verdict → Type 0 where
   NoneLeft : {before : Option ℤ} → AreJudged m Proposed before [] []
-  OneMore : {before : Option ℤ} {block : Block} {blocks : List Block} {vs : List Verdict} (K : Partial) → Proposed block K → AreJudged m Proposed (objective m K) blocks vs → AreJudged m Proposed before (block ∷ blocks) (verdict m K block before ∷ vs)
+  OneMore : {before : Option ℤ} {block : Block} {blocks : List Block} {vs : List Verdict}
+      (K : Partial) → Proposed block K → AreJudged m Proposed (objective m K) blocks vs
+      → AreJudged m Proposed before (block ∷ blocks) (verdict m K block before ∷ vs)
 
--- what a verdict may rest on: the block has no fault, and the partial assignment has every value of the block's start
+-- what a verdict may rest on: the block has no fault, and the partial assignment has every value of
+-- the block's start
 pub record IsProposed (m : Model) (block : Block) (K : Partial) : Type 0 where
   pub no_fault : block_fault m block ≡ None
   pub partial : IsPartial m K
@@ -143,7 +156,8 @@ abbrev pub is_undecided : Verdict → Bool
 is_undecided (Undecided r) = true
 is_undecided _ = false
 
--- the number of the first block whose verdict is of a kind, where the first of the list has the number n
+-- the number of the first block whose verdict is of a kind, where the first of the list has the
+-- number n
 abbrev pub first_number : ℕ → (Verdict → Bool) → List Verdict → Option ℕ
 first_number n is [] = None
 first_number n is (v ∷ vs) = cond (is v) (Some n) (first_number (suc n) is vs)
@@ -154,6 +168,8 @@ answer_by None (Some n) count = UndecidedAt n
 answer_by None None zero = NoBlocks
 answer_by None None (suc n) = Accepted (suc n)
 
--- rejected by the first violated block, else undecided by the first undecided one, else accepted where there is a block
+-- rejected by the first violated block, else undecided by the first undecided one, else accepted
+-- where there is a block
 abbrev pub answer_of : List Verdict → Answer
-answer_of vs = answer_by (first_number 1 is_violated vs) (first_number 1 is_undecided vs) (length vs)
+answer_of vs =
+    answer_by (first_number 1 is_violated vs) (first_number 1 is_undecided vs) (length vs)

@@ -1,4 +1,5 @@
--- What the printed items and the blocks that are read stand for: items and blocks with their places (this project's profile).
+-- What the printed items and the blocks that are read stand for: items and blocks with their places
+-- (this project's profile).
 use Rattle.std.specs.Prelude.{List, map}
 use Rattle.fz_syntax.specs.declared.tree.Printed as the_printed
 use Rattle.fz_syntax.specs.declared.tree.PrintedValue as the_value
@@ -10,7 +11,8 @@ use Rattle.fz_verdict.specs.Blocks.PrintedValue.{OneValue, ArrayOf}
 
 abbrev pub located_printed_value : the_value.PrintedValue → PrintedValue
 located_printed_value (printed.One l) = OneValue (located_literal l)
-located_printed_value (printed.Array indexes elements) = ArrayOf (map located_literal indexes.items) (map located_literal elements.items)
+located_printed_value (printed.Array indexes elements) =
+    ArrayOf (map located_literal indexes.items) (map located_literal elements.items)
 
 abbrev pub located_printed : the_printed.Printed → Printed
 located_printed p = record { name = located_name p.name; value = located_printed_value p.value }
@@ -21,4 +23,8 @@ located_items items = map located_printed items
 
 -- the block with its places
 abbrev pub located_block : the_block.Block → Block
-located_block b = record { offset = b.offset; text = b.text.now; items = located_items b.items.items }
+located_block b = record {
+  offset = b.offset;
+  text = b.text.now;
+  items = located_items b.items.items;
+}

@@ -1,4 +1,5 @@
-//! What a verdict on a solution block says: blocks over a model, their filling, verdicts, reports, and what an accepted report means.
+//! What a verdict on a solution block says: blocks over a model, their filling, verdicts, reports,
+//! and what an accepted report means.
 #![tactic(auto)]
 
 ghost use Rattle.fz_verdict.specs.Laws.{
@@ -62,7 +63,8 @@ pub fn each_not_better_has_none()
     ensures { EachNotBetterHasNone }
 {}
 
-/// A yes is a yes, for each block of a report, accepted or not: where it is satisfied, it has a solution.
+/// A yes is a yes, for each block of a report, accepted or not: where it is satisfied, it has a
+/// solution.
 pub fn each_satisfied_has_one()
     ensures { EachSatisfiedHasOne }
 {}

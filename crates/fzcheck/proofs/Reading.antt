@@ -4,13 +4,15 @@ use Rattle.std.proofs.lemmas.List.{take_at, take_all}
 use Rattle.std.specs.Io.KnownBytes.{Consumes, IsAtEnd}
 
 -- as many bytes as the limit were given
-pub given_up_to : (known left : Option (List ℕ)) (limit : ℕ) (bytes : List ℕ) → length bytes ≡ limit → Consumes known left bytes → IfSome known (λ xs. bytes ≡ take limit xs)
+pub given_up_to : (known left : Option (List ℕ)) (limit : ℕ) (bytes : List ℕ) → length bytes ≡ limit
+    → Consumes known left bytes → IfSome known (λ xs. bytes ≡ take limit xs)
 given_up_to None left limit bytes size given = tt
 given_up_to (Some xs) None limit bytes size given = absurd given
 given_up_to (Some xs) (Some ys) limit bytes size given = sym (ap (take limit) given ∙ take_at bytes ys limit size)
 
 -- no more than the limit were given, and then a read gave none
-pub given_to_end : (known left last : Option (List ℕ)) (limit : ℕ) (bytes : List ℕ) → length bytes ≤ limit → Consumes known left bytes → Consumes left last [] → IsAtEnd last
+pub given_to_end : (known left last : Option (List ℕ)) (limit : ℕ) (bytes : List ℕ)
+    → length bytes ≤ limit → Consumes known left bytes → Consumes left last [] → IsAtEnd last
     → IfSome known (λ xs. bytes ≡ take limit xs)
 given_to_end None left last limit bytes size given none end = tt
 given_to_end (Some xs) None last limit bytes size given none end = absurd given
@@ -20,7 +22,8 @@ given_to_end (Some xs) (Some ys) (Some zs) limit bytes size given none end =
     sym (ap (take limit) all ∙ take_all limit bytes size)
 
 -- a read that gives none changes nothing
-pub given_none : (known left last : Option (List ℕ)) (bytes : List ℕ) → Consumes known left bytes → Consumes left last [] → Consumes known last bytes
+pub given_none : (known left last : Option (List ℕ)) (bytes : List ℕ) → Consumes known left bytes
+    → Consumes left last [] → Consumes known last bytes
 given_none None left last bytes given none = tt
 given_none (Some xs) None last bytes given none = absurd given
 given_none (Some xs) (Some ys) None bytes given none = absurd none

@@ -21,7 +21,7 @@ pub fn source_behind<'a>(name: &'a str, bytes: &'a [u8], passed: Passed) -> Sour
 ///
 /// # Errors
 ///
-/// Want of memory.
+/// Out of memory.
 pub fn explanation(
     alloc: Global,
     name: &str,

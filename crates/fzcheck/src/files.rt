@@ -9,12 +9,14 @@ use std::io::Read;
 /// The most bytes that are read at a time.
 const PIECE: usize = 16_384;
 
-/// The bytes of a reader up to its end. Where there are more than the most, one more than the most is
-/// given, and it is not read further. A read that fails is not repeated, whatever its kind, which is why
-/// this is no call of `read_to_end`: that one repeats a read that a signal interrupts.
+/// The bytes of a reader up to its end. Where there are more than the most, one more than the most
+/// is given, and it is not read further. A read that fails is not repeated, whatever its kind,
+/// which is why this is no call of `read_to_end`: that one repeats a read that a signal interrupts.
 pub fn read_up_to<R: Read>(alloc: Global, reader: &mut R, most: u32) -> Result<Vec<u8>, CheckError>
-    ensures bytes { IfOk result (λ bytes. IfSome (R.remaining reader.old) (λ xs. bytes.items ≡ take (suc most) xs)) }
-    ensures no_more { IfOk result (λ bytes. Consumes (R.remaining reader.old) (R.remaining reader.new) bytes.items) }
+    ensures bytes { IfOk result (λ bytes. IfSome (R.remaining reader.old)
+        (λ xs. bytes.items ≡ take (suc most) xs)) }
+    ensures no_more { IfOk result (λ bytes. Consumes (R.remaining reader.old)
+        (R.remaining reader.new) bytes.items) }
     ensures refused { IfErr result (λ e. (e ≡ Refusal.Read) ⊎ (e ≡ Refusal.Memory)) }
 {
     let limit = most as usize + 1;

@@ -1,5 +1,5 @@
-//! The program `fzcheck`: its words, its files, its messages and its exit status. All judging is done
-//! by `fz_check`.
+//! The program `fzcheck`: its words, its files, its messages and its exit status. All judging is
+//! done by `fz_check`.
 #![tactic(auto)]
 
 mod check;

@@ -65,7 +65,8 @@ impl<'r, W: Write> Write for Progress<'r, W> {
 
     fn write(&mut self, buf: &[u8]) -> io::Result<usize>
         ensures bound { WritesAtMost result buf.now }
-        ensures bytes { WriteAppends (W.contents self.old.writer) (W.contents self.new.writer) result buf.now }
+        ensures bytes { WriteAppends (W.contents self.old.writer)
+            (W.contents self.new.writer) result buf.now }
     {
         match self.writer.write(buf) {
             Ok(count) => {

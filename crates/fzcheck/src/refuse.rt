@@ -42,7 +42,7 @@ pub fn refuse(rt: &HostRuntime, error: &CheckError) -> u8 {
     }
 }
 
-/// Whether this is the status of a refusal itself, and not of one for want of memory to tell it.
+/// Whether this is the status of a refusal itself, and not of one for lack of memory to tell it.
 fn is_told(told: u8, error: &CheckError) -> bool {
     told == status(&Err(*error))
 }

@@ -41,7 +41,7 @@ struct Reading<'s, 'a> {
 ///
 /// # Errors
 ///
-/// Want of memory.
+/// Out of memory.
 pub fn case_explanation(alloc: Global, case: &Case<'_>) -> Result<Option<String>, AllocError> {
     let (Ok(ast), Ok(stream)) = (
         parse(alloc, case.model.bytes),

@@ -149,7 +149,8 @@ fn program<'a>(alloc: Global) -> Result<Command<'a>, AllocError> {
         .subcommand(show)
 }
 
-/// The program with both commands. Each function here holds one command where it may fail, since each that is held there is one more to free.
+/// The program with both commands. Each function here holds one command where it may fail, since
+/// each that is held there is one more to free.
 fn command<'a>(alloc: Global) -> Result<Command<'a>, AllocError> {
     let check = check_command(alloc)?;
     program(alloc)?.subcommand(check)

@@ -10,7 +10,8 @@ use std::alloc::{AllocError, Global};
 // Up to so many elements each pair is compared, which takes no memory.
 const FEW: usize = 16;
 
-/// Whether no two elements at different places are equal. Only where there are many does it copy them, to put them in order.
+/// Whether no two elements at different places are equal. Only where there are many does it copy
+/// them, to put them in order.
 pub fn all_elements_different(alloc: Global, elements: &Elements) -> Result<bool, AllocError>
     ensures exact { IfOk result (λ r. r ≡ all_different (ints elements.now)) }
 {

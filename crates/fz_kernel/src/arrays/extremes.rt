@@ -9,7 +9,8 @@ use fz_arguments::Elements;
 /// The greatest element; none where there is no element.
 #[inline(always)]
 pub fn maximum(elements: &Elements) -> Option<i64>
-    ensures best { IfSome result (λ m. (is_among m (ints elements.now) && list_all (λ x. int_le x m) (ints elements.now)) ≡ true) }
+    ensures best { IfSome result (λ m.
+        (is_among m (ints elements.now) && list_all (λ x. int_le x m) (ints elements.now)) ≡ true) }
     ensures none { IfNone result (ints elements.now ≡ []) }
 {
     if elements.len() == 0 {
@@ -25,7 +26,8 @@ pub fn maximum(elements: &Elements) -> Option<i64>
 /// The least element; none where there is no element.
 #[inline(always)]
 pub fn minimum(elements: &Elements) -> Option<i64>
-    ensures best { IfSome result (λ m. (is_among m (ints elements.now) && list_all (λ x. int_le m x) (ints elements.now)) ≡ true) }
+    ensures best { IfSome result (λ m.
+        (is_among m (ints elements.now) && list_all (λ x. int_le m x) (ints elements.now)) ≡ true) }
     ensures none { IfNone result (ints elements.now ≡ []) }
 {
     if elements.len() == 0 {
@@ -40,7 +42,8 @@ pub fn minimum(elements: &Elements) -> Option<i64>
 
 /// Whether `number` is the greatest element. No number is where there is no element.
 pub fn is_maximum(number: i64, elements: &Elements) -> bool
-    ensures exact { result ≡ (is_among number (ints elements.now) && list_all (λ x. int_le x number) (ints elements.now)) }
+    ensures exact { result ≡ (is_among number (ints elements.now)
+        && list_all (λ x. int_le x number) (ints elements.now)) }
 {
     match maximum(elements) {
         Some(greatest) => number == greatest,
@@ -50,7 +53,8 @@ pub fn is_maximum(number: i64, elements: &Elements) -> bool
 
 /// Whether `number` is the least element. No number is where there is no element.
 pub fn is_minimum(number: i64, elements: &Elements) -> bool
-    ensures exact { result ≡ (is_among number (ints elements.now) && list_all (λ x. int_le number x) (ints elements.now)) }
+    ensures exact { result ≡ (is_among number (ints elements.now)
+        && list_all (λ x. int_le number x) (ints elements.now)) }
 {
     match minimum(elements) {
         Some(least) => number == least,

@@ -6,11 +6,13 @@ ghost use Rattle.fz_arguments.specs.Views.{ints, bools};
 use crate::numbers::product;
 use fz_arguments::Elements;
 
-/// The sum of `a[i] * b[i]`, added from the left; none where a sum on the way is no number of signed 128 bits.
+/// The sum of `a[i] * b[i]`, added from the left; none where a sum on the way is no number of
+/// signed 128 bits.
 #[inline(always)]
 pub fn sum_of_products(a: &Elements, b: &Elements) -> Option<i128>
     ensures exact { IfSome result (λ sum. sum ≡ total (products (ints a.now) (ints b.now))) }
-    ensures within { IfSome result (λ sum. leaves_128 (products (ints a.now) (ints b.now)) ≡ false) }
+    ensures within { IfSome result
+        (λ sum. leaves_128 (products (ints a.now) (ints b.now)) ≡ false) }
     ensures leaves { IfNone result (leaves_128 (products (ints a.now) (ints b.now)) ≡ true) }
 {
     let mut sum: i128 = 0;
@@ -24,7 +26,8 @@ pub fn sum_of_products(a: &Elements, b: &Elements) -> Option<i128>
     Some(sum)
 }
 
-/// The sum of the `a[i]` for which `b[i]` is true. No array is long enough for it to leave 128 bits.
+/// The sum of the `a[i]` for which `b[i]` is true. No array is long enough for it to leave 128
+/// bits.
 #[inline(always)]
 pub fn sum_where_true(a: &Elements, b: &Elements) -> i128
     ensures exact { result ≡ total (where_true (ints a.now) (bools b.now)) }

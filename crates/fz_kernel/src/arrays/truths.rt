@@ -1,4 +1,4 @@
-// Truth values in arrays.
+// Booleans in arrays.
 ghost use Rattle.std.specs.Prelude.{◌≡◌, not, ◌||◌, length};
 ghost use Rattle.std.specs.List.{list_all, list_any, filter};
 ghost use Rattle.fz_meaning.specs.Builtins.{is_odd};
@@ -57,7 +57,8 @@ pub fn odd_number_true(elements: &Elements) -> bool
 
 /// Whether one of the first is true, or one of the others false.
 pub fn clause_holds(positive: &Elements, negative: &Elements) -> bool
-    ensures exact { result ≡ (list_any (λ x. x) (bools positive.now) || list_any (λ x. not x) (bools negative.now)) }
+    ensures exact { result ≡ (list_any (λ x. x) (bools positive.now)
+        || list_any (λ x. not x) (bools negative.now)) }
 {
     any_true(positive) || any_false(negative)
 }

@@ -8,7 +8,8 @@ use Rattle.fz_outputs.specs.Outputs.{is_output_var}
 use Rattle.fz_outputs.proofs.Notes.{unfolds}
 use Rattle.fz_outputs.proofs.is_output_var.Goals as goal
 
-alone : (name : List ℕ) (args : List tree.NoteArg) → true ≡ bytes_eq name (codes "output_var") → (length args == 0) ≡ is_output_var (tree.Called name (arg_list args))
+alone : (name : List ℕ) (args : List tree.NoteArg) → true ≡ bytes_eq name (codes "output_var")
+    → (length args == 0) ≡ is_output_var (tree.Called name (arg_list args))
 alone name [] named = named
 alone name (a ∷ args) named = eqb-suc-zero (length args)
 

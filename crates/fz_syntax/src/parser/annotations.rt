@@ -20,7 +20,8 @@ impl<'a> Parser<'a> {
     #[cycle(notes)]
     #[tactic(auto, unfolding(crate::specs::Reading::note_at), using(crate::proofs::Walks::passed_then, crate::proofs::Walks::passed_none, crate::proofs::Walks::passed, crate::proofs::Walks::walk_none, crate::proofs::Errors::fails_unexpected, crate::proofs::Separated::fails_bind))]
     pub(crate) fn note(&mut self, depth: usize) -> Result<Note<'a>, Refusal>
-        ensures read { Gives (bare_note) result (note_at the_limits depth (lexemes self.old)) (lexemes self.new) }
+        ensures read { Gives (bare_note) result (note_at the_limits depth (lexemes self.old))
+            (lexemes self.new) }
         ensures shorter { length (lexemes self.new) ≤ length (lexemes self.old) }
         ensures end { self.new.end ≡ self.old.end }
         ensures walked { IfOk result (λ n. Walk self.old self.new (placed_note n)) }
@@ -40,10 +41,13 @@ impl<'a> Parser<'a> {
     #[cycle(notes)]
     #[tactic(auto, unfolding(crate::specs::Reading::note_args_at, crate::specs::Reading::mark_at), using(crate::proofs::Walks::passed_then, crate::proofs::Walks::passed_none, crate::proofs::Walks::passed, crate::proofs::Walks::walk_none, crate::proofs::Errors::fails_unexpected, crate::proofs::Separated::fails_bind))]
     pub(crate) fn note_args(&mut self, depth: usize) -> Result<Vec<NoteArg<'a>>, Refusal>
-        ensures read { Gives (λ v. map bare_arg v.items) result (note_args_at the_limits depth (note_at the_limits depth) (lexemes self.old)) (lexemes self.new) }
+        ensures read { Gives (λ v. map bare_arg v.items) result
+            (note_args_at the_limits depth (note_at the_limits depth) (lexemes self.old))
+            (lexemes self.new) }
         ensures shorter { length (lexemes self.new) ≤ length (lexemes self.old) }
         ensures end { self.new.end ≡ self.old.end }
-        ensures walked { IfOk result (λ v. Walk self.old self.new (placed_args (map placed_arg v.items))) }
+        ensures walked { IfOk result (λ v. Walk self.old self.new
+            (placed_args (map placed_arg v.items))) }
     {
         if !self.eat(Mark::OpenParen) {
             return Ok(Vec::new(self.alloc));
@@ -55,10 +59,13 @@ impl<'a> Parser<'a> {
 
     #[cycle(notes)]
     pub(crate) fn separated_note_args(&mut self, depth: usize) -> Result<Vec<NoteArg<'a>>, Refusal>
-        ensures read { Gives (λ v. map bare_arg v.items) result (separated_at (any_number (note_arg_at the_limits depth (note_at the_limits depth))) (lexemes self.old)) (lexemes self.new) }
+        ensures read { Gives (λ v. map bare_arg v.items) result
+            (separated_at (any_number (note_arg_at the_limits depth (note_at the_limits depth)))
+            (lexemes self.old)) (lexemes self.new) }
         ensures shorter { length (lexemes self.new) ≤ length (lexemes self.old) }
         ensures end { self.new.end ≡ self.old.end }
-        ensures walked { IfOk result (λ v. Walk self.old self.new (placed_separated placed_arg v.items)) }
+        ensures walked { IfOk result (λ v. Walk self.old self.new
+            (placed_separated placed_arg v.items)) }
         ensures some { IfOk result (λ v. 0 < length v.items) }
     {
         let mut arguments = Vec::new(self.alloc);
@@ -73,7 +80,8 @@ impl<'a> Parser<'a> {
     #[cycle(notes)]
     #[tactic(auto, unfolding(crate::specs::Reading::note_arg_at), using(crate::proofs::Walks::passed_then, crate::proofs::Walks::passed_none, crate::proofs::Walks::passed, crate::proofs::Walks::walk_none, crate::proofs::Errors::fails_unexpected, crate::proofs::Separated::fails_bind))]
     pub(crate) fn note_arg(&mut self, depth: usize) -> Result<NoteArg<'a>, Refusal>
-        ensures read { Gives (bare_arg) result (note_arg_at the_limits depth (note_at the_limits depth) (lexemes self.old)) (lexemes self.new) }
+        ensures read { Gives (bare_arg) result (note_arg_at the_limits depth
+            (note_at the_limits depth) (lexemes self.old)) (lexemes self.new) }
         ensures shorter { length (lexemes self.new) ≤ length (lexemes self.old) }
         ensures end { self.new.end ≡ self.old.end }
         ensures walked { IfOk result (λ a. Walk self.old self.new (placed_arg a)) }
@@ -88,10 +96,13 @@ impl<'a> Parser<'a> {
     #[cycle(notes)]
     #[tactic(auto, unfolding(crate::specs::Reading::note_list_at, crate::specs::Reading::list_at, crate::specs::Reading::mark_at), using(crate::proofs::Walks::passed_then, crate::proofs::Walks::passed_none, crate::proofs::Walks::passed, crate::proofs::Walks::walk_none, crate::proofs::Errors::fails_unexpected, crate::proofs::Separated::fails_bind))]
     pub(crate) fn note_list(&mut self, depth: usize) -> Result<Vec<NoteBasic<'a>>, Refusal>
-        ensures read { Gives (λ v. map bare_basic v.items) result (note_list_at the_limits depth (note_at the_limits depth) (lexemes self.old)) (lexemes self.new) }
+        ensures read { Gives (λ v. map bare_basic v.items) result
+            (note_list_at the_limits depth (note_at the_limits depth) (lexemes self.old))
+            (lexemes self.new) }
         ensures shorter { length (lexemes self.new) ≤ length (lexemes self.old) }
         ensures end { self.new.end ≡ self.old.end }
-        ensures walked { IfOk result (λ v. Walk self.old self.new (placed_separated placed_note_basic v.items ++ placed_mark CloseBracket)) }
+        ensures walked { IfOk result (λ v. Walk self.old self.new
+            (placed_separated placed_note_basic v.items ++ placed_mark CloseBracket)) }
     {
         if self.eat(Mark::CloseBracket) {
             return Ok(Vec::new(self.alloc));
@@ -106,10 +117,14 @@ impl<'a> Parser<'a> {
         &mut self,
         depth: usize,
     ) -> Result<Vec<NoteBasic<'a>>, Refusal>
-        ensures read { Gives (λ v. map bare_basic v.items) result (separated_at (at_most the_limits.elements (begins_note_basic depth) (note_basic_at the_limits (note_at the_limits depth))) (lexemes self.old)) (lexemes self.new) }
+        ensures read { Gives (λ v. map bare_basic v.items) result
+            (separated_at (at_most the_limits.elements (begins_note_basic depth)
+            (note_basic_at the_limits (note_at the_limits depth))) (lexemes self.old))
+            (lexemes self.new) }
         ensures shorter { length (lexemes self.new) ≤ length (lexemes self.old) }
         ensures end { self.new.end ≡ self.old.end }
-        ensures walked { IfOk result (λ v. Walk self.old self.new (placed_separated placed_note_basic v.items)) }
+        ensures walked { IfOk result (λ v. Walk self.old self.new
+            (placed_separated placed_note_basic v.items)) }
     {
         let mut basics = Vec::new(self.alloc);
         basics.push(self.listed_note_basic(depth, 0)?)?;
@@ -127,7 +142,9 @@ impl<'a> Parser<'a> {
         depth: usize,
         count: usize,
     ) -> Result<NoteBasic<'a>, Refusal>
-        ensures read { Gives (bare_basic) result (at_most the_limits.elements (begins_note_basic depth) (note_basic_at the_limits (note_at the_limits depth)) count (lexemes self.old)) (lexemes self.new) }
+        ensures read { Gives (bare_basic) result (at_most the_limits.elements
+            (begins_note_basic depth) (note_basic_at the_limits (note_at the_limits depth)) count
+            (lexemes self.old)) (lexemes self.new) }
         ensures shorter { length (lexemes self.new) ≤ length (lexemes self.old) }
         ensures end { self.new.end ≡ self.old.end }
         ensures walked { IfOk result (λ b. Walk self.old self.new (placed_note_basic b)) }
@@ -141,7 +158,8 @@ impl<'a> Parser<'a> {
     #[cycle(notes)]
     #[tactic(auto, unfolding(crate::specs::Reading::note_basic_at), using(crate::proofs::Walks::passed_then, crate::proofs::Walks::passed_none, crate::proofs::Walks::passed, crate::proofs::Walks::walk_none, crate::proofs::Errors::fails_unexpected, crate::proofs::Separated::fails_bind))]
     pub(crate) fn note_basic(&mut self, depth: usize) -> Result<NoteBasic<'a>, Refusal>
-        ensures read { Gives (bare_basic) result (note_basic_at the_limits (note_at the_limits depth) (lexemes self.old)) (lexemes self.new) }
+        ensures read { Gives (bare_basic) result (note_basic_at the_limits
+            (note_at the_limits depth) (lexemes self.old)) (lexemes self.new) }
         ensures shorter { length (lexemes self.new) ≤ length (lexemes self.old) }
         ensures end { self.new.end ≡ self.old.end }
         ensures walked { IfOk result (λ b. Walk self.old self.new (placed_note_basic b)) }
@@ -167,7 +185,8 @@ impl<'a> Parser<'a> {
     }
 
     pub(crate) fn notes(&mut self) -> Result<Vec<Note<'a>>, Refusal>
-        ensures read { Gives (λ v. bare_notes v.items) result (notes_at the_limits (lexemes self.old)) (lexemes self.new) }
+        ensures read { Gives (λ v. bare_notes v.items) result
+            (notes_at the_limits (lexemes self.old)) (lexemes self.new) }
         ensures shorter { length (lexemes self.new) ≤ length (lexemes self.old) }
         ensures end { self.new.end ≡ self.old.end }
         ensures walked { IfOk result (λ v. Walk self.old self.new (placed_notes v.items)) }

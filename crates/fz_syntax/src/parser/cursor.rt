@@ -104,7 +104,8 @@ impl<'a> Parser<'a> {
         ensures shorter { length (lexemes self.new) ≡ length (lexemes self.old) - 1 }
         ensures end { self.new.end ≡ self.old.end }
         ensures walked { Passed self.old self.new }
-        ensures reached { (t : SpannedToken) (rest : List SpannedToken) → ahead self.old ≡ t ∷ rest → (ahead self.new ≡ rest) × (self.new.reached ≡ t.end) }
+        ensures reached { (t : SpannedToken) (rest : List SpannedToken) → ahead self.old ≡ t ∷ rest
+            → (ahead self.new ≡ rest) × (self.new.reached ≡ t.end) }
     {
         if let Some(first) = self.tokens.first() {
             self.reached = first.span.end;
@@ -144,7 +145,8 @@ impl<'a> Parser<'a> {
     #[inline(always)]
     pub(crate) fn eat(&mut self, mark: Mark) -> bool
         ensures found { result ≡ next_is mark (lexemes self.old) }
-        ensures left { lexemes self.new ≡ (if next_is mark (lexemes self.old) then drop 1 (lexemes self.old) else lexemes self.old) }
+        ensures left { lexemes self.new ≡ (if next_is mark (lexemes self.old)
+            then drop 1 (lexemes self.old) else lexemes self.old) }
         ensures shorter { length (lexemes self.new) ≤ length (lexemes self.old) }
         ensures end { self.new.end ≡ self.old.end }
         ensures walked { Passed self.old self.new }
@@ -175,7 +177,8 @@ impl<'a> Parser<'a> {
 
     #[tactic(auto, unfolding(crate::specs::Reading::word_at), using(crate::proofs::Walks::passed_then, crate::proofs::Walks::passed_none, crate::proofs::Walks::passed, crate::proofs::Walks::walk_none, crate::proofs::Errors::fails_unexpected))]
     pub(crate) fn expect_word(&mut self, word: &[u8]) -> Result<(), Refusal>
-        ensures read { Gives (λ _. tt) result (word_at word.now (lexemes self.old)) (lexemes self.new) }
+        ensures read { Gives (λ _. tt) result (word_at word.now (lexemes self.old))
+            (lexemes self.new) }
         ensures shorter { length (lexemes self.new) ≤ length (lexemes self.old) }
         ensures end { self.new.end ≡ self.old.end }
         ensures walked { IfOk result (λ _. Passed self.old self.new) }
@@ -189,7 +192,8 @@ impl<'a> Parser<'a> {
 
     pub(crate) fn eat_word(&mut self, word: &[u8]) -> bool
         ensures found { result ≡ next_word word.now (lexemes self.old) }
-        ensures left { lexemes self.new ≡ (if next_word word.now (lexemes self.old) then drop 1 (lexemes self.old) else lexemes self.old) }
+        ensures left { lexemes self.new ≡ (if next_word word.now (lexemes self.old)
+            then drop 1 (lexemes self.old) else lexemes self.old) }
         ensures shorter { length (lexemes self.new) ≤ length (lexemes self.old) }
         ensures end { self.new.end ≡ self.old.end }
         ensures walked { Passed self.old self.new }

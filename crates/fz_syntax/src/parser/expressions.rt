@@ -21,9 +21,11 @@ impl<'a> Parser<'a> {
     /// Takes the next token and the comma behind it, where nothing stands between them.
     #[inline(always)]
     fn eat_with_comma(&mut self) -> Option<Token<'a>>
-        ensures read { IfSome result (λ t. lexemes self.old ≡ lexeme t ∷ (Marked Comma ∷ lexemes self.new)) }
+        ensures read { IfSome result (λ t. lexemes self.old
+            ≡ lexeme t ∷ (Marked Comma ∷ lexemes self.new)) }
         ensures end { self.new.end ≡ self.old.end }
-        ensures walked { IfSome result (λ t. Walk self.old self.new (placed_listed (lexeme t) t.span)) }
+        ensures walked { IfSome result
+            (λ t. Walk self.old self.new (placed_listed (lexeme t) t.span)) }
         ensures kept { IfNone result (lexemes self.new ≡ lexemes self.old) }
         ensures stays { IfNone result (Walk self.old self.new []) }
     {
@@ -36,14 +38,17 @@ impl<'a> Parser<'a> {
         }
     }
 
-    /// Takes a literal of one token and the comma behind it, as an element of a list, where they are next and nothing
-    /// stands between them. Long lists are mostly such.
+    /// Takes a literal of one token and the comma behind it, as an element of a list, where they
+    /// are next and nothing stands between them. Long lists are mostly such.
     #[inline(always)]
     pub(crate) fn eat_listed(&mut self) -> Option<Literal>
-        ensures read { IfSome result (λ l. IsListed (bare_literal l) (lexemes self.old) (lexemes self.new)) }
-        ensures shorter { IfSome result (λ _. length (lexemes self.new) < length (lexemes self.old)) }
+        ensures read { IfSome result (λ l. IsListed (bare_literal l) (lexemes self.old)
+            (lexemes self.new)) }
+        ensures shorter { IfSome result
+            (λ _. length (lexemes self.new) < length (lexemes self.old)) }
         ensures end { self.new.end ≡ self.old.end }
-        ensures walked { IfSome result (λ l. Walk self.old self.new (placed_literal l ++ placed_mark Comma)) }
+        ensures walked { IfSome result
+            (λ l. Walk self.old self.new (placed_literal l ++ placed_mark Comma)) }
         ensures kept { IfNone result (lexemes self.new ≡ lexemes self.old) }
         ensures stays { IfNone result (Walk self.old self.new []) }
     {
@@ -59,8 +64,10 @@ impl<'a> Parser<'a> {
     /// The same of a number in braces.
     #[inline(always)]
     fn eat_listed_whole(&mut self) -> Option<i64>
-        ensures read { IfSome result (λ n. lexemes self.old ≡ Whole n ∷ (Marked Comma ∷ lexemes self.new)) }
-        ensures shorter { IfSome result (λ _. length (lexemes self.new) < length (lexemes self.old)) }
+        ensures read { IfSome result (λ n. lexemes self.old
+            ≡ Whole n ∷ (Marked Comma ∷ lexemes self.new)) }
+        ensures shorter { IfSome result
+            (λ _. length (lexemes self.new) < length (lexemes self.old)) }
         ensures end { self.new.end ≡ self.old.end }
         ensures walked { Passed self.old self.new }
         ensures kept { IfNone result (lexemes self.new ≡ lexemes self.old) }
@@ -76,7 +83,8 @@ impl<'a> Parser<'a> {
     /// A number of a list that has `count` so far.
     #[inline(always)]
     pub(crate) fn listed_whole(&mut self, count: usize) -> Result<i64, Refusal>
-        ensures read { Gives (λ n. n) result (at_most the_limits.elements is_whole whole_at count (lexemes self.old)) (lexemes self.new) }
+        ensures read { Gives (λ n. n) result (at_most the_limits.elements is_whole whole_at count
+            (lexemes self.old)) (lexemes self.new) }
         ensures shorter { length (lexemes self.new) ≤ length (lexemes self.old) }
         ensures end { self.new.end ≡ self.old.end }
         ensures walked { IfOk result (λ _. Passed self.old self.new) }
@@ -88,7 +96,8 @@ impl<'a> Parser<'a> {
     }
 
     pub(crate) fn numbers(&mut self) -> Result<Vec<i64>, Refusal>
-        ensures read { Gives (λ v. v.items) result (separated_at (at_most the_limits.elements is_whole whole_at) (lexemes self.old)) (lexemes self.new) }
+        ensures read { Gives (λ v. v.items) result (separated_at
+            (at_most the_limits.elements is_whole whole_at) (lexemes self.old)) (lexemes self.new) }
         ensures shorter { length (lexemes self.new) ≤ length (lexemes self.old) }
         ensures end { self.new.end ≡ self.old.end }
         ensures walked { IfOk result (λ _. Passed self.old self.new) }
@@ -113,7 +122,8 @@ impl<'a> Parser<'a> {
     /// Numbers behind the brace that opened at `start`.
     #[tactic(auto, unfolding(crate::specs::Reading::braces_at, crate::specs::Reading::list_at, crate::specs::Reading::mark_at), using(crate::proofs::Walks::passed_then, crate::proofs::Walks::passed_none, crate::proofs::Walks::passed, crate::proofs::Walks::walk_none, crate::proofs::Errors::fails_unexpected, crate::proofs::Separated::fails_bind))]
     pub(crate) fn braces(&mut self, start: usize) -> Result<Literal, Refusal>
-        ensures read { Gives (bare_literal) result (braces_at the_limits (lexemes self.old)) (lexemes self.new) }
+        ensures read { Gives (bare_literal) result (braces_at the_limits (lexemes self.old))
+            (lexemes self.new) }
         ensures shorter { length (lexemes self.new) ≤ length (lexemes self.old) }
         ensures end { self.new.end ≡ self.old.end }
         ensures walked { IfOk result (λ _. Passed self.old self.new) }
@@ -136,7 +146,8 @@ impl<'a> Parser<'a> {
     #[inline(always)]
     #[tactic(auto, unfolding(crate::specs::Reading::from_whole), using(crate::proofs::Walks::passed_then, crate::proofs::Walks::passed_none, crate::proofs::Walks::passed, crate::proofs::Walks::walk_none, crate::proofs::Errors::fails_unexpected, crate::proofs::Separated::fails_bind))]
     pub(crate) fn from_whole(&mut self, low: i64, start: usize) -> Result<Literal, Refusal>
-        ensures read { Gives (bare_literal) result (from_whole low (lexemes self.old)) (lexemes self.new) }
+        ensures read { Gives (bare_literal) result (from_whole low (lexemes self.old))
+            (lexemes self.new) }
         ensures shorter { length (lexemes self.new) ≤ length (lexemes self.old) }
         ensures end { self.new.end ≡ self.old.end }
         ensures walked { IfOk result (λ _. Passed self.old self.new) }
@@ -159,7 +170,8 @@ impl<'a> Parser<'a> {
     #[inline(always)]
     #[tactic(auto, unfolding(crate::specs::Reading::literal_at), using(crate::proofs::Walks::passed_then, crate::proofs::Walks::passed_none, crate::proofs::Walks::passed, crate::proofs::Walks::walk_none, crate::proofs::Errors::fails_unexpected, crate::proofs::Separated::fails_bind))]
     fn literal_from(&mut self, start: usize) -> Result<Literal, Refusal>
-        ensures read { Gives (bare_literal) result (literal_at the_limits (lexemes self.old)) (lexemes self.new) }
+        ensures read { Gives (bare_literal) result (literal_at the_limits (lexemes self.old))
+            (lexemes self.new) }
         ensures shorter { length (lexemes self.new) ≤ length (lexemes self.old) }
         ensures end { self.new.end ≡ self.old.end }
         ensures walked { IfOk result (λ _. Passed self.old self.new) }
@@ -187,7 +199,8 @@ impl<'a> Parser<'a> {
 
     #[inline(always)]
     pub(crate) fn literal(&mut self) -> Result<Literal, Refusal>
-        ensures read { Gives (bare_literal) result (literal_at the_limits (lexemes self.old)) (lexemes self.new) }
+        ensures read { Gives (bare_literal) result (literal_at the_limits (lexemes self.old))
+            (lexemes self.new) }
         ensures shorter { length (lexemes self.new) ≤ length (lexemes self.old) }
         ensures end { self.new.end ≡ self.old.end }
         ensures walked { IfOk result (λ l. Walk self.old self.new (placed_literal l)) }
@@ -199,7 +212,8 @@ impl<'a> Parser<'a> {
     #[inline(always)]
     #[tactic(auto, unfolding(crate::specs::Reading::basic_at), using(crate::proofs::Walks::passed_then, crate::proofs::Walks::passed_none, crate::proofs::Walks::passed, crate::proofs::Walks::walk_none, crate::proofs::Errors::fails_unexpected, crate::proofs::Separated::fails_bind))]
     pub(crate) fn basic(&mut self) -> Result<Basic<'a>, Refusal>
-        ensures read { Gives (bare_expression) result (basic_at the_limits (lexemes self.old)) (lexemes self.new) }
+        ensures read { Gives (bare_expression) result (basic_at the_limits (lexemes self.old))
+            (lexemes self.new) }
         ensures shorter { length (lexemes self.new) ≤ length (lexemes self.old) }
         ensures end { self.new.end ≡ self.old.end }
         ensures walked { IfOk result (λ b. Walk self.old self.new (placed_basic b)) }
@@ -214,7 +228,8 @@ impl<'a> Parser<'a> {
     /// An element of a list that has `count` so far.
     #[inline(always)]
     pub(crate) fn listed_basic(&mut self, count: usize) -> Result<Basic<'a>, Refusal>
-        ensures read { Gives (bare_expression) result (at_most the_limits.elements begins_basic (basic_at the_limits) count (lexemes self.old)) (lexemes self.new) }
+        ensures read { Gives (bare_expression) result (at_most the_limits.elements begins_basic
+            (basic_at the_limits) count (lexemes self.old)) (lexemes self.new) }
         ensures shorter { length (lexemes self.new) ≤ length (lexemes self.old) }
         ensures end { self.new.end ≡ self.old.end }
         ensures walked { IfOk result (λ b. Walk self.old self.new (placed_basic b)) }
@@ -227,10 +242,13 @@ impl<'a> Parser<'a> {
 
     #[inline(always)]
     pub(crate) fn separated_basics(&mut self) -> Result<Vec<Basic<'a>>, Refusal>
-        ensures read { Gives (λ v. bare_expressions v.items) result (separated_at (at_most the_limits.elements begins_basic (basic_at the_limits)) (lexemes self.old)) (lexemes self.new) }
+        ensures read { Gives (λ v. bare_expressions v.items) result
+            (separated_at (at_most the_limits.elements begins_basic (basic_at the_limits))
+            (lexemes self.old)) (lexemes self.new) }
         ensures shorter { length (lexemes self.new) ≤ length (lexemes self.old) }
         ensures end { self.new.end ≡ self.old.end }
-        ensures walked { IfOk result (λ v. Walk self.old self.new (placed_separated placed_basic v.items)) }
+        ensures walked { IfOk result (λ v. Walk self.old self.new
+            (placed_separated placed_basic v.items)) }
     {
         let mut basics = Vec::new(self.alloc);
         basics.push(self.listed_basic(0)?)?;
@@ -244,10 +262,12 @@ impl<'a> Parser<'a> {
     /// A list's elements behind the bracket that opens it.
     #[tactic(auto, unfolding(crate::specs::Reading::expr_list_at, crate::specs::Reading::list_at, crate::specs::Reading::mark_at), using(crate::proofs::Walks::passed_then, crate::proofs::Walks::passed_none, crate::proofs::Walks::passed, crate::proofs::Walks::walk_none, crate::proofs::Errors::fails_unexpected, crate::proofs::Separated::fails_bind))]
     pub(crate) fn expr_list(&mut self) -> Result<Vec<Basic<'a>>, Refusal>
-        ensures read { Gives (λ v. bare_expressions v.items) result (expr_list_at the_limits (lexemes self.old)) (lexemes self.new) }
+        ensures read { Gives (λ v. bare_expressions v.items) result
+            (expr_list_at the_limits (lexemes self.old)) (lexemes self.new) }
         ensures shorter { length (lexemes self.new) ≤ length (lexemes self.old) }
         ensures end { self.new.end ≡ self.old.end }
-        ensures walked { IfOk result (λ v. Walk self.old self.new (placed_separated placed_basic v.items ++ placed_mark CloseBracket)) }
+        ensures walked { IfOk result (λ v. Walk self.old self.new
+            (placed_separated placed_basic v.items ++ placed_mark CloseBracket)) }
     {
         if self.eat(Mark::CloseBracket) {
             return Ok(Vec::new(self.alloc));
@@ -260,7 +280,8 @@ impl<'a> Parser<'a> {
     #[inline(always)]
     #[tactic(auto, unfolding(crate::specs::Reading::expr_at), using(crate::proofs::Walks::passed_then, crate::proofs::Walks::passed_none, crate::proofs::Walks::passed, crate::proofs::Walks::walk_none, crate::proofs::Errors::fails_unexpected, crate::proofs::Separated::fails_bind))]
     pub(crate) fn expr(&mut self) -> Result<Expr<'a>, Refusal>
-        ensures read { Gives (bare_expr) result (expr_at the_limits (lexemes self.old)) (lexemes self.new) }
+        ensures read { Gives (bare_expr) result (expr_at the_limits (lexemes self.old))
+            (lexemes self.new) }
         ensures shorter { length (lexemes self.new) ≤ length (lexemes self.old) }
         ensures end { self.new.end ≡ self.old.end }
         ensures walked { IfOk result (λ e. Walk self.old self.new (placed_expr e)) }
@@ -274,7 +295,8 @@ impl<'a> Parser<'a> {
 
     #[tactic(auto, unfolding(crate::specs::Reading::literal_basic_at), using(crate::proofs::Walks::passed_then, crate::proofs::Walks::passed_none, crate::proofs::Walks::passed, crate::proofs::Walks::walk_none, crate::proofs::Errors::fails_unexpected, crate::proofs::Separated::fails_bind))]
     pub(crate) fn literal_basic(&mut self) -> Result<Basic<'a>, Refusal>
-        ensures read { Gives (bare_expression) result (literal_basic_at the_limits (lexemes self.old)) (lexemes self.new) }
+        ensures read { Gives (bare_expression) result
+            (literal_basic_at the_limits (lexemes self.old)) (lexemes self.new) }
         ensures shorter { length (lexemes self.new) ≤ length (lexemes self.old) }
         ensures end { self.new.end ≡ self.old.end }
         ensures walked { IfOk result (λ b. Walk self.old self.new (placed_basic b)) }
@@ -284,7 +306,8 @@ impl<'a> Parser<'a> {
 
     /// An element of a list that has `count` so far.
     pub(crate) fn listed_literal(&mut self, count: usize) -> Result<Basic<'a>, Refusal>
-        ensures read { Gives (bare_expression) result (at_most the_limits.elements begins_literal (literal_basic_at the_limits) count (lexemes self.old)) (lexemes self.new) }
+        ensures read { Gives (bare_expression) result (at_most the_limits.elements begins_literal
+            (literal_basic_at the_limits) count (lexemes self.old)) (lexemes self.new) }
         ensures shorter { length (lexemes self.new) ≤ length (lexemes self.old) }
         ensures end { self.new.end ≡ self.old.end }
         ensures walked { IfOk result (λ b. Walk self.old self.new (placed_basic b)) }
@@ -296,10 +319,13 @@ impl<'a> Parser<'a> {
     }
 
     pub(crate) fn separated_literals(&mut self) -> Result<Vec<Basic<'a>>, Refusal>
-        ensures read { Gives (λ v. bare_expressions v.items) result (separated_at (at_most the_limits.elements begins_literal (literal_basic_at the_limits)) (lexemes self.old)) (lexemes self.new) }
+        ensures read { Gives (λ v. bare_expressions v.items) result
+            (separated_at (at_most the_limits.elements begins_literal (literal_basic_at the_limits))
+            (lexemes self.old)) (lexemes self.new) }
         ensures shorter { length (lexemes self.new) ≤ length (lexemes self.old) }
         ensures end { self.new.end ≡ self.old.end }
-        ensures walked { IfOk result (λ v. Walk self.old self.new (placed_separated placed_basic v.items)) }
+        ensures walked { IfOk result (λ v. Walk self.old self.new
+            (placed_separated placed_basic v.items)) }
     {
         let mut literals = Vec::new(self.alloc);
         literals.push(self.listed_literal(0)?)?;
@@ -313,10 +339,13 @@ impl<'a> Parser<'a> {
     /// A list's literals behind the bracket that opens it.
     #[tactic(auto, unfolding(crate::specs::Reading::list_at, crate::specs::Reading::mark_at), using(crate::proofs::Walks::passed_then, crate::proofs::Walks::passed_none, crate::proofs::Walks::passed, crate::proofs::Walks::walk_none, crate::proofs::Errors::fails_unexpected, crate::proofs::Separated::fails_bind))]
     pub(crate) fn literal_list(&mut self) -> Result<Vec<Basic<'a>>, Refusal>
-        ensures read { Gives (λ v. bare_expressions v.items) result (list_at CloseBracket (at_most the_limits.elements begins_literal (literal_basic_at the_limits)) (lexemes self.old)) (lexemes self.new) }
+        ensures read { Gives (λ v. bare_expressions v.items) result
+            (list_at CloseBracket (at_most the_limits.elements begins_literal
+            (literal_basic_at the_limits)) (lexemes self.old)) (lexemes self.new) }
         ensures shorter { length (lexemes self.new) ≤ length (lexemes self.old) }
         ensures end { self.new.end ≡ self.old.end }
-        ensures walked { IfOk result (λ v. Walk self.old self.new (placed_separated placed_basic v.items ++ placed_mark CloseBracket)) }
+        ensures walked { IfOk result (λ v. Walk self.old self.new
+            (placed_separated placed_basic v.items ++ placed_mark CloseBracket)) }
     {
         if self.eat(Mark::CloseBracket) {
             return Ok(Vec::new(self.alloc));

@@ -19,7 +19,8 @@ use fz_lex::Mark;
 impl<'a> Parser<'a> {
     #[tactic(auto, unfolding(crate::specs::Reading::param_at, crate::specs::Reading::var_at), using(crate::proofs::Walks::passed_then, crate::proofs::Walks::passed_none, crate::proofs::Walks::passed, crate::proofs::Walks::walk_none, crate::proofs::Errors::fails_unexpected, crate::proofs::Separated::fails_bind))]
     pub(crate) fn param(&mut self) -> Result<Param<'a>, Refusal>
-        ensures read { Gives (bare_param) result (param_at the_limits (lexemes self.old)) (lexemes self.new) }
+        ensures read { Gives (bare_param) result (param_at the_limits (lexemes self.old))
+            (lexemes self.new) }
         ensures shorter { length (lexemes self.new) ≤ length (lexemes self.old) }
         ensures end { self.new.end ≡ self.old.end }
         ensures walked { IfOk result (λ p. Walk self.old self.new (placed_param p)) }
@@ -38,10 +39,13 @@ impl<'a> Parser<'a> {
     }
 
     pub(crate) fn separated_params(&mut self) -> Result<Vec<Param<'a>>, Refusal>
-        ensures read { Gives (λ v. map bare_param v.items) result (separated_at (any_number (param_at the_limits)) (lexemes self.old)) (lexemes self.new) }
+        ensures read { Gives (λ v. map bare_param v.items) result
+            (separated_at (any_number (param_at the_limits)) (lexemes self.old))
+            (lexemes self.new) }
         ensures shorter { length (lexemes self.new) ≤ length (lexemes self.old) }
         ensures end { self.new.end ≡ self.old.end }
-        ensures walked { IfOk result (λ v. Walk self.old self.new (placed_separated placed_param v.items)) }
+        ensures walked { IfOk result (λ v. Walk self.old self.new
+            (placed_separated placed_param v.items)) }
     {
         let mut params = Vec::new(self.alloc);
         params.push(self.param()?)?;
@@ -54,10 +58,13 @@ impl<'a> Parser<'a> {
 
     #[tactic(auto, unfolding(crate::specs::Reading::list_at, crate::specs::Reading::mark_at), using(crate::proofs::Walks::passed_then, crate::proofs::Walks::passed_none, crate::proofs::Walks::passed, crate::proofs::Walks::walk_none, crate::proofs::Errors::fails_unexpected, crate::proofs::Separated::fails_bind))]
     pub(crate) fn params(&mut self) -> Result<Vec<Param<'a>>, Refusal>
-        ensures read { Gives (λ v. map bare_param v.items) result (list_at CloseParen (any_number (param_at the_limits)) (lexemes self.old)) (lexemes self.new) }
+        ensures read { Gives (λ v. map bare_param v.items) result
+            (list_at CloseParen (any_number (param_at the_limits)) (lexemes self.old))
+            (lexemes self.new) }
         ensures shorter { length (lexemes self.new) ≤ length (lexemes self.old) }
         ensures end { self.new.end ≡ self.old.end }
-        ensures walked { IfOk result (λ v. Walk self.old self.new (placed_separated placed_param v.items ++ placed_mark CloseParen)) }
+        ensures walked { IfOk result (λ v. Walk self.old self.new
+            (placed_separated placed_param v.items ++ placed_mark CloseParen)) }
     {
         if self.eat(Mark::CloseParen) {
             return Ok(Vec::new(self.alloc));
@@ -69,7 +76,8 @@ impl<'a> Parser<'a> {
 
     #[tactic(auto, unfolding(crate::specs::Reading::predicate_at), using(crate::proofs::Walks::passed_then, crate::proofs::Walks::passed_none, crate::proofs::Walks::passed, crate::proofs::Walks::walk_none, crate::proofs::Errors::fails_unexpected, crate::proofs::Separated::fails_bind))]
     pub(crate) fn predicate(&mut self) -> Result<Predicate<'a>, Refusal>
-        ensures read { Gives (bare_predicate) result (predicate_at the_limits (lexemes self.old)) (lexemes self.new) }
+        ensures read { Gives (bare_predicate) result (predicate_at the_limits (lexemes self.old))
+            (lexemes self.new) }
         ensures shorter { length (lexemes self.new) ≤ length (lexemes self.old) }
         ensures end { self.new.end ≡ self.old.end }
         ensures walked { IfOk result (λ p. Walk self.old self.new (placed_predicate p)) }
@@ -87,10 +95,12 @@ impl<'a> Parser<'a> {
         &mut self,
         spare: &mut Vec<Expr<'a>>,
     ) -> Result<Vec<Expr<'a>>, Refusal>
-        ensures read { Gives (λ v. map bare_expr v.items) result (separated_at (any_number (expr_at the_limits)) (lexemes self.old)) (lexemes self.new) }
+        ensures read { Gives (λ v. map bare_expr v.items) result
+            (separated_at (any_number (expr_at the_limits)) (lexemes self.old)) (lexemes self.new) }
         ensures shorter { length (lexemes self.new) ≤ length (lexemes self.old) }
         ensures end { self.new.end ≡ self.old.end }
-        ensures walked { IfOk result (λ v. Walk self.old self.new (placed_separated placed_expr v.items)) }
+        ensures walked { IfOk result (λ v. Walk self.old self.new
+            (placed_separated placed_expr v.items)) }
     {
         spare.clear();
         spare.push(self.expr()?)?;
@@ -106,10 +116,13 @@ impl<'a> Parser<'a> {
         &mut self,
         spare: &mut Vec<Expr<'a>>,
     ) -> Result<Vec<Expr<'a>>, Refusal>
-        ensures read { Gives (λ v. map bare_expr v.items) result (list_at CloseParen (any_number (expr_at the_limits)) (lexemes self.old)) (lexemes self.new) }
+        ensures read { Gives (λ v. map bare_expr v.items) result
+            (list_at CloseParen (any_number (expr_at the_limits)) (lexemes self.old))
+            (lexemes self.new) }
         ensures shorter { length (lexemes self.new) ≤ length (lexemes self.old) }
         ensures end { self.new.end ≡ self.old.end }
-        ensures walked { IfOk result (λ v. Walk self.old self.new (placed_separated placed_expr v.items ++ placed_mark CloseParen)) }
+        ensures walked { IfOk result (λ v. Walk self.old self.new
+            (placed_separated placed_expr v.items ++ placed_mark CloseParen)) }
     {
         if self.eat(Mark::CloseParen) {
             return Ok(Vec::new(self.alloc));
@@ -124,7 +137,8 @@ impl<'a> Parser<'a> {
         &mut self,
         spare: &mut Vec<Expr<'a>>,
     ) -> Result<Constraint<'a>, Refusal>
-        ensures read { Gives (bare_constraint) result (constraint_at the_limits (lexemes self.old)) (lexemes self.new) }
+        ensures read { Gives (bare_constraint) result (constraint_at the_limits (lexemes self.old))
+            (lexemes self.new) }
         ensures shorter { length (lexemes self.new) ≤ length (lexemes self.old) }
         ensures end { self.new.end ≡ self.old.end }
         ensures walked { IfOk result (λ c. Walk self.old self.new (placed_constraint c)) }
@@ -140,7 +154,8 @@ impl<'a> Parser<'a> {
 
     #[tactic(auto, unfolding(crate::specs::Reading::goal_at), using(crate::proofs::Walks::passed_then, crate::proofs::Walks::passed_none, crate::proofs::Walks::passed, crate::proofs::Walks::walk_none, crate::proofs::Errors::fails_unexpected, crate::proofs::Separated::fails_bind))]
     pub(crate) fn goal(&mut self) -> Result<Goal<'a>, Refusal>
-        ensures read { Gives (bare_goal) result (goal_at the_limits (lexemes self.old)) (lexemes self.new) }
+        ensures read { Gives (bare_goal) result (goal_at the_limits (lexemes self.old))
+            (lexemes self.new) }
         ensures shorter { length (lexemes self.new) ≤ length (lexemes self.old) }
         ensures end { self.new.end ≡ self.old.end }
         ensures walked { IfOk result (λ g. Walk self.old self.new (placed_goal g)) }
@@ -157,7 +172,8 @@ impl<'a> Parser<'a> {
 
     #[tactic(auto, unfolding(crate::specs::Reading::solve_at), using(crate::proofs::Walks::passed_then, crate::proofs::Walks::passed_none, crate::proofs::Walks::passed, crate::proofs::Walks::walk_none, crate::proofs::Errors::fails_unexpected, crate::proofs::Separated::fails_bind))]
     pub(crate) fn solve(&mut self) -> Result<Solve<'a>, Refusal>
-        ensures read { Gives (bare_solve) result (solve_at the_limits (lexemes self.old)) (lexemes self.new) }
+        ensures read { Gives (bare_solve) result (solve_at the_limits (lexemes self.old))
+            (lexemes self.new) }
         ensures shorter { length (lexemes self.new) ≤ length (lexemes self.old) }
         ensures end { self.new.end ≡ self.old.end }
         ensures walked { IfOk result (λ s. Walk self.old self.new (placed_solve s)) }
@@ -171,7 +187,8 @@ impl<'a> Parser<'a> {
 
     #[tactic(auto, unfolding(crate::specs::Reading::value_at), using(crate::proofs::Walks::passed_then, crate::proofs::Walks::passed_none, crate::proofs::Walks::passed, crate::proofs::Walks::walk_none, crate::proofs::Errors::fails_unexpected, crate::proofs::Separated::fails_bind))]
     pub(crate) fn value(&mut self, is_var: bool, array: Option<usize>) -> Result<Expr<'a>, Refusal>
-        ensures read { Gives (bare_expr) result (value_at the_limits is_var array (lexemes self.old)) (lexemes self.new) }
+        ensures read { Gives (bare_expr) result
+            (value_at the_limits is_var array (lexemes self.old)) (lexemes self.new) }
         ensures shorter { length (lexemes self.new) ≤ length (lexemes self.old) }
         ensures end { self.new.end ≡ self.old.end }
         ensures walked { IfOk result (λ e. Walk self.old self.new (placed_expr e)) }
@@ -196,7 +213,8 @@ impl<'a> Parser<'a> {
         is_var: bool,
         array: Option<usize>,
     ) -> Result<Option<Expr<'a>>, Refusal>
-        ensures read { Gives (bare_value) result (given_value_at the_limits is_var array (lexemes self.old)) (lexemes self.new) }
+        ensures read { Gives (bare_value) result
+            (given_value_at the_limits is_var array (lexemes self.old)) (lexemes self.new) }
         ensures shorter { length (lexemes self.new) ≤ length (lexemes self.old) }
         ensures end { self.new.end ≡ self.old.end }
         ensures walked { IfOk result (λ o. Walk self.old self.new (placed_value o)) }
@@ -210,7 +228,8 @@ impl<'a> Parser<'a> {
 
     #[tactic(auto, unfolding(crate::specs::Reading::decl_at, crate::specs::Reading::var_at), using(crate::proofs::Walks::passed_then, crate::proofs::Walks::passed_none, crate::proofs::Walks::passed, crate::proofs::Walks::walk_none, crate::proofs::Errors::fails_unexpected, crate::proofs::Separated::fails_bind))]
     pub(crate) fn decl(&mut self) -> Result<Decl<'a>, Refusal>
-        ensures read { Gives (bare_decl) result (decl_at the_limits (lexemes self.old)) (lexemes self.new) }
+        ensures read { Gives (bare_decl) result (decl_at the_limits (lexemes self.old))
+            (lexemes self.new) }
         ensures shorter { length (lexemes self.new) ≤ length (lexemes self.old) }
         ensures end { self.new.end ≡ self.old.end }
         ensures walked { IfOk result (λ d. Walk self.old self.new (placed_decl d)) }

@@ -47,8 +47,8 @@ fn is_truth_word(word: &[u8]) -> bool
     matches!(word, b"true" | b"false")
 }
 
-/// Whether a reserved word has the length of this word and its first byte. Of nearly all names this tells that they
-/// are no reserved words.
+/// Whether a reserved word has the length of this word and its first byte. Of nearly all names this
+/// tells that they are no reserved words.
 #[inline(always)]
 fn may_be_reserved(word: &[u8]) -> bool
     ensures { result ≡ may_be_reserved word.now }

@@ -19,10 +19,12 @@ use crate::tree::{Literal, Printed, PrintedValue};
 use fz_lex::Mark;
 
 impl<'a> Parser<'a> {
-    /// Takes the word that begins an array, and gives the number of its index sets, or 0 where the next token is none.
+    /// Takes the word that begins an array, and gives the number of its index sets, or 0 where the
+    /// next token is none.
     fn eat_array(&mut self) -> usize
         ensures found { result ≡ next_dimensions (lexemes self.old) }
-        ensures left { lexemes self.new ≡ (if next_dimensions (lexemes self.old) == 0 then lexemes self.old else drop 1 (lexemes self.old)) }
+        ensures left { lexemes self.new ≡ (if next_dimensions (lexemes self.old) == 0
+            then lexemes self.old else drop 1 (lexemes self.old)) }
         ensures shorter { length (lexemes self.new) ≤ length (lexemes self.old) }
         ensures end { self.new.end ≡ self.old.end }
         ensures walked { Passed self.old self.new }
@@ -41,10 +43,12 @@ impl<'a> Parser<'a> {
 
     #[tactic(auto, unfolding(crate::specs::ReadingItems::index_set_at), using(crate::proofs::Walks::passed_then, crate::proofs::Walks::passed_none, crate::proofs::Walks::passed, crate::proofs::Walks::walk_none, crate::proofs::Errors::fails_unexpected, crate::proofs::Separated::fails_bind))]
     fn index_set(&mut self) -> Result<Literal, Refusal>
-        ensures read { Gives bare_literal result (index_set_at the_limits (lexemes self.old)) (lexemes self.new) }
+        ensures read { Gives bare_literal result (index_set_at the_limits (lexemes self.old))
+            (lexemes self.new) }
         ensures shorter { length (lexemes self.new) ≤ length (lexemes self.old) }
         ensures end { self.new.end ≡ self.old.end }
-        ensures walked { IfOk result (λ l. Walk self.old self.new (placed_literal l ++ placed_mark Comma)) }
+        ensures walked { IfOk result (λ l. Walk self.old self.new
+            (placed_literal l ++ placed_mark Comma)) }
     {
         let bounds = self.bounds()?;
         self.expect(Mark::Comma)?;
@@ -52,7 +56,8 @@ impl<'a> Parser<'a> {
     }
 
     fn index_sets(&mut self, count: usize) -> Result<Vec<Literal>, Refusal>
-        ensures read { Gives (λ v. map bare_literal v.items) result (index_sets_at the_limits count (lexemes self.old)) (lexemes self.new) }
+        ensures read { Gives (λ v. map bare_literal v.items) result
+            (index_sets_at the_limits count (lexemes self.old)) (lexemes self.new) }
         ensures shorter { length (lexemes self.new) ≤ length (lexemes self.old) }
         ensures end { self.new.end ≡ self.old.end }
         ensures walked { IfOk result (λ v. Walk self.old self.new (placed_indexes v.items)) }
@@ -67,7 +72,8 @@ impl<'a> Parser<'a> {
 
     /// An element of a list that has `count` so far.
     fn listed_element(&mut self, count: usize) -> Result<Literal, Refusal>
-        ensures read { Gives bare_literal result (at_most the_limits.elements begins_literal (literal_at the_limits) count (lexemes self.old)) (lexemes self.new) }
+        ensures read { Gives bare_literal result (at_most the_limits.elements begins_literal
+            (literal_at the_limits) count (lexemes self.old)) (lexemes self.new) }
         ensures shorter { length (lexemes self.new) ≤ length (lexemes self.old) }
         ensures end { self.new.end ≡ self.old.end }
         ensures walked { IfOk result (λ l. Walk self.old self.new (placed_literal l)) }
@@ -79,10 +85,13 @@ impl<'a> Parser<'a> {
     }
 
     fn separated_elements(&mut self) -> Result<Vec<Literal>, Refusal>
-        ensures read { Gives (λ v. map bare_literal v.items) result (separated_at (at_most the_limits.elements begins_literal (literal_at the_limits)) (lexemes self.old)) (lexemes self.new) }
+        ensures read { Gives (λ v. map bare_literal v.items) result
+            (separated_at (at_most the_limits.elements begins_literal (literal_at the_limits))
+            (lexemes self.old)) (lexemes self.new) }
         ensures shorter { length (lexemes self.new) ≤ length (lexemes self.old) }
         ensures end { self.new.end ≡ self.old.end }
-        ensures walked { IfOk result (λ v. Walk self.old self.new (placed_separated placed_literal v.items)) }
+        ensures walked { IfOk result (λ v. Walk self.old self.new
+            (placed_separated placed_literal v.items)) }
     {
         let mut elements = Vec::new(self.alloc);
         'elements: loop {
@@ -104,10 +113,12 @@ impl<'a> Parser<'a> {
     /// An array's elements behind the bracket that opens them.
     #[tactic(auto, unfolding(crate::specs::ReadingItems::elements_at, crate::specs::Reading::list_at, crate::specs::Reading::mark_at), using(crate::proofs::Walks::passed_then, crate::proofs::Walks::passed_none, crate::proofs::Walks::passed, crate::proofs::Walks::walk_none, crate::proofs::Errors::fails_unexpected, crate::proofs::Separated::fails_bind))]
     fn elements(&mut self) -> Result<Vec<Literal>, Refusal>
-        ensures read { Gives (λ v. map bare_literal v.items) result (elements_at the_limits (lexemes self.old)) (lexemes self.new) }
+        ensures read { Gives (λ v. map bare_literal v.items) result
+            (elements_at the_limits (lexemes self.old)) (lexemes self.new) }
         ensures shorter { length (lexemes self.new) ≤ length (lexemes self.old) }
         ensures end { self.new.end ≡ self.old.end }
-        ensures walked { IfOk result (λ v. Walk self.old self.new (placed_separated placed_literal v.items ++ placed_mark CloseBracket)) }
+        ensures walked { IfOk result (λ v. Walk self.old self.new
+            (placed_separated placed_literal v.items ++ placed_mark CloseBracket)) }
     {
         if self.eat(Mark::CloseBracket) {
             return Ok(Vec::new(self.alloc));
@@ -120,11 +131,14 @@ impl<'a> Parser<'a> {
     /// An array behind its word, which says how many index sets it has.
     #[tactic(auto, unfolding(crate::specs::ReadingItems::printed_array_at), using(crate::proofs::Walks::passed_then, crate::proofs::Walks::passed_none, crate::proofs::Walks::passed, crate::proofs::Walks::walk_none, crate::proofs::Errors::fails_unexpected, crate::proofs::Separated::fails_bind))]
     fn printed_array(&mut self, dimensions: usize) -> Result<PrintedValue, Refusal>
-        ensures read { Gives bare_printed_value result (printed_array_at the_limits dimensions (lexemes self.old)) (lexemes self.new) }
+        ensures read { Gives bare_printed_value result
+            (printed_array_at the_limits dimensions (lexemes self.old)) (lexemes self.new) }
         ensures shorter { length (lexemes self.new) ≤ length (lexemes self.old) }
         ensures end { self.new.end ≡ self.old.end }
-        ensures walked { IfOk result (λ v. Walk self.old self.new (drop 1 (placed_printed_value v))) }
-        ensures worded { IfOk result (λ v. placed_printed_value v ≡ placed_word (array_word dimensions) ++ drop 1 (placed_printed_value v)) }
+        ensures walked { IfOk result (λ v. Walk self.old self.new
+            (drop 1 (placed_printed_value v))) }
+        ensures worded { IfOk result (λ v. placed_printed_value v
+            ≡ placed_word (array_word dimensions) ++ drop 1 (placed_printed_value v)) }
     {
         self.expect(Mark::OpenParen)?;
         let indexes = self.index_sets(dimensions)?;
@@ -136,7 +150,8 @@ impl<'a> Parser<'a> {
 
     #[tactic(auto, unfolding(crate::specs::ReadingItems::printed_value_at), using(crate::proofs::Walks::passed_then, crate::proofs::Walks::passed_none, crate::proofs::Walks::passed, crate::proofs::Walks::walk_none, crate::proofs::Errors::fails_unexpected, crate::proofs::Separated::fails_bind))]
     fn printed_value(&mut self) -> Result<PrintedValue, Refusal>
-        ensures read { Gives bare_printed_value result (printed_value_at the_limits (lexemes self.old)) (lexemes self.new) }
+        ensures read { Gives bare_printed_value result
+            (printed_value_at the_limits (lexemes self.old)) (lexemes self.new) }
         ensures shorter { length (lexemes self.new) ≤ length (lexemes self.old) }
         ensures end { self.new.end ≡ self.old.end }
         ensures walked { IfOk result (λ v. Walk self.old self.new (placed_printed_value v)) }
@@ -151,7 +166,8 @@ impl<'a> Parser<'a> {
 
     #[tactic(auto, unfolding(crate::specs::ReadingItems::printed_at), using(crate::proofs::Walks::passed_then, crate::proofs::Walks::passed_none, crate::proofs::Walks::passed, crate::proofs::Walks::walk_none, crate::proofs::Errors::fails_unexpected, crate::proofs::Separated::fails_bind))]
     fn printed(&mut self) -> Result<Printed<'a>, Refusal>
-        ensures read { Gives bare_printed result (printed_at the_limits (lexemes self.old)) (lexemes self.new) }
+        ensures read { Gives bare_printed result (printed_at the_limits (lexemes self.old))
+            (lexemes self.new) }
         ensures shorter { length (lexemes self.new) ≤ length (lexemes self.old) }
         ensures end { self.new.end ≡ self.old.end }
         ensures walked { IfOk result (λ p. Walk self.old self.new (placed_printed p)) }
@@ -164,7 +180,9 @@ impl<'a> Parser<'a> {
     }
 
     pub(crate) fn printed_items(&mut self) -> Result<Vec<Printed<'a>>, Refusal>
-        ensures read { Gives (λ v. bare_items v.items) result (many_at is_name (any_number (printed_at the_limits)) 0 (lexemes self.old)) (lexemes self.new) }
+        ensures read { Gives (λ v. bare_items v.items) result
+            (many_at is_name (any_number (printed_at the_limits)) 0 (lexemes self.old))
+            (lexemes self.new) }
         ensures shorter { length (lexemes self.new) ≤ length (lexemes self.old) }
         ensures end { self.new.end ≡ self.old.end }
         ensures walked { IfOk result (λ v. Walk self.old self.new (placed_items v.items)) }

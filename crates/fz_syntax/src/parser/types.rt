@@ -21,7 +21,8 @@ impl<'a> Parser<'a> {
     /// A range whose first number starts at `start`.
     #[tactic(auto, unfolding(crate::specs::Reading::range_at), using(crate::proofs::Walks::passed_then, crate::proofs::Walks::passed_none, crate::proofs::Walks::passed, crate::proofs::Walks::walk_none, crate::proofs::Errors::fails_unexpected, crate::proofs::Separated::fails_bind))]
     fn range(&mut self, start: usize) -> Result<Literal, Refusal>
-        ensures read { Gives (bare_literal) result (range_at (lexemes self.old)) (lexemes self.new) }
+        ensures read { Gives (bare_literal) result (range_at (lexemes self.old))
+            (lexemes self.new) }
         ensures shorter { length (lexemes self.new) ≤ length (lexemes self.old) }
         ensures end { self.new.end ≡ self.old.end }
         ensures walked { IfOk result (λ _. Passed self.old self.new) }
@@ -39,7 +40,8 @@ impl<'a> Parser<'a> {
     /// Bounds whose first token starts at `start`.
     #[tactic(auto, unfolding(crate::specs::Reading::bounds_at), using(crate::proofs::Walks::passed_then, crate::proofs::Walks::passed_none, crate::proofs::Walks::passed, crate::proofs::Walks::walk_none, crate::proofs::Errors::fails_unexpected, crate::proofs::Separated::fails_bind))]
     fn bounds_from(&mut self, start: usize) -> Result<Literal, Refusal>
-        ensures read { Gives (bare_literal) result (bounds_at the_limits (lexemes self.old)) (lexemes self.new) }
+        ensures read { Gives (bare_literal) result (bounds_at the_limits (lexemes self.old))
+            (lexemes self.new) }
         ensures shorter { length (lexemes self.new) ≤ length (lexemes self.old) }
         ensures end { self.new.end ≡ self.old.end }
         ensures walked { IfOk result (λ _. Passed self.old self.new) }
@@ -53,7 +55,8 @@ impl<'a> Parser<'a> {
     }
 
     pub(crate) fn bounds(&mut self) -> Result<Literal, Refusal>
-        ensures read { Gives (bare_literal) result (bounds_at the_limits (lexemes self.old)) (lexemes self.new) }
+        ensures read { Gives (bare_literal) result (bounds_at the_limits (lexemes self.old))
+            (lexemes self.new) }
         ensures shorter { length (lexemes self.new) ≤ length (lexemes self.old) }
         ensures end { self.new.end ≡ self.old.end }
         ensures walked { IfOk result (λ l. Walk self.old self.new (placed_literal l)) }
@@ -65,7 +68,8 @@ impl<'a> Parser<'a> {
     /// The word `int`, or bounds.
     #[tactic(auto, unfolding(crate::specs::Reading::int_at), using(crate::proofs::Walks::passed_then, crate::proofs::Walks::passed_none, crate::proofs::Walks::passed, crate::proofs::Walks::walk_none, crate::proofs::Errors::fails_unexpected, crate::proofs::Separated::fails_bind))]
     pub(crate) fn int(&mut self) -> Result<Option<Literal>, Refusal>
-        ensures read { Gives (bare_bounds) result (int_at the_limits (lexemes self.old)) (lexemes self.new) }
+        ensures read { Gives (bare_bounds) result (int_at the_limits (lexemes self.old))
+            (lexemes self.new) }
         ensures shorter { length (lexemes self.new) ≤ length (lexemes self.old) }
         ensures end { self.new.end ≡ self.old.end }
         ensures walked { IfOk result (λ o. Walk self.old self.new (placed_bounds o)) }
@@ -79,7 +83,8 @@ impl<'a> Parser<'a> {
 
     #[tactic(auto, unfolding(crate::specs::Reading::base_at), using(crate::proofs::Walks::passed_then, crate::proofs::Walks::passed_none, crate::proofs::Walks::passed, crate::proofs::Walks::walk_none, crate::proofs::Errors::fails_unexpected, crate::proofs::Separated::fails_bind))]
     pub(crate) fn base(&mut self) -> Result<Base, Refusal>
-        ensures read { Gives (bare_base) result (base_at the_limits (lexemes self.old)) (lexemes self.new) }
+        ensures read { Gives (bare_base) result (base_at the_limits (lexemes self.old))
+            (lexemes self.new) }
         ensures shorter { length (lexemes self.new) ≤ length (lexemes self.old) }
         ensures end { self.new.end ≡ self.old.end }
         ensures walked { IfOk result (λ b. Walk self.old self.new (placed_base b)) }
@@ -136,7 +141,8 @@ impl<'a> Parser<'a> {
 
     #[tactic(auto, unfolding(crate::specs::Reading::size_at), using(crate::proofs::Walks::passed_then, crate::proofs::Walks::passed_none, crate::proofs::Walks::passed, crate::proofs::Walks::walk_none, crate::proofs::Errors::fails_unexpected, crate::proofs::Separated::fails_bind))]
     pub(crate) fn size(&mut self) -> Result<usize, Refusal>
-        ensures read { Gives (λ n. n) result (size_at the_limits (lexemes self.old)) (lexemes self.new) }
+        ensures read { Gives (λ n. n) result (size_at the_limits (lexemes self.old))
+            (lexemes self.new) }
         ensures shorter { length (lexemes self.new) ≤ length (lexemes self.old) }
         ensures end { self.new.end ≡ self.old.end }
         ensures walked { IfOk result (λ _. Passed self.old self.new) }
@@ -162,7 +168,8 @@ impl<'a> Parser<'a> {
 
     #[tactic(auto, unfolding(crate::specs::Reading::index_at), using(crate::proofs::Walks::passed_then, crate::proofs::Walks::passed_none, crate::proofs::Walks::passed, crate::proofs::Walks::walk_none, crate::proofs::Errors::fails_unexpected, crate::proofs::Separated::fails_bind))]
     pub(crate) fn index(&mut self) -> Result<usize, Refusal>
-        ensures read { Gives (λ n. n) result (index_at the_limits (lexemes self.old)) (lexemes self.new) }
+        ensures read { Gives (λ n. n) result (index_at the_limits (lexemes self.old))
+            (lexemes self.new) }
         ensures shorter { length (lexemes self.new) ≤ length (lexemes self.old) }
         ensures end { self.new.end ≡ self.old.end }
         ensures walked { IfOk result (λ _. Passed self.old self.new) }
@@ -174,7 +181,8 @@ impl<'a> Parser<'a> {
 
     #[tactic(auto, unfolding(crate::specs::Reading::any_index_at), using(crate::proofs::Walks::passed_then, crate::proofs::Walks::passed_none, crate::proofs::Walks::passed, crate::proofs::Walks::walk_none, crate::proofs::Errors::fails_unexpected, crate::proofs::Separated::fails_bind))]
     pub(crate) fn any_index(&mut self) -> Result<Option<usize>, Refusal>
-        ensures read { Gives (λ n. n) result (any_index_at the_limits (lexemes self.old)) (lexemes self.new) }
+        ensures read { Gives (λ n. n) result (any_index_at the_limits (lexemes self.old))
+            (lexemes self.new) }
         ensures shorter { length (lexemes self.new) ≤ length (lexemes self.old) }
         ensures end { self.new.end ≡ self.old.end }
         ensures walked { IfOk result (λ _. Passed self.old self.new) }
@@ -188,7 +196,8 @@ impl<'a> Parser<'a> {
 
     /// An index set of an array that has `count` so far.
     fn listed_index(&mut self, count: usize) -> Result<Option<usize>, Refusal>
-        ensures read { Gives (λ n. n) result (at_most most_indexes begins_index (any_index_at the_limits) count (lexemes self.old)) (lexemes self.new) }
+        ensures read { Gives (λ n. n) result (at_most most_indexes begins_index
+            (any_index_at the_limits) count (lexemes self.old)) (lexemes self.new) }
         ensures shorter { length (lexemes self.new) ≤ length (lexemes self.old) }
         ensures end { self.new.end ≡ self.old.end }
         ensures walked { IfOk result (λ _. Passed self.old self.new) }
@@ -201,7 +210,8 @@ impl<'a> Parser<'a> {
 
     /// The index sets of an array, up to the bracket behind them.
     fn indexes(&mut self) -> Result<Vec<Option<usize>>, Refusal>
-        ensures read { Gives (λ v. v.items) result (indexes_at the_limits (lexemes self.old)) (lexemes self.new) }
+        ensures read { Gives (λ v. v.items) result (indexes_at the_limits (lexemes self.old))
+            (lexemes self.new) }
         ensures shorter { length (lexemes self.new) ≤ length (lexemes self.old) }
         ensures end { self.new.end ≡ self.old.end }
         ensures walked { IfOk result (λ _. Passed self.old self.new) }
@@ -217,7 +227,8 @@ impl<'a> Parser<'a> {
 
     #[tactic(auto, unfolding(crate::specs::Reading::param_prefix_at, crate::specs::Reading::array_at), using(crate::proofs::Walks::passed_then, crate::proofs::Walks::passed_none, crate::proofs::Walks::passed, crate::proofs::Walks::walk_none, crate::proofs::Errors::fails_unexpected, crate::proofs::Separated::fails_bind))]
     pub(crate) fn param_prefix(&mut self) -> Result<Option<Vec<Option<usize>>>, Refusal>
-        ensures read { Gives bare_indexes result (param_prefix_at the_limits (lexemes self.old)) (lexemes self.new) }
+        ensures read { Gives bare_indexes result (param_prefix_at the_limits (lexemes self.old))
+            (lexemes self.new) }
         ensures shorter { length (lexemes self.new) ≤ length (lexemes self.old) }
         ensures end { self.new.end ≡ self.old.end }
         ensures walked { IfOk result (λ _. Passed self.old self.new) }
@@ -234,7 +245,8 @@ impl<'a> Parser<'a> {
 
     #[tactic(auto, unfolding(crate::specs::Reading::prefix_at, crate::specs::Reading::array_at), using(crate::proofs::Walks::passed_then, crate::proofs::Walks::passed_none, crate::proofs::Walks::passed, crate::proofs::Walks::walk_none, crate::proofs::Errors::fails_unexpected, crate::proofs::Separated::fails_bind))]
     pub(crate) fn prefix(&mut self) -> Result<Option<usize>, Refusal>
-        ensures read { Gives (λ n. n) result (prefix_at the_limits (lexemes self.old)) (lexemes self.new) }
+        ensures read { Gives (λ n. n) result (prefix_at the_limits (lexemes self.old))
+            (lexemes self.new) }
         ensures shorter { length (lexemes self.new) ≤ length (lexemes self.old) }
         ensures end { self.new.end ≡ self.old.end }
         ensures walked { IfOk result (λ _. Passed self.old self.new) }
@@ -251,7 +263,8 @@ impl<'a> Parser<'a> {
 
     #[tactic(auto, unfolding(crate::specs::Reading::type_at), using(crate::proofs::Walks::passed_then, crate::proofs::Walks::passed_none, crate::proofs::Walks::passed, crate::proofs::Walks::walk_none, crate::proofs::Errors::fails_unexpected, crate::proofs::Separated::fails_bind))]
     pub(crate) fn element_type(&mut self, is_var: bool) -> Result<Base, Refusal>
-        ensures read { Gives (bare_base) result (type_at the_limits is_var (lexemes self.old)) (lexemes self.new) }
+        ensures read { Gives (bare_base) result (type_at the_limits is_var (lexemes self.old))
+            (lexemes self.new) }
         ensures shorter { length (lexemes self.new) ≤ length (lexemes self.old) }
         ensures end { self.new.end ≡ self.old.end }
         ensures walked { IfOk result (λ b. Walk self.old self.new (placed_base b)) }

@@ -11,7 +11,8 @@ use std::alloc::AllocError;
 impl Printer {
     #[cycle(notes)]
     pub(crate) fn note(&mut self, note: &Note<'_>) -> Result<(), AllocError>
-        ensures { OnOk result (self.new.text.items ≡ self.old.text.items ++ note_text (bare_note note.now)) }
+        ensures { OnOk result (self.new.text.items
+            ≡ self.old.text.items ++ note_text (bare_note note.now)) }
     {
         self.put(note.name.text)?;
         self.note_args(&note.args)
@@ -20,7 +21,8 @@ impl Printer {
     /// Arguments in parentheses, where there are any.
     #[cycle(notes)]
     pub(crate) fn note_args(&mut self, args: &[NoteArg<'_>]) -> Result<(), AllocError>
-        ensures { OnOk result (self.new.text.items ≡ self.old.text.items ++ args_text (arg_list (map bare_arg args.now))) }
+        ensures { OnOk result (self.new.text.items
+            ≡ self.old.text.items ++ args_text (arg_list (map bare_arg args.now))) }
     {
         if let [first, others @ ..] = args {
             self.put(b"(")?;
@@ -36,7 +38,8 @@ impl Printer {
 
     #[cycle(notes)]
     pub(crate) fn note_arg(&mut self, arg: &NoteArg<'_>) -> Result<(), AllocError>
-        ensures { OnOk result (self.new.text.items ≡ self.old.text.items ++ arg_text (bare_arg arg.now)) }
+        ensures { OnOk result (self.new.text.items
+            ≡ self.old.text.items ++ arg_text (bare_arg arg.now)) }
     {
         match arg {
             NoteArg::One(basic) => self.note_basic(basic),
@@ -50,7 +53,8 @@ impl Printer {
 
     #[cycle(notes)]
     pub(crate) fn note_basics(&mut self, basics: &[NoteBasic<'_>]) -> Result<(), AllocError>
-        ensures { OnOk result (self.new.text.items ≡ self.old.text.items ++ basics_text (basic_list (map bare_basic basics.now))) }
+        ensures { OnOk result (self.new.text.items
+            ≡ self.old.text.items ++ basics_text (basic_list (map bare_basic basics.now))) }
     {
         if let [first, others @ ..] = basics {
             self.note_basic(first)?;
@@ -64,7 +68,8 @@ impl Printer {
 
     #[cycle(notes)]
     pub(crate) fn note_basic(&mut self, basic: &NoteBasic<'_>) -> Result<(), AllocError>
-        ensures { OnOk result (self.new.text.items ≡ self.old.text.items ++ note_basic_text (bare_basic basic.now)) }
+        ensures { OnOk result (self.new.text.items
+            ≡ self.old.text.items ++ note_basic_text (bare_basic basic.now)) }
     {
         match basic {
             NoteBasic::Lit(literal) => self.literal(literal),
@@ -75,7 +80,8 @@ impl Printer {
     }
 
     pub(crate) fn notes(&mut self, notes: &[Note<'_>]) -> Result<(), AllocError>
-        ensures { OnOk result (self.new.text.items ≡ self.old.text.items ++ notes_text (bare_notes notes.now)) }
+        ensures { OnOk result (self.new.text.items
+            ≡ self.old.text.items ++ notes_text (bare_notes notes.now)) }
     {
         for note in notes {
             self.put(b" :: ")?;

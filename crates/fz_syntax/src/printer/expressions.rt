@@ -19,7 +19,8 @@ impl Printer {
     }
 
     pub(crate) fn numbers(&mut self, numbers: &[i64]) -> Result<(), AllocError>
-        ensures { OnOk result (self.new.text.items ≡ self.old.text.items ++ separated_text signed_decimal numbers.now) }
+        ensures { OnOk result (self.new.text.items
+            ≡ self.old.text.items ++ separated_text signed_decimal numbers.now) }
     {
         if let [first, others @ ..] = numbers {
             self.number(*first)?;
@@ -32,7 +33,8 @@ impl Printer {
     }
 
     pub(crate) fn literal(&mut self, literal: &Literal) -> Result<(), AllocError>
-        ensures { OnOk result (self.new.text.items ≡ self.old.text.items ++ literal_text (bare_literal literal.now)) }
+        ensures { OnOk result (self.new.text.items
+            ≡ self.old.text.items ++ literal_text (bare_literal literal.now)) }
     {
         match &literal.what {
             LiteralKind::Whole(number) => self.number(*number),
@@ -52,7 +54,8 @@ impl Printer {
     }
 
     pub(crate) fn basic(&mut self, basic: &Basic<'_>) -> Result<(), AllocError>
-        ensures { OnOk result (self.new.text.items ≡ self.old.text.items ++ basic_text (bare_expression basic.now)) }
+        ensures { OnOk result (self.new.text.items
+            ≡ self.old.text.items ++ basic_text (bare_expression basic.now)) }
     {
         match basic {
             Basic::Lit(literal) => self.literal(literal),
@@ -61,7 +64,8 @@ impl Printer {
     }
 
     pub(crate) fn basics(&mut self, basics: &[Basic<'_>]) -> Result<(), AllocError>
-        ensures { OnOk result (self.new.text.items ≡ self.old.text.items ++ separated_text basic_text (map bare_expression basics.now)) }
+        ensures { OnOk result (self.new.text.items
+            ≡ self.old.text.items ++ separated_text basic_text (map bare_expression basics.now)) }
     {
         if let [first, others @ ..] = basics {
             self.basic(first)?;
@@ -74,7 +78,8 @@ impl Printer {
     }
 
     pub(crate) fn expr(&mut self, expr: &Expr<'_>) -> Result<(), AllocError>
-        ensures { OnOk result (self.new.text.items ≡ self.old.text.items ++ expr_text (bare_expr expr.now)) }
+        ensures { OnOk result (self.new.text.items
+            ≡ self.old.text.items ++ expr_text (bare_expr expr.now)) }
     {
         match expr {
             Expr::One(basic) => self.basic(basic),
@@ -88,7 +93,8 @@ impl Printer {
 
     /// The arguments of a constraint.
     pub(crate) fn arguments(&mut self, args: &[Expr<'_>]) -> Result<(), AllocError>
-        ensures { OnOk result (self.new.text.items ≡ self.old.text.items ++ arguments_text (map bare_expr args.now)) }
+        ensures { OnOk result (self.new.text.items
+            ≡ self.old.text.items ++ arguments_text (map bare_expr args.now)) }
     {
         self.put(b"(")?;
         if let [first, others @ ..] = args {

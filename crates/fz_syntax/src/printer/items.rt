@@ -11,7 +11,8 @@ use std::alloc::AllocError;
 
 impl Printer {
     pub(crate) fn param(&mut self, param: &Param<'_>) -> Result<(), AllocError>
-        ensures { OnOk result (self.new.text.items ≡ self.old.text.items ++ param_text (bare_param param.now)) }
+        ensures { OnOk result (self.new.text.items
+            ≡ self.old.text.items ++ param_text (bare_param param.now)) }
     {
         self.param_prefix(&param.array)?;
         self.var(param.is_var)?;
@@ -21,7 +22,8 @@ impl Printer {
     }
 
     pub(crate) fn params(&mut self, params: &[Param<'_>]) -> Result<(), AllocError>
-        ensures { OnOk result (self.new.text.items ≡ self.old.text.items ++ params_text (map bare_param params.now)) }
+        ensures { OnOk result (self.new.text.items
+            ≡ self.old.text.items ++ params_text (map bare_param params.now)) }
     {
         self.put(b"(")?;
         if let [first, others @ ..] = params {
@@ -35,7 +37,8 @@ impl Printer {
     }
 
     pub(crate) fn predicate(&mut self, predicate: &Predicate<'_>) -> Result<(), AllocError>
-        ensures { OnOk result (self.new.text.items ≡ self.old.text.items ++ predicate_text (bare_predicate predicate.now)) }
+        ensures { OnOk result (self.new.text.items
+            ≡ self.old.text.items ++ predicate_text (bare_predicate predicate.now)) }
     {
         self.put(b"predicate ")?;
         self.put(predicate.name.text)?;
@@ -44,7 +47,8 @@ impl Printer {
     }
 
     pub(crate) fn value(&mut self, value: &Option<Expr<'_>>) -> Result<(), AllocError>
-        ensures { OnOk result (self.new.text.items ≡ self.old.text.items ++ value_text (bare_value value.now)) }
+        ensures { OnOk result (self.new.text.items
+            ≡ self.old.text.items ++ value_text (bare_value value.now)) }
     {
         if let Some(expr) = value {
             self.put(b" = ")?;
@@ -54,7 +58,8 @@ impl Printer {
     }
 
     pub(crate) fn decl(&mut self, decl: &Decl<'_>) -> Result<(), AllocError>
-        ensures { OnOk result (self.new.text.items ≡ self.old.text.items ++ decl_text (bare_decl decl.now)) }
+        ensures { OnOk result (self.new.text.items
+            ≡ self.old.text.items ++ decl_text (bare_decl decl.now)) }
     {
         self.prefix(decl.length)?;
         self.var(decl.is_var)?;
@@ -67,7 +72,8 @@ impl Printer {
     }
 
     pub(crate) fn constraint(&mut self, constraint: &Constraint<'_>) -> Result<(), AllocError>
-        ensures { OnOk result (self.new.text.items ≡ self.old.text.items ++ constraint_text (bare_constraint constraint.now)) }
+        ensures { OnOk result (self.new.text.items
+            ≡ self.old.text.items ++ constraint_text (bare_constraint constraint.now)) }
     {
         self.put(b"constraint ")?;
         self.put(constraint.name.text)?;
@@ -77,7 +83,8 @@ impl Printer {
     }
 
     pub(crate) fn goal(&mut self, goal: &Goal<'_>) -> Result<(), AllocError>
-        ensures { OnOk result (self.new.text.items ≡ self.old.text.items ++ goal_text (bare_goal goal.now)) }
+        ensures { OnOk result (self.new.text.items
+            ≡ self.old.text.items ++ goal_text (bare_goal goal.now)) }
     {
         match goal {
             Goal::Satisfy => self.put(b" satisfy"),
@@ -93,7 +100,8 @@ impl Printer {
     }
 
     pub(crate) fn solve(&mut self, solve: &Solve<'_>) -> Result<(), AllocError>
-        ensures { OnOk result (self.new.text.items ≡ self.old.text.items ++ solve_text (bare_solve solve.now)) }
+        ensures { OnOk result (self.new.text.items
+            ≡ self.old.text.items ++ solve_text (bare_solve solve.now)) }
     {
         self.put(b"solve")?;
         self.notes(&solve.notes)?;
@@ -102,7 +110,8 @@ impl Printer {
     }
 
     pub(crate) fn predicates(&mut self, predicates: &[Predicate<'_>]) -> Result<(), AllocError>
-        ensures { OnOk result (self.new.text.items ≡ self.old.text.items ++ flat_map predicate_text (map bare_predicate predicates.now)) }
+        ensures { OnOk result (self.new.text.items
+            ≡ self.old.text.items ++ flat_map predicate_text (map bare_predicate predicates.now)) }
     {
         for predicate in predicates {
             self.predicate(predicate)?;
@@ -111,7 +120,8 @@ impl Printer {
     }
 
     pub(crate) fn decls(&mut self, decls: &[Decl<'_>]) -> Result<(), AllocError>
-        ensures { OnOk result (self.new.text.items ≡ self.old.text.items ++ flat_map decl_text (map bare_decl decls.now)) }
+        ensures { OnOk result (self.new.text.items
+            ≡ self.old.text.items ++ flat_map decl_text (map bare_decl decls.now)) }
     {
         for decl in decls {
             self.decl(decl)?;
@@ -120,7 +130,8 @@ impl Printer {
     }
 
     pub(crate) fn constraints(&mut self, constraints: &[Constraint<'_>]) -> Result<(), AllocError>
-        ensures { OnOk result (self.new.text.items ≡ self.old.text.items ++ flat_map constraint_text (map bare_constraint constraints.now)) }
+        ensures { OnOk result (self.new.text.items ≡ self.old.text.items
+            ++ flat_map constraint_text (map bare_constraint constraints.now)) }
     {
         for constraint in constraints {
             self.constraint(constraint)?;
@@ -129,7 +140,8 @@ impl Printer {
     }
 
     pub(crate) fn tree(&mut self, ast: &Ast<'_>) -> Result<(), AllocError>
-        ensures { OnOk result (self.new.text.items ≡ self.old.text.items ++ tree_text (bare ast.now)) }
+        ensures { OnOk result (self.new.text.items
+            ≡ self.old.text.items ++ tree_text (bare ast.now)) }
     {
         self.predicates(&ast.predicates)?;
         self.decls(&ast.decls)?;

@@ -11,7 +11,8 @@ use std::alloc::AllocError;
 
 impl Printer {
     pub(crate) fn bounds(&mut self, bounds: &Option<Literal>) -> Result<(), AllocError>
-        ensures { OnOk result (self.new.text.items ≡ self.old.text.items ++ bounds_text (bare_bounds bounds.now)) }
+        ensures { OnOk result (self.new.text.items
+            ≡ self.old.text.items ++ bounds_text (bare_bounds bounds.now)) }
     {
         match bounds {
             Some(literal) => self.literal(literal),
@@ -20,7 +21,8 @@ impl Printer {
     }
 
     pub(crate) fn base(&mut self, base: &Base) -> Result<(), AllocError>
-        ensures { OnOk result (self.new.text.items ≡ self.old.text.items ++ base_text (bare_base base.now)) }
+        ensures { OnOk result (self.new.text.items
+            ≡ self.old.text.items ++ base_text (bare_base base.now)) }
     {
         match base {
             Base::Bool => self.put(b"bool"),
@@ -68,7 +70,8 @@ impl Printer {
     }
 
     fn indexes(&mut self, indexes: &[Option<usize>]) -> Result<(), AllocError>
-        ensures { OnOk result (self.new.text.items ≡ self.old.text.items ++ separated_text any_index_text indexes.now) }
+        ensures { OnOk result (self.new.text.items
+            ≡ self.old.text.items ++ separated_text any_index_text indexes.now) }
     {
         if let [first, others @ ..] = indexes {
             self.any_index(*first)?;
@@ -85,7 +88,8 @@ impl Printer {
         &mut self,
         array: &Option<Vec<Option<usize>>>,
     ) -> Result<(), AllocError>
-        ensures { OnOk result (self.new.text.items ≡ self.old.text.items ++ param_prefix_text (bare_indexes array.now)) }
+        ensures { OnOk result (self.new.text.items
+            ≡ self.old.text.items ++ param_prefix_text (bare_indexes array.now)) }
     {
         match array {
             None => Ok(()),

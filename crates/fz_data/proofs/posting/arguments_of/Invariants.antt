@@ -9,7 +9,8 @@ use Rattle.fz_data.proofs.posting.arguments_of.Given as goal
 
 abbrev pub invariant-loop-argument : goal.invariant-loop-argument
 invariant-loop-argument l = record {
-  clean : first_some (argument_fault l.scope) (map located_expr (take l.argument-index l.arguments)) ≡ None;
+  clean : first_some (argument_fault l.scope) (map located_expr (take l.argument-index l.arguments))
+      ≡ None;
   given : SoFar IsLonger (argument_view l.scope.variables.items l.scope.arrays.items) l.store l.fn.store.arguments.items l.store.arguments.items (map (argument_in l.scope) (map located_expr (take l.argument-index l.arguments)));
   longer : IsLonger l.fn.store l.store;
 }

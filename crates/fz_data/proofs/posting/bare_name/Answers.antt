@@ -12,7 +12,8 @@ with_arguments : (x : List ℕ) (args : List tree.NoteArg) → (args ≡ [] → 
 with_arguments x [] h = absurd (h refl)
 with_arguments x (a ∷ args) h = refl
 
-unfolds : (n : Note) → bare_note n ≡ tree.Called n.name.text.now (arg_list (map bare_arg n.args.items))
+unfolds : (n : Note) → bare_note n
+    ≡ tree.Called n.name.text.now (arg_list (map bare_arg n.args.items))
 unfolds n = fold_out-Note tree.NoteArg tree.NoteBasic tree.Note bare_arg_layer bare_basic_layer bare_note_layer n
 
 pub returns : goal.returns

@@ -9,6 +9,7 @@ use Rattle.fz_data.proofs.scope.scalars_of.Given as goal
 abbrev pub invariant-loop-part : goal.invariant-loop-part
 invariant-loop-part l = record {
   clean : faults_in l.scope (Some l.wanted) (map located_basic (take l.part-index l.parts)) ≡ None;
-  terms : AllRead IsGrown slot_term l.constants.items l.slots.items (map (term_in l.scope) (map located_basic (take l.part-index l.parts)));
+  terms : AllRead IsGrown slot_term l.constants.items l.slots.items
+      (map (term_in l.scope) (map located_basic (take l.part-index l.parts)));
   flat : list_all is_scalar l.slots.items ≡ true;
 }

@@ -7,7 +7,9 @@ use Rattle.fz_data.proofs.text.behind_constraints.Given as goal
 
 abbrev pub invariant-loop-items : goal.invariant-loop-items
 invariant-loop-items l = record {
-  offered : (ps : List Predicate) (ds : List Decl) (cs : List Constraint) → AtConstraints ps ds cs l.fn.items → (more : List Constraint) × AtConstraints ps ds (cs ++ more) l.items;
+  offered : (ps : List Predicate) (ds : List Decl) (cs : List Constraint)
+      → AtConstraints ps ds cs l.fn.items
+      → (more : List Constraint) × AtConstraints ps ds (cs ++ more) l.items;
   same : l.items.source.now ≡ l.fn.items.source.now;
 }
 

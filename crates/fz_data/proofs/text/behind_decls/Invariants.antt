@@ -6,7 +6,8 @@ use Rattle.fz_data.proofs.text.behind_decls.Given as goal
 
 abbrev pub invariant-loop-items : goal.invariant-loop-items
 invariant-loop-items l = record {
-  offered : (ps : List Predicate) (ds : List Decl) → AtDecls ps ds l.fn.items → (more : List Decl) × AtDecls ps (ds ++ more) l.items;
+  offered : (ps : List Predicate) (ds : List Decl) → AtDecls ps ds l.fn.items
+      → (more : List Decl) × AtDecls ps (ds ++ more) l.items;
   same : l.items.source.now ≡ l.fn.items.source.now;
 }
 

@@ -9,7 +9,8 @@ use Rattle.fz_data.proofs.text.declared_in.Given as goal
 
 abbrev pub invariant-loop-scope : goal.invariant-loop-scope
 invariant-loop-scope l = record {
-  declared : (ps : List Predicate) → Declares [] l.fn.scope → AtDecls ps [] l.fn.items → (ds : List Decl) × AtDecls ps ds l.items × Declares (map located_decl ds) l.scope;
+  declared : (ps : List Predicate) → Declares [] l.fn.scope → AtDecls ps [] l.fn.items
+      → (ds : List Decl) × AtDecls ps ds l.items × Declares (map located_decl ds) l.scope;
   kinds : HasKinds l.scope;
   same : l.items.source.now ≡ l.fn.items.source.now;
 }

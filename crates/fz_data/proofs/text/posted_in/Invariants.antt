@@ -9,7 +9,9 @@ use Rattle.fz_data.proofs.text.posted_in.Given as goal
 
 abbrev pub invariant-loop-found : goal.invariant-loop-found
 invariant-loop-found l = record {
-  posted : (ps : List Predicate) (ds : List Decl) → AtConstraints ps ds [] l.fn.items → (cs : List Constraint) × AtConstraints ps ds cs l.items × Posts l.scope (map located_constraint cs) l.store l.found.items;
+  posted : (ps : List Predicate) (ds : List Decl) → AtConstraints ps ds [] l.fn.items
+      → (cs : List Constraint) × AtConstraints ps ds cs l.items
+      × Posts l.scope (map located_constraint cs) l.store l.found.items;
   same : l.items.source.now ≡ l.fn.items.source.now;
 }
 

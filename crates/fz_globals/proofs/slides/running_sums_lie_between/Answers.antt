@@ -22,7 +22,8 @@ returns-then-not-is_between c =
     ∙ ap (λ m. list_all (λ w. lies_between m high (total w)) (windows k xs)) (to_z-of_z w64 c.args.low c.ranges.low)
     ∙ ap (λ m. list_all (λ w. lies_between c.args.low m (total w)) (windows k xs)) (to_z-of_z w64 c.args.high c.ranges.high)
 
-passed : (c : goal.After-from-new) → lies_between (to_z w64 (of_z w64 c.args.low)) (to_z w64 (of_z w64 c.args.high)) (to_z w128 c.loop-start.sum-bits) ≡ true
+passed : (c : goal.After-from-new) → lies_between (to_z w64 (of_z w64 c.args.low))
+    (to_z w64 (of_z w64 c.args.high)) (to_z w128 c.loop-start.sum-bits) ≡ true
 passed c = sym c.is_between.ensures ∙ c.if-not-is_between.false
 
 pub overflow_sub-sum : goal.overflow_sub-sum

@@ -8,5 +8,6 @@ invariant-loop-place l =
     let f = as_places l.first (ints l.next) in
     record {
       within : l.count ≤ l.place;
-      counted : length (moved_from (pos 1) f) ≡ l.count + length (moved_from (pos (l.place + 1)) (drop l.place f));
+      counted : length (moved_from (pos 1) f)
+          ≡ l.count + length (moved_from (pos (l.place + 1)) (drop l.place f));
     }

@@ -7,5 +7,6 @@ use Rattle.fz_judge.proofs.points.points_verdict.Given as goal
 abbrev pub invariant-loop-number : goal.invariant-loop-number
 invariant-loop-number l = record {
   none_fails : first_some (point_fails l.partial) (take l.number (points l.model)) ≡ None;
-  undecided : option_map reason_view l.reason ≡ first_some (point_undecided l.model l.partial) (take l.number (points l.model));
+  undecided : option_map reason_view l.reason
+      ≡ first_some (point_undecided l.model l.partial) (take l.number (points l.model));
 }

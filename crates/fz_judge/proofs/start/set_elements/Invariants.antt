@@ -9,9 +9,11 @@ use Rattle.fz_judge.proofs.start.set_elements.Given as goal
 
 abbrev pub invariant-loop-slot : goal.invariant-loop-slot
 invariant-loop-slot l = record {
-  given : with_all l.fn.partial (pairs (scalar_terms l.list) (printed_values (map located_literal l.literals)))
+  given : with_all l.fn.partial (pairs (scalar_terms l.list)
+      (printed_values (map located_literal l.literals)))
       ≡ with_all l.partial (pairs (map (slot_term l.list.constants.now) (drop (length l.yielded) l.list.slots.now)) (printed_values (map located_literal (drop (length l.yielded) l.literals))));
-  agree : agree_all l.fn.partial (pairs (scalar_terms l.list) (printed_values (map located_literal l.literals)))
+  agree : agree_all l.fn.partial
+      (pairs (scalar_terms l.list) (printed_values (map located_literal l.literals)))
       ≡ (l.agrees && agree_all l.partial (pairs (map (slot_term l.list.constants.now) (drop (length l.yielded) l.list.slots.now)) (printed_values (map located_literal (drop (length l.yielded) l.literals)))));
   long : length l.partial ≡ length l.fn.partial;
 }

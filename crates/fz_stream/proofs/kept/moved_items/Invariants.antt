@@ -8,6 +8,8 @@ use Rattle.fz_stream.proofs.kept.moved_items.Given as goal
 
 abbrev pub invariant-loop-item : goal.invariant-loop-item
 invariant-loop-item l = record {
-  bare : bare_items l.items.items ++ map (bare_kept l.text) (into_iter_items l.item-iterator) ≡ map (bare_kept l.text) l.fn.kept.items;
-  places : item_spots l.items.items ++ flat_map (kept_spots l.text) (into_iter_items l.item-iterator) ≡ flat_map (kept_spots l.text) l.fn.kept.items;
+  bare : bare_items l.items.items ++ map (bare_kept l.text) (into_iter_items l.item-iterator)
+      ≡ map (bare_kept l.text) l.fn.kept.items;
+  places : item_spots l.items.items ++ flat_map (kept_spots l.text)
+      (into_iter_items l.item-iterator) ≡ flat_map (kept_spots l.text) l.fn.kept.items;
 }

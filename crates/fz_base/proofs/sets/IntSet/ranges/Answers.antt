@@ -9,7 +9,8 @@ use Rattle.fz_base.specs.declared.ranges.Range.{Range}
 use Rattle.fz_base.proofs.SetRelations.{seen}
 use Rattle.fz_base.proofs.sets.IntSet.ranges.Goals as goal
 
-covered : {E : Type 0} (n : Numbers) (s : NumberSet) → ((x : ℤ) → has n x ≡ set.contains s x) → (r : Result (Vec Range) E)
+covered : {E : Type 0} (n : Numbers) (s : NumberSet) → ((x : ℤ) → has n x ≡ set.contains s x)
+    → (r : Result (Vec Range) E)
     → IfOk r (λ v. (x : ℤ) → covers v.items x ≡ has n x) → IfOk r (λ v. (x : ℤ) → covers v.items x ≡ set.contains s x)
 covered n s same (Ok v) h = λ x. h x ∙ same x
 covered n s same (Err e) h = h

@@ -7,7 +7,8 @@ use Rattle.fz_data.proofs.Tabled.{one_unset_less, still_tabled}
 use Rattle.fz_data.proofs.partial.Partial.set.Goals as goal
 
 -- the fields' values are those that the clauses speak of
-counted_down : (K J : List (Option Value)) (n : ℕ) (v : Value) → K ≡ J → n < length J → value_at J n ≡ None → unset_count K ≡ suc (unset_count (give K n v))
+counted_down : (K J : List (Option Value)) (n : ℕ) (v : Value) → K ≡ J → n < length J
+    → value_at J n ≡ None → unset_count K ≡ suc (unset_count (give K n v))
 counted_down K J n v seen within none = one_unset_less K n v (subst (λ L. n < length L) (sym seen) within) (subst (λ L. value_at L n ≡ None) (sym seen) none)
 
 pub overflow_sub-self : goal.overflow_sub-self

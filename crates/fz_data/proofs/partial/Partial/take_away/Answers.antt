@@ -7,7 +7,8 @@ use Rattle.fz_data.proofs.Tabled.{has_place, none_taken, one_less_tabled, one_un
 use Rattle.fz_data.proofs.partial.Partial.take_away.Goals as goal
 
 -- it has a value
-given : (K J : List (Option Value)) (n : ℕ) (b : _) → K ≡ J → b ≡ true → b ≡ is_some (value_at J n) → is_some (value_at K n) ≡ true
+given : (K J : List (Option Value)) (n : ℕ) (b : _) → K ≡ J → b ≡ true → b ≡ is_some (value_at J n)
+    → is_some (value_at K n) ≡ true
 given K J n b seen is told = ap (λ L. is_some (value_at L n)) seen ∙ sym told ∙ is
 
 pub overflow_add-self : goal.overflow_add-self

@@ -13,7 +13,9 @@ use Rattle.fz_judge.specs.Working.{compared}
 use Rattle.fz_judge.proofs.judge.Judge.completed.Goals as goal
 
 -- a block that is satisfied under its filling, beside an objective that was looked for
-satisfied_told : (m : Model) (block : Block) (before found : Option ℤ) (F : Partial) (o : Option Fault) → IsPartial m F → verdict m F block before ≡ Satisfied → o ≡ objective_fails m.aim found (objective m F)
+satisfied_told : (m : Model) (block : Block) (before found : Option ℤ) (F : Partial)
+    (o : Option Fault) → IsPartial m F → verdict m F block before ≡ Satisfied
+    → o ≡ objective_fails m.aim found (objective m F)
     → IsCompleted m block found F Satisfied (compared m o) (objective m F)
 satisfied_told m block before found F None partial satisfied is = Found F tt partial (satisfied_after m F block before found satisfied (sym is))
 satisfied_told m block before found F (Some f) partial satisfied is = NotShownBetter (sym is)

@@ -11,7 +11,9 @@ use Rattle.fz_judge.specs.View.{reason_view}
 use Rattle.fz_judge.specs.Working.{IsFound}
 use Rattle.fz_judge.proofs.judge.Judge.undecided.Goals as goal
 
-found_told : (m : Model) (block : Block) (before : Option ℤ) (F : Partial) (v : Verdict) (kept : Option ℤ) (o : Option (Option ℤ)) → o ≡ Some kept → LacksValuesAtMost v → IfSome o (IsFound m block before)
+found_told : (m : Model) (block : Block) (before : Option ℤ) (F : Partial) (v : Verdict)
+    (kept : Option ℤ) (o : Option (Option ℤ)) → o ≡ Some kept → LacksValuesAtMost v
+    → IfSome o (IsFound m block before)
     → IsCompleted m block before F v Satisfied kept
 found_told m block before F v kept (Some k) is lacks (K, fits, satisfied, kept_is) =
     let same : k ≡ kept = cc in
@@ -19,7 +21,8 @@ found_told m block before F v kept (Some k) is lacks (K, fits, satisfied, kept_i
 found_told m block before F v kept None is lacks found = absurd cc
 
 -- nothing is found, and the verdict stays
-stays : (s t : JudgeState) (block : Block) (F : Partial) (r : Reason) (o : Option ℤ) → s ≡ t → o ≡ objective s.model F → IsCompleted t.model block t.found F (Undecided r) (Undecided r) o
+stays : (s t : JudgeState) (block : Block) (F : Partial) (r : Reason) (o : Option ℤ) → s ≡ t
+    → o ≡ objective s.model F → IsCompleted t.model block t.found F (Undecided r) (Undecided r) o
 stays s t block F r o same is = subst (λ (u : JudgeState). IsCompleted u.model block u.found F (Undecided r) (Undecided r) o) same (subst (λ n. IsCompleted s.model block s.found F (Undecided r) (Undecided r) n) (sym is) (AsFilled (λ e. cc)))
 
 pub returns-in-Some-clause-told : goal.returns-in-Some-clause-told

@@ -11,7 +11,8 @@ going : (c : goal.After-waiting) → c.self.inside.splitter.stage ≢ Finished
 going c = λ e. c.requires.going (sym (ap (λ (s : ReaderState). s.splitter.stage) c.self.view_is) ∙ e)
 
 -- that there is a stream which the splitter fits
-known_stream : (c : goal.After-waiting) → (taken : List ℕ) × (parts : List StreamPart) × Fits c.self.inside.splitter taken parts
+known_stream : (c : goal.After-waiting)
+    → (taken : List ℕ) × (parts : List StreamPart) × Fits c.self.inside.splitter taken parts
 known_stream c =
     let not_failed : c.self.inside.splitter.stage ≢ Failed = λ e. (let no : Ok c.in-Ok.n ≡ Err errors.Failed = sym c.in-Ok.is ∙ c.feed.ensures.failed.1 e in cc) in
     c.self.invariant.fits (is_running c.self.inside.splitter.stage (going c) not_failed)

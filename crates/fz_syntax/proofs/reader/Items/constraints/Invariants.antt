@@ -6,7 +6,8 @@ use Rattle.fz_syntax.proofs.reader.Items.constraints.Given as goal
 
 abbrev pub invariant-loop-items : goal.invariant-loop-items
 invariant-loop-items l = record {
-  offered : (ps : List the_predicate.Predicate) (ds : List the_decl.Decl) → AtConstraints ps ds [] l.fn.self → AtConstraints ps ds l.items.items l.self;
+  offered : (ps : List the_predicate.Predicate) (ds : List the_decl.Decl)
+      → AtConstraints ps ds [] l.fn.self → AtConstraints ps ds l.items.items l.self;
   same : l.self.source.now ≡ l.fn.self.source.now;
 }
 

@@ -5,7 +5,8 @@ use Rattle.fz_syntax.proofs.reader.Items.decls.Given as goal
 
 abbrev pub invariant-loop-items : goal.invariant-loop-items
 invariant-loop-items l = record {
-  offered : (ps : List the_predicate.Predicate) → AtDecls ps [] l.fn.self → AtDecls ps l.items.items l.self;
+  offered : (ps : List the_predicate.Predicate) → AtDecls ps [] l.fn.self
+      → AtDecls ps l.items.items l.self;
   same : l.self.source.now ≡ l.fn.self.source.now;
 }
 

@@ -35,7 +35,8 @@ decreases-note l = 8 * l.depth
 
 abbrev pub invariant-separated_note_args-more_args : goal.invariant-separated_note_args-more_args
 invariant-separated_note_args-more_args l = record {
-  continues : Continues Comma (any_number (note_arg_at the_limits l.depth (note_at the_limits l.depth))) (map bare_arg l.arguments.items) (lexemes l.self)
+  continues : Continues Comma (any_number (note_arg_at the_limits l.depth
+      (note_at the_limits l.depth))) (map bare_arg l.arguments.items) (lexemes l.self)
       (separated_at (any_number (note_arg_at the_limits l.fn.depth (note_at the_limits l.fn.depth))) (lexemes l.fn.self));
   shorter : length (lexemes l.self) ≤ length (lexemes l.fn.self);
   same_end : l.self.end ≡ l.fn.self.end;
@@ -48,7 +49,9 @@ decreases-separated_note_args-more_args l = length (lexemes l.self)
 
 abbrev pub invariant-separated_note_basics-more_basics : goal.invariant-separated_note_basics-more_basics
 invariant-separated_note_basics-more_basics l = record {
-  continues : Continues Comma (at_most the_limits.elements (begins_note_basic l.depth) (note_basic_at the_limits (note_at the_limits l.depth))) (map bare_basic l.basics.items) (lexemes l.self)
+  continues : Continues Comma (at_most the_limits.elements (begins_note_basic l.depth)
+      (note_basic_at the_limits (note_at the_limits l.depth))) (map bare_basic l.basics.items)
+      (lexemes l.self)
       (separated_at (at_most the_limits.elements (begins_note_basic l.fn.depth) (note_basic_at the_limits (note_at the_limits l.fn.depth))) (lexemes l.fn.self));
   shorter : length (lexemes l.self) ≤ length (lexemes l.fn.self);
   same_end : l.self.end ≡ l.fn.self.end;

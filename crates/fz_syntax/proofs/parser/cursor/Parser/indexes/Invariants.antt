@@ -9,7 +9,8 @@ use Rattle.fz_syntax.proofs.parser.cursor.Parser.indexes.Given as goal
 
 abbrev pub invariant-loop-self : goal.invariant-loop-self
 invariant-loop-self l = record {
-  continues : Continues Comma (listed_index the_limits) l.indexes.items (lexemes l.self) (indexes_at the_limits (lexemes l.fn.self));
+  continues : Continues Comma (listed_index the_limits) l.indexes.items (lexemes l.self)
+      (indexes_at the_limits (lexemes l.fn.self));
   shorter : length (lexemes l.self) ≤ length (lexemes l.fn.self);
   same_end : l.self.end ≡ l.fn.self.end;
   walked : Passed l.fn.self l.self;

@@ -10,7 +10,8 @@ use Rattle.fz_syntax.proofs.parser.cursor.Parser.notes.Given as goal
 
 abbrev pub invariant-loop-self : goal.invariant-loop-self
 invariant-loop-self l = record {
-  continues : Continues ColonColon (any_number (note_at the_limits 32)) (bare_notes l.notes.items) (lexemes l.self) (notes_at the_limits (lexemes l.fn.self));
+  continues : Continues ColonColon (any_number (note_at the_limits 32)) (bare_notes l.notes.items)
+      (lexemes l.self) (notes_at the_limits (lexemes l.fn.self));
   shorter : length (lexemes l.self) ≤ length (lexemes l.fn.self);
   same_end : l.self.end ≡ l.fn.self.end;
   walked : Walk l.fn.self l.self (placed_notes l.notes.items);

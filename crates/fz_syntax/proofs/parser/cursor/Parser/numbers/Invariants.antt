@@ -7,7 +7,8 @@ use Rattle.fz_syntax.proofs.parser.cursor.Parser.numbers.Given as goal
 
 abbrev pub invariant-numbers : goal.invariant-numbers
 invariant-numbers l = record {
-  wants : Wants (at_most the_limits.elements is_whole whole_at) l.numbers.items (lexemes l.self) (separated_at (at_most the_limits.elements is_whole whole_at) (lexemes l.fn.self));
+  wants : Wants (at_most the_limits.elements is_whole whole_at) l.numbers.items (lexemes l.self)
+      (separated_at (at_most the_limits.elements is_whole whole_at) (lexemes l.fn.self));
   shorter : length (lexemes l.self) ≤ length (lexemes l.fn.self);
   same_end : l.self.end ≡ l.fn.self.end;
   walked : Passed l.fn.self l.self;
@@ -18,7 +19,8 @@ decreases-numbers l = length (lexemes l.self)
 
 abbrev pub invariant-listed : goal.invariant-listed
 invariant-listed l = record {
-  wants : Wants (at_most the_limits.elements is_whole whole_at) l.numbers.items (lexemes l.self) (separated_at (at_most the_limits.elements is_whole whole_at) (lexemes l.fn.self));
+  wants : Wants (at_most the_limits.elements is_whole whole_at) l.numbers.items (lexemes l.self)
+      (separated_at (at_most the_limits.elements is_whole whole_at) (lexemes l.fn.self));
   shorter : length (lexemes l.self) ≤ length (lexemes l.initial.self);
   same_end : l.self.end ≡ l.fn.self.end;
   walked : Passed l.fn.self l.self;

@@ -11,7 +11,10 @@ use Rattle.fz_syntax.proofs.parser.cursor.Parser.separated_elements.Given as goa
 
 abbrev pub invariant-elements : goal.invariant-elements
 invariant-elements l = record {
-  wants : Wants (at_most the_limits.elements begins_literal (literal_at the_limits)) (map bare_literal l.elements.items) (lexemes l.self) (separated_at (at_most the_limits.elements begins_literal (literal_at the_limits)) (lexemes l.fn.self));
+  wants : Wants (at_most the_limits.elements begins_literal (literal_at the_limits))
+      (map bare_literal l.elements.items) (lexemes l.self)
+      (separated_at (at_most the_limits.elements begins_literal (literal_at the_limits))
+      (lexemes l.fn.self));
   shorter : length (lexemes l.self) ≤ length (lexemes l.fn.self);
   same_end : l.self.end ≡ l.fn.self.end;
   walked : Walk l.fn.self l.self (flat_map (with_comma placed_literal) l.elements.items);
@@ -22,7 +25,10 @@ decreases-elements l = length (lexemes l.self)
 
 abbrev pub invariant-listed : goal.invariant-listed
 invariant-listed l = record {
-  wants : Wants (at_most the_limits.elements begins_literal (literal_at the_limits)) (map bare_literal l.elements.items) (lexemes l.self) (separated_at (at_most the_limits.elements begins_literal (literal_at the_limits)) (lexemes l.fn.self));
+  wants : Wants (at_most the_limits.elements begins_literal (literal_at the_limits))
+      (map bare_literal l.elements.items) (lexemes l.self)
+      (separated_at (at_most the_limits.elements begins_literal (literal_at the_limits))
+      (lexemes l.fn.self));
   shorter : length (lexemes l.self) ≤ length (lexemes l.initial.self);
   same_end : l.self.end ≡ l.fn.self.end;
   walked : Walk l.fn.self l.self (flat_map (with_comma placed_literal) l.elements.items);

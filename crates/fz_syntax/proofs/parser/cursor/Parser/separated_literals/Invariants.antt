@@ -10,7 +10,10 @@ use Rattle.fz_syntax.proofs.parser.cursor.Parser.separated_literals.Given as goa
 
 abbrev pub invariant-loop-self : goal.invariant-loop-self
 invariant-loop-self l = record {
-  continues : Continues Comma (at_most the_limits.elements begins_literal (literal_basic_at the_limits)) (map bare_expression l.literals.items) (lexemes l.self) (separated_at (at_most the_limits.elements begins_literal (literal_basic_at the_limits)) (lexemes l.fn.self));
+  continues : Continues Comma (at_most the_limits.elements begins_literal
+      (literal_basic_at the_limits)) (map bare_expression l.literals.items) (lexemes l.self)
+      (separated_at (at_most the_limits.elements begins_literal (literal_basic_at the_limits))
+      (lexemes l.fn.self));
   shorter : length (lexemes l.self) ≤ length (lexemes l.fn.self);
   same_end : l.self.end ≡ l.fn.self.end;
   walked : Walk l.fn.self l.self (placed_separated placed_basic l.literals.items);
