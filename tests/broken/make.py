@@ -15,7 +15,7 @@ DEPTH = 32           # greatest depth of an annotation
 RESERVED = set("predicate array of var bool int float set constraint solve satisfy minimize maximize "
                "true false".split())
 
-# Braces mean any number of times, brackets mean optional. `int` is a whole number, `one` one of value 1,
+# Braces mean any number of times, brackets mean optional. `int` is an integer, `one` one of value 1,
 # `size` one that is 0 or more. `note@` and the like stand once for each depth.
 GRAMMAR = """
 model      = { predicate } { decl } { constraint } solve

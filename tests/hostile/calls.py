@@ -2,7 +2,7 @@
 """Each public call, with each growth of memory refused in turn: calls.py PROGRAM
 
 The program makes one call on what files hold, and makes it once more on the same operands where
-it found no memory. So with one growth refused it tells want of memory at most once, and around that
+it found no memory. So with one growth refused it tells that memory ran out at most once, and around that
 what it tells with ample memory. The calls are made on the cases of cases.txt, on the examples and
 on pairs of sets.
 

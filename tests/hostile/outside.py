@@ -187,7 +187,7 @@ def large_pair(folder):
 
 
 def little_memory(program):
-    """Limits of memory from 4 MB up: want of memory, or the full answer."""
+    """Limits of memory from 4 MB up: out of memory, or the full answer."""
     tally = Tally()
     with tempfile.TemporaryDirectory(dir=FOLDER) as folder:
         for name, model, stream in [*examples()[:2], ("large", *large_pair(folder))]:
