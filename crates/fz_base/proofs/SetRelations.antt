@@ -1,4 +1,4 @@
--- From what numbers are kept to the set of them.
+-- From relations of the stored numbers to relations of the sets that they make.
 use Rattle.std.proofs.Common.{◌≡◌, ℤ, ◌≤ℤ◌, Bool, true, ◌↔◌, List, Option, Some, None, IfSome, IfNone, FitsSigned, w64, sym, ap, ◌∙◌}
 use Rattle.std.specs.List.{list_any}
 use Rattle.std.specs.List.Sorted.{IsPermutation}

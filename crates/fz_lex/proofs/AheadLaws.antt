@@ -1,5 +1,5 @@
--- The tokens ahead of a place are what stands there: each step of the lexer takes the first of
--- them, and those of a source without a fault are the ones that it lexes to.
+-- Laws of `tokens_ahead`: each step of the lexer takes the first of these tokens, and those of a
+-- source without a fault are the ones that it lexes to.
 use Rattle.std.proofs.Common.{◌≡◌, ◌≢◌, ℕ, zero, suc, ◌+◌, ◌<◌, ◌≤◌, ◌^◌, List, [], ◌∷◌, ◌++◌, length, drop, get_or, ℤ, pos, negsuc, Option, Some, None, true, false, eqb, ⊎_elim, refl, sym, ap, ◌∙◌, subst, arith}
 use Rattle.std.specs.Prelude.{Result, Ok, Err, IfOk, IfErr, OnOk, IsOk}
 use Rattle.std.specs.Result.{result_unwrap_or}

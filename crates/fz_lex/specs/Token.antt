@@ -7,8 +7,8 @@ use Rattle.fz_lex.specs.Byte.{is_word_start, is_word_byte}
 use Rattle.fz_lex.specs.declared.token.Mark.{Mark}
 use Rattle.fz_lex.specs.declared.token.Mark.TheVariants.{OpenParen, CloseParen, OpenBracket, CloseBracket, OpenBrace, CloseBrace, Comma, Semicolon, Colon, ColonColon, Equals, DotDot}
 
--- A token, apart from where it stands and how it is written: a word, an integer of any size, the
--- text of a float or of a string, which are kept as they stand (profile), or a mark.
+-- A token, without where it is in the source and how it is written: a word, an integer of any size,
+-- the text of a float or of a string, which have no other value (profile), or a mark.
 pub data TokenValue : Type 0 where
   Word : List ℕ → TokenValue
   Whole : ℤ → TokenValue
@@ -54,7 +54,7 @@ pub data WritesNatural (bytes : List ℕ) (n : ℕ) : Type 0 where
   octal : (digits : List ℕ) → bytes ≡ codes "0o" ++ digits → AreDigits 8 digits
       → n ≡ number_of 8 digits → WritesNatural bytes n
 
--- The bytes write the integer: without a sign, or behind `-` its opposite. So `-0` writes 0
+-- The bytes write the integer: without a sign, or its negative after `-`. So `-0` writes 0
 -- (Handbook: integer literals).
 pub data WritesWhole (bytes : List ℕ) (z : ℤ) : Type 0 where
   unsigned : (n : ℕ) → WritesNatural bytes n → z ≡ pos n → WritesWhole bytes z
@@ -111,8 +111,9 @@ Spells (FloatText text) bytes = (bytes ≡ text) × IsFloatText bytes
 Spells (StringText text) bytes = (bytes ≡ text) × IsStringText bytes
 Spells (Marked m) bytes = bytes ≡ mark_text m
 
--- The text that the token keeps is one that the language has for it: a word is a word's text, a
--- float a float's, a string a string's. Numbers and marks keep none.
+-- The text that is in the token is one that the language has for it: a word's text is that of a
+-- word, a float's that of a float, a string's that of a string. Numbers and marks have none in
+-- them.
 abbrev pub IsTokenText : TokenValue → Type 0
 IsTokenText (Word text) = IsWordText text
 IsTokenText (Whole z) = Unit {0}

@@ -1,4 +1,4 @@
--- What the end of a line makes of what a splitter keeps.
+-- How the end of a line changes the state of a splitter.
 use Rattle.std.proofs.Common.{◌≡◌, ℕ, ◌+◌, ◌-◌, Option, Some, None, List, [], ◌∷◌, ◌++◌, length, take, drop, refl, sym, ap, ◌∙◌, subst, inl, inr, ⊎_elim, length-append, arith}
 use Rattle.std.proofs.lemmas.List.{take_at, drop_at, take_all}
 use Rattle.fz_syntax.specs.Tree.{Printed}
@@ -140,7 +140,7 @@ module _ (h : Held) (body : List Line) (line : Line) (l : HasLine h body line) w
           tells = (k.0, from ∙ w.1, upto ∙ ap (λ (m : ℕ). h.before + m) l.place);
         }
 
--- what ended stands beside whatever items are kept
+-- what ended is so whatever items are stored
 pub beside_kept : (h : Held) (kept : Option KeptItems) (body : List Line) (line : Line)
     (ended : Ended) → EndsPart h body line ended
     → EndsPart (record { buffer = h.buffer; line = h.line; before = h.before; kept = kept }) body line ended

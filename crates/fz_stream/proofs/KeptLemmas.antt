@@ -1,4 +1,4 @@
--- What is kept of a block's items.
+-- The stored items of a block.
 use Rattle.std.proofs.Common.{◌≡◌, ℕ, zero, suc, ◌<◌, List, [], ◌∷◌, ◌++◌, length, map, get_or, slice_range, Some, refl, sym, ap, ◌∙◌, subst, arith}
 use Rattle.std.specs.List.{flat_map}
 use Rattle.fz_syntax.specs.declared.tree.Printed.{Printed}

@@ -1,4 +1,4 @@
--- What the end of a stream makes of what a splitter keeps.
+-- How the end of a stream changes the state of a splitter.
 use Rattle.std.proofs.Common.{◌≡◌, ◌≢◌, ℕ, ◌+◌, ◌<◌, Option, Some, None, List, [], ◌∷◌, ◌++◌, length, refl, sym, ap, ◌∙◌, subst, ⊎_elim, append-nil, length-append, arith, Result, Ok, Err, IfOk, IfErr, IsSome, is_some, true, false}
 use Rattle.fz_syntax.specs.Span.{Span}
 use Rattle.fz_stream.specs.declared.held.Ended.{Ended}

@@ -1,4 +1,4 @@
--- What a splitter may keep after a line, or a part of one.
+-- The state of a splitter after a line, or a piece of one.
 use Rattle.std.proofs.Common.{◌≡◌, ◌≢◌, ℕ, ◌+◌, List, [], ◌∷◌, ◌++◌, length, take, refl, sym, ap, ◌∙◌, subst, inl, inr, ◌⊎◌, ⊎_elim, zero, suc, ◌<◌, ◌-◌, length-append, append_assoc, append-nil, arith, cond, get_or, Some}
 use Rattle.std.proofs.lemmas.Bool.{ne_eqb, eq-eqb, cases_eq}
 use Rattle.std.proofs.lemmas.List.{get_or_at}

@@ -1,4 +1,4 @@
--- How names are hashed (private functions only; nothing rests on which names collide).
+-- How names are hashed. Only private functions use this; nothing depends on which names collide.
 use Rattle.std.specs.Prelude.{ℕ, List, [], ◌∷◌, ◌+◌, ◌*◌, ◌%◌, ◌^◌}
 
 -- the state with the first byte of what is written
