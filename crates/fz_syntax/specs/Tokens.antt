@@ -60,8 +60,7 @@ expr_toks (Several bs) = in_brackets (separated basic_toks bs)
 
 -- ---- annotations
 
--- arguments, each behind a comma; and where the first stands alone, in parentheses, where there is
--- one
+-- arguments, each after a comma; and a whole list of arguments, in parentheses where there is one
 abbrev mutual
   pub note_toks : Note → List TokenValue
   note_toks (Called name args) = Word name ∷ args_toks args
