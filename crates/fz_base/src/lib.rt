@@ -4,7 +4,8 @@
 //! A set of numbers from 0 to 63 is stored as the bits of a word, any other as ranges of 64-bit
 //! numbers, so `1..1000000000` takes no more memory than `1..100`. A set has no limit but memory.
 //! Calls that make a set take an allocator and refuse only where memory runs out; calls that ask
-//! something of a set take no memory and always succeed. Its worked cases are in `fz_text_cases`.
+//! something of a set take no memory and always succeed.
+//! Its worked cases are in `fz_text_cases`.
 #![tactic(auto)]
 
 mod bits;

@@ -1,6 +1,7 @@
 //! Lines and characters of a text: the line number of a byte offset, the parts of that line before
 //! and after it, and a count of UTF-8 characters, from which messages tell line and column. It
-//! takes no memory. Its worked cases are those of messages, in `fz_check_cases`.
+//! takes no memory.
+//! Its worked cases are those of messages, in `fz_check_cases`.
 #![tactic(auto)]
 
 ghost use Rattle.std.specs.Prelude.{◌≡◌, ◌≤◌, suc, take, drop, length, filter};

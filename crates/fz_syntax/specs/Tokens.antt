@@ -60,7 +60,8 @@ expr_toks (Several bs) = in_brackets (separated basic_toks bs)
 
 -- ---- annotations
 
--- arguments, each after a comma; and a whole list of arguments, in parentheses where there is one
+-- annotations and their arguments: a list of arguments is in parentheses, with commas in between,
+-- and is nothing where it is empty
 abbrev mutual
   pub note_toks : Note → List TokenValue
   note_toks (Called name args) = Word name ∷ args_toks args

@@ -1,7 +1,7 @@
 //! The syntax of FlatZinc: `parse` gives the tree of a model, `Items` its items one by one without
 //! a tree, `read_items` the items of a block of solver output, and `to_text` the canonical text of
-//! a tree. A facade: it also passes on the lexer and the errors of `fz_lex`. Its worked cases are
-//! in `fz_text_cases`.
+//! a tree. A facade: it also passes on the lexer and the errors of `fz_lex`.
+//! Its worked cases are in `fz_text_cases`.
 #![tactic(auto)]
 
 mod parser;
