@@ -45,8 +45,8 @@ AreDigits base bytes = (0 < length bytes) × IsTrue (list_all (λ b. is_digit b 
 abbrev pub number_of : ℕ → List ℕ → ℕ
 number_of base digits = fold (λ n b. n * base + digit_value b) 0 digits
 
--- The bytes write the number without a sign: in decimal, or in hexadecimal behind `0x`, or in octal
--- behind `0o`. Leading zeros are allowed (Handbook: integer literals).
+-- The bytes write the number without a sign: in decimal, or in hexadecimal after `0x`, or in octal
+-- after `0o`. Leading zeros are allowed (Handbook: integer literals).
 pub data WritesNatural (bytes : List ℕ) (n : ℕ) : Type 0 where
   decimal : AreDigits 10 bytes → n ≡ number_of 10 bytes → WritesNatural bytes n
   hexadecimal : (digits : List ℕ) → bytes ≡ codes "0x" ++ digits → AreDigits 16 digits
@@ -81,15 +81,15 @@ pub data IsUnsignedFloat (bytes : List ℕ) : Type 0 where
   scaled : (before exponent : List ℕ) → bytes ≡ before ++ exponent → AreDigits 10 before
       → IsExponent exponent → IsUnsignedFloat bytes
 
--- A float: one without a sign, or one behind `-` (Handbook: float literals).
+-- A float: one without a sign, or one after `-` (Handbook: float literals).
 pub data IsFloatText (bytes : List ℕ) : Type 0 where
   unsigned_float : IsUnsignedFloat bytes → IsFloatText bytes
   negative_float : (rest : List ℕ) → bytes ≡ codes "-" ++ rest → IsUnsignedFloat rest
       → IsFloatText bytes
 
--- The rest of a string behind its opening `"`: bytes other than `"`, `\` and LF, or pairs of `\`
--- and a byte other than LF, and then the closing `"` (Handbook: string literals; profile: `\(` is
--- no exception).
+-- The rest of a string after its opening `"`: bytes other than `"`, `\` and LF, or pairs of `\` and
+-- a byte other than LF, and then the closing `"` (Handbook: string literals; profile: `\(` is no
+-- exception).
 pub data IsStringRest : List ℕ → Type 0 where
   closed : (b : ℕ) → b ≡ 34 → IsStringRest (b ∷ [])
   plain : (b : ℕ) (rest : List ℕ) → b ≢ 34 → b ≢ 92 → b ≢ 10 → IsStringRest rest

@@ -18,7 +18,7 @@ const LEAST_WHOLE: i64 = i64::MIN;
 
 const GREATEST_WHOLE: i64 = i64::MAX;
 
-/// The greatest number that is below 2^63 with any one more digit behind it.
+/// The greatest number that stays below 2^63 whatever digit is appended to it.
 const GREATEST_SHORT: u64 = 922_337_203_685_477_579;
 
 /// The byte at an index. Past the end it is 0, which continues no token's text.

@@ -9,7 +9,7 @@ use unicode_width::UnicodeWidthChar;
 /// The most columns of a line that is shown.
 pub const MOST_COLUMNS: usize = 120;
 
-/// What stands for the part of a line that is left out.
+/// What is shown instead of the part of a line that is left out.
 const CUT: [char; 3] = ['.', '.', '.'];
 
 /// The character as it is shown: a control character, a tab too, is a blank.

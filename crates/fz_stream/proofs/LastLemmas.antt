@@ -159,7 +159,7 @@ module _ (bytes : List ℕ) (parts : List StreamPart) (h : Held) (i : IsHeld h) 
           },
         )
 
-    -- the last line can't stand there
+    -- the last line isn't allowed there
     pub ends_broken : (e : StreamError) → BreaksBlock h.before i.body i.current e
         → IsBrokenAtEndAfter bytes parts e
     ends_broken e b = record {

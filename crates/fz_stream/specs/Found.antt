@@ -45,7 +45,7 @@ pub record IsReadAs (bytes : List ℕ) (blocks : List SolutionBlock)
   pub blocks_are : blocks ≡ blocks_in parts
   pub claims_are : claims ≡ claims_in 0 parts
 
--- the numbers of blocks before the claims don't fall, and lie between these two
+-- the numbers of blocks before the claims never decrease, and are between these two
 abbrev pub AreInOrder : ℕ → ℕ → List Claim → Type 0
 AreInOrder least most [] = Unit {0}
 AreInOrder least most (claim ∷ claims) =

@@ -17,7 +17,7 @@ abbrev pub onto_first : ℕ → List Line → List Line
 onto_first b [] = (b ∷ []) ∷ []
 onto_first b (line ∷ lines) = (b ∷ line) ∷ lines
 
--- The lines of a stream: it is cut behind each LF, and what follows the last LF is a line where it
+-- The lines of a stream: it is cut after each LF, and what follows the last LF is a line where it
 -- isn't empty.
 abbrev pub lines_of : List ℕ → List Line
 lines_of [] = []

@@ -31,8 +31,9 @@ pub struct Stream<'a> {
 /// The most bytes that a stream may have to be read whole.
 const MOST_BYTES: usize = 16_777_216;
 
-/// The blocks and claims of a stream of at most 16,777,216 bytes. The first fault in the stream's
-/// order is answered: of a block's text where its closing line comes, of its names after that.
+/// The blocks and claims of a stream of at most 16,777,216 bytes. The error is the first fault in
+/// the order of the stream. A fault of a block's text counts at the line that closes the block, and
+/// a name printed twice after that.
 pub fn blocks<'a>(alloc: Global, stream: &'a [u8]) -> Result<Stream<'a>, StreamError>
     // The blocks and claims of the stream, and no others.
     ensures read { IfOk result (λ found. IsReadAs stream.now

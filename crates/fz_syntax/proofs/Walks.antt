@@ -193,7 +193,7 @@ ate_word {p} {q} text b wanted found left w =
     let behind : lexemes q ≡ drop 1 (lexemes p) = left ∙ ap (λ (c : Bool). cond c (drop 1 (lexemes p)) (lexemes p)) there in
     plain_walk (word text) w (worded_tokens text (lexemes p) there ∙ ap (λ (ts : List TokenValue). Word text ∷ ts) (sym behind))
 
--- the word `var`, where it stands
+-- the word `var`, where it is there
 abbrev var_word : List ℕ
 var_word = codes "var"
 

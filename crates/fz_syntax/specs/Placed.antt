@@ -152,7 +152,7 @@ abbrev pub placed_note : Note → List PlacedToken
 placed_note = fold-Note (List PlacedToken) (List PlacedToken)
     (List PlacedToken) placed_arg_layer placed_note_basic_layer placed_note_layer
 
--- annotations, each behind `::`
+-- annotations, each after `::`
 abbrev pub placed_notes : List Note → List PlacedToken
 placed_notes notes = flat_map (λ n. unplaced (Marked ColonColon) ∷ placed_note n) notes
 

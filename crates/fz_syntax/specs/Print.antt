@@ -11,7 +11,7 @@ use Rattle.fz_lex.specs.Limits.{IsTokenWithinLimit}
 use Rattle.fz_syntax.specs.Tree.{Literal, Number, Truth, Range, Braces, Basic, Lit, Named, Expr, One, Several, Note, Called, NoteArgs, NoMoreArgs, MoreArgs, NoteArg, OneBasic, ListOf, NoteBasics, NoMoreBasics, MoreBasics, NoteBasic, NoteLiteral, NoteFloat, NoteString, Inner, Base, BoolBase, IntBase, SetBase, Param, Predicate, Decl, Constraint, Goal, Satisfy, Minimize, Maximize, Solve, Tree}
 use Rattle.fz_syntax.specs.Tokens.{truth_word, toks}
 
--- elements, each behind a comma
+-- elements, each after a comma
 abbrev pub text_after_commas : {A : Type 0} → (A → List ℕ) → List A → List ℕ
 text_after_commas text xs = flat_map (λ x. codes "," ++ text x) xs
 
@@ -22,7 +22,7 @@ separated_text text (x ∷ xs) = text x ++ text_after_commas text xs
 
 -- ---- expressions
 
--- integers in decimal, behind `-` where negative
+-- integers in decimal, after `-` where negative
 abbrev pub literal_text : Literal → List ℕ
 literal_text (Number n) = signed_decimal n
 literal_text (Truth b) = truth_word b

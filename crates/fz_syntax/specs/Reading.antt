@@ -124,7 +124,7 @@ many_at more part i tokens = many_upto (length tokens) more part i tokens
 abbrev pub after_token : {A : Type 0} → (ℕ → Reader A) → ℕ → Reader A
 after_token part i tokens = part i (drop 1 tokens)
 
--- one element, and those behind commas
+-- one element, and those after commas
 unfoldable pub separated_at : {A : Type 0} → (ℕ → Reader A) → Reader (List A)
 separated_at element tokens = do
   first ← element 0 tokens
@@ -164,13 +164,13 @@ is_name _ = false
 abbrev pub begins_basic : TokenValue → Bool
 begins_basic t = is_name t || begins_literal t
 
--- numbers in braces, behind the brace that opens
+-- numbers in braces, after the brace that opens
 unfoldable pub braces_at : Limits → Reader Literal
 braces_at limits tokens = do
   numbers ← list_at CloseBrace (at_most limits.elements is_whole whole_at) tokens
   Ok (Braces numbers.0, numbers.1)
 
--- behind an integer: it is the low end of a range, or a literal by itself
+-- after an integer: it is the low end of a range, or a literal by itself
 unfoldable pub from_whole : ℤ → Reader Literal
 from_whole low tokens =
     if next_is DotDot tokens then (whole_at (drop 1 tokens) >>= λ high. Ok
@@ -232,7 +232,7 @@ note_arg_at limits depth inner tokens =
     (ListOf (basic_list bs.0), bs.1))
     else (note_basic_at limits inner tokens >>= λ b. Ok (OneBasic b.0, b.1))
 
--- behind an annotation's name: its arguments, if it has any
+-- after an annotation's name: its arguments, if it has any
 unfoldable pub note_args_at : Limits → ℕ → Reader Note → Reader (List NoteArg)
 note_args_at limits depth inner tokens =
     if next_is OpenParen tokens
@@ -316,7 +316,7 @@ index_at limits tokens = do
   dots ← mark_at DotDot one.1
   size_at limits dots.1
 
--- behind the word `array`: the length, in brackets, and the word `of`
+-- after the word `array`: the length, in brackets, and the word `of`
 unfoldable pub array_at : {A : Type 0} → Reader A → Reader A
 array_at index tokens = do
   opened ← mark_at OpenBracket tokens
@@ -375,7 +375,7 @@ prefix_at limits tokens =
 unfoldable pub literal_basic_at : Limits → Reader Basic
 literal_basic_at limits tokens = literal_at limits tokens >>= λ l. Ok (Lit l.0, l.1)
 
--- the value behind `=`, or behind its bracket: of an array a list, of a parameter of literals
+-- the value after `=`, or after its bracket: of an array a list, of a parameter of literals
 unfoldable pub value_at : Limits → (is_var : Bool) → (length : Option ℕ) → Reader Expr
 value_at limits true None tokens = basic_at limits tokens >>= λ b. Ok (One b.0, b.1)
 value_at limits false None tokens = literal_basic_at limits tokens >>= λ b. Ok (One b.0, b.1)

@@ -27,7 +27,7 @@ abbrev pub next_dimensions : List TokenValue → ℕ
 next_dimensions [] = 0
 next_dimensions (t ∷ rest) = token_dimensions t
 
--- an index set and the comma behind it
+-- an index set and the comma after it
 unfoldable pub index_set_at : Limits → Reader Literal
 index_set_at limits tokens = do
   bounds ← bounds_at limits tokens
@@ -41,12 +41,12 @@ index_sets_at limits (suc n) tokens =
     index_set_at limits tokens >>= λ first. index_sets_at limits n first.1 >>= λ others. Ok
     (first.0 ∷ others.0, others.1)
 
--- literals behind the bracket that opens their list
+-- literals after the bracket that opens their list
 unfoldable pub elements_at : Limits → Reader (List Literal)
 elements_at limits tokens =
     list_at CloseBracket (at_most limits.elements begins_literal (literal_at limits)) tokens
 
--- an array of so many index sets, behind its word
+-- an array of so many index sets, after its word
 unfoldable pub printed_array_at : Limits → ℕ → Reader PrintedValue
 printed_array_at limits dimensions tokens = do
   opened ← mark_at OpenParen tokens

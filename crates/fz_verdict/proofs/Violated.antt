@@ -140,8 +140,8 @@ have_first : (qs : List (Term × Value)) → AllByRecursion (HasFirst qs) qs
 have_first [] = tt
 have_first (q ∷ qs) = (here_first q qs, all_map (HasFirst qs) (HasFirst (q ∷ qs)) (still_first q qs) qs (have_first qs))
 
--- a variable that an assignment gives a value has the value at the first place where it is printed
--- from the start on
+-- a variable that an assignment gives a value has, from the start on, the value with which it is
+-- printed first
 is_numbered : (xs : List Variable) (A : Assignment) (n : ℕ) (v : Value) → FitVariables xs (whole A)
     → value_at (whole A) n ≡ Some v → (x : Variable) × (slice_get xs n ≡ Some x)
 is_numbered [] [] n v h e = cc
