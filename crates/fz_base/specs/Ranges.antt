@@ -1,5 +1,6 @@
--- How the crate stores a set: as ranges in order, with a gap between each two. Public clauses cite
--- only `AreInOrder`, `covers` and `lowest` of this file; a reader need not believe the rest.
+-- How the crate stores a set that has numbers outside 0 to 63: as ranges in order, with a gap
+-- between each two. Public clauses cite only `AreInOrder`, `covers` and `lowest` of this file; a
+-- reader need not believe the rest.
 use Rattle.std.specs.Prelude.{◌≡◌, ◌↔◌, ℤ, pos, negsuc, ◌+ℤ◌, ◌≤ℤ◌, Bool, true, false, not, ◌&&◌, ◌||◌, List, [], ◌∷◌, int_le}
 use Rattle.std.specs.List.{flat_map}
 use Rattle.std.specs.FinSet.{from_list}

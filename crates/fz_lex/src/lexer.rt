@@ -14,7 +14,7 @@ use crate::token::{Token, TokenKind};
 use fz_base::Span;
 use std::alloc::Global;
 
-/// The most bytes of a text that is read.
+/// The most bytes that a text may have.
 pub const MOST_BYTES: usize = 16_777_216;
 
 /// Skips blanks and whole comments from a byte offset on, and gives the offset where they end.

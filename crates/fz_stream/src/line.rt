@@ -21,7 +21,7 @@ pub enum ClaimKind {
     Error,
 }
 
-/// What a line of a stream is.
+/// The kinds of lines of a stream.
 #[derive(Clone, Copy, Debug)]
 pub enum LineKind {
     Blank,

@@ -1,7 +1,7 @@
--- The items of a model as they are offered, one after another, each kind in its turn. Only
--- `TreeItems`, `IsTextOfAll` and `IsRefused` are to be believed. The others say what was offered so
--- far: `Items::new` promises that they hold at the beginning, and `IsTextOfAll` says what they come
--- to at the end.
+-- The items of a model as they are offered, one after another, each kind in its turn. A reader need
+-- believe only `TreeItems`, `IsTextOfAll` and `IsRefused`. The others say what was offered so far:
+-- `Items::new` promises that they hold at the beginning, and `IsTextOfAll` says what they come to
+-- at the end.
 use Rattle.std.specs.Prelude.{◌≡◌, ◌≤◌, ℕ, List, [], ◌++◌, map, length, codes, Bool, Option, Some, None, Result, Ok, Err}
 use Rattle.std.specs.List.{flat_map}
 use Rattle.fz_lex.specs.View.{IsLexicalFault, IsPlacedWithin}

@@ -21,8 +21,8 @@ use Rattle.fz_stream.specs.Found.{block_of, blocks_in, claims_in}
 use Rattle.fz_stream.specs.declared.block.Block as the_block
 use Rattle.fz_verdict.specs.Report.{Report, report_lines, part_lines, answer_line}
 
--- Where a block is satisfied under a partial assignment, that partial assignment is a whole one,
--- which extends the block and is a solution.
+-- Where a block is satisfied under a partial assignment, that partial assignment has a value for
+-- each variable, extends the block and is a solution.
 abbrev pub SatisfiedIsSolved : Type 0
 SatisfiedIsSolved =
     (m : Model) (K : Partial) (block : Block) (before : Option ℤ) → IsPartial m K
