@@ -146,7 +146,7 @@ pub fn combine(a: u64, b: u64, rule: Rule) -> u64
     }
 }
 
-/// Adds a number that is above all the ranges, and there is room for it: like `push_range` of
+/// Adds a number above all the ranges, where there is room for one more range: like `push_range` of
 /// ranges.rt, but into an array, so it never asks for memory.
 fn push_number(ranges: &mut ArrayVec<Range, PLACES>, number: i64)
     requires room { array_vec_len ranges.old < 64 }

@@ -16,7 +16,7 @@ digits_len base bytes = prefix_len (λ b. is_digit b base) bytes
 abbrev pub leading_number : ℕ → List ℕ → ℕ
 leading_number base bytes = number_of base (take (digits_len base bytes) bytes)
 
--- the length of a point with digits at the front, or 0
+-- the length of a decimal point and digits at the front, or 0
 unfoldable pub fraction_len : List ℕ → ℕ
 fraction_len bytes = if (slice_index bytes 0 == 46) && is_digit (slice_index bytes 1) 10
     then 1 + digits_len 10 (drop 1 bytes) else 0

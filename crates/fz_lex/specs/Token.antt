@@ -72,8 +72,8 @@ pub record IsExponent (bytes : List ℕ) : Type 0 where
   pub is_sign : (sign ≡ []) ⊎ ((sign ≡ codes "+") ⊎ (sign ≡ codes "-"))
   pub are_digits : AreDigits 10 digits
 
--- A float without a sign: digits, a point, digits and an optional exponent; or digits and an
--- exponent (Handbook: float literals).
+-- A float without a sign: digits, a decimal point, digits and an optional exponent; or digits and
+-- an exponent (Handbook: float literals).
 pub data IsUnsignedFloat (bytes : List ℕ) : Type 0 where
   pointed : (before after exponent : List ℕ) → bytes ≡ before ++ (codes "." ++ (after ++ exponent))
       → AreDigits 10 before → AreDigits 10 after → (exponent ≡ []) ⊎ IsExponent exponent

@@ -99,7 +99,7 @@ pub(crate) fn comment_len(bytes: &[u8]) -> usize
     len
 }
 
-/// The length of a point with digits at the front, or 0.
+/// The length of a decimal point and digits at the front, or 0.
 #[tactic(auto, unfolding(crate::specs::Scan::fraction_len))]
 fn fraction_len(bytes: &[u8]) -> usize
     ensures value { result ≡ scan.fraction_len bytes.now }
@@ -236,8 +236,8 @@ fn short_digits(bytes: &[u8]) -> Option<DigitRun>
     Some(DigitRun { len, value })
 }
 
-/// Whether a number may go on with the byte after its first digits: a point, an exponent, or the
-/// letter of a base.
+/// Whether a number may go on with the byte after its first digits: a decimal point, an exponent,
+/// or the letter of a base.
 #[inline(always)]
 fn may_go_on(byte: u8) -> bool
     ensures { IsFalse result → (byte ≢ 46) × (byte ≢ 101) × (byte ≢ 69) × (byte ≢ 120)

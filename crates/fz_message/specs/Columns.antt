@@ -41,8 +41,8 @@ abbrev pub end_within : ℕ → List ℕ → List ℕ
 end_within room [] = []
 end_within room (c ∷ cs) = cond (nat_le (all_columns (c ∷ cs)) room) (c ∷ cs) (end_within room cs)
 
--- the characters where they fit in the columns given; else three points and as much of the end as
--- fits after them, or as much of the front as fits before three points, and these
+-- the characters where they fit in the columns given; else three dots and as much of the end as
+-- fits after them, or as much of the front as fits before three dots, and these
 abbrev pub cut_front : ℕ → List ℕ → List ℕ
 cut_front room cs = cond (nat_le (columns cs) room) cs (codes "..." ++ end_within (room - 3) cs)
 

@@ -110,7 +110,7 @@ fn end_within(letters: &[char], room: usize) -> &[char]
     &letters[start..]
 }
 
-/// The text where it fits, or three points and as much of its end as fits after them.
+/// The text where it fits, or three dots and as much of its end as fits after them.
 pub fn cut_front(alloc: Global, letters: &[char], room: usize) -> Result<Vec<char>, AllocError>
     ensures { IfOk result (λ cut. cut.items ≡ cut_front room letters.now) }
 {
@@ -122,7 +122,7 @@ pub fn cut_front(alloc: Global, letters: &[char], room: usize) -> Result<Vec<cha
     Ok(cut)
 }
 
-/// The text where it fits, or as much of its front as fits before three points, and these.
+/// The text where it fits, or as much of its front as fits before three dots, and these.
 pub fn cut_end(alloc: Global, letters: &[char], room: usize) -> Result<Vec<char>, AllocError>
     ensures { IfOk result (λ cut. cut.items ≡ cut_end room letters.now) }
 {
