@@ -10,7 +10,7 @@ use std::alloc::{AllocError, Global};
 /// The most ranges that are stored inline.
 const PLACES: usize = 4;
 
-/// The ranges of a set: a few at the front of an inline array, with their count, or more in a
+/// The ranges of a set: a few, with their count, at the front of an inline array; or more, in a
 /// vector.
 #[derive(Debug, Drop)]
 pub enum Storage {

@@ -160,8 +160,8 @@ pub fn lex<'a>(alloc: Global, source: &'a [u8]) -> Result<Vec<Token<'a>>, Syntax
     ensures only { (tokens : List SpannedToken) → LexesWithinLimits source.now tokens
         → MatchResult result (λ given. all_spanned given.items ≡ tokens)
         (λ e. e ≡ SyntaxError.Memory) }
-    // A text that is too long is refused as such, and any other refusal is a lexical fault of the
-    // text.
+    // A text that is too long is refused as such. Any other refusal is a lexical fault, or
+    // `Memory`.
     ensures too_long { most_bytes < length source.now → result ≡ Err SyntaxError.TooLong }
     ensures refused { IfErr result (IsLexicalFault source.now) }
     ensures placed { IfErr result (IsPlacedWithin (length source.now)) }

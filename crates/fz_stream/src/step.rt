@@ -7,7 +7,7 @@ use crate::line::{ClaimKind, LineKind};
 /// text.
 #[derive(Clone, Copy, Debug)]
 pub enum Step {
-    /// Nothing ends, and this block is open from then on.
+    /// Nothing ends, and this block, or none, is open from then on.
     GoesOn(Option<usize>),
     /// The block ends whose text begins at this offset.
     EndsBlock(usize),
