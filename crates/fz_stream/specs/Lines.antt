@@ -12,7 +12,7 @@ use Rattle.fz_stream.specs.declared.line.LineKind.TheVariants.{Blank, Comment, M
 abbrev pub Line : Type 0
 Line = List ℕ
 
--- the lines with a byte put in front of the first, where the byte isn't LF
+-- the lines with a byte, which isn't LF, put in front of the first
 abbrev pub onto_first : ℕ → List Line → List Line
 onto_first b [] = (b ∷ []) ∷ []
 onto_first b (line ∷ lines) = (b ∷ line) ∷ lines

@@ -21,7 +21,7 @@ use std::alloc::Global;
 pub struct Items<'a> {
     pub(crate) parser: Parser<'a>,
     pub(crate) source: &'a [u8],
-    /// a buffer for the arguments of a constraint, used again for each
+    /// A buffer for the arguments of a constraint, used again for each constraint.
     pub(crate) spare: Vec<Expr<'a>>,
 }
 
