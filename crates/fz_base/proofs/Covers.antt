@@ -201,7 +201,7 @@ module _ (f x : ℤ) (rest front back : List Range) (d : Range) (cut : rest ≡ 
       → covers (drop 1 back) x ≡ covers rest x
   covers_others h k = sym (before_back h ∙ first_of back some ∙ rw (between_above (get_or back 0 d).lo (get_or back 0 d).hi x k))
 
--- the last range, at the place k
+-- the last range, at index k
 pub ends_at_last : (f : ℤ) (rs : List Range) (k : ℕ) (d : Range) → AreInOrder f rs
     → length rs ≡ k + 1 → EndUpTo (get_or rs k d).hi rs
 ends_at_last f [] k d o e = tt

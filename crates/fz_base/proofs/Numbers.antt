@@ -1,5 +1,5 @@
--- Laws of the words on sets (the crates above may cite them), and the numbers of ranges as a list
--- and as a set.
+-- Laws of the definitions in specs/Sets.antt (crates above may cite them), and the numbers of
+-- ranges as a list and as a set.
 use Rattle.std.proofs.Common.{◌≡◌, ℕ, zero, suc, ℤ, pos, negsuc, ◌+ℤ◌, ◌-ℤ◌, ◌≤ℤ◌, ◌<ℤ◌, Bool, true, false, cond, filter, not, ◌&&◌, ◌||◌, List, [], ◌∷◌, ◌++◌, length, refl, sym, ap, ◌∙◌, arith, length-append}
 use Rattle.std.specs.List.{list_any, flat_map, sum_by}
 use Rattle.std.specs.Ordering.{int_cmp, int_eq, is_lt}

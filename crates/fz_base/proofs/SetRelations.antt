@@ -1,4 +1,4 @@
--- From what numbers are kept to the set of them.
+-- From relations of the stored numbers to relations of the sets that they make.
 use Rattle.std.proofs.Common.{◌≡◌, ℤ, ◌≤ℤ◌, Bool, true, ◌↔◌, List, Option, Some, None, IfSome, IfNone, FitsSigned, w64, sym, ap, ◌∙◌}
 use Rattle.std.specs.List.{list_any}
 use Rattle.std.specs.List.Sorted.{IsPermutation}
@@ -24,7 +24,7 @@ contains-set_of : (n : Numbers) (x : ℤ) → contains (set_of n) x ≡ has n x
 contains-set_of (Low bits) x = contains-numbers_of_bits bits x
 contains-set_of (Ranges storage) x = contains-numbers_of (stored storage.value) x
 
--- numbers that are kept for a set
+-- numbers that are stored for a set
 pub seen : (n : Numbers) (s : NumberSet) → set_of n ≡ s → (x : ℤ) → has n x ≡ contains s x
 seen n s view x = sym (contains-set_of n x) ∙ ap (λ t. contains t x) view
 
@@ -80,7 +80,7 @@ module _ (s t : NumberSet) (a b : Numbers) (is_a : (x : ℤ) → has a x ≡ con
     λ e. h.1 (λ x. is_a x ∙ ap (λ u. contains u x) e ∙ sym (is_b x)),
   )
 
-  -- a set of which ranges cover what the rule keeps is the one that has just that
+  -- a set whose ranges cover the result of the operation is that result
   is_kept_is : (rule : Rule) (u v : NumberSet) (c : Numbers) → ((x : ℤ) → has c x ≡ contains u x)
       → ((x : ℤ) → contains v x ≡ keeps rule (contains s x) (contains t x)) → (r : Bool)
       → (r ≡ true ↔ ((x : ℤ) → has c x ≡ keeps rule (has a x) (has b x))) → (r ≡ true ↔ (u ≡ v))
@@ -125,7 +125,7 @@ module _ (s : NumberSet) (rs : Numbers) (is : (x : ℤ) → has rs x ≡ contain
   only_none None h = λ n g. h n (λ x. ((λ e. (g x).0 (sym (is x) ∙ e)), (λ e. is x ∙ (g x).1 e)))
   only_none (Some n) h = h
 
--- numbers that are kept have 64 bits
+-- numbers that are stored have 64 bits
 pub has_fits : (x : ℤ) (n : Numbers) → AreKept n → has n x ≡ true → FitsSigned w64 x
 has_fits x (Low bits) kept in_it = low_fits bits x in_it
 has_fits x (Ranges storage) kept in_it = covered_fits x (stored storage.value) kept.1 in_it

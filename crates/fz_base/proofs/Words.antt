@@ -61,7 +61,7 @@ same_bit (suc zero) (suc zero) h k e = refl
 same_bit (suc (suc p)) q h k e = absurd (omega arith)
 same_bit p (suc (suc q)) h k e = absurd (omega arith)
 
--- ---- what a rule keeps of two words
+-- ---- the result of an operation on two words
 
 under : (b p q r : Bool) → (b ≡ true → r ≡ (p || q)) → (b && r) ≡ ((b && p) || (b && q))
 under true p q r h = h refl

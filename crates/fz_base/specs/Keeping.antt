@@ -1,5 +1,5 @@
--- How the numbers of a set are kept: as bits or as ranges. A reader need not believe this file: no
--- public clause speaks of it.
+-- How the numbers of a set are stored: as bits or as ranges. A reader need not believe this file:
+-- no public clause speaks of it.
 use Rattle.std.specs.Prelude.{ℤ, Bool, List}
 use Rattle.fz_base.specs.declared.ranges.Range.{Range}
 use Rattle.fz_base.specs.declared.kept.Numbers.{Numbers}
@@ -11,12 +11,12 @@ use Rattle.fz_base.specs.Ranges.{lowest, numbers_of, AreInOrder, covers}
 use Rattle.fz_base.specs.Sets.{NumberSet}
 use Rattle.fz_base.specs.Storage.{stored, HasPlaces}
 
--- the number is among them
+-- the number is one of those stored
 abbrev pub has : Numbers → ℤ → Bool
 has (numbers.Low bits) x = has_bit bits x
 has (numbers.Ranges storage) x = covers (stored storage.value) x
 
--- the set of all of them
+-- the set of all the numbers stored
 abbrev pub set_of : Numbers → NumberSet
 set_of (numbers.Low bits) = numbers_of_bits bits
 set_of (numbers.Ranges storage) = numbers_of (stored storage.value)

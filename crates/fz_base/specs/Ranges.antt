@@ -1,6 +1,6 @@
--- How the crate keeps a set: as ranges in order, with a gap between each two. Of this file a public
--- clause speaks of `AreInOrder`, `covers` and `lowest` alone, and a reader need not believe the
--- rest.
+-- How the crate stores a set that has numbers outside 0 to 63: as ranges in order, with a gap
+-- between each two. Public clauses cite only `AreInOrder`, `covers` and `lowest` of this file; a
+-- reader need not believe the rest.
 use Rattle.std.specs.Prelude.{◌≡◌, ◌↔◌, ℤ, pos, negsuc, ◌+ℤ◌, ◌≤ℤ◌, Bool, true, false, not, ◌&&◌, ◌||◌, List, [], ◌∷◌, int_le}
 use Rattle.std.specs.List.{flat_map}
 use Rattle.std.specs.FinSet.{from_list}
@@ -20,8 +20,8 @@ highest = pos 9223372036854775807
 unfoldable pub numbers_of : List Range → NumberSet
 numbers_of ranges = from_list (flat_map (λ r. counting_from r.lo (count_between r.lo r.hi)) ranges)
 
--- The ranges are in order: none is empty, the first begins at `from` or above, and a number that is
--- in none stands between each two.
+-- The ranges are in order: none is empty, the first begins at `from` or above, and between each two
+-- is a number that is in none.
 abbrev pub AreInOrder : ℤ → List Range → Type 0
 AreInOrder from [] = Unit {0}
 AreInOrder from (r ∷ rs) =
@@ -46,7 +46,8 @@ abbrev pub ReachesTo : ℤ → List Range → Type 0
 ReachesTo x [] = Unit {0}
 ReachesTo x (r ∷ rs) = x ≤ℤ r.hi
 
--- whether a number is kept that is, or is not, in the one set and in the other
+-- whether a number is in the result of the operation, given whether it is in the first set and
+-- whether it is in the second
 abbrev pub keeps : Rule → Bool → Bool → Bool
 keeps Union a b = a || b
 keeps Intersect a b = a && b
@@ -57,6 +58,6 @@ keeps Symdiff a b = (a && not b) || (b && not a)
 abbrev pub CoversOnly : ℤ → List Range → Type 0
 CoversOnly n rs = (x : ℤ) → (covers rs x ≡ true) ↔ (x ≡ n)
 
--- each number that the one covers is covered by the other
+-- each number that the first ranges cover is covered by the second
 abbrev pub LiesIn : List Range → List Range → Type 0
 LiesIn rs ss = (x : ℤ) → covers rs x ≡ true → covers ss x ≡ true

@@ -1,7 +1,7 @@
 -- Finite sets of integers, in the words of FlatZinc's builtins over sets (MiniZinc Handbook,
 -- "FlatZinc builtins", set builtins; a set literal is that of the FlatZinc grammar). The numbers
--- are those of mathematics and have no width. Two sets with the same elements are equal. The union,
--- the intersection, the difference, subsets and the number of elements are the library's.
+-- are those of mathematics and have no width. Two sets with the same elements are equal. Union,
+-- intersection, difference, subset and number of elements are those of the standard library.
 --     NumberSet      a finite set of integers
 --     numbers_between lo hi      the value of the range lo..hi
 --     symmetric_difference s t      what is in exactly one of the two: `set_symdiff`
@@ -22,7 +22,7 @@ unfoldable pub counting_from : ℤ → ℕ → List ℤ
 counting_from lo zero = []
 counting_from lo (suc n) = lo ∷ counting_from (lo +ℤ pos 1) n
 
--- how many integers z says: none where it is negative
+-- z as a number of integers: 0 where it is negative
 abbrev pub at_least_none : ℤ → ℕ
 at_least_none (pos n) = n
 at_least_none (negsuc n) = 0

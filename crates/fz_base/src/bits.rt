@@ -1,6 +1,6 @@
-// Sets of numbers from 0 to 63, each as the bits of a word: bit n is 1 where n is in the set. What
-// is asked of such sets, or made of two of them, takes a few instructions; only to gather a set
-// from a list or from ranges, and to spread it out to ranges, takes a loop.
+// Sets of numbers from 0 to 63, each as the bits of a word: bit n is 1 where n is in the set. A
+// question about such sets, or an operation on two of them, takes a few instructions. Only building
+// a set from a list or from ranges, and listing its ranges, takes a loop.
 ghost use Rattle.std.specs.Prelude.{◌≡◌, ◌<◌, ◌≤◌, ◌+◌, ℤ, ◌≤ℤ◌, ◌-ℤ◌, ◌↔◌, ◌&&◌, ◌||◌, true, pos, IsTrue, IfNone, IfSome};
 ghost use Rattle.std.specs.FinSet as set;
 ghost use Rattle.std.specs.List.{list_any};
@@ -12,11 +12,11 @@ ghost use Rattle.arrayvec.specs.ArrayVec.{array_vec_len};
 use crate::ranges::{Range, Rule, touches};
 use arrayvec::ArrayVec;
 
-/// So many ranges have room where the numbers of a word are spread out; it has at most half as
-/// many.
+/// The most ranges that `spread` has room for. A word has at most half as many, since there is a
+/// gap between each two.
 pub const PLACES: usize = 64;
 
-/// The greatest number that a word can have.
+/// The greatest number that a word can hold.
 const LAST: i64 = 63;
 
 /// Whether the number is in the set.
@@ -30,7 +30,7 @@ pub fn has(bits: u64, number: i64) -> bool
     (bits >> number as u64) & 1 == 1
 }
 
-/// The set and one number more, where a word can have it.
+/// The set with one more number, or none where the number is not from 0 to 63.
 #[inline(always)]
 fn with(bits: u64, number: i64) -> Option<u64>
     ensures { IfSome result (λ b. (x : ℤ) → has_bit b x ≡ (has_bit bits x || int_eq x number)) }
@@ -41,7 +41,7 @@ fn with(bits: u64, number: i64) -> Option<u64>
     Some(bits | (1 << number as u64))
 }
 
-/// The set of the listed numbers, where a word can have all of them.
+/// The set of the listed numbers, or none where one of them is not from 0 to 63.
 pub fn listed(numbers: &[i64]) -> Option<u64>
     ensures { IfSome result (λ b. (x : ℤ) → has_bit b x ≡ list_any (int_eq x) numbers.now) }
 {
@@ -52,7 +52,7 @@ pub fn listed(numbers: &[i64]) -> Option<u64>
     Some(bits)
 }
 
-/// The numbers from `lo` to `hi`, both included, that a word can have.
+/// Those of the numbers from `lo` to `hi`, both included, that are from 0 to 63.
 fn cut(lo: i64, hi: i64) -> u64
     ensures { (x : ℤ) → has_bit result x ≡ (is_between (pos 0) (pos 63) x && is_between lo hi x) }
 {
@@ -64,7 +64,7 @@ fn cut(lo: i64, hi: i64) -> u64
     (u64::MAX >> (LAST - last) as u64) & (u64::MAX << first as u64)
 }
 
-/// The numbers from `lo` to `hi`, both included, where a word can have all of them.
+/// The numbers from `lo` to `hi`, both included, or none where one of them is not from 0 to 63.
 pub fn between(lo: i64, hi: i64) -> Option<u64>
     ensures { IfSome result (λ b. (x : ℤ) → has_bit b x ≡ is_between lo hi x) }
 {
@@ -74,7 +74,7 @@ pub fn between(lo: i64, hi: i64) -> Option<u64>
     Some(cut(lo, hi))
 }
 
-/// The numbers that ranges cover, where a word can have all of them.
+/// The numbers that ranges cover, or none where one of them is not from 0 to 63.
 pub fn of_ranges(ranges: &[Range]) -> Option<u64>
     ensures { IfSome result (λ b. (x : ℤ) → has_bit b x ≡ covers ranges.now x) }
 {
@@ -109,7 +109,7 @@ pub fn only(bits: u64) -> Option<i64>
     }
 }
 
-/// Whether each number of the one is in the other.
+/// Whether each number of the first set is in the second.
 #[inline(always)]
 pub fn are_covered(a: u64, b: u64) -> bool
     ensures { IsTrue result ↔ ((x : ℤ) → has_bit a x ≡ true → has_bit b x ≡ true) }
@@ -125,7 +125,7 @@ pub fn are_same(a: u64, b: u64) -> bool
     a == b
 }
 
-/// Whether all the numbers lie between two.
+/// Whether all the numbers are from `lo` to `hi`.
 #[inline(always)]
 pub fn lie_within(bits: u64, lo: i64, hi: i64) -> bool
     ensures { IsTrue result ↔ ((x : ℤ) → has_bit bits x ≡ true → (lo ≤ℤ x) × (x ≤ℤ hi)) }
@@ -133,7 +133,7 @@ pub fn lie_within(bits: u64, lo: i64, hi: i64) -> bool
     are_covered(bits, cut(lo, hi))
 }
 
-/// What the rule keeps of two sets.
+/// The result of the set operation on two sets.
 #[inline(always)]
 pub fn combine(a: u64, b: u64, rule: Rule) -> u64
     ensures { (x : ℤ) → has_bit result x ≡ keeps rule (has_bit a x) (has_bit b x) }
@@ -146,8 +146,8 @@ pub fn combine(a: u64, b: u64, rule: Rule) -> u64
     }
 }
 
-/// Adds a number at the end of the ranges, for which there is room: as for a range at the end of a
-/// list that grows, but without memory to ask for.
+/// Adds a number above all the ranges, where there is room for one more range: like `push_range` of
+/// ranges.rt, but into an array, so it never asks for memory.
 fn push_number(ranges: &mut ArrayVec<Range, PLACES>, number: i64)
     requires room { array_vec_len ranges.old < 64 }
     requires in_order { AreInOrder lowest ranges.old.items }

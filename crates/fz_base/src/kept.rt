@@ -1,6 +1,6 @@
-// How the numbers of a set are kept. Most sets have numbers from 0 to 63 alone. These are the bits
-// of a word, so that who has found the set has found its numbers too. The numbers of other sets are
-// kept as ranges in a box.
+// How the numbers of a set are stored. Most sets have numbers from 0 to 63 alone. These are stored
+// as the bits of a word inside the set itself, so reading them needs no second access to memory.
+// The numbers of other sets are stored as ranges in a box.
 ghost use Rattle.std.specs.Prelude.{◌≡◌, ℤ, ◌≤◌, ◌^◌, ◌≤ℤ◌, ◌↔◌, true, IsTrue, IfNone, IfOk, IfSome};
 ghost use Rattle.std.specs.FinSet as set;
 ghost use Rattle.std.specs.List.{list_any};
@@ -21,7 +21,7 @@ pub enum Numbers {
     Ranges(Box<Storage>),
 }
 
-/// The ranges of numbers: those that a word comes to, or those that are kept.
+/// The ranges of numbers: those of a word, listed in an array, or those that are stored.
 #[derive(Drop)]
 enum Held<'s> {
     Spread(ArrayVec<Range, PLACES>),
@@ -39,7 +39,7 @@ impl Held<'_> {
     }
 }
 
-/// Ranges in order as they are kept in a box.
+/// Stores ranges in order in a box.
 fn boxed(alloc: Global, ranges: Vec<Range>) -> Result<Numbers, AllocError>
     requires in_order { AreInOrder lowest ranges.items }
     ensures kept { IfOk result AreKept }
@@ -48,7 +48,7 @@ fn boxed(alloc: Global, ranges: Vec<Range>) -> Result<Numbers, AllocError>
     Ok(Numbers::Ranges(Box::new(alloc, storage::store(ranges))?))
 }
 
-/// The numbers that ranges in order cover, as a word where it can have them.
+/// The numbers that ranges in order cover, as a word where all are from 0 to 63.
 fn of_ranges(alloc: Global, ranges: Vec<Range>) -> Result<Numbers, AllocError>
     requires in_order { AreInOrder lowest ranges.items }
     ensures kept { IfOk result AreKept }
@@ -116,7 +116,7 @@ impl Numbers {
         Vec::from_slice(alloc, held.ranges())
     }
 
-    /// Whether the number is among them.
+    /// Whether the number is one of them.
     #[inline]
     pub fn contain(&self, number: i64) -> bool
         requires kept { AreKept self.now }
@@ -128,7 +128,7 @@ impl Numbers {
         }
     }
 
-    /// How many they are.
+    /// How many there are.
     #[inline]
     pub fn count(&self) -> u128
         requires kept { AreKept self.now }
@@ -141,7 +141,7 @@ impl Numbers {
         }
     }
 
-    /// The number, where it is one alone.
+    /// The number, where there is exactly one.
     #[inline]
     pub fn only(&self) -> Option<i64>
         requires kept { AreKept self.now }
@@ -154,7 +154,7 @@ impl Numbers {
         }
     }
 
-    /// Whether each of them is among the others.
+    /// Whether each of them is one of the others.
     #[inline]
     pub fn are_covered(&self, others: &Numbers) -> bool
         requires kept { AreKept self.now }
@@ -200,7 +200,7 @@ impl Numbers {
         ranges::are_same(a.ranges(), b.ranges())
     }
 
-    /// Whether all of them lie between two numbers.
+    /// Whether all of them are from `lo` to `hi`.
     #[inline]
     pub fn lie_within(&self, lo: i64, hi: i64) -> bool
         requires kept { AreKept self.now }
@@ -212,7 +212,7 @@ impl Numbers {
         }
     }
 
-    /// Whether they are what the rule keeps of two others.
+    /// Whether they are the result of the set operation on two others.
     #[inline(always)]
     pub fn are_kept(&self, a: &Numbers, b: &Numbers, rule: Rule) -> bool
         requires kept { AreKept self.now }
@@ -242,7 +242,7 @@ impl Numbers {
         ranges::is_kept(a.ranges(), b.ranges(), c.ranges(), rule)
     }
 
-    /// What the rule keeps of these and others.
+    /// The result of the set operation on these and others.
     #[inline]
     pub fn combine(
         &self,
@@ -279,7 +279,7 @@ impl Numbers {
         of_ranges(alloc, ranges::combine(alloc, a.ranges(), b.ranges(), rule)?)
     }
 
-    /// The same numbers once more.
+    /// A copy of the numbers.
     pub fn copy(&self, alloc: Global) -> Result<Numbers, AllocError>
         requires kept { AreKept self.now }
         ensures kept { IfOk result AreKept }

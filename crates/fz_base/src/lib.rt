@@ -1,10 +1,11 @@
-//! What the other crates of the checker stand on: places in a source ([`Span`]), finite sets of
+//! What the other crates of the checker are built on: byte ranges ([`Span`]), finite sets of
 //! integers ([`IntSet`]) and the values of FlatZinc over int, bool and set ([`Value`]).
 //!
-//! A set of numbers from 0 to 63 is kept as the bits of a word, any other as ranges of 64-bit
+//! A set of numbers from 0 to 63 is stored as the bits of a word, any other as ranges of 64-bit
 //! numbers, so `1..1000000000` takes no more memory than `1..100`. A set has no limit but memory.
 //! Calls that make a set take an allocator and refuse only where memory runs out; calls that ask
 //! something of a set take no memory and always succeed.
+//! Its worked cases are in `fz_text_cases`.
 #![tactic(auto)]
 
 mod bits;

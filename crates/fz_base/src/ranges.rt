@@ -1,6 +1,7 @@
-// Ranges of integers in order, as the sets of this crate are kept. Each function goes over its
-// ranges once; a set operation walks two lists side by side, stretch by stretch. Whether one set
-// lies in another, and whether two are equal, is told from whole ranges.
+// Ranges of integers in order, as sets with numbers outside 0 to 63 are stored. Each function goes
+// over its ranges at most once. A set operation walks two lists side by side, one stretch of
+// numbers after another on which the answer doesn't change. Whether one set is a subset of another,
+// and whether two are equal, is found by comparing whole ranges.
 ghost use Rattle.std.specs.Prelude.{◌≡◌, ◌≤◌, ◌^◌, ℤ, ◌≤ℤ◌, ◌<ℤ◌, ◌+◌, ◌↔◌, ◌||◌, false, true, IsTrue, IfNone, IfOk, IfSome, OnOk, pos, ◌+ℤ◌, ◌-ℤ◌, ◌&&◌};
 ghost use Rattle.std.specs.List.{sum_by, list_any};
 ghost use Rattle.std.specs.Ordering.{int_cmp, int_eq};
@@ -17,7 +18,7 @@ pub struct Range {
     pub hi: i64,
 }
 
-/// Which numbers an operation on two sets keeps.
+/// The operations on two sets. Each is a rule for which numbers are in the result.
 #[derive(Clone, Copy)]
 pub enum Rule {
     Union,
@@ -92,7 +93,7 @@ fn past(ranges: &[Range], end: i64) -> &[Range]
     }
 }
 
-/// Whether no number stands between `end` and `lo`.
+/// Whether no number is between `end` and `lo`.
 pub fn touches(end: i64, lo: i64) -> bool
     ensures { IsTrue result ↔ (lo ≤ℤ (end +ℤ pos 1)) }
 {
@@ -123,7 +124,7 @@ fn push_range(ranges: &mut Vec<Range>, lo: i64, hi: i64) -> Result<(), AllocErro
     Ok(())
 }
 
-/// The number that ranges in order have, where it is one alone.
+/// The number that ranges in order have, where there is exactly one.
 pub fn only(ranges: &[Range]) -> Option<i64>
     requires in_order { AreInOrder lowest ranges.now }
     ensures found { IfSome result (λ n. CoversOnly n ranges.now) }
@@ -164,7 +165,7 @@ fn push_if(ranges: &mut Vec<Range>, lo: i64, hi: i64, wanted: bool) -> Result<()
     Ok(())
 }
 
-/// The ranges of what the rule keeps of two sets.
+/// The ranges of the result of the set operation on two sets.
 pub fn combine(
     alloc: Global,
     a: &[Range],
@@ -216,7 +217,7 @@ fn reaching(ranges: &[Range], at: i64) -> &[Range]
 }
 
 /// Whether all numbers from `lo` to `hi` are in ranges of which the first reaches to `lo`. As there
-/// are gaps between them, that one has all these numbers then.
+/// are gaps between the ranges, that is so only where the first one has all these numbers.
 fn have_all(ranges: &[Range], lo: i64, hi: i64) -> bool
     requires in_order { AreInOrder lowest ranges.now }
     requires ahead { ReachesTo lo ranges.now }
@@ -239,7 +240,7 @@ fn have_all(ranges: &[Range], lo: i64, hi: i64) -> bool
     }
 }
 
-/// Whether each number of the one is in the other.
+/// Whether each number of the first list is in the second.
 pub fn are_covered(a: &[Range], b: &[Range]) -> bool
     requires a_in_order { AreInOrder lowest a.now }
     requires b_in_order { AreInOrder lowest b.now }
@@ -268,8 +269,8 @@ fn is_same(a: Range, b: Range) -> bool
     a.lo == b.lo && a.hi == b.hi
 }
 
-/// Whether two lists have the same ranges. Of lists in order that is so just where they cover the
-/// same numbers.
+/// Whether two lists have the same ranges. For lists in order that is so exactly where they cover
+/// the same numbers.
 pub fn are_same(a: &[Range], b: &[Range]) -> bool
     ensures { IsTrue result ↔ (a.now ≡ b.now) }
 {
@@ -309,7 +310,7 @@ fn common_stretch(a: &[Range], b: &[Range], c: &[Range], at: i64) -> (bool, bool
     }
 }
 
-/// Whether the third set has what the rule keeps of the two others, and nothing else.
+/// Whether the third set is the result of the set operation on the two others.
 pub fn is_kept(a: &[Range], b: &[Range], c: &[Range], rule: Rule) -> bool
     requires a_in_order { AreInOrder lowest a.now }
     requires b_in_order { AreInOrder lowest b.now }
@@ -350,7 +351,7 @@ pub fn gather(alloc: Global, numbers: &[i64]) -> Result<Vec<Range>, AllocError>
     Ok(out)
 }
 
-/// Whether a number is in one of the ranges, by halving.
+/// Whether a number is in one of the ranges, by binary search.
 pub fn is_covered(ranges: &[Range], number: i64) -> bool
     requires { AreInOrder lowest ranges.now }
     ensures { result ≡ covers ranges.now number }
@@ -394,7 +395,7 @@ pub fn count(ranges: &[Range]) -> u128
     total
 }
 
-/// Whether all the ranges lie between two numbers.
+/// Whether all the numbers of the ranges are from `lo` to `hi`.
 pub fn lie_within(ranges: &[Range], lo: i64, hi: i64) -> bool
     requires { AreInOrder lowest ranges.now }
     ensures { IsTrue result ↔ ((x : ℤ) → IsTrue (covers ranges.now x) → (lo ≤ℤ x) × (x ≤ℤ hi)) }

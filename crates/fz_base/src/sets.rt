@@ -24,8 +24,8 @@ impl From<AllocError> for SetError {
     }
 }
 
-/// A finite set of integers of 64 bits, of any size. It takes 16 bytes where it stands, and no
-/// other memory where all its numbers are from 0 to 63.
+/// A finite set of integers of 64 bits, of any size. It takes 16 bytes itself, and no other memory
+/// where all its numbers are from 0 to 63.
 #[derive(Debug, Drop)]
 pub struct IntSet {
     numbers: Numbers,
@@ -47,7 +47,7 @@ impl Model for IntSet {
     ghost invariant = { λ s. AreKept s.numbers };
 }
 
-/// The set of numbers that are kept.
+/// The set of numbers that are stored in either way.
 #[inline]
 fn set_of(numbers: Numbers) -> IntSet
     requires kept { AreKept numbers }
@@ -57,7 +57,7 @@ fn set_of(numbers: Numbers) -> IntSet
 }
 
 impl IntSet {
-    /// The numbers as they are kept.
+    /// The numbers as they are stored.
     #[inline(always)]
     fn kept(&self) -> &Numbers
         ensures kept { AreKept result.now }
@@ -85,9 +85,9 @@ impl IntSet {
     }
 }
 
-/// Asking sets. These calls take no memory and always succeed. Where the sets have numbers from 0
-/// to 63 alone, each takes a few instructions; else a question about one set halves its ranges or
-/// looks at their ends, and a question about two goes over the ranges of both once.
+/// Questions about sets. These calls take no memory and always succeed. Where the sets have numbers
+/// from 0 to 63 alone, each takes a few instructions. Otherwise membership takes a binary search
+/// over the ranges, and a question about two sets one pass over the ranges of both.
 impl IntSet {
     /// Whether the number is in the set.
     #[inline]
@@ -155,8 +155,8 @@ impl IntSet {
     }
 }
 
-/// Asking whether a set is what an operation makes of two others: a few instructions, or one pass
-/// over the ranges of the three. These calls take no memory and always succeed.
+/// Whether a set is the result of an operation on two others: a few instructions, or one pass over
+/// the ranges of the three. These calls take no memory and always succeed.
 impl IntSet {
     /// Whether this set is what is in one of the two or in both.
     #[inline]

@@ -1,23 +1,24 @@
-// How the ranges of a set lie in memory, where it has other numbers than those from 0 to 63. Most
-// such sets have a few ranges. These lie in place, so that who has found the set has found them too
-// and doesn't wait for memory a second time.
+// How the ranges of a set are laid out in memory, where it has other numbers than those from 0 to
+// 63. Most such sets have a few ranges. These are stored inline, in an array beside their count, so
+// reading them needs no further access to memory.
 ghost use Rattle.std.specs.Prelude.{◌≡◌, IfOk};
 ghost use Rattle.fz_base.specs.Storage.{stored, HasPlaces};
 
 use crate::ranges::Range;
 use std::alloc::{AllocError, Global};
 
-/// How many ranges lie in place.
+/// The most ranges that are stored inline.
 const PLACES: usize = 4;
 
-/// The ranges of a set: a few of them in the first of the places, or more in a vector of their own.
+/// The ranges of a set: a few, with their count, at the front of an inline array; or more, in a
+/// vector.
 #[derive(Debug, Drop)]
 pub enum Storage {
     Few(usize, [Range; PLACES]),
     Many(Vec<Range>),
 }
 
-/// Stores ranges, in place where they are few.
+/// Stores ranges, inline where they are few.
 pub fn store(ranges: Vec<Range>) -> Storage
     ensures same { stored result ≡ ranges.items }
     ensures places { HasPlaces result }
@@ -33,7 +34,7 @@ pub fn store(ranges: Vec<Range>) -> Storage
 }
 
 impl Storage {
-    /// The same ranges stored once more. Those in place take no memory of their own.
+    /// A copy of the ranges. Inline ranges take no memory of their own.
     pub fn copy(&self, alloc: Global) -> Result<Storage, AllocError>
         requires { HasPlaces self.now }
         ensures same { IfOk result (λ s. stored s ≡ stored self.now) }

@@ -1,5 +1,5 @@
--- The tokens ahead of a place are what stands there: each step of the lexer takes the first of
--- them, and those of a source without a fault are the ones that it lexes to.
+-- Laws of `tokens_ahead`: each step of the lexer takes the first of these tokens, and those of a
+-- source without a fault are the ones that it lexes to.
 use Rattle.std.proofs.Common.{◌≡◌, ◌≢◌, ℕ, zero, suc, ◌+◌, ◌<◌, ◌≤◌, ◌^◌, List, [], ◌∷◌, ◌++◌, length, drop, get_or, ℤ, pos, negsuc, Option, Some, None, true, false, eqb, ⊎_elim, refl, sym, ap, ◌∙◌, subst, arith}
 use Rattle.std.specs.Prelude.{Result, Ok, Err, IfOk, IfErr, OnOk, IsOk}
 use Rattle.std.specs.Result.{result_unwrap_or}
@@ -26,14 +26,14 @@ use Rattle.fz_lex.proofs.Texts.{cut_spelled}
 use Rattle.fz_base.specs.declared.span.Span.{Span}
 use Rattle.fz_lex.proofs.Lexed.{all_right, only_fault}
 
--- why nothing more is read from a place on
+-- why nothing more is read from an offset on
 pub data IsStop (source : List ℕ) (place : ℕ) : Type 0 where
   at_end : place ≡ length source → IsStop source place
   at_fault : place < length source → NothingBegins (drop place source) → IsStop source place
   at_large : (n : ℕ) (z : ℤ) → place < length source → IsLongestSpelling (drop place source) n
       (Whole z) → (¬ (IsWithinLimit z)) → IsStop source place
 
--- the tokens from a place on, up to where nothing more is read
+-- the tokens from an offset on, up to where nothing more is read
 pub record AreAhead (source : List ℕ) (place stop : ℕ) (tokens : List SpannedToken) : Type 0 where
   pub cut : CutBetween source place stop tokens
   pub numbers : AreWithinLimit tokens
@@ -85,7 +85,7 @@ stop_once source p s t S T a b =
 
 -- ---- `tokens_ahead` gives it.
 
--- what stands between a place and the next token
+-- the blanks and comments between an offset and the next token
 record IsGap (source : List ℕ) (place end : ℕ) : Type 0 where
   cut : CutBetween source place end []
   within : end ≤ length source
@@ -206,7 +206,7 @@ pub ahead_is : (source : List ℕ) (place : ℕ) → place ≤ length source
     → AreAhead source place (stop_ahead source place) (tokens_ahead source place)
 ahead_is source place h = ahead_from (length source) source place h (omega arith)
 
--- what is known from elsewhere to be ahead of a place
+-- what is known from elsewhere to be ahead of an offset
 pub ahead_same : (source : List ℕ) (place stop : ℕ) (tokens : List SpannedToken)
     → place ≤ length source → AreAhead source place stop tokens → tokens_ahead source place ≡ tokens
 ahead_same source place stop tokens h a = ahead_once source place _ _ _ _ (ahead_is source place h) a
@@ -310,7 +310,7 @@ fault_scanned source place (TooDeep span) h same f = absurd f
 fault_scanned source place (TooMany span) h same f = absurd f
 fault_scanned source place Memory h same f = absurd f
 
--- the tokens of a source, up to its first fault, stand one behind the other
+-- the tokens of a source, up to its first fault, follow one another
 pub ahead_in_order : (source : List ℕ) → AreInOrder 0 (length source) (tokens_ahead source 0)
 ahead_in_order source =
     let a = ahead_is source 0 (omega arith) in

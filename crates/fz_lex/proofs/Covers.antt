@@ -1,5 +1,5 @@
--- What the scanner counts is at least as long as any text that stands there, and is it where it is
--- no longer.
+-- What the scanner counts is at least as long as any token's text at the front, and is that text
+-- where it is no longer.
 use Rattle.std.proofs.Common.{◌≡◌, ◌≢◌, ℕ, suc, ◌+◌, ◌<◌, ◌≤◌, List, [], ◌∷◌, ◌++◌, length, drop, get_or, true, false, eqb, ◌&&◌, ◌||◌, Option, Some, None, option_map, ◌⊎◌, ⊎_elim, inl, inr, refl, sym, ap, ◌∙◌, subst, arith}
 use Rattle.std.specs.Prelude.{codes}
 use Rattle.std.specs.List.{list_all}
@@ -28,7 +28,7 @@ digits_end b (c ∷ tail) d e = digits_cover 10 b (c ∷ tail) d ∙ rw e (omega
 digit_not_sign : (c : ℕ) → is_digit c 10 ≡ true → (eqb c 43 || eqb c 45) ≡ false
 digit_not_sign c h = grind (arith, nat_tests)
 
--- an exponent that stands there
+-- an exponent at the front
 signed_plain : (digits after : List ℕ) → AreDigits 10 digits
     → signed_digits_len (digits ++ after) ≡ length digits + digits_len 10 after
 unfolding signed_digits_len
@@ -124,14 +124,14 @@ unfolding exponent_len
 no_exponent [] e = refl
 no_exponent (c ∷ rest) e = rw (no_word_no_letter c e.no_word) refl
 
--- the number at the front is at least as long as a number that stands there, and as long where that
+-- the number at the front is at least as long as any number's text there, and as long where that
 -- ends
 pub record NumberCovers (b after : List ℕ) (natural : Option ℕ) (front : NumberFront) : Type 0 where
   pub long : length b ≤ front.len
   pub same : front.len ≡ length b → front.natural ≡ natural
   pub ends : EndsNumber after → front.len ≡ length b
 
--- behind digits no base stands, unless they are one digit and a letter
+-- digits begin no number in another base, unless they are one digit and a letter follows
 not_based : (b : List ℕ) (c letter base : ℕ) (tail : List ℕ) → AreDigits 10 b
     → is_digit letter 10 ≡ false → c ≢ letter → is_based letter base (b ++ (c ∷ tail)) ≡ false
 not_based [] c letter base tail d l n = absurd (omega (arith, d.0))
@@ -141,7 +141,7 @@ not_based (x ∷ (y ∷ rest)) c letter base tail d l n =
     let second = (and_parts (is_digit y 10) (list_all (λ b. is_digit b 10) rest) parts.1).0 in
     and_right (eqb x 48) _ (and_left (eqb y letter) _ (ne_eqb y letter (λ e. let f = rw e at second in cc)))
 
--- where a base stands, only one decimal digit is there
+-- where a number in another base begins, there is only one decimal digit
 based_short : (b after : List ℕ) (letter base : ℕ) → AreDigits 10 b → is_digit letter 10 ≡ false
     → is_based letter base (b ++ after) ≡ true → length b ≤ 1
 based_short [] after letter base d l h = omega arith
@@ -242,7 +242,7 @@ natural_covers b after n (decimal d e) = rw e (natural_covers_decimal b after d)
 natural_covers b after n (hexadecimal digits t d e) = rw (e, t) (hexadecimal_covers digits after d)
 natural_covers b after n (octal digits t d e) = rw (e, t) (octal_covers digits after d)
 
--- a float that stands there: what the digits before the point or the exponent leave
+-- a float at the front: what the digits before the point or the exponent leave
 tail_number : (before : List ℕ) (c : ℕ) (tail : List ℕ) → AreDigits 10 before
     → is_digit c 10 ≡ false → c ≢ 120 → c ≢ 111
     → number_front (before ++ (c ∷ tail)) ≡ decimal_number (before ++ (c ∷ tail))
@@ -370,7 +370,7 @@ pub float_digit : (b after : List ℕ) → IsUnsignedFloat b
 float_digit b after (pointed before digits exponent t d f e) = subst (λ x. is_digit (get_or x 0 0) 10 ≡ true) (sym (ap (λ x. x ++ after) t ∙ append_assoc before _ after)) (starts_with_digit 10 before _ d)
 float_digit b after (scaled before exponent t d e) = subst (λ x. is_digit (get_or x 0 0) 10 ≡ true) (sym (ap (λ x. x ++ after) t ∙ append_assoc before _ after)) (starts_with_digit 10 before _ d)
 
--- the rest of a string that stands there is all that is read of it
+-- the rest of a string at the front is all that is read of it
 pub string_covers : {rest : List ℕ} (after : List ℕ) → IsStringRest rest
     → string_rest_len (rest ++ after) ≡ Some (length rest)
 string_covers after (closed b e) = quote_first b after e

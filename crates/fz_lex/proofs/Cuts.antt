@@ -147,7 +147,7 @@ cut_stays (blank p q S l b c) h = let f = cut_forward c in absurd (omega arith)
 cut_stays {source} (comment p n q S w c) h = let f = cut_forward c in let g = comment_positive (drop p source) n w in absurd (omega arith)
 cut_stays {source} (spelling p n q t S s e l c) h = let f = cut_forward c in let g = longest_is_positive (drop p source) t.token n l in absurd (omega arith)
 
--- two cuts between the same places are into the same tokens
+-- two cuts between the same offsets are into the same tokens
 pub cut_once : {source : List ℕ} {p q : ℕ} {S T : List SpannedToken} → CutBetween source p q S
     → CutBetween source p q T → S ≡ T
 cut_once {S = S} c k =

@@ -325,7 +325,7 @@ pub longest_is_positive : (bytes : List ℕ) (t : TokenValue) (n : ℕ) → IsLo
     → 0 < n
 longest_is_positive bytes t n h = (front_spelled bytes t n (longest_is_found bytes t n h)).positive
 
--- where a text of a token stands and doesn't go on in what follows, it is the longest
+-- a text of a token that doesn't go on in what follows is the longest
 pub ended_is_longest : (t : TokenValue) (b after : List ℕ) → Spells t b → EndsBefore t after
     → IsLongestSpelling (b ++ after) (length b) t
 ended_is_longest t b after h e =

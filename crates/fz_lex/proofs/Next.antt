@@ -1,4 +1,4 @@
--- What stands at a place behind blanks and comments, from what the code finds there.
+-- What comes at an offset after blanks and comments, from what the code finds there.
 use Rattle.std.proofs.Common.{◌≡◌, ◌≢◌, ℕ, ◌+◌, ◌-◌, ◌<◌, ◌≤◌, List, [], ◌∷◌, ◌++◌, length, take, drop, get_or, slice_range, IsFalse, refl, sym, ap, ◌∙◌, subst, arith}
 use Rattle.std.proofs.lemmas.List.{take_rest, length-drop, append-nil}
 use Rattle.std.specs.List.{AllByRecursion}
@@ -82,7 +82,7 @@ module _ (source : List ℕ) (place start : ℕ) (in_range : start ≤ length so
         refl,
       )
 
--- a comma that stands right at a place is the token there
+-- a comma right at an offset is the token there
 pub comma_cut : (source : List ℕ) (place : ℕ) → place < length source → get_or source place 0 ≡ 44
     → CutBetween source place (place + 1) (comma_at place ∷ [])
 comma_cut source place h b =

@@ -16,7 +16,7 @@ one_digit x y letter rest e f l =
     let no : is_digit y 10 ≡ false = rw f l in
     rw (e, no) (omega arith)
 
--- no base stands where no letter of a base stands behind the digits
+-- no number in another base begins where no letter of a base comes after the digits
 no_base : (bytes : List ℕ) (letter base : ℕ) → is_digit letter 10 ≡ false → 0 < letter
     → get_or bytes (digits_len 10 bytes) 0 ≢ letter → is_based letter base bytes ≡ false
 no_base [] letter base l p n = refl
@@ -45,7 +45,7 @@ no_exponent bytes place n m = rw (at_place bytes place, ne_eqb (get_or bytes pla
 decimal_alone : (bytes : List ℕ) → fraction_len (drop (digits_len 10 bytes) bytes) ≡ 0 → exponent_len (drop (digits_len 10 bytes + fraction_len (drop (digits_len 10 bytes) bytes)) bytes) ≡ 0 → decimal_number bytes ≡ record { natural = Some (leading_number 10 bytes); len = digits_len 10 bytes }
 decimal_alone bytes f e = rw (e, f) refl
 
--- What stands behind the digits decides that they are the integer.
+-- The byte after the digits decides that they are the integer.
 pub digits_are_number : (bytes : List ℕ) → get_or bytes (digits_len 10 bytes) 0 ≢ 46 → get_or bytes (digits_len 10 bytes) 0 ≢ 101 → get_or bytes (digits_len 10 bytes) 0 ≢ 69 → get_or bytes (digits_len 10 bytes) 0 ≢ 120 → get_or bytes (digits_len 10 bytes) 0 ≢ 111 → number_front bytes ≡ record { natural = Some (leading_number 10 bytes); len = digits_len 10 bytes }
 unfolding number_front
 digits_are_number bytes point small_e large_e x o =
@@ -62,7 +62,7 @@ short_is bytes n v b len value byte none =
     let at : b ≡ get_or bytes (digits_len 10 bytes) 0 = byte ∙ ap (λ k. get_or bytes k 0) len in
     rw (len, value) (digits_are_number bytes (λ e. none.0 (at ∙ e)) (λ e. none.1 (at ∙ e)) (λ e. none.2 (at ∙ e)) (λ e. none.3 (at ∙ e)) (λ e. none.4 (at ∙ e)))
 
--- What stands at the front is the number, where its first byte is a digit.
+-- What is at the front is the number, where its first byte is a digit.
 pub whole_front : (bytes : List ℕ) (n v : ℕ) (z : ℤ) → 48 ≤ get_or bytes 0 0 → get_or bytes 0 0 < 58 → number_front bytes ≡ record { natural = Some v; len = n } → v < 2 ^ 63 → z ≡ pos v → (front_of bytes ≡ found (Whole z) n) × IsWithinLimit z
 whole_front bytes n v z low high is small value =
     let front = front_natural bytes (digit_no_word_start (get_or bytes 0 0) low high) (decimal_digit (get_or bytes 0 0) low high) in

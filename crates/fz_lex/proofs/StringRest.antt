@@ -1,4 +1,4 @@
--- How `string_rest_len` goes on at a place of the bytes.
+-- How `string_rest_len` goes on at an index of the bytes.
 use Rattle.std.proofs.Common.{◌≡◌, ◌≢◌, ℕ, ◌+◌, ◌<◌, ◌≤◌, List, [], ◌∷◌, length, get_or, drop, Option, Some, None, option_map, ⊎_elim, refl, ap, sym, ◌∙◌, arith}
 use Rattle.std.proofs.lemmas.List.{drop_more, drop_all, get_or_past}
 use Rattle.std.proofs.lemmas.Bool.{ne_eqb, eq-eqb, cases_lt}
@@ -37,7 +37,7 @@ no_bytes : string_rest_len [] ≡ None
 unfolding string_rest_len
 no_bytes = refl
 
--- the length of the rest from a place on, counted from the front
+-- the length of the rest from an index on, counted from the front
 abbrev pub counted : ℕ → List ℕ → Option ℕ
 counted i xs = option_map (λ n. i + n) (string_rest_len (drop i xs))
 
@@ -60,7 +60,7 @@ at_plain xs i h q l s = rw (drop_more xs i 0 h, plain_first (get_or xs i 0) (dro
 pub at_end : (xs : List ℕ) (i : ℕ) → length xs ≤ i → counted i xs ≡ None
 at_end xs i h = rw (drop_all i xs h, no_bytes) refl
 
--- what stands at a place, as a byte and another behind it
+-- what is at an index, as a byte and another after it
 two_more : (xs : List ℕ) (i : ℕ) → i + 1 < length xs
     → drop i xs ≡ get_or xs i 0 ∷ (get_or xs (i + 1) 0 ∷ drop (i + 2) xs)
 two_more xs i h = drop_more xs i 0 (omega arith) ∙ ap (λ rest. get_or xs i 0 ∷ rest) (drop_more xs (i + 1) 0 h ∙ ap (λ k. get_or xs (i + 1) 0 ∷ drop k xs) (omega arith))

@@ -1,5 +1,5 @@
 -- What a text of tokens tells of its tokens, for the crates above: each token has its text where
--- its span says, the text that it keeps is one of its kind, and a source has one list of tokens.
+-- its span says, the text that is in it is one of its kind, and a source has one list of tokens.
 use Rattle.std.proofs.Common.{◌≡◌, ℕ, ◌-◌, ◌≤◌, List, [], ◌∷◌, ◌++◌, length, take, drop, slice_range, map, sym, ap, ◌∙◌, subst, arith}
 use Rattle.std.specs.List.{AllByRecursion}
 use Rattle.fz_lex.specs.Token.{TokenValue, Word, Whole, FloatText, StringText, Marked, Spells, IsTokenText, IsWordText, IsFloatText, IsStringText}

@@ -13,7 +13,7 @@ use Rattle.fz_lex.specs.declared.scanner.Front.TheVariants.{Found, OutsideLimit,
 use Rattle.fz_lex.specs.declared.error.SyntaxError.{SyntaxError}
 use Rattle.fz_lex.specs.declared.error.SyntaxError.TheVariants.{TooLong, BadByte, TooLarge, Float, Syntax, TooDeep, TooMany, Memory}
 
--- What the code finds at the front of the bytes is what stands there.
+-- What the code finds at the front of the bytes is what is there.
 abbrev pub IsFrontOf : List ℕ → Front → Type 0
 IsFrontOf bytes (Found kind n) = (front_of bytes ≡ found (token_value kind (take n bytes)) n)
     × IsTokenWithinLimit (token_value kind (take n bytes))
@@ -21,15 +21,15 @@ IsFrontOf bytes (OutsideLimit n) =
     (z : ℤ) × (front_of bytes ≡ found (Whole z) n) × ¬ (IsWithinLimit z)
 IsFrontOf bytes Nothing = front_of bytes ≡ none
 
--- What is found of a number with this sign, length and magnitude, if it is whole.
+-- What is found of a number with this sign, length and, if it is an integer, magnitude.
 abbrev pub IsNumberFound : Bool → ℕ → Option ℕ → Front → Type 0
 IsNumberFound negative len None front = front ≡ Found kinds.FloatText len
 IsNumberFound negative len (Some n) front =
     ((front ≡ Found (kinds.Whole (signed negative n)) len) × IsWithinLimit (signed negative n))
     ⊎ ((front ≡ OutsideLimit len) × ¬ (IsWithinLimit (signed negative n)))
 
--- From the place on stand blanks and comments and then the next token, up to the end; or they stand
--- up to the end of the source.
+-- From the first offset on come blanks and comments and then the next token, which ends at the
+-- second; or blanks and comments up to the end of the source.
 abbrev pub NextFrom : List ℕ → ℕ → ℕ → Option Token → Type 0
 NextFrom source place end None = CutBetween source place (length source) []
 NextFrom source place end (Some t) =
@@ -37,7 +37,7 @@ NextFrom source place end (Some t) =
     × (t.text.now ≡ slice_range source t.span.start t.span.end) × (place < end)
     × (t.span.end ≡ end)
 
--- From the place on stand blanks and comments and then the fault.
+-- From the offset on come blanks and comments and then the fault.
 abbrev pub FaultFrom : List ℕ → ℕ → SyntaxError → Type 0
 FaultFrom source place TooLong = ⊥
 FaultFrom source place (BadByte span) =
@@ -63,6 +63,6 @@ abbrev pub IsScanned : List ℕ → Type 0
 IsScanned source =
     (tokens : List SpannedToken) × LexesToSpanned source tokens × AreWithinLimit tokens
 
--- A fault of the source, other than its length and lack of memory.
+-- A fault of the source, neither its length nor out of memory.
 abbrev pub IsScanFault : List ℕ → SyntaxError → Type 0
 IsScanFault source e = IsLexicalFault source e × (e ≢ Memory) × (e ≢ TooLong)

@@ -1,5 +1,5 @@
--- What a reader of tokens reads, and what it has left: its first token, and those ahead of the
--- place that it has come to.
+-- The source that a reader of tokens reads, and the tokens that it has left: its first token, and
+-- those ahead of the offset that it has reached.
 use Rattle.std.specs.Prelude.{ℕ, List, [], ◌∷◌, Option, Some, None}
 use Rattle.fz_lex.specs.Token.{Marked}
 use Rattle.fz_lex.specs.Lexing.{SpannedToken}
@@ -22,6 +22,6 @@ source_of t = t.lexer.source.now
 abbrev pub left : Tokens → List SpannedToken
 left t = first_and t.first (tokens_ahead t.lexer.source.now t.lexer.place)
 
--- the comma behind a token of a list
+-- the comma after a token of a list
 abbrev pub listed_comma : Listed → SpannedToken
 listed_comma l = record { token = Marked Comma; start = l.comma.start; end = l.comma.end }

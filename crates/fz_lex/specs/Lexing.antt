@@ -1,11 +1,11 @@
--- How a text is cut into tokens. "Handbook" is the MiniZinc Handbook, FlatZinc grammar. A place
--- counts bytes from 0, and `drop place source` is the source from there on.
+-- How a text is cut into tokens. "Handbook" is the MiniZinc Handbook, FlatZinc grammar. A `place`
+-- is a byte offset, counted from 0, and `drop place source` is the source from there on.
 use Rattle.std.specs.Prelude.{◌≡◌, ◌≢◌, ℕ, ◌+◌, ◌<◌, ◌≤◌, List, [], ◌∷◌, length, take, drop, slice_index, IsTrue, IsFalse, map}
 use Rattle.std.specs.List.{position_or_len}
 use Rattle.fz_lex.specs.Byte.{is_blank, is_line_feed}
 use Rattle.fz_lex.specs.Token.{TokenValue, Spells}
 
--- A token and where its text stands: from start up to end, exclusive.
+-- A token and the byte range of its text: from start up to end, exclusive.
 pub record SpannedToken : Type 0 where
   pub token : TokenValue
   pub start : ℕ
@@ -24,9 +24,9 @@ pub record IsWholeComment (bytes : List ℕ) (n : ℕ) : Type 0 where
   pub begins : slice_index bytes 0 ≡ 37
   pub runs : n ≡ position_or_len is_line_feed bytes
 
--- From one place of the source up to another stand blanks, whole comments and texts of the tokens
--- in order, and each of these texts is the longest of any token that begins at its place (Handbook:
--- between tokens blanks and comments are of no account).
+-- Between the two byte offsets of the source are blanks, whole comments and texts of the tokens in
+-- order, and each of these texts is the longest of any token that begins where it does (Handbook:
+-- blanks and comments between tokens are ignored).
 pub data CutBetween (source : List ℕ) : ℕ → ℕ → List SpannedToken → Type 0 where
   nothing : (place : ℕ) → CutBetween source place place []
   blank : (place end : ℕ) (tokens : List SpannedToken) → place < length source
@@ -39,11 +39,11 @@ pub data CutBetween (source : List ℕ) : ℕ → ℕ → List SpannedToken → 
       (drop place source) n token.token → CutBetween source (place + n) end tokens
       → CutBetween source place end (token ∷ tokens)
 
--- The part of the source before the place is cut into the tokens.
+-- The part of the source before the offset is cut into the tokens.
 abbrev pub CutUpTo : List ℕ → ℕ → List SpannedToken → Type 0
 CutUpTo source place tokens = CutBetween source 0 place tokens
 
--- The source lexes to the tokens, each with the place of its text: it is cut up to its end.
+-- The source lexes to the tokens, each with the byte range of its text: it is cut up to its end.
 abbrev pub LexesToSpanned : List ℕ → List SpannedToken → Type 0
 LexesToSpanned source tokens = CutUpTo source (length source) tokens
 
@@ -60,7 +60,7 @@ pub record NothingBegins (bytes : List ℕ) : Type 0 where
   pub no_spelling : (token : TokenValue) (n : ℕ) → n ≤ length bytes → Spells token (take n bytes)
       → ⊥
 
--- Each span follows the one before, holds a byte, and ends within the bytes.
+-- Each span follows the one before, has at least one byte, and ends within the bytes.
 abbrev pub AreInOrder : ℕ → ℕ → List SpannedToken → Type 0
 AreInOrder from end [] = from ≤ end
 AreInOrder from end (t ∷ tokens) =

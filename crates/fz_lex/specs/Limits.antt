@@ -4,14 +4,14 @@ use Rattle.std.specs.List.{AllByRecursion}
 use Rattle.fz_lex.specs.Token.{TokenValue, Word, Whole, FloatText, StringText, Marked}
 use Rattle.fz_lex.specs.Lexing.{SpannedToken, LexesToSpanned, LexesTo}
 
--- The least and the greatest integer that is read.
+-- The least and the greatest integer that is accepted.
 abbrev pub least_whole : ℤ
 least_whole = neg_ℤ (pos (2 ^ 63))
 
 abbrev pub greatest_whole : ℤ
 greatest_whole = pos (2 ^ 63 - 1)
 
--- The most bytes that are read.
+-- The most bytes that a text may have.
 abbrev pub most_bytes : ℕ
 most_bytes = 2 ^ 24
 
@@ -35,8 +35,8 @@ pub record LexesWithinLimits (source : List ℕ) (tokens : List SpannedToken) : 
   pub lexes : LexesToSpanned source tokens
   pub numbers : AreWithinLimit tokens
 
--- The source lexes to the tokens, and the numbers among them are within the limit, however long it
--- is.
+-- The source lexes to the tokens, and the numbers among them are within the limit; the source may
+-- be of any length.
 pub record LexesWithNumbersInLimit (source : List ℕ) (tokens : List TokenValue) : Type 0 where
   pub lexes : LexesTo source tokens
   pub numbers : AllByRecursion IsTokenWithinLimit tokens

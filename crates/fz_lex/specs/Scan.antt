@@ -1,6 +1,6 @@
--- What stands at the front of some bytes, computed. The private functions of the lexer give exactly
--- this; that it is the longest text of any token is proved of it, and a reader need not believe
--- this file.
+-- The token at the front of some bytes, as a computation. The private functions of the lexer give
+-- exactly this. That it is the longest text of any token is proved of it, so a reader need not
+-- believe this file.
 use Rattle.std.specs.Prelude.{ℕ, ◌+◌, List, [], ◌∷◌, take, drop, slice_index, Bool, true, false, ◌==◌, ◌&&◌, ◌||◌, if◌then◌else◌, Option, Some, None, option_map, ℤ, pos, neg_ℤ}
 use Rattle.std.specs.List.{prefix_len}
 use Rattle.std.specs.Char.{is_digit}
@@ -9,14 +9,14 @@ use Rattle.fz_lex.specs.Token.{TokenValue, Word, Whole, FloatText, StringText, M
 use Rattle.fz_lex.specs.declared.token.Mark.{Mark}
 use Rattle.fz_lex.specs.declared.token.Mark.TheVariants.{OpenParen, CloseParen, OpenBracket, CloseBracket, OpenBrace, CloseBrace, Comma, Semicolon, Colon, ColonColon, Equals, DotDot}
 
--- how many digits of a base stand at the front, and the number that they write
+-- how many digits of a base are at the front, and the number that they write
 abbrev pub digits_len : ℕ → List ℕ → ℕ
 digits_len base bytes = prefix_len (λ b. is_digit b base) bytes
 
 abbrev pub leading_number : ℕ → List ℕ → ℕ
 leading_number base bytes = number_of base (take (digits_len base bytes) bytes)
 
--- the length of a point with digits at the front, or 0
+-- the length of a decimal point and digits at the front, or 0
 unfoldable pub fraction_len : List ℕ → ℕ
 fraction_len bytes = if (slice_index bytes 0 == 46) && is_digit (slice_index bytes 1) 10
     then 1 + digits_len 10 (drop 1 bytes) else 0
@@ -38,12 +38,12 @@ exponent_len bytes =
     then (if signed_digits_len (drop 1 bytes) == 0 then 0
     else 1 + signed_digits_len (drop 1 bytes)) else 0
 
--- a number without a sign at the front: its value where it is whole, and its length
+-- a number without a sign at the front: its value where it is an integer, and its length
 pub record NumberFront : Type 0 where
   pub natural : Option ℕ
   pub len : ℕ
 
--- whether `0`, the letter and a digit of the base stand at the front
+-- whether `0`, the letter and a digit of the base are at the front
 abbrev pub is_based : ℕ → ℕ → List ℕ → Bool
 is_based letter base bytes = (slice_index bytes 0 == 48)
     && ((slice_index bytes 1 == letter) && is_digit (slice_index bytes 2) base)
@@ -70,7 +70,7 @@ number_front bytes =
     else (if is_based 111 8 bytes then based_number 8 bytes
     else decimal_number bytes)
 
--- the length of the rest of a string behind its opening quote, where it is closed on its line
+-- the length of the rest of a string after its opening quote, where it is closed on its line
 unfoldable pub string_rest_len : List ℕ → Option ℕ
 string_rest_len [] = None
 string_rest_len (b ∷ []) = if b == 34 then Some 1 else None
@@ -103,7 +103,7 @@ mark_front bytes =
     else (if (first == 46) && (second == 46) then Some (DotDot, 2)
     else None))))))))))
 
--- the opposite of a natural, or itself
+-- the natural, negated where there is a sign
 abbrev pub signed : Bool → ℕ → ℤ
 signed negative n = if negative then neg_ℤ (pos n) else pos n
 

@@ -7,8 +7,8 @@ use Rattle.fz_lex.specs.Byte.{is_word_start, is_word_byte}
 use Rattle.fz_lex.specs.declared.token.Mark.{Mark}
 use Rattle.fz_lex.specs.declared.token.Mark.TheVariants.{OpenParen, CloseParen, OpenBracket, CloseBracket, OpenBrace, CloseBrace, Comma, Semicolon, Colon, ColonColon, Equals, DotDot}
 
--- A token, apart from where it stands and how it is written: a word, an integer of any size, the
--- text of a float or of a string, which are kept as they stand (profile), or a mark.
+-- A token, without where it is in the source and how it is written: a word, an integer of any size,
+-- the text of a float or of a string, which have no other value (profile), or a mark.
 pub data TokenValue : Type 0 where
   Word : List ℕ → TokenValue
   Whole : ℤ → TokenValue
@@ -45,8 +45,8 @@ AreDigits base bytes = (0 < length bytes) × IsTrue (list_all (λ b. is_digit b 
 abbrev pub number_of : ℕ → List ℕ → ℕ
 number_of base digits = fold (λ n b. n * base + digit_value b) 0 digits
 
--- The bytes write the number without a sign: in decimal, or in hexadecimal behind `0x`, or in octal
--- behind `0o`. Leading zeros are allowed (Handbook: integer literals).
+-- The bytes write the number without a sign: in decimal, or in hexadecimal after `0x`, or in octal
+-- after `0o`. Leading zeros are allowed (Handbook: integer literals).
 pub data WritesNatural (bytes : List ℕ) (n : ℕ) : Type 0 where
   decimal : AreDigits 10 bytes → n ≡ number_of 10 bytes → WritesNatural bytes n
   hexadecimal : (digits : List ℕ) → bytes ≡ codes "0x" ++ digits → AreDigits 16 digits
@@ -54,7 +54,7 @@ pub data WritesNatural (bytes : List ℕ) (n : ℕ) : Type 0 where
   octal : (digits : List ℕ) → bytes ≡ codes "0o" ++ digits → AreDigits 8 digits
       → n ≡ number_of 8 digits → WritesNatural bytes n
 
--- The bytes write the integer: without a sign, or behind `-` its opposite. So `-0` writes 0
+-- The bytes write the integer: without a sign, or its negative after `-`. So `-0` writes 0
 -- (Handbook: integer literals).
 pub data WritesWhole (bytes : List ℕ) (z : ℤ) : Type 0 where
   unsigned : (n : ℕ) → WritesNatural bytes n → z ≡ pos n → WritesWhole bytes z
@@ -72,8 +72,8 @@ pub record IsExponent (bytes : List ℕ) : Type 0 where
   pub is_sign : (sign ≡ []) ⊎ ((sign ≡ codes "+") ⊎ (sign ≡ codes "-"))
   pub are_digits : AreDigits 10 digits
 
--- A float without a sign: digits, a point, digits and an optional exponent; or digits and an
--- exponent (Handbook: float literals).
+-- A float without a sign: digits, a decimal point, digits and an optional exponent; or digits and
+-- an exponent (Handbook: float literals).
 pub data IsUnsignedFloat (bytes : List ℕ) : Type 0 where
   pointed : (before after exponent : List ℕ) → bytes ≡ before ++ (codes "." ++ (after ++ exponent))
       → AreDigits 10 before → AreDigits 10 after → (exponent ≡ []) ⊎ IsExponent exponent
@@ -81,15 +81,15 @@ pub data IsUnsignedFloat (bytes : List ℕ) : Type 0 where
   scaled : (before exponent : List ℕ) → bytes ≡ before ++ exponent → AreDigits 10 before
       → IsExponent exponent → IsUnsignedFloat bytes
 
--- A float: one without a sign, or one behind `-` (Handbook: float literals).
+-- A float: one without a sign, or one after `-` (Handbook: float literals).
 pub data IsFloatText (bytes : List ℕ) : Type 0 where
   unsigned_float : IsUnsignedFloat bytes → IsFloatText bytes
   negative_float : (rest : List ℕ) → bytes ≡ codes "-" ++ rest → IsUnsignedFloat rest
       → IsFloatText bytes
 
--- The rest of a string behind its opening `"`: bytes other than `"`, `\` and LF, or pairs of `\`
--- and a byte other than LF, and then the closing `"` (Handbook: string literals; profile: `\(` is
--- no exception).
+-- The rest of a string after its opening `"`: bytes other than `"`, `\` and LF, or pairs of `\` and
+-- a byte other than LF, and then the closing `"` (Handbook: string literals; profile: `\(` is no
+-- exception).
 pub data IsStringRest : List ℕ → Type 0 where
   closed : (b : ℕ) → b ≡ 34 → IsStringRest (b ∷ [])
   plain : (b : ℕ) (rest : List ℕ) → b ≢ 34 → b ≢ 92 → b ≢ 10 → IsStringRest rest
@@ -111,8 +111,9 @@ Spells (FloatText text) bytes = (bytes ≡ text) × IsFloatText bytes
 Spells (StringText text) bytes = (bytes ≡ text) × IsStringText bytes
 Spells (Marked m) bytes = bytes ≡ mark_text m
 
--- The text that the token keeps is one that the language has for it: a word is a word's text, a
--- float a float's, a string a string's. Numbers and marks keep none.
+-- The text that is in the token is one that the language has for it: a word's text is that of a
+-- word, a float's that of a float, a string's that of a string. Numbers and marks have none in
+-- them.
 abbrev pub IsTokenText : TokenValue → Type 0
 IsTokenText (Word text) = IsWordText text
 IsTokenText (Whole z) = Unit {0}

@@ -1,5 +1,5 @@
--- A token of the code as the plain data that the definitions speak of, and what a refusal tells of
--- the source (this project's profile).
+-- From tokens of the code to the plain data that the definitions speak of, and what a refusal says
+-- about the source (this project's profile).
 use Rattle.std.specs.Prelude.{◌≡◌, ℕ, ◌+◌, ◌<◌, ◌≤◌, List, length, drop, slice_range, map, ℤ}
 use Rattle.std.specs.List.{AllByRecursion}
 use Rattle.fz_base.specs.declared.span.Span.{Span}
@@ -31,15 +31,15 @@ abbrev pub TextsAreSlices : List ℕ → List Token → Type 0
 TextsAreSlices source tokens =
     AllByRecursion (λ t. t.text.now ≡ slice_range source t.span.start t.span.end) tokens
 
--- The text of the token stands in the source where the token says.
+-- The token's byte range in the source is a text of the token.
 abbrev pub IsSpelledAtSpan : List ℕ → SpannedToken → Type 0
 IsSpelledAtSpan source t = Spells t.token (slice_range source t.start t.end)
 
--- The span lies within the first bytes, as many as said.
+-- The span is within a source of this length.
 abbrev pub IsSpanWithin : ℕ → Span → Type 0
 IsSpanWithin end span = (span.start ≤ span.end) × (span.end ≤ end)
 
--- The span of an error, where it has one, lies within a source of this length.
+-- The span of an error, where it has one, is within a source of this length.
 abbrev pub IsPlacedWithin : ℕ → SyntaxError → Type 0
 IsPlacedWithin end TooLong = Unit {0}
 IsPlacedWithin end (BadByte span) = IsSpanWithin end span
@@ -50,8 +50,8 @@ IsPlacedWithin end (TooDeep span) = IsSpanWithin end span
 IsPlacedWithin end (TooMany span) = IsSpanWithin end span
 IsPlacedWithin end Memory = Unit {0}
 
--- What a refusal by the lexer tells of the source. The first two say that the source is cut up to
--- the place of the fault, with numbers within the limit: at a bad byte nothing begins, and at a
+-- What a refusal by the lexer says about the source. `BadByte` and `TooLarge` say that the source
+-- is cut up to the fault, with numbers within the limit: at a bad byte nothing begins, and at a
 -- number that is too large the longest text of any token is that of a number outside the limit.
 abbrev pub IsLexicalFault : List ℕ → SyntaxError → Type 0
 IsLexicalFault source TooLong = most_bytes < length source

@@ -51,7 +51,7 @@ pub struct Tokens<'a> {
     first: Option<Token<'a>>,
 }
 
-/// A token, and where the comma stands right behind it.
+/// A token, and the byte range of the comma right after it.
 #[derive(Clone, Copy, Debug)]
 pub struct Listed<'a> {
     pub token: Token<'a>,
@@ -63,7 +63,7 @@ impl<'a> Tokens<'a> {
     pub fn new(source: &'a [u8]) -> Tokens<'a>
         ensures source { source_of result ≡ source.now }
         ensures all { left result ≡ tokens_ahead source.now 0 }
-        // They stand in the source one behind the other, each with its text.
+        // Their byte ranges in the source follow one another, and each has its text.
         ensures in_order { AreInOrder 0 (length source.now) (left result) }
         ensures spelled { AllByRecursion (IsSpelledAtSpan source.now) (left result) }
     {
@@ -83,7 +83,7 @@ impl<'a> Tokens<'a> {
         self.first
     }
 
-    /// Goes on behind the first token; where none is left, nothing changes.
+    /// Drops the first token; where none is left, nothing changes.
     #[inline]
     pub fn advance(&mut self)
         ensures left { left self.new ≡ drop 1 (left self.old) }
@@ -94,8 +94,8 @@ impl<'a> Tokens<'a> {
         }
     }
 
-    /// Takes the first token that is left and the comma behind it, where nothing stands between
-    /// them. Most elements of a list are such tokens, and are read at once so.
+    /// Takes the first token that is left and the comma after it, where nothing is between them.
+    /// Most elements of a list are such tokens, and so take one step each instead of two.
     #[inline(always)]
     pub fn take_listed(&mut self) -> Option<Listed<'a>>
         ensures taken { IfSome result (λ l. left self.old
@@ -113,7 +113,7 @@ impl<'a> Tokens<'a> {
     /// and comments, with numbers within the limit. It takes no memory.
     ///
     /// # Errors
-    /// The leftmost of `BadByte` and `TooLarge`, wherever it stands. No other error comes.
+    /// The leftmost of `BadByte` and `TooLarge`, wherever it is. No other error comes.
     pub fn finish(self) -> Result<(), SyntaxError>
         // The whole text lexes to the tokens ahead of its first byte, with numbers within the
         // limit.
@@ -139,7 +139,7 @@ impl<'a> Tokens<'a> {
     }
 
     /// Loads the next token inside a list, where most tokens are short numbers with nothing before
-    /// them: such a one is read right here, and every other token by a call.
+    /// them: these are read inline, and every other token by a call.
     #[inline(always)]
     fn load_listed(&mut self)
         ensures left { left self.new ≡ tokens_ahead self.old.lexer.source.now self.old.lexer.place }

@@ -4,7 +4,7 @@ use fz_base::Span;
 use std::alloc::{AllocError, AllocFailed};
 use thiserror::Error;
 
-/// Why a text is refused. A place counts bytes from the front of the text that was handed in.
+/// Why a text is refused. Its byte range counts from the first byte of the text that was passed in.
 #[derive(Clone, Copy, Debug, PartialEq, Eq, Error)]
 pub enum SyntaxError {
     /// It has more than 16,777,216 bytes.
@@ -19,7 +19,7 @@ pub enum SyntaxError {
     /// A float, or the word `float`, where none is allowed.
     #[error("Float")]
     Float(Span),
-    /// A token that no text of the grammar has here; at the end of the text, an empty span.
+    /// A token that the grammar doesn't allow here; at the end of the text, an empty span.
     #[error("Syntax")]
     Syntax(Span),
     /// The name of an annotation at depth 33.
@@ -28,7 +28,7 @@ pub enum SyntaxError {
     /// An element past the 1,048,576th of a list, or a size above that.
     #[error("TooMany")]
     TooMany(Span),
-    /// No memory was left.
+    /// Out of memory.
     #[error("Memory")]
     Memory,
 }

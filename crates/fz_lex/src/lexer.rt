@@ -14,10 +14,10 @@ use crate::token::{Token, TokenKind};
 use fz_base::Span;
 use std::alloc::Global;
 
-/// The most bytes of a text that is read.
+/// The most bytes that a text may have.
 pub const MOST_BYTES: usize = 16_777_216;
 
-/// The place up to which blanks and whole comments stand from a place on.
+/// Skips blanks and whole comments from a byte offset on, and gives the offset where they end.
 #[inline(always)]
 fn gap_end(source: &[u8], from: usize) -> usize
     requires { from ≤ length source.now }
@@ -30,7 +30,7 @@ fn gap_end(source: &[u8], from: usize) -> usize
     let mut place = from;
     while place < source.len() {
         let byte = source[place];
-        // All blanks lie below `%`, and nearly all tokens begin above it.
+        // All blanks are below `%`, and nearly all tokens begin with a byte above it.
         if byte > b'%' {
             return place;
         }
@@ -55,7 +55,7 @@ pub(crate) struct Lexer<'a> {
 }
 
 impl<'a> Lexer<'a> {
-    /// Goes on behind a comma that stands right here, and gives its place.
+    /// Takes the comma, where one is the next byte, and gives its byte range.
     #[inline(always)]
     pub(crate) fn eat_comma(&mut self) -> Option<Span>
         ensures source { self.new.source.now ≡ self.old.source.now }
@@ -74,7 +74,7 @@ impl<'a> Lexer<'a> {
         Some(Span { start, end })
     }
 
-    /// Goes on behind a short integer that stands right here, and gives it as a token.
+    /// Takes the short integer, where one begins at the next byte, and gives it as a token.
     #[inline(always)]
     pub(crate) fn eat_short(&mut self) -> Option<Token<'a>>
         ensures source { self.new.source.now ≡ self.old.source.now }
@@ -141,14 +141,14 @@ fn tokens<'a>(alloc: Global, source: &'a [u8]) -> Result<Vec<Token<'a>>, SyntaxE
     Ok(tokens)
 }
 
-/// The tokens of a text in order, each with its place and its text. Blanks and comments lie between
-/// them, and each token is the longest that begins at its place (MiniZinc Handbook, FlatZinc
-/// grammar).
+/// The tokens of a text in order, each with its byte range and its text. Blanks and comments are
+/// between them, and each token is the longest that begins where it does (MiniZinc Handbook,
+/// FlatZinc grammar).
 ///
 /// # Errors
 /// `TooLong` where the text has more than 16,777,216 bytes; else the leftmost of `BadByte`, a byte
-/// at which nothing begins, and `TooLarge`, an integer outside 64 bits; `Memory` where none is
-/// left. No other error comes.
+/// at which nothing begins, and `TooLarge`, an integer outside 64 bits; `Memory` where memory runs
+/// out. No other error comes.
 pub fn lex<'a>(alloc: Global, source: &'a [u8]) -> Result<Vec<Token<'a>>, SyntaxError>
     // What is given is what the source lexes to, within the limits.
     ensures found { IfOk result (λ tokens. LexesWithinLimits source.now
@@ -160,7 +160,8 @@ pub fn lex<'a>(alloc: Global, source: &'a [u8]) -> Result<Vec<Token<'a>>, Syntax
     ensures only { (tokens : List SpannedToken) → LexesWithinLimits source.now tokens
         → MatchResult result (λ given. all_spanned given.items ≡ tokens)
         (λ e. e ≡ SyntaxError.Memory) }
-    // Which fault it is.
+    // A text that is too long is refused as such. Any other refusal is a lexical fault, or
+    // `Memory`.
     ensures too_long { most_bytes < length source.now → result ≡ Err SyntaxError.TooLong }
     ensures refused { IfErr result (IsLexicalFault source.now) }
     ensures placed { IfErr result (IsPlacedWithin (length source.now)) }

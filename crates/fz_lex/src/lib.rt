@@ -1,4 +1,8 @@
-//! The tokens of FlatZinc, and the lexer that cuts a text into them.
+//! The tokens of FlatZinc, and the lexer that cuts a text into them: `lex` lists the tokens of a
+//! whole text, `Tokens` reads them one by one without memory, and `check_tokens` only tells whether
+//! there is a lexical fault. An internal crate of `fz_syntax`, which passes on `lex`, the tokens
+//! and the errors.
+//! Its worked cases are in `fz_text_cases`.
 #![tactic(auto)]
 
 mod ahead;

@@ -1,4 +1,4 @@
-//! What stands at the front of some bytes: a token, or none.
+//! Reads the token at the front of some bytes, where one begins there.
 
 ghost use Rattle.std.specs.Prelude.{◌≡◌, ◌≢◌, ◌-◌, ◌^◌, ◌<◌, ◌≤◌, ◌∷◌, [], false, length, min, slice_index, IsFalse, IfSome, Some, true, IfNone, option_map};
 ghost use Rattle.std.specs.List.{position_or_len};
@@ -13,15 +13,15 @@ ghost use Rattle.fz_lex.specs.Found.{IsFrontOf, IsNumberFound};
 use crate::token::{Mark, TokenKind};
 use crate::word::word_len;
 
-/// The least and the greatest integer that is read.
+/// The least and the greatest integer that is accepted.
 const LEAST_WHOLE: i64 = i64::MIN;
 
 const GREATEST_WHOLE: i64 = i64::MAX;
 
-/// The greatest number that is below 2^63 with any one more digit behind it.
+/// The greatest number that stays below 2^63 whatever digit is appended to it.
 const GREATEST_SHORT: u64 = 922_337_203_685_477_579;
 
-/// The byte at a place. Past the end it is 0, with which no text of a token goes on.
+/// The byte at an index. Past the end it is 0, which continues no token's text.
 #[inline]
 fn byte_at(bytes: &[u8], place: usize) -> u8
     ensures { result ≡ slice_index bytes.now place }
@@ -63,7 +63,8 @@ fn is_digit(byte: u8, base: u8) -> bool
     digit_value(byte) < base
 }
 
-/// How many digits stand at the front, and their number, or the greatest `u64` where it is larger.
+/// How many digits are at the front, and the number that they write, or `u64::MAX` where it is
+/// larger.
 #[derive(Drop)]
 struct DigitRun {
     len: usize,
@@ -98,7 +99,7 @@ pub(crate) fn comment_len(bytes: &[u8]) -> usize
     len
 }
 
-/// The length of a point with digits at the front, or 0.
+/// The length of a decimal point and digits at the front, or 0.
 #[tactic(auto, unfolding(crate::specs::Scan::fraction_len))]
 fn fraction_len(bytes: &[u8]) -> usize
     ensures value { result ≡ scan.fraction_len bytes.now }
@@ -151,7 +152,7 @@ fn exponent_len(bytes: &[u8]) -> usize
     }
 }
 
-/// A number without a sign: its magnitude where it is whole, or the greatest `u64` where that is
+/// A number without a sign: its magnitude where it is an integer, or `u64::MAX` where that is
 /// larger.
 #[derive(Drop)]
 struct NumberFront {
@@ -159,7 +160,7 @@ struct NumberFront {
     len: usize,
 }
 
-/// Whether `0`, the letter and a digit of the base stand at the front.
+/// Whether `0`, the letter and a digit of the base are at the front.
 fn is_based(bytes: &[u8], letter: u8, base: u8) -> bool
     ensures { result ≡ scan.is_based letter base bytes.now }
 {
@@ -209,8 +210,8 @@ fn number_front(bytes: &[u8]) -> NumberFront
     }
 }
 
-/// Digits at the front and their number, where that is below 2^63 by a first look: nearly all
-/// numbers are.
+/// The digits at the front and the number that they write, or none where it may reach 2^63. Nearly
+/// all numbers are small enough, and this is faster than the general case.
 #[inline(always)]
 fn short_digits(bytes: &[u8]) -> Option<DigitRun>
     ensures len { IfSome result (λ run. run.len ≡ scan.digits_len 10 bytes.now) }
@@ -221,7 +222,7 @@ fn short_digits(bytes: &[u8]) -> Option<DigitRun>
     let mut len = 0;
     let mut value: u64 = 0;
     while len < bytes.len() {
-        // Every byte but a digit comes out at 10 or more.
+        // For every byte but a digit this is 10 or more.
         let digit = bytes[len].wrapping_sub(b'0');
         if digit > 9 {
             break;
@@ -235,8 +236,8 @@ fn short_digits(bytes: &[u8]) -> Option<DigitRun>
     Some(DigitRun { len, value })
 }
 
-/// Whether a number may go on with the byte behind its first digits: a point, an exponent, or the
-/// letter of a base.
+/// Whether a number may go on with the byte after its first digits: a decimal point, an exponent,
+/// or the letter of a base.
 #[inline(always)]
 fn may_go_on(byte: u8) -> bool
     ensures { IsFalse result → (byte ≢ 46) × (byte ≢ 101) × (byte ≢ 69) × (byte ≢ 120)
@@ -245,8 +246,8 @@ fn may_go_on(byte: u8) -> bool
     matches!(byte, b'.' | b'e' | b'E' | b'x' | b'o')
 }
 
-/// A number without a sign that is whole and small, where that shows from its digits and the byte
-/// behind them.
+/// An integer without a sign that is small, where its decimal digits and the byte after them show
+/// that it is one.
 #[inline(always)]
 fn short_number(bytes: &[u8]) -> Option<DigitRun>
     ensures is { IfSome result (λ run. scan.number_front bytes.now
@@ -262,7 +263,7 @@ fn short_number(bytes: &[u8]) -> Option<DigitRun>
     }
 }
 
-/// The length of the rest of a string behind its opening quote, where it is closed on its line.
+/// The length of the rest of a string after its opening quote, where it is closed on its line.
 #[tactic(auto, using(crate::proofs::StringRest::string_steps))]
 fn string_rest_len(bytes: &[u8]) -> Option<usize>
     ensures value { result ≡ scan.string_rest_len bytes.now }
@@ -323,8 +324,8 @@ fn whole_number(negative: bool, magnitude: u64) -> Option<i64>
     Some(value as i64)
 }
 
-/// What stands at the front of some bytes: a token with the length of its text, an integer outside
-/// the limit with that length, or nothing.
+/// What is at the front of some bytes: a token with the length of its text, an integer outside the
+/// limit with that length, or nothing.
 #[derive(Drop)]
 pub(crate) enum Front {
     Found(TokenKind, usize),
@@ -344,7 +345,7 @@ fn number_found(negative: bool, len: usize, magnitude: Option<u64>) -> Front
     }
 }
 
-/// The mark that a byte is, whatever stands behind it.
+/// The mark that this byte is, whatever bytes follow it.
 #[inline(always)]
 fn lone_mark(byte: u8) -> Option<Mark>
     ensures { IfSome result (λ m. (mark_text m ≡ byte ∷ []) × (byte ≢ 58)) }
@@ -370,7 +371,7 @@ pub(crate) struct WholeFront {
     pub(crate) len: usize,
 }
 
-/// The integer at the front, where one stands there and is a short one.
+/// The integer at the front, where one is there and is a short one.
 #[inline(always)]
 pub(crate) fn short_whole(bytes: &[u8]) -> Option<WholeFront>
     ensures { IfSome result (λ w. (scan.front_of bytes.now ≡ scan.found (Whole w.value) w.len)
@@ -395,7 +396,7 @@ pub(crate) fn short_whole(bytes: &[u8]) -> Option<WholeFront>
     }
 }
 
-/// What stands at the front, where that is no word.
+/// What is at the front, where that is no word.
 #[tactic(auto, unfolding(crate::specs::Scan::front_of))]
 fn read_other_front(bytes: &[u8]) -> Front
     requires { is_word_start (slice_index bytes.now 0) ≡ false }
@@ -421,7 +422,8 @@ fn read_other_front(bytes: &[u8]) -> Front
     }
 }
 
-/// Most tokens are words, short numbers and marks of one byte, so these come first.
+/// What is at the front. Most tokens are words, short numbers and marks of one byte, so these are
+/// tried first.
 #[tactic(auto, unfolding(crate::specs::Scan::front_of))]
 #[inline(always)]
 pub(crate) fn read_front(bytes: &[u8]) -> Front

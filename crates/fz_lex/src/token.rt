@@ -18,7 +18,7 @@ pub enum Mark {
 }
 
 /// What a token is: a word (a name or a reserved word), an integer with its value, a float, a
-/// string, or a mark. Floats and strings have no value; their text is kept as it stands.
+/// string, or a mark. Floats and strings have no value, only their text as it is written.
 #[derive(Clone, Copy, Debug, PartialEq, Eq)]
 pub enum TokenKind {
     Word,
@@ -28,7 +28,7 @@ pub enum TokenKind {
     Mark(Mark),
 }
 
-/// A token, where it stands in its source, and its text: the slice of the source at its span.
+/// A token, its byte range in its source, and its text: the slice of the source at that range.
 #[derive(Clone, Copy, Debug)]
 pub struct Token<'a> {
     pub kind: TokenKind,

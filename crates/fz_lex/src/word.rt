@@ -1,4 +1,4 @@
-//! The length of a word, sixteen bytes at a time.
+//! The length of a word, found sixteen bytes at a time with vector instructions.
 
 ghost use Rattle.std.specs.Prelude.{◌≡◌, ◌+◌, ◌≤◌, ◌==◌, if◌then◌else◌, length, take, drop};
 ghost use Rattle.std.specs.Int.{w64, trailing_zeros};
@@ -7,7 +7,7 @@ ghost use Rattle.fz_lex.specs.Byte as bytes_spec;
 
 use std::simd::prelude::*;
 
-/// How many bytes are looked at at once.
+/// How many bytes are looked at together.
 const LANES: usize = 16;
 
 #[inline]
@@ -17,7 +17,7 @@ fn is_word_byte(byte: u8) -> bool
     byte.is_ascii_alphanumeric() || byte == b'_'
 }
 
-/// The place of the lowest bit that is set, or the number of lanes.
+/// The index of the lowest bit that is set, or the number of lanes where none is.
 #[inline(always)]
 fn first_set(mask: u64) -> usize
     ensures { result ≡ (if mask == 0 then LANES else trailing_zeros w64 mask) }
@@ -29,14 +29,14 @@ fn first_set(mask: u64) -> usize
     }
 }
 
-/// How many of the sixteen bytes from a place on go on with a word, before the first that doesn't.
+/// How many of the sixteen bytes from an index on belong to a word, up to the first that doesn't.
 #[inline(always)]
 fn word_run(bytes: &[u8], at: usize) -> usize
     requires { at + LANES ≤ length bytes.now }
     ensures { result ≡ prefix_len bytes_spec.is_word_byte (take LANES (drop at bytes.now)) }
 {
     let v = u8x16::from_slice(&bytes[at..]);
-    // A letter of either case is its place in the alphabet, and a digit is its value.
+    // Counted from `a`, a letter of either case is below 26; counted from `0`, a digit is below 10.
     let from_a = (v | u8x16::splat(0x20)) - u8x16::splat(b'a');
     let from_0 = v - u8x16::splat(b'0');
     let no_digit_or_letter = from_a.simd_ge(u8x16::splat(26)) & from_0.simd_ge(u8x16::splat(10));
@@ -44,7 +44,7 @@ fn word_run(bytes: &[u8], at: usize) -> usize
     first_set(stops.to_bitmask())
 }
 
-/// The same byte by byte, for the end of a text.
+/// The length of a word at the front, byte by byte, for the last bytes of a text.
 fn last_word_len(bytes: &[u8]) -> usize
     ensures value { result ≡ prefix_len bytes_spec.is_word_byte bytes.now }
     ensures within { result ≤ length bytes.now }

@@ -36,7 +36,7 @@ without_first : (room c : ℕ) (cs : List ℕ) → room < all_columns (c ∷ cs)
     → end_within room (c ∷ cs) ≡ end_within room cs
 without_first room c cs h = ap (λ b. cond b (c ∷ cs) (end_within room cs)) (fits_false (all_columns (c ∷ cs)) room h)
 
--- an end that has room, where that with one character more has none
+-- an end that fits, where that with one character more doesn't
 pub end_is_longest : (room : ℕ) (cs : List ℕ) (k : ℕ) → all_columns (drop (suc k) cs) ≤ room
     → room < all_columns (drop k cs) → end_within room cs ≡ drop (suc k) cs
 end_is_longest room [] zero h less = refl
@@ -45,8 +45,7 @@ end_is_longest room (c ∷ cs) zero h less = without_first room c cs less ∙ wh
 end_is_longest room (c ∷ cs) (suc k) h less =
     without_first room c cs (omega (arith, less, end_is_narrower cs k)) ∙ end_is_longest room cs k h less
 
--- of a search from the end that stopped at a place: at the front, or before a character that has no
--- room
+-- a search from the end stopped at an index: at the front, or before a character that doesn't fit
 pub end_found : (room left start : ℕ) (cs : List ℕ) → start ≤ length cs
     → all_columns (drop start cs) + left ≡ room
     → (0 < start → (d : ℕ) × (left < width (slice_index_or cs (start - 1) d))) → take (length cs - start) (drop start cs) ≡ end_within room cs

@@ -8,7 +8,8 @@ abbrev pub without_return : List ℕ → List ℕ
 without_return bytes =
     cond (slice_index_or bytes (length bytes - 1) 0 == 13) (take (length bytes - 1) bytes) bytes
 
--- the columns that the front may take: half of them, or as many as those behind leave
+-- the columns that the front may take: half of all, or as many as the characters behind it leave,
+-- if those are more
 abbrev pub front_room : List ℕ → ℕ
 front_room behind = max (most_columns - columns behind) 60
 
@@ -16,7 +17,8 @@ front_room behind = max (most_columns - columns behind) 60
 abbrev pub mark_count : List ℕ → List ℕ → ℕ
 mark_count marked behind = max (min (columns marked) (columns behind)) 1
 
--- of a line with these bytes before a place and those from there on, of which so many are marked
+-- the excerpt of a line with the first bytes before a position and the second from there on, of
+-- which so many are marked
 abbrev pub IsExcerpt : List ℕ → List ℕ → ℕ → Excerpt → Type 0
 IsExcerpt front behind marked e =
     (e.front.items ≡ cut_front (front_room (shown (without_return behind))) (shown front))

@@ -100,12 +100,12 @@ abbrev pub source_line : Message → List ℕ
 source_line m = codes "   " ++ decimal m.line ++ codes " | "
     ++ encode_utf8_all m.excerpt.front.items ++ encode_utf8_all m.excerpt.behind.items ++ codes "\n"
 
--- marks below the place
+-- marks below the characters that the message is about
 abbrev pub mark_line : ℕ → Excerpt → List ℕ
 mark_line digits e = codes "   " ++ blanks digits ++ codes " | " ++ blanks (columns e.front.items)
     ++ repeated (codes "^") e.marks ++ codes "\n"
 
--- a note stands below the bar
+-- the line of a note, which begins below the bar of the lines above
 abbrev pub note_line : ℕ → Note → List ℕ
 note_line digits n = blanks digits ++ codes "    = " ++ note_text n ++ codes "\n"
 

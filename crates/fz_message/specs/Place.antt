@@ -1,5 +1,5 @@
--- A message on a piece of a source (this project's profile). Lines are counted from 1, and columns
--- in characters of the line, from 1.
+-- A message on a byte range of a source (this project's profile). Lines are counted from 1, and
+-- columns in characters of the line, from 1.
 use Rattle.std.specs.Prelude.{◌≡◌, ℕ, suc, ◌+◌, ◌-◌, List, [], take, drop, min, string_bytes}
 use Rattle.fz_base.specs.declared.span.Span.{Span}
 use Rattle.fz_places.specs.Lines.{characters, first_line, last_line, line_ends}
@@ -7,7 +7,8 @@ use Rattle.fz_message.specs.Excerpt.{IsExcerpt}
 use Rattle.fz_message.specs.declared.message.Message.{Message}
 use Rattle.fz_message.specs.declared.place.Source.{Source}
 
--- of the bytes before the piece in the part that is given, and those from there on
+-- a message on a source, given the bytes of the part before the range, the bytes from the range's
+-- start on, and how many bytes are marked
 abbrev pub IsMessageOn : Source → List ℕ → List ℕ → ℕ → Message → Type 0
 IsMessageOn s before rest marked m =
     (string_bytes m.source ≡ s.name.now)

@@ -1,4 +1,4 @@
--- What is told of a value (this project's profile).
+-- What a message shows of a value (this project's profile).
 use Rattle.std.specs.Prelude.{◌≡◌, ℕ, ◌-◌, ℤ, List, length, take}
 use Rattle.std.specs.FinSet.{contains}
 use Rattle.fz_base.specs.Ranges.{AreInOrder, covers, lowest}

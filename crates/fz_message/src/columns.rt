@@ -9,7 +9,7 @@ use unicode_width::UnicodeWidthChar;
 /// The most columns of a line that is shown.
 pub const MOST_COLUMNS: usize = 120;
 
-/// What stands for the part of a line that is left out.
+/// What is shown instead of the part of a line that is left out.
 const CUT: [char; 3] = ['.', '.', '.'];
 
 /// The character as it is shown: a control character, a tab too, is a blank.
@@ -67,7 +67,7 @@ fn width(letter: char) -> usize
     letter.width().unwrap_or(0)
 }
 
-/// How many columns characters take; of more than are shown, one more than that.
+/// How many columns characters take; 121 where they take more than 120.
 pub fn columns(letters: &[char]) -> usize
     ensures { result ≡ columns letters.now }
 {
@@ -78,7 +78,7 @@ pub fn columns(letters: &[char]) -> usize
     count
 }
 
-/// The longest front that has room in so many columns.
+/// The longest front that fits in so many columns.
 fn front_within(letters: &[char], room: usize) -> &[char]
     ensures { result.now ≡ front_within room letters.now }
 {
@@ -93,7 +93,7 @@ fn front_within(letters: &[char], room: usize) -> &[char]
     letters
 }
 
-/// The longest end that has room in so many columns.
+/// The longest end that fits in so many columns.
 fn end_within(letters: &[char], room: usize) -> &[char]
     ensures { result.now ≡ end_within room letters.now }
 {
@@ -110,7 +110,7 @@ fn end_within(letters: &[char], room: usize) -> &[char]
     &letters[start..]
 }
 
-/// The text where it has room, or as much of its end as has.
+/// The text where it fits, or three dots and as much of its end as fits after them.
 pub fn cut_front(alloc: Global, letters: &[char], room: usize) -> Result<Vec<char>, AllocError>
     ensures { IfOk result (λ cut. cut.items ≡ cut_front room letters.now) }
 {
@@ -122,7 +122,7 @@ pub fn cut_front(alloc: Global, letters: &[char], room: usize) -> Result<Vec<cha
     Ok(cut)
 }
 
-/// The text where it has room, or as much of its front as has.
+/// The text where it fits, or as much of its front as fits before three dots, and these.
 pub fn cut_end(alloc: Global, letters: &[char], room: usize) -> Result<Vec<char>, AllocError>
     ensures { IfOk result (λ cut. cut.items ≡ cut_end room letters.now) }
 {

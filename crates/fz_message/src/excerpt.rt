@@ -1,4 +1,4 @@
-//! The line of a place, cut to the columns of a message.
+//! The line of the source that a message shows, cut to the columns of a message.
 
 ghost use Rattle.std.specs.Prelude.{◌≡◌, IfOk};
 ghost use Rattle.fz_message.specs.Excerpt.{IsExcerpt, front_room, mark_count, without_return};
@@ -6,8 +6,8 @@ ghost use Rattle.fz_message.specs.Excerpt.{IsExcerpt, front_room, mark_count, wi
 use crate::columns::{MOST_COLUMNS, columns, cut_end, cut_front, shown};
 use std::alloc::{AllocError, Global};
 
-/// What a message shows of a line: the characters before a place and from there on, and how many
-/// columns are marked from the place on.
+/// What a message shows of a line: the characters before the position that it is about, those from
+/// there on, and how many columns are marked from there on.
 #[derive(Debug, Drop)]
 pub struct Excerpt {
     pub front: Vec<char>,
@@ -27,7 +27,8 @@ fn without_return(line: &[u8]) -> &[u8]
     }
 }
 
-/// The columns that the front may take: half of them, or as many as those behind leave.
+/// The columns that the front may take: half of all, or as many as the characters behind it leave,
+/// if those are more.
 fn front_room(behind: &[char]) -> usize
     ensures { result ≡ front_room behind.now }
 {
@@ -44,8 +45,8 @@ fn mark_count(marked: &[char], behind: &[char]) -> usize
 }
 
 impl Excerpt {
-    /// What is shown of a line that has these bytes before a place and those from there on, of
-    /// which so many are marked. A long line is cut so that the place stays in view.
+    /// What is shown of a line that has the bytes `front` before a position and `behind` from there
+    /// on, of which so many are marked. A long line is cut so that the position stays in view.
     ///
     /// # Errors
     ///

@@ -1,5 +1,8 @@
-//! The text of an explanation: a message on a place of a source in the form of a compiler's, with
-//! the line that the place stands in, and notes below.
+//! A message on a byte range of a source in the form of a compiler's: file, line and column, what
+//! is said, the line of the source cut to 120 columns with marks below, and notes. `message_at`
+//! makes the data of a message, and `message_text` its text. What is said, and the notes, come from
+//! `fz_explain` and the program.
+//! Its worked cases are in `fz_check_cases`.
 #![tactic(auto)]
 
 mod columns;

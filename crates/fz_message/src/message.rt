@@ -8,8 +8,8 @@ use crate::excerpt::Excerpt;
 use crate::note::{Note, push_note};
 use std::alloc::{AllocError, Global};
 
-/// A message on a place of a source: the source's name, the place's line and column, from 1, what
-/// is said, what is shown of the line, and notes.
+/// A message on a byte range of a source: the source's name, the line and column where the range
+/// begins, both counted from 1, what is said, what is shown of the line, and notes.
 #[derive(Debug, Drop)]
 pub struct Message {
     pub source: String,
@@ -56,7 +56,7 @@ fn push_source(text: &mut String, message: &Message) -> Result<(), AllocError>
     text.push_str("\n")
 }
 
-/// Adds the marks below it.
+/// Adds the marks below the line of the source.
 fn push_marks(text: &mut String, digits: usize, excerpt: &Excerpt) -> Result<(), AllocError>
     ensures { OnOk result (string_bytes text.new
         ≡ string_bytes text.old ++ mark_line digits excerpt.now) }

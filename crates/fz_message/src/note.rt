@@ -1,4 +1,4 @@
-//! What a message tells below its line.
+//! The notes of a message, which are below the line of the source.
 
 ghost use Rattle.std.specs.Prelude.{◌≡◌, ◌++◌, OnOk, flat_map, string_bytes};
 ghost use Rattle.fz_message.specs.Message.{further_range, help_text, line_text, note_text, origin_text, range_text, set_text, value_text, variable_text};
@@ -7,24 +7,24 @@ use crate::values::{ShownSet, ShownValue};
 use fz_base::Range;
 use std::alloc::AllocError;
 
-/// Where the value of a variable is from.
+/// Where the value of a variable comes from.
 #[derive(Debug, Drop)]
 pub enum Origin {
     /// The block prints it.
     Printed,
     /// Its domain has one value.
     Domain,
-    /// The definition of this name, which stands in this line.
+    /// The definition of this name, which is in this line.
     Definition(String, usize),
-    /// The constraint of this number, from 1, and predicate, which stands in this line.
+    /// The constraint of this number, from 1, and predicate, which is in this line.
     Constraint(usize, String, usize),
-    /// It was filled in, and no point gives it from the values of the others.
+    /// It was filled in, but no point gives it from the values of the other variables.
     Filled,
     /// There is no value.
     Nothing,
 }
 
-/// What a person can do.
+/// Advice on what the user can do.
 #[derive(Clone, Copy, Debug, PartialEq, Eq)]
 pub enum Help {
     /// A variable has no value.
@@ -38,15 +38,15 @@ pub enum Help {
 /// A line below the message.
 #[derive(Debug, Drop)]
 pub enum Note {
-    /// A variable by its name, its value where it has one, and where that is from.
+    /// A variable by its name, its value where it has one, and where that comes from.
     Variable(String, Option<ShownValue>, Origin),
-    /// So many variables are left out here.
+    /// The number of variables that the message leaves out here.
     LeftOut(usize),
     /// The declared bounds.
     Bounds(i64, i64),
     /// The declared set.
     Among(ShownSet),
-    /// The block that has the other value.
+    /// The number of the block that the other value is from.
     OtherBlock(usize),
     /// The element of the lists, from 1, at which a sum of products leaves 128 bits.
     LeavesAt(usize),
@@ -161,7 +161,7 @@ fn push_variable(
     push_origin(text, origin)
 }
 
-/// Adds what a note says.
+/// Adds the text of a note.
 pub(crate) fn push_note(text: &mut String, note: &Note) -> Result<(), AllocError>
     ensures { OnOk result (string_bytes text.new ≡ string_bytes text.old ++ note_text note.now) }
 {

@@ -1,4 +1,4 @@
-//! A message on a place of a source.
+//! Makes a message on a byte range of a source.
 
 ghost use Rattle.std.specs.Prelude.{◌<◌, ◌≤◌, IfOk, IfSome, IsNone, string_bytes};
 ghost use Rattle.fz_message.specs.Place.{IsMessageAt};
@@ -9,7 +9,7 @@ use fz_base::Span;
 use fz_places::{count_characters, spot_of};
 use std::alloc::{AllocError, Global};
 
-/// A file or a stream, or a part of one, and how many bytes and lines stand before the part.
+/// A file or a stream, or a part of one, and how many bytes and lines come before the part.
 #[derive(Clone, Copy, Debug)]
 pub struct Source<'a> {
     pub name: &'a str,
@@ -18,8 +18,8 @@ pub struct Source<'a> {
     pub lines_before: usize,
 }
 
-/// A message without notes on a piece of a source, whose bytes are counted from the first of the
-/// whole file or stream. There is none where the piece begins before the part that is given.
+/// A message without notes on a byte range of a source. The range counts from the first byte of the
+/// whole file or stream. There is no message where the range begins before the part that is given.
 ///
 /// # Errors
 ///

@@ -1,4 +1,4 @@
-//! Values as they are told.
+//! Values as a message shows them.
 
 ghost use Rattle.std.specs.Prelude.{IfOk};
 ghost use Rattle.fz_message.specs.Values.{IsShownSet, IsShownValue};
@@ -6,17 +6,17 @@ ghost use Rattle.fz_message.specs.Values.{IsShownSet, IsShownValue};
 use fz_base::{IntSet, Range, Value};
 use std::alloc::{AllocError, Global};
 
-/// The most ranges of a set that are told.
+/// The most ranges of a set that are shown.
 const MOST_RANGES: usize = 8;
 
-/// The first ranges of a set, and how many are left out behind them.
+/// The first ranges of a set, and how many more there are.
 #[derive(Debug, Drop)]
 pub struct ShownSet {
     pub ranges: Vec<Range>,
     pub left_out: usize,
 }
 
-/// A value, of a set its ranges.
+/// A value as a message shows it; a set by its ranges.
 #[derive(Debug, Drop)]
 pub enum ShownValue {
     Number(i64),
@@ -24,7 +24,7 @@ pub enum ShownValue {
     Set(ShownSet),
 }
 
-/// What is told of a set.
+/// What is shown of a set.
 ///
 /// # Errors
 ///
@@ -38,7 +38,7 @@ pub fn shown_set(alloc: Global, set: &IntSet) -> Result<ShownSet, AllocError>
     Ok(ShownSet { ranges, left_out })
 }
 
-/// What is told of a value.
+/// What is shown of a value.
 ///
 /// # Errors
 ///

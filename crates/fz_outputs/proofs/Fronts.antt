@@ -1,7 +1,7 @@
--- What a walk over a list has turned so far, each in its place.
+-- A loop over a list that changes each element in place: what it has changed so far.
 use Rattle.std.proofs.Common.{◌≡◌, ◌<◌, ◌≤◌, ◌+◌, ℕ, zero, suc, List, [], ◌∷◌, map, length, slice_set, slice_index_or, add-one, refl, sym, ap, subst, ◌∙◌, arith}
 
--- ---- the first n turned
+-- ---- the first n elements changed
 
 abbrev pub turned : {A : Type 0} → (A → A) → ℕ → List A → List A
 turned f zero xs = xs

@@ -9,15 +9,15 @@ use Rattle.fz_meaning.specs.Names.{FaultKind, DuplicateName, UnknownName, WrongK
 use Rattle.fz_outputs.specs.Outputs.{printed_decl, with_all_printed}
 use Rattle.fz_outputs.proofs.Same.{declared_still, found_still}
 
--- one of a mapped list is of that what is mapped
+-- an element of a mapped list is the image of an element of the list
 of_mapped : {A B : Type 0} (f : A → B) (P : B → Type 0) (Q : A → Type 0) → ((x : A) → P (f x) → Q x)
     → (xs : List A) → Some_of P (map f xs) → Some_of Q xs
 of_mapped f P Q turn [] h = h
 of_mapped f P Q turn (x ∷ xs) (inl h) = inl (turn x h)
 of_mapped f P Q turn (x ∷ xs) (inr h) = inr (of_mapped f P Q turn xs h)
 
--- a place in the order of declarations, and a use, after the declarations were taken for those with
--- annotations
+-- a position in the order of declarations, and a use of a name, with each declaration replaced by
+-- the one with the annotation
 abbrev order_printed : InOrder → InOrder
 order_printed o = record { before = map printed_decl o.before; here = printed_decl o.here }
 

@@ -20,7 +20,7 @@ split : {X : Type 0} (P : X → Type 0) (xs ys : List X) → AllByRecursion P (x
 split P [] ys h = record { left = tt; right = h }
 split P (x ∷ xs) ys h = let rest = split P xs ys h.1 in record { left = (h.0, rest.left); right = rest.right }
 
--- what stands behind is taken for something else
+-- what comes after it is replaced
 behind : {X : Type 0} (P : X → Type 0) (xs ys zs : List X)
     → (AllByRecursion P ys → AllByRecursion P zs) → AllByRecursion P (xs ++ ys)
     → AllByRecursion P (xs ++ zs)
@@ -32,7 +32,7 @@ in_front : {X : Type 0} (P : X → Type 0) (xs ys zs : List X)
     → AllByRecursion P (ys ++ zs)
 in_front P xs ys zs turn h = let parts = split P xs zs h in all_append P ys zs (turn parts.left) parts.right
 
--- of a promise that the annotation's two tokens keep
+-- a property that the annotation's two tokens have
 module _ (P : TokenValue → Type 0) (colons : P (Marked ColonColon)) (word : P (Word (codes "output_var"))) where
   notes_kept : (notes : List tree.Note) → AllByRecursion P (notes_toks notes)
       → AllByRecursion P (notes_toks (notes ++ output_var ∷ []))

@@ -19,7 +19,7 @@ is_output_var _ = false
 abbrev pub is_unprinted : Decl → Bool
 is_unprinted d = is_scalar_variable d && not (list_any is_output_var d.notes)
 
--- the declaration with the annotation, behind the others, where it lacks it
+-- the declaration, with the annotation added after the others where it is missing
 abbrev pub printed_decl : Decl → Decl
 printed_decl d = record {
   is_var = d.is_var;
@@ -30,7 +30,7 @@ printed_decl d = record {
   value = d.value;
 }
 
--- the tree in which each scalar variable has it
+-- the tree in which each scalar variable has the annotation
 abbrev pub with_all_printed : LocatedTree → LocatedTree
 with_all_printed t = record {
   predicates = t.predicates;

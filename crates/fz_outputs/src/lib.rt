@@ -1,4 +1,7 @@
-//! The tree of a model that asks for every scalar variable to be printed.
+//! Adds the annotation `output_var` to the scalar variables of a tree that lack it, so that a
+//! solver prints all of them. It is proved that the new tree has no fault where the first has none,
+//! and is one of the same model. An internal crate of `fz_check`.
+//! Its worked cases are in `fz_check_cases`.
 #![tactic(auto)]
 
 ghost use Rattle.std.specs.Prelude.{◌≡◌, OnOk, map};
@@ -15,7 +18,7 @@ use std::alloc::{AllocError, Global};
 /// The name of the annotation of a variable that a solver is to print.
 const OUTPUT_VAR: &[u8] = b"output_var";
 
-/// Where an annotation stands that is in no source.
+/// The byte range of an annotation that is in no source.
 const NOWHERE: Span = Span { start: 0, end: 0 };
 
 fn is_output_var(note: &Note<'_>) -> bool
@@ -41,14 +44,14 @@ fn is_scalar_variable(decl: &Decl<'_>) -> bool
     decl.is_var && decl.length.is_none()
 }
 
-/// Whether a scalar variable is declared here that a solver isn't asked to print.
+/// Whether this declares a scalar variable without `output_var`.
 fn is_unprinted(decl: &Decl<'_>) -> bool
     ensures { result ≡ is_unprinted (located_decl decl.now) }
 {
     is_scalar_variable(decl) && !has_output_var(&decl.notes)
 }
 
-/// Adds `:: output_var` to a declaration that wants it.
+/// Adds `:: output_var` to a declaration of a scalar variable that lacks it.
 fn print_decl(alloc: Global, decl: &mut Decl<'_>) -> Result<(), AllocError>
     ensures { OnOk result (located_decl decl.new ≡ printed_decl (located_decl decl.old)) }
 {
@@ -73,7 +76,7 @@ fn print_decls(alloc: Global, decls: &mut [Decl<'_>]) -> Result<(), AllocError>
     Ok(())
 }
 
-/// Adds `:: output_var` to each scalar variable that lacks it. All else stays as it is.
+/// Adds `:: output_var` to each scalar variable that lacks it. The rest of the tree is unchanged.
 ///
 /// # Errors
 ///

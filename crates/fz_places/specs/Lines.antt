@@ -10,17 +10,17 @@ is_end byte = byte == 10
 abbrev pub line_ends : List ℕ → ℕ
 line_ends bytes = length (filter is_end bytes)
 
--- what stands before the first LF, or all
+-- the bytes before the first LF, or all where there is none
 abbrev pub first_line : List ℕ → List ℕ
 first_line [] = []
 first_line (b ∷ bytes) = cond (is_end b) [] (b ∷ first_line bytes)
 
--- the line as it stands after these bytes: an LF begins a new one
+-- the current line with these bytes added: an LF begins a new one
 abbrev pub line_after : List ℕ → List ℕ → List ℕ
 line_after line [] = line
 line_after line (b ∷ bytes) = line_after (cond (is_end b) [] (line ++ b ∷ [])) bytes
 
--- what stands behind the last LF, or all
+-- the bytes after the last LF, or all where there is none
 abbrev pub last_line : List ℕ → List ℕ
 last_line bytes = line_after [] bytes
 

@@ -1,4 +1,7 @@
-//! Lines and characters of a text, for a reader who counts them.
+//! Lines and characters of a text: the line number of a byte offset, the parts of that line before
+//! and after it, and a count of UTF-8 characters, from which messages tell line and column. It
+//! takes no memory.
+//! Its worked cases are those of messages, in `fz_check_cases`.
 #![tactic(auto)]
 
 ghost use Rattle.std.specs.Prelude.{◌≡◌, ◌≤◌, suc, take, drop, length, filter};
@@ -7,8 +10,8 @@ ghost use Rattle.fz_places.specs.Lines.{begins_character, characters, first_line
 /// The byte that ends a line.
 const LF: u8 = b'\n';
 
-/// The place of a byte in a text: the number of its line, from 1, what the line has before the
-/// byte, and what it has from there on. The byte that ends a line is part of none.
+/// Where a byte is in a text: the number of its line, from 1, the bytes of the line before it, and
+/// the bytes of the line from it on. The LF that ends a line belongs to neither.
 #[derive(Clone, Copy, Debug)]
 pub struct Spot<'a> {
     pub line: usize,
@@ -16,7 +19,8 @@ pub struct Spot<'a> {
     pub behind: &'a [u8],
 }
 
-/// The place of the byte at this offset, from 0. One behind the text's end stands at its end.
+/// Where the byte at this offset, counted from 0, is. An offset past the text's end counts as its
+/// end.
 pub fn spot_of<'a>(text: &'a [u8], offset: usize) -> Spot<'a>
     ensures line { result.line ≡ suc (line_ends (take offset text.now)) }
     ensures front { result.front.now ≡ last_line (take offset text.now) }
@@ -30,7 +34,7 @@ pub fn spot_of<'a>(text: &'a [u8], offset: usize) -> Spot<'a>
     }
 }
 
-/// How many characters the bytes have, as UTF-8: those that begin none don't count.
+/// How many characters the bytes have, as UTF-8: bytes that begin no character don't count.
 pub fn count_characters(bytes: &[u8]) -> usize
     ensures count { result ≡ characters bytes.now }
     ensures within { result ≤ length bytes.now }
@@ -44,7 +48,7 @@ pub fn count_characters(bytes: &[u8]) -> usize
     count
 }
 
-/// Whether this is no further byte of a character of UTF-8.
+/// Whether this begins a character of UTF-8: it isn't the second or a later byte of one.
 fn begins_character(byte: u8) -> bool
     ensures { result ≡ begins_character byte }
 {

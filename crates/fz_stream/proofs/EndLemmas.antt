@@ -1,4 +1,4 @@
--- What the end of a line makes of what a splitter keeps.
+-- How the end of a line changes the state of a splitter.
 use Rattle.std.proofs.Common.{◌≡◌, ℕ, ◌+◌, ◌-◌, Option, Some, None, List, [], ◌∷◌, ◌++◌, length, take, drop, refl, sym, ap, ◌∙◌, subst, inl, inr, ⊎_elim, length-append, arith}
 use Rattle.std.proofs.lemmas.List.{take_at, drop_at, take_all}
 use Rattle.fz_syntax.specs.Tree.{Printed}
@@ -25,7 +25,7 @@ use Rattle.fz_stream.proofs.FaultLemmas.{tells_before_marker}
 use Rattle.fz_stream.proofs.StepLemmas.{goes_none, goes_some, ends_marker, claims_claim, breaks_claim, begun_none, begun_some, opens_body, joins_body}
 
 module _ (h : Held) (body : List Line) (line : Line) (l : HasLine h body line) where
-  -- what stands from the line's place on is the line
+  -- the bytes from the line's offset on are the line
   pub line_is : take (length h.buffer.items - h.line) (drop h.line h.buffer.items) ≡ line
   line_is =
       let dropped : drop h.line h.buffer.items ≡ line = ap (drop h.line) l.bytes ∙ drop_at (joined body) line h.line (sym l.place) in
@@ -127,7 +127,7 @@ module _ (h : Held) (body : List Line) (line : Line) (l : HasLine h body line) w
               (subst (λ t. TellsOfText h.before t fault) text_is told);
         }
 
-    -- a claim stands in an open block
+    -- a claim is inside an open block
     pub breaks_claim_in : (n : ℕ) → step_of (begun_of h.line h.before) at (kind_of line) ≡ Breaks n
         → (span : Span) → span.start ≡ n → span.end ≡ h.before + h.line
         → BreaksBlock h.before body line (Unfinished span)
@@ -140,7 +140,7 @@ module _ (h : Held) (body : List Line) (line : Line) (l : HasLine h body line) w
           tells = (k.0, from ∙ w.1, upto ∙ ap (λ (m : ℕ). h.before + m) l.place);
         }
 
--- what ended stands beside whatever items are kept
+-- what ended is so whatever items are stored
 pub beside_kept : (h : Held) (kept : Option KeptItems) (body : List Line) (line : Line)
     (ended : Ended) → EndsPart h body line ended
     → EndsPart (record { buffer = h.buffer; line = h.line; before = h.before; kept = kept }) body line ended

@@ -45,7 +45,7 @@ not_too_long (Unfinished span) h q = (let no : Unfinished span ≡ TooLong = q i
 not_too_long Memory h q = (let no : Memory ≡ TooLong = q in cc)
 not_too_long Failed h q = h
 
--- a place in some bytes is one in more
+-- a byte range in some bytes is one in more
 pub placed_more : (n m : ℕ) (e : SyntaxError) → n ≤ m → IsPlacedWithin n e → IsPlacedWithin m e
 placed_more n m TextTooLong l h = tt
 placed_more n m (BadByte span) l h = (h.0, omega (arith, h.1, l))
@@ -56,7 +56,7 @@ placed_more n m (TooDeep span) l h = (h.0, omega (arith, h.1, l))
 placed_more n m (TooMany span) l h = (h.0, omega (arith, h.1, l))
 placed_more n m TextMemory l h = tt
 
--- a place in a text is one in the stream
+-- a byte range in a text is one in the stream
 pub placed_fault : (offset n : ℕ) (e : SyntaxError) → IsPlacedWithin n e
     → IsFaultWithin (offset + n) (item_fault offset e)
 placed_fault offset n TextTooLong h = tt
@@ -86,7 +86,7 @@ tells_text offset text (TooDeep span) short only order h = (TooDeep span, fault_
 tells_text offset text (TooMany span) short only order h = (TooMany span, fault_of_text text (TooMany span) only order (λ q. let no : TooMany span ≡ TextMemory = q in cc) short h, refl)
 tells_text offset text TextMemory short only order h = tt
 
--- what it tells where a marker stands behind the text
+-- what it says where a marker comes after the text
 pub tells_before_marker : (offset : ℕ) (text : List ℕ) (behind : Option LineKind) (e : StreamError)
     → behind ≡ Some Marker → TellsOfText offset text e → TellsOf offset text behind e
 tells_before_marker offset text behind TooLong marker h = h

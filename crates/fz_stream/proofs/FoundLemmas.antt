@@ -53,7 +53,7 @@ stand_before bytes before covered rest start (BlockPart block ∷ parts) e s h =
           h.4,
     )
 
--- each block of a stream that was read stands before a marker line
+-- each block of a stream that was read comes before a marker line
 pub read_before_markers : (bytes : List ℕ) (blocks : List SolutionBlock) (claims : List Claim)
     → IsReadAs bytes blocks claims → AllByRecursion (StandsBeforeMarker bytes) blocks
 read_before_markers bytes blocks claims r =

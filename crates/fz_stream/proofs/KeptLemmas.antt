@@ -1,4 +1,4 @@
--- What is kept of a block's items.
+-- The stored items of a block.
 use Rattle.std.proofs.Common.{◌≡◌, ℕ, zero, suc, ◌<◌, List, [], ◌∷◌, ◌++◌, length, map, get_or, slice_range, Some, refl, sym, ap, ◌∙◌, subst, arith}
 use Rattle.std.specs.List.{flat_map}
 use Rattle.fz_syntax.specs.declared.tree.Printed.{Printed}
@@ -12,7 +12,7 @@ use Rattle.fz_stream.specs.Parts.{IsBlockText}
 use Rattle.fz_stream.proofs.PlaceLemmas.{stand_before, stand_behind}
 
 module _ (text : List ℕ) (upto : ℕ) where
-  -- an item's name is the text at its place
+  -- an item's name is the text at its byte range
   pub same_items : (from : ℕ) (items : List Printed) → Stand text from upto (item_spots items)
       → map (bare_kept text) (map kept_of items) ≡ bare_items items
   same_items from [] h = refl
@@ -39,7 +39,7 @@ module _ (text : List ℕ) (upto : ℕ) where
       spot_of : List ℕ → Printed → Spot
       spot_of n p = record { start = p.name.span.start; end = p.name.span.end; text = Some n }
 
-  -- the place of each name lies in the text
+  -- the byte range of each name is in the text
   pub placed_kept : (from : ℕ) (kept : List KeptItem) (k : ℕ) (d : KeptItem) → k < length kept
       → Stand text from upto (flat_map (kept_spots text) kept)
       → IsSpanWithin upto (get_or kept k d).name
@@ -51,7 +51,7 @@ module _ (text : List ℕ) (upto : ℕ) where
       let w = stand_behind text upto x.name.end (printed_value_spots x.value) (flat_map (kept_spots text) kept) h.3 in
       placed_kept w.0 kept k d (omega arith) w.1
 
-  -- the place of the name that comes next, behind the items before it
+  -- the byte range of the name that comes next, after the items before it
   pub placed_next : (items : List Printed) (x : KeptItem) (more all : List KeptItem)
       → item_spots items ++ flat_map (kept_spots text) (x ∷ more) ≡ flat_map (kept_spots text) all
       → Stand text 0 upto (flat_map (kept_spots text) all) → IsSpanWithin upto x.name
@@ -59,7 +59,7 @@ module _ (text : List ℕ) (upto : ℕ) where
       let w = stand_behind text upto 0 (item_spots items) (flat_map (kept_spots text) (x ∷ more)) (subst (Stand text 0 upto) (sym e) h) in
       placed_kept w.0 (x ∷ more) zero x (omega arith) w.1
 
--- what is kept of a block's items
+-- the stored items of a block
 pub are_kept : (text : List ℕ) (items : List Printed) (kept : List KeptItem)
     → kept ≡ map kept_of items → IsBlockText text (bare_items items)
     → ((others : List tree.Printed) → IsBlockText text others → others ≡ bare_items items) → Stand text 0 (length text) (item_spots items) → AreKept text kept

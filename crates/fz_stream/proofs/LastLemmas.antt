@@ -1,4 +1,4 @@
--- What the end of a stream makes of what a splitter keeps.
+-- How the end of a stream changes the state of a splitter.
 use Rattle.std.proofs.Common.{◌≡◌, ◌≢◌, ℕ, ◌+◌, ◌<◌, Option, Some, None, List, [], ◌∷◌, ◌++◌, length, refl, sym, ap, ◌∙◌, subst, ⊎_elim, append-nil, length-append, arith, Result, Ok, Err, IfOk, IfErr, IsSome, is_some, true, false}
 use Rattle.fz_syntax.specs.Span.{Span}
 use Rattle.fz_stream.specs.declared.held.Ended.{Ended}
@@ -159,7 +159,7 @@ module _ (bytes : List ℕ) (parts : List StreamPart) (h : Held) (i : IsHeld h) 
           },
         )
 
-    -- the last line can't stand there
+    -- the last line isn't allowed there
     pub ends_broken : (e : StreamError) → BreaksBlock h.before i.body i.current e
         → IsBrokenAtEndAfter bytes parts e
     ends_broken e b = record {

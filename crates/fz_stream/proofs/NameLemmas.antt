@@ -71,7 +71,7 @@ module _ (ps : List CodePrinted) (i : ℕ) (d : CodePrinted) (lt : i < length ps
   names_more missing =
       ap (λ b. cond b (map text_of (take i ps)) (map text_of (take i ps) ++ text_of (get_or ps i d) ∷ [])) missing ∙ sym (map_more text_of ps i d lt)
 
--- the same of an item p that stands at i, where the names before it are kept in a list
+-- the same of an item p at index i, where the names before it are stored in a list
 module _ (ps : List CodePrinted) (i : ℕ) (p : CodePrinted) (is : p ≡ get_or ps i p) (lt : i < length ps) (ks : List (Bor (List ℕ))) (are : ks ≡ map text_of (take i ps)) where
   as_read : {r : Bool} → list_any (same (text_of p)) ks ≡ r
       → list_any (same (text_of (get_or ps i p))) (map text_of (take i ps)) ≡ r

@@ -7,8 +7,8 @@ use Rattle.fz_stream.specs.declared.line.LineKind.TheVariants.{Blank, Comment, M
 use Rattle.fz_stream.specs.Lines.{Line, lines_of, joined, kind_of, IsFiller, IsFillerKind, IsInner, IsInnerKind}
 use Rattle.fz_stream.specs.Parts.{StreamPart, BlockPart, ClaimPart, IsBlockText, AreBlockLines, AreLinesOfPart, AreLinesOf, IsStreamText}
 
--- The lines, of which the first stands at byte start, are those of the parts, and then blank lines
--- and comments.
+-- The lines, of which the first begins at byte `start`, are those of the parts, and then blank
+-- lines and comments.
 pub record EndAfter (start : ℕ) (lines : List Line) (parts : List StreamPart) : Type 0 where
   pub covered : List Line
   pub tail : List Line
@@ -72,7 +72,7 @@ pub inner_body : (xs : List Line) → AreBlockLines xs → AllByRecursion IsInne
 inner_body [] h = tt
 inner_body (x ∷ xs) h = (item_inner (kind_of x) h.0, h.1)
 
--- the first line that closes something stands at one place
+-- there is one first line that closes something
 pub split_once : (xs ys : List Line) (x y : Line) (r s : List Line) → AllByRecursion IsInner xs
     → AllByRecursion IsInner ys → (IsInner x → ⊥) → (IsInner y → ⊥)
     → xs ++ (x ∷ r) ≡ ys ++ (y ∷ s) → (xs ≡ ys) × (x ≡ y) × (r ≡ s)
@@ -85,7 +85,7 @@ split_once (a ∷ xs) (b ∷ ys) x y r s p q cx cy e =
     let w = split_once xs ys x y r s p.1 q.1 cx cy t in
     (ap (λ l. a ∷ l) w.0 ∙ ap (λ l. l ∷ ys) h, w.1, w.2)
 
--- the first item line after blank lines and comments stands at one place
+-- there is one first item line after blank lines and comments
 pub split_item : (g h b c : List Line) → AllByRecursion IsFiller g → AllByRecursion IsFiller h
     → AreBlockLines b → AreBlockLines c
     → g ++ b ≡ h ++ c → (g ≡ h) × (b ≡ c)
@@ -105,7 +105,7 @@ pub none_closes : (xs ys : List Line) (y : Line) (s : List Line) → AllByRecurs
     → (IsInner y → ⊥) → xs ≡ ys ++ (y ∷ s) → ⊥
 none_closes xs ys y s p c e = c ((every_right IsInner ys (y ∷ s) (subst (AllByRecursion IsInner) e p)).0)
 
--- what the lines gap, body and line, of which the first stands at byte start, make of a part
+-- what the lines gap, body and line, of which the first begins at byte `start`, make of a part
 abbrev pub IsPartOf : ℕ → List Line → List Line → Line → StreamPart → Type 0
 IsPartOf start gap body line (BlockPart block) =
     (kind_of line ≡ Marker) × (block.offset ≡ start + length (joined gap)) × (block.text ≡ joined body) × IsBlockText block.text block.items

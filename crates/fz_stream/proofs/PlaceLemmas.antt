@@ -1,4 +1,4 @@
--- Where the names of printed items stand.
+-- The byte ranges of the names of printed items.
 use Rattle.std.proofs.Common.{◌≡◌, ℕ, zero, suc, ◌<◌, ◌≤◌, List, [], ◌∷◌, ◌++◌, length, get_or, Option, Some, IfSome, refl, sym, ap, ◌∙◌, subst, arith, length-append}
 use Rattle.std.proofs.lemmas.List.{get_or_at}
 use Rattle.fz_syntax.specs.declared.tree.Printed.{Printed}
@@ -28,7 +28,7 @@ module _ (source : List ℕ) (upto : ℕ) where
       let w = stand_behind p.name.span.end (printed_value_spots p.value) (item_spots items) h.3 in
       placed_at w.0 items k d (omega arith) w.1
 
-  -- the place of the item that stands behind the front
+  -- the byte range of the item after the front
   pub placed_again : (items : List Printed) (again : Printed) → PrintsAgain items again
       → Stand source 0 upto (item_spots items) → IsSpanWithin upto again.name.span
   placed_again items again p h =
@@ -45,7 +45,7 @@ pub again_in : (items others : List Printed) (found : Option Span) (span : Span)
     × (span ≡ again.name.span)) → AgainAt items span
 again_in items others found span is same h = subst (λ (xs : List Printed). AgainAt xs span) same (subst (λ (o : Option Span). IfSome o (λ span. AgainAt others span)) is h)
 
--- its place lies in the text
+-- its byte range is in the text
 pub again_within : (text : List ℕ) (items : List Printed) (span : Span) → AgainAt items span
     → Stand text 0 (length text) (item_spots items) → IsSpanWithin (length text) span
 again_within text items span w h = subst (IsSpanWithin (length text)) (sym w.2) (placed_again text (length text) items w.0 w.1 h)

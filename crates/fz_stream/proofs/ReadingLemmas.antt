@@ -226,7 +226,7 @@ module _ (all : List Line) (line : Line) (rest : List Line) (begun : Option ℕ)
   breaks_claim (Claim d) None n s = absurd (let h : Claims d ≡ Breaks n = s in cc)
   breaks_claim (Claim d) (Some m) n s = ((d, refl), (let h : m ≡ n = cc in ap Some h))
 
-  -- what stands between the start of the open block and this line
+  -- what is between the start of the open block and this line
   pub text_is : (bytes : List ℕ) → joined all ≡ bytes → (start : ℕ)
       → start ≡ length (joined r.covered) + length (joined r.gap)
       → take (place - start) (drop start bytes) ≡ joined r.body

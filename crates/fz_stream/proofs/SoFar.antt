@@ -1,4 +1,4 @@
--- What the loop of `blocks` keeps.
+-- The loop invariant of `blocks`.
 use Rattle.std.proofs.Common.{◌≡◌, ℕ, ◌+◌, ◌-◌, ◌≤◌, Option, Some, None, List, [], ◌∷◌, ◌++◌, length, refl, sym, ap, ◌∙◌, subst, append-nil, arith, take, drop}
 use Rattle.std.proofs.lemmas.List.{drop-drop, drop_all, length-drop}
 use Rattle.fz_syntax.specs.Span.{Span}

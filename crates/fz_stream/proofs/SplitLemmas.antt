@@ -1,4 +1,4 @@
--- What a splitter may keep after a line, or a part of one.
+-- The state of a splitter after a line, or a piece of one.
 use Rattle.std.proofs.Common.{◌≡◌, ◌≢◌, ℕ, ◌+◌, List, [], ◌∷◌, ◌++◌, length, take, refl, sym, ap, ◌∙◌, subst, inl, inr, ◌⊎◌, ⊎_elim, zero, suc, ◌<◌, ◌-◌, length-append, append_assoc, append-nil, arith, cond, get_or, Some}
 use Rattle.std.proofs.lemmas.Bool.{ne_eqb, eq-eqb, cases_eq}
 use Rattle.std.proofs.lemmas.List.{get_or_at}
@@ -44,7 +44,7 @@ pub no_end : (line : List ℕ) → HasNoFeed line → EndsWithFeed line → ⊥
 no_end line h w = ((every_right (λ b. b ≢ 10) w.0 (10 ∷ []) (subst HasNoFeed w.2 h)).0) refl
 
 module _ (bytes : List ℕ) (parts : List StreamPart) (held : List ℕ) (h : Keeps bytes parts held) where
-  -- what is kept is followed by bytes
+  -- what is held is followed by bytes
   pub keeps_more : (more : List ℕ) → Keeps (bytes ++ more) parts (held ++ more)
   keeps_more more = record {
     covered = h.covered;
@@ -69,7 +69,7 @@ module _ (bytes : List ℕ) (parts : List StreamPart) (held : List ℕ) (h : Kee
         ap (λ l. l ++ current) (joined-append h.covered (h.gap ++ body) ∙ ap (λ l. joined h.covered ++ l) (joined-append h.gap body)) ∙ simp append_assoc in
         ap lines_of (h.whole ∙ ap (λ l. joined h.covered ++ (joined h.gap ++ l)) e ∙ sym grouped) ∙ lines_of-lines (h.covered ++ (h.gap ++ body)) current all_ended ∙ simp append_assoc
 
-    -- after the parts stand the gap, the body and the lines of what follows it
+    -- after the parts come the gap, the body and the lines of what follows it
     pub goes_on_after : (current : List ℕ) → held ≡ joined body ++ current
         → GoesOnAfter bytes parts h.gap body (lines_of current)
     goes_on_after current e = record { covers = record { covered = h.covered; whole = lines_after current e; of_parts = h.of_parts }; fillers = h.fillers; own = own }
@@ -128,7 +128,7 @@ module _ (bytes : List ℕ) (parts : List StreamPart) (held : List ℕ) (h : Kee
           of_parts = pushed;
         }
 
-        -- after which nothing is kept
+        -- after which nothing is held
         pub keeps_nothing : Keeps (bytes ++ more) (parts ++ part ∷ []) []
         keeps_nothing = record {
           covered = h.covered ++ (h.gap ++ (body ++ line ∷ []));

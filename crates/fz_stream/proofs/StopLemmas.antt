@@ -75,7 +75,7 @@ text_within bytes line rest begun place parts r within start s =
     let at = start_is _ _ _ _ _ _ r r.body refl begun refl start (subst (λ k. step_of begun place k ≡ EndsBlock start) marker s) in
     omega (arith, at, r.place_is, within, length-take (place - start) (drop start bytes), length-drop start bytes)
 
--- a claim stands in an open block
+-- a claim is inside an open block
 pub stops_at_claim : (bytes : List ℕ) (line : Line) (rest : List Line) (begun : Option ℕ)
     (place : ℕ) (parts : List StreamPart) → Reading (lines_of bytes) (line ∷ rest) begun place parts
     → (n : ℕ) → step_of begun place (kind_of line) ≡ Breaks n → (span : Span) → span.start ≡ n → span.end ≡ place → (ps : List StreamPart) × StopsAfter bytes ps (Unfinished span)

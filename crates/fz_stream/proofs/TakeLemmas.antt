@@ -1,4 +1,4 @@
--- What the loop of a splitter's `take_bytes` keeps.
+-- The loop invariant of a splitter's `take_bytes`.
 use Rattle.std.proofs.Common.{◌≡◌, ◌≢◌, ℕ, ◌+◌, ◌-◌, ◌<◌, ◌≤◌, ◌^◌, Some, List, [], ◌∷◌, ◌++◌, length, take, drop, get_or, sym, ap, ◌∙◌, subst, ◌⊎◌, inl, inr, ⊎_elim, append_assoc, append-nil, length-append, length-take, length-drop, arith, take-append-drop}
 use Rattle.std.proofs.lemmas.Bool.{cases_lt}
 use Rattle.std.proofs.lemmas.List.{take_all, take-take}
@@ -123,7 +123,7 @@ module _ (old now : Held) (piece : List ℕ) (at : ℕ) (t : Taking old now piec
         → (bytes ++ take at piece) ++ part ≡ bytes ++ take (at + length part) piece
     joined_next bytes = append_assoc bytes (take at piece) part ∙ ap (λ l. bytes ++ l) (sym next)
 
-    -- the bytes are kept with the line's
+    -- the bytes are held with the line's
     keeps_mid : (bytes : List ℕ) (parts : List StreamPart) → Keeps bytes parts old.buffer.items
         → Keeps (bytes ++ take (at + length part) piece) parts mid.buffer.items
     keeps_mid bytes parts k =
@@ -225,7 +225,7 @@ module _ (old now : Held) (piece : List ℕ) (at : ℕ) (t : Taking old now piec
                 (keeps_nothing (bytes ++ take at piece) parts now.buffer.items h t.held.body t.held.lines.whole t.held.lines.own part (t.held.current ++ part) bytes_mid ends_whole e.part here);
           }
 
-      -- the line can't stand there
+      -- the line isn't allowed there
       pub takes_broken : (e : StreamError) → BreaksBlock now.before t.held.body
           (t.held.current ++ part) e → (bytes : List ℕ) (parts : List StreamPart)
           → Keeps bytes parts old.buffer.items

@@ -1,5 +1,5 @@
--- Where a stream is broken, as a whole or so that no further bytes can mend it (this project's
--- profile).
+-- When a stream is broken: as a whole, or already at some bytes, which no further bytes can mend
+-- (this project's profile).
 use Rattle.std.specs.Prelude.{◌≢◌, ℕ, ◌+◌, List, [], ◌∷◌, length, Some}
 use Rattle.fz_syntax.specs.Tree.{Printed}
 use Rattle.fz_stream.specs.declared.error.StreamError.{StreamError}
@@ -19,7 +19,7 @@ CannotFollow text Comment = ⊥
 CannotFollow text Item = ⊥
 
 -- The bytes are broken after the parts: a block is open, and then comes a line, which ends with LF
--- and can't follow it. The fault tells of both.
+-- and can't follow it. The fault says what is wrong.
 pub record IsBrokenAfter (bytes : List ℕ) (parts : List StreamPart)
     (fault : StreamError) : Type 0 where
   pub gap : List Line
@@ -33,7 +33,7 @@ pub record IsBrokenAfter (bytes : List ℕ) (parts : List StreamPart)
   pub tells : TellsOf (length (joined stands.covers.covered) + length (joined gap)) (joined body)
       (Some (kind_of line)) fault
 
--- what stands behind an open block of this text at the end of the stream: nothing, or a last line
+-- what comes after an open block of this text at the end of the stream: nothing, or a last line
 -- without LF that can't follow it
 abbrev pub CannotEnd : List ℕ → List Line → Type 0
 CannotEnd text [] = Unit {0}
@@ -41,7 +41,7 @@ CannotEnd text (line ∷ []) = (EndsWithFeed line → ⊥) × CannotFollow text 
 CannotEnd text (line ∷ next ∷ lines) = ⊥
 
 -- The bytes are broken at their end after the parts: a block is open, and the stream ends there or
--- with a line that can't follow it. The fault tells of both.
+-- with a line that can't follow it. The fault says what is wrong.
 pub record IsBrokenAtEndAfter (bytes : List ℕ) (parts : List StreamPart)
     (fault : StreamError) : Type 0 where
   pub gap : List Line
@@ -53,14 +53,14 @@ pub record IsBrokenAtEndAfter (bytes : List ℕ) (parts : List StreamPart)
   pub tells : TellsOf (length (joined stands.covers.covered) + length (joined gap)) (joined body)
       (first_kind rest) fault
 
--- what stands behind an open block of this text breaks it: nothing, as the stream ends there, or a
+-- what comes after an open block of this text breaks it: nothing, as the stream ends there, or a
 -- line that can't follow it
 abbrev pub BreaksText : List ℕ → List Line → Type 0
 BreaksText text [] = Unit {0}
 BreaksText text (line ∷ lines) = CannotFollow text (kind_of line)
 
--- The whole stream stops after the parts: a block is open, which is broken by what stands behind
--- it. The fault tells of both.
+-- The whole stream stops after the parts: a block is open, which is broken by what comes after it.
+-- The fault says what is wrong.
 pub record StopsAfter (bytes : List ℕ) (parts : List StreamPart)
     (fault : StreamError) : Type 0 where
   pub gap : List Line

@@ -1,4 +1,4 @@
--- What a refusal of a stream may be, and where its place lies (this project's profile).
+-- What a refusal of a stream may be, and where its byte range is (this project's profile).
 use Rattle.std.specs.Prelude.{◌≢◌, ℕ}
 use Rattle.fz_syntax.specs.Places.{IsSpanWithin, IsPlacedWithin}
 use Rattle.fz_syntax.specs.SyntaxError.{SyntaxError}
@@ -10,7 +10,7 @@ use Rattle.fz_stream.specs.declared.error.StreamError.TheVariants.{TooLong, Item
 abbrev pub IsItemFault : SyntaxError → Type 0
 IsItemFault e = (e ≢ TextMemory) × (e ≢ TextTooLong)
 
--- what a stream may be refused as, where nothing has failed before
+-- the errors by which a stream may be refused, where no call has failed before
 abbrev pub IsStreamFault : StreamError → Type 0
 IsStreamFault TooLong = Unit {0}
 IsStreamFault (Item e) = IsItemFault e
@@ -19,7 +19,8 @@ IsStreamFault (Unfinished span) = Unit {0}
 IsStreamFault Memory = Unit {0}
 IsStreamFault Failed = ⊥
 
--- the place that a refusal names, if it names one, lies within so many bytes of the stream
+-- the byte range that a refusal names, if it names one, is within the first bytes of the stream, as
+-- many as given
 abbrev pub IsFaultWithin : ℕ → StreamError → Type 0
 IsFaultWithin n TooLong = Unit {0}
 IsFaultWithin n (Item e) = IsPlacedWithin n e

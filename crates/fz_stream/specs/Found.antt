@@ -1,4 +1,5 @@
--- What a stream that was read stands for.
+-- The blocks and claims of the code as the plain data that the definitions speak of, and what they
+-- say about the stream that was read.
 use Rattle.std.specs.Prelude.{◌≡◌, ◌≤◌, ℕ, ◌+◌, List, [], ◌∷◌, ◌++◌, length}
 use Rattle.fz_syntax.specs.Spots.{Stand, item_spots}
 use Rattle.fz_syntax.specs.View.{bare_items}
@@ -8,16 +9,16 @@ use Rattle.fz_stream.specs.declared.reading.Claim.{Claim}
 use Rattle.fz_stream.specs.Lines.{Line, lines_of, joined, kind_of}
 use Rattle.fz_stream.specs.Parts.{SolutionBlock, StreamPart, BlockPart, ClaimPart, IsStreamText}
 
--- a block of the code without the places of its items
+-- a block of the code without the byte ranges of its items
 abbrev pub block_of : Block → SolutionBlock
 block_of b = record { offset = b.offset; text = b.text.now; items = bare_items b.items.items }
 
--- the names and literals of the block's items stand in its text, one behind the other, and each
--- name is a slice of it
+-- the names and literals of the block's items are in its text, one after another, and each name is
+-- a slice of it
 abbrev pub HasPlaces : Block → Type 0
 HasPlaces b = Stand b.text.now 0 (length b.text.now) (item_spots b.items.items)
 
--- the block's text ends within so many bytes of the stream
+-- the block's text ends within the first bytes of the stream, as many as given
 abbrev pub EndsWithin : ℕ → Block → Type 0
 EndsWithin n b = b.offset + length b.text.now ≤ n
 
@@ -44,13 +45,13 @@ pub record IsReadAs (bytes : List ℕ) (blocks : List SolutionBlock)
   pub blocks_are : blocks ≡ blocks_in parts
   pub claims_are : claims ≡ claims_in 0 parts
 
--- the numbers of blocks before the claims don't fall, and lie between these two
+-- the numbers of blocks before the claims never decrease, and are between these two
 abbrev pub AreInOrder : ℕ → ℕ → List Claim → Type 0
 AreInOrder least most [] = Unit {0}
 AreInOrder least most (claim ∷ claims) =
     (least ≤ claim.after) × (claim.after ≤ most) × AreInOrder claim.after most claims
 
--- The block's text stands in the stream at its offset, and a marker line follows it.
+-- The block's text is in the stream at its offset, and a marker line follows it.
 pub record StandsBeforeMarker (bytes : List ℕ) (block : SolutionBlock) : Type 0 where
   pub before : List Line
   pub marker : Line

@@ -1,4 +1,5 @@
--- How names are hashed (private functions only; nothing rests on which names collide).
+-- How names are hashed. Only private functions use this file, and nothing depends on which names
+-- collide: a reader of the public contracts need not believe it.
 use Rattle.std.specs.Prelude.{ℕ, List, [], ◌∷◌, ◌+◌, ◌*◌, ◌%◌, ◌^◌}
 
 -- the state with the first byte of what is written

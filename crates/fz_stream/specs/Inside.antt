@@ -1,5 +1,5 @@
--- What contracts see of a splitter, `state_of`. The invariant below it serves private functions
--- alone: a reader of the public contracts need not believe it.
+-- `state_of`, the view of a splitter by which contracts speak of it. The invariant below it serves
+-- only private functions: a reader of the public contracts need not believe it.
 use Rattle.std.specs.Prelude.{◌≡◌, ℕ, ◌+◌, ◌≤◌, List, length, take, Option, Some, None}
 use Rattle.fz_stream.specs.declared.held.Ended.{Ended}
 use Rattle.fz_stream.specs.declared.held.Ended.TheVariants.{BlockEnded, ClaimEnded}

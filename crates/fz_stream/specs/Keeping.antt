@@ -1,5 +1,5 @@
--- The text of an open block and the current line, as a splitter keeps them. It serves private
--- functions alone: a reader of the public contracts need not believe it.
+-- The text of an open block and the current line, as a splitter holds them. Only private functions
+-- use this file: a reader of the public contracts need not believe it.
 use Rattle.std.specs.Prelude.{◌≡◌, ◌≢◌, ℕ, ◌+◌, List, [], ◌∷◌, ◌++◌, length, take, Option, Some, None, IfSome, ◌⊎◌}
 use Rattle.std.specs.List.{AllByRecursion}
 use Rattle.fz_stream.specs.declared.error.StreamError.{StreamError}
@@ -53,14 +53,14 @@ pub record JoinsLine (old new : Held) (body : List Line) (line : Line) : Type 0 
 abbrev pub GoesOnHolding : Held → Held → List Line → Line → Type 0
 GoesOnHolding old new body line = DropsLine new body line ⊎ JoinsLine old new body line
 
--- what a part that ended is, by the place and the text of a block
+-- what a part that ended is; of a block, with this offset and text
 abbrev pub EndedAs : Ended → ℕ → List ℕ → StreamPart → Type 0
 EndedAs BlockEnded offset text (BlockPart block) = (block.offset ≡ offset) × (block.text ≡ text)
 EndedAs BlockEnded offset text (ClaimPart kind) = ⊥
 EndedAs (ClaimEnded kind) offset text (BlockPart block) = ⊥
 EndedAs (ClaimEnded kind) offset text (ClaimPart other) = kind ≡ other
 
--- With blank lines and comments before it, what is held is the lines of a part.
+-- The lines that are held are those of a part, with blank lines and comments before it.
 pub record EndsPart (h : Held) (body : List Line) (line : Line) (ended : Ended) : Type 0 where
   pub part : StreamPart
   pub is : EndedAs ended h.before (take h.line h.buffer.items) part
@@ -68,20 +68,20 @@ pub record EndsPart (h : Held) (body : List Line) (line : Line) (ended : Ended) 
       → start + length (joined gap) ≡ h.before
       → AreLinesOfPart start (gap ++ (body ++ line ∷ [])) part
 
--- The line can't follow the open block, whose text begins at the offset, and the fault tells of
--- both.
+-- The line can't follow the open block, whose text begins at the offset, and the fault says what is
+-- wrong.
 pub record BreaksBlock (offset : ℕ) (body : List Line) (line : Line)
     (fault : StreamError) : Type 0 where
   pub begun : body ≢ []
   pub cannot : CannotFollow (joined body) (kind_of line)
   pub tells : TellsOf offset (joined body) (Some (kind_of line)) fault
 
--- The text is a block's, and where its items are kept, they are its own.
+-- The text is a block's, and where items are stored, they are its own.
 pub record IsWaiting (text : List ℕ) (kept : Option KeptItems) : Type 0 where
   pub block : IsTextOfBlock text
   pub own : IfSome kept (AreKeptOf text)
 
--- the items of a block that waits are kept, or were released
+-- where a block waits, its items are stored or were released
 abbrev pub IsKept : Option Ended → Held → Type 0
 IsKept None h = Unit {0}
 IsKept (Some BlockEnded) h = IsWaiting (take h.line h.buffer.items) h.kept
@@ -112,15 +112,14 @@ pub record EndsOpen (h : Held) (bytes : List ℕ) (parts : List StreamPart) : Ty
   pub place : h.line ≢ 0 → h.before ≡ length (joined stands.covers.covered) + length (joined gap)
   pub size : h.line ≢ 0 → length h.buffer.items ≡ length (joined body)
 
--- What stands at the end of the stream: the bytes are a text of the parts, and of one more where
--- one ended.
+-- At the end of the stream the bytes are a text of the parts, and of one more where one ended.
 abbrev pub EndsStream : Held → List ℕ → List StreamPart → Option Ended → Type 0
 EndsStream h bytes parts None = IsStreamText bytes parts
 EndsStream h bytes parts (Some ended) =
     (part : StreamPart) × EndedAs ended h.before (take h.line h.buffer.items) part
     × IsStreamText bytes (parts ++ part ∷ [])
 
--- what is held while nothing waits, or a part does
+-- the bytes that are held when the next bytes are taken: none where a part waited
 abbrev pub held_while : Option Ended → List ℕ → List ℕ
 held_while None bytes = bytes
 held_while (Some ended) bytes = []

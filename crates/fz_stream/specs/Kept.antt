@@ -1,6 +1,6 @@
--- What is kept of a block's items while the block waits. The contracts of `release` and `lend` cite
--- it through `AreOfWaiting`: what the one gives out the other takes back. All else serves private
--- functions alone.
+-- The stored items of a block while the block waits. The contracts of `release` and `lend` cite
+-- `AreKeptOf` through `AreOfWaiting`: the one gives the items out and the other takes them back.
+-- All else serves only private functions.
 use Rattle.std.specs.Prelude.{◌≡◌, ℕ, List, ◌∷◌, length, map, Some, slice_range}
 use Rattle.std.specs.List.{flat_map}
 use Rattle.fz_syntax.specs.Spots.{Spot, Stand, printed_value_spots}
@@ -15,14 +15,14 @@ use Rattle.fz_stream.specs.Parts.{IsBlockText}
 abbrev pub kept_of : Printed → KeptItem
 kept_of p = record { name = p.name.span; value = p.value }
 
--- the plain item that a kept one is, where its name stands in the text
+-- the plain item of a stored one, with its name's text from the block's text
 abbrev pub bare_kept : List ℕ → KeptItem → tree.Printed
 bare_kept text k = record {
   name = slice_range text k.name.start k.name.end;
   value = bare_printed_value k.value;
 }
 
--- and the places of its name and its literals
+-- and the byte ranges of its name and its literals
 abbrev pub kept_spots : List ℕ → KeptItem → List Spot
 kept_spots text k = record {
   start = k.name.start;
@@ -30,14 +30,15 @@ kept_spots text k = record {
   text = Some (slice_range text k.name.start k.name.end);
 } ∷ printed_value_spots k.value
 
--- The text is a block's of these items, and of no others, and they have their places in it.
+-- The text is that of a block with these items, and no others, and their byte ranges are those in
+-- the text.
 pub record AreKept (text : List ℕ) (kept : List KeptItem) : Type 0 where
   pub block : IsBlockText text (map (bare_kept text) kept)
   pub only : (others : List tree.Printed) → IsBlockText text others
       → others ≡ map (bare_kept text) kept
   pub stand : Stand text 0 (length text) (flat_map (kept_spots text) kept)
 
--- these items are those that are kept of the text
+-- these are the stored items of the text
 abbrev pub AreKeptOf : List ℕ → KeptItems → Type 0
 AreKeptOf text kept = AreKept text kept.items.items
 

@@ -1,5 +1,5 @@
--- What holds of streams by their definitions (this project's profile). Each law is the contract of
--- a public function of this crate.
+-- Laws of the definitions of streams (this project's profile). Each law is the contract of a public
+-- function of this crate.
 use Rattle.std.specs.Prelude.{◌≡◌, ℕ, List}
 use Rattle.fz_stream.specs.Parts.{StreamPart, IsStreamText}
 

@@ -12,12 +12,12 @@ use Rattle.fz_stream.specs.declared.line.LineKind.TheVariants.{Blank, Comment, M
 abbrev pub Line : Type 0
 Line = List ℕ
 
--- the lines that a byte and some lines make, where the byte ends no line
+-- the lines with a byte, which isn't LF, put in front of the first
 abbrev pub onto_first : ℕ → List Line → List Line
 onto_first b [] = (b ∷ []) ∷ []
 onto_first b (line ∷ lines) = (b ∷ line) ∷ lines
 
--- The lines of a stream: it is cut behind each LF, and what follows the last LF is a line where it
+-- The lines of a stream: it is cut after each LF, and what follows the last LF is a line where it
 -- isn't empty.
 abbrev pub lines_of : List ℕ → List Line
 lines_of [] = []
@@ -33,7 +33,7 @@ joined (line ∷ lines) = line ++ joined lines
 abbrev pub HasNoFeed : List ℕ → Type 0
 HasNoFeed bytes = AllByRecursion (λ b. b ≢ 10) bytes
 
--- the line ends with LF, which stands nowhere else in it
+-- the line ends with LF, which is nowhere else in it
 abbrev pub EndsWithFeed : Line → Type 0
 EndsWithFeed line = (front : List ℕ) × HasNoFeed front × (line ≡ front ++ 10 ∷ [])
 
@@ -47,7 +47,7 @@ abbrev pub trimmed : Line → List ℕ
 trimmed line = reverse (skip_blanks (reverse (skip_blanks line)))
 
 -- Ten dashes close a solution. Ten equality signs and the five named lines are claims on the
--- search. All else begins or continues an item.
+-- search. Any other line begins or continues an item.
 abbrev pub kind_of_words : List ℕ → LineKind
 kind_of_words words =
     if bytes_eq words (codes "----------") then Marker
@@ -64,7 +64,7 @@ abbrev pub kind_of_trimmed : List ℕ → LineKind
 kind_of_trimmed [] = Blank
 kind_of_trimmed (b ∷ bytes) = if b == 37 then Comment else kind_of_words (b ∷ bytes)
 
--- what a line is; the blanks at its ends don't count
+-- the kind of a line; the blanks at its ends don't count
 unfoldable pub kind_of : Line → LineKind
 kind_of line = kind_of_trimmed (trimmed line)
 
@@ -86,6 +86,6 @@ IsInnerKind Marker = ⊥
 IsInnerKind (Claim kind) = ⊥
 IsInnerKind Item = Unit {0}
 
--- no marker and no claim
+-- a line that is neither a marker nor a claim
 abbrev pub IsInner : Line → Type 0
 IsInner line = IsInnerKind (kind_of line)

@@ -1,4 +1,5 @@
--- How a place in a block's text, or a fault of it, is one of the stream (this project's profile).
+-- How a byte range in a block's text, or a fault of it, becomes one of the stream (this project's
+-- profile).
 use Rattle.std.specs.Prelude.{ℕ, ◌+◌}
 use Rattle.fz_syntax.specs.Span.{Span}
 use Rattle.fz_syntax.specs.SyntaxError.{SyntaxError}
@@ -6,7 +7,7 @@ use Rattle.fz_syntax.specs.SyntaxError.TheVariants.{TooLong as TextTooLong, BadB
 use Rattle.fz_stream.specs.declared.error.StreamError.{StreamError}
 use Rattle.fz_stream.specs.declared.error.StreamError.TheVariants.{Item as OfItem, Memory}
 
--- a place in a text that begins at the offset, as one of the stream
+-- a byte range in a text that begins at the offset, as one of the stream
 abbrev pub moved_span : ℕ → Span → Span
 moved_span offset span = record { start = offset + span.start; end = offset + span.end }
 

@@ -8,7 +8,8 @@ use Rattle.fz_stream.specs.declared.line.ClaimKind.{ClaimKind}
 use Rattle.fz_stream.specs.declared.line.LineKind.TheVariants.{Marker, Claim, Item}
 use Rattle.fz_stream.specs.Lines.{Line, lines_of, joined, kind_of, IsFiller, IsInner}
 
--- a solution block: where its text begins in the stream, its text, and the items that it prints
+-- a solution block: the byte offset of its text in the stream, its text, and the items that it
+-- prints
 pub record SolutionBlock : Type 0 where
   pub offset : ℕ
   pub text : List ℕ
@@ -33,7 +34,7 @@ abbrev pub AreBlockLines : List Line → Type 0
 AreBlockLines [] = Unit {0}
 AreBlockLines (line ∷ lines) = (kind_of line ≡ Item) × AllByRecursion IsInner lines
 
--- The lines, of which the first stands at byte start, are those of the block: blank lines and
+-- The lines, of which the first begins at byte `start`, are those of the block: blank lines and
 -- comments, its own lines, and its marker.
 pub record AreLinesOfBlock (start : ℕ) (lines : List Line) (block : SolutionBlock) : Type 0 where
   pub gap : List Line
@@ -59,30 +60,30 @@ abbrev pub AreLinesOfPart : ℕ → List Line → StreamPart → Type 0
 AreLinesOfPart start lines (BlockPart block) = AreLinesOfBlock start lines block
 AreLinesOfPart start lines (ClaimPart kind) = AreLinesOfClaim lines kind
 
--- The lines, of which the first stands at byte start, are those of the parts, one after another.
+-- The lines, of which the first begins at byte `start`, are those of the parts, one after another.
 abbrev pub AreLinesOf : ℕ → List Line → List StreamPart → Type 0
 AreLinesOf start lines [] = lines ≡ []
 AreLinesOf start lines (part ∷ parts) =
     (own : List Line) × (others : List Line) × (lines ≡ own ++ others)
     × AreLinesOfPart start own part × AreLinesOf (start + length (joined own)) others parts
 
--- The parts cover the bytes up to a place: the lines before it are those of the parts, and rest are
--- the lines from it on.
+-- The parts cover the bytes up to some offset: the lines before it are those of the parts, and
+-- `rest` are the lines from it on.
 pub record Covers (bytes : List ℕ) (parts : List StreamPart) (rest : List Line) : Type 0 where
   pub covered : List Line
   pub whole : lines_of bytes ≡ covered ++ rest
   pub of_parts : AreLinesOf 0 covered parts
 
--- The bytes are a text of the parts: the parts cover them up to a place, from which only blank
--- lines and comments follow.
+-- The bytes are a text of the parts: the parts cover them up to some offset, after which come only
+-- blank lines and comments.
 pub record IsStreamText (bytes : List ℕ) (parts : List StreamPart) : Type 0 where
   pub rest : List Line
   pub covers : Covers bytes parts rest
   pub fillers : AllByRecursion IsFiller rest
 
--- The parts cover the bytes up to a place, from which blank lines and comments follow, the gap;
--- then the lines of a block that no marker has closed, its body, which has no line where no block
--- is open; and then the rest.
+-- The parts cover the bytes up to some offset. Then come blank lines and comments, `gap`; then
+-- `body`, the lines of a block that no marker has closed, which are none where no block is open;
+-- and then `rest`.
 pub record GoesOnAfter (bytes : List ℕ) (parts : List StreamPart)
     (gap body rest : List Line) : Type 0 where
   pub covers : Covers bytes parts (gap ++ (body ++ rest))

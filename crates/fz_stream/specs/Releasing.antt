@@ -5,7 +5,7 @@ use Rattle.fz_stream.specs.declared.kept.KeptItems.{KeptItems}
 use Rattle.fz_stream.specs.Kept.{AreKeptOf}
 use Rattle.fz_stream.specs.Splitting.{WaitingPart, WaitingBlock, WaitingClaim}
 
--- a block waits, and these are the items of its text, with their places in it
+-- a block waits, and these are the items of its text, with their byte ranges in it
 abbrev pub AreOfWaiting : Option WaitingPart → KeptItems → Type 0
 AreOfWaiting (Some (WaitingBlock offset text)) kept = AreKeptOf text kept
 AreOfWaiting (Some (WaitingClaim kind)) kept = ⊥

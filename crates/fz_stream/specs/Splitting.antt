@@ -1,4 +1,5 @@
--- What a splitter that is fed a stream in pieces keeps (this project's profile).
+-- The state of a splitter that is fed a stream in pieces, and what its calls do to it (this
+-- project's profile).
 use Rattle.std.specs.Prelude.{◌≡◌, ◌<◌, ℕ, ◌^◌, List, [], ◌∷◌, ◌++◌, length, Option, Some, None, IsSome, ◌⊎◌, ◌≤◌, take}
 use Rattle.std.specs.List.{AllByRecursion}
 use Rattle.fz_syntax.specs.Tree.{Printed}
@@ -15,7 +16,7 @@ most_held = 2 ^ 24
 abbrev pub most_taken : ℕ
 most_taken = 2 ^ 40
 
--- a part that waits to be taken: the place and the text of a block, or a claim
+-- a part that waits to be taken: the byte offset and the text of a block, or a claim
 pub data WaitingPart : Type 0 where
   WaitingBlock : ℕ → List ℕ → WaitingPart
   WaitingClaim : ClaimKind → WaitingPart
@@ -28,7 +29,7 @@ pub record SplitterState : Type 0 where
   pub waits : Option WaitingPart
   pub stage : Stage
 
--- the waiting part is this part, with its place and text
+-- the waiting part is this part: of a block, with the same offset and text
 abbrev pub WaitsFor : WaitingPart → StreamPart → Type 0
 WaitsFor (WaitingBlock offset text) (BlockPart block) =
     (offset ≡ block.offset) × (text ≡ block.text)
@@ -43,7 +44,7 @@ WaitsForLast (Some waiting) parts =
     (front : List StreamPart) × (part : StreamPart) × (parts ≡ front ++ part ∷ [])
     × WaitsFor waiting part
 
--- no part waits and there is none more, or the one more waits
+-- no part waits and the list is empty, or the list is one part, which waits
 abbrev pub WaitsForMore : Option WaitingPart → List StreamPart → Type 0
 WaitsForMore None [] = Unit {0}
 WaitsForMore (Some waiting) (part ∷ []) = WaitsFor waiting part
@@ -51,9 +52,9 @@ WaitsForMore None (part ∷ more) = ⊥
 WaitsForMore (Some waiting) [] = ⊥
 WaitsForMore (Some waiting) (part ∷ next ∷ more) = ⊥
 
--- Of the bytes these parts have ended, and these bytes are held: after the parts stand blank lines
--- and comments, then the whole lines of a block that is open, then the current line, which has no
--- LF yet. The last two are held.
+-- In the bytes these parts have ended. After the parts come blank lines and comments, then the
+-- whole lines of an open block, if one is open, then the current line, which has no LF yet. The
+-- bytes held are the last two.
 pub record Holds (bytes : List ℕ) (parts : List StreamPart) (held : List ℕ) : Type 0 where
   pub gap : List Line
   pub body : List Line
@@ -63,7 +64,7 @@ pub record Holds (bytes : List ℕ) (parts : List StreamPart) (held : List ℕ) 
   pub goes_on : HasNoFeed current
   pub held_are : held ≡ joined body ++ current
 
--- What a splitter keeps is what it may keep after it took these bytes, in which these parts ended.
+-- The state is one of a splitter that took these bytes, in which these parts ended.
 pub record Fits (s : SplitterState) (bytes : List ℕ) (parts : List StreamPart) : Type 0 where
   pub running : s.stage ≡ Running
   pub taken : s.taken ≡ length bytes
@@ -91,8 +92,8 @@ abbrev pub Fed : SplitterState → List ℕ → List ℕ → List StreamPart →
 Fed s bytes piece parts n = TakesAll s bytes piece parts n ⊎ CompletesPart s bytes piece parts n
 
 -- After the bytes, in which these parts ended, the piece has a byte that a splitter doesn't take:
--- none of the bytes of the piece before it completes a part, and with them as many are held, or as
--- many are taken in all, as may be.
+-- none of the bytes of the piece before it completes a part, and with them as many bytes are held,
+-- or were taken in all, as the limit allows.
 pub record PassesLimit (bytes piece : List ℕ) (parts : List StreamPart) : Type 0 where
   pub n : ℕ
   pub within : n < length piece
@@ -101,7 +102,7 @@ pub record PassesLimit (bytes piece : List ℕ) (parts : List StreamPart) : Type
   pub full : (length held ≡ most_held) ⊎ (length (bytes ++ take n piece) ≡ most_taken)
 
 -- After the bytes and the first k of the piece no part has ended but these, and there is room for
--- one more byte: fewer are held, and fewer were taken in all, than may be.
+-- one more byte: fewer are held, and fewer were taken in all, than the limits allow.
 abbrev pub HasRoomAt : List ℕ → List ℕ → List StreamPart → ℕ → Type 0
 HasRoomAt bytes piece parts k = (held : List ℕ) × Holds (bytes ++ take k piece) parts held
     × (length held < most_held) × (length (bytes ++ take k piece) < most_taken)
@@ -124,7 +125,7 @@ Lends (Some waiting) (Some part) = WaitsFor waiting part
 Lends None (Some part) = ⊥
 Lends (Some waiting) None = ⊥
 
--- the part's text is one of its items, and of no others
+-- a block's text is one of its items, and of no others
 abbrev pub IsPartOfItems : StreamPart → Type 0
 IsPartOfItems (BlockPart block) =
     IsBlockText block.text block.items

@@ -1,5 +1,5 @@
--- How one line changes what is open. It serves private functions alone: a reader of the public
--- contracts need not believe it.
+-- How one line opens, continues or ends a block. Only private functions use this file: a reader of
+-- the public contracts need not believe it.
 use Rattle.std.specs.Prelude.{ℕ, Option, Some, None, if◌then◌else◌, ◌==◌}
 use Rattle.fz_stream.specs.declared.line.LineKind.{LineKind}
 use Rattle.fz_stream.specs.declared.line.LineKind.TheVariants.{Blank, Comment, Marker, Claim, Item}
@@ -9,7 +9,7 @@ use Rattle.fz_stream.specs.declared.step.Step.{Step}
 use Rattle.fz_stream.specs.declared.step.Step.TheVariants.{GoesOn, EndsBlock, Claims, Breaks}
 use Rattle.fz_stream.specs.Faults.{IsItemFault}
 
--- begun is where the text of the begun block begins, and at is where the line begins
+-- `begun` is the byte offset of the open block's text, if one is open, and `at` that of the line
 abbrev pub step_of : Option ℕ → ℕ → LineKind → Step
 step_of begun at Blank = GoesOn begun
 step_of begun at Comment = GoesOn begun
@@ -20,7 +20,7 @@ step_of (Some start) at Marker = EndsBlock start
 step_of None at (Claim kind) = Claims kind
 step_of (Some start) at (Claim kind) = Breaks start
 
--- what may be wrong with a block's text, or out of memory
+-- the errors of a block's text, and out of memory
 abbrev pub IsBlockFault : StreamError → Type 0
 IsBlockFault TooLong = ⊥
 IsBlockFault (OfItem e) = IsItemFault e
@@ -38,6 +38,7 @@ IsLineFault (Unfinished span) = Unit {0}
 IsLineFault Memory = Unit {0}
 IsLineFault Failed = ⊥
 
--- where the open block begins, whose whole lines have this length
+-- the offset where the open block begins, if one is open: its whole lines have the first length,
+-- and so many bytes come before it
 abbrev pub begun_of : ℕ → ℕ → Option ℕ
 begun_of line before = if line == 0 then None else Some before

@@ -1,4 +1,4 @@
--- What a refusal tells of the open block at which a stream stops (this project's profile).
+-- What a refusal says about the open block at which a stream stops (this project's profile).
 use Rattle.std.specs.Prelude.{◌≡◌, ℕ, ◌+◌, List, [], ◌∷◌, ◌++◌, length, Any, Option, Some, None}
 use Rattle.fz_syntax.specs.declared.tree.Printed.{Printed}
 use Rattle.fz_syntax.specs.Places.{IsPlacedWithin}
@@ -27,7 +27,8 @@ pub record PrintsAgain (items : List Printed) (again : Printed) : Type 0 where
   pub distinct : HasDistinctNames (bare_items front)
   pub its_own : Any (λ p. p.name.text.now ≡ again.name.text.now) front
 
--- The span is where the text, which begins at the offset, prints a name for the second time.
+-- The span is the byte range in the stream where the text, which begins at the offset, prints a
+-- name for the second time.
 pub record IsSecondPrinting (offset : ℕ) (text : List ℕ) (span : Span) : Type 0 where
   pub items : List Printed
   pub again : Printed
@@ -36,15 +37,15 @@ pub record IsSecondPrinting (offset : ℕ) (text : List ℕ) (span : Span) : Typ
   pub prints : PrintsAgain items again
   pub span_is : span ≡ moved_span offset again.name.span
 
--- The text is one of no items, and the fault tells of it: it comes in the order of faults, neither
--- out of memory nor too many bytes, and its place lies in the text.
+-- No items have this text, and the fault is one of the text: it is the first in the order of
+-- faults, it is neither out of memory nor too many bytes, and its byte range is in the text.
 pub record IsFaultOfText (text : List ℕ) (fault : SyntaxError) : Type 0 where
   pub no_items : (items : List PlainPrinted) → IsTextOfItems text items → ⊥
   pub order : IsRefusalOf text fault
   pub kind : IsItemFault fault
   pub place : IsPlacedWithin (length text) fault
 
--- what a fault tells of a block's text, which begins at the offset
+-- what a fault says about a block's text, which begins at the offset
 abbrev pub TellsOfText : ℕ → List ℕ → StreamError → Type 0
 TellsOfText offset text (Item fault) =
     (own : SyntaxError) × IsFaultOfText text own × (Item fault ≡ item_fault offset own)
@@ -59,13 +60,13 @@ abbrev pub first_kind : List Line → Option LineKind
 first_kind [] = None
 first_kind (line ∷ lines) = Some (kind_of line)
 
--- no line, or a claim
+-- there is no line, or it is a claim
 abbrev pub IsNoneOrClaim : Option LineKind → Type 0
 IsNoneOrClaim None = Unit {0}
 IsNoneOrClaim (Some kind) = (claim : ClaimKind) × (kind ≡ Claim claim)
 
--- What a fault tells of an open block's text, which begins at the offset, and of what stands behind
--- it: an unfinished block reaches up to a claim or the end of the stream, and other faults are
+-- What a fault says about an open block's text, which begins at the offset, and about the line
+-- after it: an unfinished block ends at a claim or the end of the stream, and other faults are
 -- those of a text that a marker closes.
 abbrev pub TellsOf : ℕ → List ℕ → Option LineKind → StreamError → Type 0
 TellsOf offset text behind (Unfinished span) =

@@ -18,15 +18,15 @@ use std::hash::BuildHasherDefault;
 /// What a solver printed of one solution.
 #[derive(Drop)]
 pub struct Block<'a> {
-    /// Where the text begins in the stream.
+    /// The byte offset of the text in the stream.
     pub offset: usize,
     /// From the first byte of the first item line to the first byte of the marker's line.
     pub text: &'a [u8],
-    /// What the text prints. Places count from the text's first byte.
+    /// What the text prints. Byte ranges count from the text's first byte.
     pub items: Vec<Printed<'a>>,
 }
 
-/// The place of the first name that is printed a second time.
+/// The byte range of the first name that is printed a second time.
 fn repeated_name(alloc: Global, items: &[Printed<'_>]) -> Result<Option<Span>, AllocError>
     ensures none { IfOk result (λ found. IfNone found (HasDistinctNames (bare_items items.now))) }
     ensures some { IfOk result (λ found. IfSome found
@@ -47,7 +47,7 @@ fn repeated_name(alloc: Global, items: &[Printed<'_>]) -> Result<Option<Span>, A
     Ok(None)
 }
 
-/// The block whose text this is.
+/// Reads the block of a text that begins at an offset of the stream.
 pub fn read_block<'a>(
     alloc: Global,
     offset: usize,

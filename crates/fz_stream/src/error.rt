@@ -6,26 +6,27 @@ use fz_syntax::{Span, SyntaxError};
 use std::alloc::{AllocError, AllocFailed};
 use thiserror::Error;
 
-/// Why a stream is refused. Each place counts from the stream's first byte.
+/// Why a stream is refused. Each byte range counts from the stream's first byte.
 #[derive(Clone, Copy, Debug, PartialEq, Eq, Error)]
 pub enum StreamError {
     /// The stream is too long to be read whole, or a splitter would hold or take too many bytes.
     #[error("TooLong")]
     TooLong,
-    /// The text of a block is none of printed items. The fault is neither `Memory` nor `TooLong`.
+    /// The text of a block isn't one of printed items. The fault in it is neither `Memory` nor
+    /// `TooLong`.
     #[error("{0}")]
     Item(SyntaxError),
-    /// A block prints a name twice: the place of the second printing.
+    /// A block prints a name twice: the byte range of the second printing.
     #[error("DuplicateName")]
     DuplicateName(Span),
-    /// A claim stands in an open block, or the stream ends in one: from the block's first byte to
-    /// the first byte of the claim's line, or to the stream's end.
+    /// A claim is inside an open block, or the stream ends inside one: the bytes from the block's
+    /// first byte to the first byte of the claim's line, or to the stream's end.
     #[error("Unfinished")]
     Unfinished(Span),
-    /// There is no memory left.
+    /// Out of memory.
     #[error("Memory")]
     Memory,
-    /// The splitter failed before.
+    /// The splitter has failed in an earlier call.
     #[error("Failed")]
     Failed,
 }
@@ -50,8 +51,9 @@ impl From<AllocError> for StreamError {
     }
 }
 
-/// The place in the stream of a place in a text that begins at the offset: both ends move by the
-/// offset. A block's items have their places in the block's text, which begins at `Block::offset`.
+/// The byte range in the stream of a byte range in a text that begins at the offset: both ends are
+/// moved by the offset. The ranges of a block's items are in the block's text, which begins at
+/// `Block::offset`.
 pub fn moved_span(span: Span, offset: usize) -> Span
     requires { IsSpanWithin (usize.MAX - offset) span }
     ensures { result ≡ moved_span offset span }

@@ -8,10 +8,10 @@ use std::hash::{BuildHasherDefault, Hasher};
 /// Names, each once.
 pub type Names<'a> = IndexSet<&'a [u8], BuildHasherDefault<NameHasher>>;
 
-/// A hasher of names. A slice writes its length and then each byte by itself, and this one takes
+/// A hasher of names. A slice writes its length and then each byte by itself, and this hasher takes
 /// the first byte of each write: a few instructions a byte, where the usual hasher multiplies to
-/// 128 bits. As with the usual one, whose seed is fixed too, whoever picks the names can make them
-/// collide.
+/// 128 bits. As with the usual one, whose seed is fixed too, somebody who chooses the names can
+/// make them collide.
 #[derive(Clone, Copy, Drop)]
 pub struct NameHasher {
     state: u64,

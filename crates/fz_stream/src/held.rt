@@ -16,13 +16,13 @@ use crate::step::{Step, after_line};
 use fz_syntax::Span;
 use std::alloc::Global;
 
-/// The most bytes that are held.
+/// The most bytes that are held at once.
 const MOST_HELD: usize = 16_777_216;
 
-/// The most bytes that are taken in all.
+/// The most bytes that are taken from the whole stream.
 const MOST_TAKEN: usize = 1_099_511_627_776;
 
-/// What a line ended.
+/// The kind of part that a line ended.
 #[derive(Clone, Copy, Debug)]
 pub enum Ended {
     BlockEnded,
@@ -35,20 +35,21 @@ pub struct Held {
     pub buffer: Vec<u8>,
     /// Where the current line begins in the buffer.
     pub line: usize,
-    /// How many bytes of the stream stand before the buffer.
+    /// How many bytes of the stream come before the buffer.
     pub before: usize,
     /// The items of the block that ended last, where they weren't released.
     pub kept: Option<KeptItems>,
 }
 
-/// Where the open block begins, whose whole lines have this length.
+/// The offset in the stream where the open block begins, if one is open: its whole lines have the
+/// length `line`, and the buffer begins with them.
 fn begun_at(line: usize, before: usize) -> Option<usize>
     ensures { result ≡ begun_of line before }
 {
     if line == 0 { None } else { Some(before) }
 }
 
-/// The current line has ended.
+/// Handles the end of the current line: drops the line, adds it to the open block, or ends a part.
 fn end_line(alloc: Global, held: &mut Held) -> Result<Option<Ended>, StreamError>
     requires line { held.old.line < length held.old.buffer.items }
     requires most { length held.old.buffer.items ≤ most_held }
@@ -95,7 +96,7 @@ fn end_line(alloc: Global, held: &mut Held) -> Result<Option<Ended>, StreamError
     }
 }
 
-/// Drops the bytes of a part that waited.
+/// Drops the bytes of the part that waited, if one did.
 pub fn drop_part(held: &mut Held, ended: Option<Ended>)
     requires line { held.old.line ≤ length held.old.buffer.items }
     requires taken { held.old.before + length held.old.buffer.items ≤ most_taken }
@@ -203,7 +204,7 @@ fn end_last_line(alloc: Global, held: &mut Held) -> Result<Option<Ended>, Stream
     end_line(alloc, held)
 }
 
-/// Ends the stream: with a part, with none, or with a fault.
+/// Ends the stream: with a last part, with none, or with a fault.
 pub fn end_stream(alloc: Global, held: &mut Held) -> Result<Option<Ended>, StreamError>
     requires line { held.old.line ≤ length held.old.buffer.items }
     requires most { length held.old.buffer.items ≤ most_held }

@@ -1,4 +1,5 @@
-// The items of a block that waits. They don't borrow its text, so that they can stand beside it.
+// The items of a block that waits to be taken. They are stored without borrowing the block's text,
+// so that one struct can own both.
 ghost use Rattle.std.specs.Prelude.{◌≡◌, ◌≢◌, ◌+◌, ◌≤◌, List, length, map, slice_range, IfOk, IfErr, IfSome};
 ghost use Rattle.std.specs.List.{flat_map};
 ghost use Rattle.fz_syntax.specs.Limits.{most_bytes};
@@ -18,21 +19,21 @@ use crate::error::StreamError;
 use fz_syntax::{Literal, LiteralKind, Name, Printed, PrintedValue, Span};
 use std::alloc::{AllocError, Global};
 
-/// An item without its name's text, which stands at the name's place in the block's text.
+/// An item without its name's text, which is in the block's text at this byte range.
 #[derive(Drop)]
 pub struct KeptItem {
     pub name: Span,
     pub value: PrintedValue,
 }
 
-/// The items of a block that waits, which a splitter releases, so that it can lend them without a
-/// copy.
+/// The stored items of a block that waits. A splitter releases them, so that `lend` can move them
+/// into the block instead of copying.
 #[derive(Drop)]
 pub struct KeptItems {
     items: Vec<KeptItem>,
 }
 
-/// What is kept of the items. Their values are moved.
+/// The items in their stored form. Their values are moved.
 fn kept_items(alloc: Global, items: Vec<Printed<'_>>) -> Result<Vec<KeptItem>, AllocError>
     ensures { IfOk result (λ kept. kept.items ≡ map kept_of items.entry.items) }
 {
@@ -46,7 +47,7 @@ fn kept_items(alloc: Global, items: Vec<Printed<'_>>) -> Result<Vec<KeptItem>, A
     Ok(kept)
 }
 
-/// Reads the text of a block, and keeps its items.
+/// Reads the text of a block, and gives its items in their stored form.
 pub fn read_kept(alloc: Global, offset: usize, text: &[u8]) -> Result<KeptItems, StreamError>
     requires fits { offset + length text.now ≤ usize.MAX }
     requires short { length text.now ≤ most_bytes }
@@ -109,7 +110,7 @@ fn copied_value(alloc: Global, value: &PrintedValue) -> Result<PrintedValue, All
     }
 }
 
-/// The part of the text at a place.
+/// The bytes of the text at a byte range.
 fn text_at(text: &[u8], place: Span) -> &[u8]
     requires { IsSpanWithin (length text.now) place }
     ensures { result.now ≡ slice_range text.now place.start place.end }
@@ -167,7 +168,8 @@ fn moved_items<'a>(
     Ok(items)
 }
 
-/// The block whose items were kept: what `read_block` gives of its text.
+/// The block of a text whose items are stored: what `read_block` gives of the text. The values are
+/// copied.
 fn copied_block<'a>(
     alloc: Global,
     offset: usize,
@@ -190,7 +192,7 @@ fn copied_block<'a>(
     })
 }
 
-/// The same block, into which the kept items are moved.
+/// The same block, into which the stored values are moved.
 fn moved_block<'a>(
     alloc: Global,
     offset: usize,
@@ -213,7 +215,7 @@ fn moved_block<'a>(
     })
 }
 
-/// The block of a text that was read before. Its kept items are copied; where they were released,
+/// The block of a text that was read before. Its stored items are copied; where they were released,
 /// the text is read again.
 fn kept_block<'a>(
     alloc: Global,

@@ -1,4 +1,8 @@
-//! Streams of solver output: their solution blocks and claims, read whole or in pieces.
+//! Streams of solver output: cuts them at their lines into solution blocks and claims, and reads
+//! what each block prints. `blocks` reads a whole stream; a `Splitter` is fed one in pieces and
+//! lends one block or claim at a time, within a limit of bytes. Whether a block is a solution isn't
+//! asked here.
+//! Its worked cases are in `fz_text_cases`.
 #![tactic(auto)]
 
 ghost use Rattle.fz_stream.specs.Laws.{StreamHasOneListOfParts};

@@ -4,7 +4,7 @@ ghost use Rattle.fz_stream.specs.Lines.{kind_of, kind_of_words, lines_of, skip_b
 
 use memchr::memchr;
 
-/// What a solver may claim of its search.
+/// What a solver may claim about its search.
 #[derive(Clone, Copy, Debug, PartialEq, Eq)]
 pub enum ClaimKind {
     /// `==========`: the search is complete.
@@ -21,7 +21,7 @@ pub enum ClaimKind {
     Error,
 }
 
-/// What a line of a stream is.
+/// The kinds of lines of a stream.
 #[derive(Clone, Copy, Debug)]
 pub enum LineKind {
     Blank,
@@ -37,7 +37,7 @@ fn is_blank_byte(b: u8) -> bool
     b == b' ' || b == b'\t' || b == b'\r' || b == b'\n'
 }
 
-/// What follows the blanks at the front.
+/// The line without the blanks at its front.
 fn after_blanks(line: &[u8]) -> &[u8]
     ensures { result.now ≡ skip_blanks line.now }
 {
@@ -51,7 +51,7 @@ fn after_blanks(line: &[u8]) -> &[u8]
     rest
 }
 
-/// What stands before the blanks at the end.
+/// The line without the blanks at its end.
 fn before_blanks(line: &[u8]) -> &[u8]
     ensures { result.now ≡ reverse (skip_blanks (reverse line.now)) }
 {
@@ -65,7 +65,7 @@ fn before_blanks(line: &[u8]) -> &[u8]
     rest
 }
 
-/// What a line without blanks at its ends is that begins with a sign.
+/// The kind of a line that begins with `-` or `=`, given without the blanks at its ends.
 fn kind_by_words(words: &[u8]) -> LineKind
     ensures { result ≡ kind_of_words words.now }
 {
@@ -88,7 +88,7 @@ fn kind_by_words(words: &[u8]) -> LineKind
     }
 }
 
-/// What a line is. Most lines are items, and begin with a letter: their first byte tells it.
+/// The kind of a line. Most lines are items, and begin with a letter: their first byte decides.
 pub fn line_kind(line: &[u8]) -> LineKind
     ensures { result ≡ kind_of line.now }
 {
@@ -107,14 +107,14 @@ pub fn line_kind(line: &[u8]) -> LineKind
     }
 }
 
-/// The place of the first LF.
+/// The index of the first LF.
 fn feed_place(bytes: &[u8]) -> Option<usize>
     ensures { result ≡ position (λ b. b == 10) bytes.now }
 {
     memchr(b'\n', bytes)
 }
 
-/// The first line of what is left of a stream.
+/// The first line of the rest of a stream.
 pub fn first_line(rest: &[u8]) -> &[u8]
     requires { 0 < length rest.now }
     ensures front { result.now ≡ take (length result.now) rest.now }

@@ -16,7 +16,7 @@ use std::alloc::Global;
 /// A claim that a solver printed.
 #[derive(Clone, Copy, Debug, PartialEq, Eq)]
 pub struct Claim {
-    /// How many blocks stand before it.
+    /// How many blocks come before it.
     pub after: usize,
     pub kind: ClaimKind,
 }
@@ -28,11 +28,12 @@ pub struct Stream<'a> {
     pub claims: Vec<Claim>,
 }
 
-/// The most bytes of a stream that is read whole.
+/// The most bytes that a stream may have to be read whole.
 const MOST_BYTES: usize = 16_777_216;
 
-/// The blocks and claims of a stream of at most 16,777,216 bytes. The first fault in the stream's
-/// order is answered: of a block's text where its closing line comes, of its names after that.
+/// The blocks and claims of a stream of at most 16,777,216 bytes. The error is the first fault in
+/// the order of the stream. A fault of a block's text counts at the line that closes the block, and
+/// a name printed twice after that.
 pub fn blocks<'a>(alloc: Global, stream: &'a [u8]) -> Result<Stream<'a>, StreamError>
     // The blocks and claims of the stream, and no others.
     ensures read { IfOk result (λ found. IsReadAs stream.now
@@ -40,7 +41,7 @@ pub fn blocks<'a>(alloc: Global, stream: &'a [u8]) -> Result<Stream<'a>, StreamE
     // Each block's text is the stream's, up to a marker line.
     ensures before_markers { IfOk result (λ found. AllByRecursion (StandsBeforeMarker stream.now)
         (map block_of found.blocks.items)) }
-    // Places in a block's items count from its text's first byte.
+    // Byte ranges in a block's items count from its text's first byte.
     ensures places { IfOk result (λ found. AllByRecursion HasPlaces found.blocks.items) }
     ensures within { IfOk result (λ found. AllByRecursion
         (EndsWithin (length stream.now)) found.blocks.items) }
@@ -51,8 +52,8 @@ pub fn blocks<'a>(alloc: Global, stream: &'a [u8]) -> Result<Stream<'a>, StreamE
     // All else is refused only where the bytes are a text of no parts.
     ensures refused { IfErr result (λ e. e ≢ StreamError.Memory → e ≢ StreamError.TooLong
         → (parts : List StreamPart) → IsStreamText stream.now parts → ⊥) }
-    // The fault is that of the first block that is broken: it tells of its text and of what breaks
-    // it.
+    // The fault is that of the first broken block: it says what is wrong with its text, or with
+    // what follows it.
     ensures stops { IfErr result (λ e. e ≢ StreamError.Memory → e ≢ StreamError.TooLong
         → (parts : List StreamPart) × StopsAfter stream.now parts e) }
     ensures fault { IfErr result IsStreamFault }

@@ -20,7 +20,7 @@ pub enum Part<'a> {
     Claim(ClaimKind),
 }
 
-/// Where a splitter stands.
+/// Whether a splitter takes more of the stream, has reached its end, or has failed.
 #[derive(Clone, Copy, Debug)]
 pub enum Stage {
     Running,
@@ -71,7 +71,7 @@ impl Splitter {
         }
     }
 
-    /// Whether a part waits to be taken.
+    /// Whether a block or claim waits to be taken.
     pub fn waiting(&self) -> bool
         ensures { IsTrue result ↔ IsSome self.now.waits }
     {
@@ -99,7 +99,7 @@ impl Splitter {
     }
 
     /// Takes the items of the block that waits out of the splitter, so that `lend` moves them and
-    /// copies none. Where no block waits, or its items were taken out before, it answers none.
+    /// copies none. Gives none where no block waits, or where its items were taken out before.
     pub fn release(&mut self) -> Option<KeptItems>
         ensures same { self.new ≡ self.old }
         ensures items { IfSome result (AreOfWaiting self.old.waits) }
@@ -113,7 +113,7 @@ impl Splitter {
     /// Lends the part that waits, as `take` does, and moves into it the items that were released,
     /// if they are given back.
     pub fn lend(&self, released: Option<KeptItems>) -> Result<Option<Part<'_>>, StreamError>
-        // They are those of the block that waits, as `release` answered them.
+        // They are those of the block that waits, as `release` gave them.
         requires { IfSome released (AreOfWaiting self.now.waits) }
         ensures lent { IfOk result (λ part. Lends self.now.waits (option_map part_of part)) }
         ensures items { IfOk result (λ part. IfSome part (λ p. IsPartOfItems (part_of p))) }
@@ -154,10 +154,10 @@ impl Splitter {
     }
 
     /// Drops the part that waits, takes bytes up to the end of the line that completes the next
-    /// part, or all of them, and answers how many. After an error the splitter has failed for good.
+    /// part, or all of them, and gives how many. After an error the splitter has failed for good.
     pub fn feed(&mut self, piece: &[u8]) -> Result<usize, StreamError>
         requires { self.old.stage ≢ Finished }
-        // What is kept is what may be kept after these bytes, whatever was taken before.
+        // The splitter's state is one that fits these bytes, whatever was taken before.
         ensures fits { IfOk result (λ n. (bytes : List ℕ) (parts : List StreamPart)
             → Fits self.old bytes parts → Fed self.new bytes piece.now parts n) }
         ensures within { IfOk result (λ n. n ≤ length piece.now) }

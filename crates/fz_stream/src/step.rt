@@ -3,20 +3,21 @@ ghost use Rattle.fz_stream.specs.Step.{step_of};
 
 use crate::line::{ClaimKind, LineKind};
 
-/// What a line does to what is open.
+/// What a line does, where a block is open or none is. Blocks are given by the byte offset of their
+/// text.
 #[derive(Clone, Copy, Debug)]
 pub enum Step {
-    /// Nothing ends; then this block is open.
+    /// Nothing ends, and this block, or none, is open from then on.
     GoesOn(Option<usize>),
-    /// A block ends whose text begins there.
+    /// The block ends whose text begins at this offset.
     EndsBlock(usize),
     Claims(ClaimKind),
-    /// A claim stands in the block that begins there.
+    /// A claim is inside the block that begins at this offset, which is a fault.
     Breaks(usize),
 }
 
-/// The rules of the stream, line by line: what a line of this kind, which begins at a place, does
-/// where a block is open that begins at another.
+/// The rules of the stream, line by line: what a line of this kind that begins at the offset `at`
+/// does. `begun` is the offset of the open block, if one is open.
 pub fn after_line(begun: Option<usize>, at: usize, kind: LineKind) -> Step
     ensures { result ≡ step_of begun at kind }
 {

@@ -14,7 +14,7 @@ fails_kind refusals.TooDeep TooDeep left read is e = e
 fails_kind refusals.TooMany TooMany left read is e = e
 fails_kind _ _ left read is e = absurd is
 
--- where the next token can't stand
+-- where the next token isn't allowed
 pub fails_unexpected : {A : Type 0} (e : Refusal) (tokens : List TokenValue) (read : Read A)
     → IsRefusal e (unexpected_kind tokens) → read ≡ unexpected tokens → Fails e read tokens
 fails_unexpected e tokens read is r = fails_kind e (unexpected_kind tokens) tokens read is r

@@ -13,7 +13,7 @@ use Rattle.fz_syntax.proofs.Shorter.{Shortens, whole_shortens, at_most_shortens}
 use Rattle.fz_syntax.proofs.ListLaws.{Took, Takes, Always, chosen, marked_tokens, worded_tokens, list_takes, list_count, at_most_takes, at_most_below, at_most_again}
 use Rattle.fz_syntax.proofs.ListAgain.{list_again}
 
--- what stands behind a part doesn't go on with it
+-- what follows a part isn't a continuation of it
 pub record Ends (rest : List TokenValue) : Type 0 where
   pub no_range : next_is DotDot rest ≡ false
   pub no_args : next_is OpenParen rest ≡ false

@@ -1,4 +1,4 @@
--- Names and literals that stand where their tokens do stand in the source one behind the other.
+-- Names and literals that have the byte ranges of their tokens follow one another in the source.
 use Rattle.std.proofs.Common.{◌≡◌, ◌≤◌, ◌<◌, ℕ, List, [], ◌∷◌, ◌++◌, length, slice_range, refl, sym, ap, subst, ◌∙◌, arith}
 use Rattle.std.specs.List.{flat_map, AllByRecursion}
 use Rattle.std.proofs.lemmas.List.{append-nil}
@@ -20,7 +20,7 @@ use Rattle.fz_syntax.specs.Spots.{Spot, Stand, name_spots, literal_spots}
 use Rattle.fz_syntax.specs.Placed.{PlacedToken, AgreeWith, ArePlacedIn, unplaced, plain, placed_mark, placed_separated, placed_between, placed_name, starting_at, ending_at, placed_literal}
 use Rattle.fz_syntax.specs.Walk.{ahead, end_of, Walk}
 
--- Wherever the placed tokens stand in a source, the spots stand there.
+-- Where a source is cut into the placed tokens, the spots are in order in it.
 pub record Fits (placed : List PlacedToken) (spots : List Spot) : Type 0 where
   pub stand : (source : List ℕ) (from upto : ℕ) (cut : List SpannedToken) → AgreeWith placed cut
       → AreInOrder from upto cut → AllByRecursion (IsSpelledAtSpan source) cut

@@ -1,4 +1,4 @@
--- What the loop over an array's index sets keeps.
+-- The loop invariant over an array's index sets.
 use Rattle.std.proofs.Common.{◌≡◌, ℕ, zero, suc, List, [], ◌∷◌, ◌++◌, Ok, Err, refl, sym, ap, subst, ◌∙◌, append_assoc}
 use Rattle.std.proofs.lemmas.List.{append-nil}
 use Rattle.fz_lex.specs.Token.{TokenValue}
@@ -12,7 +12,7 @@ use Rattle.fz_syntax.specs.Offering.{with_front}
 use Rattle.fz_syntax.proofs.Separated.{fails_like}
 use Rattle.fz_syntax.proofs.Running.{front_of_none}
 
--- The index sets so far, and so many that are still read, are all of them.
+-- The index sets so far, followed by so many that are still to be read, are all of them.
 pub record Counts (limits : Limits) (left : ℕ) (front : List Literal) (tokens : List TokenValue) (all : Read (List Literal)) : Type 0 where
   pub so_far : with_front front (index_sets_at limits left tokens) ≡ all
 

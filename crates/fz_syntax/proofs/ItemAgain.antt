@@ -91,7 +91,7 @@ constraint_again limits c rest is =
     let notes = notes_again limits c.notes (Marked Semicolon ∷ rest) is.notes (semicolon_ends rest) refl in
     rw (name_again c.name (Marked OpenParen ∷ (((S ++ N) ++ mark Semicolon) ++ rest)) is.name, mark_again OpenParen (((S ++ N) ++ mark Semicolon) ++ rest), regrouped, args, notes, mark_again Semicolon rest) refl
 
--- what stands behind the annotations of the solve item goes on with none of them
+-- what follows the annotations of the solve item is a continuation of none of them
 goal_ends : (g : Goal) (rest : List TokenValue) → Ends (goal_toks g ++ rest)
 goal_ends Satisfy rest = record { no_range = refl; no_args = refl }
 goal_ends (Minimize e) rest = record { no_range = refl; no_args = refl }

@@ -326,7 +326,7 @@ var_takes tokens x e =
 
 -- ---- predicates
 
--- five parts, and what stands behind them
+-- five parts, and what follows them
 pub flat5 : (a b c d e rest : List TokenValue)
     → ((((a ++ b) ++ c) ++ d) ++ e) ++ rest ≡ a ++ (b ++ (c ++ (d ++ (e ++ rest))))
 flat5 a b c d e rest = simp append_assoc

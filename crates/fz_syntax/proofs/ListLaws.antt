@@ -129,7 +129,7 @@ pub many_takes : {A : Type 0} (toks : A → List TokenValue) (Is : A → Type 0)
 unfolding many_at
 many_takes toks Is more part takes i tokens xs e = many_upto_takes toks Is more part takes (length tokens) i tokens xs e
 
--- a part keeps to its place below a limit
+-- where parts are read only at indices below a limit, there are at most that many
 many_upto_count : {A : Type 0} (limit : ℕ) (more : TokenValue → Bool) (part : ℕ → Reader A)
     → ((i : ℕ) (tokens : List TokenValue) (x : A × List TokenValue) → part i tokens ≡ Ok x → i < limit)
     → (fuel i : ℕ) (tokens : List TokenValue) (xs : List A × List TokenValue) → i ≤ limit → many_upto fuel more part i tokens ≡ Ok xs → i + length xs.0 ≤ limit

@@ -86,8 +86,8 @@ note_basic_takes limits depth inner takes (Word w ∷ rest) x e = note_basic_tak
 note_basic_takes limits depth inner takes (Whole n ∷ rest) x e = note_basic_takes_plain limits depth inner takes (Whole n ∷ rest) x e
 note_basic_takes limits depth inner takes (Marked m ∷ rest) x e = note_basic_takes_plain limits depth inner takes (Marked m ∷ rest) x e
 
--- a note basic begins as one does, where the inner reader's first token is a name that isn't too
--- deep
+-- an element of an annotation's arguments begins as one does, where the inner reader's first token
+-- is a name that isn't too deep
 StartsDeep : ℕ → Reader Note → Type 0
 StartsDeep depth inner = (tokens : List TokenValue) (x : Note × List TokenValue) → inner tokens ≡ Ok x → next_passes (is_deep_name depth) tokens ≡ true
 

@@ -289,7 +289,7 @@ all_read : (ps : List Predicate) (ds : List Decl) (cs : List Constraint) (s : So
 unfolding tree_at
 all_read ps ds cs s i left found h = rw (h.predicates, h.decls, h.constraints, found) refl
 
--- tokens stand behind it
+-- tokens follow it
 pub more_refused : (ps : List Predicate) (ds : List Decl) (cs : List Constraint) (s : Solve)
     (i : Items) (r : Refusal) (e : SyntaxError) (left : List TokenValue)
     → solve_at the_limits (lexemes i.parser) ≡ Ok (bare_solve s, left) → 0 < length left
@@ -299,7 +299,7 @@ unfolding tree_of
 more_refused ps ds cs s i r e left found some kind by h =
     refused_if i.source.now h.start r e h.after.begins (λ of. refused_more same_tree r e (tree_at the_limits) (lexemes h.start) left _ (all_read ps ds cs s i left found h) some of kind) by
 
--- nothing stands behind it
+-- nothing follows it
 pub text_of_all : (ps : List Predicate) (ds : List Decl) (cs : List Constraint) (s : Solve)
     (i : Items) (now : Parser) → solve_at the_limits (lexemes i.parser)
     ≡ Ok (bare_solve s, lexemes now) → ahead now ≡ [] → Walk i.parser now (placed_solve s)

@@ -1,5 +1,5 @@
--- The canonical text of each part of a tree is cut into the tokens of the part, whatever stands
--- behind it.
+-- The canonical text of each part of a tree is cut into the tokens of the part, whatever follows
+-- it.
 use Rattle.std.proofs.Common.{ℕ, ℤ, pos, Bool, true, false, List, [], ◌∷◌, ◌++◌, Option, Some, None, ap, refl, sym, subst, append_assoc, arith}
 use Rattle.std.specs.Prelude.{codes}
 use Rattle.std.specs.List.{flat_map, AllByRecursion}
@@ -20,7 +20,7 @@ use Rattle.fz_syntax.specs.Print.{separated_text, literal_text, basic_text, expr
 abbrev pub IsPrintable : TokenValue → Type 0
 IsPrintable t = IsTokenText t × IsTokenWithinLimit t
 
--- what may stand behind a text: anything, or what ends a word and a number (`EndsNumber`)
+-- what may follow a text: anything, or what ends a word and a number (`EndsNumber`)
 abbrev Anything : List ℕ → Type 0
 Anything rest = Unit {0}
 

@@ -1,5 +1,4 @@
--- The definitions, computed on worked texts. Each row gives the tokens of a text and the tree that
--- stands for it.
+-- The definitions, computed on worked texts. Each row gives the tokens of a text and its tree.
 use Rattle.std.proofs.Common.{◌≡◌, pos, true, false, List, [], ◌∷◌, Some, None, Ok, Err, refl}
 use Rattle.std.specs.Prelude.{codes}
 use Rattle.fz_lex.specs.declared.token.Mark.TheVariants.{OpenParen, CloseParen, OpenBracket, CloseBracket, OpenBrace, CloseBrace, Comma, Semicolon, Colon, ColonColon, DotDot}

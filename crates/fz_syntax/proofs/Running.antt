@@ -1,4 +1,4 @@
--- What the parser's loops keep.
+-- The invariants of the parser's loops.
 use Rattle.std.proofs.Common.{◌≡◌, ◌+◌, ℕ, suc, Bool, true, false, cond, drop, List, [], ◌∷◌, ◌++◌, length, map, Ok, Err, refl, sym, ap, subst, ◌∙◌, arith, length-append}
 use Rattle.std.proofs.lemmas.List.{map_push}
 use Rattle.fz_syntax.specs.declared.parser.refusal.Refusal.{Refusal}
@@ -14,7 +14,8 @@ use Rattle.fz_syntax.specs.Offering.{Gathers, with_front}
 use Rattle.fz_syntax.proofs.Lists.{Shrinks, loop_step, loop_fails, loop_ends}
 use Rattle.fz_syntax.proofs.Separated.{separated_starts, separated_fails, marked_step, marked_fails, marked_ends, Taken, fails_like}
 
--- The parts so far, and those that are still read, each behind the mark, are all of them.
+-- The parts so far, followed by those that are still to be read, each after the mark, are all of
+-- them.
 pub record Continues {A : Type 0} (m : Mark) (part : ℕ → Reader A) (front : List A) (tokens : List TokenValue) (all : Read (List A)) : Type 0 where
   pub so_far : with_front front (many_at (is_mark m) (after_token part) (length front) tokens) ≡ all
 

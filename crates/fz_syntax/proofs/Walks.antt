@@ -92,7 +92,7 @@ pub passed_on : {X : Type 0} (p q r : Parser) (result : Result X Refusal) → Pa
 passed_on p q r (Ok x) a b = passed_then a b
 passed_on p q r (Err e) a b = tt
 
--- ---- and their places
+-- ---- and their byte ranges
 
 agree_then : (s t : List PlacedToken) (xs ys : List SpannedToken) → AgreeWith s xs → AgreeWith t ys
     → AgreeWith (s ++ t) (xs ++ ys)
@@ -130,7 +130,7 @@ walk_then {p} {q} {r} {s} {t} w v = record { taken = w.taken ++ v.taken; on = co
 pub walk_end : {p q r : Parser} {s : List PlacedToken} → Walk p q s → Walk q r [] → Walk p r s
 walk_end {p} {q} {r} {s} w v = subst (λ (t : List PlacedToken). Walk p r t) (append-nil s) (walk_then w v)
 
--- ---- tokens of which no place is told
+-- ---- tokens of which no offset is known
 
 abbrev values : List SpannedToken → List TokenValue
 values ts = map (λ t. t.token) ts
@@ -193,7 +193,7 @@ ate_word {p} {q} text b wanted found left w =
     let behind : lexemes q ≡ drop 1 (lexemes p) = left ∙ ap (λ (c : Bool). cond c (drop 1 (lexemes p)) (lexemes p)) there in
     plain_walk (word text) w (worded_tokens text (lexemes p) there ∙ ap (λ (ts : List TokenValue). Word text ∷ ts) (sym behind))
 
--- the word `var`, where it stands
+-- the word `var`, where it is there
 abbrev var_word : List ℕ
 var_word = codes "var"
 
@@ -262,7 +262,7 @@ ends n from (p ∷ []) (x ∷ (y ∷ xs)) e a = absurd a.1
 ends n from (p ∷ (q ∷ s)) [] e a = absurd a
 ends n from (p ∷ (q ∷ s)) (x ∷ xs) e a = (a.0, ends n x.end (q ∷ s) xs e a.1)
 
--- a literal stands from where its first token starts up to where its last one ends
+-- a literal goes from where its first token starts up to where its last one ends
 literal_walk : {p q : Parser} (l : Literal) → Passed p q
     → lexemes p ≡ literal_toks (bare_literal l) ++ lexemes q
     → l.span.start ≡ start_of (ahead p) p.end → l.span.end ≡ q.reached → Walk p q (placed_literal l)

@@ -1,7 +1,7 @@
--- The items of a model as they are offered, one behind another, each kind in its turn.
--- Only `TreeItems`, `IsTextOfAll` and `IsRefused` are to be believed. The others say what was
--- offered so far; what follows from them at the end is said by `IsTextOfAll`, and that they hold at
--- the beginning by `Items::new`.
+-- The items of a model as they are offered, one after another, each kind in its turn. A reader need
+-- believe only `TreeItems`, `IsTextOfAll` and `IsRefused`. The others say what was offered so far:
+-- `Items::new` promises that they hold at the beginning, and `IsTextOfAll` says what they come to
+-- at the end.
 use Rattle.std.specs.Prelude.{◌≡◌, ◌≤◌, ℕ, List, [], ◌++◌, map, length, codes, Bool, Option, Some, None, Result, Ok, Err}
 use Rattle.std.specs.List.{flat_map}
 use Rattle.fz_lex.specs.View.{IsLexicalFault, IsPlacedWithin}
@@ -64,22 +64,22 @@ abbrev pub spots_all : TreeItems → List Spot
 spots_all t = flat_map predicate_spots t.predicates ++ (flat_map decl_spots t.decls
     ++ (flat_map constraint_spots t.constraints ++ solve_spots t.solve))
 
--- The source is a text of these items, and they stand where their tokens do: so the names and
--- literals stand one behind the other.
+-- The source is a text of these items, and they have the byte ranges of their tokens, so the names
+-- and literals follow one another.
 pub record IsTextOfAll (source : List ℕ) (t : TreeItems) : Type 0 where
   pub text : IsTextOfTree source (bare_all t)
   pub placed : ArePlacedIn source (placed_all t)
   pub stands : Stand source 0 (length source) (spots_all t)
 
--- The source is a text of no tree, unless memory ran out, and the fault comes in the order of
--- faults.
+-- The source is a text of no tree, unless memory ran out, and the fault is the first in the order
+-- of faults.
 pub record IsRefused (source : List ℕ) (e : SyntaxError) : Type 0 where
   pub no_tree : (t : tree.Tree) → IsTextOfTree source t → e ≡ Memory
   pub order : IsRefusalOf source e
   pub place : IsPlacedWithin (length source) e
 
--- The grammar refused a token for a reason, and this is told of the source: a lexical fault, or
--- else the reason, at a place.
+-- The grammar refused a token for a reason, and this is the error given: a lexical fault, or else
+-- the reason, at some byte range.
 pub data IsRefusedBy (source : List ℕ) (reason : Refusal) (e : SyntaxError) : Type 0 where
   by_lexer : IsLexicalFault source e → ((tokens : List SpannedToken)
       → LexesWithinLimits source tokens → ⊥) → IsPlacedWithin (length source) e
@@ -89,11 +89,11 @@ pub data IsRefusedBy (source : List ℕ) (reason : Refusal) (e : SyntaxError) : 
 
 -- ---- what was offered so far
 
--- what was read before, and what is still read
+-- what was read before, followed by what is read next
 abbrev pub with_front : {A : Type 0} → List A → Read (List A) → Read (List A)
 with_front front read = read >>= λ x. Ok (front ++ x.0, x.1)
 
--- The items so far, and those that are still read, are all of them.
+-- The items so far, followed by those that are still to be read, are all items.
 pub record Gathers {A : Type 0} (more : TokenValue → Bool) (item : Reader A) (front : List A)
     (tokens : List TokenValue) (all : Read (List A)) : Type 0 where
   pub so_far : with_front front (many_at more (any_number item) (length front) tokens) ≡ all

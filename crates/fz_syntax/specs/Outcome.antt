@@ -1,5 +1,5 @@
--- Of the code; a reader of the contracts need not believe this file. What a method of the parser
--- returned, held against what reading gives.
+-- Used only by private functions: a reader of the contracts need not believe this file. How what a
+-- method of the parser returned agrees with what the definitions in Reading give.
 use Rattle.std.specs.Prelude.{◌≡◌, if◌then◌else◌, List, ◌∷◌, Result, Ok, Err}
 use Rattle.fz_lex.specs.declared.error.SyntaxError.{SyntaxError}
 use Rattle.fz_lex.specs.declared.error.SyntaxError.TheVariants as errors
@@ -31,7 +31,7 @@ IsRefusal refusals.TooDeep TooDeep = Unit {0}
 IsRefusal refusals.TooMany TooMany = Unit {0}
 IsRefusal _ _ = ⊥
 
--- an error is this refusal's, at some place
+-- an error is this refusal's, at some byte range
 abbrev pub IsErrorOf : Refusal → SyntaxError → Type 0
 IsErrorOf refusals.Syntax (errors.Syntax place) = Unit {0}
 IsErrorOf refusals.Float (errors.Float place) = Unit {0}
@@ -48,8 +48,8 @@ Fails refusals.Float read left = read ≡ Err (record { kind = Float; left = lef
 Fails refusals.TooDeep read left = read ≡ Err (record { kind = TooDeep; left = left })
 Fails refusals.TooMany read left = read ≡ Err (record { kind = TooMany; left = left })
 
--- A result, seen by view, and the tokens that are left are what reading gives, unless memory ran
--- out.
+-- A result, as plain data by `view`, and the tokens that are left are what reading gives, unless
+-- memory ran out.
 abbrev pub Gives : {X A : Type 0} → (X → A) → Result X Refusal → Read A → List TokenValue → Type 0
 Gives view (Ok x) read left = read ≡ Ok (view x, left)
 Gives view (Err e) read left = Fails e read left
@@ -64,17 +64,17 @@ IsWhole view (Ok x) read = read ≡ Ok (view x)
 IsWhole view (Err errors.Memory) read = Unit {0}
 IsWhole view (Err e) read = (f : Fault) × (read ≡ Err f) × IsFault e f.kind
 
--- the token that a literal of one token is
+-- the token of a literal of one token
 abbrev pub plain_token : Plain → TokenValue
 plain_token (plains.Whole z) = Whole z
 plain_token (plains.Truth b) = Word (truth_word b)
 
--- and what the literal is
+-- and the kind of that literal
 abbrev pub plain_kind : Plain → LiteralKind
 plain_kind (plains.Whole z) = literals.Whole z
 plain_kind (plains.Truth b) = literals.Truth b
 
--- the literal is the first token, a comma is the second, and behind them stand the tokens after
+-- the literal is the first token, a comma is the second, and the other tokens follow
 abbrev pub IsListed : Literal → List TokenValue → List TokenValue → Type 0
 IsListed (Number z) before after = before ≡ Whole z ∷ (Marked Comma ∷ after)
 IsListed (Truth b) before after = before ≡ Word (truth_word b) ∷ (Marked Comma ∷ after)

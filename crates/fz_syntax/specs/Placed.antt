@@ -1,7 +1,6 @@
--- The tokens of a tree with their places in its source, as far as the tree keeps them: of a name
--- where its token starts and ends, of a literal where its first token starts and where its last one
--- ends. A place counts bytes from 0. Without the places the lists are those of Tokens. (This
--- project's profile.)
+-- The tokens of a tree with their byte offsets in its source, as far as the tree has them: of a
+-- name where its token starts and ends, of a literal where its first token starts and where its
+-- last one ends. Without the offsets the lists are those of Tokens. (This project's profile.)
 use Rattle.std.specs.Prelude.{◌≡◌, ℕ, List, [], ◌∷◌, ◌++◌, length, map, Option, Some, None, IfSome, codes}
 use Rattle.std.specs.List.{flat_map}
 use Rattle.fz_lex.specs.declared.token.Mark.{Mark}
@@ -35,15 +34,15 @@ use Rattle.fz_syntax.specs.declared.tree.NoteBasic.{NoteBasic}
 use Rattle.fz_syntax.specs.declared.tree.NoteArg.TheFolds.{fold-NoteArg, fold-NoteBasic, fold-Note}
 use Rattle.fz_syntax.specs.declared.tree.NoteArg.TheOpen.{NoteArg-F, NoteBasic-F, Note-F}
 
--- A token, and its start and its end where they are told.
+-- A token, and the byte offsets of its start and its end, where they are known.
 pub record PlacedToken : Type 0 where
   pub token : TokenValue
   pub start : Option ℕ
   pub end : Option ℕ
 
--- ---- where they stand
+-- ---- tokens with offsets against a cut of the source
 
--- It is this token of a cut, and what is told of its place is so.
+-- It is this token of a cut, with the offsets that are known.
 pub record Agrees (p : PlacedToken) (t : SpannedToken) : Type 0 where
   pub token : p.token ≡ t.token
   pub start : IfSome p.start (λ n. n ≡ t.start)
@@ -56,12 +55,13 @@ AgreeWith [] (t ∷ cut) = ⊥
 AgreeWith (p ∷ placed) [] = ⊥
 AgreeWith (p ∷ placed) (t ∷ cut) = Agrees p t × AgreeWith placed cut
 
--- The source is cut into these tokens, and each stands where it is told to. (A source has one cut.)
+-- The source is cut into these tokens, and each has the offsets that are known. (A source has one
+-- cut.)
 abbrev pub ArePlacedIn : List ℕ → List PlacedToken → Type 0
 ArePlacedIn source placed =
     (cut : List SpannedToken) × LexesToSpanned source cut × AgreeWith placed cut
 
--- ---- tokens of which no place is told
+-- ---- tokens of which no offset is known
 
 abbrev pub unplaced : TokenValue → PlacedToken
 unplaced t = record { token = t; start = None; end = None }
@@ -114,7 +114,7 @@ placed_expr (exprs.One b) = placed_basic b
 placed_expr (exprs.List bs) =
     placed_between OpenBracket CloseBracket (placed_separated placed_basic bs.items)
 
--- ---- annotations, a layer at a time: the parts of a layer are placed already
+-- ---- annotations, a layer at a time: the parts of a layer are given as their tokens
 
 abbrev pub placed_parts : List (List PlacedToken) → List PlacedToken
 placed_parts parts = placed_separated (λ part. part) parts
@@ -152,7 +152,7 @@ abbrev pub placed_note : Note → List PlacedToken
 placed_note = fold-Note (List PlacedToken) (List PlacedToken)
     (List PlacedToken) placed_arg_layer placed_note_basic_layer placed_note_layer
 
--- annotations, each behind `::`
+-- annotations, each after `::`
 abbrev pub placed_notes : List Note → List PlacedToken
 placed_notes notes = flat_map (λ n. unplaced (Marked ColonColon) ∷ placed_note n) notes
 

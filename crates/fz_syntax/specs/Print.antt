@@ -1,8 +1,8 @@
--- The canonical text of a tree, byte by byte (this project's profile). Each item is a line. One
--- blank stands on each side of `=` and of each `::`, one behind the `:` of a declaration or a
--- parameter, one behind each reserved word that is followed by more of its type or item, one before
--- `satisfy`, `minimize` and `maximize`, and one on each side of the brackets behind `array`. No
--- others stand outside of strings.
+-- The canonical text of a tree, byte by byte (this project's profile). Each item is a line. There
+-- is one blank on each side of `=` and of each `::`, one after the `:` of a declaration or a
+-- parameter, one after each reserved word that is followed by more of its type or item, one before
+-- `satisfy`, `minimize` and `maximize`, and one on each side of the brackets after `array`. There
+-- are no others outside strings.
 use Rattle.std.specs.Prelude.{ℕ, pos, Bool, true, false, List, [], ◌∷◌, ◌++◌, Option, Some, None, codes}
 use Rattle.std.specs.List.{flat_map, AllByRecursion}
 use Rattle.std.specs.Fmt.{signed_decimal}
@@ -11,7 +11,7 @@ use Rattle.fz_lex.specs.Limits.{IsTokenWithinLimit}
 use Rattle.fz_syntax.specs.Tree.{Literal, Number, Truth, Range, Braces, Basic, Lit, Named, Expr, One, Several, Note, Called, NoteArgs, NoMoreArgs, MoreArgs, NoteArg, OneBasic, ListOf, NoteBasics, NoMoreBasics, MoreBasics, NoteBasic, NoteLiteral, NoteFloat, NoteString, Inner, Base, BoolBase, IntBase, SetBase, Param, Predicate, Decl, Constraint, Goal, Satisfy, Minimize, Maximize, Solve, Tree}
 use Rattle.fz_syntax.specs.Tokens.{truth_word, toks}
 
--- elements, each behind a comma
+-- elements, each after a comma
 abbrev pub text_after_commas : {A : Type 0} → (A → List ℕ) → List A → List ℕ
 text_after_commas text xs = flat_map (λ x. codes "," ++ text x) xs
 
@@ -22,7 +22,7 @@ separated_text text (x ∷ xs) = text x ++ text_after_commas text xs
 
 -- ---- expressions
 
--- integers in decimal, behind `-` where negative
+-- integers in decimal, after `-` where negative
 abbrev pub literal_text : Literal → List ℕ
 literal_text (Number n) = signed_decimal n
 literal_text (Truth b) = truth_word b
@@ -43,7 +43,7 @@ arguments_text args = codes "(" ++ separated_text expr_text args ++ codes ")"
 
 -- ---- annotations
 
--- Floats and strings stand as they were written. Arguments and elements have commas between them,
+-- Floats and strings are as they were written. Arguments and elements have commas between them,
 -- without blanks.
 abbrev mutual
   pub note_text : Note → List ℕ
@@ -150,7 +150,7 @@ tree_text t = flat_map predicate_text t.predicates ++ flat_map decl_text t.decls
 
 -- ---- trees that can be written
 
--- Each token of the tree has a text, and its numbers are within the limit. So it is of each tree
+-- Each token of the tree has a text, and its numbers are within the limit. That is so for each tree
 -- that was read.
 pub record CanBeWritten (t : Tree) : Type 0 where
   pub texts : AllByRecursion IsTokenText (toks t)

@@ -1,8 +1,8 @@
--- Of the code; a reader of the contracts need not believe this file. Reading a tree from the front
--- of a token list, from left to right: the value and the tokens after it, or the first fault. A
--- fault stands at the first token with which the tokens so far no longer begin a text of the
--- grammar, or where a limit is passed; it keeps the tokens from that one on. (The order of refusals
--- is this project's profile.)
+-- Used only by private functions: a reader of the contracts need not believe this file. Reading a
+-- tree from the front of a token list, from left to right, gives the value and the tokens after it,
+-- or the first fault. A fault is at the first token with which the tokens so far no longer begin a
+-- text of the grammar, or where a limit is passed; the tokens from that one on are given with it.
+-- (The order of refusals is this project's profile.)
 use Rattle.std.specs.Prelude.{ℕ, zero, suc, ◌+◌, ℤ, pos, negsuc, Bool, true, false, not, ◌||◌, ◌&&◌, if◌then◌else◌, ◌==◌, nat_le, List, [], ◌∷◌, length, drop, Option, Some, None, Result, Ok, Err, codes}
 use Rattle.std.specs.Str.{bytes_eq}
 use Rattle.std.specs.Ordering.{int_eq}
@@ -78,7 +78,7 @@ is_float (FloatText text) = true
 is_float (Word w) = bytes_eq w (codes "float")
 is_float _ = false
 
--- the first token can't stand here
+-- the first token isn't allowed here
 abbrev pub unexpected : {A : Type 0} → Reader A
 unexpected tokens =
     Err (record { kind = if next_passes is_float tokens then Float else Syntax; left = tokens })
@@ -107,7 +107,8 @@ whole_at tokens = unexpected tokens
 
 -- ---- lists
 
--- Parts one after another, as long as the next token passes a test. A part knows its place.
+-- Parts one after another, as long as the next token passes a test, and at most so many. The reader
+-- of a part is given the part's index.
 unfoldable pub many_upto : {A : Type 0} → ℕ → (TokenValue → Bool) → (ℕ → Reader A) → ℕ
     → Reader (List A)
 many_upto zero more part i tokens = Ok ([], tokens)
@@ -115,14 +116,15 @@ many_upto (suc fuel) more part i tokens =
     if next_passes more tokens then (part i tokens >>= λ first. many_upto fuel more part
     (i + 1) first.1 >>= λ others. Ok (first.0 ∷ others.0, others.1)) else Ok ([], tokens)
 
--- Each part takes a token at least, so there are no more parts than tokens.
+-- The same without a bound: each part takes at least one token, so there are no more parts than
+-- tokens.
 unfoldable pub many_at : {A : Type 0} → (TokenValue → Bool) → (ℕ → Reader A) → ℕ → Reader (List A)
 many_at more part i tokens = many_upto (length tokens) more part i tokens
 
 abbrev pub after_token : {A : Type 0} → (ℕ → Reader A) → ℕ → Reader A
 after_token part i tokens = part i (drop 1 tokens)
 
--- one element, and those behind commas
+-- one element, and those after commas
 unfoldable pub separated_at : {A : Type 0} → (ℕ → Reader A) → Reader (List A)
 separated_at element tokens = do
   first ← element 0 tokens
@@ -136,12 +138,11 @@ list_at close element tokens =
     (separated_at element tokens >>= λ elements. mark_at close elements.1 >>= λ closed. Ok
     (elements.0, closed.1))
 
--- an element at any place
+-- an element, whatever its index
 abbrev pub any_number : {A : Type 0} → Reader A → ℕ → Reader A
 any_number element i tokens = element tokens
 
--- an element of a list that holds at most so many; begins says whether an element can begin with a
--- token
+-- an element of a list of at most so many; `begins` tells whether an element can begin with a token
 abbrev pub at_most : {A : Type 0} → ℕ → (TokenValue → Bool) → Reader A → ℕ → Reader A
 at_most limit begins element i tokens =
     if nat_le limit i && next_passes begins tokens then too_many tokens else element tokens
@@ -163,13 +164,13 @@ is_name _ = false
 abbrev pub begins_basic : TokenValue → Bool
 begins_basic t = is_name t || begins_literal t
 
--- numbers in braces, behind the brace that opens
+-- numbers in braces, after the brace that opens
 unfoldable pub braces_at : Limits → Reader Literal
 braces_at limits tokens = do
   numbers ← list_at CloseBrace (at_most limits.elements is_whole whole_at) tokens
   Ok (Braces numbers.0, numbers.1)
 
--- behind an integer: it is the low end of a range, or stands alone
+-- after an integer: it is the low end of a range, or a literal by itself
 unfoldable pub from_whole : ℤ → Reader Literal
 from_whole low tokens =
     if next_is DotDot tokens then (whole_at (drop 1 tokens) >>= λ high. Ok
@@ -212,7 +213,7 @@ is_quoted _ = false
 abbrev pub begins_note_basic : ℕ → TokenValue → Bool
 begins_note_basic depth t = is_quoted t || (is_deep_name depth t || begins_literal t)
 
--- an element of an annotation's arguments, where inner reads an annotation
+-- an element of an annotation's arguments, where `inner` reads an annotation
 unfoldable pub note_basic_at : Limits → Reader Note → Reader NoteBasic
 note_basic_at limits inner (FloatText text ∷ rest) = Ok (NoteFloat text, rest)
 note_basic_at limits inner (StringText text ∷ rest) = Ok (NoteString text, rest)
@@ -231,7 +232,7 @@ note_arg_at limits depth inner tokens =
     (ListOf (basic_list bs.0), bs.1))
     else (note_basic_at limits inner tokens >>= λ b. Ok (OneBasic b.0, b.1))
 
--- behind an annotation's name: its arguments, if it has any
+-- after an annotation's name: its arguments, if it has any
 unfoldable pub note_args_at : Limits → ℕ → Reader Note → Reader (List NoteArg)
 note_args_at limits depth inner tokens =
     if next_is OpenParen tokens
@@ -315,7 +316,7 @@ index_at limits tokens = do
   dots ← mark_at DotDot one.1
   size_at limits dots.1
 
--- behind the word `array`: the length, in brackets, and the word `of`
+-- after the word `array`: the length, in brackets, and the word `of`
 unfoldable pub array_at : {A : Type 0} → Reader A → Reader A
 array_at index tokens = do
   opened ← mark_at OpenBracket tokens
@@ -374,7 +375,7 @@ prefix_at limits tokens =
 unfoldable pub literal_basic_at : Limits → Reader Basic
 literal_basic_at limits tokens = literal_at limits tokens >>= λ l. Ok (Lit l.0, l.1)
 
--- the value behind `=`, or behind its bracket: of an array a list, of a parameter of literals
+-- the value after `=`, or after its bracket: of an array a list, of a parameter of literals
 unfoldable pub value_at : Limits → (is_var : Bool) → (length : Option ℕ) → Reader Expr
 value_at limits true None tokens = basic_at limits tokens >>= λ b. Ok (One b.0, b.1)
 value_at limits false None tokens = literal_basic_at limits tokens >>= λ b. Ok (One b.0, b.1)

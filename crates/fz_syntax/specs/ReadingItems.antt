@@ -1,5 +1,5 @@
--- Of the code; a reader of the contracts need not believe this file. Reading printed items from the
--- front of a token list, as Reading does for a tree.
+-- Used only by private functions: a reader of the contracts need not believe this file. Reading
+-- printed items from the front of a token list, as Reading does for a tree.
 use Rattle.std.specs.Prelude.{ℕ, zero, suc, if◌then◌else◌, ◌==◌, List, [], ◌∷◌, drop, Result, Ok, codes}
 use Rattle.std.specs.Str.{bytes_eq}
 use Rattle.fz_lex.specs.declared.token.Mark.TheVariants.{OpenParen, CloseParen, OpenBracket, CloseBracket, Comma, Semicolon, Equals}
@@ -8,7 +8,7 @@ use Rattle.fz_syntax.specs.Tree.{Literal, PrintedValue, OneValue, ArrayOf, Print
 use Rattle.fz_syntax.specs.Shape.{Limits}
 use Rattle.fz_syntax.specs.Reading.{Fault, Reader, ◌>>=◌, mark_at, name_at, is_name, many_at, any_number, at_most, list_at, literal_at, bounds_at, begins_literal, whole}
 
--- how many index sets the array has that the word begins; 0 where it begins none
+-- how many index sets the array that the word begins has; 0 where the word begins no array
 abbrev pub dimensions_of : List ℕ → ℕ
 dimensions_of w =
     if bytes_eq w (codes "array1d") then 1
@@ -22,12 +22,12 @@ abbrev pub token_dimensions : TokenValue → ℕ
 token_dimensions (Word w) = dimensions_of w
 token_dimensions _ = 0
 
--- the same of the first token
+-- the same for the first token
 abbrev pub next_dimensions : List TokenValue → ℕ
 next_dimensions [] = 0
 next_dimensions (t ∷ rest) = token_dimensions t
 
--- an index set and the comma behind it
+-- an index set and the comma after it
 unfoldable pub index_set_at : Limits → Reader Literal
 index_set_at limits tokens = do
   bounds ← bounds_at limits tokens
@@ -41,12 +41,12 @@ index_sets_at limits (suc n) tokens =
     index_set_at limits tokens >>= λ first. index_sets_at limits n first.1 >>= λ others. Ok
     (first.0 ∷ others.0, others.1)
 
--- literals behind the bracket that opens their list
+-- literals after the bracket that opens their list
 unfoldable pub elements_at : Limits → Reader (List Literal)
 elements_at limits tokens =
     list_at CloseBracket (at_most limits.elements begins_literal (literal_at limits)) tokens
 
--- an array of so many index sets, behind its word
+-- an array of so many index sets, after its word
 unfoldable pub printed_array_at : Limits → ℕ → Reader PrintedValue
 printed_array_at limits dimensions tokens = do
   opened ← mark_at OpenParen tokens

@@ -1,4 +1,4 @@
--- Which plain trees are trees of the grammar, and which lie within the limits. (MiniZinc Handbook,
+-- Which plain trees are trees of the grammar, and which are within the limits. (MiniZinc Handbook,
 -- FlatZinc grammar; the limits and the words that are no names are this project's profile.)
 use Rattle.std.specs.Prelude.{◌≡◌, ◌≤◌, ◌+◌, ℕ, zero, suc, Bool, true, false, ◌||◌, List, [], ◌∷◌, length, Option, Some, None, codes, IfSome}
 use Rattle.std.specs.List.{list_any, AllByRecursion}
@@ -30,7 +30,7 @@ abbrev pub IsName : List ℕ → Type 0
 IsName text = is_reserved text ≡ false
 
 -- How large a tree may be: elements of a list in brackets or braces, the length of an array, and
--- how deep annotations stand in one another (this project's profile).
+-- how deep annotations are nested (this project's profile).
 pub record Limits : Type 0 where
   pub elements : ℕ
   pub size : ℕ
@@ -62,7 +62,7 @@ abbrev pub IsExpr : Limits → Expr → Type 0
 IsExpr limits (One b) = IsBasic limits b
 IsExpr limits (Several bs) = (length bs ≤ limits.elements) × AllByRecursion (IsBasic limits) bs
 
--- ---- annotations, at most this many levels of them in one another
+-- ---- annotations, nested at most this many levels deep
 
 abbrev pub count_basics : NoteBasics → ℕ
 count_basics NoMoreBasics = 0
@@ -180,8 +180,8 @@ pub record HasShape (limits : Limits) (m : Tree) : Type 0 where
   pub constraints : AllByRecursion (IsConstraint limits) m.constraints
   pub solve : IsSolve limits m.solve
 
--- A tree of the grammar within the limits: its parts are, and each of its tokens has a text (so a
--- name is a word that can be written, and a float's text is that of a float).
+-- A tree of the grammar within the limits: its parts are so, and each of its tokens has a text (so
+-- a name is a word that can be written, and a float's text is that of a float).
 pub record IsTree (limits : Limits) (t : Tree) : Type 0 where
   pub shape : HasShape limits t
   pub texts : AllByRecursion IsTokenText (toks t)

@@ -1,5 +1,5 @@
--- Where the names and literals of a tree stand in its source, in the order of reading. A place
--- counts bytes from 0. (This project's profile.)
+-- The byte ranges of the names and literals of a tree in its source, in the order of reading. (This
+-- project's profile.)
 use Rattle.std.specs.Prelude.{◌≡◌, ◌≤◌, ◌<◌, ℕ, List, [], ◌∷◌, ◌++◌, Option, Some, None, IfSome, slice_range}
 use Rattle.std.specs.List.{flat_map}
 use Rattle.fz_syntax.specs.declared.tree.Literal.{Literal}
@@ -27,14 +27,14 @@ use Rattle.fz_syntax.specs.declared.tree.NoteBasic.{NoteBasic}
 use Rattle.fz_syntax.specs.declared.tree.NoteArg.TheFolds.{fold-NoteArg, fold-NoteBasic, fold-Note}
 use Rattle.fz_syntax.specs.declared.tree.NoteArg.TheOpen.{NoteArg-F, NoteBasic-F, Note-F}
 
--- A name or a literal: from where to where it stands, and of a name its text.
+-- The byte range of a name or a literal, and of a name its text.
 pub record Spot : Type 0 where
   pub start : ℕ
   pub end : ℕ
   pub text : Option (List ℕ)
 
--- From one place of the source up to another stand the spots, none of them empty, one behind the
--- other, and the text of each name is the slice of the source where it stands.
+-- Between the two byte offsets of the source are the spots, none of them empty, one after another,
+-- and the text of each name is the slice of the source at its range.
 abbrev pub Stand : (source : List ℕ) → ℕ → ℕ → List Spot → Type 0
 Stand source from upto [] = from ≤ upto
 Stand source from upto (s ∷ spots) =

@@ -1,5 +1,5 @@
--- Texts of a tree and of printed items, and what a call that reads them answers.
--- (MiniZinc Handbook, FlatZinc grammar; the limits are this project's profile.)
+-- Texts of a tree and of printed items, and what a call that reads them gives. (MiniZinc Handbook,
+-- FlatZinc grammar; the limits are this project's profile.)
 use Rattle.std.specs.Prelude.{◌≡◌, ◌<◌, ℕ, List, length, Result, Ok, Err}
 use Rattle.std.specs.List.{AllByRecursion}
 use Rattle.fz_lex.specs.Lexing.{SpannedToken}
@@ -27,9 +27,9 @@ IsValue view (Ok x) value = view x ≡ value
 IsValue view (Err errors.Memory) value = Unit {0}
 IsValue view (Err _) value = ⊥
 
--- What a refusal tells of the source. One by the lexer, which comes first, is its leftmost lexical
--- fault; one by the grammar comes only of a source that lexes within the limits. (The order is this
--- project's profile.)
+-- What a refusal says about the source. One by the lexer, which comes first, is its leftmost
+-- lexical fault; one by the grammar comes only for a source that lexes within the limits. (The
+-- order is this project's profile.)
 abbrev pub IsRefusalOf : List ℕ → SyntaxError → Type 0
 IsRefusalOf source errors.TooLong = most_bytes < length source
 IsRefusalOf source (errors.BadByte span) = IsLexicalFault source (errors.BadByte span)
@@ -46,12 +46,12 @@ IsRefusalOf source errors.Memory = Unit {0}
 
 -- ---- laws
 
--- A text has one tree.
+-- A text has at most one tree.
 abbrev pub TextHasOneTree : Type 0
 TextHasOneTree =
     (source : List ℕ) (t u : Tree) → IsTextOfTree source t → IsTextOfTree source u → t ≡ u
 
--- A text has one list of printed items.
+-- A text has at most one list of printed items.
 abbrev pub TextHasOneListOfItems : Type 0
 TextHasOneListOfItems = (source : List ℕ) (items others : List Printed) → IsTextOfItems source items
     → IsTextOfItems source others → items ≡ others

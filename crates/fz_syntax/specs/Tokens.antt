@@ -14,7 +14,7 @@ mark m = Marked m ∷ []
 abbrev pub word : List ℕ → List TokenValue
 word text = Word text ∷ []
 
--- elements, each behind a comma
+-- elements, each after a comma
 abbrev pub after_commas : {A : Type 0} → (A → List TokenValue) → List A → List TokenValue
 after_commas toks xs = flat_map (λ x. Marked Comma ∷ toks x) xs
 
@@ -60,8 +60,8 @@ expr_toks (Several bs) = in_brackets (separated basic_toks bs)
 
 -- ---- annotations
 
--- arguments, each behind a comma; and where the first stands alone, in parentheses, where there is
--- one
+-- annotations and their arguments: a list of arguments is in parentheses, with commas in between,
+-- and is nothing where it is empty
 abbrev mutual
   pub note_toks : Note → List TokenValue
   note_toks (Called name args) = Word name ∷ args_toks args
@@ -93,7 +93,7 @@ abbrev mutual
   note_basic_toks (NoteString text) = StringText text ∷ []
   note_basic_toks (Inner n) = note_toks n
 
--- annotations, each behind `::`
+-- annotations, each after `::`
 abbrev pub notes_toks : List Note → List TokenValue
 notes_toks notes = flat_map (λ n. Marked ColonColon ∷ note_toks n) notes
 

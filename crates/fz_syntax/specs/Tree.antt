@@ -1,6 +1,6 @@
--- The syntax tree of FlatZinc as plain data: no places in the source, no memory.
--- Names and texts are lists of bytes, numbers have no width.
--- (MiniZinc Handbook, FlatZinc grammar; the parts that are kept are this project's profile.)
+-- The syntax tree of FlatZinc as plain data: no byte ranges in the source, no memory. Names and
+-- texts are lists of bytes, numbers have no width. (MiniZinc Handbook, FlatZinc grammar; which
+-- parts of a text are in the tree is this project's profile.)
 use Rattle.std.specs.Prelude.{ℕ, ℤ, Bool, List, Option}
 
 -- ---- expressions
@@ -60,8 +60,8 @@ pub data Base : Type 0 where
   IntBase : (bounds : Option Literal) → Base
   SetBase : (bounds : Option Literal) → Base
 
--- A parameter of a predicate item. Of an array it keeps the index sets: of each the length, or none
--- where it is `int`.
+-- A parameter of a predicate item. Of an array it has the index sets, each as its length, or as
+-- none where it is `int`.
 pub record Param : Type 0 where
   pub array : Option (List (Option ℕ))
   pub is_var : Bool
@@ -104,7 +104,7 @@ pub record Tree : Type 0 where
 
 -- ---- printed items
 
--- What stands after a printed name: a literal, or an array by its index sets and its elements.
+-- The value after a printed name: a literal, or an array by its index sets and its elements.
 pub data PrintedValue : Type 0 where
   OneValue : (literal : Literal) → PrintedValue
   ArrayOf : (indexes elements : List Literal) → PrintedValue

@@ -1,4 +1,4 @@
--- What the program's tokens and trees stand for: plain tokens and trees, without places and memory.
+-- The program's tokens and trees as plain tokens and trees, without byte ranges and memory.
 use Rattle.std.specs.Prelude.{ℕ, List, [], ◌∷◌, map, Option, option_map}
 use Rattle.std.specs.Global.{Vec}
 use Rattle.fz_syntax.specs.Tree as tree

@@ -1,5 +1,5 @@
--- Of the code; a reader of the contracts need not believe this file. What the parser has left to
--- read, and what it took between two states.
+-- Used only by private functions: a reader of the contracts need not believe this file. What the
+-- parser has left to read, and what it took between two states.
 use Rattle.std.specs.Prelude.{◌≡◌, ℕ, List, [], ◌∷◌, ◌++◌, map, Some}
 use Rattle.fz_lex.specs.of_base.declared.span.Span.{Span}
 use Rattle.fz_lex.specs.declared.token.Mark.TheVariants.{Comma}
@@ -9,7 +9,7 @@ use Rattle.fz_lex.specs.Left.{left, source_of}
 use Rattle.fz_syntax.specs.declared.parser.cursor.Parser.{Parser}
 use Rattle.fz_syntax.specs.Placed.{PlacedToken, AgreeWith, placed_mark}
 
--- the tokens that are left to read, with their places and without
+-- the tokens that are left to read, with their byte ranges and without
 abbrev pub ahead : Parser → List SpannedToken
 ahead p = left p.tokens
 
@@ -21,7 +21,7 @@ abbrev pub start_of : List SpannedToken → ℕ → ℕ
 start_of [] end = end
 start_of (t ∷ ts) end = t.start
 
--- where the last token ends, or what was taken before them
+-- the byte offset where the last token ends, or the one given where there is no token
 abbrev pub end_of : ℕ → List SpannedToken → ℕ
 end_of from [] = from
 end_of from (t ∷ ts) = end_of t.end ts
@@ -37,13 +37,13 @@ pub record Passed (p q : Parser) : Type 0 where
   pub taken : List SpannedToken
   pub on : Consumed p q taken
 
--- It took those that stand in these places.
+-- It took these tokens, which have the offsets that are known.
 pub record Walk (p q : Parser) (placed : List PlacedToken) : Type 0 where
   pub taken : List SpannedToken
   pub on : Consumed p q taken
   pub agree : AgreeWith placed taken
 
--- a literal of one token that stands at a span, and the comma behind it
+-- a literal of one token at a byte range, and the comma after it
 abbrev pub placed_listed : TokenValue → Span → List PlacedToken
 placed_listed t span =
     (record { token = t; start = Some span.start; end = Some span.end }) ∷ placed_mark Comma

@@ -1,5 +1,5 @@
--- Of the code; a reader of the contracts need not believe this file. How a word that is no name can
--- begin.
+-- Used only by private functions: a reader of the contracts need not believe this file. How a word
+-- that is no name can begin.
 use Rattle.std.specs.Prelude.{ℕ, Bool, false, ◌==◌, ◌||◌, if◌then◌else◌, List, length, slice_index}
 
 -- whether a reserved word has this length and this first byte

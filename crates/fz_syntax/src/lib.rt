@@ -1,4 +1,7 @@
-//! The syntax of FlatZinc: trees, the parser and printed items.
+//! The syntax of FlatZinc: `parse` gives the tree of a model, `Items` its items one by one without
+//! a tree, `read_items` the items of a block of solver output, and `to_text` the canonical text of
+//! a tree. A facade: it also passes on the lexer and the errors of `fz_lex`.
+//! Its worked cases are in `fz_text_cases`.
 #![tactic(auto)]
 
 mod parser;
@@ -18,12 +21,12 @@ pub use tree::{
     NoteBasic, Param, Predicate, Printed, PrintedValue, Solve,
 };
 
-/// A text has one tree.
+/// A text has at most one tree.
 pub fn text_has_one_tree()
     ensures { TextHasOneTree }
 {}
 
-/// A text has one list of printed items.
+/// A text has at most one list of printed items.
 pub fn text_has_one_list_of_items()
     ensures { TextHasOneListOfItems }
 {}

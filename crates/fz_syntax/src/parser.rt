@@ -1,4 +1,4 @@
-//! From tokens to a tree, by recursive descent.
+//! From tokens to a tree, by recursive descent, with no list of tokens in between.
 
 ghost use Rattle.std.specs.Prelude.{ℕ, ◌≡◌, ◌<◌, ◌↔◌, length, List, [], IfOk, IfErr, MatchResult, Err};
 ghost use Rattle.std.specs.List.{AllByRecursion};
@@ -33,7 +33,7 @@ use crate::tree::{Ast, Printed};
 use fz_lex::{MOST_BYTES, SyntaxError, check_tokens};
 use std::alloc::Global;
 
-/// The printed items that the tokens are that are left.
+/// Reads all tokens that are left as printed items.
 #[tactic(auto, unfolding(crate::specs::ReadingItems::items_of, crate::specs::ReadingItems::items_at, crate::specs::Reading::ended))]
 fn read_all_items<'a>(parser: &mut Parser<'a>) -> Result<Vec<Printed<'a>>, SyntaxError>
     ensures whole { IsWhole (λ v. bare_items v.items) result
@@ -54,21 +54,21 @@ fn read_all_items<'a>(parser: &mut Parser<'a>) -> Result<Vec<Printed<'a>>, Synta
     }
 }
 
-/// The tree of which the bytes are a text, by the grammar of FlatZinc. Its names and texts are
-/// slices of the source.
+/// Reads a model: gives the tree of which the bytes are a text, by the grammar of FlatZinc. Its
+/// names and texts are slices of the source.
 ///
-/// The tokens are pulled one by one, so that the tree alone takes memory.
+/// The tokens are pulled one by one, so only the tree takes memory.
 ///
 /// `TooLong`: the source has more than 16,777,216 bytes. `BadByte` and `TooLarge`, which the lexer
-/// finds, come next, from the whole source. `Float`, `Syntax`, `TooDeep` and `TooMany` stand at the
+/// finds, come next, from the whole source. `Float`, `Syntax`, `TooDeep` and `TooMany` are at the
 /// first token with which the tokens so far no longer begin a text of the grammar within the
-/// limits; at the end it is the empty span behind the last byte. `Memory` is answered when it is
-/// met, and the source has no lexical fault.
+/// limits; at the end of the source, at the empty span after the last byte. `Memory` is given where
+/// memory runs out, and then the source has no lexical fault.
 pub fn parse<'a>(alloc: Global, source: &'a [u8]) -> Result<Ast<'a>, SyntaxError>
     // The source is a text of the tree that is given.
     ensures found { IfOk result (λ a. IsTextOfTree source.now (bare a)) }
 
-    // A tree of which the source is a text is the one given, unless memory runs out.
+    // If the source is a text of a tree, that tree is given, unless memory runs out.
     ensures only { (t : tree.Tree) → IsTextOfTree source.now t → IsValue bare result t }
 
     // Any tree with the same tokens is this one, whatever its size.
@@ -83,14 +83,14 @@ pub fn parse<'a>(alloc: Global, source: &'a [u8]) -> Result<Ast<'a>, SyntaxError
     // finds.
     ensures order { IfErr result (IsRefusalOf source.now) }
 
-    // The place of an error lies within the source.
+    // The byte range of an error is within the source.
     ensures placed { IfErr result (IsPlacedWithin (length source.now)) }
 
-    // The source is cut into the tree's tokens. Each name stands where its own token does, and each
-    // literal from where its first token starts up to where its last one ends.
+    // The source is cut into the tree's tokens. Each name has the byte range of its own token, and
+    // each literal goes from the start of its first token to the end of its last one.
     ensures in_place { IfOk result (λ a. ArePlacedIn source.now (placed_tree a)) }
 
-    // So the names and literals stand one behind the other, each name with its text.
+    // So the names and literals follow one another in the source, and each name has its text.
     ensures stands { IfOk result (λ a. Stand source.now 0 (length source.now) (spots a)) }
 {
     let mut items = Items::new(alloc, source)?;
@@ -112,7 +112,7 @@ pub fn read_items<'a>(alloc: Global, source: &'a [u8]) -> Result<Vec<Printed<'a>
     // The source is a text of the items that are given.
     ensures found { IfOk result (λ items. IsTextOfItems source.now (bare_items items.items)) }
 
-    // Items of which the source is a text are those given, unless memory runs out.
+    // If the source is a text of some items, they are given, unless memory runs out.
     ensures only { (items : List tree.Printed) → IsTextOfItems source.now items
         → IsValue (λ given. bare_items given.items) result items }
 
@@ -129,14 +129,14 @@ pub fn read_items<'a>(alloc: Global, source: &'a [u8]) -> Result<Vec<Printed<'a>
     // finds.
     ensures order { IfErr result (IsRefusalOf source.now) }
 
-    // The place of an error lies within the source.
+    // The byte range of an error is within the source.
     ensures placed { IfErr result (IsPlacedWithin (length source.now)) }
 
-    // The source is cut into the items' tokens, and each name and literal stands where its own
-    // tokens do.
+    // The source is cut into the items' tokens, and each name and literal has the byte range of its
+    // own tokens.
     ensures in_place { IfOk result (λ items. ArePlacedIn source.now (placed_items items.items)) }
 
-    // So the names and literals stand one behind the other, each name with its text.
+    // So the names and literals follow one another in the source, and each name has its text.
     ensures stands { IfOk result (λ a. Stand source.now 0 (length source.now)
         (item_spots a.items)) }
 

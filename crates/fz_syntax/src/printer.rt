@@ -38,7 +38,8 @@ pub fn to_text(alloc: Global, ast: &Ast<'_>) -> Result<Vec<u8>, AllocError>
     ensures reads_back { IfOk result (λ text. CanBeWritten (bare ast.now)
         → LexesWithNumbersInLimit text.items (toks (bare ast.now))) }
 
-    // Of a tree that was read from a source it is a text too, where it isn't too long.
+    // For a tree that was read from a source, it is a text of that tree too, where it isn't too
+    // long.
     ensures again { IfOk result (λ text. (source : List ℕ) → IsTextOfTree source (bare ast.now)
         → length text.items ≤ most_bytes → IsTextOfTree text.items (bare ast.now)) }
 {

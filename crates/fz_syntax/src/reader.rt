@@ -1,4 +1,4 @@
-//! The items of a model, offered one behind another.
+//! The items of a model, offered one after another.
 
 ghost use Rattle.std.specs.Prelude.{◌≡◌, ◌<◌, ◌≤◌, ◌++◌, ◌∷◌, ℕ, List, [], length, IfErr, IfOk, IfSome, Err};
 ghost use Rattle.fz_lex.specs.Limits.{most_bytes};
@@ -16,17 +16,17 @@ use fz_lex::{MOST_BYTES, SyntaxError, check_tokens};
 use std::alloc::Global;
 
 /// The items of a model's text, read as they are asked for: first the predicate items, then the
-/// declarations, the constraints, and the solve item. No item is kept.
+/// declarations, the constraints, and the solve item. No item is stored.
 #[derive(Drop)]
 pub struct Items<'a> {
     pub(crate) parser: Parser<'a>,
     pub(crate) source: &'a [u8],
-    /// where the arguments of a constraint are gathered
+    /// A buffer for the arguments of a constraint, used again for each constraint.
     pub(crate) spare: Vec<Expr<'a>>,
 }
 
 impl<'a> Items<'a> {
-    /// At the first item of a text.
+    /// A reader at the first item of a text.
     ///
     /// # Errors
     ///
@@ -49,7 +49,7 @@ impl<'a> Items<'a> {
         })
     }
 
-    /// Why the source is refused, where the grammar refuses the next token: a lexical fault comes
+    /// The error where the grammar refuses the next token: a lexical fault of the source comes
     /// first, wherever it is.
     fn refused(&self, refusal: Refusal) -> SyntaxError
         ensures { self.now.parser.end ≡ length self.now.source.now
@@ -126,7 +126,7 @@ impl<'a> Items<'a> {
         }
     }
 
-    /// The solve item, behind which the text ends.
+    /// The solve item, which ends the text.
     ///
     /// # Errors
     ///

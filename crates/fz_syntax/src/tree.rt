@@ -2,14 +2,14 @@
 
 use fz_lex::fz_base::Span;
 
-/// A name: its bytes, a slice of the source, and where they stand there.
+/// A name: its bytes, a slice of the source, and their byte range there.
 #[derive(Clone, Copy)]
 pub struct Name<'a> {
     pub text: &'a [u8],
     pub span: Span,
 }
 
-/// A literal and where it stands, from its first token to its last.
+/// A literal and its byte range, from its first token to its last.
 #[derive(Drop)]
 pub struct Literal {
     pub span: Span,
@@ -56,7 +56,7 @@ pub enum NoteArg<'a> {
     List(Vec<NoteBasic<'a>>),
 }
 
-/// A literal, the text of a float or of a string as it stands in the source, or an annotation.
+/// A literal, the text of a float or of a string as it is in the source, or an annotation.
 #[cycle(note)]
 #[derive(Drop)]
 pub enum NoteBasic<'a> {
@@ -75,8 +75,8 @@ pub enum Base {
     Set(Option<Literal>),
 }
 
-/// A parameter of a predicate item. `array` are the index sets of an array, one to six: of each the
-/// length, or none where it is `int`.
+/// A parameter of a predicate item. `array` is none for a scalar; for an array it lists the one to
+/// six index sets, each as its length, or as none where it is `int`.
 #[derive(Drop)]
 pub struct Param<'a> {
     pub array: Option<Vec<Option<usize>>>,
@@ -92,7 +92,7 @@ pub struct Predicate<'a> {
     pub params: Vec<Param<'a>>,
 }
 
-/// A declaration of a parameter or a variable. `length` is that of an array.
+/// A declaration of a parameter or a variable. `length` is that of an array, and none for a scalar.
 #[derive(Drop)]
 pub struct Decl<'a> {
     pub is_var: bool,
@@ -135,7 +135,7 @@ pub struct Ast<'a> {
     pub solve: Solve<'a>,
 }
 
-/// What stands behind a printed name: a literal, or an array by its index sets and its elements.
+/// The value after a printed name: a literal, or an array by its index sets and its elements.
 #[derive(Drop)]
 pub enum PrintedValue {
     One(Literal),

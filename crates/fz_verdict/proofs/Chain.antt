@@ -212,7 +212,7 @@ printed_agree m A [] h = tt
 printed_agree m A (i ∷ block) h =
     all_append (Agrees (whole A)) (option_map_or (λ p. pairs_at p i.value) (find_name m i.name.text) []) (printed_scalars m block) (item_agrees A (find_name m i.name.text) i.value h.0) (printed_agree m A block h.1)
 
--- the value at the first place where a variable is printed is one of those printed
+-- the value where a variable is printed first is one of those printed
 first_agrees : (K : Partial) (qs : List (Term × Value)) (n : ℕ) (v : Value)
     → AllByRecursion (Agrees K) qs → first_printed qs n ≡ Some v → value_at K n ≡ Some v
 first_agrees K [] n v h e = cc

@@ -14,7 +14,7 @@ use Rattle.fz_verdict.specs.Verdict.Fault.{NotBetter}
 use Rattle.fz_verdict.proofs.Completing.{FilledVerdicts, filled_verdicts, told_solved}
 use Rattle.fz_verdict.proofs.Violated.{violated_has_none, not_better_has_none, is_not_better, never_first}
 
--- the block before the one at a place, and what was proposed for it, under which it has the
+-- the block before the one at an index, and what was proposed for it, under which it has the
 -- objective
 record BlockBefore (m : Model) (P : Block → Partial → Type 0) (blocks : List Block) (i : ℕ) (kept : Option ℤ) : Type 0 where
   place : ℕ
@@ -25,7 +25,7 @@ record BlockBefore (m : Model) (P : Block → Partial → Type 0) (blocks : List
   is_proposed : P block proposed
   kept_is : kept ≡ objective m proposed
 
--- how the block at a place of the list was judged
+-- how the block at an index of the list was judged
 record JudgedAt (m : Model) (P : Block → Partial → Type 0) (before : Option ℤ) (blocks : List Block) (i : ℕ) (block : Block) (v : Verdict) : Type 0 where
   kept : Option ℤ
   proposed : Partial

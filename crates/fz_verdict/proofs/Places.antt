@@ -1,4 +1,4 @@
--- The blocks and items with their places, their places left out, are the plain ones.
+-- The blocks and items with byte ranges, once the ranges are left out, are the plain ones.
 use Rattle.std.proofs.Common.{◌≡◌, List, [], ◌∷◌, map, refl, ap}
 use Rattle.fz_syntax.specs.View as plain
 use Rattle.fz_syntax.specs.Tree as tree

@@ -1,4 +1,4 @@
--- The lines of a report on the parts of a stream stand in the order of the parts.
+-- The lines of a report on the parts of a stream are in the order of the parts.
 use Rattle.std.proofs.Common.{◌≡◌, ℕ, suc, ◌+◌, ◌≤◌, false, cond, List, [], ◌∷◌, ◌++◌, map, length, filter, refl, ap, ◌∙◌, arith, ◌==◌, eq-eqb}
 use Rattle.std.specs.List.{AllByRecursion}
 use Rattle.std.proofs.lemmas.Bool.{ne_eqb}

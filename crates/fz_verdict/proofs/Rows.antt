@@ -77,7 +77,7 @@ small_true = refl
 small_true_fault : block_fault (model_of small) (record { offset = 7; text = []; items = says_true ∷ [] }) ≡ Some (record { kind = BlockFaultKind.WrongKind; at = span_at 11 15 })
 small_true_fault = refl
 
--- the places of a block's faults count from the stream's first byte
+-- the byte ranges of a block's faults count from the stream's first byte
 second_block : block_fault (model_of small) (record { offset = 18; text = []; items = record { name = name_at y 0 1; value = OneValue (literal (Number (pos 1))) } ∷ [] }) ≡ Some (record { kind = BlockFaultKind.UnknownName; at = span_at 18 19 })
 second_block = refl
 

@@ -140,8 +140,7 @@ have_first : (qs : List (Term × Value)) → AllByRecursion (HasFirst qs) qs
 have_first [] = tt
 have_first (q ∷ qs) = (here_first q qs, all_map (HasFirst qs) (HasFirst (q ∷ qs)) (still_first q qs) qs (have_first qs))
 
--- a variable that an assignment gives a value has the value at the first place where it is printed
--- from the start on
+-- a number that has a value in an assignment is that of a variable
 is_numbered : (xs : List Variable) (A : Assignment) (n : ℕ) (v : Value) → FitVariables xs (whole A)
     → value_at (whole A) n ≡ Some v → (x : Variable) × (slice_get xs n ≡ Some x)
 is_numbered [] [] n v h e = cc
@@ -150,6 +149,7 @@ is_numbered (x ∷ xs) [] n v h e = absurd h
 is_numbered (x ∷ xs) (a ∷ A) zero v h e = (x, refl)
 is_numbered (x ∷ xs) (a ∷ A) (suc n) v h e = is_numbered xs A n v h.1 e
 
+-- at the start a variable has the value with which it is printed first
 start_at : (qs : List (Term × Value)) (n : ℕ) (xs : List Variable) (k : ℕ) (x : Variable)
     → slice_get xs k ≡ Some x → value_at (start_from qs n xs) k ≡ first_printed qs (n + k)
 start_at qs n [] k x e = cc

@@ -1,5 +1,5 @@
 -- Solution blocks over a model: what extends one, and its faults (MiniZinc Handbook, FlatZinc,
--- "Output"; which fault is told is this project's profile).
+-- "Output"; which fault is reported is this project's profile).
 use Rattle.std.specs.Prelude.{◌≡◌, ℕ, ◌+◌, Bool, not, cond, List, length, map, ◌==◌, Option, Some, None, option_map, IsSomeAnd}
 use Rattle.std.specs.List.{AllByRecursion}
 use Rattle.std.specs.Option.{option_or}
@@ -14,7 +14,7 @@ use Rattle.fz_model.specs.Names.{literal_value}
 use Rattle.fz_model.specs.Meaning.{Place, Model, Partial, Assignment, value, values, whole, find_name, first_some}
 use Rattle.fz_model.specs.Meaning.Place.{Scalar, Array}
 
--- ---- blocks with places
+-- ---- blocks with byte ranges
 
 -- a printed value: a literal, or an array with its index sets and its elements
 pub data PrintedValue : Type 0 where
@@ -25,7 +25,7 @@ pub record Printed : Type 0 where
   pub name : Name
   pub value : PrintedValue
 
--- the plain printed item, without its places
+-- the plain literals, without their byte ranges
 abbrev pub bare_literals : List Literal → List tree.Literal
 bare_literals ls = map (λ l. l.what) ls
 
@@ -36,14 +36,14 @@ bare_value (ArrayOf is ls) = tree.ArrayOf (bare_literals is) (bare_literals ls)
 abbrev pub bare_of_printed : Printed → tree.Printed
 bare_of_printed i = record { name = i.name.text; value = bare_value i.value }
 
--- a block: the offset of its text in the stream, its text, and its printed items, whose places
--- count from that text
+-- a block: the offset of its text in the stream, its text, and its printed items, whose byte ranges
+-- count from the text's first byte
 pub record Block : Type 0 where
   pub offset : ℕ
   pub text : List ℕ
   pub items : List Printed
 
--- the plain block, without the places of its items
+-- the plain block, without the byte ranges of its items
 abbrev pub bare_of_block : Block → SolutionBlock
 bare_of_block b = record { offset = b.offset; text = b.text; items = map bare_of_printed b.items }
 
@@ -52,7 +52,8 @@ bare_of_block b = record { offset = b.offset; text = b.text; items = map bare_of
 abbrev pub printed_values : List Literal → List Value
 printed_values ls = map (λ l. literal_value l.what) ls
 
--- the place has the printed value: element by element for an array
+-- what a name stands for, a scalar or an array, has the printed value: for an array, element by
+-- element
 abbrev pub HasPrinted : Partial → Place → PrintedValue → Type 0
 HasPrinted K (Scalar k t) (OneValue l) = value K t ≡ Some (literal_value l.what)
 HasPrinted K (Array x k ts) (ArrayOf is ls) = values K ts ≡ Some (printed_values ls)
@@ -100,15 +101,15 @@ printed_fault m i = elim (find_name m i.name.text) [
   | Some p ↦ value_fault i.name p i.value
 ]
 
--- the fault of the first printed item that has one, at its place in the block's text
+-- the fault of the first printed item that has one, at its byte range in the block's text
 abbrev pub items_fault : Model → List Printed → Option BlockFault
 items_fault m items = first_some (printed_fault m) items
 
--- places in a block's text as places in the stream
+-- a byte range in a block's text as one in the stream
 abbrev pub moved : ℕ → Span → Span
 moved offset s = record { start = offset + s.start; end = offset + s.end }
 
--- the fault of a block, at its place in the stream
+-- the fault of a block, at its byte range in the stream
 abbrev pub block_fault : Model → Block → Option BlockFault
 block_fault m block = option_map (λ f. record { kind = f.kind; at = moved block.offset f.at })
     (items_fault m block.items)

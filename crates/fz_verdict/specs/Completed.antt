@@ -23,40 +23,41 @@ name_of_aim m Satisfy = []
 name_of_aim m (Minimize t) = name_of_term m t
 name_of_aim m (Maximize t) = name_of_term m t
 
--- values may be looked for: the block is satisfied under its filling, or undecided because a
--- variable has no value
+-- the verdict is one for which values may be looked for: the block is satisfied under its filling,
+-- or undecided because a variable has no value
 abbrev pub LacksValuesAtMost : Verdict → Type 0
 LacksValuesAtMost Satisfied = ⊤
 LacksValuesAtMost (Undecided (NoValueFor x)) = ⊤
 LacksValuesAtMost _ = ⊥
 
--- What is told of a block that has a filling, and a verdict under it, where values are looked for,
--- and the objective that is kept for the next block. The objective kept of the block before is
--- given.
+-- The verdict that is reported of a block with a filling and a verdict under it, where values are
+-- looked for, and the objective that the next block is compared with. `before` is the objective
+-- that this block is compared with.
 pub data IsCompleted (m : Model) (block : Block) (before : Option ℤ) (F : Partial) : Verdict
     → Verdict → Option ℤ → Type 0 where
-  -- under some values it is satisfied, and its objective better than the one kept
+  -- under some values the block is satisfied, and its objective is better than `before`
   Found : {v : Verdict} (K : Partial) → LacksValuesAtMost v → IsPartial m K
       → verdict m K block before ≡ Satisfied
       → IsCompleted m block before F v Satisfied (objective m K)
-  -- the verdict under the filling is told, which isn't that the block is satisfied
+  -- the verdict under the filling is reported, where that isn't satisfied
   AsFilled : {v : Verdict} → (v ≡ Satisfied → ⊥) → IsCompleted m block before F v v (objective m F)
-  -- the objective that was kept was looked for, and this one isn't better, which is no fault of the
-  -- block
+  -- the block is satisfied under its filling, but its objective isn't better than `before`; since
+  -- the values of the block before may have been looked for, that is no fault of the block
   NotShownBetter : {f : _} → objective_fails m.aim before (objective m F) ≡ Some f
       → IsCompleted m block before F Satisfied (Undecided (NoValueFor (name_of_aim m m.aim)))
       (objective m F)
 
--- what is told of a block that has a filling and a verdict under it: that verdict, where nothing is
--- looked for
+-- the verdict that is reported of a block with a filling and a verdict under it: that same verdict,
+-- where no values are looked for
 abbrev pub IsToldBy : Completion → Model → Block → Option ℤ → Partial → Verdict → Verdict → Option ℤ
     → Type 0
 IsToldBy Off m block before F w v kept = v ≡ w
 IsToldBy On m block before F w v kept = IsCompleted m block before F w v kept
 
 -- The verdicts of the blocks in order. The verdict of each under its filling compares its objective
--- with that of the block before under its own, the first with the objective given first; what is
--- told of each goes on from the objective kept, the first from the one given next.
+-- with that of the block before under its own, the first with the objective given first; the
+-- verdict reported of each compares it with the objective that the block before left, the first
+-- with the one given second.
 pub data AreTold (c : Completion) (m : Model) : Option ℤ → Option ℤ → List Block → List Verdict
     → Type 0 where
   NoneLeft : {filled found : Option ℤ} → AreTold c m filled found [] []

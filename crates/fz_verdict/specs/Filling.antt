@@ -15,7 +15,7 @@ use Rattle.fz_verdict.specs.Blocks.PrintedValue.{OneValue, ArrayOf}
 
 -- ---- the start of the filling
 
--- a scalar beside the value that is printed for it
+-- each scalar with the value that is printed for it
 abbrev pub pairs : List Term → List Value → List (Term × Value)
 pairs (t ∷ ts) (v ∷ vs) = (t, v) ∷ pairs ts vs
 pairs _ _ = []
@@ -34,7 +34,7 @@ abbrev pub if_var : ℕ → (Term × Value) → Option Value
 if_var n (Var k, v) = cond (k == n) (Some v) None
 if_var n (Fixed w, v) = None
 
--- the value of a variable at the first place where it is printed
+-- the value of a variable where it is printed first
 abbrev pub first_printed : List (Term × Value) → ℕ → Option Value
 first_printed ps n = first_some (if_var n) ps
 
@@ -51,12 +51,13 @@ HasAllOf K L = (n : ℕ) (v : Value) → value_at K n ≡ Some v → value_at L 
 
 -- ---- the chain of the filling
 
--- the points counted on from the one with this number, after the last one from the first again
+-- the points in order from the one with this number on; after the last one come those from the
+-- first on
 abbrev pub counted_from : {A : Type 0} → ℕ → List A → List A
 counted_from k ps = drop k ps ++ take k ps
 
--- The point with number k is the first that gives a step, counted on from the point with number
--- `from`: the points that are skipped before it give none.
+-- The point with number k is the first that gives a step, from the point with number `from` on: the
+-- points that are skipped before it give none.
 pub record IsFirstStep (m : Model) (K : Partial) (from k n : ℕ) (v : Value) : Type 0 where
   pub point : Point
   pub skipped : List (ℕ × Point)
@@ -65,8 +66,8 @@ pub record IsFirstStep (m : Model) (K : Partial) (from k n : ℕ) (v : Value) : 
   pub none_skipped : AllByRecursion (λ q. GivesNothing m K q.1) skipped
   pub gives : Gives m K point n v
 
--- The chain from a partial assignment, counting on from a point, ends at a partial assignment where
--- no point gives a step. A step counts on from the point of the step before.
+-- The chain from a partial assignment and a point ends at a partial assignment where no point gives
+-- a step. After each step the search goes on from the point that gave it.
 pub data Chain (m : Model) : Partial → ℕ → Partial → Type 0 where
   Ends : {K : Partial} {from : ℕ} → AllByRecursion (GivesNothing m K) (points m) → Chain m K from K
   Step : {K F : Partial} {from k n : ℕ} {v : Value} → IsFirstStep m K from k n v

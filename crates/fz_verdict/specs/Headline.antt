@@ -14,7 +14,7 @@ IsBetter Satisfy before now = ⊤
 IsBetter (Minimize t) before now = IsSomeAnd before (λ b. IsSomeAnd now (λ n. n <ℤ b))
 IsBetter (Maximize t) before now = IsSomeAnd before (λ b. IsSomeAnd now (λ n. b <ℤ n))
 
--- an assignment improves on the one of the block before; that of the first block always does
+-- an assignment improves on that of the block before; that of the first block always improves
 abbrev pub Improves : Model → Option Assignment → Assignment → Type 0
 Improves m None now = ⊤
 Improves m (Some before) now = IsBetter m.aim (objective m (whole before)) (objective m (whole now))

@@ -1,5 +1,5 @@
--- What verdicts and reports say of solutions (this project's profile). Each law is the contract of
--- a public function of this crate.
+-- What verdicts and reports say about solutions (this project's profile). Each law is the contract
+-- of a public function of this crate.
 use Rattle.std.specs.Prelude.{◌≡◌, ℕ, suc, ◌≤◌, ℤ, List, [], ◌∷◌, ◌++◌, map, Option, None, Some, length}
 use Rattle.std.specs.List.{slice_get}
 use Rattle.fz_model.specs.Located.{LocatedTree}
@@ -21,8 +21,8 @@ use Rattle.fz_stream.specs.Found.{block_of, blocks_in, claims_in}
 use Rattle.fz_stream.specs.declared.block.Block as the_block
 use Rattle.fz_verdict.specs.Report.{Report, report_lines, part_lines, answer_line}
 
--- Where a block is satisfied under a partial assignment, that partial assignment is a whole one,
--- which extends the block and is a solution.
+-- Where a block is satisfied under a partial assignment, that partial assignment has a value for
+-- each variable, extends the block and is a solution.
 abbrev pub SatisfiedIsSolved : Type 0
 SatisfiedIsSolved =
     (m : Model) (K : Partial) (block : Block) (before : Option ℤ) → IsPartial m K
@@ -30,8 +30,8 @@ SatisfiedIsSolved =
     → (A : Assignment) × (whole A ≡ K) × Extends m A block × IsSolution m A
 
 -- Where the blocks of a model are judged under some partial assignments, and the answer is that
--- they are accepted, the blocks have solutions that improve in turn; and the number told is the
--- number of blocks, at least one.
+-- they are accepted, the blocks have solutions that improve in turn; and the number in the answer
+-- is the number of blocks, at least one.
 abbrev pub AcceptedHaveSolutions : Type 0
 AcceptedHaveSolutions =
     (t : LocatedTree) (blocks : List Block) (verdicts : List Verdict) (n : ℕ) → HasNoFault t
@@ -48,7 +48,8 @@ AcceptedAreJudged =
     → AreJudged (model_of t) (λ b K. IsPartial (model_of t) K) None blocks verdicts
 
 -- Where values are looked for, a report has the verdicts of the one where they aren't, but for
--- blocks that are satisfied there or lack a value.
+-- blocks that are satisfied there or lack a value. Each block that it calls violated is violated
+-- there too, by the same fault.
 abbrev pub CompletedKeepVerdicts : Type 0
 CompletedKeepVerdicts =
     (m : Model) (blocks : List Block) (verdicts : List Verdict) → AreVerdicts On m blocks verdicts
@@ -108,7 +109,7 @@ EachSatisfiedHasOne =
     → slice_get verdicts i ≡ Some Satisfied
     → (A : Assignment) × Extends (model_of t) A block × IsSolution (model_of t) A
 
--- A block has one filling.
+-- A block has at most one filling.
 abbrev pub FillingIsOne : Type 0
 FillingIsOne =
     (m : Model) (block : Block) (F G : Partial) → IsFilling m block F → IsFilling m block G → F ≡ G
@@ -133,7 +134,7 @@ LinesOfParts =
     → r.claims ≡ claims_in 0 ps
     → report_lines r ≡ part_lines 0 r.verdicts ps ++ answer_line r.answer ∷ []
 
--- The blocks with their places, their places left out, are the plain blocks.
+-- The blocks with byte ranges, once the ranges are left out, are the plain blocks.
 abbrev pub BlocksAreBare : Type 0
 BlocksAreBare = (blocks : List the_block.Block)
     → map bare_of_block (map located_block blocks) ≡ map block_of blocks

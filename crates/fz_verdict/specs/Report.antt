@@ -22,7 +22,7 @@ pub record Report : Type 0 where
   pub claims : List Claim
   pub answer : Answer
 
--- the report on the parts of a stream, whose blocks, with their places, are these
+-- the report on the parts of a stream, whose blocks, with their byte ranges, are these
 pub record IsReport (c : Completion) (m : Model) (blocks : List Block) (parts : List StreamPart)
     (r : Report) : Type 0 where
   pub of_parts : map bare_of_block blocks ≡ blocks_in parts
@@ -72,7 +72,7 @@ block_line n v = codes "block " ++ decimal n ++ codes ": " ++ verdict_text v
 abbrev pub claim_line : ClaimKind → List ℕ
 claim_line k = codes "claim: " ++ claim_text k ++ codes " not judged"
 
--- the lines of parts of a stream, with the verdicts of their blocks, where n blocks stand before
+-- the lines of parts of a stream, with the verdicts of their blocks, where n blocks come before
 -- them
 abbrev pub part_lines : ℕ → List Verdict → List StreamPart → List (List ℕ)
 part_lines n vs [] = []

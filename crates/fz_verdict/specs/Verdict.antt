@@ -36,7 +36,7 @@ pub data Verdict : Type 0 where
   Violated : Fault → Verdict
   Undecided : Reason → Verdict
 
--- whether the place has a value, and it is the printed one
+-- whether what a name stands for has a value, and it is the printed one
 abbrev pub has_printed : Partial → Place → PrintedValue → Bool
 has_printed K (Scalar k t) (OneValue l) =
     option_map_or (λ v. same_value v (literal_value l.what)) (value K t) false
@@ -77,7 +77,7 @@ first_unset (x ∷ xs) (None ∷ K) = x.name
 first_unset (x ∷ xs) (Some v ∷ K) = first_unset xs K
 first_unset _ _ = []
 
--- a constraint's number and predicate, by which it is told that it is not known or too large
+-- the reason for a constraint that is not known: its number and predicate
 abbrev pub not_known_at : PointName → Option Reason
 not_known_at (ConstraintOf k x) = Some (NotKnown k x)
 not_known_at (DomainOf x) = None
@@ -88,8 +88,8 @@ too_large_at (ConstraintOf k x) = Some (SumTooLarge k)
 too_large_at (DomainOf x) = None
 too_large_at (DefinitionOf x) = None
 
--- What is undecided at a point: it has no value, and then the first variable without value is told,
--- or it is a constraint that is not known or whose sums are too large.
+-- What is undecided at a point: it has no value, and then the reason names the first variable
+-- without value; or it is a constraint that is not known or whose sums are too large.
 abbrev pub reason_at : Model → Partial → Point → State → Option Reason
 reason_at m K p NoValue = Some (NoValueFor (first_unset (variables_of m) K))
 reason_at m K p Unknown = not_known_at (shown_point p)
@@ -128,8 +128,8 @@ pub data AreJudged (m : Model) (Proposed : Block → Partial → Type 0) : Optio
       (K : Partial) → Proposed block K → AreJudged m Proposed (objective m K) blocks vs
       → AreJudged m Proposed before (block ∷ blocks) (verdict m K block before ∷ vs)
 
--- what a verdict may rest on: the block has no fault, and the partial assignment has every value of
--- the block's start
+-- what a verdict may be based on: the block has no fault, and the partial assignment has every
+-- value of the block's start
 pub record IsProposed (m : Model) (block : Block) (K : Partial) : Type 0 where
   pub no_fault : block_fault m block ≡ None
   pub partial : IsPartial m K

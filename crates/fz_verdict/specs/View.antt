@@ -1,4 +1,4 @@
--- What the printed items and the blocks that are read stand for: items and blocks with their places
+-- The printed items and the blocks that are read, as plain items and blocks with their byte ranges
 -- (this project's profile).
 use Rattle.std.specs.Prelude.{List, map}
 use Rattle.fz_syntax.specs.declared.tree.Printed as the_printed
@@ -17,11 +17,11 @@ located_printed_value (printed.Array indexes elements) =
 abbrev pub located_printed : the_printed.Printed → Printed
 located_printed p = record { name = located_name p.name; value = located_printed_value p.value }
 
--- the items with their places
+-- the items with their byte ranges
 abbrev pub located_items : List the_printed.Printed → List Printed
 located_items items = map located_printed items
 
--- the block with its places
+-- the block with its byte ranges
 abbrev pub located_block : the_block.Block → Block
 located_block b = record {
   offset = b.offset;

@@ -1,5 +1,9 @@
-//! What a verdict on a solution block says: blocks over a model, their filling, verdicts, reports,
-//! and what an accepted report means.
+//! What a verdict on a solution block says: definitions of blocks over a model, their filling,
+//! verdicts and reports, and laws on what a verdict or an accepted report means for solutions. It
+//! has no code but the type `Completion`; the functions below have empty bodies, and their
+//! contracts are the laws. An internal crate of `fz_check`.
+//! The definitions are computed on worked blocks in `proofs/Rows.antt`. Worked cases of the code
+//! that meets them are in `fz_check_cases`.
 #![tactic(auto)]
 
 ghost use Rattle.fz_verdict.specs.Laws.{
@@ -23,53 +27,54 @@ mod completion;
 
 pub use completion::Completion;
 
-/// A satisfied block has a solution, the partial assignment that it was judged by.
+/// A satisfied block has a solution: the partial assignment under which it was judged.
 pub fn satisfied_is_solved()
     ensures { SatisfiedIsSolved }
 {}
 
-/// A yes is a yes: accepted blocks have solutions that improve in turn.
+/// Accepted blocks have solutions that improve in turn.
 pub fn accepted_have_solutions()
     ensures { AcceptedHaveSolutions }
 {}
 
-/// What a report accepts is judged under some partial assignments.
+/// The blocks of an accepted report were judged so under some partial assignments.
 pub fn accepted_are_judged()
     ensures { AcceptedAreJudged }
 {}
 
-/// A report for which values were looked for keeps the verdicts that need none.
+/// Searching for missing values changes no verdict but that of a block that is satisfied without it
+/// or lacks a value, and never to violated.
 pub fn completed_keep_verdicts()
     ensures { CompletedKeepVerdicts }
 {}
 
-/// A no is a no: a violated block is extended by no solution.
+/// No known-solution extends a block that is violated by anything but its objective.
 pub fn violated_have_none()
     ensures { ViolatedHaveNone }
 {}
 
-/// A no is a no: a block whose objective is not better has no better solution.
+/// Where a block's objective is not better, no known-solution that extends the block improves on
+/// one that extends the block before.
 pub fn not_better_have_none()
     ensures { NotBetterHaveNone }
 {}
 
-/// A no is a no, for each block of a report.
+/// The same as `violated_have_none`, for each block of a report.
 pub fn each_violated_has_none()
     ensures { EachViolatedHasNone }
 {}
 
-/// The same where the objective is not better.
+/// The same as `not_better_have_none`, for each block of a report.
 pub fn each_not_better_has_none()
     ensures { EachNotBetterHasNone }
 {}
 
-/// A yes is a yes, for each block of a report, accepted or not: where it is satisfied, it has a
-/// solution.
+/// Each satisfied block of a report has a solution, whether the report is accepted or not.
 pub fn each_satisfied_has_one()
     ensures { EachSatisfiedHasOne }
 {}
 
-/// A block has one filling.
+/// A block has at most one filling.
 pub fn filling_is_one()
     ensures { FillingIsOne }
 {}
@@ -84,12 +89,12 @@ pub fn filling_is_proposed()
     ensures { FillingIsProposed }
 {}
 
-/// The lines of a report stand in the order of the stream.
+/// The lines of a report are in the order of the stream.
 pub fn lines_of_parts()
     ensures { LinesOfParts }
 {}
 
-/// Blocks with their places, their places left out, are the plain blocks.
+/// Blocks with byte ranges, once the ranges are left out, are the plain blocks.
 pub fn blocks_are_bare()
     ensures { BlocksAreBare }
 {}

@@ -1,4 +1,4 @@
-//! Annotations.
+//! Reads annotations.
 
 ghost use Rattle.std.specs.Prelude.{◌≡◌, ◌≤◌, ◌<◌, ◌++◌, length, map, IfOk};
 ghost use Rattle.fz_syntax.specs.View.{bare_note, bare_arg, bare_basic, bare_notes};
@@ -135,7 +135,7 @@ impl<'a> Parser<'a> {
         Ok(trimmed(self.alloc, basics))
     }
 
-    /// An element of a list that has `count` so far.
+    /// An element of a list that has `count` elements so far.
     #[cycle(notes)]
     pub(crate) fn listed_note_basic(
         &mut self,

@@ -29,7 +29,7 @@ pub(crate) const MAX_DEPTH: usize = 32;
 pub(crate) struct Parser<'a> {
     pub(crate) alloc: Global,
     pub(crate) tokens: Tokens<'a>,
-    /// Where the token ended that was taken last.
+    /// The byte offset where the token that was taken last ended.
     pub(crate) reached: usize,
     /// The length of the source.
     pub(crate) end: usize,
@@ -43,7 +43,7 @@ impl<'a> Parser<'a> {
     ghost use Rattle.fz_lex.specs.Ahead.{tokens_ahead};
     ghost use Rattle.fz_lex.specs.Left.{source_of};
 
-    /// At the first token of a source.
+    /// A parser at the first token of a source.
     pub(crate) fn new(alloc: Global, source: &'a [u8]) -> Parser<'a>
         ensures all { ahead result ≡ tokens_ahead source.now 0 }
         ensures source { source_of result.tokens ≡ source.now }
@@ -57,7 +57,7 @@ impl<'a> Parser<'a> {
         }
     }
 
-    /// Where the next token stands.
+    /// The byte range of the next token, which is empty at the end of the source.
     #[inline(always)]
     pub(crate) fn place(&self) -> Span
         ensures within { IsSpanWithin self.now.end result }
@@ -72,7 +72,7 @@ impl<'a> Parser<'a> {
         }
     }
 
-    /// From a place up to the end of the token that was taken last.
+    /// The byte range from an offset up to the end of the token that was taken last.
     #[inline(always)]
     pub(crate) fn span_from(&self, start: usize) -> Span
         ensures { (result.start ≡ start) × (result.end ≡ self.now.reached) }
@@ -83,7 +83,7 @@ impl<'a> Parser<'a> {
         }
     }
 
-    /// The error of a refusal of the next token.
+    /// The error for a refusal of the next token, with its byte range.
     pub(crate) fn refused(&self, refusal: Refusal) -> SyntaxError
         ensures kind { IsErrorOf refusal result }
         ensures placed { IsPlacedWithin self.now.end result }

@@ -1,4 +1,4 @@
-//! Literals, names and lists of them.
+//! Reads literals, names and lists of them.
 
 ghost use Rattle.std.specs.Prelude.{◌≡◌, ◌<◌, ◌≤◌, ◌∷◌, ◌++◌, length, IfOk, IfSome, IfNone, []};
 ghost use Rattle.fz_syntax.specs.View.{lexeme, bare_literal, bare_expression, bare_expressions, bare_expr};
@@ -18,7 +18,7 @@ use crate::tree::{Basic, Expr, Literal, LiteralKind};
 use fz_lex::{Mark, Token, TokenKind};
 
 impl<'a> Parser<'a> {
-    /// Takes the next token and the comma behind it, where nothing stands between them.
+    /// Takes the next token and the comma after it, where nothing is between them.
     #[inline(always)]
     fn eat_with_comma(&mut self) -> Option<Token<'a>>
         ensures read { IfSome result (λ t. lexemes self.old
@@ -38,8 +38,8 @@ impl<'a> Parser<'a> {
         }
     }
 
-    /// Takes a literal of one token and the comma behind it, as an element of a list, where they
-    /// are next and nothing stands between them. Long lists are mostly such.
+    /// Takes a literal of one token and the comma after it, as an element of a list, where they are
+    /// next and nothing is between them. Nearly all elements of long lists are such.
     #[inline(always)]
     pub(crate) fn eat_listed(&mut self) -> Option<Literal>
         ensures read { IfSome result (λ l. IsListed (bare_literal l) (lexemes self.old)
@@ -61,7 +61,7 @@ impl<'a> Parser<'a> {
         })
     }
 
-    /// The same of a number in braces.
+    /// The same for a number in braces.
     #[inline(always)]
     fn eat_listed_whole(&mut self) -> Option<i64>
         ensures read { IfSome result (λ n. lexemes self.old
@@ -80,7 +80,7 @@ impl<'a> Parser<'a> {
         Some(value)
     }
 
-    /// A number of a list that has `count` so far.
+    /// A number of a list that has `count` elements so far.
     #[inline(always)]
     pub(crate) fn listed_whole(&mut self, count: usize) -> Result<i64, Refusal>
         ensures read { Gives (λ n. n) result (at_most the_limits.elements is_whole whole_at count
@@ -104,7 +104,7 @@ impl<'a> Parser<'a> {
     {
         let mut numbers = Vec::new(self.alloc);
         'numbers: loop {
-            // Numbers with a comma right behind them, as most but the last are.
+            // Numbers with a comma right after them: mostly all but the last.
             'listed: while numbers.len() < MAX_ELEMENTS {
                 let Some(number) = self.eat_listed_whole() else {
                     break;
@@ -119,7 +119,7 @@ impl<'a> Parser<'a> {
         }
     }
 
-    /// Numbers behind the brace that opened at `start`.
+    /// Numbers after the brace that opened at `start`.
     #[tactic(auto, unfolding(crate::specs::Reading::braces_at, crate::specs::Reading::list_at, crate::specs::Reading::mark_at), using(crate::proofs::Walks::passed_then, crate::proofs::Walks::passed_none, crate::proofs::Walks::passed, crate::proofs::Walks::walk_none, crate::proofs::Errors::fails_unexpected, crate::proofs::Separated::fails_bind))]
     pub(crate) fn braces(&mut self, start: usize) -> Result<Literal, Refusal>
         ensures read { Gives (bare_literal) result (braces_at the_limits (lexemes self.old))
@@ -225,7 +225,7 @@ impl<'a> Parser<'a> {
         }
     }
 
-    /// An element of a list that has `count` so far.
+    /// An element of a list that has `count` elements so far.
     #[inline(always)]
     pub(crate) fn listed_basic(&mut self, count: usize) -> Result<Basic<'a>, Refusal>
         ensures read { Gives (bare_expression) result (at_most the_limits.elements begins_basic
@@ -259,7 +259,7 @@ impl<'a> Parser<'a> {
         Ok(trimmed(self.alloc, basics))
     }
 
-    /// A list's elements behind the bracket that opens it.
+    /// A list's elements, after the bracket that opens it.
     #[tactic(auto, unfolding(crate::specs::Reading::expr_list_at, crate::specs::Reading::list_at, crate::specs::Reading::mark_at), using(crate::proofs::Walks::passed_then, crate::proofs::Walks::passed_none, crate::proofs::Walks::passed, crate::proofs::Walks::walk_none, crate::proofs::Errors::fails_unexpected, crate::proofs::Separated::fails_bind))]
     pub(crate) fn expr_list(&mut self) -> Result<Vec<Basic<'a>>, Refusal>
         ensures read { Gives (λ v. bare_expressions v.items) result
@@ -304,7 +304,7 @@ impl<'a> Parser<'a> {
         Ok(Basic::Lit(self.literal()?))
     }
 
-    /// An element of a list that has `count` so far.
+    /// An element of a list that has `count` elements so far.
     pub(crate) fn listed_literal(&mut self, count: usize) -> Result<Basic<'a>, Refusal>
         ensures read { Gives (bare_expression) result (at_most the_limits.elements begins_literal
             (literal_basic_at the_limits) count (lexemes self.old)) (lexemes self.new) }
@@ -336,7 +336,7 @@ impl<'a> Parser<'a> {
         Ok(trimmed(self.alloc, literals))
     }
 
-    /// A list's literals behind the bracket that opens it.
+    /// A list's literals, after the bracket that opens it.
     #[tactic(auto, unfolding(crate::specs::Reading::list_at, crate::specs::Reading::mark_at), using(crate::proofs::Walks::passed_then, crate::proofs::Walks::passed_none, crate::proofs::Walks::passed, crate::proofs::Walks::walk_none, crate::proofs::Errors::fails_unexpected, crate::proofs::Separated::fails_bind))]
     pub(crate) fn literal_list(&mut self) -> Result<Vec<Basic<'a>>, Refusal>
         ensures read { Gives (λ v. bare_expressions v.items) result

@@ -1,4 +1,4 @@
-//! The items of a tree.
+//! Reads the items of a model.
 
 ghost use Rattle.std.specs.Prelude.{◌≡◌, ◌≤◌, ◌++◌, length, map, IfOk};
 ghost use Rattle.fz_syntax.specs.View.{bare_expr, bare_param, bare_predicate, bare_constraint, bare_goal, bare_solve, bare_value, bare_decl};
@@ -90,7 +90,7 @@ impl<'a> Parser<'a> {
         Ok(Predicate { name, params })
     }
 
-    /// The arguments are gathered in a block that is kept from one constraint to the next.
+    /// The arguments are gathered in a buffer that is used again for the next constraint.
     pub(crate) fn separated_args(
         &mut self,
         spare: &mut Vec<Expr<'a>>,

@@ -47,8 +47,8 @@ fn is_truth_word(word: &[u8]) -> bool
     matches!(word, b"true" | b"false")
 }
 
-/// Whether a reserved word has the length of this word and its first byte. Of nearly all names this
-/// tells that they are no reserved words.
+/// Whether some reserved word has the length of this word and its first byte. For nearly all names
+/// none has, so no further comparison is needed.
 #[inline(always)]
 fn may_be_reserved(word: &[u8]) -> bool
     ensures { result ≡ may_be_reserved word.now }
@@ -138,7 +138,7 @@ pub(crate) enum Plain {
     Truth(bool),
 }
 
-/// The literal that a token is by itself, whatever stands behind it.
+/// The literal that a token is by itself, whatever follows it.
 #[inline(always)]
 pub(crate) fn plain_of(token: &Token<'_>) -> Option<Plain>
     ensures { IfSome result (λ p. lexeme token.now ≡ plain_token p) }
@@ -162,7 +162,7 @@ pub(crate) fn kind_of(plain: Plain) -> LiteralKind
     }
 }
 
-/// How many index sets the array has that the word begins, or 0.
+/// How many index sets the array that the word begins has; 0 where it begins none.
 fn dimensions_of(word: &[u8]) -> usize
     ensures { result ≡ dimensions_of word.now }
 {
@@ -183,7 +183,7 @@ fn dimensions_of(word: &[u8]) -> usize
     }
 }
 
-/// How many index sets the array has that the token begins, or 0.
+/// How many index sets the array that the token begins has; 0 where it begins none.
 pub(crate) fn dimensions(token: &Token<'_>) -> usize
     ensures { result ≡ token_dimensions (lexeme token.now) }
 {

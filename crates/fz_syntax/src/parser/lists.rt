@@ -5,12 +5,12 @@ ghost use Rattle.std.specs.Prelude.{◌≡◌, IfOk};
 use std::alloc::{AllocError, Global};
 use std::mem;
 
-/// The most elements that are moved to a block of their own size. A longer list is cut off where it
-/// lies, since its elements would take their memory twice while they are moved.
+/// The most elements that are moved to an allocation of exactly their size. A longer list is shrunk
+/// where it is instead, since while its elements were moved they would take twice their memory.
 const MOST_MOVED: usize = 64;
 
-/// The list in a block of its own size, so that its first block can be taken again at once, for the
-/// next list. Where there is no memory for that, it stays where it is.
+/// The list in an allocation of exactly its size, so that the first allocation is free for the next
+/// list. Where there is no memory for that, the list stays as it is.
 pub(crate) fn trimmed<T: Drop>(alloc: Global, mut list: Vec<T>) -> Vec<T>
     ensures { result.items ≡ list.items }
 {
@@ -28,8 +28,8 @@ pub(crate) fn trimmed<T: Drop>(alloc: Global, mut list: Vec<T>) -> Vec<T>
     }
 }
 
-/// The elements in a block of their own size. The block that they were gathered in stays, for the
-/// next list.
+/// The elements in an allocation of exactly their size. The one that they were gathered in stays,
+/// for the next list.
 pub(crate) fn moved_out<T: Drop>(alloc: Global, gathered: &mut Vec<T>) -> Result<Vec<T>, AllocError>
     ensures { IfOk result (λ list. list.items ≡ gathered.old.items) }
 {

@@ -1,4 +1,4 @@
-//! The items of a solver's output.
+//! Reads the items of a solver's output.
 
 ghost use Rattle.std.specs.Prelude.{◌≡◌, ◌≤◌, ◌==◌, if◌then◌else◌, drop, ◌++◌, length, map, IfOk};
 ghost use Rattle.fz_syntax.specs.View.{bare_literal, bare_printed_value, bare_printed, bare_items};
@@ -20,7 +20,7 @@ use fz_lex::Mark;
 
 impl<'a> Parser<'a> {
     /// Takes the word that begins an array, and gives the number of its index sets, or 0 where the
-    /// next token is none.
+    /// next token is no such word.
     fn eat_array(&mut self) -> usize
         ensures found { result ≡ next_dimensions (lexemes self.old) }
         ensures left { lexemes self.new ≡ (if next_dimensions (lexemes self.old) == 0
@@ -70,7 +70,7 @@ impl<'a> Parser<'a> {
         Ok(trimmed(self.alloc, sets))
     }
 
-    /// An element of a list that has `count` so far.
+    /// An element of a list that has `count` elements so far.
     fn listed_element(&mut self, count: usize) -> Result<Literal, Refusal>
         ensures read { Gives bare_literal result (at_most the_limits.elements begins_literal
             (literal_at the_limits) count (lexemes self.old)) (lexemes self.new) }
@@ -95,7 +95,7 @@ impl<'a> Parser<'a> {
     {
         let mut elements = Vec::new(self.alloc);
         'elements: loop {
-            // Literals of one token with a comma right behind them, as most but the last are.
+            // Literals of one token with a comma right after them: mostly all but the last.
             'listed: while elements.len() < MAX_ELEMENTS {
                 let Some(literal) = self.eat_listed() else {
                     break;
@@ -110,7 +110,7 @@ impl<'a> Parser<'a> {
         }
     }
 
-    /// An array's elements behind the bracket that opens them.
+    /// An array's elements, after the bracket that opens them.
     #[tactic(auto, unfolding(crate::specs::ReadingItems::elements_at, crate::specs::Reading::list_at, crate::specs::Reading::mark_at), using(crate::proofs::Walks::passed_then, crate::proofs::Walks::passed_none, crate::proofs::Walks::passed, crate::proofs::Walks::walk_none, crate::proofs::Errors::fails_unexpected, crate::proofs::Separated::fails_bind))]
     fn elements(&mut self) -> Result<Vec<Literal>, Refusal>
         ensures read { Gives (λ v. map bare_literal v.items) result
@@ -128,7 +128,7 @@ impl<'a> Parser<'a> {
         Ok(elements)
     }
 
-    /// An array behind its word, which says how many index sets it has.
+    /// An array, after its word, which says how many index sets it has.
     #[tactic(auto, unfolding(crate::specs::ReadingItems::printed_array_at), using(crate::proofs::Walks::passed_then, crate::proofs::Walks::passed_none, crate::proofs::Walks::passed, crate::proofs::Walks::walk_none, crate::proofs::Errors::fails_unexpected, crate::proofs::Separated::fails_bind))]
     fn printed_array(&mut self, dimensions: usize) -> Result<PrintedValue, Refusal>
         ensures read { Gives bare_printed_value result

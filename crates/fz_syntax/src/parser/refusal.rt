@@ -5,7 +5,8 @@ ghost use Rattle.fz_syntax.specs.declared.parser.refusal.Refusal.TheVariants.{Me
 
 use std::alloc::{AllocError, AllocFailed};
 
-/// Why a method of the parser gives up. The place is that of the next token.
+/// Why a method of the parser gives up. The refused token is the next one, so no byte range is
+/// stored.
 #[derive(Clone, Copy)]
 pub(crate) enum Refusal {
     Float,

@@ -1,4 +1,4 @@
-//! Types and the lengths of arrays.
+//! Reads types and the lengths of arrays.
 
 ghost use Rattle.std.specs.Prelude.{◌≡◌, ◌≤◌, length, IfOk};
 ghost use Rattle.fz_syntax.specs.View.{bare_literal, bare_bounds, bare_base, bare_indexes};
@@ -194,7 +194,7 @@ impl<'a> Parser<'a> {
         }
     }
 
-    /// An index set of an array that has `count` so far.
+    /// An index set of an array that has `count` index sets so far.
     fn listed_index(&mut self, count: usize) -> Result<Option<usize>, Refusal>
         ensures read { Gives (λ n. n) result (at_most most_indexes begins_index
             (any_index_at the_limits) count (lexemes self.old)) (lexemes self.new) }
@@ -208,7 +208,7 @@ impl<'a> Parser<'a> {
         self.any_index()
     }
 
-    /// The index sets of an array, up to the bracket behind them.
+    /// The index sets of an array, up to the bracket after them.
     fn indexes(&mut self) -> Result<Vec<Option<usize>>, Refusal>
         ensures read { Gives (λ v. v.items) result (indexes_at the_limits (lexemes self.old))
             (lexemes self.new) }

@@ -43,7 +43,8 @@ impl Printer {
         Ok(())
     }
 
-    /// What stands before the elements' type of an array.
+    /// The text before an array's element type: `array`, its index set and `of`; nothing for a
+    /// scalar.
     pub(crate) fn prefix(&mut self, length: Option<usize>) -> Result<(), AllocError>
         ensures { OnOk result (self.new.text.items ≡ self.old.text.items ++ prefix_text length) }
     {
@@ -83,7 +84,8 @@ impl Printer {
         Ok(())
     }
 
-    /// What stands before the type of a predicate's parameter.
+    /// The text before the type of a predicate's parameter: `array`, its index sets and `of`;
+    /// nothing for a scalar.
     pub(crate) fn param_prefix(
         &mut self,
         array: &Option<Vec<Option<usize>>>,
