@@ -1,4 +1,5 @@
--- How declared names are hashed (private functions only; nothing rests on which names collide).
+-- How declared names are hashed (private functions only). Which names collide affects the time
+-- only.
 use Rattle.std.specs.Prelude.{ℕ, ◌+◌, ◌*◌, ◌/◌, ◌%◌, ◌^◌, if◌then◌else◌}
 use Rattle.fz_data.specs.Numbered.{is_digit}
 

@@ -1,5 +1,5 @@
 -- Only private functions use these: what the names that were declared so far stand for, as the
--- loader keeps them, and what an error tells.
+-- loader stores them, and what an error tells.
 use Rattle.std.specs.Prelude.{◌≡◌, ◌++◌, ◌∷◌, ℕ, pos, ⊤, Bool, true, false, List, [], Option, Some, None, cond, bytes_eq, option_map, map, length, is_some, is_none, not, ◌&&◌, codes, option_and_then}
 use Rattle.std.specs.Map.{lookup}
 use Rattle.fz_base.specs.declared.span.Span.{Span}

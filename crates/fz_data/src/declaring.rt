@@ -109,7 +109,7 @@ fn expression_definition(
     }
 }
 
-/// The value of a literal of a kind, as one basic expression.
+/// The value of a basic expression that is a literal of the kind.
 fn part_value(alloc: Global, kind: Kind, part: &Basic<'_>) -> Result<Value, ModelError>
     ensures clean { IfOk result (λ _. (s : Scope)
         → fault_in s (Some kind) (located_basic part.now) ≡ None) }

@@ -82,8 +82,8 @@ fn read<'a>(alloc: Global, ast: &Ast<'a>) -> Result<Model<'a>, ModelError>
     Ok(Model::assembled(scope, store, constraints, goal))
 }
 
-/// The model of a tree. It refuses a tree with faults, with the leftmost; else only where memory
-/// runs out.
+/// The model of a tree. It refuses a tree that has faults, and tells the leftmost; any other it
+/// refuses only where memory runs out.
 pub fn load<'a>(alloc: Global, ast: &Ast<'a>) -> Result<Model<'a>, ModelError>
     ensures no_fault { IfOk result (λ _. HasNoFault (located ast.now)) }
     ensures model { IfOk result (λ m. m ≡ model_of (located ast.now)) }

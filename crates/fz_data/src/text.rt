@@ -31,7 +31,7 @@ use fz_meaning::ModelError;
 use fz_syntax::{Constraint, Decl, Items, SyntaxError};
 use std::alloc::Global;
 
-/// The items behind the predicates, which tell a model nothing.
+/// The items after the predicates. A predicate adds nothing to a model.
 fn past_predicates<'a>(mut items: Items<'a>) -> Result<Items<'a>, SyntaxError>
     ensures source { IfOk result (λ i. i.source.now ≡ items.entry.source.now) }
     ensures offered { AtPredicates [] items.entry
@@ -63,8 +63,8 @@ fn behind_decls(mut items: Items<'_>) -> Result<(), SyntaxError>
     behind_constraints(items)
 }
 
-/// What is answered to a fault of names at the last declaration: a fault of the text comes first,
-/// wherever it is.
+/// The error for a fault of names at the last declaration that was read. The rest of the text is
+/// read first, since a fault of the text comes before each of names, wherever it is.
 fn at_decl(items: Items<'_>, fault: ModelError) -> LoadError
     ensures { (ps : List the_predicate.Predicate) (ds : List the_decl.Decl) (d : the_decl.Decl)
         → AtDecls ps (ds ++ d ∷ []) items.entry → decls_fault [] (map located_decl ds) ≡ None
@@ -77,7 +77,7 @@ fn at_decl(items: Items<'_>, fault: ModelError) -> LoadError
     }
 }
 
-/// The same of a fault at the last constraint.
+/// The error for a fault of names at the last constraint that was read, in the same way.
 fn at_constraint(items: Items<'_>, fault: ModelError) -> LoadError
     ensures { (ps : List the_predicate.Predicate) (ds : List the_decl.Decl)
         (cs : List the_constraint.Constraint) (c : the_constraint.Constraint) (s : the_scope)

@@ -1,5 +1,5 @@
 -- Numbers with their indices, each pair as one number (a key): keys are ordered by the numbers, and
--- those of equal numbers by the indices.
+-- those of equal numbers by the indices (private functions only).
 use Rattle.std.specs.Prelude.{ℕ, ◌+◌, ◌<◌, ℤ, pos, ◌+ℤ◌, ◌*ℤ◌, Bool, true, false, List, [], ◌∷◌, length, int_lt, Option, Some, None}
 use Rattle.std.specs.List.Sorted.{IsPermutation}
 

@@ -1,4 +1,4 @@
--- What is at an index of an array, as the private functions read it.
+-- What is at an index of an array (private functions only).
 use Rattle.std.specs.Prelude.{ℕ, ℤ, pos, Bool, ◌&&◌, ◌||◌, List, get_or, int_le}
 use Rattle.fz_meaning.specs.Values.{◌=ℤ◌}
 use Rattle.fz_meaning.specs.Globals.{Span, Box, are_apart, is_empty_span, lie_apart, has_no_area, used_at}

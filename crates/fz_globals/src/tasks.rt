@@ -42,7 +42,7 @@ fn count(starts: &Elements, durations: &Elements, uses: &Elements) -> usize
     common_places(starts, durations).min(number_count(uses))
 }
 
-// Whether all last and use 0 or more.
+// Whether no duration and no use is negative.
 fn are_natural(starts: &Elements, durations: &Elements, uses: &Elements) -> bool
     ensures { result ≡ list_all (λ k. is_natural k.0.1 && is_natural k.1)
         (zip (zip (ints starts.now) (ints durations.now)) (ints uses.now)) }

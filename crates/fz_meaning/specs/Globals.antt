@@ -39,7 +39,7 @@ is_before less same [] (y ∷ ys) = true
 is_before less same (x ∷ xs) (y ∷ ys) = less x y || (same x y && is_before less same xs ys)
 is_before less same _ [] = false
 
--- the list cut into rows of so many elements; the first number is at least that of the rows
+-- the list cut into rows of n elements; the first argument is at least the number of rows
 abbrev pub rows_within : {A : Type 0} → ℕ → ℕ → List A → List (List A)
 rows_within (suc k) n (x ∷ xs) = take n (x ∷ xs) ∷ rows_within k n (drop n (x ∷ xs))
 rows_within _ n _ = []
@@ -269,7 +269,7 @@ is_index_of_best no_better xs o i =
 
 -- ---- sums
 
--- so many of each thing, their weight and their profit
+-- how many there are of each thing, with their total weight and their total profit
 abbrev pub is_knapsack : List ℤ → List ℤ → List ℤ → ℤ → ℤ → Bool
 is_knapsack weights profits xs weight profit =
     list_all is_natural xs && is_natural weight && is_natural profit
