@@ -1,4 +1,4 @@
--- Slots and arguments, as a store keeps them and as they are defined.
+-- Slots and arguments, as a store has them and as they are defined.
 use Rattle.std.proofs.Common.{◌≡◌, ℕ, zero, suc, Bool, true, false, ◌&&◌, List, [], ◌∷◌, map, flat_map, Option, Some, None, slice_get, option_map, refl, sym, ap, ◌∙◌}
 use Rattle.std.specs.List.{list_all}
 use Rattle.std.specs.Option.{option_map_or}
@@ -22,7 +22,7 @@ use Rattle.fz_arguments.specs.Arguments.{argument_is_given, array_slots, has_val
 use Rattle.fz_arguments.specs.Given.{slot_of, slots_in, has_value, is_given, are_given}
 use Rattle.fz_arguments.specs.Views.{slot_read}
 
--- ---- an element by its place
+-- ---- an element by its index
 
 mapped_at : {A B : Type 0} (f : A → B) (xs : List A) (i : ℕ) (x : A) → slice_get xs i ≡ Some x
     → slice_get (map f xs) i ≡ Some (f x)

@@ -1,4 +1,5 @@
--- What the readiness of arguments says of their values, where the arguments have the shapes.
+-- What the readiness of arguments says of their values, where the arguments are of the kinds asked
+-- for.
 use Rattle.std.proofs.Common.{◌≡◌, ℕ, suc, Bool, true, false, ◌&&◌, List, [], ◌∷◌, map, flat_map, Option, Some, None, option_map, refl, sym, ap, ◌∙◌}
 use Rattle.std.specs.Prelude.{is_some}
 use Rattle.std.specs.List.{list_all}
@@ -82,7 +83,7 @@ map-map : {A B C : Type 0} (f : B → C) (g : A → B) (ys : List A)
 map-map f g [] = refl
 map-map f g (y ∷ ys) = ap (λ zs. f (g y) ∷ zs) (map-map f g ys)
 
--- what stands at the first place
+-- the argument at the first index
 abbrev given_here : Partial → Argument → Shape → ArgValue
 given_here K x s = given K (x ∷ []) 0 s
 

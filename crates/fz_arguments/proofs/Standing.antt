@@ -44,7 +44,7 @@ all_read K (ArrayOf k ∷ ss) (z ∷ zs) = ap (λ b. reading_is_read K (ArrayOf 
 -- ---- a view
 
 module _ (s : ArgumentView) where
-  -- its arguments, as they are kept
+  -- its arguments, as they are stored
   abbrev pub own : List Argument
   own = segment s.parts.store.now.arguments.items s.parts.posted.now.arguments
 
@@ -58,7 +58,7 @@ module _ (s : ArgumentView) where
       → slice_get (map reading_of (arguments_of s)) i ≡ option_map read o
   at i o e = ap (λ rs. slice_get rs i) are ∙ slice_get-map read own i ∙ ap (option_map read) e
 
-  -- the argument at a place
+  -- the argument at an index
   pub scalar_there : (i : ℕ) (a : Argument) → slice_get own i ≡ Some a
       → slot_at (arguments_of s) i ≡ argument_slot s.parts.store.now a
   scalar_there i a e = slot_by (arguments_of s) i ∙ ap (option_and_then (λ (r : Reading). r.0)) (at i (Some a) e)

@@ -1,4 +1,4 @@
--- The sums on the way of a row that adds products, over its numbers as they are read: what has no
+-- The partial sums of a row that adds products, over its numbers as they are read: what has no
 -- number counts as 0 and changes no sum.
 use Rattle.std.proofs.Common.{◌≡◌, ℕ, zero, suc, ℤ, pos, ◌+ℤ◌, ◌*ℤ◌, Bool, true, false, not, ◌&&◌, ◌||◌, List, [], ◌∷◌, map, Option, Some, None, option_and_then, refl, sym, ap, subst, slice_get, ◌∙◌}
 use Rattle.std.proofs.Math.IntN.{+ℤ_idr, *ℤ-zero, zero-*ℤ}
@@ -26,7 +26,7 @@ number_is (Some (Int n)) = refl
 number_is (Some (Truth b)) = refl
 number_is (Some (Set s)) = refl
 
--- the sums on the way all have 128 bits
+-- the partial sums all have 128 bits
 abbrev stay : ℤ → List ℤ → Bool
 stay s ns = list_all fits_128 (sums_from s ns)
 
@@ -62,7 +62,7 @@ slots_terms (s ∷ ss) [] i k h e = no h
 slots_terms (s ∷ ss) (x ∷ xs) zero k h e = let same : s ≡ ArrayOf k = cc in slots_are_terms k x (subst (λ t. has_shape t x ≡ true) same (and_first (has_shape s x) _ h))
 slots_terms (s ∷ ss) (x ∷ xs) (suc i) k h e = slots_terms ss xs i k (and_second (has_shape s x) _ h) e
 
--- the places are those of arrays of numbers
+-- the indices are those of arrays of numbers
 abbrev pub is_ints : Option Shape → Bool
 is_ints (Some (ArrayOf IntKind)) = true
 is_ints _ = false
@@ -90,7 +90,7 @@ sums_leave_are K ss xs [] ints h = refl
 sums_leave_are K ss xs (p ∷ ps) ints h =
     λ i. products_leave_are K ss xs p (and_first (are_ints ss p) _ ints) h i || sums_leave_are K ss xs ps (and_second (are_ints ss p) _ ints) h i
 
--- a Boolean behind changes nothing
+-- one more Boolean at the end changes nothing
 ints_with_bool : (ss : List Shape) (i : ℕ) → is_ints (slice_get ss i) ≡ true
     → is_ints (slice_get (with_bool ss) i) ≡ true
 ints_with_bool [] i h = no h

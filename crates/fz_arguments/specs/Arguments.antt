@@ -1,4 +1,4 @@
--- Arguments by what they are read by, as a store keeps them (private functions only).
+-- Arguments by the slots that a store has of them (private functions only).
 use Rattle.std.specs.Prelude.{ℕ, Bool, true, false, ◌&&◌, List, [], ◌∷◌, map, Option, None, option_and_then, slice_get, is_some}
 use Rattle.std.specs.List.{list_all}
 use Rattle.std.specs.Option.{option_map_or}
@@ -25,7 +25,7 @@ Reading = Option Term × List (Option Term)
 abbrev pub reading_of : Argument → Reading
 reading_of x = (slot_in x, slots_in x)
 
--- the scalar at a place, and the elements of the array at a place
+-- the scalar at an index, and the elements of the array at an index
 abbrev pub scalar_read : List Reading → ℕ → Option Term
 scalar_read rs i = option_and_then (λ r. r.0) (slice_get rs i)
 
@@ -42,7 +42,7 @@ readings_are_read K [] [] = true
 readings_are_read K (s ∷ ss) (r ∷ rs) = reading_is_read K s r && readings_are_read K ss rs
 readings_are_read K _ _ = false
 
--- ---- as a store keeps them
+-- ---- in a store
 
 -- the elements of the array that a slot is
 abbrev pub array_slots : List Array → Slot → List (Option Term)

@@ -1,6 +1,6 @@
 -- The arguments of a constraint under a partial assignment, read as integers, Booleans and sets. A
--- reading is total: what cannot be read as a number is read as 0, as a Boolean false, as a set the
--- empty one; `are_read` says where nothing of that kind happens.
+-- reading is total: what cannot be read as a number is read as 0, as a Boolean `false`, as a set
+-- the empty set; `are_read` says where nothing of that kind happens.
 use Rattle.std.specs.Prelude.{ℕ, suc, ℤ, pos, Bool, true, false, ◌&&◌, List, [], ◌∷◌, map, slice_get, Option, None, Some, option_and_then, is_some}
 use Rattle.std.specs.List.{list_all}
 use Rattle.std.specs.Option.{option_map_or}
@@ -22,7 +22,7 @@ use Rattle.fz_meaning.specs.Meaning.Argument.{One, ListOf}
 
 -- ---- the scalars of arguments
 
--- the scalar at a place; none where an array's name stands in brackets, as in no constraint that
+-- the scalar at an index; none where an array's name is in brackets, which no constraint has that
 -- fits a row
 abbrev pub slot_of : Place → Option Term
 slot_of (Scalar k t) = Some t
@@ -38,7 +38,7 @@ slots_in (One (Scalar k t)) = []
 slots_in (One (Array x k ts)) = map Some ts
 slots_in (ListOf ps) = map slot_of ps
 
--- those of the argument at a place, counted from 0
+-- those of the argument at an index, counted from 0
 abbrev pub slot_at : List Argument → ℕ → Option Term
 slot_at xs i = option_and_then slot_in (slice_get xs i)
 
@@ -79,7 +79,7 @@ bools_of K ss = map (bool_of K) ss
 abbrev pub sets_of : Partial → List (Option Term) → List NumberSet
 sets_of K ss = map (set_of_slot K) ss
 
--- the argument at a place: as a scalar, and as an array
+-- the argument at an index: as a scalar, and as an array
 abbrev pub int_at : Partial → List Argument → ℕ → ℤ
 int_at K xs i = int_of K (slot_at xs i)
 
@@ -92,7 +92,7 @@ set_at K xs i = set_of_slot K (slot_at xs i)
 abbrev pub ints_at : Partial → List Argument → ℕ → List ℤ
 ints_at K xs i = ints_of K (slots_at xs i)
 
--- the products of the numbers at two places, added from the left, leave 128 bits
+-- the products of the numbers of two array arguments, added from the left, leave 128 bits
 abbrev pub read_leave : Partial → List Argument → ℕ × ℕ → Bool
 read_leave K xs at = leaves_128 (products (ints_at K xs at.0) (ints_at K xs at.1))
 
@@ -102,7 +102,7 @@ bools_at K xs i = bools_of K (slots_at xs i)
 abbrev pub sets_at : Partial → List Argument → ℕ → List NumberSet
 sets_at K xs i = sets_of K (slots_at xs i)
 
--- ---- the arguments as a row's shapes read them
+-- ---- the arguments as a row reads them
 
 abbrev pub given : Partial → List Argument → ℕ → Shape → ArgValue
 given K xs i (ScalarOf IntKind) = OneValue (Int (int_at K xs i))

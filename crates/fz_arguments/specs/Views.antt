@@ -1,4 +1,4 @@
--- What the code's views of a constraint stand for.
+-- What an argument view stands for.
 use Rattle.std.specs.Prelude.{◌≡◌, ℤ, Bool, true, false, List, map, Option, Some, None}
 use Rattle.fz_base.specs.Sets.{NumberSet}
 use Rattle.fz_base.specs.declared.value.Value.{Value}
@@ -51,8 +51,7 @@ arguments_of s = (constraint_view s.parts).arguments
 abbrev pub assigned : ArgumentView → meaning.Partial
 assigned s = s.partial.now
 
--- every scalar has a value of the kind that its shape asks for; or every one has a value; or one
--- has none
+-- every scalar has a value of the kind that is asked for; or every one has a value; or one has none
 abbrev pub IsReadiness : meaning.Partial → List Shape → List meaning.Argument → Readiness → Type 0
 IsReadiness K ss xs Ready = are_read K ss xs ≡ true
 IsReadiness K ss xs WrongKind = (are_read K ss xs ≡ false) × (are_given K xs ≡ true)

@@ -1,5 +1,8 @@
-//! A constraint's arguments under a partial assignment: scalars and the elements of arrays, read as
-//! integers, Booleans and sets, and whether all of them can be read as the constraint's row asks.
+//! The argument view of a constraint (`ArgumentView`): its arguments under a partial assignment,
+//! scalars and the elements of arrays, read as integers, Booleans and sets, and whether all of them
+//! can be read as the constraint's row asks. An internal crate of `fz_model`.
+//!
+//! Its worked cases are in `fz_check_cases` (`builtins.rt` and `globals.rt`, through `state`).
 #![tactic(auto)]
 
 mod elements;

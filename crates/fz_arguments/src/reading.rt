@@ -10,8 +10,8 @@ use fz_base::{IntSet, Value};
 use fz_data::{number_of, truth_of};
 use fz_meaning::Kind;
 
-/// Whether the arguments of a constraint can be read as its row's shapes ask: each scalar has a
-/// value of the kind; each has a value, and one is of another kind; or one has none.
+/// Whether the arguments of a constraint can be read as its row asks: each scalar has a value of
+/// the kind; or each has a value, but one is of another kind; or one has none.
 #[derive(Clone, Copy, Debug, PartialEq, Eq)]
 pub enum Readiness {
     Ready,

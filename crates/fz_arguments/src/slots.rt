@@ -1,4 +1,4 @@
-//! Reading one slot. Nothing is read of an array's.
+//! Reading one slot. That of an array has no value to read.
 
 ghost use Rattle.std.specs.Prelude.{◌≡◌, Some};
 ghost use Rattle.std.specs.List.{list_all};

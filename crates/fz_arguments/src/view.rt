@@ -1,4 +1,4 @@
-//! A constraint under a partial assignment.
+//! The argument view of a constraint.
 
 use crate::elements::Elements;
 use crate::reading::Readiness;
@@ -32,7 +32,7 @@ impl<'s, 'a> ArgumentView<'s, 'a> {
         ArgumentView { parts, partial }
     }
 
-    /// The argument at a place, counted from 0, as an integer. It takes no memory.
+    /// The argument at an index, counted from 0, as an integer. It takes no memory.
     #[inline(always)]
     pub fn int(&self, index: usize) -> i64
         ensures read { result ≡ int_at (assigned self.now) (arguments_of self.now) index }
@@ -43,7 +43,7 @@ impl<'s, 'a> ArgumentView<'s, 'a> {
         }
     }
 
-    /// The argument at a place as a Boolean. It takes no memory.
+    /// The argument at an index as a Boolean. It takes no memory.
     #[inline(always)]
     pub fn truth(&self, index: usize) -> bool
         ensures read { result ≡ bool_at (assigned self.now) (arguments_of self.now) index }
@@ -54,7 +54,7 @@ impl<'s, 'a> ArgumentView<'s, 'a> {
         }
     }
 
-    /// The argument at a place as a set. It takes no memory.
+    /// The argument at an index as a set. It takes no memory.
     #[inline(always)]
     pub fn set(&self, index: usize) -> &'s IntSet
         ensures read { result.now ≡ set_at (assigned self.now) (arguments_of self.now) index }
@@ -65,7 +65,7 @@ impl<'s, 'a> ArgumentView<'s, 'a> {
         }
     }
 
-    /// The elements of the argument at a place, where it is an array. It takes no memory.
+    /// The elements of the argument at an index, where it is an array. It takes no memory.
     #[inline(always)]
     pub fn elements(&self, index: usize) -> Elements<'s>
         ensures slots { slots_of result ≡ slots_at (arguments_of self.now) index }
@@ -84,7 +84,7 @@ impl<'s, 'a> ArgumentView<'s, 'a> {
         &self.parts.store.constants
     }
 
-    // The slot of the argument at a place, where that is one.
+    // The slot of the argument at an index, where it has one.
     #[inline(always)]
     fn scalar(&self, index: usize) -> Option<&'s Slot>
         ensures { slot_at (arguments_of self.now) index ≡ option_and_then
@@ -113,7 +113,7 @@ impl<'s, 'a> ArgumentView<'s, 'a> {
         }
     }
 
-    // Those of the declared array that a slot is.
+    // The elements of the declared array that a slot is.
     #[inline(always)]
     fn array_elements(&self, slot: &Slot) -> Elements<'s>
         ensures slots { slots_of result ≡ array_slots self.now.parts.arrays.now slot.now }
@@ -146,8 +146,8 @@ impl<'s, 'a> ArgumentView<'s, 'a> {
         }
     }
 
-    /// Whether the arguments, which have the shapes, can be read as these ask. It goes over each
-    /// scalar once, and where one cannot be read a second time. It takes no memory.
+    /// Whether all arguments can be read, where the constraint's row asks for these kinds. It goes
+    /// over each scalar once, and a second time only where one cannot be read. It takes no memory.
     pub fn readiness(&self, shapes: &[Shape]) -> Readiness
         ensures exact { IsReadiness (assigned self.now) (map shape_of shapes.now)
             (arguments_of self.now) result }

@@ -21,7 +21,7 @@ use Rattle.fz_data.specs.Layout.{model_view, named_place, IsArrayNamed, IsKeptAs
 use Rattle.fz_data.specs.Shown.{kind_among}
 use Rattle.fz_data.proofs.Loops.{found_entry}
 
--- the place of the first pair that has the name
+-- the index of the first pair that has the name
 abbrev pub by_name : List ℕ → (List ℕ × meaning.Place) → Option meaning.Place
 by_name x (n, p) = cond (bytes_eq n x) (Some p) None
 

@@ -1,4 +1,4 @@
--- The row that a constraint fits, from the kinds and lengths that the code keeps.
+-- The row that a constraint fits, from the kinds and lengths that the code tests.
 use Rattle.std.proofs.Common.{◌≡◌, ◌≢◌, ◌<◌, ◌+◌, min, get_or, drop, ℕ, zero, suc, Bool, true, false, ◌&&◌, List, [], ◌∷◌, map, flat_map, length, Option, Some, None, slice_get, refl, sym, ap, ◌∙◌, ◌==◌, arith}
 use Rattle.std.specs.Option.{option_map_or}
 use Rattle.std.specs.List.{list_all}
@@ -96,7 +96,7 @@ module _ (vs : List Variable) (xs : List Array) (st : Store) where
 
   -- ---- lengths
 
-  -- a list of scalars has as many as it has places
+  -- a list of scalars has as many as it has indices
   scalars_counted : (k : Kind) (ss : List Slot) → list_all (meaning.is_term_of k) (map view ss)
       ≡ true → length ss ≡ length (flat_map meaning.terms_at (map view ss))
   scalars_counted k [] h = refl

@@ -1,4 +1,4 @@
--- Slots that are put one behind another, none of them an array.
+-- Slots that follow each other, none of them an array.
 use Rattle.std.proofs.Common.{◌≡◌, Bool, true, ◌&&◌, List, [], ◌∷◌, ◌++◌, refl, ap, ◌∙◌}
 use Rattle.std.specs.List.{list_all}
 use Rattle.std.proofs.lemmas.List.Folds.{list_all-append}

@@ -1,4 +1,4 @@
--- Lists that grow while a model is loaded: what was put there stays, whatever more comes behind.
+-- Lists that grow while a model is loaded: what is in them stays, whatever is appended.
 use Rattle.std.proofs.Common.{◌≡◌, ℕ, ◌+◌, ◌<◌, true, List, [], ◌∷◌, ◌++◌, map, length, take, drop, get_or, refl, sym, ap, subst, ◌∙◌, append_assoc}
 use Rattle.std.proofs.lemmas.Bool.{false≢true}
 use Rattle.std.proofs.lemmas.List.{append-nil, map-append, length-map}
@@ -40,7 +40,7 @@ longer_more a b c g h = record {
   constants = grown_more a.constants.items b.constants.items c.constants.items g.constants h.constants;
 }
 
--- one more argument behind
+-- one more argument at the end
 pub argument_pushed : (before after : Store) (a : Argument)
     → after.arguments.items ≡ before.arguments.items ++ a ∷ [] → after.slots ≡ before.slots
     → after.constants ≡ before.constants → IsLonger before after
@@ -60,13 +60,13 @@ scalar_is vs xs cs (slots.Truth b) h = refl
 scalar_is vs xs cs (slots.Constant k) h = refl
 scalar_is vs xs cs (slots.Array i) h = absurd (false≢true h)
 
--- a slot of a scalar stands for it, whatever more constants come
+-- a slot of a scalar stands for it, whatever constants are appended
 pub slot_is : (vs : List Variable) (xs : List Array) (cs : List Value) (t : Term) (s : Slot)
     → IsSlotOf cs t s → (later : List Value) → IsGrown cs later
     → place_view vs xs later s ≡ scalar_view vs t
 slot_is vs xs cs t s h later g = scalar_is vs xs later s h.scalar ∙ ap (scalar_view vs) (h.stands later g)
 
--- ---- items that stand behind others
+-- ---- items that are appended to others
 
 taken_behind : {A : Type 0} (old behind new : List A) (first n : ℕ) → new ≡ old ++ behind
     → first ≡ length old → n ≡ length behind → (later : List A) → IsGrown new later
@@ -78,7 +78,7 @@ taken_behind old behind new first n grown from long later (more, e) =
     ∙ take-append_seam behind more
 
 module _ {E A V : Type 0} (Later : E → E → Type 0) (view : E → A → V) where
-  -- all items read so, whatever more comes
+  -- all items read so, whatever is appended
   abbrev pub AllRead : E → List A → List V → Type 0
   AllRead e items xs = (later : E) → Later e later → map (view later) items ≡ xs
 
@@ -92,7 +92,7 @@ module _ {E A V : Type 0} (Later : E → E → Type 0) (view : E → A → V) wh
   next_read want located ps k p e f old new a lt at on pushed is all later h =
       ap (map (view later)) pushed ∙ map-append (view later) old (a ∷ []) ∙ (λ i. all later (on later h) i ++ is later h i ∷ []) ∙ sym (two_more want located ps k p lt at)
 
-  -- there are items behind the old ones that read so, whatever more comes
+  -- items were appended to the old ones that read so, whatever is appended later
   pub record SoFar (e : E) (old new : List A) (xs : List V) : Type 0 where
     pub behind : List A
     pub grown : new ≡ old ++ behind
@@ -101,7 +101,7 @@ module _ {E A V : Type 0} (Later : E → E → Type 0) (view : E → A → V) wh
   pub none_so_far : (e : E) (old : List A) → SoFar e old old []
   none_so_far e old = record { behind = []; grown = sym (append-nil old); reads = λ later h. refl }
 
-  -- what stands behind the old ones is told by a later state too
+  -- what was appended to the old ones is read the same in a later state
   pub still_so_far : (e f : E) (old new : List A) (xs : List V) → ((g : E) → Later f g → Later e g)
       → SoFar e old new xs → SoFar f old new xs
   still_so_far e f old new xs on s = record { behind = s.behind; grown = s.grown; reads = λ later h. s.reads later (on later h) }
@@ -124,7 +124,7 @@ module _ {E A V : Type 0} (Later : E → E → Type 0) (view : E → A → V) wh
       subst (SoFar f old newer) (sym (two_more want located ps k p lt at))
       (one_so_far f old new newer (map want (map located (take k ps))) a (want (located p)) pushed is (still_so_far e f old new _ on s))
 
-  -- the segment behind the old items
+  -- the segment of the items that were appended
   pub segment_is : (e : E) (old new : List A) (xs : List V) (first n : ℕ) → first ≡ length old
       → n ≡ length xs → SoFar e old new xs → Later e e → (later : E) → Later e later
       → (items : List A) → IsGrown new items → map (view later) (take n (drop first items)) ≡ xs

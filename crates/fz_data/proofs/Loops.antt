@@ -29,7 +29,7 @@ pub two_more : {A B C : Type 0} (f : B → C) (g : A → B) (xs : List A) (i : �
     → map f (map g (take (i + 1) xs)) ≡ map f (map g (take i xs)) ++ f (g x) ∷ []
 two_more f g xs i x lt at = ap (map f) (take_one_more g xs i x lt at) ∙ map-append f (map g (take i xs)) (g x ∷ [])
 
--- one more is kept with its row
+-- one more is stored with its row
 pub rows_found : {P Q V C R : Type 0} (want : Q → V) (fit : V → R) (located : P → Q) (kept : C → R)
     (ps : List P) (k : ℕ) (p : P) (cs new : List C) (c : C) → k < length ps → p ≡ get_or ps k p
     → map kept cs ≡ map fit (map want (map located (take k ps))) → kept c ≡ fit (want (located p)) → new ≡ cs ++ c ∷ [] → map kept new ≡ map fit (map want (map located (take (k + 1) ps)))

@@ -49,7 +49,7 @@ key_passes x (y ∷ ks) k e = (elim (is_key x y) as (λ b. is_key x y ≡ b → 
   | false ↦ λ _ later. key_passes x ks k later
 ]) refl e
 
--- the key at a place is the one that is found, since no other has its text
+-- the key at an index is the one that is found, since no other has its text
 pub found_there : (ks : List Kept) (i : ℕ) (k : Kept) → IsDistinct same_key ks
     → Some k ≡ slice_get ks i → find (is_key k.bytes.now) ks ≡ Some k
 unfolding IsDistinct
@@ -116,13 +116,13 @@ all_stand_same ts us (e ∷ es) h = λ i. (e.bytes.now, stands_same ts us e.entr
 
 -- ---- one more name
 
--- what is read at a place
+-- what is read at an index
 pub got : (ks : List Kept) (i : ℕ) (r : Option (Bor Kept)) → is_some r ≡ ltb i (length ks)
     → IfSome r (λ x. x.now ≡ get_or ks i x.now) → option_map (λ x. x.now) r ≡ slice_get ks i
 got ks i None there is = sym (slice_get_past ks i (ltb-false i (length ks) (sym there)))
 got ks i (Some x) there is = sym (slice_get_read ks (length ks) i x.now refl (ltb-true i (length ks) (sym there)) is)
 
--- keys stay apart where one comes that is new
+-- keys stay distinct where a new one is added
 pub distinct_pushed : (ks : List Kept) (k : Kept) → IsDistinct same_key ks
     → list_any (is_key k.bytes.now) ks ≡ false → IsDistinct same_key (ks ++ k ∷ [])
 unfolding IsDistinct
@@ -145,7 +145,7 @@ distinct_pushed (y ∷ ks) k h absent = (all_append (λ z. same_key y z ≡ fals
     apart true e absent = cc
     apart false e absent = turned (same_key y k) refl e
 
--- a key that is new goes behind the others
+-- a new key is appended
 pub goes_last : (ks : List Kept) (k : Kept) → list_any (same_key k) ks ≡ false
     → insert_key same_key ks k ≡ ks ++ k ∷ []
 goes_last ks k absent = ap (λ b. if b then ks else ks ++ k ∷ []) absent
@@ -159,7 +159,7 @@ module _ (ts : List Term) (ks new : List Kept) (k : Kept) (last : new ≡ ks ++ 
       → map (entry_stands ts) new ≡ n ++ (k.bytes.now, stands_for ts k.entry) ∷ []
   view_pushed n is = ap (map (entry_stands ts)) last ∙ map-append (entry_stands ts) ks (k ∷ []) ∙ ap (λ zs. zs ++ (k.bytes.now, stands_for ts k.entry) ∷ []) is
 
--- what holds of the keys whether the last one came or memory ran out
+-- what holds of the keys whether the last one was added or memory ran out
 pub among_put : {A E : Type 0} (r : Result A E) (ts : List Term) (ks new : List Kept) (k : Kept)
     → OnOk r (new ≡ ks ++ k ∷ []) → OnErr r (new ≡ ks)
     → AllByRecursion (is_among_terms ts) ks → IsAmongTerms ts k.entry → AllByRecursion (is_among_terms ts) new
@@ -174,7 +174,7 @@ pub at_end : {A : Type 0} (xs : List A) (x : A) → slice_get (xs ++ x ∷ []) (
 at_end [] x = refl
 at_end (y ∷ xs) x = at_end xs x
 
--- a parameter's term stands behind the others
+-- a parameter's term is appended
 pub stands_last : (ts us : List Term) (t : Term) (i : ℕ) → us ≡ ts ++ t ∷ [] → i ≡ length ts
     → stands_for us (entries.Parameter i) ≡ Declared.Scalar t
 stands_last ts us t i grew last = ap (λ o. Declared.Scalar (option_map_or (λ x. x) o no_term)) ((λ j. slice_get (grew j) (last j)) ∙ at_end ts t)

@@ -54,7 +54,7 @@ module _ (all known rest : List Decl) (d : Decl) (split : all ≡ known ++ d ∷
       rw (added.names, added.variables, added.arrays, added.points)
       (stands_more all known d s.names (k, kept_with s it) s.variables.items (new_variables it) s.arrays.items (new_arrays it) s.points.items (new_points s it) st (adds it is))
 
--- the kinds still stand beside the variables
+-- the kinds are still those of the variables, in their order
 pub kinds_next : (it : Item) (s : Scope) (k : List ℕ) (new : Scope) → HasKinds s
     → IsAdded s k it new → HasKinds new
 kinds_next it s k new kinds added = added.kinds ∙ ap (λ ks. ks ++ kinds_among (new_variables it)) kinds ∙ sym (map-append (λ v. v.kind) s.variables.items (new_variables it)) ∙ ap kinds_among (sym added.variables)

@@ -1,5 +1,5 @@
--- The names in the places of their numbers, and the others: where each is found stays so where one
--- more name comes.
+-- The table of names by number, and the hash table beside it: how each name is found stays the same
+-- where one more name is declared.
 use Rattle.std.proofs.Common.{◌≡◌, ◌≢◌, ◌≤◌, ◌<◌, ℕ, zero, suc, ◌+◌, ◌*◌, ◌-◌, ◌%◌, ◌^◌, ◌==◌, ltb, not, ◌&&◌, List, [], ◌∷◌, ◌++◌, map, length, take, bytes_eq, Option, None, Some, option_map, is_some, slice_get, slice_set, get_or, drop, replicate, cond, if◌then◌else◌, ◌||◌, Bool, true, false, refl, sym, ap, ◌∙◌, subst, arith, take-append-drop, length-drop}
 use Rattle.std.specs.Bool.{⊤}
 use Rattle.std.specs.List.{AllByRecursion, find, fold, list_any}
@@ -22,9 +22,9 @@ use Rattle.fz_data.specs.Names.{entry_stands, is_among_terms, is_key}
 use Rattle.fz_data.specs.Numbered.{end_of, entry_as, entry_at, entry_of, entry_there, head_of, is_digit, is_free, is_free_there, is_of, mark_of, marks_from, marks_of, number_of, place_at, seat_if, seat_there, unpacked, with_byte, AreKept, IsAmongOthers, IsLeft, IsListed, IsNumbered, IsTakenBy, StandsAt}
 use Rattle.fz_data.proofs.NameTable.{at_end, found_among, get_front, looked_up}
 
--- ---- names of a shape are told by their number
+-- ---- names of one shape are told apart by their numbers
 
--- a number stays small enough for 64 bits while so many more digits come
+-- a number stays small enough for 64 bits while so many more digits are appended
 Fits : ℕ → ℕ → Type 0
 Fits zero n = ⊤
 Fits (suc j) n = (n ≤ 100000000) × Fits j (n * 10 + 9)
@@ -65,7 +65,7 @@ in_range b false false l h e = let low = ltb-false b 48 l in let above = ltb-fal
 digit_range : (b : ℕ) → is_digit b ≡ true → (48 ≤ b) × (b ≤ 57)
 digit_range b e = in_range b (ltb b 48) (ltb 57 b) refl refl e
 
--- a number that fits takes a byte in as it is
+-- a number that is small enough takes one more byte without wrapping
 in_64 : (d : Bool) (n b : ℕ) → is_digit b ≡ d → n ≤ 100000000
     → (if d then (n * 10 % 2 ^ 64 + (b - 48)) % 2 ^ 64 else n) ≡ with_if d n b
 unfolding with_if
@@ -223,7 +223,7 @@ not_found x ks absent = by_kept (find (is_key x) ks) (sym (any_found x ks) ∙ a
     by_kept None is = refl
     by_kept (Some k) is = cc
 
--- a list of names with one more behind
+-- a list of names with one more at its end
 module _ (k : Kept) where
   still : (x : List ℕ) (ks : List Kept) (j : Kept) → find (is_key x) ks ≡ Some j
       → find (is_key x) (ks ++ k ∷ []) ≡ Some j
@@ -262,7 +262,7 @@ module _ (k : Kept) where
       → IsListed (ks ++ k ∷ []) js x e
   still_listed x ks js e h = (h.0, h.1, still x ks h.0 h.2, h.3, h.4, front ks h.1 h.0 h.5)
 
--- the shapes and seats grow, and no name comes
+-- shapes and seats are added, but no name
 module _ (ks os : List Kept) (ss ts : List Shape) (js is : List ℕ) (keep : AreKept ss ts) where
   carried : (x : List ℕ) (o : Option Place) → slice_get is (number_of x)
       ≡ slice_get js (number_of x) → StandsAt ks os ss js x o → StandsAt ks os ts is x o
@@ -276,7 +276,7 @@ module _ (ks os : List Kept) (ss ts : List Shape) (js is : List ℕ) (keep : Are
   )
   carried x (Some Crowded) seat h = h
 
--- a name comes that stands in no place
+-- a name is added that doesn't get the cell of its number
 module _ (ks os : List Kept) (k : Kept) (ts : List Shape) (is : List ℕ) where
   in_both : (x : List ℕ) (o : Option Place) → (o ≡ Some Free → x ≢ k.bytes.now)
       → StandsAt ks os ts is x o → StandsAt (ks ++ k ∷ []) (os ++ k ∷ []) ts is x o
@@ -285,7 +285,7 @@ module _ (ks os : List Kept) (k : Kept) (ts : List Shape) (is : List ℕ) where
   in_both x (Some (Taken s n l)) apart h = (h.0, h.1, λ of_shape. still_listed k x ks is (entry_of s l) (h.2 of_shape), λ other. both k x ks os (h.3 other))
   in_both x (Some Crowded) apart h = both k x ks os h
 
--- a name comes that stands in a place
+-- a name is added that gets the cell of its number
 module _ (ks os : List Kept) (k : Kept) (ts : List Shape) (is : List ℕ) where
   in_list : (x : List ℕ) (o : Option Place) → (x ≢ k.bytes.now) → StandsAt ks os ts is x o
       → StandsAt (ks ++ k ∷ []) os ts is x o
@@ -319,7 +319,7 @@ module _ (ks os : List Kept) (ss ts : List Shape) (keep : AreKept ss ts) (ps qs 
       → place_at ps (number_of x) ≡ place_at qs (number_of x)
   other_place x apart = ap (option_map unpacked) (sym (others (number_of x) apart))
 
-  -- what stays so where a name isn't put in its place
+  -- what stays the same where a name doesn't get its cell
   pub left_stands : is ≡ js → IsLeft (place_at ps (number_of name)) (place_at qs (number_of name))
       → IsNumbered ks os ts qs is
   left_stands seats left x = by_number (number_of x == number_of name) refl
@@ -347,7 +347,7 @@ module _ (ks os : List Kept) (ss ts : List Shape) (keep : AreKept ss ts) (ps qs 
     apart_names : (x : List ℕ) → (number_of x ≢ number_of name) → x ≢ k.bytes.now
     apart_names x apart same = apart (ap number_of (same ∙ key))
 
-    -- a name that isn't put in its place stands among the others
+    -- a name that doesn't get its cell is put among the others
     pub among_others : is ≡ js → IsLeft (place_at ps (number_of name))
         (place_at qs (number_of name)) → IsNumbered (ks ++ k ∷ []) (os ++ k ∷ []) ts qs is
     among_others seats left x = in_both ks os k ts is x (place_at qs (number_of x)) apart (left_stands seats left x)
@@ -361,7 +361,7 @@ module _ (ks os : List Kept) (ss ts : List Shape) (keep : AreKept ss ts) (ps qs 
         apart : place_at qs (number_of x) ≡ Some Free → x ≢ k.bytes.now
         apart free same = not_free (place_at ps (number_of name)) (place_at qs (number_of name)) left (ap (λ y. place_at qs (number_of y)) (sym (same ∙ key)) ∙ free)
 
-    -- a name in its place
+    -- a name in its cell
     pub in_its_place : ((i : ℕ) → (i ≢ number_of name) → slice_get is i ≡ slice_get js i)
         → place_at ps (number_of name) ≡ Some Free
         → find (is_key name) ks ≡ None → slice_get is (number_of name) ≡ Some (length ks) → IsTakenBy ts name k.entry (place_at qs (number_of name)) → IsNumbered (ks ++ k ∷ []) os ts qs is
@@ -385,7 +385,7 @@ module _ (ks os : List Kept) (ss ts : List Shape) (keep : AreKept ss ts) (ps qs 
 
 -- ---- looked up
 
--- how a name is found, by its place
+-- how a name is found, by its cell
 module _ (x : List ℕ) (ks os : List Kept) (ss : List Shape) (ps js : List ℕ) (h : IsNumbered ks os ss ps js) where
   shaped : (t : Shape) (o : Option Shape) (e f : Entry) → o ≡ Some t → entry_as o x e ≡ Some f
       → (is_of t x ≡ true) × (e ≡ f)
@@ -413,7 +413,7 @@ module _ (x : List ℕ) (ks os : List Kept) (ss : List Shape) (ps js : List ℕ)
       by_shape true of_shape is = cc
       by_shape false of_shape is = subst (λ w. is_of w x ≡ false) same of_shape
 
-  -- a name that stands in its place is listed
+  -- a name in its cell is in the list
   pub listed_there : (e : Entry) → entry_there ss ps x ≡ Some e → IsListed ks js x e
   listed_there e there = at_place (place_at ps (number_of x)) there (h x)
     where
@@ -455,7 +455,7 @@ module _ (x : List ℕ) (ks os : List Kept) (ss : List Shape) (ps js : List ℕ)
       by_entry None none is = elsewhere none
       by_entry (Some e) some is = cc
 
-  -- a name with a seat is found there
+  -- a name is found at the index that its cell has
   pub seat_found : (j : ℕ) → seat_there ss ps js x ≡ Some j → slice_get ks j ≡ find (is_key x) ks
   seat_found j seat = by_entry (entry_there ss ps x) refl seat
     where
@@ -467,7 +467,7 @@ module _ (x : List ℕ) (ks os : List Kept) (ss : List Shape) (ps js : List ℕ)
           let same : listed.1 ≡ j = cc in
           ap (slice_get ks) (sym same) ∙ listed.5 ∙ sym listed.2
 
-  -- one without a seat doesn't stand in its place
+  -- a name without such an index isn't in its cell
   pub no_seat : seat_there ss ps js x ≡ None → find (is_key x) os ≡ find (is_key x) ks
   no_seat seat = by_entry (entry_there ss ps x) refl seat
     where
@@ -484,7 +484,7 @@ module _ (x : List ℕ) (ks os : List Kept) (ss : List Shape) (ps js : List ℕ)
       by_entry None there = elsewhere there ∙ absent
       by_entry (Some e) there = let listed = listed_there e there in let no : Some listed.0 ≡ None = sym listed.2 ∙ absent in cc
 
-  -- no declared name is a name whose place is free
+  -- no declared name has a number whose cell is free
   pub free_absent : is_free_there ps x ≡ true → find (is_key x) ks ≡ None
   free_absent free = at_place (place_at ps (number_of x)) refl free (h x)
     where

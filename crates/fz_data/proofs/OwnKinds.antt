@@ -1,5 +1,5 @@
 -- In the model of a tree without faults, whose scalar parameters have values of their kinds, each
--- scalar that a name stands for or that stands in a constraint has the kind that it is read with.
+-- scalar that a name stands for or that is in a constraint has the kind that it is read with.
 use Rattle.std.proofs.Common.{◌≡◌, ℕ, true, false, cond, ◌&&◌, List, [], ◌∷◌, ◌++◌, map, Option, Some, None, option_map, slice_get, refl, sym, ap, subst, ◌∙◌, append_assoc}
 use Rattle.std.specs.List.{AllByRecursion}
 use Rattle.std.specs.Option.{option_map_or}
@@ -31,7 +31,7 @@ use Rattle.fz_data.specs.Naming.{Declared as declarations}
 use Rattle.fz_data.specs.Parts.{array_view, declared_place, no_array, elements_of}
 use Rattle.fz_data.specs.Stands.{Entry, declared_pair, entry_place}
 
--- ---- parameters, by what is kept of them: the kind of a value that is kept is its own
+-- ---- parameters: the kind of a stored value is its own
 
 -- a scalar parameter's value has the declared kind
 abbrev pub HasOwnKind : Decl → Type 0
@@ -121,7 +121,7 @@ module _ (t : LocatedTree) (clean : decls_fault [] t.decls ≡ None) (own : AllB
       by_declaration None found e = cc
       by_declaration (Some d) found e = let same : place_of_declared t.decls d ≡ p = cc in subst (PlaceFits (model_of t)) same (declared_fits x d found)
 
-  -- ---- what stands in its constraints
+  -- ---- the scalars of its constraints
 
   part_fits : (b : Basic) → PlaceFits (model_of t) (place_of t.decls b)
   part_fits (Lit l) = refl

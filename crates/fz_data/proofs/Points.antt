@@ -62,7 +62,7 @@ module _ (m : Inside) (laid : IsLaidOut m) where
       let counted : length posted ≡ length m.constraints.items = length-constraint_points 1 _ ∙ length-map m.constraints.items (posted_view m.variables.items m.arrays.items m.store) in
       ap length points_are ∙ length-append declared posted ∙ (λ i. length-declared i + counted i)
 
-  -- the row that a constraint is kept with is the one that it fits
+  -- the row that a constraint is stored with is the one that it fits
   pub row_in_place : (k : ℕ) (p : the_posted.Posted) → slice_get m.constraints.items k ≡ Some p
       → kept_row p ≡ row_of (posted_view m.variables.items m.arrays.items m.store p)
   row_in_place k p at =
@@ -71,7 +71,7 @@ module _ (m : Inside) (laid : IsLaidOut m) where
       ∙ slice_get-map row_of (map (posted_view m.variables.items m.arrays.items m.store) m.constraints.items) k
       ∙ ap (option_map row_of) (slice_get-map (posted_view m.variables.items m.arrays.items m.store) m.constraints.items k ∙ ap (option_map (posted_view m.variables.items m.arrays.items m.store)) at))
 
-  -- what stands in it has its kind
+  -- each scalar in it has its kind
   pub kinds_in_place : (k : ℕ) (p : the_posted.Posted) → slice_get m.constraints.items k ≡ Some p
       → PostedFits (model_view m) (posted_view m.variables.items m.arrays.items m.store p)
   kinds_in_place k p at =

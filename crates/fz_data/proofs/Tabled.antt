@@ -1,4 +1,4 @@
--- The tables of numbers and Booleans beside the values of a partial assignment.
+-- The narrow tables beside the values of a partial assignment.
 use Rattle.std.proofs.Common.{◌≡◌, ℕ, ◌+◌, ◌<◌, ◌≤◌, ℤ, Bool, zero, suc, List, [], ◌∷◌, ◌++◌, length, map, take, replicate, Option, None, Some, is_some, true, false, slice_set, add-one, arith, refl, ap, ◌∙◌}
 use Rattle.std.proofs.Math.Seq.{take-append_seam}
 use Rattle.std.proofs.lemmas.List.{length-map}

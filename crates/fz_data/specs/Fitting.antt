@@ -1,4 +1,4 @@
--- The kinds and the lengths of arguments as the code keeps them (private functions only).
+-- The kinds and the lengths of arguments as the code tests them (private functions only).
 use Rattle.std.specs.Prelude.{ℕ, Bool, false, true, List, [], ◌∷◌, length, map, ◌==◌, slice_get}
 use Rattle.std.specs.List.{list_all}
 use Rattle.std.specs.Option.{option_map_or}
@@ -63,7 +63,7 @@ slot_length xs (slots.Number i) = 1
 slot_length xs (slots.Truth b) = 1
 slot_length xs (slots.Constant c) = 1
 
--- each place of a list is counted once
+-- each index of a list is counted once
 abbrev pub length_of : List Array → List Slot → Argument → ℕ
 length_of xs ss (arguments.One s) = slot_length xs s
 length_of xs ss (arguments.List g) = length (segment ss g)
@@ -71,7 +71,7 @@ length_of xs ss (arguments.List g) = length (segment ss g)
 abbrev pub length_at : List Array → List Slot → List Argument → ℕ → ℕ
 length_at xs ss as' i = option_map_or (length_of xs ss) (slice_get as' i) 0
 
--- the arguments at these places have equal lengths
+-- the arguments at these indices have equal lengths
 abbrev pub are_equally_long : List Array → List Slot → List ℕ → List Argument → Bool
 are_equally_long xs ss [] as' = true
 are_equally_long xs ss (i ∷ is) as' =

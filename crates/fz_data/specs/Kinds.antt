@@ -1,4 +1,4 @@
--- The kinds of what a name stands for, and of what stands in a constraint (this project's profile).
+-- The kinds of what a name stands for, and of the scalars of a constraint (this project's profile).
 use Rattle.std.specs.Prelude.{◌≡◌, Some}
 use Rattle.std.specs.List.{AllByRecursion}
 use Rattle.fz_meaning.specs.Values.{kind_of}
@@ -15,7 +15,7 @@ abbrev pub TermFits : Model → Kind → Term → Type 0
 TermFits m k (Var n) = kind_at m n ≡ Some k
 TermFits m k (Fixed v) = kind_of v ≡ k
 
--- each scalar that stands there has the kind
+-- each scalar there has the kind
 abbrev pub PlaceFits : Model → Place → Type 0
 PlaceFits m (Scalar k t) = TermFits m k t
 PlaceFits m (Array x k ts) = AllByRecursion (TermFits m k) ts

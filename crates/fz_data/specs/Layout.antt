@@ -1,5 +1,4 @@
--- The model that is kept: what its fields stand for, and how they fit together (this project's
--- profile).
+-- The loaded model: what its fields stand for, and how they fit together (this project's profile).
 use Rattle.std.specs.Prelude.{◌≡◌, ℕ, ◌<◌, ⊤, List, length, map, flat_map, is_some, IsTrue, Some, option_map, slice_get}
 use Rattle.std.specs.List.{AllByRecursion}
 use Rattle.fz_meaning.specs.Meaning as meaning
@@ -35,7 +34,7 @@ IsPlaced vs xs (points.Elements i) = i < length xs
 abbrev pub IsArrayNamed : List Array → ℕ → List ℕ → Type 0
 IsArrayNamed xs i x = option_map (λ a. a.name.now) (slice_get xs i) ≡ Some x
 
--- an array is kept by its number, under its own name
+-- each array is found by its number, under its own name
 abbrev pub IsKeptAs : List Array → List ℕ → Declared → Type 0
 IsKeptAs xs x (declarations.Scalar t) = ⊤
 IsKeptAs xs x (declarations.Array i) = IsArrayNamed xs i x
@@ -43,19 +42,19 @@ IsKeptAs xs x (declarations.Array i) = IsArrayNamed xs i x
 pub record IsLaidOut (m : Inside) : Type 0 where
   -- the variables are the declared ones, in their order
   pub variables : variables_of (model_view m) ≡ map variable_view m.variables.items
-  -- each name stands for what it is kept with
+  -- each name stands for what its entry cites
   pub places : map named_place (numbered (model_view m))
       ≡ map (λ p. (p.0, declared_place m.variables.items m.arrays.items p.1)) m.names
   -- the points are those of the declarations, in their order
   pub points : flat_map declared_points (numbered (model_view m))
       ≡ map (declared_point m.variables.items m.arrays.items) m.points.items
   pub placed : AllByRecursion (IsPlaced m.variables.items m.arrays.items) m.points.items
-  -- declared arrays stand in the list of arrays
+  -- declared arrays are in the list of arrays
   pub kept : AllByRecursion (λ p. IsKeptAs m.arrays.items p.0 p.1) m.names
-  -- each constraint is kept with the row that it fits
+  -- each constraint is stored with the row that it fits
   pub rows : map kept_row m.constraints.items ≡ map row_of (model_view m).constraints
   -- what a name stands for has its kind
   pub kinds : (x : List ℕ) (p : meaning.Place) → find_name (model_view m) x ≡ Some p
       → PlaceFits (model_view m) p
-  -- and so has what stands in a constraint
+  -- and so has each scalar of a constraint
   pub posted_kinds : AllByRecursion (PostedFits (model_view m)) (model_view m).constraints

@@ -1,4 +1,4 @@
--- What declared names stand for, and how the table of names keeps it (private functions only).
+-- What declared names stand for, and how the table of names stores it (private functions only).
 use Rattle.std.specs.Prelude.{ℕ, ◌<◌, Bool, List, ⊤, bytes_eq, slice_get, pos, length}
 use Rattle.std.specs.Option.{option_map_or}
 use Rattle.fz_base.specs.declared.value.Value.TheVariants.{Int}
@@ -21,7 +21,7 @@ has_text x k = bytes_eq x k
 abbrev pub no_term : Term
 no_term = Fixed (Int (pos 0))
 
--- what an entry stands for, among these terms of parameters
+-- what an entry stands for; the parameters' terms are these
 abbrev pub stands_for : List Term → Entry → Declared
 stands_for ts (entries.Variable n) = Scalar (Var n)
 stands_for ts (entries.Parameter i) = Scalar (option_map_or (λ t. t) (slice_get ts i) no_term)
@@ -33,7 +33,7 @@ IsAmongTerms ts (entries.Variable n) = ⊤
 IsAmongTerms ts (entries.Parameter i) = i < length ts
 IsAmongTerms ts (entries.Array i) = ⊤
 
--- what is told of a name
+-- what is said of a name
 abbrev pub standing_view : Standing → Declared
 standing_view (standings.Variable n) = Scalar (Var n)
 standing_view (standings.Parameter t) = Scalar t.now

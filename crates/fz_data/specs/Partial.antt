@@ -22,7 +22,7 @@ abbrev pub truth_in : Option Value → Bool
 truth_in (Some (Truth b)) = b
 truth_in _ = false
 
--- each value's number, its Boolean, and whether there is one stand in tables of their own
+-- the narrow tables have each value's number, its Boolean, and whether there is one
 pub record IsTabled (K : List (Option Value)) (ns : List ℤ) (bs gs : List Bool) : Type 0 where
   pub numbers : ns ≡ map number_in K
   pub truths : bs ≡ map truth_in K

@@ -1,6 +1,6 @@
--- What the parts of a loaded model stand for: the model as it is defined, without memory (this
--- project's profile). Variables and arrays are cited by their numbers; nothing rests on what stands
--- for a number that is none's.
+-- What the parts of a loaded model stand for: the model as it is defined, apart from memory (this
+-- project's profile). Variables and arrays are cited by their numbers; nothing depends on what a
+-- number stands for that no variable or array has.
 use Rattle.std.specs.Prelude.{ℕ, List, [], map, Option, None, Some, cond, option_map, slice_get}
 use Rattle.std.specs.Option.{option_map_or}
 use Rattle.fz_meaning.specs.Values.{kind_of}
@@ -95,7 +95,7 @@ declared_place vs xs (declarations.Array i) = array_at xs i
 
 -- ---- constraints and the goal
 
--- what a slot stands for, with these constants beside
+-- what a slot stands for, with these constants
 abbrev pub place_view : List Variable → List Array → List Value → Slot → meaning.Place
 place_view vs xs cs (slots.Variable n) = scalar_view vs (slot_term cs (slots.Variable n))
 place_view vs xs cs (slots.Number i) = scalar_view vs (slot_term cs (slots.Number i))
@@ -117,7 +117,7 @@ posted_view vs xs st p = record {
   target = p.target;
 }
 
--- the row of the table that it is kept with
+-- the row of the table that it is stored with
 abbrev pub kept_row : Posted → Option Row
 kept_row p = option_map known_row p.known
 

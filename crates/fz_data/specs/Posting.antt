@@ -1,5 +1,5 @@
 -- Only private functions use these: what a store's parts stand for while a model is loaded,
--- whatever more comes behind them.
+-- whatever is appended later.
 use Rattle.std.specs.Prelude.{◌≡◌, List, None, map}
 use Rattle.fz_base.specs.declared.value.Value.{Value}
 use Rattle.fz_meaning.specs.Located.{Constraint}
@@ -15,7 +15,7 @@ use Rattle.fz_data.specs.Scope.{constraint_fault_in, posted_in}
 use Rattle.fz_data.specs.Slots.{IsGrown, segment}
 use Rattle.fz_data.specs.Parts.{place_view, argument_view, posted_view, kept_row}
 
--- there may be more behind each list
+-- more may be appended to each list
 pub record IsLonger (before after : Store) : Type 0 where
   pub arguments : IsGrown before.arguments.items after.arguments.items
   pub slots : IsGrown before.slots.items after.slots.items
@@ -43,8 +43,8 @@ abbrev pub IsPostedOf : Scope → Store → meaning.Posted → Posted → Type 0
 IsPostedOf s st x p =
     (later : Store) → IsLonger st later → posted_view s.variables.items s.arrays.items later p ≡ x
 
--- The constraints so far have no fault, and what was found reads as they are looked up, whatever
--- the store gets behind it, each with its row.
+-- The constraints so far have no fault, and those that are stored stand for them, each with its
+-- row, whatever is appended to the store later.
 pub record Posts (s : Scope) (known : List Constraint) (store : Store)
     (found : List Posted) : Type 0 where
   pub clean : first_some (constraint_fault_in s) known ≡ None

@@ -1,5 +1,5 @@
 -- Only private functions use these: what the names that were declared so far stand for, as the
--- loader keeps them, and what an error tells.
+-- loader stores them, and what an error tells.
 use Rattle.std.specs.Prelude.{◌≡◌, ◌++◌, ◌∷◌, ℕ, pos, ⊤, Bool, true, false, List, [], Option, Some, None, cond, bytes_eq, option_map, map, length, is_some, is_none, not, ◌&&◌, codes, option_and_then}
 use Rattle.std.specs.Map.{lookup}
 use Rattle.fz_base.specs.declared.span.Span.{Span}
@@ -126,7 +126,7 @@ IsItem s d (items.Variable v) = (is_scalar d ≡ true) × (d.is_var ≡ true)
     × (variable_view v ≡ variable_declared d) × (v.definition ≡ definition_in s d.value)
 IsItem s d (items.Array x) = (is_scalar d ≡ false) × IsArrayOf s d x
 
--- what its name is kept with
+-- what its name cites
 abbrev pub kept_with : Scope → Item → the_declared.Declared
 kept_with s (items.Parameter v) = declarations.Scalar (Fixed v)
 kept_with s (items.Variable v) = declarations.Scalar (Var (length s.variables.items))
@@ -153,7 +153,7 @@ new_points s (items.Variable v) =
 new_points s (items.Array x) =
     cond (has_elements_point x) (points.Elements (length s.arrays.items) ∷ []) []
 
--- the kinds of the variables stand side by side
+-- the kinds of the variables are listed in their order
 abbrev pub HasKinds : Scope → Type 0
 HasKinds s = s.kinds.items ≡ kinds_among s.variables.items
 
@@ -174,7 +174,7 @@ abbrev pub variable_at_term : Term → Option ℕ
 variable_at_term (Var n) = Some n
 variable_at_term (Fixed v) = None
 
--- the number of a scalar variable, where the place is one
+-- the number of a scalar variable, where it is one
 abbrev pub variable_by_place : Option Place → Option ℕ
 variable_by_place (Some (Scalar k t)) = variable_at_term t
 variable_by_place _ = None
@@ -191,7 +191,7 @@ abbrev pub bare_name_of : Note → Option (List ℕ)
 bare_name_of (Called x NoMoreArgs) = Some x
 bare_name_of _ = None
 
--- the name of the only argument, where that is a name by itself
+-- the name that is the only argument, where it is a name by itself
 abbrev pub only_name : NoteArgs → Option (List ℕ)
 only_name args = option_and_then bare_name_of (option_and_then inner_of (only_arg args))
 

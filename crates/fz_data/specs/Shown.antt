@@ -35,7 +35,7 @@ scalar_terms s = map (slot_term s.constants.now) s.slots.now
 
 -- ---- points
 
--- what a point is told by
+-- how a point is reported
 abbrev pub point_name : Point → meaning.PointName
 point_name (points.Domain x) = meaning.DomainOf x.now
 point_name (points.Definition x) = meaning.DefinitionOf x.now

@@ -1,5 +1,6 @@
--- Scalars as a model keeps them, and segments of lists (this project's profile). Nothing rests on
--- what a slot stands for whose number is none's, or on the scalar of an array.
+-- Scalars as a model stores them, and segments of lists (this project's profile). Nothing depends
+-- on what a slot stands for whose number no variable and no constant has, or on the scalar of an
+-- array.
 use Rattle.std.specs.Prelude.{◌≡◌, ℕ, pos, Bool, true, false, List, ◌++◌, take, drop, slice_get}
 use Rattle.std.specs.Option.{option_map_or}
 use Rattle.fz_base.specs.declared.value.Value.{Value}
@@ -12,7 +13,7 @@ use Rattle.fz_data.specs.declared.store.Segment.{Segment}
 use Rattle.fz_data.specs.declared.store.Scalar.{Scalar}
 use Rattle.fz_data.specs.declared.store.Scalar.TheVariants as scalars
 
--- the value at a place among constants
+-- the value at an index among the constants
 abbrev pub constant_at : List Value → ℕ → Value
 constant_at cs k = option_map_or (λ v. v) (slice_get cs k) (Int (pos 0))
 
@@ -38,17 +39,17 @@ scalar_term (scalars.Number i) = Fixed (Int i)
 scalar_term (scalars.Truth b) = Fixed (Truth b)
 scalar_term (scalars.Set s) = Fixed (Set s.now)
 
--- so many items, from a place on
+-- so many items, from an index on
 abbrev pub segment : {A : Type 0} → List A → Segment → List A
 segment xs s = take s.count (drop s.first xs)
 
 -- ---- lists that grow (private functions only)
 
--- there may be more behind
+-- more may be appended
 abbrev pub IsGrown : {A : Type 0} → List A → List A → Type 0
 IsGrown {A} xs ys = (zs : List A) × (ys ≡ xs ++ zs)
 
--- the slot is no array, and stands for the scalar, whatever more constants come
+-- the slot is no array, and stands for the scalar, whatever constants are appended
 pub record IsSlotOf (cs : List Value) (t : Term) (s : Slot) : Type 0 where
   pub scalar : is_scalar s ≡ true
   pub stands : (later : List Value) → IsGrown cs later → slot_term later s ≡ t

@@ -1,4 +1,4 @@
--- What is told of the text of a model that is loaded item by item.
+-- What is said of the text of a model that is loaded item by item.
 use Rattle.std.specs.Prelude.{◌≡◌, ◌++◌, ⊤, ℕ, List, [], map, Result, Ok, Err}
 use Rattle.fz_syntax.specs.Offering.{TreeItems, IsTextOfAll, IsRefused, AtDecls, AtConstraints, AtSolve}
 use Rattle.fz_syntax.specs.Text.{IsTextOfTree}
@@ -84,7 +84,7 @@ pub record HasDeclared (ps : List Predicate) (i : Items) (s : Scope) : Type 0 wh
   pub offered : AtConstraints ps decls [] i
   pub declares : Declares (map located_decl decls) s
 
--- All constraints were offered too, and what was found are these.
+-- All constraints were offered too, and these are what they were loaded to.
 pub record HasPosted (ps : List Predicate) (ds : List Decl) (i : Items) (s : Scope) (store : Store)
     (found : List Posted) : Type 0 where
   pub constraints : List Constraint

@@ -82,7 +82,7 @@ fn definition_of(
     }
 }
 
-/// The term of a definition: of a list, which no scalar of the grammar has, none.
+/// The term of a definition. A list has none; in a tree of the grammar no scalar is defined by one.
 fn expression_definition(
     alloc: Global,
     scope: &Scope<'_>,
@@ -109,7 +109,7 @@ fn expression_definition(
     }
 }
 
-/// The value of a literal of a kind, as one basic expression.
+/// The value of a basic expression that is a literal of the kind.
 fn part_value(alloc: Global, kind: Kind, part: &Basic<'_>) -> Result<Value, ModelError>
     ensures clean { IfOk result (λ _. (s : Scope)
         → fault_in s (Some kind) (located_basic part.now) ≡ None) }
@@ -129,9 +129,8 @@ fn part_value(alloc: Global, kind: Kind, part: &Basic<'_>) -> Result<Value, Mode
     }
 }
 
-/// The value of a parameter, which is a literal in each tree of the grammar. A tree of no source,
-/// with a name or a list in its place, means nothing that could be kept: it is refused as where
-/// memory runs out.
+/// The value of a parameter, which is a literal in each tree of the grammar. A tree made otherwise
+/// may have a name or a list there, which has no value: it is refused as where memory runs out.
 fn parameter_value(alloc: Global, kind: Kind, value: &Option<Expr<'_>>) -> Result<Value, ModelError>
     ensures clean { IfOk result (λ _. (s : Scope)
         → faults_in s (Some kind) (parts (located_value value.now)) ≡ None) }
@@ -213,7 +212,7 @@ fn variable_of<'a>(
     })
 }
 
-/// What is declared under a name that is new and of its length.
+/// What a declaration declares, whose name is new and whose length fits.
 fn unnamed_item<'a>(
     alloc: Global,
     scope: &Scope<'a>,

@@ -8,7 +8,7 @@ use crate::store::{Scalar, Slot, scalar_at};
 use fz_base::Value;
 use fz_meaning::Kind;
 
-/// Scalars one behind another.
+/// A list of scalars, as slots.
 #[derive(Clone, Copy)]
 pub struct Scalars<'m> {
     pub slots: &'m [Slot],
@@ -23,7 +23,7 @@ impl<'m> Scalars<'m> {
         self.slots.len()
     }
 
-    /// The one at a place, counted from 0. It takes no memory.
+    /// The one at an index. It takes no memory.
     #[inline(always)]
     pub fn get(&self, place: usize) -> Option<Scalar<'m>>
         ensures read { option_map scalar_term result ≡ slice_get (scalar_terms self.now) place }

@@ -1,6 +1,6 @@
-//! How declared names are hashed: those that a compiler makes differ in their digits alone, and
-//! stand side by side in the table, one group after another, so that each finds its group near when
-//! it is put there. Nothing rests on which names collide.
+//! How declared names are hashed. Names of one shape with adjacent numbers get adjacent groups of
+//! the table, so that while names are declared in order each finds its group in a near cache. Which
+//! names collide affects the time only.
 
 ghost use Rattle.std.specs.Prelude.{◌≡◌, ◌+◌, ◌*◌, ◌/◌, ◌%◌, ◌^◌};
 ghost use Rattle.std.specs.List.{fold};
@@ -10,20 +10,20 @@ ghost use Rattle.fz_data.specs.Numbered.{with_byte};
 use crate::numbered::with_byte;
 use std::hash::Hasher;
 
-/// So many numbers that follow each other have groups that do. It is a page of the table; more
-/// would let names of two shapes lie over each other for so long that each further one had to go
-/// past all their groups.
+/// This many numbers that follow each other have adjacent groups: together they take a page of the
+/// table. With more, the groups of two shapes would overlap for so long that each further name had
+/// to probe past all of them.
 const TOGETHER: u64 = 64;
 
-/// A hasher of names: the number that their digits come to, and a mix of what stands around these.
-/// As with the usual one, whose seed is fixed too, whoever picks the names can make them collide.
+/// A hasher of names: the number that a name's digits make, and a mix of its other bytes. The seed
+/// is fixed, as the usual hasher's is too, so whoever picks the names can make them collide.
 #[derive(Clone, Copy, Drop)]
 pub(crate) struct NameHasher {
     number: usize,
     mix: u64,
 }
 
-/// The mix with one more byte taken into it, where it is no digit.
+/// The mix with one more byte of the name, which counts as 0 where it is a digit.
 #[inline(always)]
 fn mix_with(mix: u64, byte: u8) -> u64
     ensures { result ≡ mix_with mix byte }
@@ -32,7 +32,8 @@ fn mix_with(mix: u64, byte: u8) -> u64
     mix.wrapping_mul(257).wrapping_add(u64::from(around))
 }
 
-/// Where in the table names begin that have a mix, and a number but for its last so many.
+/// The hash that names with this mix start from, the same for all numbers from one multiple of 64
+/// up to the next. To it `finish` adds what the number is above that multiple.
 fn start_of(mix: u64, number: u64) -> u64
     ensures { result ≡ start_of mix number }
 {

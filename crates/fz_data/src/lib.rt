@@ -1,5 +1,8 @@
-//! The model of a tree as the checker keeps it: names looked up once, and values by variable
-//! number. An internal crate of `fz_model`, which offers all of it.
+//! The loaded model of a tree, with each name looked up once (`Model`, `load`, `load_text`), and
+//! values of its variables by their numbers (`Partial`). An internal crate of `fz_model`, which
+//! offers all of it.
+//!
+//! Its worked cases are in `fz_check_cases` (`load.rt`).
 #![tactic(auto)]
 
 mod declaring;

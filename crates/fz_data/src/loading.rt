@@ -1,4 +1,5 @@
-//! From a tree to its model: each name is looked up once.
+//! Loading a tree: its declarations, constraints and goal are taken in source order, and each name
+//! is looked up once.
 
 ghost use Rattle.std.specs.Prelude.{◌≡◌, ◌++◌, ◌∷◌, [], IfErr, IfOk, List, None, OnOk, map};
 ghost use Rattle.fz_meaning.specs.Located.{Decl as LocatedDecl};
@@ -19,7 +20,7 @@ use fz_meaning::ModelError;
 use fz_syntax::{Ast, Decl};
 use std::alloc::Global;
 
-/// Nothing declared yet, with room for this many names.
+/// A scope in which nothing is declared yet, with room for this many names.
 pub(crate) fn empty<'a>(alloc: Global, names: usize) -> Result<Scope<'a>, ModelError>
     ensures names { IfOk result (λ s. s.names ≡ []) }
     ensures variables { IfOk result (λ s. s.variables.items ≡ []) }
@@ -37,7 +38,7 @@ pub(crate) fn empty<'a>(alloc: Global, names: usize) -> Result<Scope<'a>, ModelE
     })
 }
 
-/// Takes in what one more declaration declares. It refuses the first fault at it.
+/// Adds what one more declaration declares. It refuses the first fault in it.
 pub(crate) fn declare<'a>(
     alloc: Global,
     scope: &mut Scope<'a>,
@@ -81,12 +82,13 @@ fn read<'a>(alloc: Global, ast: &Ast<'a>) -> Result<Model<'a>, ModelError>
     Ok(Model::assembled(scope, store, constraints, goal))
 }
 
-/// The model of a tree. It refuses a tree with faults, with the leftmost; else only where memory
-/// runs out.
+/// The model of a tree. It refuses a tree that has faults, and tells the leftmost; any other it
+/// refuses only where memory runs out.
 pub fn load<'a>(alloc: Global, ast: &Ast<'a>) -> Result<Model<'a>, ModelError>
     ensures no_fault { IfOk result (λ _. HasNoFault (located ast.now)) }
     ensures model { IfOk result (λ m. m ≡ model_of (located ast.now)) }
-    // Of any tree, wherever its names stand: the fault that is told is there.
+    // This holds of any tree, wherever its names are in the source: the fault is told at the byte
+    // range that the tree has for it.
     ensures only { IfErr result (TellsFault (located ast.now)) }
     ensures first { IsInReadingOrder (located ast.now)
         → IfErr result (TellsFirstFault (located ast.now)) }

@@ -81,14 +81,15 @@ impl<'a> Model<'a> {
         ensures kinds { IfSome result (λ f. PlaceFits self.now
             (found_place (variables_of self.now) f)) }
     {
-        // No name stands at the last number, so that nothing is looked at there.
+        // No name has the greatest index, so the name is looked up.
         let (found, _) = self.find_at(name, usize::MAX)?;
         Some(found)
     }
 
-    /// What a name stands for, where it is declared, and its place among the names. It is looked
-    /// for at this place first, which may be any: who keeps where a name was found finds it there
-    /// again without a look-up. It takes no memory.
+    /// What a name stands for, where it is declared, and its index among the names. The caller may
+    /// guess that index: where the guess is right, nothing is looked up, so a caller that stores
+    /// the index of a name finds the name again at once. A wrong guess does no harm. It takes no
+    /// memory.
     pub fn find_at(&self, name: &[u8], place: usize) -> Option<(Found<'_, 'a>, usize)>
         ensures place { option_map (λ f. found_place (variables_of self.now) f.0) result
             ≡ find_name self.now name.now }
@@ -115,7 +116,7 @@ impl<'a> Model<'a> {
         self.points.len() + self.constraints.len()
     }
 
-    /// The point of a number, from 0, by what it is told by. It takes no memory.
+    /// What the point of a number, from 0, is reported by. It takes no memory.
     pub fn point(&self, number: usize) -> Point<'a>
         requires in_range { number < length (points self.now) }
         ensures told { option_map shown_point (slice_get (points self.now) number)
@@ -171,7 +172,7 @@ impl<'a> Model<'a> {
 impl<'a> Model<'a> {
     ghost use Rattle.fz_data.specs.Layout.{IsLaidOut, model_view};
 
-    /// The model of what was declared, with constraints and a goal that cite it.
+    /// The model of what was declared, with constraints and a goal that cite it by number.
     pub(crate) fn assembled(
         scope: Scope<'a>,
         store: Store,

@@ -1,4 +1,5 @@
-//! Declared names with what they stand for.
+//! Declared names with what they stand for. Each is found by the number that its digits make
+//! (`Numbered`), or else in a hash table.
 
 ghost use Rattle.std.specs.Prelude.{◌≡◌, ◌++◌, ◌∷◌, [], IfOk, IfSome, OnErr, OnOk, Some, false, is_none, is_some, length, option_map, true};
 ghost use Rattle.std.proofs.Common.{ap, rules};
@@ -21,8 +22,8 @@ use indexmap::{Equivalent, IndexSet};
 use std::alloc::{AllocError, Global};
 use std::hash::{BuildHasherDefault, Hash, Hasher};
 
-/// A name that is looked up. It is hashed in one piece, where a slice is hashed one byte after
-/// another.
+/// A name that is looked up. Its bytes are hashed with one call of the hasher, where the hash of a
+/// slice makes one for each byte.
 #[derive(Clone, Copy)]
 pub(crate) struct Text<'a> {
     bytes: &'a [u8],
@@ -53,7 +54,7 @@ impl Hash for Text<'_> {
     }
 }
 
-/// What a name is kept with: the number of a variable, of a parameter or of an array. It takes two
+/// What a declared name cites: a variable, a parameter or an array, by its number. An entry has two
 /// words, so that a look-up seldom waits for memory.
 #[derive(Clone, Copy)]
 pub(crate) enum Entry {
@@ -62,13 +63,13 @@ pub(crate) enum Entry {
     Array(usize),
 }
 
-/// A declared name with what it is kept with: a look-up that has read the one has read the other.
-/// The name alone makes the key.
+/// A declared name with its entry, side by side, so that a look-up that has read the name has read
+/// the entry too. Only the name is hashed and compared.
 #[derive(Clone, Copy)]
 pub(crate) struct Kept<'a> {
     bytes: &'a [u8],
     entry: Entry,
-    /// where it should stand in the list: who looks there sees whose name it is
+    /// the index of this name in the list of all declared names
     seat: usize,
 }
 
@@ -118,18 +119,18 @@ pub(crate) enum Standing<'m> {
     Array(usize),
 }
 
-/// Names that stand in no place, by their text.
+/// The names that no cell of `Numbered` has, found by their text.
 type Table<'a> = IndexSet<Kept<'a>, BuildHasherDefault<NameHasher>>;
 
 /// The declared names, in source order. A contract sees the list of them, each with what it stands
 /// for.
 #[derive(Drop)]
 pub(crate) struct Names<'a> {
-    /// all of them with what they are kept with, in source order
+    /// all of them with their entries, in source order
     listed: Vec<Kept<'a>>,
-    /// those that stand in the place of their number
+    /// those that are found by number
     numbered: Numbered<'a>,
-    /// the others
+    /// the others, in a hash table
     others: Table<'a>,
     /// the values of parameters, by their numbers
     parameters: Vec<Term>,
@@ -156,7 +157,7 @@ impl<'a> std::marker::Model for Names<'a> {
         n.numbered.seats.items };
 }
 
-/// What an entry stands for, among these values of parameters.
+/// What an entry stands for. The parameters' values are these.
 #[inline]
 fn standing_of(parameters: &[Term], entry: Entry) -> Standing<'_>
     requires within { IsAmongTerms parameters.now entry }
@@ -169,7 +170,7 @@ fn standing_of(parameters: &[Term], entry: Entry) -> Standing<'_>
     }
 }
 
-/// Puts a name behind the others: in the place of its number, or else in the table.
+/// Appends a name, and puts it in the cell of its number or else in the hash table.
 fn put<'a>(
     listed: &mut Vec<Kept<'a>>,
     others: &mut Table<'a>,
@@ -202,7 +203,7 @@ fn put<'a>(
     Ok(())
 }
 
-/// What a name is kept with, where it stands in the table.
+/// The entry of a name in the hash table, where it is there.
 fn entry_among(others: &Table<'_>, name: &[u8]) -> Option<Entry>
     ensures { result ≡ option_map (λ k. k.entry) (find (is_key name.now) others.now.keys) }
 {
@@ -210,7 +211,7 @@ fn entry_among(others: &Table<'_>, name: &[u8]) -> Option<Entry>
     Some(kept.entry)
 }
 
-/// A name with what it is kept with, where it is declared.
+/// A declared name with its entry.
 fn found<'t, 'a>(
     listed: &'t [Kept<'a>],
     others: &'t Table<'a>,
@@ -228,7 +229,7 @@ fn found<'t, 'a>(
 }
 
 impl<'a> Names<'a> {
-    /// No names yet, with room for this many.
+    /// No names, with room for this many.
     pub(crate) fn with_capacity(alloc: Global, count: usize) -> Result<Names<'a>, AllocError>
         ensures none { IfOk result (λ n. n ≡ []) }
     {
@@ -263,7 +264,8 @@ impl<'a> Names<'a> {
         Some(standing_of(&self.parameters, entry))
     }
 
-    /// What stands at a place of the list, where its name is this one, with its text in the source.
+    /// What the name at an index of the list stands for, with its text in the source; none where
+    /// the name there is another one.
     #[inline]
     fn at(&self, name: &[u8], place: usize) -> Option<(&'a [u8], Standing<'_>)>
         ensures stands { IfSome result
@@ -277,8 +279,9 @@ impl<'a> Names<'a> {
         Some((kept.bytes, standing_of(&self.parameters, kept.entry)))
     }
 
-    /// What a name stands for, where it is declared, with its text in the source and its place in
-    /// the list. It is looked for at this place first, which may be any.
+    /// What a name stands for, where it is declared, with its text in the source and its index in
+    /// the list. The caller may guess that index: where the guess is right, nothing is looked up. A
+    /// wrong one does no harm.
     #[inline]
     pub(crate) fn find_at(
         &self,
@@ -300,7 +303,7 @@ impl<'a> Names<'a> {
         ))
     }
 
-    /// Puts the name of a variable behind the others.
+    /// Appends the name of a variable.
     pub(crate) fn push_variable(&mut self, name: &'a [u8], number: usize) -> Result<(), AllocError>
         requires new { is_none (lookup (has_text name.now) self.old) ≡ true }
         ensures pushed { OnOk result (self.new ≡ self.old ++ (name.now, Scalar (Var number)) ∷ []) }
@@ -314,7 +317,7 @@ impl<'a> Names<'a> {
         )
     }
 
-    /// Puts the name of an array behind the others.
+    /// Appends the name of an array.
     pub(crate) fn push_array(&mut self, name: &'a [u8], number: usize) -> Result<(), AllocError>
         requires new { is_none (lookup (has_text name.now) self.old) ≡ true }
         ensures pushed { OnOk result (self.new ≡ self.old ++ (name.now, TheArray number) ∷ []) }
@@ -328,7 +331,7 @@ impl<'a> Names<'a> {
         )
     }
 
-    /// Puts the name of a parameter behind the others, with its value.
+    /// Appends the name of a parameter, and its value.
     pub(crate) fn push_parameter(&mut self, name: &'a [u8], value: Value) -> Result<(), AllocError>
         requires new { is_none (lookup (has_text name.now) self.old) ≡ true }
         ensures pushed { OnOk result (self.new

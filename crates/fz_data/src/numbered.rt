@@ -1,6 +1,7 @@
-//! Names by the number that their digits come to. The names that a compiler makes differ in that
-//! number, so who looks for one there finds what it stands for at once, where a table of names
-//! waits for memory three times: for a group, for a key and for its text in the source.
+//! A table of names by the number that their digits make: `Numbered` has one cell (`Place`) for
+//! each number from 0 up to a limit. The names that a compiler makes differ in that number, so most
+//! are found by one read of a cell. A hash table would wait for memory three times: for a group,
+//! for a key and for the key's text in the source.
 
 ghost use Rattle.std.specs.Prelude.{◌≡◌, ◌≢◌, ℕ, IfOk, IfSome, IsFalse, IsTrue, Some, replicate, slice_get, true};
 ghost use Rattle.fz_data.specs.declared.numbered.Place.TheVariants.{Crowded, Free};
@@ -10,15 +11,15 @@ use crate::names::Entry;
 use fz_meaning::same_text;
 use std::alloc::{AllocError, Global};
 
-/// So many bytes at the end of a name are its end, which is looked through for digits; the others
-/// are its head.
+/// A name's end is its last eight bytes: their digits make its number. Its other bytes are its
+/// head.
 const LAST: usize = 8;
 
-/// So many shapes are kept. A name of one more has no place here, so that none is compared with
-/// many.
+/// At most this many shapes are stored, since a name is compared with each of them as it is
+/// declared. A name of one more shape goes to the hash table.
 const SHAPES: u32 = 64;
 
-/// What a number that a name is kept with counts.
+/// Which list the number of an entry is an index of.
 #[derive(Clone, Copy)]
 pub(crate) enum Sort {
     Variable,
@@ -26,43 +27,44 @@ pub(crate) enum Sort {
     Array,
 }
 
-/// What is known of the declared names whose digits come to a number.
+/// A cell: what is known of the declared names of one number.
 #[derive(Clone, Copy)]
 pub(crate) enum Place {
-    /// there are none
+    /// no name with this number is declared
     Free,
-    /// what the first is kept with, a sort and a number, and between them the number of its shape
+    /// the entry of the first such name, as its sort and its number, with the number of the name's
+    /// shape between them
     Taken(Sort, u32, u32),
-    /// the first has no room here
+    /// the first such name is in the hash table, and so is each later one
     Crowded,
 }
 
-/// What names have in common that differ in the digits of their ends alone. A name of this shape is
-/// told by the number that these come to.
+/// What names have in common that differ only in the digits of their ends. Names of one shape that
+/// have the same number are the same name, so the rest of the text needn't be compared.
 #[derive(Clone, Copy)]
 pub(crate) struct Shape<'a> {
     len: usize,
     head: &'a [u8],
-    /// the bytes of the end, a digit as `0`
+    /// the bytes of the end, with `0` for each digit
     marks: [u8; LAST],
 }
 
-/// The end of a name as it is read: the number that its digits come to, and its bytes, a digit as
-/// `0`.
+/// The end of a name as it is read: the number that its digits make, and its bytes, with `0` for
+/// each digit.
 #[derive(Clone, Copy)]
 struct Ending {
     number: usize,
     marks: [u8; LAST],
 }
 
-/// The number, where it has 32 bits.
+/// The number, where it fits in 32 bits.
 fn small(number: usize) -> Option<u32>
     ensures { IfSome result (λ k. k ≡ number) }
 {
     u32::try_from(number).ok()
 }
 
-/// A byte, a digit as `0`.
+/// The byte, or `0` where it is a digit.
 #[inline(always)]
 fn mark_of(byte: u8) -> u8
     ensures { result ≡ mark_of byte }
@@ -70,9 +72,9 @@ fn mark_of(byte: u8) -> u8
     if byte.is_ascii_digit() { b'0' } else { byte }
 }
 
-/// The number with one more byte of a name taken into it, in as many bits as it has. It is
-/// arithmetic alone, so that the compiler needs no branch for it: where the digits of a name stand
-/// is no more to be guessed than which name comes next.
+/// The number with one more byte of a name appended, where that is a digit; it wraps. The compiler
+/// needs no branch for it, and a branch would often be predicted wrong: names have their digits at
+/// different indices.
 #[inline(always)]
 pub(crate) fn with_byte(number: usize, byte: u8) -> usize
     ensures { result ≡ with_byte number byte }
@@ -93,7 +95,7 @@ fn head_of(name: &[u8]) -> &[u8]
     &name[..name.len().saturating_sub(LAST)]
 }
 
-/// The end of a name, read.
+/// The number and the marks of a name's end.
 #[inline(always)]
 fn ending_of(name: &[u8]) -> Ending
     ensures number { result.number ≡ number_of name.now }
@@ -109,7 +111,7 @@ fn ending_of(name: &[u8]) -> Ending
     Ending { number, marks }
 }
 
-/// The two parts of what a name is kept with.
+/// The sort and the number of an entry.
 fn parts_of(entry: Entry) -> (Sort, usize)
     ensures { entry_of result.0 result.1 ≡ entry }
 {
@@ -120,7 +122,7 @@ fn parts_of(entry: Entry) -> (Sort, usize)
     }
 }
 
-/// What a name is kept with.
+/// The entry of a sort and a number.
 #[inline(always)]
 fn entry_of(sort: Sort, number: usize) -> Entry
     ensures { result ≡ entry_of sort number }
@@ -133,7 +135,7 @@ fn entry_of(sort: Sort, number: usize) -> Entry
 }
 
 impl<'a> Shape<'a> {
-    /// The shape of a name whose end was read.
+    /// The shape of a name with this end.
     fn of(name: &'a [u8], ending: &Ending) -> Shape<'a>
         requires marks { ending.now.marks ≡ marks_of name.now }
         ensures { is_of result name.now ≡ true }
@@ -145,7 +147,7 @@ impl<'a> Shape<'a> {
         }
     }
 
-    /// Whether it is that of a name whose end was read.
+    /// Whether a name with this end has the shape.
     #[inline(always)]
     fn is_of(&self, name: &[u8], ending: &Ending) -> bool
         requires marks { ending.now.marks ≡ marks_of name.now }
@@ -157,9 +159,9 @@ impl<'a> Shape<'a> {
     }
 }
 
-/// The number of the shape of a name whose end was read, which is put behind the others where it is
-/// a new one. The last is looked at first, since names that are declared one behind another mostly
-/// have the same.
+/// The number of a name's shape, which is appended where it is new. The last shape is looked at
+/// first, since names that are declared one after another mostly have the same shape. None where
+/// there are `SHAPES` already or memory runs out.
 fn shape_number<'a>(shapes: &mut Vec<Shape<'a>>, name: &'a [u8], ending: &Ending) -> Option<u32>
     requires marks { ending.now.marks ≡ marks_of name.now }
     ensures kept { AreKept shapes.old.items shapes.new.items }
@@ -179,17 +181,18 @@ fn shape_number<'a>(shapes: &mut Vec<Shape<'a>>, name: &'a [u8], ending: &Ending
     small(number)
 }
 
-/// The bits of a place that is free.
+/// The bits of a free cell.
 const FREE: u32 = 0;
 
-/// Those of a place whose name has no room there: no sort, and not free.
+/// The bits of a crowded cell: no sort, and not those of a free one.
 const CROWDED: u32 = 4;
 
-/// A number of 24 bits or more has no room in a place.
+/// A cell has 24 bits for the number of an entry.
 const NUMBERS: u32 = 1 << 24;
 
-/// A place in 32 bits, so that the places of a large model stay in a near cache: the number above,
-/// six bits for the shape, and two for the sort, which are 0 where the place isn't taken.
+/// A cell in 32 bits, so that the cells of a large model stay in a near cache: the number is in the
+/// upper 24 bits, below it are six bits for the shape and two for the sort, which are 0 where the
+/// cell isn't taken.
 fn packed(sort: Sort, shape: u32, number: u32) -> u32
     ensures { ArePackedOf sort shape number (unpacked result) }
 {
@@ -204,7 +207,7 @@ fn packed(sort: Sort, shape: u32, number: u32) -> u32
     }
 }
 
-/// A place, read from its 32 bits.
+/// A cell, read from its 32 bits.
 #[inline(always)]
 fn unpacked(bits: u32) -> Place
     ensures { result ≡ unpacked bits }
@@ -220,7 +223,7 @@ fn unpacked(bits: u32) -> Place
     }
 }
 
-/// The place of a number whose first name this is.
+/// The bits of a cell whose first name is this one.
 fn place_of<'a>(shapes: &mut Vec<Shape<'a>>, name: &'a [u8], ending: &Ending, entry: Entry) -> u32
     requires marks { ending.now.marks ≡ marks_of name.now }
     ensures kept { AreKept shapes.old.items shapes.new.items }
@@ -236,18 +239,18 @@ fn place_of<'a>(shapes: &mut Vec<Shape<'a>>, name: &'a [u8], ending: &Ending, en
     packed(sort, shape, number)
 }
 
-/// The places of the numbers from 0 on, the shapes of the names that stand there, and their seats
-/// in the list of all names.
+/// The cells of the numbers from 0 on, the shapes of the names in them, and where these names are
+/// in the list of all declared names.
 #[derive(Drop)]
 pub(crate) struct Numbered<'a> {
     pub(crate) places: Vec<u32>,
     pub(crate) shapes: Vec<Shape<'a>>,
-    /// where the name that a place is taken by stands in the list of all names
+    /// the index, in the list of all declared names, of the name that has the cell
     pub(crate) seats: Vec<usize>,
 }
 
 impl<'a> Numbered<'a> {
-    /// So many places, all free.
+    /// This many cells, all free.
     pub(crate) fn with_places(alloc: Global, count: usize) -> Result<Numbered<'a>, AllocError>
         ensures { IfOk result (λ n. n.places.items ≡ replicate count 0) }
     {
@@ -262,7 +265,7 @@ impl<'a> Numbered<'a> {
         })
     }
 
-    /// What a name is kept with, where it stands in the place of its number.
+    /// The entry of a name, where its cell has it.
     #[inline(always)]
     pub(crate) fn get(&self, name: &[u8]) -> Option<Entry>
         ensures { result ≡ entry_there self.now.shapes.items self.now.places.items name.now }
@@ -277,7 +280,7 @@ impl<'a> Numbered<'a> {
         Some(entry_of(sort, number as usize))
     }
 
-    /// Where a name is listed, where it stands in the place of its number.
+    /// The index of a name in the list of all declared names, where its cell has it.
     pub(crate) fn seat(&self, name: &[u8]) -> Option<usize>
         ensures { result ≡ seat_there self.now.shapes.items self.now.places.items
             self.now.seats.items name.now }
@@ -286,7 +289,7 @@ impl<'a> Numbered<'a> {
         self.seats.get(ending_of(name).number).copied()
     }
 
-    /// Whether the place of a name's number is there and free.
+    /// Whether a name's number has a cell and that is free.
     #[inline(always)]
     pub(crate) fn is_free(&self, name: &[u8]) -> bool
         ensures { result ≡ is_free_there self.now.places.items name.now }
@@ -294,7 +297,7 @@ impl<'a> Numbered<'a> {
         self.is_free_at(ending_of(name).number)
     }
 
-    /// Whether a place is there and free.
+    /// Whether the number has a cell and that is free.
     #[inline(always)]
     fn is_free_at(&self, number: usize) -> bool
         ensures { result ≡ is_free (place_at self.now.places.items number) }
@@ -305,7 +308,7 @@ impl<'a> Numbered<'a> {
         matches!(unpacked(*place), Place::Free)
     }
 
-    /// Puts a name in the place of its number, which is free, and tells whether it has room there.
+    /// Gives a name the free cell of its number, and tells whether it fits in.
     fn take(&mut self, name: &'a [u8], ending: &Ending, entry: Entry, seat: usize) -> bool
         requires marks { ending.now.marks ≡ marks_of name.now }
         requires free { place_at self.old.places.items ending.now.number ≡ Some Free }
@@ -335,8 +338,8 @@ impl<'a> Numbered<'a> {
         true
     }
 
-    /// Puts a name in the place of its number, where that is there and free, and tells whether it
-    /// stands there now. It is listed at this seat.
+    /// Gives a name the cell of its number, where there is one and it is free, and tells whether it
+    /// got it. The seat is the name's index in the list of all declared names.
     pub(crate) fn note(&mut self, name: &'a [u8], entry: Entry, seat: usize) -> bool
         ensures others { (i : ℕ) → i ≢ number_of name.now
             → slice_get self.new.places.items i ≡ slice_get self.old.places.items i }

@@ -16,17 +16,17 @@ use std::mem;
 #[derive(Drop)]
 pub struct Partial {
     values: Vec<Option<Value>>,
-    /// the numbers among the values, and 0 in all other places: a third as wide, so that most reads
-    /// find them in a near cache
+    /// the integers among the values, and 0 for each other variable: a third as wide, so that most
+    /// reads find them in a near cache
     numbers: Vec<i64>,
-    /// the Booleans among them, and `false` in all other places
+    /// the Booleans among them, and `false` for each other variable
     truths: Vec<bool>,
     /// whether each variable has a value
     given: Vec<bool>,
     /// how many variables have no value
     unset: usize,
-    /// the empty set, made once, since making one takes memory: it is read where there is no other
-    /// set
+    /// the empty set, which a reading of a set gives where there is no set. Making one takes
+    /// memory, so it is made once
     empty: IntSet,
 }
 
@@ -115,8 +115,8 @@ fn forget(values: &mut [Option<Value>])
     }
 }
 
-/// Puts a value where none is. What lies there needn't be read to be dropped, so nobody waits for
-/// it.
+/// Writes a value where none is. The old value, which needs no drop, isn't read, so the write
+/// doesn't wait for memory.
 #[inline(always)]
 fn put(place: &mut Option<Value>, value: Value)
     ensures there { place.new ≡ Some value }
@@ -232,7 +232,7 @@ impl Partial {
         }
     }
 
-    /// Takes every value away, and keeps the room. It takes no memory.
+    /// Takes every value away, but not the room for them. It takes no memory.
     pub fn clear(&mut self)
         ensures cleared { self.new ≡ map (λ v. None) self.old }
     {

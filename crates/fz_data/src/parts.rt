@@ -28,7 +28,7 @@ pub struct Array<'a> {
     pub elements: ScalarList,
 }
 
-/// Scalars one behind another, with the values for which no slot has room.
+/// A list of scalars, with the values that don't fit in a slot.
 #[derive(Debug, Drop)]
 pub struct ScalarList {
     pub slots: Vec<Slot>,
@@ -36,9 +36,9 @@ pub struct ScalarList {
     ghost flat: { list_all is_scalar slots.items ≡ true },
 }
 
-/// A constraint: the predicate's name, the row of the table that it fits, the segment of the
-/// store's arguments that are its own, and the number of the variable that its first whole
-/// `defines_var` names.
+/// A constraint: the predicate's name, the row of the table that it fits, its segment of the
+/// store's arguments, and the number of its defined variable, which the first `defines_var`
+/// annotation with a variable names.
 #[derive(Clone, Copy, Debug)]
 pub struct Posted<'a> {
     pub name: &'a [u8],
@@ -55,8 +55,8 @@ pub enum Goal {
     Maximize(Term),
 }
 
-/// A point of a declaration: the domain of the variable of a number, its definition, or the domain
-/// of the elements of the array of a number.
+/// A point of a declaration: the domain of a variable, its definition, or the domain of an array's
+/// elements, by the number of the variable or the array.
 #[derive(Clone, Copy, Debug)]
 pub enum DeclaredPoint {
     Domain(usize),

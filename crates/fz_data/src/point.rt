@@ -1,4 +1,4 @@
-//! What is checked of a model, one point after another.
+//! The points of a model, as data.
 
 ghost use Rattle.std.specs.Prelude.{◌≡◌};
 ghost use Rattle.fz_data.specs.Slots.{segment};
@@ -8,8 +8,8 @@ use crate::parts::{Array, Posted, Variable};
 use crate::store::{Argument, Store, part};
 use fz_meaning::{Domain, Term};
 
-/// A point by what it is told by: a declared name, or a constraint's number, from 1, and its
-/// predicate's name. Names are slices of the source.
+/// How a point is reported: a declared name, or a constraint's number, from 1, and the name of its
+/// predicate. Names are slices of the source.
 #[derive(Clone, Copy, Debug)]
 pub enum Point<'a> {
     Domain(&'a [u8]),
@@ -17,8 +17,8 @@ pub enum Point<'a> {
     Constraint(usize, &'a [u8]),
 }
 
-/// A constraint with its number, from 1, and with what it cites: variables and arrays by their
-/// numbers, and the store of its arguments.
+/// A constraint with its number, from 1, and with the lists that it cites by number: the variables,
+/// the arrays and the store of its arguments.
 #[derive(Clone, Copy)]
 pub struct ConstraintParts<'m, 'a> {
     pub number: usize,
@@ -39,8 +39,8 @@ impl<'m, 'a> ConstraintParts<'m, 'a> {
     }
 }
 
-/// A model's constraints, in source order, with the arrays that they cite by their numbers and the
-/// store of their arguments.
+/// A model's constraints, in source order, with the arrays that they cite by number and the store
+/// of their arguments.
 #[derive(Clone, Copy)]
 pub struct Constraints<'m, 'a> {
     pub posted: &'m [Posted<'a>],
@@ -48,8 +48,9 @@ pub struct Constraints<'m, 'a> {
     pub store: &'m Store,
 }
 
-/// A point with its parts: a variable with its number, its definition, an array's name, domain and
-/// elements, or a constraint.
+/// A point with its parts: a domain, with its variable and that variable's number; a definition,
+/// with these and its right side; the domain of an array's elements, with the array's name; or a
+/// constraint.
 #[derive(Clone, Copy)]
 pub enum PointParts<'m, 'a> {
     Domain(&'m Variable<'a>, usize),

@@ -75,7 +75,7 @@ fn place_of(
     }
 }
 
-/// Puts what the elements of a list in brackets stand for behind the other slots.
+/// Appends the slots of a list in brackets.
 fn places_of(
     alloc: Global,
     scope: &Scope<'_>,
@@ -128,7 +128,7 @@ fn argument_of(
     }
 }
 
-/// Puts the arguments of a constraint, in their order, behind the others.
+/// Appends the arguments of a constraint, in their order.
 fn arguments_of(
     alloc: Global,
     scope: &Scope<'_>,
@@ -172,7 +172,7 @@ fn variable_named(scope: &Scope<'_>, name: &[u8]) -> Option<usize>
     }
 }
 
-/// The only one of the arguments.
+/// The argument of an annotation, where it has exactly one.
 fn only<'t, 'a>(args: &'t [NoteArg<'a>]) -> Option<&'t NoteArg<'a>>
     ensures { option_map (λ a. bare_arg a.now) result
         ≡ only_arg (arg_list (map bare_arg args.now)) }
@@ -206,7 +206,7 @@ fn inner_basic<'t, 'a>(basic: &'t NoteBasic<'a>) -> Option<&'t Note<'a>>
     }
 }
 
-/// The name of an annotation without arguments.
+/// The name of an annotation, where that has no arguments.
 fn bare_name<'a>(note: &Note<'a>) -> Option<&'a [u8]>
     ensures { option_map (λ x. x.now) result ≡ bare_name_of (bare_note note.now) }
 {
@@ -227,7 +227,7 @@ fn defined(scope: &Scope<'_>, note: &Note<'_>) -> Option<usize>
     variable_named(scope, name)
 }
 
-/// The first variable that one of the annotations names so.
+/// The first variable that an annotation of that form names.
 fn target_of(scope: &Scope<'_>, notes: &[Note<'_>]) -> Option<usize>
     ensures { result ≡ first_some (defined_in scope.now) (bare_notes notes.now) }
 {
@@ -240,8 +240,7 @@ fn target_of(scope: &Scope<'_>, notes: &[Note<'_>]) -> Option<usize>
     None
 }
 
-/// A constraint, with the row that it fits and the variable that its first whole `defines_var`
-/// names.
+/// A constraint, with the row that it fits and its defined variable.
 fn posted<'a>(
     alloc: Global,
     scope: &Scope<'a>,
@@ -275,7 +274,7 @@ fn posted<'a>(
     })
 }
 
-/// Puts one more constraint behind those that were found. It refuses the first fault at it.
+/// Appends one more constraint. It refuses the first fault in it.
 pub(crate) fn post<'a>(
     alloc: Global,
     scope: &Scope<'a>,

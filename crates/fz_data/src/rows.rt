@@ -16,8 +16,8 @@ use crate::values::{kind_of, same_kind};
 use fz_base::Value;
 use fz_meaning::{Kind, Known, Shape, Term};
 
-/// What constraints cite: the variables, their kinds, and the arrays. The kinds stand side by side,
-/// a byte each, so that the look-ups of all constraints find them near.
+/// What constraints cite: the variables, their kinds, and the arrays. The kinds have a list of
+/// their own, a byte each, so that they stay in a near cache while constraints are loaded.
 #[derive(Clone, Copy)]
 pub(crate) struct Cited<'m, 'a> {
     pub(crate) variables: &'m [Variable<'a>],
@@ -138,7 +138,7 @@ fn is_of(kind: Kind, slot: &Slot, cited: &Cited<'_, '_>, constants: &[Value]) ->
     }
 }
 
-/// The kind of the constant at a place.
+/// The kind of the constant at an index.
 fn constant_kind(constants: &[Value], place: usize) -> Kind
     ensures { result ≡ kind_of (constant_at constants.now place) }
 {
@@ -148,7 +148,7 @@ fn constant_kind(constants: &[Value], place: usize) -> Kind
     }
 }
 
-// Whether the arguments at these places are equally long, where all have shapes.
+// Whether the arguments at these indices are equally long, where all are of the kinds asked for.
 fn equally_long(
     places: &[usize],
     arguments: &[Argument],
@@ -188,7 +188,8 @@ fn length_at(place: usize, arguments: &[Argument], arrays: &[Array<'_>], slots: 
     }
 }
 
-// The number of scalars in an argument that has a shape: there is no array in its list.
+// The number of scalars in an argument that is of the kind asked for: there is no array in its
+// list.
 fn length(argument: &Argument, arrays: &[Array<'_>], slots: &[Slot]) -> usize
     ensures { result ≡ length_of arrays.now slots.now argument.now }
 {

@@ -23,8 +23,8 @@ use fz_syntax::{Basic, Literal, Name};
 use std::alloc::{AllocError, Global};
 
 /// What was declared so far: the names in source order, the variables and arrays by their numbers,
-/// and the points. The kinds of the variables stand side by side besides, a byte each, so that who
-/// looks one up finds it near.
+/// and the points. The kinds of the variables also have a list of their own, a byte each, so that
+/// they stay in a near cache.
 #[derive(Drop)]
 pub(crate) struct Scope<'a> {
     pub(crate) names: Names<'a>,
@@ -34,7 +34,7 @@ pub(crate) struct Scope<'a> {
     pub(crate) points: Vec<DeclaredPoint>,
 }
 
-/// What a declaration declares: a parameter by its value, a variable, or an array.
+/// What a declaration declares: a parameter with its value, a variable, or an array.
 #[derive(Drop)]
 pub(crate) enum Item<'a> {
     Parameter(Value),
@@ -152,7 +152,7 @@ pub(crate) fn scalars_of(
     Ok(ScalarList { slots, constants })
 }
 
-/// Puts a point behind the others, where it is wanted.
+/// Appends a point, where it is wanted.
 fn push_if(
     points: &mut Vec<DeclaredPoint>,
     wanted: bool,
@@ -230,7 +230,7 @@ fn add_array<'a>(scope: &mut Scope<'a>, name: &'a [u8], array: Array<'a>) -> Res
     Ok(())
 }
 
-/// Adds what a new name declares, behind the rest. It refuses only where memory runs out.
+/// Adds what a new name declares. It refuses only where memory runs out.
 pub(crate) fn add<'a>(
     scope: &mut Scope<'a>,
     name: &'a [u8],

@@ -1,5 +1,4 @@
-//! Scalars in eight bytes each, one behind another: what the lists of constraints and of declared
-//! arrays hold.
+//! The store: the lists of constraints and of declared arrays, with eight bytes for each scalar.
 
 ghost use Rattle.std.specs.Prelude.{◌≡◌, ◌<◌, IfOk, OnOk, Some, length, slice_get};
 ghost use Rattle.fz_base.specs.declared.value.Value.TheVariants.{Int};
@@ -10,8 +9,8 @@ use fz_base::{IntSet, Value};
 use fz_meaning::Term;
 use std::alloc::{AllocError, Global};
 
-/// A scalar, or a declared array by its number: the number of a variable, a number, a Boolean,
-/// or the place of a value among constants.
+/// A scalar, or a declared array. It is the number of a variable, an integer, a Boolean, the index
+/// of a value among the constants, or the number of an array.
 #[derive(Clone, Copy, Debug)]
 pub enum Slot {
     Variable(u32),
@@ -21,7 +20,7 @@ pub enum Slot {
     Array(u32),
 }
 
-/// So many items of a list, from a place on.
+/// A stretch of a list: its first index and how many items it has.
 #[derive(Clone, Copy, Debug)]
 pub struct Segment {
     pub first: u32,
@@ -54,7 +53,7 @@ pub enum Scalar<'m> {
 }
 
 impl Store {
-    /// Nothing is there yet.
+    /// Nothing is stored yet.
     pub(crate) fn new(alloc: Global) -> Store {
         Store {
             arguments: Vec::new(alloc),
@@ -64,8 +63,8 @@ impl Store {
     }
 }
 
-/// The number in 32 bits. No text is long enough to need more, so one that is too large is refused
-/// as where memory runs out.
+/// The number in 32 bits. No text is long enough to need more, so a larger number is refused as
+/// where memory runs out.
 #[inline(always)]
 pub(crate) fn narrow(number: usize) -> Result<u32, AllocError>
     ensures { IfOk result (λ k. k ≡ number) }
@@ -85,7 +84,7 @@ pub fn item_at<T>(items: &[T], index: usize) -> &T
     &items[index]
 }
 
-/// The items of a segment, as far as there are.
+/// The items of a segment that the list has.
 #[inline(always)]
 pub fn part<T>(items: &[T], at: Segment) -> &[T]
     ensures { result.now ≡ segment items.now at }
@@ -102,7 +101,7 @@ pub fn part<T>(items: &[T], at: Segment) -> &[T]
     &tail[..count]
 }
 
-/// The slot of a value that is kept among the constants.
+/// The slot of a value that is appended to the constants.
 fn kept(constants: &mut Vec<Value>, value: Value) -> Result<Slot, AllocError>
     ensures grown { OnOk result (IsGrown constants.old.items constants.new.items) }
     ensures slot { IfOk result (IsSlotOf constants.new.items (Fixed value)) }
@@ -182,7 +181,7 @@ fn constant_of(constants: &[Value], place: u32) -> Scalar<'_>
     }
 }
 
-/// A slot as it is read. Nothing rests on how that of an array is.
+/// A slot as it is read. An array's is read as some scalar, on which nothing depends.
 #[inline(always)]
 pub fn scalar_at(constants: &[Value], slot: Slot) -> Scalar<'_>
     ensures { scalar_term result ≡ slot_term constants.now slot }

@@ -1,4 +1,4 @@
-//! From a text to its model, item by item: each is let go when it is loaded.
+//! Loading a text item by item: each item is dropped once it is loaded, so no tree is held.
 
 ghost use Rattle.std.specs.Prelude.{◌≡◌, ◌≢◌, ◌<◌, ◌↔◌, Err, ◌++◌, ◌∷◌, [], IfErr, IfOk, List, None, OnOk, length, map};
 ghost use Rattle.fz_meaning.specs.Located.{Constraint as LocatedConstraint, Decl as LocatedDecl};
@@ -31,7 +31,7 @@ use fz_meaning::ModelError;
 use fz_syntax::{Constraint, Decl, Items, SyntaxError};
 use std::alloc::Global;
 
-/// The items behind the predicates, which tell a model nothing.
+/// The items after the predicates. A predicate adds nothing to a model.
 fn past_predicates<'a>(mut items: Items<'a>) -> Result<Items<'a>, SyntaxError>
     ensures source { IfOk result (λ i. i.source.now ≡ items.entry.source.now) }
     ensures offered { AtPredicates [] items.entry
@@ -41,7 +41,7 @@ fn past_predicates<'a>(mut items: Items<'a>) -> Result<Items<'a>, SyntaxError>
     Ok(items)
 }
 
-/// Reads all that stands behind constraints.
+/// Reads all items after the constraints.
 fn behind_constraints(mut items: Items<'_>) -> Result<(), SyntaxError>
     ensures { (ps : List the_predicate.Predicate) (ds : List the_decl.Decl)
         (cs : List the_constraint.Constraint) → AtConstraints ps ds cs items.entry
@@ -53,7 +53,7 @@ fn behind_constraints(mut items: Items<'_>) -> Result<(), SyntaxError>
     Ok(())
 }
 
-/// Reads all that stands behind declarations.
+/// Reads all items after the declarations.
 fn behind_decls(mut items: Items<'_>) -> Result<(), SyntaxError>
     ensures { (ps : List the_predicate.Predicate) (ds : List the_decl.Decl)
         → AtDecls ps ds items.entry → IsAllOf items.entry.source.now result
@@ -63,8 +63,8 @@ fn behind_decls(mut items: Items<'_>) -> Result<(), SyntaxError>
     behind_constraints(items)
 }
 
-/// What is answered to a fault of names at the last declaration: a fault of the text comes first,
-/// wherever it is.
+/// The error for a fault of names at the last declaration that was read. The rest of the text is
+/// read first, since a fault of the text comes before each of names, wherever it is.
 fn at_decl(items: Items<'_>, fault: ModelError) -> LoadError
     ensures { (ps : List the_predicate.Predicate) (ds : List the_decl.Decl) (d : the_decl.Decl)
         → AtDecls ps (ds ++ d ∷ []) items.entry → decls_fault [] (map located_decl ds) ≡ None
@@ -77,7 +77,7 @@ fn at_decl(items: Items<'_>, fault: ModelError) -> LoadError
     }
 }
 
-/// The same of a fault at the last constraint.
+/// The error for a fault of names at the last constraint that was read, in the same way.
 fn at_constraint(items: Items<'_>, fault: ModelError) -> LoadError
     ensures { (ps : List the_predicate.Predicate) (ds : List the_decl.Decl)
         (cs : List the_constraint.Constraint) (c : the_constraint.Constraint) (s : the_scope)
@@ -92,7 +92,7 @@ fn at_constraint(items: Items<'_>, fault: ModelError) -> LoadError
     }
 }
 
-/// Takes in what one more declaration declares, and lets the item go.
+/// Adds what one more declaration declares, and drops the item.
 fn take_decl<'a>(alloc: Global, scope: &mut Scope<'a>, decl: Decl<'a>) -> Result<(), ModelError>
     requires kinds { HasKinds scope.old }
     ensures more { (known : List LocatedDecl) → Declares known scope.old
@@ -104,7 +104,7 @@ fn take_decl<'a>(alloc: Global, scope: &mut Scope<'a>, decl: Decl<'a>) -> Result
     declare(alloc, scope, &decl)
 }
 
-/// What all declarations declare, and the items behind them.
+/// What all declarations declare, and the items after them.
 fn declared_in<'a>(
     alloc: Global,
     mut items: Items<'a>,
@@ -125,7 +125,7 @@ fn declared_in<'a>(
     Ok((items, scope))
 }
 
-/// Puts one more constraint behind those that were found, and lets the item go.
+/// Appends one more constraint, and drops the item.
 fn take_constraint<'a>(
     alloc: Global,
     scope: &Scope<'a>,
@@ -144,7 +144,7 @@ fn take_constraint<'a>(
     post(alloc, scope, store, found, &constraint)
 }
 
-/// What all constraints come to, and the items behind them.
+/// All constraints, and the items after them.
 fn posted_in<'a>(
     alloc: Global,
     mut items: Items<'a>,
@@ -167,7 +167,7 @@ fn posted_in<'a>(
     Ok((items, found))
 }
 
-/// So many bytes of a text are taken for one declaration, where room for the names is made.
+/// How many bytes of text a declaration is taken to have, where room for the names is made.
 const BYTES_OF_A_DECLARATION: usize = 64;
 
 /// The model of a text, read and loaded item by item.
@@ -186,7 +186,7 @@ fn read_text<'a>(alloc: Global, source: &'a [u8]) -> Result<Model<'a>, LoadError
     Ok(Model::assembled(scope, store, constraints, goal))
 }
 
-/// The model of a text, and no tree of it is held.
+/// The model of a text. No tree of it is held.
 ///
 /// # Errors
 ///

@@ -23,7 +23,7 @@ pub fn kind_of(value: &Value) -> Kind
 }
 
 /// Whether the two kinds are the same. It takes no memory. Their numbers are compared, since a
-/// branch on a kind is guessed wrong where kinds come in any order.
+/// branch on a kind is predicted wrong where kinds come in any order.
 #[inline]
 pub fn same_kind(left: Kind, right: Kind) -> bool
     ensures { result ≡ same_kind left right }
@@ -107,7 +107,7 @@ pub(crate) fn domain_of(alloc: Global, base: &Base) -> Result<Domain, AllocError
     }
 }
 
-/// An equal term. It refuses only where memory runs out.
+/// A copy of a term. It refuses only where memory runs out.
 #[inline]
 pub(crate) fn copied(alloc: Global, term: &Term) -> Result<Term, AllocError>
     ensures { IfOk result (λ t. t ≡ term.now) }

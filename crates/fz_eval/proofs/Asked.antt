@@ -1,4 +1,4 @@
--- What bounds ask of a value is what the kind and the domain that they are made of do.
+-- The test of a value by its bounds is that of the kind and the domain that they are made of.
 use Rattle.std.proofs.Common.{◌≡◌, ℕ, zero, suc, ◌<◌, get_or, Bool, true, false, ◌&&◌, List, [], ◌∷◌, map, length, refl, sym, ap, ◌∙◌, arith}
 use Rattle.fz_base.specs.declared.value.Value.{Value}
 use Rattle.fz_base.specs.declared.value.Value.TheVariants.{Int, Bool as Truth, Set}
@@ -24,7 +24,7 @@ and_true : (a b : Bool) → b ≡ true → a ≡ (a && b)
 and_true true b e = sym e
 and_true false b e = refl
 
--- where any value of a kind will do, the kind tells it alone
+-- where any value of a kind will do, the kind alone decides
 pub any_of : (j k : Kind) (d : Domain) (v : Value) → Any j ≡ bounds_in k d
     → same_kind (kind_of v) j ≡ (same_kind (kind_of v) k && inside d v)
 any_of j k domains.All v e = let same : j ≡ k = cc in ap (same_kind (kind_of v)) same ∙ and_true (same_kind (kind_of v) k) (inside domains.All v) (inside_all v)

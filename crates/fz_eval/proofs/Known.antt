@@ -32,7 +32,7 @@ all_read : (K : Partial) (xs : List Argument) (i : ℕ) (ss : List Shape)
 all_read K xs i [] = tt
 all_read K xs i (s ∷ ss) = (given_read K xs i s, all_read K xs (suc i) ss)
 
--- with a Boolean behind
+-- with the control variable at the end
 with_last : (K : Partial) (xs : List Argument) (i : ℕ) (ss : List Shape)
     → given_from K xs i (with_bool ss)
     ≡ given_from K xs i ss ++ OneValue (BoolValue (bool_at K xs (length ss + i))) ∷ []
@@ -71,7 +71,7 @@ module _ (r : Row) (K : Partial) (xs : List Argument) where
   implied_sum true = refl
   implied_sum false = refl
 
-  -- a reified form comes to what that says of what its row comes to
+  -- the outcome of a reified form is what it says of the outcome of its base row
   pub reified_outcome : row_outcome (reified r) K xs
       ≡ compared (bool_at K xs (length r.shapes)) (row_outcome r K xs)
   unfolding said holds leaves

@@ -1,4 +1,4 @@
--- A row's test at the arguments, each read as its shape says, is whether it holds of the values
+-- A row's test at the arguments, each read as its kind asks, is whether it holds of the values
 -- given.
 use Rattle.std.proofs.Common.{◌≡◌, ℕ, suc, Bool, false, true, ◌||◌, List, [], ◌∷◌, Some, refl, sym, ap, ◌∙◌}
 use Rattle.std.specs.List.{list_any}

@@ -45,7 +45,7 @@ module _ {A : Type 0} (f : A → Bool) where
       here true later e = later e
       here false later e = refl
 
--- ---- items by their places
+-- ---- items by their indices
 
 pub there : {A : Type 0} (xs : List A) (n : ℕ) → n < length xs → (x : A) × (slice_get xs n ≡ Some x)
 there [] n lt = absurd (omega (arith, lt))

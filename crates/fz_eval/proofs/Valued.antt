@@ -34,7 +34,7 @@ use Rattle.fz_eval.specs.Holding.{is_held, point_holds}
 use Rattle.fz_eval.specs.Whole.{IsReady, is_domain, lies_inside, lie_inside}
 use Rattle.fz_eval.proofs.States.{row_fits}
 
--- ---- what was seen of a model's variables
+-- ---- what the overview of a model says of its variables
 
 pub seen_inside : (m : Model) (K : Partial) (xs : List meaning.Variable) (L : Partial) (b : Bool)
     → xs ≡ variables_of m → L ≡ K → b ≡ lie_inside xs L → b ≡ true

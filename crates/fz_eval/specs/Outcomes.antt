@@ -1,4 +1,4 @@
--- What a row comes to at the values that are given.
+-- The outcome of a row at the values that are given.
 use Rattle.std.specs.Prelude.{ℕ, suc, Bool, cond, not, ◌||◌, List, [], ◌∷◌}
 use Rattle.std.specs.List.{list_any}
 use Rattle.fz_meaning.specs.declared.kind.Kind.TheVariants.{Int as IntKind, Bool as BoolKind, Set as SetKind}
@@ -12,7 +12,7 @@ use Rattle.fz_kernel.specs.of_view.Given.{int_at, bool_at, set_at, ints_at, bool
 use Rattle.fz_eval.specs.declared.outcome.Outcome.{Outcome}
 use Rattle.fz_eval.specs.declared.outcome.Outcome.TheVariants.{Truth, TooLarge}
 
--- the argument at a place, read as the shape says
+-- the argument at an index, read as its kind asks
 abbrev pub argument_at : Partial → List Argument → ℕ → (s : Shape) → Of s
 argument_at K xs i (ScalarOf IntKind) = int_at K xs i
 argument_at K xs i (ScalarOf BoolKind) = bool_at K xs i
@@ -21,7 +21,7 @@ argument_at K xs i (ArrayOf IntKind) = ints_at K xs i
 argument_at K xs i (ArrayOf BoolKind) = bools_at K xs i
 argument_at K xs i (ArrayOf SetKind) = sets_at K xs i
 
--- a test at the arguments from a place on
+-- a test at the arguments from an index on
 abbrev pub test_from : ℕ → Partial → List Argument → (ss : List Shape) → Test ss → Bool
 test_from i K xs [] t = t
 test_from i K xs (s ∷ ss) t = test_from (suc i) K xs ss (t (argument_at K xs i s))
@@ -35,12 +35,12 @@ unfoldable pub row_outcome : Row → Partial → List Argument → Outcome
 row_outcome r K xs =
     sum_outcome (list_any (read_leave K xs) r.sums) (test_from 0 K xs r.shapes r.holds)
 
--- whether the Boolean says what the outcome is
+-- reified: the Boolean says whether the row holds
 abbrev pub compared : Bool → Outcome → Outcome
 compared t TooLarge = TooLarge
 compared t (Truth b) = Truth (t =ᴮ b)
 
--- whether the outcome is as the Boolean asks, where that is true
+-- half-reified: the row holds, or the Boolean is false
 abbrev pub implied_by : Bool → Outcome → Outcome
 implied_by t TooLarge = TooLarge
 implied_by t (Truth b) = Truth (not t || b)

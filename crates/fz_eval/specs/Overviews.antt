@@ -1,5 +1,5 @@
--- What is looked at of a model's declarations for each assignment: what they ask of the values, and
--- which of their points are no variable's domain.
+-- What variables' values are checked against (`Overview`), and which points of the declarations are
+-- not the domains of variables.
 use Rattle.std.specs.Prelude.{◌≡◌, ℕ, suc, Bool, true, cond, List, [], ◌∷◌, flat_map, map, slice_get}
 use Rattle.std.specs.Option.{option_map_or}
 use Rattle.fz_meaning.specs.declared.kind.Kind.{Kind}
@@ -13,8 +13,8 @@ use Rattle.fz_eval.specs.declared.overview.Overview.{Overview}
 use Rattle.fz_eval.specs.Holding.{point_holds}
 use Rattle.fz_eval.specs.Whole.{is_domain}
 
--- what a domain asks of a value of the kind: where nothing, only the kind counts, and a number or
--- the numbers of a set may have two ends
+-- the test of a value, by its kind and its variable's domain: with `Listed` the domain has to be
+-- read
 abbrev pub bounds_in : Kind → Domain → Bounds
 bounds_in k domains.All = Any k
 bounds_in kinds.Int (domains.Within lo hi) = Within lo hi
@@ -25,12 +25,13 @@ bounds_in k (domains.Among s) = Listed
 abbrev pub bounds_of : Variable → Bounds
 bounds_of x = bounds_in x.kind x.domain
 
--- the numbers of the points that are no variable's domain, where the first has this number
+-- the numbers of the points that are not the domain of a variable, where the first point has this
+-- number
 abbrev pub others_from : ℕ → List Point → List ℕ
 others_from k [] = []
 others_from k (p ∷ ps) = cond (is_domain p) (others_from (suc k) ps) (k ∷ others_from (suc k) ps)
 
--- it has the bounds of each variable, and each other point of the declarations
+-- it has the test of each variable, and each other point of the declarations
 abbrev pub IsOverview : Model → Overview → Type 0
 IsOverview m o = (o.bounds.items ≡ map bounds_of (variables_of m))
     × (o.others.items ≡ others_from 0 (flat_map declared_points (numbered m)))

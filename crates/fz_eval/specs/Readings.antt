@@ -1,4 +1,4 @@
--- The arguments of a view by their places, counted from 0.
+-- The arguments that a view reads, by their indices, counted from 0.
 use Rattle.std.specs.Prelude.{ℕ, ℤ, Bool, List}
 use Rattle.fz_base.specs.Sets.{NumberSet}
 use Rattle.fz_kernel.specs.of_view.declared.view.ArgumentView.{ArgumentView}

@@ -1,5 +1,5 @@
--- Where every variable has a value of its kind inside its domain, and what that spares. Only
--- private functions use these, but for `is_domain`, which `IsOverview` cites.
+-- Where every variable has a value of its kind inside its domain, and which tests needn't be made
+-- then. Only private functions use these, but for `is_domain`, which `IsOverview` cites.
 use Rattle.std.specs.Prelude.{◌≡◌, Bool, true, false, ◌&&◌, List, [], ◌∷◌, Option, Some, None}
 use Rattle.fz_base.specs.declared.value.Value.{Value}
 use Rattle.fz_meaning.specs.Values.{kind_of, same_kind}

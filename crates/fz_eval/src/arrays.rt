@@ -1,4 +1,4 @@
-//! The rows over arrays, but for those that add products up.
+//! The rows over arrays, but for those whose products are added in 128 bits.
 
 ghost use Rattle.std.specs.Prelude.{◌≡◌, not, ◌&&◌, ◌||◌, length, int_le, IfOk};
 ghost use Rattle.std.specs.List.{list_all, list_any, filter};
@@ -82,7 +82,7 @@ pub(crate) fn bool_clause(view: &ArgumentView<'_, '_>) -> bool
     clause_holds(&view.elements(0), &view.elements(1))
 }
 
-/// Whether the sum of the numbers at true places is the third argument.
+/// Whether the sum of the numbers whose Booleans are true is the third argument.
 pub(crate) fn bool_lin_eq(view: &ArgumentView<'_, '_>) -> bool
     ensures { result ≡ (total (where_true (ints view.now 0)
         (truths view.now 1)) =ℤ int view.now 2) }
@@ -90,7 +90,7 @@ pub(crate) fn bool_lin_eq(view: &ArgumentView<'_, '_>) -> bool
     sum_where_true(&view.elements(0), &view.elements(1)) == i128::from(view.int(2))
 }
 
-/// Whether the sum of the numbers at true places is at most the third argument.
+/// Whether the sum of the numbers whose Booleans are true is at most the third argument.
 pub(crate) fn bool_lin_le(view: &ArgumentView<'_, '_>) -> bool
     ensures { result ≡ int_le (total (where_true (ints view.now 0) (truths view.now 1)))
         (int view.now 2) }

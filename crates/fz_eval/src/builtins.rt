@@ -13,7 +13,7 @@ use fz_kernel::fz_arguments::ArgumentView;
 use fz_meaning::Builtin;
 use std::alloc::{AllocError, Global};
 
-/// What the row of a builtin comes to at the values that the view gives. It refuses only where
+/// The outcome of a builtin's row at the values that the argument view gives. It refuses only where
 /// memory runs out.
 #[inline(always)]
 pub fn of_builtin(

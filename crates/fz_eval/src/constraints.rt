@@ -21,7 +21,7 @@ use fz_meaning::{Form, Known, State};
 use std::alloc::{AllocError, Global};
 
 /// The state of a constraint: unknown without a row, whatever its values are; then without a value;
-/// then too large; then by its row. Where it is known to be ready, whether it is isn't looked at.
+/// then too large; then by its row. Where the arguments are known to be ready, that isn't tested.
 #[inline(always)]
 pub(crate) fn of_constraint(
     alloc: Global,
@@ -84,7 +84,7 @@ fn is_too_large(known: Known, view: &ArgumentView<'_, '_>) -> bool
         .any(|places| products_leave(view, places.0, places.1))
 }
 
-// The row's outcome: of a reified form, what that says of the base row's.
+// The row's outcome: of a reified form, what it says of the outcome of the base row.
 #[inline(always)]
 fn of_known(alloc: Global, known: Known, view: &ArgumentView<'_, '_>) -> Result<Outcome, AllocError>
     ensures { IfOk result (λ o. o ≡ row_outcome (known_row known) (assigned view.now)
@@ -98,7 +98,7 @@ fn of_known(alloc: Global, known: Known, view: &ArgumentView<'_, '_>) -> Result<
     }
 }
 
-// The Boolean behind the arguments of the base row.
+// The control variable: the Boolean after the arguments of the base row.
 fn last_truth(known: Known, view: &ArgumentView<'_, '_>) -> bool
     requires { HasTruth known.form }
     ensures { result ≡ truth view.now (length (row_at known.builtin).shapes) }

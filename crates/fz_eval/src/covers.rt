@@ -1,4 +1,4 @@
-//! The rows of cardinalities.
+//! The rows that count the values of a cover (`fzn_global_cardinality` and the like).
 
 ghost use Rattle.std.specs.Prelude.{◌≡◌, ◌&&◌, IfOk};
 ghost use Rattle.fz_meaning.specs.Globals.{counts_are, counts_lie, is_closed};

@@ -1,4 +1,4 @@
-//! The rows of sets beside arrays.
+//! The rows of sets and arrays.
 
 ghost use Rattle.std.specs.Prelude.{◌≡◌, IfOk};
 ghost use Rattle.fz_meaning.specs.Globals.{is_flagged, are_disjoint, is_partition, are_channelled};
@@ -31,7 +31,7 @@ pub(crate) fn partition_set(alloc: Global, view: &ArgumentView<'_, '_>) -> Resul
     is_partition(alloc, &view.elements(0), view.set(1))
 }
 
-/// Whether each set has the indices where its own index stands in the list.
+/// Whether each set has the indices at which the list has the set's own index.
 pub(crate) fn int_set_channel(view: &ArgumentView<'_, '_>) -> bool
     ensures { result ≡ are_channelled (ints view.now 0) (int view.now 1) (sets_of view.now 2)
         (int view.now 3) }

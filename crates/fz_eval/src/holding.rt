@@ -59,8 +59,8 @@ fn others_hold(
     Ok(true)
 }
 
-/// Whether the points of the declarations, the first so many, hold. Where the values are known to
-/// lie inside their domains, that isn't looked at again.
+/// Whether the first so many points of the declarations hold. Where the values are known to lie
+/// inside their domains, that isn't tested again.
 fn declared_hold(
     alloc: Global,
     model: &Model<'_>,
@@ -82,8 +82,8 @@ fn declared_hold(
     }
 }
 
-/// Whether the point of a number holds. Where the assignment is known to be whole, whether a
-/// constraint is ready isn't looked at.
+/// Whether the point of a number holds. Where the assignment is known to be whole, it isn't tested
+/// whether a constraint's arguments are ready.
 #[inline(always)]
 fn number_holds(
     alloc: Global,

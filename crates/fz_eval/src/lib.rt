@@ -1,5 +1,8 @@
-//! The state of a check point under a partial assignment: whether a domain, a definition or a
-//! constraint holds, fails or cannot be told.
+//! The state of a point under a partial assignment: whether a domain, a definition or a constraint
+//! holds, fails or cannot be told (`state`); and whether all points hold (`all_hold`), which an
+//! `Overview` of the model makes quick. An internal crate of `fz_model`.
+//!
+//! Its worked cases are in `fz_check_cases` (`points.rt`, `builtins.rt` and `globals.rt`).
 #![tactic(auto)]
 
 mod arrays;

@@ -66,7 +66,7 @@ pub(crate) fn int_max(view: &ArgumentView<'_, '_>) -> bool
     is_greatest(view.int(0), view.int(1), view.int(2))
 }
 
-/// Whether the second number is the first without its sign.
+/// Whether the second number is the absolute value of the first.
 pub(crate) fn int_abs(view: &ArgumentView<'_, '_>) -> bool
     ensures { result ≡ (int view.now 1 =ℤ pos (unsigned_abs (int view.now 0))) }
 {

@@ -65,28 +65,28 @@ pub(crate) fn sorted(alloc: Global, view: &ArgumentView<'_, '_>) -> Result<bool,
     is_sorted_form(alloc, &view.elements(0), &view.elements(1))
 }
 
-/// Whether the first list stands before the second in a dictionary.
+/// Whether the first list comes before the second in lexicographic order.
 pub(crate) fn lex_less_int(view: &ArgumentView<'_, '_>) -> bool
     ensures { result ≡ is_before int_lt ◌=ℤ◌ (ints view.now 0) (ints view.now 1) }
 {
     ints_are_before(&view.elements(0), &view.elements(1))
 }
 
-/// Whether the first list stands before the second, or they are equal.
+/// Whether the first list comes before the second, or they are equal.
 pub(crate) fn lex_lesseq_int(view: &ArgumentView<'_, '_>) -> bool
     ensures { result ≡ not (is_before int_lt ◌=ℤ◌ (ints view.now 1) (ints view.now 0)) }
 {
     ints_are_not_behind(&view.elements(0), &view.elements(1))
 }
 
-/// Whether the first list stands before the second, where false comes before true.
+/// Whether the first list comes before the second, where false comes before true.
 pub(crate) fn lex_less_bool(view: &ArgumentView<'_, '_>) -> bool
     ensures { result ≡ is_before (λ x y. not x && y) ◌=ᴮ◌ (truths view.now 0) (truths view.now 1) }
 {
     bools_are_before(&view.elements(0), &view.elements(1))
 }
 
-/// Whether the first list stands before the second, or they are equal.
+/// Whether the first list comes before the second, or they are equal.
 pub(crate) fn lex_lesseq_bool(view: &ArgumentView<'_, '_>) -> bool
     ensures { result ≡ not (is_before (λ x y. not x && y) ◌=ᴮ◌ (truths view.now 1)
         (truths view.now 0)) }
@@ -94,21 +94,21 @@ pub(crate) fn lex_lesseq_bool(view: &ArgumentView<'_, '_>) -> bool
     bools_are_not_behind(&view.elements(0), &view.elements(1))
 }
 
-/// Whether the second value stands only behind an element that is the first one.
+/// Whether the second value comes only after an element that is the first one.
 pub(crate) fn value_precede(view: &ArgumentView<'_, '_>) -> bool
     ensures { result ≡ precedes (int view.now 0) (int view.now 1) (ints view.now 2) }
 {
     precedes(view.int(0), view.int(1), &view.elements(2))
 }
 
-/// Whether the third value stands only behind an element of the list that is the second one.
+/// Whether the third value comes only after an element of the list that is the second one.
 pub(crate) fn precede(view: &ArgumentView<'_, '_>) -> bool
     ensures { result ≡ precedes (int view.now 1) (int view.now 2) (ints view.now 0) }
 {
     precedes(view.int(1), view.int(2), &view.elements(0))
 }
 
-/// Whether of each two neighbours of a list of values the second stands only behind the first.
+/// Whether of each two neighbours in a list of values the second comes only after the first.
 pub(crate) fn value_precede_chain(
     alloc: Global,
     view: &ArgumentView<'_, '_>,
@@ -119,7 +119,7 @@ pub(crate) fn value_precede_chain(
     precede_in_chain(alloc, &view.elements(0), &view.elements(1))
 }
 
-/// Whether each element is greater by one at most than the greatest before it, and than 0.
+/// Whether each element is greater by at most one than the greatest before it, or than 0.
 pub(crate) fn seq_precede_chain(view: &ArgumentView<'_, '_>) -> bool
     ensures { result ≡ rises_by_one (pos 0) (ints view.now 0) }
 {

@@ -1,4 +1,4 @@
-//! What a row comes to.
+//! The outcome of a row.
 
 ghost use Rattle.std.specs.Prelude.{◌≡◌, not, ◌||◌};
 ghost use Rattle.fz_meaning.specs.Values.{◌=ᴮ◌};
@@ -14,7 +14,7 @@ pub enum Outcome {
 }
 
 impl Outcome {
-    /// Whether the Boolean says what this is.
+    /// Of a reified row: whether the Boolean is true exactly where the base row holds.
     pub(crate) fn compared(self, truth: bool) -> Outcome
         ensures { result ≡ compared truth self }
     {
@@ -24,7 +24,7 @@ impl Outcome {
         }
     }
 
-    /// Whether this is as the Boolean asks, where that is true.
+    /// Of a half-reified row: whether the base row holds or the Boolean is false.
     pub(crate) fn implied_by(self, truth: bool) -> Outcome
         ensures { result ≡ implied_by truth self }
     {

@@ -1,4 +1,5 @@
-//! What is looked at of a model's declarations for each assignment. It is made once for a model.
+//! What a variable's value is checked against, in a form that is quick to test. It is made once for
+//! a model, and then used with each assignment.
 
 ghost use Rattle.std.specs.Prelude.{◌≡◌, ◌+◌, ◌≤◌, IfOk, length, map, take};
 ghost use Rattle.fz_meaning.specs.Meaning.{points, variables_of};
@@ -12,8 +13,8 @@ use fz_data::{Model, PointParts, Variable};
 use fz_meaning::{Domain, Kind};
 use std::alloc::{AllocError, Global};
 
-/// What a variable's declaration asks of its value: any of the kind, a number between two, a set of
-/// numbers between two, or what only its domain tells.
+/// The test of a variable's value: any value of the kind, an integer between two bounds, or a set
+/// of integers between two bounds. With `Listed` the variable's declaration has to be read for it.
 #[derive(Clone, Copy)]
 pub(crate) enum Bounds {
     Any(Kind),
@@ -22,17 +23,17 @@ pub(crate) enum Bounds {
     Listed,
 }
 
-/// What is looked at of a model's declarations for each assignment. It is made once for a model.
+/// A model's declarations, prepared for `all_hold`.
 #[derive(Drop)]
 pub struct Overview {
-    /// what is asked of the value of each variable, side by side
+    /// the test of each variable's value, by variable number
     pub(crate) bounds: Vec<Bounds>,
-    /// the numbers, from 0, of the points of declarations that are no variable's domain
+    /// the numbers, from 0, of the declarations' points other than the domains of variables
     pub(crate) others: Vec<usize>,
 }
 
-/// What two ends ask of a value of the kind. No Boolean lies between two numbers, which the domain
-/// tells.
+/// The test where a domain is given by two bounds. No Boolean lies in such a domain, and the test
+/// of the declaration refuses it.
 fn between(kind: Kind, low: i64, high: i64) -> Bounds
     ensures { result ≡ bounds_in kind (Within low high) }
 {
@@ -43,7 +44,7 @@ fn between(kind: Kind, low: i64, high: i64) -> Bounds
     }
 }
 
-/// What a variable's declaration asks of its value.
+/// The test of a variable's value.
 fn bounds_of(variable: &Variable<'_>) -> Bounds
     ensures { result ≡ bounds_of (variable_view variable.now) }
 {
@@ -54,7 +55,7 @@ fn bounds_of(variable: &Variable<'_>) -> Bounds
     }
 }
 
-/// What is asked of the value of each variable.
+/// The tests of all variables' values.
 fn all_bounds(alloc: Global, variables: &[Variable<'_>]) -> Result<Vec<Bounds>, AllocError>
     ensures { IfOk result (λ v. v.items ≡ map bounds_of (map variable_view variables.now)) }
 {
@@ -72,7 +73,7 @@ fn is_domain(parts: &PointParts<'_, '_>) -> bool
     matches!(parts, PointParts::Domain(_, _))
 }
 
-/// The numbers of those of the first so many points that are no variable's domain.
+/// The numbers of those of the first `count` points that are not the domain of a variable.
 fn others(alloc: Global, model: &Model<'_>, count: usize) -> Result<Vec<usize>, AllocError>
     requires in_range { count ≤ length (points model.now) }
     ensures { IfOk result (λ v. v.items ≡ others_from 0 (take count (points model.now))) }

@@ -1,4 +1,4 @@
-//! The rows of lists that lead to places, of tables and of automata.
+//! The rows of lists of successors, of tables and of automata.
 
 ghost use Rattle.std.specs.Prelude.{◌≡◌, int_le, IfOk};
 ghost use Rattle.fz_meaning.specs.Values.{◌=ℤ◌, ◌=ᴮ◌};
@@ -12,21 +12,21 @@ use fz_globals::words::is_word;
 use fz_kernel::fz_arguments::ArgumentView;
 use std::alloc::{AllocError, Global};
 
-/// Whether the list leads from its first place to all, to each once, and back.
+/// Whether the successors lead from the first position to all, to each once, and back.
 pub(crate) fn circuit(view: &ArgumentView<'_, '_>) -> bool
     ensures { result ≡ is_circuit (as_places (int view.now 0) (ints view.now 1)) }
 {
     is_circuit(view.int(0), &view.elements(1))
 }
 
-/// Whether it is a permutation that leads from one place which it moves to all that it moves.
+/// Whether they are a permutation whose moved positions make one cycle.
 pub(crate) fn subcircuit(alloc: Global, view: &ArgumentView<'_, '_>) -> Result<bool, AllocError>
     ensures { IfOk result (λ r. r ≡ is_subcircuit (as_places (int view.now 0) (ints view.now 1))) }
 {
     is_subcircuit(alloc, view.int(0), &view.elements(1))
 }
 
-/// Whether each list leads back from where the other leads.
+/// Whether each list is the inverse of the other.
 pub(crate) fn inverse(view: &ArgumentView<'_, '_>) -> bool
     ensures { result ≡ are_inverse (as_places (int view.now 1) (ints view.now 0))
         (as_places (int view.now 3) (ints view.now 2)) }

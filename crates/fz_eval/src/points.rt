@@ -13,8 +13,8 @@ use fz_data::{Model, Partial, PointParts};
 use fz_meaning::State;
 use std::alloc::{AllocError, Global};
 
-/// The state of a point with its parts. Where a constraint is known to be ready, whether it is
-/// isn't looked at.
+/// The state of a point with its parts. Where a constraint's arguments are known to be ready, that
+/// isn't tested.
 #[inline(always)]
 pub(crate) fn of_point(
     alloc: Global,

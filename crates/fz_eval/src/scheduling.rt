@@ -43,7 +43,8 @@ pub(crate) fn diffn(view: &ArgumentView<'_, '_>) -> bool
     overlap_nowhere(&view.elements(0), &view.elements(1), width, height)
 }
 
-/// Whether no two boxes overlap, where each place along an axis comes with the size along it.
+/// Whether no two boxes overlap, with the arguments in this order: the starts and the lengths along
+/// one axis, then those along the other.
 pub(crate) fn nooverlap(view: &ArgumentView<'_, '_>) -> bool
     ensures { result ≡ overlap_nowhere
         (boxes (ints view.now 0) (ints view.now 2) (ints view.now 1) (ints view.now 3)) }

@@ -1,4 +1,4 @@
-//! The rows that add products up in 128 bits.
+//! The rows whose products are added in 128 bits.
 
 ghost use Rattle.std.specs.Prelude.{◌≡◌, ◌||◌, int_le, not};
 ghost use Rattle.fz_meaning.specs.Values.{◌=ℤ◌};
@@ -45,7 +45,7 @@ pub(crate) fn int_lin_le(view: &ArgumentView<'_, '_>) -> Outcome
     }
 }
 
-/// Whether the things weigh as much, and bring as much, as the last two arguments say.
+/// Whether the weight and the profit of the things are the last two arguments.
 pub(crate) fn knapsack(view: &ArgumentView<'_, '_>) -> Outcome
     ensures { result ≡ sum_outcome (leaves_128 (products (ints view.now 0) (ints view.now 2))
         || leaves_128 (products (ints view.now 1) (ints view.now 2)))
@@ -59,7 +59,7 @@ pub(crate) fn knapsack(view: &ArgumentView<'_, '_>) -> Outcome
     }
 }
 
-/// Whether a sum on the way of the products of two arrays leaves 128 bits.
+/// Whether a partial sum of the products of two arrays leaves 128 bits.
 pub(crate) fn products_leave(view: &ArgumentView<'_, '_>, first: usize, second: usize) -> bool
     ensures { result ≡ leaves_128 (products (ints view.now first) (ints view.now second)) }
 {

@@ -15,7 +15,7 @@ pub(crate) fn bool_eq(view: &ArgumentView<'_, '_>) -> bool
     view.truth(0) == view.truth(1)
 }
 
-/// Whether the second is true if the first is.
+/// Whether the second is true or the first false.
 pub(crate) fn bool_le(view: &ArgumentView<'_, '_>) -> bool
     ensures { result ≡ (not (truth view.now 0) || truth view.now 1) }
 {

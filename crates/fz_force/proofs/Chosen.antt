@@ -1,4 +1,4 @@
--- What is left to an argument in a result place is what fills it.
+-- What is left to an argument that may be filled is what fills it.
 use Rattle.std.proofs.Common.{◌≡◌, true, false, List, Option, None, Result as Answer, Ok, Err, IfOk, refl, sym, ◌∙◌}
 use Rattle.fz_base.specs.declared.value.Value.{Value}
 use Rattle.fz_meaning.specs.declared.kind.Kind.{Kind}

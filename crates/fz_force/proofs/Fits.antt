@@ -107,7 +107,7 @@ module _ (K : Partial) (n : ℕ) (none : value_at K n ≡ None) (within : n < le
   argument_open (x ∷ xs) zero j at e = variable_open K n none v v (terms_in x) j at (append-nil _ _ (sym (filter-append (is_open K) (terms_in x) (flat_map terms_in xs)) ∙ e)).0
   argument_open (x ∷ xs) (suc i) j at e = argument_open xs i j at (append-nil _ _ (sym (filter-append (is_open K) (terms_in x) (flat_map terms_in xs)) ∙ e)).1
 
-  -- the only open scalar stands in the first argument, or in those behind
+  -- the only open scalar is in the first argument, or in a later one
   pub open_first : (x : Argument) (xs : List Argument) (j : ℕ)
       → slice_get (terms_in x) j ≡ Some (Var n)
       → open_terms K (flat_map terms_in (x ∷ xs)) ≡ Var n ∷ []

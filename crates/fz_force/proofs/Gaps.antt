@@ -16,7 +16,7 @@ value_at_new [] n v h = absurd (omega arith)
 value_at_new (o ∷ K) zero v h = refl
 value_at_new (o ∷ K) (suc n) v h = value_at_new K n v (omega arith)
 
--- a number that has a kind is a variable's, so it has a place
+-- a number that has a kind is that of a variable, so it is an index of the values
 in_range : (xs : List Variable) (K : Partial) (n : ℕ) (k : Kind) → FitVariables xs K
     → option_map (λ x. x.kind) (slice_get xs n) ≡ Some k → n < length K
 in_range [] K n k h e = cc

@@ -1,4 +1,4 @@
--- The values with which a row holds, where the only open scalar of its constraint stands at a spot.
+-- The values with which a row holds, where the only open scalar of its constraint is at a spot.
 use Rattle.std.proofs.Common.{◌≡◌, ℕ, zero, suc, ◌<◌, Bool, true, false, cond, ◌&&◌, List, [], ◌∷◌, length, flat_map, find, is_none, Option, Some, None, IsSomeAnd, IsTrue, slice_get, slice_set, bytes_eq, Contains, refl, sym, ap, subst, ◌∙◌}
 use Rattle.std.specs.Option.{option_map_or}
 use Rattle.fz_base.specs.declared.value.Value.{Value}
@@ -42,7 +42,7 @@ pub row_shapes : (p : Posted) (r : Row) → row_of p ≡ Some r
     → have_shapes r.shapes p.arguments ≡ true
 row_shapes p r e = and_first (have_shapes r.shapes p.arguments) _ (row_fits p r e)
 
--- ---- shapes and places
+-- ---- kinds and indices
 
 shape_at : (ss : List Shape) (xs : List Argument) (i j : ℕ) (t : Term) → have_shapes ss xs ≡ true
     → slice_get (terms_at_argument xs i) j ≡ Some t → (s : Shape) × (slice_get ss i ≡ Some s)
@@ -52,7 +52,7 @@ shape_at (s ∷ ss) [] i j t h at = no h
 shape_at (s ∷ ss) (x ∷ xs) zero j t h at = (s, refl)
 shape_at (s ∷ ss) (x ∷ xs) (suc i) j t h at = shape_at ss xs i j t (and_second (has_shape s x) _ h) at
 
--- a scalar stands where a scalar is asked for
+-- there is a scalar where one is asked for
 scalar_shape : (ss : List Shape) (xs : List Argument) (i : ℕ) (k : Kind) (t : Term)
     → have_shapes ss xs ≡ true → slice_get xs i ≡ Some (One (Scalar k t))
     → (j : Kind) × IsOfKind ss i j
@@ -73,7 +73,7 @@ alone : (t u : Term) (j : ℕ) → slice_get (t ∷ []) j ≡ Some u → t ≡ u
 alone t u zero e = cc
 alone t u (suc j) e = cc
 
--- what stands where a scalar is asked for stands there by itself
+-- where a scalar is asked for, the argument is a scalar by itself
 by_itself : (ss : List Shape) (xs : List Argument) (i j : ℕ) (k : Kind) (t : Term)
     → have_shapes ss xs ≡ true → IsOfKind ss i k → slice_get (terms_at_argument xs i) j ≡ Some t
     → (q : Kind) × (slice_get xs i ≡ Some (One (Scalar q t)))
@@ -90,7 +90,7 @@ by_itself (s ∷ ss) (x ∷ xs) zero j k t h is at =
     here (One (Array name q ts)) h at = no h
     here (ListOf ps) h at = no h
 
--- ---- the only open scalar stands at one place
+-- ---- the only open scalar is at one index
 
 module _ (K : Partial) (n : ℕ) (none : value_at K n ≡ None) (within : n < length K) (v : Value) where
   pub open_here : (t : Term) (ts : List Term) → t ≡ Var n → open_terms K (t ∷ ts) ≡ Var n ∷ []
@@ -101,7 +101,7 @@ module _ (K : Partial) (n : ℕ) (none : value_at K n ≡ None) (within : n < le
         | false ↦ λ closed e. no' (sym (ap is_none none) ∙ ap (is_open K) (sym is) ∙ closed)
       ] refl e
 
-  -- the first is closed where the open one stands later
+  -- the first is closed where the open one comes later
   open_later : (t : Term) (ts : List Term) (i : ℕ) → slice_get ts i ≡ Some (Var n)
       → open_terms K (t ∷ ts) ≡ Var n ∷ [] → open_terms K ts ≡ Var n ∷ []
   open_later t ts i at e =
@@ -162,7 +162,7 @@ module _ (K : Partial) (xs : List Argument) (r : Row) (s : Spot) (h : IsReady K 
 
   -- ---- where they don't
   --
-  -- Where they don't, and a value of the shape's kind passes the test exactly where the row holds
+  -- Where they don't, and a value of the kind asked for passes the test exactly where the row holds
   -- with it.
 
   module _ (z : Shape) (shape : slice_get r.shapes s.argument ≡ Some z) (test : Value → Bool)
@@ -196,7 +196,7 @@ module _ (K : Partial) (xs : List Argument) (r : Row) (s : Spot) (h : IsReady K 
         let is : kind_of w ≡ kind_in z = holds_kind within w f.holds in
         left w is f.within_limits (sym (test_is within w is) ∙ holds_given w f.holds)
 
-  -- ---- where the variable stands by itself in a result place
+  -- ---- where the variable, by itself, is an argument that may be filled
 
   module _ (k : Kind) (shape : IsOfKind r.shapes s.argument k) where
     scalar_test : s.variable < length K → (w : Value) → kind_of w ≡ k
@@ -218,7 +218,7 @@ module _ (K : Partial) (xs : List Argument) (r : Row) (s : Spot) (h : IsReady K 
         → IsLeft k (holds_with r K xs s.argument) o → IsOnlyValue K xs r s.variable o
     scalar_left place sums = is_left (ScalarOf k) shape (holds_with r K xs s.argument) scalar_test (result_of_place r.result place) sums
 
-  -- ---- where it stands in none
+  -- ---- where it is none
 
   not_placed : (within : s.variable < length K) (v : Value) (o : Result)
       → (IsPlaceOf o s.argument → (k : Kind) → IsOfKind r.shapes s.argument k → ⊥)

@@ -1,5 +1,5 @@
 -- Each value that a constraint's scalars have is of the kind that its row asks for, and so is the
--- one that fills its place: the scalars have the kinds that they are read with.
+-- one that it leaves to its result: the scalars have the kinds that they are read with.
 use Rattle.std.proofs.Common.{◌≡◌, ℕ, zero, suc, ◌<◌, true, false, cond, List, [], ◌∷◌, flat_map, length, Option, Some, None, IfSome, option_map, slice_get, refl, sym, ap, subst, ◌∙◌}
 use Rattle.std.specs.List.{AllByRecursion, list_all}
 use Rattle.std.specs.Option.{option_map_or}
@@ -47,7 +47,7 @@ module _ (m : Model) where
   terms_of_kind (ArrayOf k) (One (Array x j ts)) h fits = subst (λ i. AllByRecursion (TermFits m i) ts) (same_kind_is j k h) fits
   terms_of_kind (ArrayOf k) (ListOf ps) h fits = places_of_kind k ps h fits
 
-  -- where a variable stands, its kind is the one that is asked for
+  -- where a variable is, its kind is the one that is asked for
   kind_there : (ss : List Shape) (xs : List Argument) (i j n : ℕ) → have_shapes ss xs ≡ true
       → AllByRecursion (ArgumentFits m) xs → slice_get (terms_at_argument xs i) j ≡ Some (Var n)
       → (s : Shape) × (slice_get ss i ≡ Some s) × (kind_at m n ≡ Some (kind_in s))
@@ -92,9 +92,9 @@ module _ (m : Model) (K : Partial) (partial : IsPartial m K) where
   known_fits p None fits known = tt
   known_fits p (Some k) fits known = all_fit (known_row k).shapes p.arguments (row_shapes p (known_row k) (sym known)) fits
 
-  -- ---- the value that fills a place
+  -- ---- the value that a result gets
 
-  -- where it is told that a variable is open, it stands
+  -- where a variable is said to be open, it is there
   open_stands : (ts : List Term) (n : ℕ) → open_terms K ts ≡ Var n ∷ []
       → (j : ℕ) × (slice_get ts j ≡ Some (Var n))
   open_stands [] n e = cc
@@ -129,7 +129,7 @@ module _ (m : Model) (K : Partial) (partial : IsPartial m K) where
         let (k, kind) = at_place HasKind (flat_map terms_in p.arguments) j (Var n) (have_kinds r.shapes p.arguments (row_shapes p r row) fits) at in
         has_place m K n k partial kind
 
-    -- what fills its place has its kind
+    -- what a result gets has its kind
     pub filled_kind : (v : Value) → Fills K p.arguments r n v → kind_at m n ≡ Some (kind_of v)
     filled_kind v f =
         let shaped : have_shapes r.shapes p.arguments ≡ true = row_shapes p r row in

@@ -1,4 +1,4 @@
--- The scalars of an argument by their places, and which of them are open as more of them come.
+-- The scalars of an argument by their indices, and which of them are open as more of them come.
 use Rattle.std.proofs.Common.{◌≡◌, ℕ, zero, suc, ◌+◌, ◌<◌, ◌≤◌, true, false, cond, List, [], ◌∷◌, ◌++◌, length, take, drop, get_or, Option, Some, None, option_map, IfSome, MatchOption, slice_get, is_none, Bor, refl, sym, ap, subst, ◌∙◌, ◌⊎◌, inl, inr, arith}
 use Rattle.std.proofs.lemmas.Option.{slice_get_past, slice_get_read}
 use Rattle.fz_meaning.specs.declared.term.Term.{Term}
@@ -46,7 +46,7 @@ module _ (K : Partial) where
       let nil : xs ≡ [] = (neither xs ys rest).0 in
       inr ((λ i. head i ∷ nil i), (neither xs ys rest).1)
 
-  -- in more scalars behind
+  -- in more scalars after these
   at_in_front : {A : Type 0} (ts us : List A) (i : ℕ) (t : A) → slice_get ts i ≡ Some t
       → slice_get (ts ++ us) i ≡ Some t
   at_in_front [] us i t e = cc
@@ -99,7 +99,7 @@ module _ (K : Partial) where
         → AreOpen K n (t ∷ []) (Target i) → AreOpen K n (ts ++ t ∷ []) (Target k)
     then_target ts t k i e h g = (open_append ts (t ∷ []) ∙ (λ j. h j ++ g.0 j), at_end ts t k e ∙ ap Some (alone t i g.1))
 
--- ---- places within a list
+-- ---- indices within a list
 
 pub nothing_at : {A : Type 0} (ts : List A) (k : ℕ) → k < length ts → None ≡ slice_get ts k → ⊥
 nothing_at [] k h e = absurd (omega arith)

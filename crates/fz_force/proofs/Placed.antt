@@ -1,4 +1,4 @@
--- From a constraint as it is kept to what its row leaves, and from there to what its point forces.
+-- From a stored constraint to what its row leaves, and from there to what its point forces.
 use Rattle.std.proofs.Common.{◌≡◌, ℕ, true, false, List, [], ◌∷◌, map, flat_map, Option, Some, None, IsSomeAnd, IfSome, IsFalse, IsTrue, slice_get, is_some, refl, sym, ap, subst, ◌∙◌}
 use Rattle.std.specs.List.{AllByRecursion, list_all}
 use Rattle.std.specs.Option.{option_map_or}
@@ -36,7 +36,7 @@ module _ (c : ConstraintParts) where
   abbrev view : Argument → meaning.Argument
   view = argument_view c.variables.now c.arrays.now c.store.now
 
-  -- ---- no array stands in a list of a constraint that has the shapes
+  -- ---- no array is in a list of a constraint whose arguments are of the kinds asked for
 
   no_term : (k : Kind) (o : Option Array)
       → is_term_of k (option_map_or array_view o no_array) ≡ false
@@ -118,7 +118,7 @@ module _ (m : Model) (K : Partial) (fits : IsPartial m K) (k : ℕ) (p : Posted)
     then_holds = intro (λ q. IsSomeAnd (argument_values (give K n w) p.arguments) (λ vs. IsTrue (row_holds q vs))) (row_of p) r row f.holds;
   }
 
-  -- the variable that is given a value is the target
+  -- the variable that is given a value is the defined one
   at_target : (j : ℕ) (w : Value) → Gives m K (ConstraintPoint k p) j w
       → Gives m K (ConstraintPoint k p) n w
   at_target j w g = let some : Some j ≡ Some n = sym g.target.0 ∙ target in let same : j ≡ n = cc in subst (λ i. Gives m K (ConstraintPoint k p) i w) same g

@@ -1,4 +1,4 @@
--- Lists of numbers: sums with one element changed, elements by their places, the greatest and the
+-- Lists of numbers: sums with one element changed, elements by their indices, the greatest and the
 -- least.
 use Rattle.std.proofs.Common.{◌≡◌, ℕ, suc, zero, ℤ, pos, negsuc, ◌+ℤ◌, ◌*ℤ◌, ◌-ℤ◌, neg_ℤ, Bool, true, false, ◌&&◌, List, [], ◌∷◌, Option, Some, None, sym, ap, ◌∙◌, slice_get, slice_set, arith, IfSome, IfNone, FitsSigned, w64}
 use Rattle.std.proofs.lemmas.Int.{ints}

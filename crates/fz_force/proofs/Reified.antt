@@ -1,4 +1,4 @@
--- The Boolean that a reified form leaves: whether the row before it holds.
+-- The Boolean that a reified form leaves: whether the base row holds.
 use Rattle.std.proofs.Common.{◌≡◌, ℕ, suc, Bool, true, false, List, [], ◌∷◌, ◌++◌, length, Option, Some, Result, IfOk, refl, sym, ap, subst, subst₂, ◌∙◌, slice_get, slice_set}
 use Rattle.std.specs.Prelude.{IsSome}
 use Rattle.std.specs.List.{list_any}
@@ -52,7 +52,7 @@ module _ (K : Partial) (xs : List Argument) where
       → IsLeft BoolKind (holds_with (reified r) K xs i) (Some (Truth t))
   reified_row r i t here e = rw here (refl, tt, reified_with r t ∙ ap (λ b. t =ᴮ b) (sym e) ∙ bool_itself t)
 
--- ---- what a row comes to
+-- ---- the outcome of a row
 
 told : (leaves holds t : Bool) → sum_outcome leaves holds ≡ TruthOutcome t
     → (leaves ≡ false) × (t ≡ holds)

@@ -1,5 +1,5 @@
--- Which rows leave a number, a Boolean or a set: those of which a scalar of that kind stands at a
--- result place.
+-- Which rows leave a number, a Boolean or a set: those where an argument that may be filled is a
+-- scalar of that kind.
 use Rattle.std.proofs.Common.{◌≡◌, ℕ, suc, zero, Bool, true, false, not, ◌||◌, List, [], ◌∷◌, slice_get, bytes_eq, Contains, refl, sym, ap, ◌∙◌, ◌⊎◌, inl, inr, arith}
 use Rattle.std.specs.List.{list_all, list_any}
 use Rattle.std.specs.Option.{option_map_or}
@@ -38,7 +38,7 @@ is_scalar_of : Kind → Shape → Bool
 is_scalar_of k (ScalarOf j) = same_kind j k
 is_scalar_of k (ArrayOf j) = false
 
--- a scalar of the kind stands at a result place
+-- an argument that may be filled is a scalar of the kind
 fills : Kind → Row → Bool
 fills k r = list_any (λ i. option_map_or (is_scalar_of k) (slice_get r.shapes i) false) (places r.result)
 
@@ -125,7 +125,7 @@ pub leaves_set : (b : Builtin) (i : ℕ) → IsPlaceOf (row_at b).result i
     → IsOfKind (row_at b).shapes i SetKind → IsOneOf b set_rows
 leaves_set = leaves SetKind set_rows all_set_rows
 
--- no row that adds up in 128 bits has a result place
+-- no row that adds up in 128 bits has such an argument
 is_nil : List (ℕ × ℕ) → Bool
 is_nil [] = true
 is_nil (p ∷ ps) = false

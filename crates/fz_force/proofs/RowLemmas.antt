@@ -1,5 +1,5 @@
--- What is left of plain values is what is left of each row: one lemma for each builtin with a
--- result place.
+-- What is left of plain values is what is left of each row: one lemma for each builtin that has a
+-- result.
 use mathlib.Core.Bool.{beq}
 use Rattle.std.proofs.Common.{◌≡◌, ℕ, suc, zero, ℤ, pos, ◌+ℤ◌, ◌*ℤ◌, Bool, true, false, not, ◌&&◌, ◌||◌, List, [], ◌∷◌, map, Option, Some, Result, Ok, Err, IfOk, refl, sym, ap, subst, subst₂, ◌∙◌, option_map, slice_get, slice_set, int_le, int_div, int_rem, unsigned_abs, Contains, arith, FitsSigned, w64, to_z, of_z, ◌≤◌, ◌-◌, ◌⊎◌, inl, inr}
 use Rattle.std.proofs.lemmas.Int.{to_z-of_z}
@@ -343,7 +343,7 @@ pub from_row : (K : Partial) (xs : List Argument) (i : ℕ) (k : Kind) (o : Opti
     → (IsPlaceOf (row_at c).result i → IsLeft k (holds_with (row_at c) K xs i) o) → IsLeft k (holds_with (row_at b) K xs i) o
 from_row K xs i k o b c is place h = subst (λ d. IsLeft k (holds_with (row_at d) K xs i) o) (sym is) (h (subst (λ d. IsPlaceOf (row_at d).result i) is place))
 
--- the place of the other of two arguments
+-- the index of the other of two arguments
 within_two : (i : ℕ) → (i ≡ 0) ⊎ (i ≡ 1) → i ≤ 1
 within_two i (inl e) = omega arith
 within_two i (inr e) = omega arith

@@ -1,4 +1,4 @@
--- The scalars of a constraint's arguments, as a store keeps them.
+-- The scalars of a constraint's arguments, as a store has them.
 use Rattle.std.proofs.Common.{◌≡◌, ℕ, zero, suc, true, List, [], ◌∷◌, ◌++◌, length, map, flat_map, Some, option_map, slice_get, refl, sym, ap, ◌∙◌}
 use Rattle.std.specs.List.{list_all}
 use Rattle.std.specs.Option.{option_map_or}

@@ -58,7 +58,7 @@ module _ {A : Type 0} (K : Partial) (f : A → List Term) (n : ℕ) where
     stands = ap (λ o. slice_get (option_map_or f o []) k) (at_end K n bs a i count) ∙ g.1;
   }
 
-  -- the arguments before, and what comes behind, with others open among them
+  -- the arguments before, and those after, with others open among them
   others : (bs cs : List A) (a : A) → AreOpen K n (flat_map f bs ++ f a) More
       → IsOnlyOpen K f (bs ++ a ∷ cs) n None
   others bs cs a h e =

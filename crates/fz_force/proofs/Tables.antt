@@ -33,7 +33,7 @@ found_all q t (y ∷ ys) x h e =
 of_row : (q : Row → Bool) → list_all q rows ≡ true → (r : Row) → IsRow r → q r ≡ true
 of_row q h r (p, e) = found_all q (λ r. bytes_eq r.name p.name && fits r p.arguments) rows r h e
 
--- ---- a scalar stands at each place that is filled
+-- ---- an argument that may be filled is a scalar
 
 is_scalar : Shape → Bool
 is_scalar (ScalarOf k) = true

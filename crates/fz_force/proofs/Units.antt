@@ -102,7 +102,7 @@ module _ (K : Partial) (xs : List Argument) (r : Row) (s : Spot) (h : IsReady K 
   second_slots : slots_at xs 1 ≡ map Some (terms_at_argument xs 1)
   second_slots = slots_terms r.shapes xs 1 IntKind h.shaped (ap (λ ss. slice_get ss 1) shapes)
 
-  -- where it is a result, it stands in the second array, with such a coefficient
+  -- where it is a result, it is in the second array, with such a coefficient
   pub elsewhere : s.variable < length K → Value → IsResult K xs s.variable UnitTerm
       → (s.argument ≡ 1) × HasUnit K xs s.place
   elsewhere within v (i, at, u, at0, unit) =

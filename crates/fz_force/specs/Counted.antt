@@ -1,4 +1,4 @@
--- What the rows leave that count, or give an index (private functions only).
+-- What the rows leave that count or give an index (private functions only).
 use Rattle.std.specs.Prelude.{◌≡◌, ⊤, ℕ, ℤ, Bool, false, List, [], ◌∷◌}
 use Rattle.fz_base.specs.declared.value.Value.TheVariants.{Int}
 use Rattle.fz_meaning.specs.Values.{◌=ℤ◌}

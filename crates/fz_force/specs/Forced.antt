@@ -1,5 +1,5 @@
--- What a point forces. `IsOnlyNumber` stands in the contract of `only_number`, and that of `forced`
--- speaks of `Gives` alone; the rest is for private functions.
+-- What a point forces. The contract of `only_number` cites `IsOnlyNumber`, and that of `forced`
+-- cites `Gives` alone; the rest is for private functions.
 use Rattle.std.specs.Prelude.{◌≡◌, ℕ, ℤ, ◌<◌, ◌↔◌, true, false, slice_get, List, [], ◌∷◌, length, flat_map, Option, Some, None, IsTrue, IsSomeAnd}
 use Rattle.fz_base.specs.declared.value.Value.{Value}
 use Rattle.fz_meaning.specs.Values.{kind_of}
@@ -32,8 +32,9 @@ IsFitting m n v None = kind_at m n ≡ Some (kind_of v) → ⊥
 abbrev pub IsRow : Row → Type 0
 IsRow r = (p : Posted) × (row_of p ≡ Some r)
 
--- With the value for the variable the row holds: the variable stands in a result place and is the
--- only open scalar, no sum that is needed leaves 128 bits, and the value is within the limits.
+-- With this value of the variable the row holds: the variable is in an argument that may be filled
+-- and is the only open scalar, no sum that is needed leaves 128 bits, and the value is within the
+-- limits.
 pub record Fills (K : Partial) (xs : List Argument) (r : Row) (n : ℕ) (v : Value) : Type 0 where
   pub only_open : open_terms K (flat_map terms_in xs) ≡ Var n ∷ []
   pub sums_fit : sums_leave K xs r ≡ false
@@ -41,15 +42,15 @@ pub record Fills (K : Partial) (xs : List Argument) (r : Row) (n : ℕ) (v : Val
   pub within_limits : WithinLimits v
   pub holds : IsSomeAnd (argument_values (give K n v) xs) (λ vs. IsTrue (row_holds r vs))
 
--- the variable of the spot is the only open scalar and stands there, and the values of the others
--- are of the kinds that the row asks for
+-- the variable of the spot is there and is the only open scalar, and the values of the others are
+-- of the kinds that the row asks for
 pub record IsReady (K : Partial) (xs : List Argument) (r : Row) (s : Spot) : Type 0 where
   pub shaped : have_shapes r.shapes xs ≡ true
   pub only_open : open_terms K (flat_map terms_in xs) ≡ Var s.variable ∷ []
   pub stands : slice_get (terms_at_argument xs s.argument) s.place ≡ Some (Var s.variable)
   pub kinds : each_fits K r.shapes xs ≡ true
 
--- an answer fills the place of the only open scalar; no answer says that no value does
+-- an answer is a value for the only open scalar; no answer says that no value does
 abbrev pub IsOnlyValue : Partial → List Argument → Row → ℕ → Option Value → Type 0
 IsOnlyValue K xs r n (Some v) =
     (open_terms K (flat_map terms_in xs) ≡ Var n ∷ []) × (n < length K → Fills K xs r n v)

@@ -25,7 +25,7 @@ abbrev pub IsLeft : Kind → (Value → Bool) → Option Value → Type 0
 IsLeft k test (Some v) = (kind_of v ≡ k) × WithinLimits v × IsTrue (test v)
 IsLeft k test None = (v : Value) → kind_of v ≡ k → WithinLimits v → IsTrue (test v) → ⊥
 
--- whether the row holds of the arguments' values, with the value v for the argument at place i
+-- whether the row holds of the arguments' values, with the value v for the argument at index i
 abbrev pub holds_with : Row → Partial → List Argument → ℕ → Value → Bool
 holds_with r K xs i v = row_holds r (slice_set (given_values K r.shapes xs) i (OneValue v))
 
@@ -35,17 +35,17 @@ holds_with_element r K xs i v =
     row_holds r (slice_set (given_values K r.shapes xs) 1
     (ManyValues (slice_set (map Int (ints_at K xs 1)) i v)))
 
--- `defines_var` may fill the place
+-- `defines_var` may name the argument at this index
 abbrev pub IsPlaceOf : Result → ℕ → Type 0
 IsPlaceOf NoResult i = ⊥
 IsPlaceOf (Places is) i = Contains is i
 IsPlaceOf UnitTerm i = ⊥
 
--- a scalar of the kind stands at the place
+-- the argument at this index is a scalar of the kind
 abbrev pub IsOfKind : List Shape → ℕ → Kind → Type 0
 IsOfKind shapes i k = slice_get shapes i ≡ Some (ScalarOf k)
 
--- A sum of the products of the first two arguments leaves 128 bits on the way. An element without a
+-- A partial sum of the products of the first two arguments leaves 128 bits. An element without a
 -- value is read as 0, so it adds nothing.
 abbrev pub products_leave : Partial → List Argument → Bool
 products_leave K xs = read_leave K xs (0, 1)

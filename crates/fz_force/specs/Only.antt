@@ -1,4 +1,4 @@
--- The only scalar without a value among a constraint's arguments, and where it stands (private
+-- The only scalar without a value among a constraint's arguments, and where it is (private
 -- functions only).
 use Rattle.std.specs.Prelude.{◌≡◌, ℕ, true, List, [], ◌∷◌, Option, Some, None, flat_map, slice_get, ⊤}
 use Rattle.std.specs.List.{list_all}
@@ -18,7 +18,7 @@ use Rattle.fz_force.specs.declared.only.Spot.{Spot}
 
 -- ---- the scalars of an argument
 
--- no array stands in a list, as in each constraint that fits a row
+-- no array is in a list, as in each constraint that fits a row
 abbrev pub IsFlat : ConstraintParts → Argument → Type 0
 IsFlat c (arguments.One s) = ⊤
 IsFlat c (arguments.List g) = list_all is_scalar (segment c.store.now.slots.items g) ≡ true
@@ -28,14 +28,14 @@ terms_of c a = terms_in (argument_view c.variables.now c.arrays.now c.store.now 
 
 -- ---- which of them have no value
 
--- none; the variable alone, once, at a place counted from 0; or others
+-- none; the variable alone, once, at an index counted from 0; or others
 abbrev pub AreOpen : Partial → ℕ → List Term → Open → Type 0
 AreOpen K n ts Nothing = open_terms K ts ≡ []
 AreOpen K n ts (Target i) = (open_terms K ts ≡ Var n ∷ []) × (slice_get ts i ≡ Some (Var n))
 AreOpen K n ts More = (open_terms K ts ≡ [] → ⊥) × (open_terms K ts ≡ Var n ∷ [] → ⊥)
 
--- f tells the scalars of an argument; of those of all arguments the variable alone is open, once,
--- at a place of an argument
+-- f gives the scalars of an argument; of those of all arguments the variable alone is open, once,
+-- at an index of an argument
 pub record IsOnlyAt {A : Type 0} (K : Partial) (f : A → List Term) (as' : List A) (n : ℕ)
     (s : Spot) : Type 0 where
   pub variable : s.variable ≡ n

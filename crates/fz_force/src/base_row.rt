@@ -1,4 +1,4 @@
-//! What base rows leave, by the kind of what they leave.
+//! What base rows leave, by the kind of the result.
 
 ghost use Rattle.std.specs.Prelude.{◌≡◌, IfOk, option_map};
 ghost use Rattle.fz_base.specs.declared.value.Value.TheVariants.{Int, Bool as Truth, Set};
@@ -21,7 +21,8 @@ use fz_eval::fz_kernel::numbers::number_of_truth;
 use fz_meaning::Builtin;
 use std::alloc::Global;
 
-/// The number that a row which doesn't count leaves where a number stands.
+/// The number that a row leaves to a result that is an integer, where it neither counts nor gives
+/// an index.
 pub(crate) fn left_number(
     builtin: Builtin,
     place: usize,
@@ -53,7 +54,7 @@ pub(crate) fn left_number(
     }
 }
 
-/// The Boolean that a row leaves where a Boolean stands.
+/// The Boolean that a row leaves to a result that is a Boolean.
 pub(crate) fn left_truth(
     builtin: Builtin,
     place: usize,
@@ -79,7 +80,7 @@ pub(crate) fn left_truth(
     }
 }
 
-/// The set that a row leaves where a set stands. It refuses only where memory runs out.
+/// The set that a row leaves to a result that is a set. It refuses only where memory runs out.
 pub(crate) fn left_set(
     alloc: Global,
     builtin: Builtin,

@@ -1,4 +1,4 @@
-//! What the rows leave that count, or give an index.
+//! What the rows leave that count or give an index.
 
 ghost use Rattle.std.specs.Prelude.{◌≡◌, IfOk, int_le, length, pos};
 ghost use Rattle.fz_meaning.specs.Values.{◌=ℤ◌};
@@ -13,14 +13,14 @@ use fz_eval::fz_globals::counts::{count_in, count_of, number_of_values};
 use fz_meaning::Builtin;
 use std::alloc::{AllocError, Global};
 
-/// What such a row leaves to its result.
+/// What one of these rows leaves to its result.
 #[derive(Clone, Copy)]
 pub(crate) enum Tally {
     /// The one number with which it holds.
     Exactly(i128),
     /// It holds with no number.
     Nothing,
-    /// It is another row.
+    /// It is none of these rows.
     Other,
 }
 

@@ -1,7 +1,10 @@
-//! The forced step of a point: the one value that a point leaves to a variable, where it leaves
-//! one. A domain of one number gives it; a definition gives either side's value to the other; a
-//! constraint gives its target the value that its row leaves: the one value of the argument's kind,
-//! an integer of 64 bits among them, with which the row holds.
+//! The forced step of a point (`forced`): the one value that the point leaves to the only variable
+//! in it without a value. A domain of one number gives that number; a definition gives the value of
+//! either side to the other; a constraint gives its defined variable the value that its row leaves:
+//! the one value of the argument's kind, an integer of 64 bits among them, with which the row
+//! holds. An internal crate of `fz_model`.
+//!
+//! Its worked cases are in `fz_check_cases` (`points.rt`).
 #![tactic(auto)]
 
 mod base_row;

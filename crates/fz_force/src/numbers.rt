@@ -1,6 +1,6 @@
-//! The integers that rows leave, of their other arguments' values. Each of these functions gives
-//! the one number of 64 bits with which its row holds; where there is none, as where the exact
-//! result has more bits, it gives none.
+//! The integers that rows leave, by the values of their other arguments. Each of these functions
+//! gives the one number of 64 bits with which its row holds, and none where there is no such
+//! number, as where the exact result has more bits.
 
 ghost use Rattle.std.specs.Prelude.{pos, ◌+ℤ◌, ◌*ℤ◌, ◌&&◌, not, int_div, int_rem, unsigned_abs};
 ghost use Rattle.std.specs.Int.{int_max, int_min};
@@ -39,22 +39,22 @@ pub(crate) fn greatest(a: i64, b: i64) -> Option<i64>
     Some(a.max(b))
 }
 
-/// What `int_abs` leaves: none of the least number.
+/// What `int_abs` leaves: none where the argument is -2^63.
 pub(crate) fn absolute(a: i64) -> Option<i64>
     ensures { IsLeftNumber (λ b. b =ℤ pos (unsigned_abs a)) result }
 {
     a.checked_abs()
 }
 
-/// What `int_div` leaves: none where the divisor is 0, nor of the least number by -1.
+/// What `int_div` leaves: none where the divisor is 0, or where -2^63 is divided by -1.
 pub(crate) fn quotient(a: i64, b: i64) -> Option<i64>
     ensures { IsLeftNumber (λ c. not (b =ℤ pos 0) && (c =ℤ int_div a b)) result }
 {
     a.checked_div(b)
 }
 
-/// What `int_mod` leaves: none where the divisor is 0. The remainder of the least number by -1 is
-/// 0, though the quotient has more bits.
+/// What `int_mod` leaves: none where the divisor is 0. The remainder of -2^63 by -1 is 0, though
+/// the quotient has more bits.
 pub(crate) fn remainder(a: i64, b: i64) -> Option<i64>
     ensures { IsLeftNumber (λ c. not (b =ℤ pos 0) && (c =ℤ int_rem a b)) result }
 {
@@ -88,16 +88,16 @@ pub(crate) fn truth_of(number: i64) -> Option<bool>
     }
 }
 
-/// The number itself, if it has 64 bits.
+/// The number itself, if it fits in 64 bits.
 pub(crate) fn narrow(exact: i128) -> Option<i64>
     ensures { IsLeftNumber (λ n. n =ℤ exact) result }
 {
     i64::try_from(exact).ok()
 }
 
-/// The number that makes up the sum: times the coefficient, which is 1 or -1, and added to the
-/// others it gives the wanted sum. The difference may have more than 128 bits; then no number of 64
-/// bits makes up the sum.
+/// The number that completes a sum: times its coefficient, which is 1 or -1, and added to the other
+/// products it gives the wanted sum. The difference may have more than 128 bits; then no number of
+/// 64 bits completes the sum.
 pub(crate) fn made_up(others: i128, coefficient: i64, wanted: i64) -> Option<i64>
     requires { IsUnit coefficient }
     ensures { IsLeftNumber (λ n. (others +ℤ (coefficient *ℤ n)) =ℤ wanted) result }

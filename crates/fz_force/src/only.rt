@@ -12,7 +12,8 @@ ghost use Rattle.fz_force.specs.declared.only.Open.TheVariants.{Nothing};
 
 use fz_data::{Argument, ConstraintParts, Partial, Slot, item_at, part};
 
-/// Which scalars have no value: none; the target alone, once, at a place counted from 0; or others.
+/// Which scalars have no value: none; the defined variable alone, once, at an index counted from 0;
+/// or others.
 #[derive(Clone, Copy)]
 pub(crate) enum Open {
     Nothing,
@@ -28,7 +29,8 @@ impl Open {
     }
 }
 
-/// Where a variable stands: its place among the scalars of an argument, both counted from 0.
+/// Where a variable is among a constraint's arguments: the argument's index, and the index among
+/// the scalars of that argument, both counted from 0.
 #[derive(Clone, Copy)]
 pub(crate) struct Spot {
     pub(crate) variable: usize,
@@ -36,7 +38,7 @@ pub(crate) struct Spot {
     pub(crate) place: usize,
 }
 
-/// Whether a variable has no value: the target, or another.
+/// Whether a variable has no value, and whether it is the defined variable then.
 #[inline(always)]
 fn open_variable(number: usize, target: usize, partial: &Partial) -> Open
     ensures { AreOpen partial.now target (Var number ∷ []) result }
@@ -126,7 +128,7 @@ fn open_in(
     }
 }
 
-/// Where the target stands, if it is the only scalar without a value, and stands there alone.
+/// Where the defined variable is, if it is the only scalar without a value and occurs once.
 pub(crate) fn only_open(
     arguments: &[Argument],
     parts: &ConstraintParts<'_, '_>,

@@ -22,8 +22,8 @@ use fz_eval::fz_arguments::ArgumentView;
 use fz_meaning::{Filled, Known};
 use std::alloc::{AllocError, Global};
 
-/// What a constraint forces: the value that its row leaves to its target, where that stands in a
-/// result place and is the only scalar without a value.
+/// What a constraint forces: the value that its row leaves to its defined variable, where that is
+/// in an argument that the row lets `defines_var` name and is the only scalar without a value.
 #[inline(always)]
 pub(crate) fn by_row(
     alloc: Global,
@@ -50,8 +50,8 @@ pub(crate) fn by_row(
     }
 }
 
-// The value of the target with which the constraint holds, where it is the only scalar without one
-// and stands in a result place.
+// The value of the defined variable with which the constraint holds, where it is the only scalar
+// without one and is in an argument that may be filled.
 #[inline(always)]
 fn only_value(
     alloc: Global,
@@ -75,7 +75,7 @@ fn only_value(
     value_at(alloc, known, spot, &ArgumentView::new(parts, partial))
 }
 
-// The value of the variable at the spot with which the row holds.
+// The value of the variable there with which the row holds.
 #[inline(always)]
 fn value_at(
     alloc: Global,
@@ -129,7 +129,7 @@ fn is_unit_term(filled: Filled) -> bool
     matches!(filled, Filled::UnitTerm)
 }
 
-// Whether the argument at a place may be filled.
+// Whether the argument at an index may be filled.
 fn is_place(filled: Filled, place: usize) -> bool
     ensures { IsTrue result ↔ IsPlaceOf (result_of filled) place }
 {

@@ -16,7 +16,7 @@ use fz_meaning::{Domain, Kind, Term};
 use std::alloc::{AllocError, Global};
 
 /// The forced step of the point of a number: the variable's number and the value that the point
-/// gives it. It gives none where the point gives nothing, and refuses only where memory runs out.
+/// gives it; none where the point gives nothing. It refuses only where memory runs out.
 #[inline(always)]
 pub fn forced(
     alloc: Global,

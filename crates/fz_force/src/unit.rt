@@ -1,4 +1,4 @@
-//! The element of a sum that the others leave.
+//! What `int_lin_eq` leaves to one element of its sum.
 
 ghost use Rattle.std.specs.Prelude.{◌≡◌, None, IsFalse, IsTrue, option_map};
 ghost use Rattle.fz_base.specs.declared.value.Value.TheVariants.{Int};
@@ -12,9 +12,9 @@ use crate::numbers::made_up;
 use fz_eval::fz_arguments::ArgumentView;
 use fz_eval::fz_kernel::arrays::sum_of_products;
 
-/// The number that `int_lin_eq` leaves to an element of its second array that has no value, by its
-/// place counted from 0, where its coefficient is 1 or -1. None where a sum of the other products
-/// leaves 128 bits on the way. It takes no memory.
+/// The number that `int_lin_eq` leaves to the element of its second array at an index, counted from
+/// 0, which has no value and the coefficient 1 or -1. None where the other products have a partial
+/// sum that leaves 128 bits. It takes no memory.
 pub(crate) fn unit_value(view: &ArgumentView<'_, '_>, index: usize) -> Option<i64>
     requires unit { HasUnit (assigned view.now) (arguments_of view.now) index }
     requires open { IsReadAsNone (assigned view.now) (arguments_of view.now) index }

@@ -19,9 +19,9 @@ use fz_eval::{Outcome, of_builtin};
 use fz_meaning::{Builtin, Form, Kind, Known, Shape};
 use std::alloc::{AllocError, Global};
 
-/// The value that a row leaves to the argument at a place that `defines_var` may fill, of the other
-/// arguments' values. None where a sum of the row leaves 128 bits on the way. It refuses only where
-/// memory runs out.
+/// The value that a row leaves to the argument at an index that `defines_var` may name, by the
+/// values of the other arguments. None where a partial sum of the row leaves 128 bits. It refuses
+/// only where memory runs out.
 pub(crate) fn left_value(
     alloc: Global,
     known: Known,
@@ -43,7 +43,7 @@ pub(crate) fn left_value(
     }
 }
 
-// What a form with `_reif` leaves: whether the row before it holds.
+// What a reified row leaves to its control variable: whether the base row holds.
 fn left_form(
     alloc: Global,
     builtin: Builtin,
@@ -90,7 +90,8 @@ fn left_base(
     }
 }
 
-// What a base row leaves where a number stands: what it counts, or what it reckons.
+// What a base row leaves to a result that is an integer: a count or an index, or a number that it
+// computes.
 fn left_int(
     alloc: Global,
     builtin: Builtin,
@@ -110,7 +111,7 @@ fn left_int(
     Ok(number.map(Value::Int))
 }
 
-// The kind of the scalar that stands at a place of a base row.
+// The kind of the scalar that is the argument of a base row at an index.
 fn kind_at(builtin: Builtin, place: usize) -> Option<Kind>
     ensures found { IfSome result (λ k. IsOfKind (row_at builtin).shapes place k) }
     ensures none { IfNone result ((k : Kind) → IsOfKind (row_at builtin).shapes place k → ⊥) }

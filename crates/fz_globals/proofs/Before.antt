@@ -1,4 +1,4 @@
--- The order of a dictionary, where one of two lists is used up.
+-- Lexicographic order, where one of two lists is used up.
 use Rattle.std.proofs.Common.{◌≡◌, ℕ, ◌<◌, ◌≤◌, Bool, true, false, ltb, ◌⊎◌, inl, inr, List, [], ◌∷◌, drop, length, refl, sym, ap, ◌∙◌, le-ltb, lt-ltb, arith}
 use Rattle.std.proofs.lemmas.Bool.{cases_lt}
 use Rattle.std.proofs.lemmas.List.{length-drop}

@@ -1,6 +1,6 @@
--- Numbers that tell in which of the sets their indices are. Where each index is in its number's
--- set, and the sets have no more elements than there are numbers, each set has just the indices of
--- its numbers.
+-- Channelling: each number is the index of the set that has the number's own index. Where each
+-- index is in its number's set, and the sets have no more elements than there are numbers, each set
+-- has just the indices of its numbers.
 use Rattle.std.proofs.Common.{◌≡◌, ℕ, suc, zero, ◌+◌, ◌-◌, ◌<◌, ◌≤◌, ℤ, pos, negsuc, ◌+ℤ◌, ◌-ℤ◌, ◌<ℤ◌, Bool, true, false, not, cond, ◌&&◌, ◌||◌, inl, inr, if◌then◌else◌, List, [], ◌∷◌, drop, length, nat_eq, Some, None, slice_get, refl, sym, ap, subst, ◌∙◌, arith}
 use Rattle.std.specs.List.{list_all, list_any}
 use Rattle.std.specs.Option.{option_map_or}

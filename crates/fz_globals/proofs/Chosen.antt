@@ -1,4 +1,4 @@
--- The sum of the numbers that stand with what passes a test.
+-- The sum of those numbers whose companion passes a test.
 use Rattle.std.proofs.Common.{◌≡◌, ℕ, ◌+◌, ◌*◌, ◌≤◌, ℤ, pos, ◌+ℤ◌, neg_ℤ, ◌≤ℤ◌, Bool, true, false, cond, List, ◌∷◌, drop, length, map, filter, FitsSigned, w64, sym, ap, ◌∙◌, arith}
 use Rattle.std.proofs.lemmas.Int.{ints}
 use Rattle.std.proofs.lemmas.List.{drop_all}

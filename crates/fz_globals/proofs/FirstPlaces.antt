@@ -1,5 +1,5 @@
--- The first place of a number in a list, by the keys of the list in order; and that one number
--- comes before another, by their first places.
+-- The first index of a number in a list, by the keys of the list in order; and that one number
+-- comes before another, by their first indices.
 use Rattle.std.proofs.Common.{◌≡◌, ℕ, suc, zero, ◌+◌, ◌<◌, ◌≤◌, ℤ, pos, negsuc, ◌+ℤ◌, ◌-ℤ◌, ◌≤ℤ◌, ◌<ℤ◌, true, false, not, ◌&&◌, ◌||◌, inl, inr, if◌then◌else◌, List, [], ◌∷◌, ◌++◌, drop, length, get_or, int_lt, Option, option_map, Some, None, IfSome, IfNone, slice_get, Contains, refl, sym, ap, subst, ◌∙◌, arith, append_assoc}
 use Rattle.std.specs.Ordering.{int_cmp, is_lt}
 use Rattle.std.specs.Cmp.{int_cmp_total}
@@ -67,7 +67,7 @@ module _ (xs ks : List ℤ) (keys : AreKeys xs ks) where
       let inside : there.0 < length xs = slice_get_within xs there.0 one.0 one.1 in
       (there.0, one.0, omega (arith, keys.short), one.1, one.2 ∙ ap (key one.0) place)
 
--- ---- the first place
+-- ---- the first index
 
 first_there : (o v : ℤ) (xs : List ℤ) (k : ℕ) → slice_get xs k ≡ Some v
     → ((q : ℕ) → q < k → slice_get xs q ≡ Some v → ⊥) → index_from o xs v ≡ Some (o +ℤ pos k)
@@ -94,7 +94,7 @@ place_between v z q low high = at (z -ℤ key v 0) refl
     at (pos p) is = (p, omega (arith, ints), omega (arith, ints))
     at (negsuc p) is = absurd (omega (arith, ints))
 
--- where the keys from a place on, and only those, are those of the number or above
+-- where the keys from an index on, and only those, are those of the number or above
 module _ (xs ks : List ℤ) (keys : AreKeys xs ks) (sorted : IsSorted int_cmp ks) (v : ℤ) (i : ℕ) (below : (k : ℕ) → k < i → get_or ks k (pos 0) <ℤ key v 0) where
   not_before : (q j : ℕ) → slice_get ks j ≡ Some (key v q) → i ≤ j
   not_before q j at =
@@ -173,7 +173,7 @@ later_than o i h = grind (arith, ints)
 not_sooner : (o i : ℤ) → o ≤ℤ i → int_lt i o ≡ false
 not_sooner o i h = grind (arith, ints)
 
--- one number comes before another as their first places do
+-- one number comes before another as their first indices do
 pub precedes_is : (o s t : ℤ) (xs : List ℤ)
     → precedes s t xs ≡ comes_before (index_from o xs s) (index_from o xs t)
 precedes_is o s t [] = refl

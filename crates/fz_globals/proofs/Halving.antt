@@ -1,4 +1,4 @@
--- What halving finds among numbers in order.
+-- What binary search finds among numbers in order.
 use Rattle.std.proofs.Common.{◌≡◌, ℕ, suc, zero, ◌+◌, ◌<◌, ◌≤◌, ℤ, ◌≤ℤ◌, int_lt, int_le, Bool, true, false, ◌⊎◌, inl, inr, List, [], ◌∷◌, length, filter, get_or, Result, Ok, Err, is_ok, IsSorted, int_cmp, is_eq, is_lt, sym, ap, ◌∙◌, refl, arith}
 use Rattle.std.specs.Cmp.{int_cmp_total}
 use Rattle.std.specs.List.Sorted.{IsPartitionedBy, IsPartitionPoint, IsBinarySearchResult, IsSearchInRange}
@@ -11,7 +11,7 @@ use Rattle.fz_meaning.specs.Values.{◌=ℤ◌}
 use Rattle.fz_meaning.specs.Builtins.{is_among}
 use Rattle.fz_globals.proofs.Each.{filter_yes, filter_no}
 
--- each number is at most those behind it
+-- each number is at most the later ones
 abbrev pub Ascends : List ℤ → Type 0
 Ascends xs = (i j : ℕ) (d : ℤ) → i ≤ j → j < length xs → get_or xs i d ≤ℤ get_or xs j d
 
@@ -19,7 +19,7 @@ pub ascends : (xs : List ℤ) → IsSorted int_cmp xs → Ascends xs
 ascends xs sorted i j d before inside =
     not_below (get_or xs j d) (get_or xs i d) (sorted_far (λ a b. is_lt (int_cmp a b)) (ranks_by int_cmp_total (λ a. a)) xs sorted i j d before inside)
 
--- ---- a place that parts the numbers
+-- ---- an index that parts the numbers
 
 less_below : (a b v : ℤ) → a ≤ℤ b → int_lt b v ≡ true → int_lt a v ≡ true
 less_below a b v up e = grind (arith, ints)

@@ -1,4 +1,4 @@
--- Two lists compared place by place, and the rows of a table one after another.
+-- Two lists compared index by index, and the rows of a table one after another.
 use Rattle.std.proofs.Common.{◌≡◌, ℕ, suc, zero, ◌+◌, ◌*◌, ◌%◌, ◌<◌, ◌≤◌, Bool, true, false, ◌&&◌, ◌||◌, List, [], ◌∷◌, drop, take, length, nat_eq, Some, slice_get, refl, sym, ap, ◌∙◌, arith}
 use Rattle.std.specs.List.{list_any}
 use Rattle.std.proofs.lemmas.List.{length-drop, drop-drop}
@@ -6,7 +6,7 @@ use Rattle.std.proofs.lemmas.Nat.{mod-mul-add, mul-add-lt, mul-le}
 use Rattle.fz_meaning.specs.Globals.{is_same_list, is_row_of, rows_of, rows_within}
 use Rattle.fz_kernel.proofs.Left.{next, none_left}
 
--- ---- places of a part of a list
+-- ---- indices of a part of a list
 
 pub in_front : {A : Type 0} (xs : List A) (n i : ℕ) (x : A) → i < n → slice_get xs i ≡ Some x
     → slice_get (take n xs) i ≡ Some x

@@ -1,4 +1,4 @@
--- Lists that lead from place to place: the elements as places, and where a list leads back.
+-- Lists of successors: the elements as positions, and inverse lists.
 use Rattle.std.proofs.Common.{◌≡◌, ℕ, suc, zero, ◌+◌, ◌≤◌, ℤ, pos, negsuc, ◌+ℤ◌, ◌-ℤ◌, Bool, true, false, not, ◌&&◌, ◌||◌, List, [], ◌∷◌, drop, length, Some, option_map, slice_get, refl, sym, ap, ◌∙◌, arith, add-one}
 use Rattle.std.specs.Option.{option_map_or}
 use Rattle.std.proofs.lemmas.Int.{ints}
@@ -12,7 +12,7 @@ use Rattle.fz_meaning.proofs.Values.{no, and_first, and_second}
 use Rattle.fz_kernel.proofs.Left.{next, none_left}
 use Rattle.fz_kernel.proofs.Passed.{element_is}
 
--- ---- elements as places
+-- ---- elements as positions
 
 abbrev pub as_place : ℤ → ℤ → ℤ
 as_place o x = (x -ℤ o) +ℤ pos 1
@@ -34,7 +34,7 @@ among_places : (o a : ℤ) (xs : List ℤ) → is_among (as_place o a) (as_place
 among_places o a [] = refl
 among_places o a (x ∷ xs) = λ k. sym (same_place o x a) k || among_places o a xs k
 
--- elements are as different as their places
+-- elements are as different as their positions
 pub different_places : (o : ℤ) (xs : List ℤ) → all_different xs ≡ all_different (as_places o xs)
 different_places o [] = refl
 different_places o (x ∷ xs) = λ k. not (sym (among_places o x xs) k) && different_places o xs k
@@ -50,7 +50,7 @@ is_no_place (pos (suc k)) count none e =
     beyond k count past e = grind (arith, ints)
 is_no_place (negsuc k) count none e = no e
 
--- ---- the element at a place
+-- ---- the element at a position
 
 pub element_place : (xs : List ℤ) (n c : ℤ) → element_at xs n ≡ Some c
     → (k : ℕ) × (n ≡ pos (suc k)) × (slice_get xs k ≡ Some c)
@@ -72,7 +72,7 @@ twice x xs j c apart here there =
     let same : c ≡ x = cc in
     no (ap not (sym (listed_at xs j x (there ∙ ap Some same))) ∙ and_first (not (is_among x xs)) (all_different xs) apart)
 
--- a number stands at one place of a list whose elements are different
+-- a number is at one position of a list whose elements are different
 pub one_place : (xs : List ℤ) (k j : ℕ) (c : ℤ) → all_different xs ≡ true → slice_get xs k ≡ Some c
     → slice_get xs j ≡ Some c → k ≡ j
 one_place [] k j c apart at_k at_j = cc
@@ -81,7 +81,7 @@ one_place (x ∷ xs) zero (suc j) c apart at_k at_j = absurd (twice x xs j c apa
 one_place (x ∷ xs) (suc k) zero c apart at_k at_j = absurd (twice x xs k c apart at_j at_k)
 one_place (x ∷ xs) (suc k) (suc j) c apart at_k at_j = ap suc (one_place xs k j c (and_second (not (is_among x xs)) (all_different xs) apart) at_k at_j)
 
--- ---- where the second list leads back
+-- ---- where the second list is the inverse
 
 abbrev pub leads_to : List ℤ → ℤ → ℤ → Bool
 leads_to g x p = option_map_or (λ y. y =ℤ p) (element_at g x) false

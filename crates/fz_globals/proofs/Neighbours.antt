@@ -1,10 +1,10 @@
--- A loop that tests each element with the one right behind it.
+-- A loop that tests each element with the next one.
 use Rattle.std.proofs.Common.{◌≡◌, ℕ, ◌+◌, ◌-◌, ◌≤◌, Bool, true, false, ◌&&◌, List, [], ◌∷◌, drop, length, Some, slice_get, refl, sym, ap, ◌∙◌, arith}
 use Rattle.std.proofs.lemmas.List.{length-drop}
 use Rattle.fz_meaning.specs.Globals.{all_neighbours}
 use Rattle.fz_kernel.proofs.Left.{next}
 
--- each of those before the place i passes with the one behind it, where that stands before i too
+-- each of those before the index i passes with the next one, where that is before i too
 abbrev pub PassUpTo : {A : Type 0} → (A → A → Bool) → List A → ℕ → Type 0
 PassUpTo p xs i = all_neighbours p xs ≡ all_neighbours p (drop (i - 1) xs)
 

@@ -1,5 +1,5 @@
--- A test of a list goes from the front on: it fails with the first element that fails, and passes
--- at the end.
+-- A test of a list goes from the first element on: it fails with the first element that fails, and
+-- passes at the end.
 use Rattle.std.proofs.Common.{◌≡◌, ℕ, ◌+◌, ◌≤◌, Bool, true, false, ◌&&◌, List, ◌∷◌, drop, length, sym, ap, ◌∙◌}
 use Rattle.std.specs.List.{list_all}
 use Rattle.std.proofs.lemmas.List.{drop_all}
@@ -18,7 +18,7 @@ pub all_pass : {A : Type 0} (p : A → Bool) (xs : List A) (i : ℕ) (whole : Bo
     → whole ≡ list_all p (drop i xs) → length xs ≤ i → true ≡ whole
 all_pass p xs i whole so_far end = sym (so_far ∙ ap (list_all p) (drop_all i xs end))
 
--- ---- each element with each one behind it
+-- ---- each element with each later one
 
 module _ {A : Type 0} (p : A → A → Bool) (xs : List A) (i : ℕ) (x : A) (whole : Bool) (so_far : whole ≡ all_pairs p (drop i xs)) (here : drop i xs ≡ x ∷ drop (i + 1) xs) where
   pub pair_fails : list_all (p x) (drop (i + 1) xs) ≡ false → false ≡ whole

@@ -22,7 +22,7 @@ module _ {A : Type 0} (test : A → Bool) (xs : List A) (i : ℕ) (r : Bool) (so
   pub all_pass : length xs ≤ i → true ≡ r
   all_pass end = sym (so_far ∙ ap (list_all test) (none_left xs i end))
 
--- where all pass, the one at a place does
+-- where all pass, the one at an index does
 pub passed_at : {A : Type 0} (test : A → Bool) (xs : List A) (k : ℕ) (x : A)
     → list_all test xs ≡ true → slice_get xs k ≡ Some x → test x ≡ true
 passed_at test [] k x all at = cc

@@ -1,4 +1,5 @@
--- Where a list leads, step by step, and whether the places on the way are different.
+-- Where the successors in a list lead, step by step, and whether the positions on the way are
+-- different.
 use Rattle.std.proofs.Common.{◌≡◌, ℕ, suc, zero, ◌+◌, ◌-◌, ◌<◌, ◌≤◌, ℤ, pos, Bool, true, false, not, ◌&&◌, ◌||◌, inl, inr, List, [], ◌∷◌, drop, length, nat_eq, if◌then◌else◌, Some, None, option_and_then, slice_get, refl, sym, ap, subst, ◌∙◌, arith}
 use Rattle.std.specs.Option.{option_map_or}
 use Rattle.std.proofs.lemmas.Int.{ints}
@@ -49,7 +50,7 @@ module _ (f : List ℤ) where
         | Some s ↦ λ e. on_the_way a b c s r (omega arith) e
       ] there
 
-  -- ---- the places on the way
+  -- ---- the positions on the way
 
   pub is_on_tour : (m j : ℕ) (p q : ℤ) → j < m → end_of_tour f j q ≡ Some p
       → is_among p (tour f m q) ≡ true
@@ -77,7 +78,7 @@ module _ (f : List ℤ) where
             ] refl later
       ] refl e
 
-  -- where no place comes again on the way, all are different
+  -- where no position comes again on the way, all are different
   module _ (start : ℤ) (n : ℕ) (once : (i j : ℕ) (p : ℤ) → i + suc j < n → end_of_tour f i start ≡ Some p → end_of_tour f (suc j) p ≡ Some p → ⊥) where
     pub tour_differs : (m i : ℕ) (p : ℤ) → i + m ≡ n → end_of_tour f i start ≡ Some p
         → all_different (tour f m p) ≡ true
@@ -197,7 +198,7 @@ module _ (f : List ℤ) where
             | false ↦ λ _. and_false (all_different (tour f (length f) (pos 1)))
           ] refl
 
--- ---- the places that are moved
+-- ---- the positions that are moved
 
 module _ (f : List ℤ) (i : ℕ) (x : ℤ) (at : slice_get f i ≡ Some x) where
   one_moved : moved_from (pos (i + 1)) (drop i f) ≡ (if x =ℤ pos (i + 1)

@@ -89,7 +89,7 @@ one_window k xs s some fits =
 
 -- ---- whether each sum lies in a range
 
--- the same is so of all runs as of those from place i on; s is the sum of the one that begins there
+-- the same is so of all runs as of those from index i on; s is the sum of the run that begins there
 pub record Slides (low high : ℤ) (k : ℕ) (xs : List ℤ) (i : ℕ) (s : ℤ) : Type 0 where
   pub so_far : list_all (λ w. lies_between low high (total w)) (windows k xs)
       ≡ list_all (λ w. lies_between low high (total w)) (windows k (drop i xs))

@@ -1,4 +1,4 @@
--- Arrays that are read at one place: what stands there, and what is left behind it.
+-- Arrays that are read at the same index: what is there, and what is left after it.
 use Rattle.std.proofs.Common.{◌≡◌, ℕ, ◌+◌, ◌<◌, ℤ, pos, List, ◌∷◌, drop, length, get_or, min, ap, ◌∙◌, arith}
 use Rattle.std.specs.List.{zip}
 use Rattle.std.proofs.lemmas.List.{drop_more}

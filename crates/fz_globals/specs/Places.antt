@@ -1,9 +1,9 @@
--- What stands at a place of an array, as the private functions read it.
+-- What is at an index of an array (private functions only).
 use Rattle.std.specs.Prelude.{ℕ, ℤ, pos, Bool, ◌&&◌, ◌||◌, List, get_or, int_le}
 use Rattle.fz_meaning.specs.Values.{◌=ℤ◌}
 use Rattle.fz_meaning.specs.Globals.{Span, Box, are_apart, is_empty_span, lie_apart, has_no_area, used_at}
 
--- the number at a place, and 0 past the end
+-- the number at an index, and 0 past the end
 abbrev pub number_at : List ℤ → ℕ → ℤ
 number_at xs i = get_or xs i (pos 0)
 
@@ -11,14 +11,14 @@ number_at xs i = get_or xs i (pos 0)
 abbrev pub span_at : List ℤ → List ℤ → ℕ → Span
 span_at starts lengths i = (number_at starts i, number_at lengths i)
 
--- they lie apart; where the empty ones are spared, one of them may be empty instead
+-- they have nothing in common; where empty spans are exempt, it is enough that one is empty
 abbrev pub keep_apart : Bool → Span → Span → Bool
 keep_apart spare a b = (spare && (is_empty_span a || is_empty_span b)) || are_apart a b
 
 abbrev pub box_at : List ℤ → List ℤ → List ℤ → List ℤ → ℕ → Box
 box_at x y width height i = (span_at x width i, span_at y height i)
 
--- the same of boxes, of which those with no area may be spared
+-- the same of boxes, of which those with no area may be exempt
 abbrev pub stand_apart : Bool → Box → Box → Bool
 stand_apart spare a b = (spare && (has_no_area a || has_no_area b)) || lie_apart a b
 

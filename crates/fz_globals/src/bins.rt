@@ -22,7 +22,7 @@ pub fn loads_are_within(bins: &Elements, weights: &Elements, capacity: i64) -> b
     true
 }
 
-// Whether the load of the bin at a place is at most the capacity.
+// Whether the load of the bin at an index of the list is at most the capacity.
 fn is_within(bins: &Elements, weights: &Elements, capacity: i64, place: usize) -> bool
     ensures { result ≡ int_le (load_of (ints bins.now) (ints weights.now)
         (number_at (ints bins.now) place)) capacity }
@@ -82,7 +82,7 @@ fn loads_are(first: i64, bins: &Elements, weights: &Elements, loads: &Elements) 
     true
 }
 
-// Whether the load at a place is that of the bin that it is given for.
+// Whether the load at an index is that of the bin that it is given for.
 fn has_load(first: i64, bins: &Elements, weights: &Elements, loads: &Elements, place: usize) -> bool
     ensures { result ≡ (number_at (ints loads.now) place =ℤ load_of (ints bins.now)
         (ints weights.now) (first +ℤ pos place)) }

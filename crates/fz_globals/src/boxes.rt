@@ -1,4 +1,4 @@
-//! Boxes: each begins at a place along each of two axes, and reaches so far along it.
+//! Boxes: each has a start and a length along each of two axes.
 ghost use Rattle.std.specs.Prelude.{◌≡◌, ◌<◌, ◌+◌, ◌||◌, pos, drop, length};
 ghost use Rattle.std.specs.List.{list_all};
 ghost use Rattle.fz_meaning.specs.Values.{◌=ℤ◌};
@@ -10,7 +10,7 @@ use crate::reading::{common_places, is_zero_at};
 use crate::spans::are_apart;
 use fz_kernel::fz_arguments::Elements;
 
-/// Whether no two boxes overlap; one with no area takes its place too.
+/// Whether no two boxes overlap; even one with no area must not lie within another.
 pub fn overlap_nowhere(x: &Elements, y: &Elements, width: &Elements, height: &Elements) -> bool
     ensures exact { result ≡ overlap_nowhere
         (boxes (ints x.now) (ints y.now) (ints width.now) (ints height.now)) }
@@ -52,7 +52,7 @@ fn all_stand_apart(
     true
 }
 
-// Whether the box at a place stands apart from each one behind it.
+// Whether the box at an index has nothing in common with each later one.
 fn stands_apart_behind(
     spare: bool,
     x: &Elements,
@@ -75,8 +75,8 @@ fn stands_apart_behind(
     true
 }
 
-// Whether two boxes have nothing in common; where those with no area are spared, one of them may
-// have none instead.
+// Whether two boxes have nothing in common; where boxes with no area are exempt, it is enough that
+// one of them has none.
 #[inline(always)]
 fn stand_apart(
     spare: bool,

@@ -1,4 +1,4 @@
-// Numbers that tell in which of the sets their indices are.
+// Channelling: each number is the index of the set that has the number's own index.
 ghost use Rattle.std.specs.Prelude.{◌≡◌};
 ghost use Rattle.fz_meaning.specs.Globals.{are_channelled};
 ghost use Rattle.fz_kernel.specs.of_view.Views.{ints, sets};
@@ -8,12 +8,13 @@ use crate::flags::has;
 use crate::indices::{index_at, place_from};
 use fz_kernel::fz_arguments::Elements;
 
-/// Whether each set has just the indices, from `first` on, of the numbers that are the set's own
-/// index, from `first_part` on. It takes no memory.
+/// Whether each set, by its index from `first_part` on, has exactly the indices, from `first` on,
+/// of the numbers that are that index. It takes no memory.
 pub fn are_channelled(numbers: &Elements, first: i64, parts: &Elements, first_part: i64) -> bool
     ensures exact { result ≡ are_channelled (ints numbers.now) first (sets parts.now) first_part }
 {
-    // where each index is in its number's set, and there are no more elements, no set has another
+    // Where each number's index is in the set that the number says, and the sets have as many
+    // elements as there are numbers, no set has another element.
     are_held(numbers, first, parts, first_part) && size_of_all(parts) == numbers.len() as u128
 }
 
@@ -29,7 +30,7 @@ fn are_held(numbers: &Elements, first: i64, parts: &Elements, first_part: i64) -
     true
 }
 
-// Whether the index is in the set that the number is the index of.
+// Whether the index is in the set whose index the number is.
 fn is_held(index: i128, number: i64, parts: &Elements, first_part: i64) -> bool
     ensures { result ≡ is_held index number (sets parts.now) first_part }
 {
@@ -39,7 +40,7 @@ fn is_held(index: i128, number: i64, parts: &Elements, first_part: i64) -> bool
     }
 }
 
-// How many elements the sets have, each with its own.
+// How many elements the sets have together, a common one counted in each.
 fn size_of_all(parts: &Elements) -> u128
     ensures { result ≡ size_of_all (sets parts.now) }
 {

@@ -1,4 +1,4 @@
-// How many elements there are of a kind, and how many values.
+// How many elements have a value or lie in a set, and how many different values there are.
 ghost use Rattle.std.specs.Prelude.{◌≡◌, length, pos, IfOk};
 ghost use Rattle.std.specs.List.{filter, list_any};
 ghost use Rattle.std.specs.FinSet as set;
@@ -14,7 +14,7 @@ use fz_kernel::distinct::all_different;
 use fz_kernel::fz_arguments::Elements;
 use std::alloc::{AllocError, Global};
 
-/// The number of places with the value.
+/// The number of indices with the value.
 pub fn count_of(elements: &Elements, value: i64) -> i128
     ensures exact { result ≡ count_of (ints elements.now) value }
 {
@@ -33,7 +33,7 @@ fn places_of(elements: &Elements, value: i64) -> usize
     count
 }
 
-/// The number of places with an element of the set.
+/// The number of indices with an element of the set.
 pub fn count_in(elements: &Elements, values: &IntSet) -> i128
     ensures exact { result ≡ count_in (ints elements.now) values.now }
 {
@@ -71,7 +71,7 @@ pub fn is_truth_listed(truth: bool, elements: &Elements) -> bool
     false
 }
 
-/// Whether no two elements at different places are equal, unless they are 0.
+/// Whether no two elements at different indices are equal, unless they are 0.
 pub fn nonzero_are_different(alloc: Global, elements: &Elements) -> Result<bool, AllocError>
     ensures exact { IfOk result (λ r. r ≡ all_different (filter is_nonzero (ints elements.now))) }
 {

@@ -1,4 +1,4 @@
-// How often each value of a cover comes, and whether all elements are values of it.
+// How often each value of a cover occurs, and whether all elements are values of it.
 ghost use Rattle.std.specs.Prelude.{◌≡◌, int_le, IfOk};
 ghost use Rattle.std.specs.Ordering.{int_cmp};
 ghost use Rattle.std.specs.List.{list_all};
@@ -12,7 +12,7 @@ use crate::ordered::{count_in_order, numbers_in_order, stands_in_order};
 use fz_kernel::fz_arguments::Elements;
 use std::alloc::{AllocError, Global};
 
-/// Whether each value of the cover comes as often as its number says.
+/// Whether each value of the cover occurs as often as its number says.
 pub fn counts_are(
     alloc: Global,
     elements: &Elements,
@@ -26,7 +26,7 @@ pub fn counts_are(
     Ok(come_as_often(&numbers, cover, counts))
 }
 
-/// Whether each value of the cover comes at least and at most so often.
+/// Whether each value of the cover occurs as often as its bounds allow.
 pub fn counts_lie(
     alloc: Global,
     elements: &Elements,

@@ -1,4 +1,4 @@
-// The first places of numbers in a list.
+// The first indices of numbers in a list.
 ghost use Rattle.std.specs.Prelude.{◌≡◌, ◌+◌, ◌<◌, ◌≤◌, ◌+ℤ◌, ◌<ℤ◌, ◌≤ℤ◌, ℕ, ℤ, List, pos, get_or, length, option_map, IfNone, IfOk, IfSome};
 ghost use Rattle.std.specs.Ordering.{int_cmp};
 ghost use Rattle.std.specs.List.Sorted.{IsSorted};
@@ -9,7 +9,7 @@ ghost use Rattle.fz_globals.specs.Keys.{key, AreKeys};
 use fz_kernel::fz_arguments::Elements;
 use std::alloc::{AllocError, Global};
 
-/// The elements with their places, each pair as one number, in order.
+/// The elements with their indices, each pair as one number (a key), in ascending order.
 pub(crate) fn keys_in_order(alloc: Global, elements: &Elements) -> Result<Vec<i128>, AllocError>
     ensures keys { IfOk result (λ v. AreKeys (ints elements.now) v.items) }
     ensures sorted { IfOk result (λ v. IsSorted int_cmp v.items) }
@@ -19,7 +19,7 @@ pub(crate) fn keys_in_order(alloc: Global, elements: &Elements) -> Result<Vec<i1
     Ok(keys)
 }
 
-/// The first place of a number among those whose keys are given.
+/// The first index of a number among those whose keys are given.
 pub(crate) fn first_place(keys: &[i128], number: i64) -> Option<usize>
     requires { IsSorted int_cmp keys.now }
     ensures { (xs : List ℤ) → AreKeys xs keys.now
@@ -33,7 +33,7 @@ pub(crate) fn first_place(keys: &[i128], number: i64) -> Option<usize>
     }
 }
 
-// The place that a number stands at, where it is the one of this pair.
+// The index of a number, where it is the one of this key.
 fn place_of_pair(pair: i128, number: i64) -> Option<usize>
     ensures some { IfSome result (λ p. pair ≡ key number p) }
     ensures short { IfSome result (λ p. p < 18446744073709551616) }
@@ -55,7 +55,8 @@ fn keys_of(alloc: Global, elements: &Elements) -> Result<Vec<i128>, AllocError>
     Ok(keys)
 }
 
-// A number and a place as one number.
+// A number and an index as one key: keys are ordered by the numbers, and those of equal numbers by
+// the indices.
 fn key(number: i64, place: usize) -> i128
     ensures { result ≡ key number place }
 {

@@ -43,7 +43,7 @@ fn flags_are(first: i64, flags: &Elements, set: &IntSet) -> bool
     true
 }
 
-// Whether a number is in the set, which one that has more than 64 bits is not.
+// Whether a number is in the set; one of more than 64 bits is not.
 pub(crate) fn has(set: &IntSet, number: i128) -> bool
     ensures { result ≡ number_sets.contains set.now number }
 {

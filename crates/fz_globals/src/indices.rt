@@ -1,14 +1,14 @@
 // Indices of elements.
 ghost use Rattle.std.specs.Prelude.{◌≡◌, ◌+◌, ◌<◌, ◌≤◌, ◌+ℤ◌, ◌-ℤ◌, ℕ, pos, IfNone, IfSome};
 
-/// The index, counted from `first`, of a place that is counted from 0.
+/// The index, counted from `first`, of a position that is counted from 0.
 pub(crate) fn index_at(first: i64, place: usize) -> i128
     ensures { result ≡ first +ℤ pos place }
 {
     i128::from(first) + place as i128
 }
 
-/// The place, counted from 0, of an index that is counted from `first`.
+/// The position, counted from 0, of an index that is counted from `first`.
 pub(crate) fn place_in(index: i64, first: i64) -> i128
     ensures { result ≡ index -ℤ first }
 {

@@ -1,5 +1,5 @@
-//! The order of a dictionary: the first place where two arrays differ tells, and a proper front
-//! comes first.
+//! Lexicographic order: the first index at which two arrays differ tells, and a proper prefix comes
+//! first.
 ghost use Rattle.std.specs.Prelude.{◌≡◌, ◌&&◌, not, int_lt};
 ghost use Rattle.fz_meaning.specs.Values.{◌=ℤ◌, ◌=ᴮ◌};
 ghost use Rattle.fz_meaning.specs.Globals.{is_before};
@@ -8,7 +8,7 @@ ghost use Rattle.fz_kernel.specs.of_view.Views.{bools, ints};
 use crate::reading::{number_at, number_count, truth_at, truth_count};
 use fz_kernel::fz_arguments::Elements;
 
-/// Whether the numbers of `a` stand before those of `b`.
+/// Whether the numbers of `a` come before those of `b`.
 pub fn ints_are_before(a: &Elements, b: &Elements) -> bool
     ensures exact { result ≡ is_before int_lt ◌=ℤ◌ (ints a.now) (ints b.now) }
 {
@@ -21,14 +21,14 @@ pub fn ints_are_before(a: &Elements, b: &Elements) -> bool
     number_count(a) < number_count(b)
 }
 
-/// Whether the numbers of `a` stand before those of `b`, or are the same.
+/// Whether the numbers of `a` come before those of `b`, or are the same.
 pub fn ints_are_not_behind(a: &Elements, b: &Elements) -> bool
     ensures exact { result ≡ not (is_before int_lt ◌=ℤ◌ (ints b.now) (ints a.now)) }
 {
     !ints_are_before(b, a)
 }
 
-/// Whether the Booleans of `a` stand before those of `b`; false comes before true.
+/// Whether the Booleans of `a` come before those of `b`; false comes before true.
 pub fn bools_are_before(a: &Elements, b: &Elements) -> bool
     ensures exact { result ≡ is_before (λ x y. not x && y) ◌=ᴮ◌ (bools a.now) (bools b.now) }
 {
@@ -41,7 +41,7 @@ pub fn bools_are_before(a: &Elements, b: &Elements) -> bool
     truth_count(a) < truth_count(b)
 }
 
-/// Whether the Booleans of `a` stand before those of `b`, or are the same.
+/// Whether the Booleans of `a` come before those of `b`, or are the same.
 pub fn bools_are_not_behind(a: &Elements, b: &Elements) -> bool
     ensures exact { result ≡ not (is_before (λ x y. not x && y) ◌=ᴮ◌ (bools b.now) (bools a.now)) }
 {

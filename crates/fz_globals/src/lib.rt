@@ -1,9 +1,12 @@
 //! The relations of global constraints, each exactly as `fz_meaning`'s `Globals` has it, over the
-//! elements of arrays under a partial assignment.
+//! elements of arrays under a partial assignment. An internal crate of `fz_model`: `fz_eval` and
+//! `fz_force` use these relations as they use those of `fz_kernel`.
 //!
-//! Numbers go in as 64 bits and are reckoned with exactly: nothing wraps, and only the sums of
-//! products of a knapsack can leave 128 bits, which it says. Memory is wanted where numbers are put
-//! in order.
+//! Numbers go in as 64 bits and are computed with exactly: nothing wraps, and only the sums of
+//! products of a knapsack can leave 128 bits, which the result says. Relations that sort numbers
+//! take memory.
+//!
+//! Its worked cases are in `fz_check_cases` (`globals.rt`).
 #![tactic(auto)]
 
 pub mod best_index;

@@ -1,4 +1,4 @@
-// Elements against those right behind them, and against their ascending form.
+// Elements compared with the next ones, and with their sorted list.
 ghost use Rattle.std.specs.Prelude.{◌≡◌, not, ◌||◌, int_le, int_lt, IfOk};
 ghost use Rattle.fz_meaning.specs.Values.{◌=ℤ◌};
 ghost use Rattle.fz_meaning.specs.Globals.{all_neighbours, is_same_list, is_sorted_form};
@@ -56,7 +56,7 @@ pub fn is_decreasing(elements: &Elements) -> bool
     true
 }
 
-/// Whether no false stands behind a true.
+/// Whether no false comes after a true.
 pub fn truths_increase(elements: &Elements) -> bool
     ensures exact { result ≡ all_neighbours (λ a b. not a || b) (bools elements.now) }
 {
@@ -68,7 +68,7 @@ pub fn truths_increase(elements: &Elements) -> bool
     true
 }
 
-/// Whether no true stands behind a false.
+/// Whether no true comes after a false.
 pub fn truths_decrease(elements: &Elements) -> bool
     ensures exact { result ≡ all_neighbours (λ a b. not b || a) (bools elements.now) }
 {

@@ -1,4 +1,4 @@
-//! So many of each thing, their weight and their profit.
+//! The knapsack: so many of each thing, their total weight and their total profit.
 ghost use Rattle.std.specs.Prelude.{◌≡◌, ◌||◌, true, false, IfSome, IfNone};
 ghost use Rattle.std.specs.List.{list_all};
 ghost use Rattle.fz_meaning.specs.Builtins.{leaves_128, products};
@@ -9,8 +9,8 @@ use crate::reading::{is_natural_at, number_count};
 use fz_kernel::arrays::sum_of_products;
 use fz_kernel::fz_arguments::Elements;
 
-/// Whether `xs` of the things weigh and profit so much; none where a sum of products on the way is
-/// no number of signed 128 bits.
+/// Whether `xs` of the things have this weight and this profit; none where a partial sum of
+/// products leaves signed 128 bits.
 pub fn is_knapsack(
     weights: &Elements,
     profits: &Elements,

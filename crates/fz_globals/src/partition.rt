@@ -31,7 +31,7 @@ pub fn is_partition(alloc: Global, parts: &Elements, whole: &IntSet) -> Result<b
     Ok(left.len() == 0)
 }
 
-// What is in the set and not in the part.
+// The set without what is in the part.
 fn without(alloc: Global, set: &IntSet, part: &IntSet) -> Result<IntSet, AllocError>
     ensures { IfOk result (λ s. s ≡ difference set.now part.now) }
 {

@@ -10,10 +10,11 @@ use crate::firsts::{first_place, keys_in_order};
 use fz_kernel::fz_arguments::Elements;
 use std::alloc::{AllocError, Global};
 
-// Up to so many numbers of a chain, the elements are gone over for each, which takes no memory.
+// Up to this many numbers in a chain the elements are gone over for each of them, which takes no
+// memory.
 const FEW: usize = 8;
 
-/// Whether the number `second` comes only behind a `first`.
+/// Whether the number `second` comes only after a `first`.
 pub fn precedes(first: i64, second: i64, elements: &Elements) -> bool
     ensures exact { result ≡ precedes first second (ints elements.now) }
 {
@@ -29,8 +30,8 @@ pub fn precedes(first: i64, second: i64, elements: &Elements) -> bool
     true
 }
 
-/// Whether each number of the chain but the first comes only behind the one before it. Only for a
-/// long chain it puts a copy of the elements in order.
+/// Whether each number of the chain but the first comes only after the one before it. Only for a
+/// long chain does it sort a copy of the elements.
 pub fn precede_in_chain(
     alloc: Global,
     chain: &Elements,
@@ -46,7 +47,7 @@ pub fn precede_in_chain(
     Ok(first_places_rise(chain, &keys))
 }
 
-/// Whether each element is greater by one at most than the greatest so far, which is 0 at first.
+/// Whether each element is greater by at most one than the greatest so far, which is 0 at first.
 pub fn rises_by_one(elements: &Elements) -> bool
     ensures exact { result ≡ rises_by_one (pos 0) (ints elements.now) }
 {
@@ -73,7 +74,7 @@ fn each_precedes_next(chain: &Elements, elements: &Elements) -> bool
     true
 }
 
-// The same of the numbers whose keys are given in order.
+// The same, with the keys of the elements in order.
 fn first_places_rise(chain: &Elements, keys: &[i128]) -> bool
     requires { IsSorted int_cmp keys.now }
     ensures { (xs : List ℤ) → AreKeys xs keys.now
@@ -88,7 +89,7 @@ fn first_places_rise(chain: &Elements, keys: &[i128]) -> bool
     true
 }
 
-// Whether the first place comes before the second, where there is a second.
+// Whether the first index is less than the second, where there is a second.
 fn comes_before(first: Option<usize>, second: Option<usize>) -> bool
     ensures { result ≡ comes_before (option_map pos first) (option_map pos second) }
 {

@@ -8,7 +8,7 @@ ghost use Rattle.fz_globals.specs.Places.{number_at};
 
 use fz_kernel::fz_arguments::Elements;
 
-/// The number at a place; 0 past the end.
+/// The number at an index; 0 past the end.
 #[inline(always)]
 pub fn number_at(elements: &Elements, place: usize) -> i64
     ensures { result ≡ number_at (ints elements.now) place }
@@ -20,7 +20,7 @@ pub fn number_at(elements: &Elements, place: usize) -> i64
     }
 }
 
-/// Whether the number at a place is 0 or more.
+/// Whether the number at an index is 0 or more.
 #[inline(always)]
 pub fn is_natural_at(elements: &Elements, place: usize) -> bool
     ensures { result ≡ is_natural (number_at (ints elements.now) place) }
@@ -28,7 +28,7 @@ pub fn is_natural_at(elements: &Elements, place: usize) -> bool
     0 <= number_at(elements, place)
 }
 
-/// Whether the number at a place is 0.
+/// Whether the number at an index is 0.
 #[inline(always)]
 pub fn is_zero_at(elements: &Elements, place: usize) -> bool
     ensures { result ≡ (number_at (ints elements.now) place =ℤ pos 0) }
@@ -36,7 +36,7 @@ pub fn is_zero_at(elements: &Elements, place: usize) -> bool
     number_at(elements, place) == 0
 }
 
-/// The Boolean at a place; false past the end.
+/// The Boolean at an index; false past the end.
 #[inline(always)]
 pub fn truth_at(elements: &Elements, place: usize) -> bool
     ensures { result ≡ slice_index_or (bools elements.now) place false }
@@ -64,7 +64,7 @@ pub fn number_count(elements: &Elements) -> usize
     elements.len()
 }
 
-/// How many places two arrays have in common.
+/// The length of the shorter of two arrays.
 #[inline(always)]
 pub fn common_places(a: &Elements, b: &Elements) -> usize
     ensures { result ≡ length (zip (ints a.now) (ints b.now)) }

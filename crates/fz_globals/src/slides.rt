@@ -27,7 +27,8 @@ fn all_lie_between(low: i64, high: i64, width: usize, xs: &Elements) -> bool
     running_sums_lie_between(low, high, width, xs)
 }
 
-// The sum of a run is that of the one before, without what is left behind and with what is new.
+// Whether the sum of each run lies within the bounds. It is computed from the sum of the run
+// before: without the first number of that, and with the new last one.
 fn running_sums_lie_between(low: i64, high: i64, width: usize, xs: &Elements) -> bool
     requires some { 0 < width }
     requires fits { width ≤ length (ints xs.now) }
@@ -46,7 +47,7 @@ fn running_sums_lie_between(low: i64, high: i64, width: usize, xs: &Elements) ->
     is_between(low, high, sum)
 }
 
-// The sum of so many numbers from the front on. No array is long enough for it to leave 128 bits.
+// The sum of the first so many numbers. No array is long enough for it to leave 128 bits.
 fn front_sum(count: usize, xs: &Elements) -> i128
     requires { count ≤ length (ints xs.now) }
     ensures { result ≡ total (take count (ints xs.now)) }

@@ -9,7 +9,7 @@ use crate::reading::{common_places, is_natural_at, is_zero_at, number_at};
 use fz_kernel::fz_arguments::Elements;
 use fz_kernel::numbers::sum;
 
-/// Whether the span at a place covers the number.
+/// Whether the span at an index covers the number.
 #[inline(always)]
 pub fn runs_at(number: i64, starts: &Elements, lengths: &Elements, place: usize) -> bool
     ensures { result ≡ runs_at number (span_at (ints starts.now) (ints lengths.now) place) }
@@ -27,7 +27,7 @@ pub fn ends_before(starts: &Elements, lengths: &Elements, one: usize, other: usi
     sum(number_at(starts, one), number_at(lengths, one)) <= i128::from(number_at(starts, other))
 }
 
-/// Whether the spans at two places have nothing in common.
+/// Whether the spans at two indices have nothing in common.
 #[inline(always)]
 pub fn are_apart(starts: &Elements, lengths: &Elements, one: usize, other: usize) -> bool
     ensures { result ≡ are_apart (span_at (ints starts.now) (ints lengths.now) one)
@@ -36,7 +36,7 @@ pub fn are_apart(starts: &Elements, lengths: &Elements, one: usize, other: usize
     ends_before(starts, lengths, one, other) || ends_before(starts, lengths, other, one)
 }
 
-// The same; where empty ones are spared, one of them may be empty instead.
+// The same, but where empty spans are exempt it is enough that one of them is empty.
 #[inline(always)]
 fn keep_apart(spare: bool, starts: &Elements, lengths: &Elements, one: usize, other: usize) -> bool
     ensures { result ≡ keep_apart spare (span_at (ints starts.now) (ints lengths.now) one)
@@ -46,7 +46,7 @@ fn keep_apart(spare: bool, starts: &Elements, lengths: &Elements, one: usize, ot
         || are_apart(starts, lengths, one, other)
 }
 
-// Whether the span at a place keeps apart from each one behind it.
+// Whether the span at an index has nothing in common with each later one.
 fn keeps_apart_behind(spare: bool, starts: &Elements, lengths: &Elements, one: usize) -> bool
     requires { one < length (zip (ints starts.now) (ints lengths.now)) }
     ensures { result ≡ list_all (keep_apart spare (span_at (ints starts.now)
@@ -61,7 +61,7 @@ fn keeps_apart_behind(spare: bool, starts: &Elements, lengths: &Elements, one: u
     true
 }
 
-/// Whether no two spans have anything in common; empty ones may be spared.
+/// Whether no two spans have anything in common; empty ones may be exempt.
 pub fn all_keep_apart(spare: bool, starts: &Elements, lengths: &Elements) -> bool
     ensures { result ≡ all_pairs (keep_apart spare) (zip (ints starts.now) (ints lengths.now)) }
 {
@@ -73,7 +73,7 @@ pub fn all_keep_apart(spare: bool, starts: &Elements, lengths: &Elements) -> boo
     true
 }
 
-/// Whether no span is of a length below 0.
+/// Whether no span has a negative length.
 pub fn last_naturally(starts: &Elements, lengths: &Elements) -> bool
     ensures { result ≡ last_naturally (zip (ints starts.now) (ints lengths.now)) }
 {

@@ -6,7 +6,7 @@ ghost use Rattle.fz_kernel.specs.of_view.Views.{bools, ints, slots_of};
 
 use fz_kernel::fz_arguments::Elements;
 
-/// Whether the elements are a row of the table; none is where there is no element. A row is left at
+/// Whether the elements are a row of the table; the empty list is none. The test of a row ends at
 /// the first element that differs.
 pub fn is_int_row(elements: &Elements, table: &Elements) -> bool
     ensures exact { result ≡ is_row_of ◌=ℤ◌ (ints elements.now) (ints table.now) }
@@ -17,7 +17,7 @@ pub fn is_int_row(elements: &Elements, table: &Elements) -> bool
     }
 }
 
-/// Whether the elements are a row of the table; none is where there is no element. A row is left at
+/// Whether the elements are a row of the table; the empty list is none. The test of a row ends at
 /// the first element that differs.
 pub fn is_bool_row(elements: &Elements, table: &Elements) -> bool
     ensures exact { result ≡ is_row_of ◌=ᴮ◌ (bools elements.now) (bools table.now) }
@@ -28,7 +28,7 @@ pub fn is_bool_row(elements: &Elements, table: &Elements) -> bool
     }
 }
 
-// How many rows of a width make up the length; none where they don't.
+// How many rows of a width have this length together; none where no number of rows has.
 fn rows_of(width: usize, length: usize) -> Option<usize>
     ensures wide { IfSome result (λ rows. 0 < width) }
     ensures whole { IfSome result (λ rows. rows * width ≡ length) }
@@ -69,7 +69,7 @@ fn is_bool_row_among(elements: &Elements, table: &Elements, rows: usize) -> bool
     false
 }
 
-// Whether the elements stand in the table from a place on.
+// Whether the table has the elements from an index on.
 fn ints_stand_at(elements: &Elements, table: &Elements, start: usize) -> bool
     requires { start + length (slots_of elements.now) ≤ length (slots_of table.now) }
     ensures { result ≡ is_same_list ◌=ℤ◌ (ints elements.now)
@@ -83,7 +83,7 @@ fn ints_stand_at(elements: &Elements, table: &Elements, start: usize) -> bool
     true
 }
 
-// Whether the elements stand in the table from a place on.
+// Whether the table has the elements from an index on.
 fn bools_stand_at(elements: &Elements, table: &Elements, start: usize) -> bool
     requires { start + length (slots_of elements.now) ≤ length (slots_of table.now) }
     ensures { result ≡ is_same_list ◌=ᴮ◌ (bools elements.now)

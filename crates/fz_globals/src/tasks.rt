@@ -1,4 +1,4 @@
-//! Tasks: each starts at a time, lasts so long, and uses so much of what they share.
+//! Tasks: each has a start, a duration, and a use of the resource that they share.
 ghost use Rattle.std.specs.Prelude.{◌≡◌, ◌&&◌, length};
 ghost use Rattle.std.specs.List.{list_all, zip};
 ghost use Rattle.fz_meaning.specs.Globals.{is_cumulative, is_disjunctive, is_natural, is_strictly_disjunctive, used_at};
@@ -9,14 +9,14 @@ use crate::reading::{common_places, is_natural_at, is_zero_at, number_at, number
 use crate::spans::{all_keep_apart, last_naturally, runs_at};
 use fz_kernel::fz_arguments::Elements;
 
-/// Whether no two tasks that last run at one time, and none lasts less than no time.
+/// Whether no two tasks that last run at one time, and no duration is negative.
 pub fn is_disjunctive(starts: &Elements, durations: &Elements) -> bool
     ensures exact { result ≡ is_disjunctive (zip (ints starts.now) (ints durations.now)) }
 {
     last_naturally(starts, durations) && all_keep_apart(true, starts, durations)
 }
 
-/// The same, where a task that doesn't last takes its place too.
+/// The same, but a task that doesn't last must not lie within another either.
 pub fn is_strictly_disjunctive(starts: &Elements, durations: &Elements) -> bool
     ensures exact { result ≡ is_strictly_disjunctive (zip (ints starts.now) (ints durations.now)) }
 {
@@ -42,7 +42,7 @@ fn count(starts: &Elements, durations: &Elements, uses: &Elements) -> usize
     common_places(starts, durations).min(number_count(uses))
 }
 
-// Whether all last and use 0 or more.
+// Whether no duration and no use is negative.
 fn are_natural(starts: &Elements, durations: &Elements, uses: &Elements) -> bool
     ensures { result ≡ list_all (λ k. is_natural k.0.1 && is_natural k.1)
         (zip (zip (ints starts.now) (ints durations.now)) (ints uses.now)) }
@@ -63,7 +63,7 @@ fn is_natural_task(durations: &Elements, uses: &Elements, task: usize) -> bool
     is_natural_at(durations, task) && is_natural_at(uses, task)
 }
 
-// Whether `most` is kept at each start of a task that counts.
+// Whether the use stays within `most` at each start of a task that counts.
 fn none_exceeds(starts: &Elements, durations: &Elements, uses: &Elements, most: i64) -> bool
     ensures { result ≡ list_all (keeps_within most (zip (zip (ints starts.now) (ints durations.now))
         (ints uses.now))) (zip (zip (ints starts.now) (ints durations.now)) (ints uses.now)) }
@@ -76,7 +76,7 @@ fn none_exceeds(starts: &Elements, durations: &Elements, uses: &Elements, most: 
     true
 }
 
-// Whether `most` is kept at the start of a task, or the task doesn't count.
+// Whether the use stays within `most` at the start of a task, or the task doesn't count.
 fn keeps_within(
     starts: &Elements,
     durations: &Elements,

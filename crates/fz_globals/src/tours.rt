@@ -1,4 +1,5 @@
-// Lists that lead from place to place.
+// Lists of successors: an element is the index of the one that follows it. Where the indices in a
+// list begin with `first`, a position is counted from 0 and is the index less `first`.
 ghost use Rattle.std.specs.Prelude.{◌≡◌, ◌+◌, ◌<◌, ◌≤◌, ◌+ℤ◌, ◌-ℤ◌, ℕ, pos, true, false, [], length, slice_get, IfNone, IfOk, IfSome, Some};
 ghost use Rattle.std.specs.Option.{option_map_or};
 ghost use Rattle.fz_meaning.specs.Values.{◌=ℤ◌};
@@ -11,16 +12,15 @@ use fz_kernel::arrays::all_elements_different;
 use fz_kernel::fz_arguments::Elements;
 use std::alloc::{AllocError, Global};
 
-/// Whether each list leads back from where the other leads; the indices in them begin with `fo` and
-/// `go`.
+/// Whether each list is the inverse of the other. The indices in them begin with `fo` and `go`.
 pub fn are_inverse(f: &Elements, fo: i64, g: &Elements, go: i64) -> bool
     ensures exact { result ≡ are_inverse (as_places fo (ints f.now)) (as_places go (ints g.now)) }
 {
     leads_back(f, fo, g, go) && leads_back(g, go, f, fo)
 }
 
-/// Whether the list, whose indices begin with `first`, leads from the first place to all, to each
-/// once, and back. It takes no memory.
+/// Whether the successors, whose indices begin with `first`, lead from the first position to all,
+/// to each once, and back. It takes no memory.
 pub fn is_circuit(first: i64, next: &Elements) -> bool
     ensures exact { result ≡ is_circuit (as_places first (ints next.now)) }
 {
@@ -36,8 +36,8 @@ pub fn is_circuit(first: i64, next: &Elements) -> bool
     }
 }
 
-/// Whether the list, whose indices begin with `first`, is a permutation that leads from one place
-/// that it moves to all that it moves.
+/// Whether the successors, whose indices begin with `first`, are a permutation whose moved
+/// positions make one cycle.
 pub fn is_subcircuit(alloc: Global, first: i64, next: &Elements) -> Result<bool, AllocError>
     ensures exact { IfOk result (λ r. r ≡ is_subcircuit (as_places first (ints next.now))) }
 {
@@ -62,8 +62,8 @@ fn leads_back(f: &Elements, fo: i64, g: &Elements, go: i64) -> bool
     true
 }
 
-// Whether the element at an index, which is counted from `first`, leads to a place, which is
-// counted from 0.
+// Whether the element of `g` at an index, which is counted from `first`, is the index of a
+// position, which is counted from 0.
 fn leads_to(index: i64, first: i64, g: &Elements, go: i64, place: usize) -> bool
     ensures { result ≡ option_map_or (λ y. y =ℤ pos (place + 1))
         (element_at (as_places go (ints g.now)) ((index -ℤ first) +ℤ pos 1)) false }
@@ -94,7 +94,7 @@ fn is_index(index: i64, first: i64, count: usize) -> bool
     place >= 0 && place < count as i128
 }
 
-// The place to which the list leads from a place; both are counted from 0.
+// The position that follows a position; both are counted from 0.
 fn led_to(first: i64, next: &Elements, place: usize) -> usize
     requires indices { are_places (length (as_places first (ints next.now)))
         (as_places first (ints next.now)) ≡ true }
@@ -105,12 +105,12 @@ fn led_to(first: i64, next: &Elements, place: usize) -> usize
 {
     match place_from(next.int(place), first, next.len()) {
         Some(target) => target,
-        // no element is one without a place
+        // not reached, since each element is the index of a position
         None => place,
     }
 }
 
-// Where the list leads from a place in so many steps; none where it comes back to that place
+// The position after so many steps from a position; none where the steps come back to that position
 // before.
 fn walk(first: i64, next: &Elements, start: usize, steps: usize) -> Option<usize>
     requires indices { are_places (length (as_places first (ints next.now)))
@@ -134,7 +134,7 @@ fn walk(first: i64, next: &Elements, start: usize, steps: usize) -> Option<usize
     Some(place)
 }
 
-// Whether a permutation leads from the first place that it moves to all that it moves.
+// Whether a permutation leads from the first position that it moves to all that it moves.
 fn is_one_tour(first: i64, next: &Elements) -> bool
     requires indices { are_places (length (as_places first (ints next.now)))
         (as_places first (ints next.now)) ≡ true }
@@ -151,7 +151,7 @@ fn is_one_tour(first: i64, next: &Elements) -> bool
     }
 }
 
-// The first place, counted from 0, that doesn't lead to itself.
+// The first position, counted from 0, that isn't its own successor.
 fn first_moved(first: i64, next: &Elements) -> Option<usize>
     ensures in_range { IfSome result (λ p. p < length (slots_of next.now)) }
     ensures found { IfSome result (λ p. slice_get
@@ -166,7 +166,7 @@ fn first_moved(first: i64, next: &Elements) -> Option<usize>
     None
 }
 
-// How many places don't lead to themselves.
+// How many positions aren't their own successors.
 fn count_moved(first: i64, next: &Elements) -> usize
     ensures { result ≡ length (moved_from (pos 1) (as_places first (ints next.now))) }
 {

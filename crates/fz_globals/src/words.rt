@@ -1,4 +1,4 @@
-//! Words that a finite automaton takes.
+//! Words that a finite automaton accepts.
 ghost use Rattle.std.specs.Prelude.{◌≡◌, ◌+ℤ◌, ◌*ℤ◌, pos};
 ghost use Rattle.fz_meaning.specs.Globals.{is_word, lies_between, run, step};
 ghost use Rattle.fz_kernel.specs.of_view.Views.{ints};
@@ -9,8 +9,8 @@ use fz_kernel::arrays::int_element_at;
 use fz_kernel::fz_arguments::Elements;
 use fz_kernel::numbers::product;
 
-/// Whether the word leads from the first state to one of the last; the transitions stand row by
-/// row, one for each state.
+/// Whether the word leads from the first state to a final one. The transitions are written row by
+/// row, one row for each state.
 pub fn is_word(
     xs: &Elements,
     states: i64,
@@ -75,7 +75,7 @@ fn lies_from_one(most: i64, number: i64) -> bool
     1 <= number && number <= most
 }
 
-// The product and one number more, which 128 bits always hold.
+// The product and one more number, which always fits in 128 bits.
 fn product_and_more(a: i64, b: i64, more: i64) -> i128
     ensures exact { result ≡ ((a *ℤ b) +ℤ more) }
 {

@@ -27,7 +27,7 @@ passed_on p x y fits fits_x fits_y e = to_z-of_z w128 p fits ∙ e ∙ ap (λ a.
 
 -- ---- a[i] * b[i]
 
--- s is the sum of the first i products; the sums on the way leave 128 bits where those from s on do
+-- s is the sum of the first i products; the partial sums leave 128 bits where those from s on do
 pub record IsAdded (xs ys : List ℤ) (i : ℕ) (s : ℤ) : Type 0 where
   pub on_the_way : list_all fits_128 (sums_from (pos 0) (products xs ys))
       ≡ list_all fits_128 (sums_from s (products (drop i xs) (drop i ys)))

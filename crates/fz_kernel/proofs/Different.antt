@@ -1,5 +1,5 @@
 -- Numbers are all different exactly where each is counted once at most. So their order doesn't
--- matter; and where they rise, neighbours tell.
+-- matter; and in ascending order it is enough to compare neighbours.
 use Rattle.std.proofs.Common.{◌≡◌, ℕ, suc, zero, ◌+◌, ◌<◌, ◌≤◌, ℤ, ◌<ℤ◌, ◌≤ℤ◌, Bool, true, false, not, cond, ◌&&◌, ◌||◌, List, [], ◌∷◌, length, get_or, drop, Some, slice_get, refl, sym, ap, subst, ◌∙◌, arith, add-one}
 use Rattle.std.specs.List.{count_by}
 use Rattle.std.specs.List.Sorted.{IsPermutation, IsSorted}
@@ -126,7 +126,7 @@ neighbours_equal xs k j d is h e = two_equal xs k d (omega arith) (e ∙ ap (λ 
 
 -- ---- pair by pair
 
--- the element at a place stands again behind it
+-- the element at an index comes again later
 pub found_again : (xs : List ℤ) (i : ℕ) (x : ℤ) → all_different xs ≡ all_different (drop i xs)
     → slice_get xs i ≡ Some x → is_among x (drop (i + 1) xs) ≡ true → false ≡ all_different xs
 found_again xs i x so_far at again = sym (so_far ∙ ap all_different (next xs i x at) ∙ ap (λ s. not s && all_different (drop (i + 1) xs)) again)

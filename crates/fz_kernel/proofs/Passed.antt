@@ -1,4 +1,4 @@
--- Tests of Booleans, one after another, and the element at a place.
+-- Tests of Booleans, one after another, and the element at an index.
 use Rattle.std.proofs.Common.{◌≡◌, ℕ, suc, zero, ◌+◌, ◌≤◌, ℤ, pos, negsuc, Bool, true, false, not, List, [], ◌∷◌, drop, length, filter, Some, None, slice_get, refl, sym, ap, ◌∙◌, arith, add-one}
 use Rattle.std.proofs.lemmas.Option.{slice_get_past}
 use Rattle.fz_meaning.specs.Builtins.{is_odd, element_at}
@@ -37,7 +37,7 @@ pub odd_at_end : (xs : List Bool) (i : ℕ) (odd : Bool) → length xs ≤ i
     → odd_of xs ≡ turned odd (odd_of (drop i xs)) → odd ≡ odd_of xs
 odd_at_end xs i odd end so_far = sym (so_far ∙ ap (λ l. turned odd (odd_of l)) (none_left xs i end) ∙ turned_none odd)
 
--- ---- the element at a place, counted from 1
+-- ---- the element at an index, counted from 1
 
 pub element_is : {A : Type 0} (xs : List A) (k : ℕ) → element_at xs (pos (suc k)) ≡ slice_get xs k
 element_is [] k = refl

@@ -4,8 +4,7 @@ ghost use Rattle.std.specs.Ordering.{int_cmp};
 ghost use Rattle.std.specs.List.Sorted.{IsSorted};
 ghost use Rattle.fz_meaning.specs.Builtins.{all_different};
 
-/// Whether no two of the numbers are equal, in `n log n` steps and without memory: it puts them in
-/// order.
+/// Whether no two of the numbers are equal. It sorts them, in `n log n` steps and without memory.
 pub fn all_different(numbers: &mut [i64]) -> bool
     ensures exact { result ≡ all_different numbers.old }
 {

@@ -1,11 +1,13 @@
 //! The relations of FlatZinc's builtins, each exactly as THE TABLE (`fz_meaning`'s `Builtins`) has
-//! it: over numbers and sets, and over the elements of arrays under a partial assignment. What
-//! reads a constraint's arguments, and what works out the one value that a relation leaves, stand
-//! on these.
+//! it: over numbers and sets, and over the elements of arrays under a partial assignment. An
+//! internal crate of `fz_model`: `fz_eval` decides with these relations whether a constraint holds,
+//! and `fz_force` which value it leaves.
 //!
-//! Numbers go in as 64 bits and are reckoned with exactly: nothing wraps, and only a sum of
-//! products can leave 128 bits, which it says. Memory is wanted by some relations of sets, and by
-//! [`arrays::all_elements_different`] over a long array.
+//! Numbers go in as 64 bits and are computed with exactly: nothing wraps, and only a sum of
+//! products can leave 128 bits, which the result says. Some relations of sets take memory, and so
+//! does [`arrays::all_elements_different`] over a long array.
+//!
+//! Its worked cases are in `fz_check_cases` (`builtins.rt`).
 #![tactic(auto)]
 
 pub mod arrays;

@@ -4,21 +4,21 @@ ghost use Rattle.std.specs.Int.{int_min, int_max};
 ghost use Rattle.fz_meaning.specs.Values.{◌=ℤ◌};
 ghost use Rattle.fz_meaning.specs.Builtins.{as_number};
 
-/// The sum, which 128 bits always hold.
+/// The sum, which always fits in 128 bits.
 pub fn sum(a: i64, b: i64) -> i128
     ensures exact { result ≡ a +ℤ b }
 {
     i128::from(a) + i128::from(b)
 }
 
-/// The product, which 128 bits always hold.
+/// The product, which always fits in 128 bits.
 pub fn product(a: i64, b: i64) -> i128
     ensures exact { result ≡ a *ℤ b }
 {
     i128::from(a) * i128::from(b)
 }
 
-/// The number without its sign: up to 2^63.
+/// The absolute value: up to 2^63.
 pub fn absolute(a: i64) -> i128
     ensures exact { result ≡ pos (unsigned_abs a) }
 {
@@ -51,7 +51,7 @@ pub fn quotient(a: i64, b: i64) -> Option<i128>
     Some(i128::from(a) / i128::from(b))
 }
 
-/// What is left when the quotient is rounded toward zero: it has the sign of `a`. None where the
+/// The remainder of the division that rounds toward zero: it has the sign of `a`. None where the
 /// divisor is 0.
 pub fn remainder(a: i64, b: i64) -> Option<i128>
     ensures exact { IfSome result (λ r. r ≡ int_rem a b) }
@@ -99,7 +99,7 @@ pub fn is_greatest(a: i64, b: i64, c: i64) -> bool
     c == greatest(a, b)
 }
 
-/// Whether `b` is `a` without its sign.
+/// Whether `b` is the absolute value of `a`.
 pub fn is_absolute(a: i64, b: i64) -> bool
     ensures exact { result ≡ (b =ℤ pos (unsigned_abs a)) }
 {

@@ -26,7 +26,7 @@ abbrev pub Both : (ss : List Shape) → Test ss → Test ss → Type 0 → Type 
 Both [] t u P = t ≡ true → u ≡ true → P
 Both (s ∷ ss) t u P = (x : Of s) → Both ss (t x) (u x) P
 
--- the argument at the place, which is a scalar, is determined by the others
+-- the argument at the index, which is a scalar, is determined by the others
 abbrev pub DeterminesHere : (s : Shape) (ss : List Shape) → (Of s → Test ss) → Type 0
 DeterminesHere (ScalarOf k) ss t = (x y : Plain k) → Both ss (t x) (t y) (x ≡ y)
 DeterminesHere (ArrayOf k) ss t = ⊥
@@ -121,7 +121,7 @@ module _ (below : ℤ → ℤ → Bool) (antisymmetric : (x y : ℤ) → below x
       (each_at x b (and_first (is_among x b) _ d) (λ z. below z y) (and_second (is_among y b) _ e))
       (each_at y b (and_first (is_among y b) _ e) (λ z. below z x) (and_second (is_among x b) _ d))
 
-  -- the place of the best
+  -- the index of the best
   any_found : (p : ℤ → Bool) (b : List ℤ) → list_any p b ≡ true
       → (m : ℤ) × ((p m ≡ true) × (is_among m b ≡ true))
   any_found p [] e = no e

@@ -15,9 +15,9 @@ use Rattle.fz_meaning.proofs.Values.{no, no'}
 use Rattle.fz_meaning.specs.FirstFault.{Fault, literal_fault, named_fault, part_fault, parts_fault, name_fault, decl_fault, decls_fault, constraint_fault, constraints_fault, goal_fault, first_fault}
 use Rattle.fz_meaning.proofs.Scan.{Scan, scan_nothing, scan_both, scan_as, scan_each, scan_map}
 
--- ---- faults at one place
+-- ---- faults at one byte range
 
--- One fault at a place, or none: what is found is the one that there is.
+-- One fault at a byte range, or none: what is found is the one that there is.
 scan_place : (s : Span) (Has : FaultKind → Span → Type 0) (f : Option Fault)
     → ((k : FaultKind) (at : Span) → f ≡ Some (k, at) → Has k at)
     → (f ≡ None → (k : FaultKind) (at : Span) → Has k at → ⊥)

@@ -83,7 +83,7 @@ pub next_number_more : (before : List Decl) (d : Decl) → next_number (before +
     ≡ cond (is_scalar_variable d) (suc (next_number before)) (next_number before)
 next_number_more before d = ap length (scalars_more before d) ∙ length_more (scalar_variables before) (is_scalar_variable d) d
 
--- a place that is found is the same in a longer list
+-- an index that is found is the same in a longer list
 position_left : (t : Decl → Bool) (xs ys : List Decl) → list_any t xs ≡ true
     → position_or_len t (xs ++ ys) ≡ position_or_len t xs
 position_left t [] ys e = no e
@@ -93,7 +93,7 @@ position_left t (x ∷ xs) ys e =
       | false ↦ λ e. ap (λ n. 1 + n) (position_left t xs ys e)
     ]) e
 
--- the first that passes stands after those that don't
+-- the first that passes comes after those that don't
 position_right : (t : Decl → Bool) (xs : List Decl) (y : Decl) (ys : List Decl)
     → list_any t xs ≡ false → t y ≡ true → position_or_len t (xs ++ y ∷ ys) ≡ length xs
 position_right t [] y ys none here = ap (λ b. cond (not b) (1 + position_or_len t ys) 0) here

@@ -46,7 +46,7 @@ pub all_map : {A : Type 0} (P Q : A → Type 0) → ((x : A) → P x → Q x) �
 all_map P Q f [] h = tt
 all_map P Q f (x ∷ xs) h = (f x h.0, all_map P Q f xs h.1)
 
--- what holds of each holds of the one at a place
+-- what holds of each holds of the one at an index
 pub at_place : {A : Type 0} (P : A → Type 0) (xs : List A) (k : ℕ) (x : A) → AllByRecursion P xs
     → slice_get xs k ≡ Some x → P x
 at_place P [] k x h e = cc

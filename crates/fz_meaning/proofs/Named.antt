@@ -1,5 +1,5 @@
--- The rows of the table by name: each base row's name is its own, none ends in `_reif` or `_imp`,
--- and each reified form has its base row's name with one of these behind.
+-- The rows of the table by name: each base row has a name of its own, none ends in `_reif` or
+-- `_imp`, and each reified form has its base row's name with one of these appended.
 use Rattle.std.proofs.Common.{◌≡◌, ◌≢◌, ℕ, Bool, true, false, true≢false, not, ◌&&◌, cond, List, [], ◌∷◌, ◌++◌, map, filter, find, length, drop, Option, Some, None, refl, sym, ap, subst, ◌∙◌, arith}
 use Rattle.std.specs.Prelude.{◌==◌, codes, bytes_eq, option_map, option_and_then, ◌-◌}
 use Rattle.std.specs.List.{list_all}
@@ -25,7 +25,7 @@ same_name x y e = (bytes_eq-Decides x y).0 e
 pub equal_names : (x y : List ℕ) → x ≡ y → bytes_eq x y ≡ true
 equal_names x y e = (bytes_eq-Decides x y).1 e
 
--- what is put behind both names makes no difference
+-- the same suffix on both names makes no difference
 pub suffix_drops : (x y s : List ℕ) → bytes_eq (x ++ s) (y ++ s) ≡ bytes_eq x y
 suffix_drops x y s =
     same_from_decides (bytes_eq (x ++ s) (y ++ s)) (bytes_eq x y)

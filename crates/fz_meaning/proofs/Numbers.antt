@@ -79,7 +79,7 @@ position_is before (e ∷ ds) new i d at =
         ap (λ b. cond (not b) (1 + prefix_len (λ x. not (named_as d.name.text x)) (scalar_variables ds)) 0) other
         ∙ one-add (position_or_len (named_as d.name.text) (scalar_variables ds)) ∙ ap suc (later j at)
 
--- The variable at place i has number i.
+-- The variable at index i has number i.
 pub numbers_agree : (t : LocatedTree) → HasNoFault t → (i : ℕ) (d : Decl)
     → slice_get (scalar_variables t.decls) i ≡ Some d → number_of t.decls d.name.text ≡ i
 numbers_agree t sound i d at = position_is [] t.decls (each_new (in_order t) (λ at. sound DuplicateName at)) i d at

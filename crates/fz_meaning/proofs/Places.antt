@@ -1,4 +1,4 @@
--- The tree with its places, its places left out, is the plain tree of the parser's tree.
+-- The located tree without its byte ranges is the plain tree of the parser's tree.
 use Rattle.std.proofs.Common.{◌≡◌, List, [], ◌∷◌, map, Option, Some, None, option_map, refl, ap}
 use Rattle.fz_syntax.specs.Offering.{TreeItems, bare_all, items_of_tree}
 use Rattle.fz_syntax.specs.View as plain

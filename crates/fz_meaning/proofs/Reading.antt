@@ -1,5 +1,5 @@
--- The places where faults are told are among those of the names and literals that the parser tells,
--- in the same order.
+-- The byte ranges at which faults are told are among those of the names and literals that the
+-- parser tells, in the same order.
 use Rattle.std.proofs.Common.{◌≡◌, ℕ, ◌≤◌, ◌<◌, List, [], ◌∷◌, ◌++◌, map, Option, Some, None, refl, sym, subst, arith, append_assoc, flat_map}
 use Rattle.std.specs.Prelude.{⊤}
 use Rattle.std.proofs.lemmas.List.{map-append}
@@ -19,7 +19,7 @@ use Rattle.fz_meaning.specs.Located.{Decl, Constraint}
 use Rattle.fz_meaning.specs.View.{located_basic, located_expr, located_value, located_decl, located_constraint, located_goal, located, located_all}
 use Rattle.fz_meaning.specs.Names.{IsInReadingOrder, RiseFrom, span_of, fault_places, parts, parts_of_arguments, goal_parts}
 
--- ---- places among spots
+-- ---- byte ranges among spots
 
 -- each begins after the one before it
 abbrev SpotsRise : ℕ → List Spot → Type 0
@@ -30,7 +30,7 @@ spots_rise : (source : List ℕ) (n end : ℕ) (ss : List Spot) → Stand source
 spots_rise source n end [] h = tt
 spots_rise source n end (s ∷ ss) h = (h.0, h.1, spots_rise source s.end end ss h.3)
 
--- the places are those of some of the spots, in their order
+-- the byte ranges are those of some of the spots, in their order
 data Among : List Span → List Spot → Type 0 where
   end : Among [] []
   skip : {ps : List Span} {ss : List Spot} (s : Spot) → Among ps ss → Among ps (s ∷ ss)
@@ -125,7 +125,7 @@ tree_among t =
     (among_append (among_each located_constraint (λ c. map span_of (parts_of_arguments c.args)) constraint_spots constraint_among t.constraints) gs (solve_spots t.solve)
     (among_right (flat_map note_spots t.solve.notes.items) (goal_among t.solve.goal)))))
 
--- What stands in a source one behind the other is in reading order.
+-- What follows in a source one after another is in reading order.
 pub all_in_reading_order : (source : List ℕ) (n : ℕ) (t : TreeItems)
     → Stand source 0 n (spots_all t) → IsInReadingOrder (located_all t)
 all_in_reading_order source n t h = places_rise (tree_among t) 0 (spots_rise source 0 n (spots_all t) h)

@@ -1,5 +1,5 @@
--- A scan looks for the first fault over a stretch of the tree; two scans one behind the other are a
--- scan.
+-- A scan looks for the first fault over a stretch of the tree; two scans, one after the other, are
+-- a scan.
 use Rattle.std.proofs.Common.{◌≡◌, ℕ, ◌≤◌, ◌<◌, List, [], ◌∷◌, ◌++◌, map, Option, Some, None, refl, arith, inl, inr, ◌⊎◌}
 use Rattle.std.specs.List.{flat_map}
 use Rattle.std.specs.Option.{option_or}
@@ -8,7 +8,7 @@ use Rattle.fz_meaning.specs.Meaning.{first_some}
 use Rattle.fz_meaning.specs.Names.{FaultKind, Some_of, RiseFrom, NotAfter}
 use Rattle.fz_meaning.specs.FirstFault.{Fault}
 
--- the end of the last place
+-- the end of the last byte range
 abbrev pub end_of : ℕ → List Span → ℕ
 end_of lo [] = lo
 end_of lo (s ∷ ss) = end_of s.end ss
@@ -29,8 +29,8 @@ pub end_append : (lo : ℕ) (ss ts : List Span) → end_of lo (ss ++ ts) ≡ end
 end_append lo [] ts = refl
 end_append lo (s ∷ ss) ts = end_append s.end ss ts
 
--- A fault of those that `Has` names is found exactly where there is one, its place is one of the
--- places, and none is before it.
+-- A fault of those that `Has` names is found exactly where there is one, its byte range is one of
+-- those scanned, and no fault is before it.
 pub record Scan (places : List Span) (Has : FaultKind → Span → Type 0) (found : Option Fault) : Type 0 where
   pub tells : (k : FaultKind) (at : Span) → found ≡ Some (k, at) → Has k at
   pub none : found ≡ None → (k : FaultKind) (at : Span) → Has k at → ⊥
@@ -82,7 +82,7 @@ both_first ps qs H J (Some x) g a b lo rise k at e j there (inr later) =
     let late : (end_of lo ps ≤ there.start) × (there.start < end_of (end_of lo ps) qs) = b.within (end_of lo ps) (rise_right lo ps qs rise) j there later in
     inl (omega (arith, early.1, late.0))
 
--- one behind the other
+-- one after the other
 pub scan_both : (ps qs : List Span) (H J : FaultKind → Span → Type 0) (f g : Option Fault)
     → Scan ps H f → Scan qs J g → Scan (ps ++ qs) (λ k at. H k at ⊎ J k at) (option_or f g)
 scan_both ps qs H J f g a b = record {
@@ -110,7 +110,7 @@ pub scan_each : {A : Type 0} (places : A → List Span) (Has : A → FaultKind �
 scan_each places Has fault each [] = scan_nothing
 scan_each places Has fault each (x ∷ xs) = scan_both (places x) (flat_map places xs) (Has x) (λ k at. Some_of (λ x. Has x k at) xs) (fault x) (first_some fault xs) (each x) (scan_each places Has fault each xs)
 
--- over a list where each has one place
+-- over a list where each has one byte range
 pub scan_map : {A : Type 0} (place : A → Span) (Has : A → FaultKind → Span → Type 0)
     (fault : A → Option Fault) → ((x : A) → Scan (place x ∷ []) (Has x) (fault x)) → (xs : List A)
     → Scan (map place xs) (λ k at. Some_of (λ x. Has x k at) xs) (first_some fault xs)

@@ -13,7 +13,7 @@ use Rattle.fz_meaning.specs.FirstFault.{Fault, part_fault, parts_fault, name_fau
 
 -- ---- a list of which a part was read
 
--- the whole list: what was read, the one at the place, and what follows
+-- the whole list: what was read, the one at the index, and what follows
 pub whole_at : {A B : Type 0} (f : A → B) (xs : List A) (i : ℕ) (x : A) → i < length xs
     → x ≡ get_or xs i x → map f xs ≡ map f (take i xs) ++ f x ∷ map f (drop (i + 1) xs)
 whole_at f xs i x h e =

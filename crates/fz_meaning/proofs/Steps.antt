@@ -22,7 +22,7 @@ use Rattle.fz_base.specs.declared.value.Value.TheVariants.{Int, Bool as Truth, S
 use Rattle.fz_meaning.specs.declared.kind.Kind.{Kind}
 use Rattle.fz_meaning.specs.declared.kind.Kind.TheVariants.{Int as IntKind, Bool as BoolKind, Set as SetKind}
 
--- ---- a value more
+-- ---- one more value
 
 pub value_at_given : (K : Partial) (n : ℕ) (v u : Value) → value_at (give K n v) n ≡ Some u → u ≡ v
 value_at_given [] n v u e = cc
@@ -83,7 +83,7 @@ append_one_left (x ∷ xs) ys y e h =
     let nil : xs ≡ [] = (append-nil xs ys rest).0 in
     ((λ i. head i ∷ nil i), (append-nil xs ys rest).1)
 
--- ---- what has a value keeps it
+-- ---- what has a value still has it
 
 module _ (K : Partial) (n : ℕ) (none : value_at K n ≡ None) (v : Value) where
   pub term_keeps : (t : Term) → is_open K t ≡ false → value (give K n v) t ≡ value K t
@@ -185,7 +185,7 @@ variable_argument K n v k a e =
       | Some u ↦ λ h e. let same : u ≡ v = value_at_given K n v u h in let is : OneValue u ≡ a = cc in sym is ∙ ap OneValue same
     ] refl e
 
--- ---- where the variable stands by itself in a result place
+-- ---- where the variable, by itself, is an argument that may be filled
 
 module _ (K : Partial) (n : ℕ) (none : value_at K n ≡ None) (v w : Value) where
   open_here : filter (is_open K) (Var n ∷ []) ≡ [] → ⊥
@@ -299,7 +299,7 @@ are_ints K (ListOf ps) a ns e r =
     let (vs, have, is) = map_some ManyValues (values K (terms_in (ListOf ps))) a e in
     record { are = vs; have = have; reads = subst (λ b. read (ArrayOf IntKind) b ≡ Some ns) (sym is) r }
 
--- the numbers up to a place, the one there, and those after it
+-- the numbers up to an index, the one there, and those after it
 record SplitAt (ns : List ℤ) (i : ℕ) (n : ℤ) : Type 0 where
   before : List ℤ
   after : List ℤ
@@ -320,7 +320,7 @@ split_at K (t ∷ ts) (suc i) u n ns at is h =
     let s : SplitAt f.others i n = split_at K ts i u n f.others at is f.are in
     record { before = f.first ∷ s.before; after = s.after; splits = f.splits ∙ ap (λ ms. f.first ∷ ms) s.splits; at = ap suc s.at }
 
--- two lists that differ at one place alone
+-- two lists that differ at one index alone
 record DifferAt (ms ns : List ℤ) (i : ℕ) (v w : Value) : Type 0 where
   before : List ℤ
   after : List ℤ

@@ -1,5 +1,5 @@
 -- A table of the declared names, in source order: what a look-up in it says of the declarations,
--- and what stands at a place.
+-- and what is at an index.
 use Rattle.std.proofs.Common.{◌≡◌, ℕ, suc, zero, ◌+◌, ◌<◌, ◌≤◌, Bool, true, false, not, cond, ◌&&◌, ◌||◌, List, [], ◌∷◌, ◌++◌, map, length, get_or, take, drop, Option, Some, None, refl, sym, ap, subst, ◌∙◌, arith, slice_get, bytes_eq, option_map, nat_lt}
 use Rattle.std.specs.List.{list_any, position, position_or_len}
 use Rattle.std.proofs.lemmas.List.{length-map}
@@ -83,7 +83,7 @@ found_past n m e = (elim (nat_lt n m) as (λ b. nat_lt n m ≡ b → ◌≡◌ {
   | false ↦ λ t e. ltb-false n m t
 ]) refl e
 
--- a look-up gives the place of the declaration
+-- a look-up gives the index of the declaration
 pub table_finds : {K : Type 0} (text : K → List ℕ) (keys : List K) (ds : List Decl)
     → AreNames text keys ds → (x : List ℕ) (i : ℕ) → position (λ k. bytes_eq x (text k)) keys
     ≡ Some i → (d : Decl) × (slice_get ds i ≡ Some d) × (declaration ds x ≡ Some d)
@@ -107,12 +107,12 @@ table_misses {K} text keys ds are x e =
     let behind : length ds ≤ position_or_len (named_as x) ds = omega (arith, past, table_length text keys ds are, table_position text keys ds are x) in
     find_at (named_as x) ds ∙ slice_get_past ds (position_or_len (named_as x) ds) behind
 
--- what a column beside the table has at the place
+-- what a column beside the table has at the index
 pub column_at : {P : Type 0} (g : Decl → P) (ds : List Decl) (ps : List P) → ps ≡ map g ds
     → (i : ℕ) (d : Decl) (p : P) → slice_get ds i ≡ Some d → get_or ps i p ≡ g d
 column_at g ds ps are i d p at = get_or_from_slice_get ps i (g d) p (ap (λ qs. slice_get qs i) are ∙ slice_get-map g ds i ∙ ap (option_map g) at)
 
--- ---- by places
+-- ---- by indices
 
 pub parted : (ds : List Decl) (i : ℕ) (d : Decl) → slice_get ds i ≡ Some d
     → ds ≡ take i ds ++ d ∷ drop (suc i) ds
@@ -120,7 +120,7 @@ parted [] i d at = cc
 parted (c ∷ ds) zero d at = let same : c ≡ d = cc in ap (λ z. z ∷ ds) same
 parted (c ∷ ds) (suc i) d at = ap (λ zs. c ∷ zs) (parted ds i d at)
 
--- where each name is declared once, the declaration at a place is the one of its name
+-- where each name is declared once, the declaration at an index is the one of its name
 pub declaration_at : (ds : List Decl) → AreNew [] ds → (i : ℕ) (d : Decl) → slice_get ds i ≡ Some d
     → declaration ds d.name.text ≡ Some d
 declaration_at ds new i d at =

@@ -37,7 +37,7 @@ int_lin_eq_holds us a vs b c h k = rw (h, k) refl
 
 -- ---- the reified forms
 
--- each value can be read as its shape says
+-- each value can be read as its kind asks
 abbrev pub AreRead : List Shape → List ArgValue → Type 0
 AreRead [] [] = ⊤
 AreRead (s ∷ ss) (v ∷ vs) = IsSome (read s v) × AreRead ss vs
@@ -55,7 +55,7 @@ passes_form says (s ∷ ss) t (v ∷ vs) r h =
       | Some x ↦ λ i. passes_form says ss (t x) vs r h.1
     ]) h.0
 
--- such a form holds where the Boolean says so of whether the row does
+-- a reified form holds as its Boolean says, given whether the base row holds
 pub reified_holds : (row : Row) (vs : List ArgValue) (r : Bool) → AreRead row.shapes vs
     → row_holds (reified row) (vs ++ OneValue (Truth r) ∷ []) ≡ (r =ᴮ row_holds row vs)
 reified_holds row vs r h = passes_form ◌=ᴮ◌ row.shapes row.holds vs r h

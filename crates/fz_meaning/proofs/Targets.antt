@@ -1,4 +1,4 @@
--- What stands under a number, and the number that stands for a name.
+-- Which variable a number has, and which number a name stands for.
 use Rattle.std.proofs.Common.{◌≡◌, ℕ, Bool, true, false, cond, ◌&&◌, List, [], ◌∷◌, ◌++◌, map, Option, Some, None, refl, sym, ap, ◌∙◌, find, filter, slice_get, option_map}
 use Rattle.std.specs.Prelude.{option_and_then}
 use Rattle.std.proofs.lemmas.List.Folds.{find_at}
@@ -12,7 +12,7 @@ use Rattle.fz_meaning.specs.Names.{declaration, named_as, parts, kind_of_base, i
 use Rattle.fz_meaning.proofs.KnownNames.{number_stays, has_name}
 use Rattle.fz_meaning.proofs.Names.{AreNew, variable_number, number_by_name}
 
--- ---- the variable under a number
+-- ---- the variable of a number
 
 found_among : (t q : Decl → Bool) (ds : List Decl) (d : Decl) → find t ds ≡ Some d → q d ≡ true
     → find t (filter q ds) ≡ Some d
@@ -29,7 +29,7 @@ found_among t q (c ∷ ds) d e h =
           ]
     ]) refl e
 
--- under the number of a name stands the scalar variable that has it
+-- the number of a name is that of the scalar variable with this name
 pub variable_numbered : (all before rest : List Decl) → all ≡ before ++ rest
     → (x : List ℕ) (d : Decl) → declaration before x ≡ Some d → is_scalar_variable d ≡ true
     → slice_get (scalar_variables before) (number_of all x) ≡ Some d

@@ -1,4 +1,4 @@
--- A row's kinds with the Boolean of a reified form behind.
+-- A row's kinds followed by the Boolean of a reified form.
 use Rattle.std.proofs.Common.{◌≡◌, ◌+◌, ◌-◌, List, [], ◌∷◌, ◌++◌, map, length, take, refl, sym, ap, ◌∙◌, arith}
 use Rattle.std.proofs.lemmas.List.{length-map, take-map, take_at}
 use Rattle.fz_meaning.specs.Builtins.{Shape as Kinds, B, with_bool}

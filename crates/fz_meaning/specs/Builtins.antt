@@ -43,7 +43,7 @@ abbrev pub [B] : Shape
 abbrev pub [S] : Shape
 [S] = ArrayOf SetKind
 
--- what a value of a kind is, and what an argument of a shape is
+-- what a value of a kind is, and what the value of an argument is: of a scalar or of an array
 abbrev pub Plain : Kind → Type 0
 Plain IntKind = ℤ
 Plain BoolKind = Bool
@@ -53,7 +53,7 @@ abbrev pub Of : Shape → Type 0
 Of (ScalarOf k) = Plain k
 Of (ArrayOf k) = List (Plain k)
 
--- a test of arguments of these shapes
+-- a test of arguments of these kinds
 abbrev pub Test : List Shape → Type 0
 Test [] = Bool
 Test (s ∷ ss) = Of s → Test ss
@@ -64,7 +64,7 @@ Test (s ∷ ss) = Of s → Test ss
 pub data Result : Type 0 where
   -- none
   NoResult : Result
-  -- one that stands at one of these places, counted from 0
+  -- one whose index is one of these, counted from 0
   Places : List ℕ → Result
   -- one element of the second array that has the coefficient 1 or -1
   UnitTerm : Result
@@ -72,9 +72,9 @@ pub data Result : Type 0 where
 pub record Row : Type 0 where
   pub name : List ℕ
   pub shapes : List Shape
-  -- the places, counted from 0, of the arrays that have to be of equal lengths
+  -- the indices, counted from 0, of the arrays that have to be of equal lengths
   pub together : List ℕ
-  -- the places of the arrays whose products are added in signed 128 bits
+  -- the indices of the arrays whose products are added in signed 128 bits
   pub sums : List (ℕ × ℕ)
   pub holds : Test shapes
   pub result : Result
@@ -96,7 +96,7 @@ row name shapes holds result = record {
 abbrev pub forms : Row → Row
 forms r = record r { has_forms = true }
 
--- one whose arrays at these places have equal lengths
+-- one whose arrays at these indices have equal lengths
 abbrev pub equal : List ℕ → Row → Row
 equal places r = record r { together = places }
 
@@ -124,9 +124,9 @@ c = Places (2 ∷ [])
 abbrev pub a_or_b : Result
 a_or_b = Places (0 ∷ 1 ∷ [])
 
--- Name, kinds, holds when, result. `forms` has the reified forms, `lin` and `int_lin`
--- want the first two arrays equally long, `equal` those at its places. The table is shut, so that
--- no goal about code writes it out: a proof that reads it says `unfolding row_at`.
+-- Name, kinds, holds when, result. `forms` has the reified forms, `lin` and `int_lin` want the
+-- first two arrays equally long, `equal` those at its indices. The table is opaque, so that no goal
+-- about code writes it out: a proof that reads it says `unfolding row_at`.
 unfoldable pub row_at : Builtin → Row
 row_at builtin.IntEq = forms (row (codes "int_eq") (I ∷ I ∷ []) (λ a b. a =ℤ b) a_or_b)
 row_at builtin.IntNe = forms (row (codes "int_ne") (I ∷ I ∷ []) (λ a b. not (a =ℤ b)) NoResult)
@@ -436,7 +436,7 @@ abbrev pub with_bool : List Shape → List Shape
 with_bool [] = B ∷ []
 with_bool (s ∷ ss) = s ∷ with_bool ss
 
--- one more Boolean behind, and what is said of it and of the test
+-- one more Boolean after the arguments, and what is said of it and of the test
 abbrev pub with_truth : (Bool → Bool → Bool) → (ss : List Shape) → Test ss → Test (with_bool ss)
 with_truth says [] t = λ r. says r t
 with_truth says (s ∷ ss) t = λ x. with_truth says ss (t x)
@@ -452,19 +452,19 @@ form_of suffix says result r = record {
   has_forms = false;
 }
 
--- the Boolean is true exactly where the row holds
+-- reified: the Boolean is true exactly where the row holds
 abbrev pub reified : Row → Row
 reified r = form_of (codes "_reif") ◌=ᴮ◌ (Places (length r.shapes ∷ [])) r
 
--- where it is true, the row holds
+-- half-reified: where the Boolean is true, the row holds
 abbrev pub implied : Row → Row
 implied r = form_of (codes "_imp") (λ t holds. not t || holds) NoResult r
 
 abbrev pub rows_with_forms : List Row
 rows_with_forms = filter (λ r. r.has_forms) base_rows
 
--- The whole table. It is shut, so that no goal about code writes it out: a proof that reads it says
--- `unfolding rows`.
+-- The whole table. It is opaque, so that no goal about code writes it out: a proof that reads it
+-- says `unfolding rows`.
 unfoldable pub rows : List Row
 rows = base_rows ++ (map reified rows_with_forms ++ map implied rows_with_forms)
 
@@ -496,7 +496,7 @@ read (ScalarOf k) (OneValue v) = plain k v
 read (ArrayOf k) (ManyValues vs) = plain_list k vs
 read _ _ = None
 
--- the arguments have the shapes, and pass the test
+-- the arguments are of the kinds that are asked for, and pass the test
 abbrev pub passes : (ss : List Shape) → Test ss → List ArgValue → Bool
 passes [] t [] = t
 passes (s ∷ ss) t (v ∷ vs) = option_map_or (λ x. passes ss (t x) vs) (read s v) false

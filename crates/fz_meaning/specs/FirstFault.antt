@@ -14,7 +14,7 @@ use Rattle.fz_meaning.specs.Meaning.{first_some}
 use Rattle.fz_meaning.specs.Names.{FaultKind, HasNoFault, IsFirstFault, IsInReadingOrder, literal_value, kind_of_base, declares, declaration, parts, parts_of_arguments, goal_parts, differs_in_length, is_scalar_of}
 use Rattle.fz_meaning.specs.Names.FaultKind.{DuplicateName, UnknownName, WrongKind, WrongLength}
 
--- a fault and its place
+-- a fault and the byte range at which it is told
 abbrev pub Fault : Type 0
 Fault = FaultKind × Span
 

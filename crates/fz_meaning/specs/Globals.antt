@@ -1,5 +1,5 @@
 -- What the rows of global constraints speak of (MiniZinc Handbook, "Global constraints"; the order
--- of their arguments and what holds at their ends is this project's profile). Places of a list
+-- of their arguments and what holds in border cases is this project's profile). Positions in a list
 -- count from 1, and an array's indices from the least one that it had in the source.
 use Rattle.std.specs.Prelude.{ℕ, suc, zero, ◌%◌, ℤ, pos, ◌+ℤ◌, ◌*ℤ◌, ◌-ℤ◌, Bool, true, false, not, ◌&&◌, ◌||◌, if◌then◌else◌, nat_eq, List, [], ◌∷◌, drop, take, length, map, int_le, int_lt, unsigned_abs, Option, Some, None, option_and_then}
 use Rattle.std.specs.Int.{int_max}
@@ -12,17 +12,17 @@ use Rattle.fz_meaning.specs.Relations.{all_different, element_at, is_among, prod
 
 -- ---- lists
 
--- each pair of elements at one place passes
+-- each pair of elements at the same position passes
 abbrev pub all_both : {A B : Type 0} → (A → B → Bool) → List A → List B → Bool
 all_both p (x ∷ xs) (y ∷ ys) = p x y && all_both p xs ys
 all_both p _ _ = true
 
--- each element passes with each one behind it
+-- each element passes with each later one
 abbrev pub all_pairs : {A : Type 0} → (A → A → Bool) → List A → Bool
 all_pairs p [] = true
 all_pairs p (x ∷ xs) = list_all (p x) xs && all_pairs p xs
 
--- each element passes with the one right behind it
+-- each element passes with the next one
 abbrev pub all_neighbours : {A : Type 0} → (A → A → Bool) → List A → Bool
 all_neighbours p (x ∷ y ∷ xs) = p x y && all_neighbours p (y ∷ xs)
 all_neighbours p _ = true
@@ -33,13 +33,13 @@ is_same_list same [] [] = true
 is_same_list same (x ∷ xs) (y ∷ ys) = same x y && is_same_list same xs ys
 is_same_list same _ _ = false
 
--- the first list stands before the second in a dictionary: a proper front comes first
+-- the first list comes before the second in lexicographic order: a proper prefix comes first
 abbrev pub is_before : {A : Type 0} → (less same : A → A → Bool) → List A → List A → Bool
 is_before less same [] (y ∷ ys) = true
 is_before less same (x ∷ xs) (y ∷ ys) = less x y || (same x y && is_before less same xs ys)
 is_before less same _ [] = false
 
--- the list cut into rows of so many elements; the first number is at least that of the rows
+-- the list cut into rows of n elements; the first argument is at least the number of rows
 abbrev pub rows_within : {A : Type 0} → ℕ → ℕ → List A → List (List A)
 rows_within (suc k) n (x ∷ xs) = take n (x ∷ xs) ∷ rows_within k n (drop n (x ∷ xs))
 rows_within _ n _ = []
@@ -61,11 +61,11 @@ windows k (x ∷ xs) =
 
 -- ---- counting
 
--- the number of places where the list has the value
+-- the number of positions at which the list has the value
 abbrev pub count_of : List ℤ → ℤ → ℤ
 count_of xs v = pos (length (filter (λ x. x =ℤ v) xs))
 
--- the number of places where the list has an element of the set
+-- the number of positions at which the list has an element of the set
 abbrev pub count_in : List ℤ → NumberSet → ℤ
 count_in xs s = pos (length (filter (λ x. sets.contains s x) xs))
 
@@ -127,7 +127,8 @@ is_cumulative tasks most =
 abbrev pub last_naturally : List Span → Bool
 last_naturally = list_all (λ k. is_natural k.1)
 
--- no two tasks that last run at one time; strictly, one that doesn't last takes its place too
+-- no two tasks that last run at one time; strictly, one that doesn't last must not start within
+-- another either
 abbrev pub is_disjunctive : List Span → Bool
 is_disjunctive tasks = last_naturally tasks
     && all_pairs (λ a b. is_empty_span a || is_empty_span b || are_apart a b) tasks
@@ -135,7 +136,7 @@ is_disjunctive tasks = last_naturally tasks
 abbrev pub is_strictly_disjunctive : List Span → Bool
 is_strictly_disjunctive tasks = last_naturally tasks && all_pairs are_apart tasks
 
--- boxes by where they lie along both axes: no two overlap
+-- a box, as the span that it covers along each of two axes
 abbrev pub Box : Type 0
 Box = Span × Span
 
@@ -164,21 +165,21 @@ loads_are bin bins weights [] = true
 loads_are bin bins weights (n ∷ ns) =
     (n =ℤ load_of bins weights bin) && loads_are (bin +ℤ pos 1) bins weights ns
 
--- ---- lists that lead from place to place
+-- ---- lists of successors
 
--- indices that begin with o, as places
+-- indices that begin with o, as positions
 abbrev pub as_places : ℤ → List ℤ → List ℤ
 as_places o xs = map (λ x. (x -ℤ o) +ℤ pos 1) xs
 
 abbrev pub lies_between : ℤ → ℤ → ℤ → Bool
 lies_between low high n = int_le low n && int_le n high
 
--- each is one of so many places
+-- each is one of n positions
 abbrev pub are_places : ℕ → List ℤ → Bool
 are_places n = list_all (lies_between (pos 1) (pos n))
 
--- so many places from one on, each the one to which the list leads from the one before; and where
--- it leads from the last
+-- the first positions of a tour: from one on, each next one is what the list has at the one before;
+-- and the position that follows the last of them
 abbrev pub tour : List ℤ → ℕ → ℤ → List ℤ
 tour next zero p = []
 tour next (suc k) p = p ∷ option_map_or (tour next k) (element_at next p) []
@@ -187,30 +188,30 @@ abbrev pub end_of_tour : List ℤ → ℕ → ℤ → Option ℤ
 end_of_tour next zero p = Some p
 end_of_tour next (suc k) p = option_and_then (end_of_tour next k) (element_at next p)
 
--- from the first place on it leads to all, to each once, and back to the first
+-- from the first position the successors lead to all, to each once, and back to the first
 abbrev pub is_circuit : List ℤ → Bool
 is_circuit next =
     are_places (length next) next
     && all_different (tour next (length next) (pos 1))
     && option_map_or (λ p. p =ℤ pos 1) (end_of_tour next (length next) (pos 1)) false
 
--- the places, from one on, that don't lead to themselves
+-- the positions, from one on, that aren't their own successors
 abbrev pub moved_from : ℤ → List ℤ → List ℤ
 moved_from p [] = []
 moved_from p (x ∷ xs) =
     if x =ℤ p then moved_from (p +ℤ pos 1) xs else p ∷ moved_from (p +ℤ pos 1) xs
 
--- from the first of these places on it leads to as many different ones
+-- from the first of these positions the successors lead to as many different ones
 abbrev pub is_one_tour : List ℤ → List ℤ → Bool
 is_one_tour next [] = true
 is_one_tour next (p ∷ ps) = all_different (tour next (length (p ∷ ps)) p)
 
--- a permutation, which leads from one place that it moves to all that it moves
+-- a permutation whose moved positions make one cycle
 abbrev pub is_subcircuit : List ℤ → Bool
 is_subcircuit next = are_places (length next) next && all_different next
     && is_one_tour next (moved_from (pos 1) next)
 
--- the second list leads back from where the first leads, from this place on
+-- from this position on, the second list has each position at the index that the first has there
 abbrev pub leads_back : ℤ → List ℤ → List ℤ → Bool
 leads_back p [] g = true
 leads_back p (x ∷ xs) g =
@@ -240,12 +241,12 @@ is_word xs states symbols d first last =
 
 -- ---- order
 
--- the value t comes only behind an s
+-- the value t comes only after an s
 abbrev pub precedes : ℤ → ℤ → List ℤ → Bool
 precedes s t [] = true
 precedes s t (x ∷ xs) = not (x =ℤ t) && ((x =ℤ s) || precedes s t xs)
 
--- each is greater by one at most than the greatest so far
+-- each is greater by at most one than the greatest so far
 abbrev pub rises_by_one : ℤ → List ℤ → Bool
 rises_by_one most [] = true
 rises_by_one most (x ∷ xs) = int_le x (most +ℤ pos 1) && rises_by_one (int_max most x) xs
@@ -268,7 +269,7 @@ is_index_of_best no_better xs o i =
 
 -- ---- sums
 
--- so many of each thing, their weight and their profit
+-- how many there are of each thing, with their total weight and their total profit
 abbrev pub is_knapsack : List ℤ → List ℤ → List ℤ → ℤ → ℤ → Bool
 is_knapsack weights profits xs weight profit =
     list_all is_natural xs && is_natural weight && is_natural profit

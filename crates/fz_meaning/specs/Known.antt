@@ -23,7 +23,7 @@ name_of b = (row_at b).name
 abbrev pub named_so_long : ℕ → List Builtin
 named_so_long n = filter (λ b. length (name_of b) == n) builtins
 
--- a form of a base row, and what stands behind its name
+-- a form of a base row, and its suffix
 abbrev pub form_at : Form → Row → Row
 form_at Base r = r
 form_at Reified r = reified r

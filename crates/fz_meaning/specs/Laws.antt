@@ -21,7 +21,7 @@ StepsAreForced =
     → slice_get (points m) k ≡ Some p → Gives m K p n v → kind_of w ≡ kind_of v
     → HoldsUnder (give K n w) p → v ≡ w
 
--- In a tree without faults the scalar variable at place i has the name that is numbered i.
+-- In a tree without faults the scalar variable at index i has the name that is numbered i.
 abbrev pub NumbersAgree : Type 0
 NumbersAgree = (t : LocatedTree) → HasNoFault t → (i : ℕ) (d : Decl)
     → slice_get (scalar_variables t.decls) i ≡ Some d → number_of t.decls d.name.text ≡ i
@@ -31,6 +31,6 @@ abbrev pub UnknownIsNotKnown : Type 0
 UnknownIsNotKnown = (K : Partial) (k : ℕ) (p : Posted) → (state K (ConstraintPoint k p) ≡ Unknown)
     ↔ (row_of p ≡ None)
 
--- The tree with its places, its places left out, is the plain tree of the parser's tree.
+-- The located tree without its byte ranges is the plain tree of the parser's tree.
 abbrev pub LocatedIsBare : Type 0
 LocatedIsBare = (a : Ast) → bare_of (located a) ≡ bare a

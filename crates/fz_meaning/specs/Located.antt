@@ -1,8 +1,8 @@
--- The syntax tree of a FlatZinc model with the places where its faults are told (MiniZinc Handbook,
--- FlatZinc grammar; what the tree keeps is this project's profile). It is the grammar's tree with a
--- span at each declared name, and at each literal and name of a declaration's value, of a
--- constraint's arguments and of the objective. A span counts the source's bytes from 0 up to an end
--- that is not part of it.
+-- The syntax tree of a FlatZinc model with the byte ranges at which its faults are told (MiniZinc
+-- Handbook, FlatZinc grammar; what the tree has is this project's profile). It is the grammar's
+-- tree with a span at each declared name, and at each literal and name of a declaration's value, of
+-- a constraint's arguments and of the objective. A span counts the source's bytes from 0 up to an
+-- end that is not part of it.
 use Rattle.std.specs.Prelude.{ℕ, Bool, List, Option, map, option_map}
 use Rattle.fz_base.specs.declared.span.Span.{Span}
 use Rattle.fz_syntax.specs.Tree as tree
@@ -55,7 +55,7 @@ pub record LocatedTree : Type 0 where
   pub constraints : List Constraint
   pub solve : Solve
 
--- ---- the grammar's tree: without the places
+-- ---- the grammar's tree: without the byte ranges
 
 abbrev pub bare_basic : Basic → tree.Basic
 bare_basic (Lit l) = tree.Lit l.what

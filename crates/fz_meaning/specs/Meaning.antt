@@ -64,7 +64,7 @@ pub record Model : Type 0 where
   pub constraints : List Posted
   pub aim : Aim
 
--- the scalar variables in source order, so that the one with number n stands at place n
+-- the scalar variables in source order, so that the one with number n is at index n
 abbrev pub variable_of : Declared → List Variable
 variable_of (ScalarVariable x e) = x ∷ []
 variable_of (Parameter name p) = []
@@ -186,7 +186,7 @@ abbrev pub terms_at : Place → List Term
 terms_at (Scalar k t) = t ∷ []
 terms_at (Array x k ts) = ts
 
--- the scalars that stand in an argument
+-- the scalars in an argument
 abbrev pub terms_in : Argument → List Term
 terms_in (One p) = terms_at p
 terms_in (ListOf ps) = flat_map terms_at ps
@@ -204,8 +204,8 @@ abbrev pub is_term_of : Kind → Place → Bool
 is_term_of k (Scalar j t) = same_kind j k
 is_term_of k (Array x j ts) = false
 
--- the argument has the shape: an array literal where each element is a scalar of the kind, so an
--- empty one fits each kind
+-- the argument is of the kind asked for: an array literal is where each element is a scalar of that
+-- kind, so an empty one is of each kind
 abbrev pub has_shape : Shape → Argument → Bool
 has_shape (ScalarOf k) (One (Scalar j t)) = same_kind j k
 has_shape (ArrayOf k) (One (Array x j ts)) = same_kind j k
@@ -217,14 +217,14 @@ have_shapes [] [] = true
 have_shapes (s ∷ ss) (x ∷ xs) = has_shape s x && have_shapes ss xs
 have_shapes _ _ = false
 
--- the terms of the argument at a place
+-- the terms of the argument at an index
 abbrev pub terms_at_argument : List Argument → ℕ → List Term
 terms_at_argument xs i = option_map_or terms_in (slice_get xs i) []
 
 abbrev pub length_at : List Argument → ℕ → ℕ
 length_at xs i = option_map_or (λ x. length (terms_in x)) (slice_get xs i) 0
 
--- the arguments at these places have equal lengths
+-- the arguments at these indices have equal lengths
 abbrev pub equally_long : List ℕ → List Argument → Bool
 equally_long [] xs = true
 equally_long (i ∷ is) xs = list_all (λ j. length_at xs j == length_at xs i) is
@@ -251,20 +251,20 @@ abbrev pub product_before : Option ℤ → Option ℤ → List ℤ → List ℤ
 product_before (Some a) (Some b) ns = (a *ℤ b) ∷ ns
 product_before _ _ ns = ns
 
--- a[i] * b[i], from the left, at each place where both have values
+-- a[i] * b[i], from the left, at each index where both have values
 abbrev pub known_products : Partial → List Term → List Term → List ℤ
 known_products K (a ∷ as') (b ∷ bs) =
     product_before (number_at K a) (number_at K b) (known_products K as' bs)
 known_products K _ _ = []
 
--- A partial sum of the products of the arguments at two places, added from the left over the places
--- of their elements that have values, leaves signed 128 bits. Where the whole constraint has values
--- these are all its places, and where one element has none they are the others.
+-- A partial sum of the products of two array arguments, added from the left over the indices at
+-- which both elements have values, leaves signed 128 bits. Where the whole constraint has values
+-- these are all indices, and where one element has none they are the others.
 abbrev pub products_leave : Partial → List Argument → ℕ × ℕ → Bool
 products_leave K xs at =
     leaves_128 (known_products K (terms_at_argument xs at.0) (terms_at_argument xs at.1))
 
--- a sum of the row does
+-- one of the row's sums leaves 128 bits
 abbrev pub sums_leave : Partial → List Argument → Row → Bool
 sums_leave K xs r = list_any (products_leave K xs) r.sums
 
@@ -389,7 +389,8 @@ objective m K = objective_of m.aim K
 
 -- ---- what a caller is shown of a model
 
--- what a point is told by: the declared name, or the constraint's number and the predicate's name
+-- how a point is reported: by the declared name, or by the constraint's number and the predicate's
+-- name
 pub data PointName : Type 0 where
   DomainOf : List ℕ → PointName
   DefinitionOf : List ℕ → PointName

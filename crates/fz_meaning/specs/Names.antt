@@ -143,7 +143,7 @@ WrongKindAt known (Some k) (Lit l) at =
 WrongKindAt known (Some k) (Named x) at =
     IsSomeAnd (declaration known x.text) (λ d. IsFalse (is_scalar_of k d)) × (at ≡ x.span)
 
--- The faults of a tree, each with its place. They are a set over the whole tree.
+-- The faults of a tree, each with its byte range. They are a set over the whole tree.
 abbrev pub HasFault : LocatedTree → FaultKind → Span → Type 0
 -- a name is declared twice: told at the later declaration
 HasFault t DuplicateName at = Some_of
@@ -158,7 +158,7 @@ HasFault t WrongLength at = Some_of (λ d. IsTrue (differs_in_length d) × (at �
 abbrev pub HasNoFault : LocatedTree → Type 0
 HasNoFault t = (k : FaultKind) (at : Span) → HasFault t k at → ⊥
 
--- which is told of two faults at one place: at a name that it is declared twice
+-- of two faults at one byte range, that a name is declared twice is told
 abbrev pub rank : FaultKind → ℕ
 rank DuplicateName = 0
 rank UnknownName = 1
@@ -179,8 +179,8 @@ abbrev pub span_of : Basic → Span
 span_of (Lit l) = l.span
 span_of (Named x) = x.span
 
--- the places where faults are told, in reading order: of each declaration its name and the parts of
--- its value, of each constraint the parts of its arguments, and the objective
+-- the byte ranges at which faults are told, in reading order: of each declaration its name and the
+-- parts of its value, of each constraint the parts of its arguments, and the objective
 abbrev pub fault_places : LocatedTree → List Span
 fault_places t =
     flat_map (λ d. d.name.span ∷ map span_of (parts d.value)) t.decls
@@ -192,14 +192,14 @@ abbrev pub RiseFrom : ℕ → List Span → Type 0
 RiseFrom n [] = ⊤
 RiseFrom n (s ∷ ss) = (n ≤ s.start) × (s.start < s.end) × RiseFrom s.end ss
 
--- the places of the tree are those of a source that is read from left to right
+-- the byte ranges of the tree are those of a source that is read from left to right
 abbrev pub IsInReadingOrder : LocatedTree → Type 0
 IsInReadingOrder t = RiseFrom 0 (fault_places t)
 
 -- ---- what a name stands for
 --
--- In a tree with the shapes of the grammar and without faults each name is declared and each
--- declaration has the parts that are read here; nothing rests on what stands for the others.
+-- In a tree with the forms of the grammar and without faults each name is declared and each
+-- declaration has the parts that are read here; nothing depends on what stands for the others.
 
 abbrev pub scalar_variables : List Decl → List Decl
 scalar_variables ds = filter is_scalar_variable ds

@@ -6,7 +6,7 @@ use Rattle.fz_syntax.specs.declared.tree.Ast.{Ast}
 use Rattle.fz_meaning.specs.View.{located}
 use Rattle.fz_meaning.specs.Names.{IsInReadingOrder}
 
--- A tree whose names and literals stand in a source one behind the other is in reading order.
+-- A tree whose names and literals follow each other in a source is in reading order.
 abbrev pub SourcesAreInReadingOrder : Type 0
 SourcesAreInReadingOrder =
     (source : List ℕ) (n : ℕ) (a : Ast) → Stand source 0 n (spots a) → IsInReadingOrder (located a)

@@ -9,7 +9,7 @@ abbrev pub total : List ℤ → ℤ
 total [] = pos 0
 total (n ∷ ns) = n +ℤ total ns
 
--- a[i] * b[i] at each place
+-- a[i] * b[i] at each index
 abbrev pub products : List ℤ → List ℤ → List ℤ
 products (a ∷ as') (b ∷ bs) = (a *ℤ b) ∷ products as' bs
 products _ _ = []
@@ -20,7 +20,7 @@ where_true (a ∷ as') (true ∷ bs) = a ∷ where_true as' bs
 where_true (a ∷ as') (false ∷ bs) = where_true as' bs
 where_true _ _ = []
 
--- the element at a place, counted from 1
+-- the element at an index, counted from 1
 abbrev pub element_at : {A : Type 0} → List A → ℤ → Option A
 element_at [] n = None
 element_at (x ∷ xs) (pos zero) = None
@@ -45,7 +45,7 @@ abbrev pub as_number : Bool → ℤ
 as_number true = pos 1
 as_number false = pos 0
 
--- the sums on the way when the numbers are added one after another to s, from the left
+-- the partial sums when the numbers are added one after another to s, from the left
 abbrev pub sums_from : ℤ → List ℤ → List ℤ
 sums_from s [] = []
 sums_from s (n ∷ ns) = (s +ℤ n) ∷ sums_from (s +ℤ n) ns
@@ -54,11 +54,11 @@ sums_from s (n ∷ ns) = (s +ℤ n) ∷ sums_from (s +ℤ n) ns
 abbrev pub fits_128 : ℤ → Bool
 fits_128 n = int_le (negsuc (2 ^ 127 - 1)) n && int_le n (pos (2 ^ 127 - 1))
 
--- a sum on the way, when the numbers are added from the left, is none of signed 128 bits
+-- a partial sum, when the numbers are added from the left, is none of signed 128 bits
 abbrev pub leaves_128 : List ℤ → Bool
 leaves_128 ns = not (list_all fits_128 (sums_from (pos 0) ns))
 
--- no two elements at different places are equal
+-- no two elements at different indices are equal
 abbrev pub all_different : List ℤ → Bool
 all_different [] = true
 all_different (a ∷ as') = not (is_among a as') && all_different as'

@@ -19,7 +19,7 @@ use Rattle.fz_meaning.specs.Meaning.Place.{Scalar}
 use Rattle.fz_meaning.specs.Meaning.Argument.{One}
 use Rattle.fz_meaning.specs.Meaning.Point.{DomainPoint, DefinitionPoint, ArrayPoint, ConstraintPoint}
 
--- the scalars that stand in a point
+-- the scalars in a point
 abbrev pub terms_of : Point → List Term
 terms_of (DomainPoint x n) = Var n ∷ []
 terms_of (DefinitionPoint x n e) = Var n ∷ e ∷ []
@@ -34,7 +34,7 @@ open_terms K ts = filter (λ t. is_none (value K t)) ts
 abbrev pub HasOneNumber : Domain → Type 0
 HasOneNumber d = (n : ℤ) × ((k : ℤ) → IsTrue (admits d k) ↔ (k ≡ n))
 
--- the scalar variable stands as a name by itself in one of the places
+-- the scalar variable is, as a name by itself, the argument at one of these indices
 abbrev pub StandsAt : List Argument → ℕ → List ℕ → Type 0
 StandsAt xs n is =
     (i : ℕ) × Contains is i × (k : Kind) × (slice_get xs i ≡ Some (One (Scalar k (Var n))))
@@ -52,8 +52,8 @@ IsResult K xs n (Places is) = StandsAt xs n is
 IsResult K xs n UnitTerm = HasUnitCoefficient K xs n
 
 -- The variable is a target of the point: of the domain of an int variable that has exactly one
--- number; either side of a definition; of a known constraint, what its first `defines_var` names,
--- where that stands in a result place.
+-- number; either side of a definition; of a known constraint its defined variable, where that is an
+-- argument that its row lets `defines_var` name.
 abbrev pub IsTarget : Partial → Point → ℕ → Type 0
 IsTarget K (DomainPoint x n) y = (n ≡ y) × (x.kind ≡ IntKind) × HasOneNumber x.domain
 IsTarget K (DefinitionPoint x n e) y = (n ≡ y) ⊎ (e ≡ Var y)

@@ -1,4 +1,4 @@
--- How the code keeps a base row (private functions only).
+-- How the code stores a base row (private functions only).
 use Rattle.std.specs.Prelude.{◌≡◌, ℕ, List, [], ◌∷◌, map}
 use Rattle.fz_meaning.specs.Builtins.{Row, with_bool}
 use Rattle.fz_meaning.specs.declared.row.BaseRow.{BaseRow}
@@ -19,7 +19,7 @@ sums_in (Equal places) = []
 sums_in Summed = (0, 1) ∷ []
 sums_in Packed = (0, 2) ∷ (1, 2) ∷ []
 
--- the kinds with a Boolean behind, and the row's other fields
+-- the kinds with the Boolean of the reified forms last, and the row's other fields
 pub record IsData (kept : BaseRow) (r : Row) : Type 0 where
   pub shapes : map shape_of kept.0.now ≡ with_bool r.shapes
   pub filled : result_of kept.1 ≡ r.result

@@ -1,5 +1,5 @@
--- What the parser's tree and a refusal of names stand for: the tree with its places, and the
--- leftmost fault (this project's profile).
+-- What the parser's tree and a refusal of names stand for: the located tree, and the leftmost fault
+-- (this project's profile).
 use Rattle.std.specs.Prelude.{map, option_map, Option, ⊤}
 use Rattle.fz_syntax.specs.Offering.{TreeItems}
 use Rattle.fz_syntax.specs.View.{bare_literal, bare_base, bare_notes, bare_predicate}
@@ -67,7 +67,7 @@ located_goal (goals.Maximize b) = Maximize (located_basic b)
 abbrev pub located_solve : the_solve.Solve → Solve
 located_solve s = record { notes = bare_notes s.notes.items; goal = located_goal s.goal }
 
--- the tree with its places
+-- the located tree
 abbrev pub located : Ast → LocatedTree
 located a = record {
   predicates = map bare_predicate a.predicates.items;
@@ -76,7 +76,7 @@ located a = record {
   solve = located_solve a.solve;
 }
 
--- the same of a tree by its items
+-- the located tree of a tree that is given by its items
 abbrev pub located_all : TreeItems → LocatedTree
 located_all t = record {
   predicates = map bare_predicate t.predicates;
@@ -87,8 +87,8 @@ located_all t = record {
 
 -- ---- refusals
 
--- what a refusal tells of the tree: a fault that it has, at the place told, or nothing where memory
--- ran out
+-- what a refusal says of the tree: a fault that it has, at the byte range told, or nothing where
+-- memory ran out
 abbrev pub TellsFault : LocatedTree → ModelError → Type 0
 TellsFault t (errors.DuplicateName at) = HasFault t DuplicateName at
 TellsFault t (errors.UnknownName at) = HasFault t UnknownName at

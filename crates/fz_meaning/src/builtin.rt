@@ -132,7 +132,7 @@ pub enum Builtin {
 }
 
 impl Builtin {
-    // The builtins whose names are so long, each behind its name.
+    // The builtins whose names have this length, each with its name.
     #[tactic(auto, unfolding(crate::specs::Builtins::builtins, crate::specs::Builtins::row_at))]
     fn named_so_long(length: usize) -> &'static [(&'static [u8], Builtin)]
         ensures { map {B = List ℕ × Builtin} (λ n. (n.0.now, n.1)) result.now
@@ -338,7 +338,7 @@ impl Builtin {
         }
     }
 
-    // The builtin of a name, if there is one.
+    // The builtin with this name, if there is one. Only names of the same length are compared.
     pub(crate) fn called(name: &[u8]) -> Option<Builtin>
         ensures { result ≡ find (λ b. bytes_eq (name_of b) name.now) builtins }
     {

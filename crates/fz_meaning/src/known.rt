@@ -1,4 +1,4 @@
-//! A builtin or its reified form.
+//! A builtin, or one of its reified forms.
 
 ghost use Rattle.std.specs.Prelude.{◌≡◌, ◌++◌, IfNone, IfSome, List, MatchOption, None, Some, ℕ, map};
 ghost use Rattle.fz_meaning.specs.Known.{HasTruth, known_row, result_of, row_named, shape_of, suffix_of};
@@ -12,10 +12,10 @@ use crate::text::same_text;
 pub enum Form {
     /// That it holds.
     Base,
-    /// That it holds exactly where the Boolean behind its arguments is true: a name with
-    /// `_reif`.
+    /// That it holds exactly where its control variable, the Boolean after its arguments, is true:
+    /// a name ending in `_reif`.
     Reified,
-    /// That it holds where that Boolean is true: a name with `_imp`.
+    /// That it holds where that Boolean is true, half-reified: a name ending in `_imp`.
     Implied,
 }
 
@@ -26,7 +26,7 @@ pub struct Known {
     pub form: Form,
 }
 
-/// What stands before the suffix in a name that ends so.
+/// The name without the suffix, where it ends in that.
 #[inline]
 fn without<'n>(name: &'n [u8], suffix: &[u8]) -> Option<&'n [u8]>
     ensures { MatchOption result ((base : List ℕ) → name.now ≡ base ++ suffix.now → ⊥)
@@ -44,8 +44,7 @@ fn without<'n>(name: &'n [u8], suffix: &[u8]) -> Option<&'n [u8]>
 }
 
 impl Known {
-    /// What a constraint's name means, if the table has a row of that name. It is compared with few
-    /// names.
+    /// The row of the table that has a constraint's name, if there is one.
     pub fn find(name: &[u8]) -> Option<Known>
         ensures has_row { IfSome result (λ k. row_named name.now ≡ Some (known_row k)) }
         ensures none { IfNone result (row_named name.now ≡ None) }
@@ -63,7 +62,7 @@ impl Known {
         })
     }
 
-    // A reified form of the base row of this name.
+    // The reified form, of this kind, of the base row of this name.
     fn in_form(base: &[u8], form: Form) -> Option<Known>
         requires { HasTruth form }
         ensures has_row { IfSome result
@@ -91,7 +90,7 @@ impl Known {
         }
     }
 
-    /// The places, counted from 0, of the arrays that have to be of equal lengths.
+    /// The indices, counted from 0, of the array arguments that have to be of equal lengths.
     pub fn together(self) -> &'static [usize]
         ensures { result.now ≡ (known_row self).together }
     {
@@ -104,7 +103,8 @@ impl Known {
         }
     }
 
-    /// The places, counted from 0, of the arrays whose products are added in signed 128 bits.
+    /// The indices, counted from 0, of the pairs of array arguments whose products are added in
+    /// signed 128 bits.
     pub fn sums(self) -> &'static [(usize, usize)]
         ensures { result.now ≡ (known_row self).sums }
     {
@@ -116,7 +116,7 @@ impl Known {
         }
     }
 
-    /// Which arguments `defines_var` may fill: of a form with `_reif`, its Boolean.
+    /// Which arguments `defines_var` may name: of a form with `_reif`, its control variable.
     pub fn filled(self) -> Filled
         ensures { result_of result ≡ (known_row self).result }
     {

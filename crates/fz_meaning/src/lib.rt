@@ -1,11 +1,13 @@
 //! What a FlatZinc model means: names, the table of builtins, points and their states, forced
 //! steps, and the leftmost fault of names. An internal crate of `fz_model`, which offers all of it.
 //!
-//! The table of builtins stands here as data too. [`Known::find`] says what a constraint's name
-//! means: a [`Builtin`], or a reified [`Form`] of it. A [`Known`] tells what its
-//! row asks: the kinds of its arguments, which arrays have to be of equal lengths, which sums are
-//! added in 128 bits, and which arguments may be filled. What the row holds of is the definition's:
-//! `Builtins`.
+//! The table of builtins is data here too. [`Known::find`] says what a constraint's name means: a
+//! [`Builtin`], or a reified [`Form`] of it. A [`Known`] tells what its row asks: the kinds of its
+//! arguments, which arrays have to be of equal lengths, which sums are added in 128 bits, and which
+//! arguments may be filled. When a row holds is in the definitions alone (`specs/Builtins.antt`).
+//!
+//! Its definitions are computed on worked rows in `proofs/Rows.antt`; the worked cases of the table
+//! are in `fz_check_cases`.
 #![tactic(auto)]
 
 mod builtin;
@@ -30,12 +32,12 @@ pub use state::State;
 pub use term::{Domain, Term};
 pub use text::same_text;
 
-/// A forced step has one value only.
+/// A forced step's value is the only one with which its point holds.
 pub fn steps_are_forced()
     ensures { StepsAreForced }
 {}
 
-/// Names and places number the scalar variables alike.
+/// The number of a scalar variable is its index in the list of the variables.
 pub fn numbers_agree()
     ensures { NumbersAgree }
 {}
@@ -45,12 +47,12 @@ pub fn unknown_is_not_known()
     ensures { UnknownIsNotKnown }
 {}
 
-/// The tree with its places, its places left out, is the parser's plain tree.
+/// The located tree without its byte ranges is the parser's plain tree.
 pub fn located_is_bare()
     ensures { LocatedIsBare }
 {}
 
-// Where the tree is read in source order and no fault is met, it has none.
+// Where no fault is met as the tree is read in source order, the tree has none.
 fn none_is_found()
     ensures { NoneIsFound }
 {}
@@ -65,7 +67,7 @@ fn first_fault_is_leftmost()
     ensures { FirstFaultIsLeftmost }
 {}
 
-/// A tree whose names and literals stand in a source one behind the other is in reading order.
+/// A tree whose names and literals follow each other in a source is in reading order.
 pub fn sources_are_in_reading_order()
     ensures { SourcesAreInReadingOrder }
 {}

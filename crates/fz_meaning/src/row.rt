@@ -13,21 +13,21 @@ pub enum Shape {
     Array(Kind),
 }
 
-/// Which arguments `defines_var` may fill, by their places, counted from 0.
+/// Which arguments `defines_var` may name, by their indices, counted from 0.
 #[derive(Clone, Copy, Debug, PartialEq, Eq)]
 pub enum Filled {
     Nothing,
-    /// The one at this place.
+    /// The one at this index.
     At(usize),
-    /// The one at either place.
+    /// The one at either index.
     Either(usize, usize),
     /// One element of the second array, where its coefficient is 1 or -1.
     UnitTerm,
 }
 
-// Which arrays have to be of equal lengths: none; those at some places, counted from 0; the first
-// two, whose products are added up in signed 128 bits; or the first three, where the products of
-// each of the first two with the third are.
+// Which arrays have to be of equal lengths: none; those at some argument indices, counted from 0;
+// the first two, whose products are added in signed 128 bits; or the first three, where the
+// products of each of the first two with the third are added so.
 #[derive(Clone, Copy)]
 pub(crate) enum Lengths {
     Free,
@@ -36,8 +36,8 @@ pub(crate) enum Lengths {
     Packed,
 }
 
-// The kinds of a base row's arguments with the Boolean of its forms behind, what may be filled,
-// which lengths are equal, and whether there are reified forms.
+// The kinds of a base row's arguments followed by the Boolean of its reified forms, what may be
+// filled, which lengths are equal, and whether there are reified forms.
 #[derive(Clone, Copy)]
 pub(crate) struct BaseRow(
     pub(crate) &'static [Shape],

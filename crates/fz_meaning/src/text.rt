@@ -1,4 +1,4 @@
-//! Texts side by side.
+//! Whether two texts are the same.
 
 ghost use Rattle.std.specs.Prelude.{◌≡◌, bytes_eq, length};
 

@@ -1,7 +1,11 @@
-//! Models of FlatZinc: names, kinds and lengths, and what they mean. The internal crate
-//! `fz_meaning` has the definitions, the table of builtins and the theory of faults, `fz_data` the
-//! loaded model; `fz_arguments`, `fz_kernel` and `fz_eval` tell the state of a point, `fz_force`
-//! the step that it forces.
+//! Models of FlatZinc: what they mean, loading them, the state of a point and the step that it
+//! forces. This crate is a facade over its internal crates, with no code of its own: `fz_meaning`
+//! has the definitions, the table of builtins and the laws, and `fz_data` the loaded model;
+//! `fz_arguments` reads the arguments of a constraint, `fz_kernel` and `fz_globals` have the
+//! relations of the builtins and of the global constraints, `fz_eval` tells the state of a point,
+//! and `fz_force` the step that it forces.
+//!
+//! Its worked cases are in `fz_check_cases`.
 #![tactic(auto)]
 
 pub use fz_force::fz_data::{

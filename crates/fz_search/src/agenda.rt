@@ -1,4 +1,4 @@
-//! The points that are to be visited, each of which waits once.
+//! The agenda: the points that are to be visited, each at most once at a time.
 
 use std::alloc::{AllocError, Global};
 use std::collections::VecDeque;
@@ -20,7 +20,7 @@ impl Agenda {
         })
     }
 
-    /// Puts a point behind those that wait, where it doesn't wait.
+    /// Appends a point, unless it is there already.
     pub(crate) fn add(&mut self, point: usize) -> Result<(), AllocError> {
         let Some(waits) = self.waits.get_mut(point) else {
             return Ok(());
@@ -32,7 +32,7 @@ impl Agenda {
         Ok(())
     }
 
-    /// Takes the point that came first.
+    /// Takes the first point.
     pub(crate) fn take_first(&mut self) -> Option<usize> {
         let point = self.queue.pop_front()?;
         if let Some(waits) = self.waits.get_mut(point) {

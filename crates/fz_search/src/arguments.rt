@@ -1,9 +1,9 @@
-//! The arguments of a constraint as they are read.
+//! Reading the arguments of a constraint that fits a row.
 
 use fz_base::Value;
 use fz_model::{Argument, ConstraintParts, Scalar, Scalars, Slot, part, scalar_at};
 
-/// The argument at a place as a scalar: a row that is known has one there.
+/// The argument at an index as a scalar: the row has one there.
 pub(crate) fn scalar_in<'m>(parts: &ConstraintParts<'m, '_>, place: usize) -> Scalar<'m> {
     match parts.arguments().get(place) {
         Some(argument) => scalar_of(&parts.store.constants, argument),
@@ -18,7 +18,7 @@ fn scalar_of<'m>(constants: &'m [Value], argument: &Argument) -> Scalar<'m> {
     }
 }
 
-/// The elements of the argument at a place: a row that is known has an array there.
+/// The elements of the argument at an index: the row has an array there.
 pub(crate) fn elements_in<'m>(parts: &ConstraintParts<'m, '_>, place: usize) -> Scalars<'m> {
     match parts.arguments().get(place) {
         Some(argument) => elements_of(parts, argument),
@@ -36,7 +36,7 @@ fn elements_of<'m>(parts: &ConstraintParts<'m, '_>, argument: &Argument) -> Scal
     }
 }
 
-/// Those of the declared array that a slot is.
+/// The elements of the declared array that a slot is.
 pub(crate) fn declared_elements<'m>(parts: &ConstraintParts<'m, '_>, slot: Slot) -> Scalars<'m> {
     match slot {
         Slot::Array(number) => match parts.arrays.get(number as usize) {

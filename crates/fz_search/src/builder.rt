@@ -1,4 +1,4 @@
-//! The points of a model, as they are gone over once.
+//! The list of a model's points, made in one pass over them.
 
 use crate::arguments::{declared_elements, elements_in, scalar_in};
 use crate::points::Points;
@@ -44,13 +44,13 @@ fn other_rule(known: Option<Known>) -> Rule {
 #[derive(Drop)]
 struct Builder {
     points: Points,
-    /// for each variable the place behind its product that was added last
+    /// for each variable one more than the index of its product that was added last
     last: Vec<usize>,
-    /// where the products of the point that is added start
+    /// the index of the first product of the point that is added
     first: usize,
-    /// what is fixed of its sum
+    /// the constant part of its sum
     constant: i128,
-    /// one more than how many scalars it has so far
+    /// one more than the number of its scalars so far
     cost: usize,
 }
 
@@ -143,7 +143,7 @@ impl Builder {
         self.add_scalar(slot)
     }
 
-    /// Adds a scalar that stands in no sum.
+    /// Adds a scalar that is in no sum.
     fn add_scalar(&mut self, slot: Slot) -> Result<(), AllocError> {
         self.cost = self.cost.saturating_add(1);
         match slot {
@@ -173,7 +173,7 @@ impl Builder {
         }))
     }
 
-    /// What the Boolean of a row says of it, if anything.
+    /// What the Boolean of a row says of it, where it says anything.
     fn add_truth(&mut self, truth: Scalar<'_>, form: Form) -> Result<Option<Claim>, AllocError> {
         match truth {
             Scalar::Variable(number) => {
@@ -217,7 +217,7 @@ impl Builder {
         }
     }
 
-    /// Adds the first argument and so often the second.
+    /// Adds the first argument, and the second times this coefficient.
     fn add_two(
         &mut self,
         parts: &ConstraintParts<'_, '_>,
@@ -258,7 +258,7 @@ impl Builder {
         Ok(())
     }
 
-    /// Adds so often a scalar to the sum of the point.
+    /// Adds a scalar times a coefficient to the sum of the point.
     fn add(&mut self, scalar: Scalar<'_>, coefficient: i64) -> Result<(), AllocError> {
         self.cost = self.cost.saturating_add(1);
         match scalar {
@@ -277,7 +277,7 @@ impl Builder {
         }
     }
 
-    /// Adds a variable to the point, or to the product that the point has of it.
+    /// Adds a variable to the point, or its coefficient to the product that the point has of it.
     fn add_variable(&mut self, variable: usize, coefficient: i64) -> Result<(), AllocError> {
         let last = self.last.get(variable).copied().unwrap_or(0);
         if last > self.first {

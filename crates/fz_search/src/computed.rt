@@ -1,10 +1,10 @@
-//! Results of arithmetic, which may lie in a domain too large to be tried.
+//! Results of arithmetic that are computed, since their domains may be too large to try each value.
 
 use crate::arguments::scalar_in;
 use crate::work::Work;
 use fz_model::{Builtin, ConstraintParts, Scalar};
 
-/// The place of the result of a row of two numbers.
+/// The index of the result among the arguments of a row over two numbers.
 fn place_of_result(builtin: Builtin) -> Option<usize> {
     match builtin {
         Builtin::IntTimes | Builtin::IntDiv | Builtin::IntMod => Some(2),

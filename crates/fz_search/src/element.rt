@@ -7,8 +7,8 @@ use crate::work::Work;
 use fz_model::Scalar;
 
 impl<'k, 'm, 'a> Work<'k, 'm, 'a> {
-    /// Visits an element of an array. Where the index is known, the element has the same bounds as
-    /// what it is.
+    /// Visits an element of an array. Where the index is known, the element and the result have the
+    /// same bounds.
     pub(crate) fn visit_element(&mut self, point: usize) -> Result<(), Stop> {
         let Some(parts) = self.proposal.constraint(point) else {
             return Ok(());

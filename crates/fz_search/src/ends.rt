@@ -10,7 +10,7 @@ pub(crate) struct Ends {
     pub(crate) high: i64,
 }
 
-/// An end of some bounds, from which on numbers are counted.
+/// The end of some bounds from which on numbers are counted.
 #[derive(Clone, Copy)]
 pub(crate) enum End {
     Low,
@@ -30,7 +30,7 @@ impl Ends {
         self.low <= number && number <= self.high
     }
 
-    /// The number that stands so many steps from an end.
+    /// The number that is so many steps from an end.
     pub(crate) fn counted(self, from: End, steps: i64) -> Option<i64> {
         let number = match from {
             End::Low => self.low.checked_add(steps)?,
@@ -39,7 +39,7 @@ impl Ends {
         if self.has(number) { Some(number) } else { None }
     }
 
-    /// How far the ends are apart.
+    /// How far apart the ends are.
     pub(crate) fn width(self) -> i128 {
         i128::from(self.high).saturating_sub(i128::from(self.low))
     }
@@ -57,7 +57,7 @@ impl Ends {
         high.saturating_sub(low)
     }
 
-    /// The numbers of both.
+    /// The numbers that lie within both.
     pub(crate) fn within(self, other: Ends) -> Ends {
         Ends {
             low: self.low.max(other.low),
@@ -80,7 +80,7 @@ pub(crate) fn number_of(value: &Value) -> Option<i64> {
     }
 }
 
-/// The value that is read as a number: an integer where no Boolean is asked for.
+/// The value that a number stands for: an integer, or a Boolean where that is asked for.
 pub(crate) fn value_of(kind: Kind, number: i64) -> Value {
     match kind {
         Kind::Bool => Value::Bool(number != 0),
@@ -134,7 +134,7 @@ fn middle(low: i64, high: i64) -> i64 {
         .saturating_add(low & high & 1)
 }
 
-/// The least number of a set, found by halving.
+/// The least number of a set, found by binary search.
 fn least_of(numbers: &IntSet) -> i64 {
     let mut low = i64::MIN;
     let mut high = i64::MAX;

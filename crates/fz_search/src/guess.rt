@@ -8,11 +8,11 @@ use fz_base::{IntSet, Value};
 use fz_model::{Kind, State};
 use std::alloc::AllocError;
 
-/// So many numbers are tried at most for one variable.
+/// At most this many numbers are tried for one variable.
 const MOST_VALUES: i64 = 1000;
 
 impl<'k, 'm, 'a> Work<'k, 'm, 'a> {
-    /// Gives a variable the first value with which no point fails that has no other variable
+    /// Gives a variable the first value with which no point fails in which it is the only variable
     /// without a value.
     pub(crate) fn guess(&mut self, variable: usize, from: End) -> Result<(), Stop> {
         match self.kind_of(variable) {
@@ -56,7 +56,7 @@ impl<'k, 'm, 'a> Work<'k, 'm, 'a> {
         self.give(variable, Value::Set(none))
     }
 
-    /// Puts a value in place, unless a point fails with it. It tells whether the value is there.
+    /// Gives a variable a value, unless a point fails with it, and tells whether it did.
     fn suits(&mut self, variable: usize, value: Value) -> Result<bool, Stop> {
         self.visit(1)?;
         if !self.put(variable, value) {

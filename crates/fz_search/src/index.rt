@@ -1,5 +1,5 @@
-//! What a search knows of a model: which variables stand in a point, and in which points a
-//! variable stands.
+//! What a search knows of a model: which variables are in a point, and in which points a variable
+//! is.
 
 use crate::builder::points_of;
 use crate::points::{Points, items_of};
@@ -12,13 +12,14 @@ const NOWHERE: Place = Place {
     coefficient: 0,
 };
 
-/// What a search knows of a model, made for the first block that needs it and kept for the next.
+/// What a search knows of a model. It is made for the first block that needs it, and used again for
+/// later ones.
 #[derive(Drop)]
 pub struct Search {
     points: Points,
-    /// where the places of each variable end
+    /// for each variable the end of its list in `places`
     place_ends: Vec<usize>,
-    /// where each variable stands, one variable behind another
+    /// the points that each variable is in, the list of one variable after that of another
     places: Vec<Place>,
 }
 
@@ -58,7 +59,7 @@ impl Search {
     }
 }
 
-/// The places of each variable, from the products of each point.
+/// The points that each variable is in, from the products of each point.
 fn turned(
     alloc: Global,
     products: &[Product],
@@ -85,7 +86,7 @@ fn turned(
     Ok((next, places))
 }
 
-/// Where the places of each variable start.
+/// Where the list of each variable starts.
 fn first_places(
     alloc: Global,
     products: &[Product],

@@ -1,4 +1,8 @@
-//! Values that a solver left out are looked for. An internal crate of `fz_judge`.
+//! The search of `--complete`: it proposes values for the variables that a solver left out and
+//! nothing forces. What is promised is only that the values are of their variables' kinds; whether
+//! a block is satisfied with them is judged afterwards. An internal crate of `fz_check`.
+//!
+//! Its worked cases are in `fz_check_cases` (`completing.rt`).
 #![tactic(auto)]
 
 mod agenda;

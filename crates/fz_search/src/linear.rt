@@ -1,4 +1,4 @@
-//! What linear rows leave: bounds of their variables, and Booleans.
+//! What linear rows leave to variables: bounds, and values of Booleans.
 
 use crate::ends::Ends;
 use crate::row::{Claim, Product, Relation, Row};
@@ -14,13 +14,14 @@ fn nearest(number: i128) -> i64 {
     }
 }
 
-/// How far a product may move, where it may move no more than the slack.
+/// How far a variable may move, so that its product moves by at most the slack.
 fn steps_in(slack: i128, coefficient: i64) -> i128 {
     let size = i128::from(coefficient.unsigned_abs());
     slack.checked_div(size).unwrap_or(0)
 }
 
-/// The bounds that are left, from the low end or from the high one on.
+/// The bounds that remain to a variable that may move at most so far from its low end, or from its
+/// high one.
 fn left_of(ends: Ends, steps: i128, from_low: bool) -> Ends {
     if from_low {
         Ends {
@@ -81,7 +82,7 @@ impl<'k, 'm, 'a> Work<'k, 'm, 'a> {
         }
     }
 
-    /// Takes from the variables of a point what can't be where a relation holds.
+    /// Takes from the variables of a point the numbers with which a relation can't hold.
     fn impose(&mut self, point: usize, relation: Relation) -> Result<(), Stop> {
         match relation {
             Relation::AtMost(number) => self.lower(point, number),
@@ -94,20 +95,22 @@ impl<'k, 'm, 'a> Work<'k, 'm, 'a> {
         }
     }
 
-    /// Holds each product of a point so near its least that the sum is at most a number.
+    /// Keeps each product of a point so near its least value that the sum can be at most this
+    /// number.
     fn lower(&mut self, point: usize, number: i128) -> Result<(), Stop> {
         let slack = number.saturating_sub(self.sums_of(point).least);
         self.hold_all(point, slack, true)
     }
 
-    /// Holds each product of a point so near its greatest that the sum is at least a number.
+    /// Keeps each product of a point so near its greatest value that the sum can be at least this
+    /// number.
     fn raise(&mut self, point: usize, number: i128) -> Result<(), Stop> {
         let slack = self.sums_of(point).most.saturating_sub(number);
         self.hold_all(point, slack, false)
     }
 
-    /// Holds each product of a point within a slack of its least, or of its greatest. Where all but
-    /// one are known to move no further, only that one is looked at.
+    /// Keeps each product of a point within a slack of its least value, or of its greatest. Where
+    /// all but one are known to move no further, only that one is looked at.
     fn hold_all(&mut self, point: usize, slack: i128, to_least: bool) -> Result<(), Stop> {
         if slack < 0 {
             return Err(Stop::NothingFound);
@@ -141,7 +144,8 @@ impl<'k, 'm, 'a> Work<'k, 'm, 'a> {
         self.tighten(product.variable, left.low, left.high)
     }
 
-    /// Takes the number that would make the sum this one from the only variable that has no value.
+    /// The sum must not be this number: takes from the only variable without a value the number
+    /// that would make it so.
     fn part(&mut self, point: usize, number: i128) -> Result<(), Stop> {
         if self.open_in(point) > 1 {
             return Ok(());

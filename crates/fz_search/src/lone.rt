@@ -7,7 +7,7 @@ use crate::work::Work;
 use fz_base::Value;
 use fz_model::{Kind, State};
 
-/// So many numbers lie at most between the bounds of a variable whose values are tried.
+/// Where a variable's bounds have more numbers between them than this, its values aren't tried.
 const MOST_VALUES: i64 = 1000;
 
 impl<'k, 'm, 'a> Work<'k, 'm, 'a> {

@@ -1,4 +1,4 @@
-//! The points of a model as a search keeps them.
+//! The points of a model, in the form that a search uses.
 
 use crate::row::{Product, Rule};
 
@@ -7,15 +7,16 @@ use crate::row::{Product, Rule};
 pub(crate) struct Points {
     /// where the products of each point end
     pub(crate) ends: Vec<usize>,
-    /// the variables of each point, each once, one point behind another
+    /// the variables of each point, each once, the list of one point after that of another
     pub(crate) products: Vec<Product>,
     /// how each point is visited
     pub(crate) rules: Vec<Rule>,
-    /// one more than how many scalars each point has
+    /// one more than the number of scalars of each point
     pub(crate) costs: Vec<usize>,
 }
 
-/// The items of the list of a number, where all lists stand one behind another.
+/// The list of this number, where all lists are in one, one after another, and `ends` has their
+/// ends.
 pub(crate) fn items_of<'k, T>(items: &'k [T], ends: &[usize], number: usize) -> &'k [T] {
     let first = match number.checked_sub(1) {
         Some(before) => ends.get(before).copied().unwrap_or(0),

@@ -1,4 +1,4 @@
-//! The values so far: a partial assignment of the model at each step.
+//! The values so far: at each step a partial assignment of the model.
 
 ghost use Rattle.std.specs.Prelude.{◌≡◌, ◌↔◌, IfOk, IsTrue, Some};
 ghost use Rattle.fz_model.specs.Meaning.{IsPartial};
@@ -42,7 +42,7 @@ fn give(model: &Model<'_>, partial: &mut Partial, number: usize, value: Value) -
     true
 }
 
-/// No values, and room for all.
+/// No values, with room for one of each variable.
 fn nothing(alloc: Global, model: &Model<'_>) -> Result<Partial, AllocError>
     ensures { IfOk result (IsPartial model.now) }
 {
@@ -58,7 +58,7 @@ fn take_away(model: &Model<'_>, partial: &mut Partial, number: usize)
     partial.take_away(number);
 }
 
-/// The same values, where each is of its variable's kind.
+/// A copy of the values, each of which is of its variable's kind.
 pub(crate) fn copied(
     alloc: Global,
     model: &Model<'_>,

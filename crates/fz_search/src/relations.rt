@@ -3,27 +3,27 @@
 use crate::row::Relation;
 use fz_model::{Builtin, Form, Known};
 
-/// Which sum of its arguments a linear row speaks of.
+/// The sum of its arguments that a linear row compares.
 #[derive(Clone, Copy)]
 pub(crate) enum Terms {
     /// the products of the first two arrays, less the third argument
     Weighted,
     /// the first argument less the second
     Difference,
-    /// the first two arguments together
+    /// the sum of the first two arguments
     Pair,
-    /// the same less the third
+    /// the sum of the first two arguments, less the third
     Total,
     /// the elements of the first array
     Elements,
-    /// what each of them lacks of 1
+    /// the elements of the first array, each subtracted from 1
     Complements,
-    /// the elements of the first array, and what each of the second lacks of 1
+    /// the elements of the first array, and those of the second, each of these subtracted from 1
     Clause,
 }
 
-/// A linear row as its name tells it: its sum, what this is compared with, and the place of the
-/// Boolean that tells whether it holds.
+/// A linear row of a builtin: its sum, what this is compared with, and the index of the Boolean
+/// that says whether the comparison holds.
 #[derive(Clone, Copy)]
 pub(crate) struct Shape {
     pub(crate) terms: Terms,
@@ -70,7 +70,8 @@ fn base_shape(builtin: Builtin) -> Option<Shape> {
     }
 }
 
-/// The linear row of a constraint, where it has one. The Boolean of a form stands last.
+/// The linear row of a constraint, where it has one. The control variable of a reified form is the
+/// last argument.
 pub(crate) fn shape_of(known: Known) -> Option<Shape> {
     let base = base_shape(known.builtin)?;
     match known.form {

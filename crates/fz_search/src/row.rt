@@ -2,7 +2,7 @@
 
 use crate::ends::Ends;
 
-/// A variable of a point with its coefficient: 0 where it stands in no sum.
+/// A variable of a point with its coefficient, which is 0 where it is in no sum.
 #[derive(Clone, Copy)]
 pub(crate) struct Product {
     pub(crate) variable: usize,
@@ -16,7 +16,7 @@ pub(crate) struct Place {
     pub(crate) coefficient: i64,
 }
 
-/// How a sum stands to a number.
+/// How a sum compares with a number.
 #[derive(Clone, Copy)]
 pub(crate) enum Relation {
     AtMost(i128),
@@ -50,7 +50,7 @@ pub(crate) struct Sums {
     pub(crate) most: i128,
 }
 
-/// How far the products of a sum can move: the place of the one that moves furthest, and how far
+/// How far the products of a sum can move: the index of the one that moves furthest, and how far
 /// each other one moves at most.
 #[derive(Clone, Copy)]
 pub(crate) struct Reach {
@@ -59,7 +59,7 @@ pub(crate) struct Reach {
 }
 
 impl Sums {
-    /// The sums with the product of a coefficient and of what lies between some bounds.
+    /// These bounds with one more product: of a coefficient and a variable with these bounds.
     pub(crate) fn with(self, coefficient: i64, ends: Ends) -> Sums {
         let (low, high) = ends.times(coefficient);
         Sums {
@@ -68,7 +68,7 @@ impl Sums {
         }
     }
 
-    /// The sums without it.
+    /// These bounds without that product.
     pub(crate) fn without(self, coefficient: i64, ends: Ends) -> Sums {
         let (low, high) = ends.times(coefficient);
         Sums {
@@ -79,7 +79,7 @@ impl Sums {
 }
 
 impl Relation {
-    /// What holds where this doesn't.
+    /// The relation that holds where this one doesn't.
     pub(crate) fn negated(self) -> Relation {
         match self {
             Relation::AtMost(number) => Relation::AtLeast(number.saturating_add(1)),
@@ -89,7 +89,7 @@ impl Relation {
         }
     }
 
-    /// The same of a sum without this constant in it.
+    /// The same relation, of the sum without a constant that was in it.
     pub(crate) fn without(self, constant: i128) -> Relation {
         match self {
             Relation::AtMost(number) => Relation::AtMost(number.saturating_sub(constant)),
@@ -99,7 +99,7 @@ impl Relation {
         }
     }
 
-    /// Whether it holds, where the bounds of the sum tell.
+    /// Whether it holds, where the bounds of the sum decide that.
     pub(crate) fn decided(self, sums: Sums) -> Option<bool> {
         match self {
             Relation::AtMost(number) => is_at_most(sums, number),

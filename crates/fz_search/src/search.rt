@@ -12,7 +12,7 @@ use crate::work::Work;
 use fz_model::{Goal, Model, Partial, Term};
 use std::alloc::{AllocError, Global};
 
-/// A variable whose value is to be small, or great.
+/// A variable that is to get a small value, or a great one.
 #[derive(Clone, Copy)]
 enum Objective {
     Least(usize),
@@ -29,8 +29,8 @@ fn objective_of(goal: &Goal) -> Option<Objective> {
     }
 }
 
-/// From which end a variable takes its value. The worst that an objective can be leaves later
-/// blocks the most room.
+/// From which end of its bounds a variable gets its value. An objective gets the worst value that
+/// it can have, which leaves later blocks the most room.
 fn end_for(objective: Option<Objective>, variable: usize) -> End {
     match objective {
         Some(Objective::Least(number)) => {
@@ -62,7 +62,7 @@ impl<'k, 'm, 'a> Work<'k, 'm, 'a> {
         }
     }
 
-    /// Visits the points that wait until none does.
+    /// Visits points until the agenda is empty.
     fn settle(&mut self) -> Result<(), Stop> {
         for _ in 0..self.steps_left() {
             let Some(point) = self.next_point() else {
@@ -96,7 +96,7 @@ impl<'k, 'm, 'a> Work<'k, 'm, 'a> {
     }
 }
 
-/// What is known of a model, made where it isn't known.
+/// What is known of a model, made where it isn't there yet.
 fn known_of<'k>(
     alloc: Global,
     model: &Model<'_>,
@@ -111,9 +111,10 @@ fn known_of<'k>(
     }
 }
 
-/// Proposes values for the variables that have none, where it finds no contradiction on the way.
-/// Nothing is promised of them but that they are of their variables' kinds: whoever asks judges
-/// them. It never goes back, and refuses only where memory runs out.
+/// Proposes values for the variables that have none. It never goes back: where it meets a
+/// contradiction or its budget is spent, it proposes nothing. The values are of their variables'
+/// kinds, and no more is promised of them, since the caller judges them. It refuses only where
+/// memory runs out.
 pub fn propose(
     alloc: Global,
     model: &Model<'_>,

@@ -1,17 +1,17 @@
-//! Sets within a domain of few numbers.
+//! The subsets of a domain with few numbers.
 
 use crate::ends::{Ends, admits_number};
 use fz_base::{IntSet, Value};
 use fz_model::Domain;
 use std::alloc::{AllocError, Global};
 
-/// Of so many numbers all sets are tried.
+/// All subsets of at most this many numbers are tried.
 const MOST_MEMBERS: usize = 9;
 
 /// How far apart the least and the greatest of them may be.
 const WIDEST: i128 = 1000;
 
-/// The numbers of a domain with these bounds, where they are few.
+/// The numbers of a domain with these bounds, where there are few.
 pub(crate) fn few_members(
     alloc: Global,
     domain: &Domain,
@@ -32,7 +32,7 @@ pub(crate) fn few_members(
     Ok(Some(members))
 }
 
-/// How many sets there are of so many members.
+/// How many subsets this many numbers have.
 pub(crate) fn subsets_of(members: &[i64]) -> u32 {
     let mut count = 1u32;
     for _ in members {
@@ -41,7 +41,7 @@ pub(crate) fn subsets_of(members: &[i64]) -> u32 {
     count
 }
 
-/// The set of a number: each member whose bit the number has.
+/// The subset with this number: it has each member whose bit the number has.
 pub(crate) fn subset(alloc: Global, members: &[i64], number: u32) -> Result<Value, AllocError> {
     let mut chosen = Vec::new(alloc);
     let mut bits = number;

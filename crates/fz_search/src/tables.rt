@@ -38,7 +38,7 @@ pub(crate) fn all_ends(
     Ok(ends)
 }
 
-/// Takes from a variable what lies outside the domain of an array that it stands in.
+/// Takes from a variable what lies outside the domain of an array that it is in.
 fn narrow(ends: &mut [Ends], model: &Model<'_>, domain: &Domain, slot: Slot) {
     let Slot::Variable(number) = slot else {
         return;
@@ -91,7 +91,7 @@ pub(crate) fn all_sums(
     Ok(all)
 }
 
-/// How far products move is measured when it is first asked for.
+/// How far products move is measured only when it is needed.
 pub(crate) fn no_reaches(alloc: Global, points: usize) -> Result<Vec<Reach>, AllocError> {
     let mut reaches = Vec::new(alloc);
     reaches.resize(

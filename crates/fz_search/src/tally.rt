@@ -1,4 +1,5 @@
-//! Counts and loads: an array of results that follow from the numbers that are counted or packed.
+//! Counts and loads: rows with an array of results, which follow from the numbers that are counted
+//! or packed.
 
 use crate::arguments::{elements_in, scalar_in};
 use crate::ends::Ends;
@@ -6,7 +7,7 @@ use crate::stop::Stop;
 use crate::work::Work;
 use fz_model::{Builtin, ConstraintParts, Scalar, Scalars};
 
-/// What a row of counts or loads speaks of.
+/// What a row of counts or loads is about.
 #[derive(Clone, Copy)]
 struct Tally<'m> {
     results: Scalars<'m>,
@@ -15,11 +16,11 @@ struct Tally<'m> {
     weights: Option<Scalars<'m>>,
 }
 
-/// What a number has to be to be counted in a result.
+/// Which number each result counts.
 #[derive(Clone, Copy)]
 enum Keys<'m> {
     Listed(Scalars<'m>),
-    /// as many as the place of the result, from this number on
+    /// the number of the first result, from which they count up
     From(Scalar<'m>),
 }
 
@@ -68,7 +69,7 @@ impl<'k, 'm, 'a> Work<'k, 'm, 'a> {
         Ok(())
     }
 
-    /// What a result is, where all numbers are known.
+    /// A result, where all numbers are known.
     fn total(&self, tally: &Tally<'_>, place: usize) -> Option<i64> {
         let key = self.key(tally.keys, place)?;
         let mut total = 0i64;

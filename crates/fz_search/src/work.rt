@@ -11,12 +11,13 @@ use fz_base::Value;
 use fz_model::{Domain, Kind, Model, Partial, Scalar};
 use std::alloc::{AllocError, Global};
 
-/// So many visits are made at most for each point of the model. A value that is tried is one too.
+/// At most this many visits are made for each point of the model. A value that is tried counts as
+/// one.
 const VISITS: usize = 100;
 
-/// So many steps are taken at most for each point and each scalar in it, so that long points aren't
-/// visited too often. A visit is a step, and so is each scalar that is looked at when a point is
-/// walked over or a value is tried.
+/// At most this many steps are taken for each point and each scalar in it, so that long points
+/// aren't visited too often. A visit is a step, and so is each scalar that is looked at when a
+/// point is gone over or a value is tried.
 const STEPS: usize = 100;
 
 /// A search under way.
@@ -31,7 +32,7 @@ pub(crate) struct Work<'k, 'm, 'a> {
     open: Vec<usize>,
     /// the bounds of the sum of each point
     sums: Vec<Sums>,
-    /// and how far its products can move
+    /// and how far the products of each point can move
     reaches: Vec<Reach>,
     agenda: Agenda,
     /// how many visits are left
@@ -64,7 +65,7 @@ impl<'k, 'm, 'a> Work<'k, 'm, 'a> {
         })
     }
 
-    /// Counts one visit, which takes so many steps.
+    /// Counts one visit of this many steps.
     pub(crate) fn visit(&mut self, steps: usize) -> Result<(), Stop> {
         match self.visits.checked_sub(1) {
             Some(visits) => {
@@ -75,7 +76,7 @@ impl<'k, 'm, 'a> Work<'k, 'm, 'a> {
         }
     }
 
-    /// Takes so many steps of those that are left.
+    /// Takes this many steps from those that are left.
     pub(crate) fn spend(&mut self, steps: usize) -> Result<(), Stop> {
         match self.left.checked_sub(steps) {
             Some(left) => {
@@ -145,7 +146,7 @@ impl<'k, 'm, 'a> Work<'k, 'm, 'a> {
         }
     }
 
-    /// Measures how far they can.
+    /// Measures how far the products of a point can move.
     pub(crate) fn measure(&mut self, point: usize) {
         let mut reach = Reach { top: 0, others: 0 };
         let mut furthest = 0i128;
@@ -181,7 +182,7 @@ impl<'k, 'm, 'a> Work<'k, 'm, 'a> {
         None
     }
 
-    /// Puts a point among those that are to be visited, where a visit may tell something.
+    /// Puts a point on the agenda, where a visit may change something.
     pub(crate) fn wake(&mut self, point: usize) -> Result<(), Stop> {
         let tells = match self.known.rule_of(point) {
             Rule::Linear(_) | Rule::Element | Rule::Tally => self.open_in(point) > 0,
@@ -206,7 +207,8 @@ impl<'k, 'm, 'a> Work<'k, 'm, 'a> {
         self.agenda.take_first()
     }
 
-    /// Puts a value that its domain and bounds admit in place, and tells whether they do.
+    /// Gives a variable a value for a trial, where its domain and bounds admit that, and tells
+    /// whether they do.
     pub(crate) fn put(&mut self, variable: usize, value: Value) -> bool {
         let inside = match number_of(&value) {
             Some(number) => self.ends_of(variable).has(number),
@@ -219,7 +221,7 @@ impl<'k, 'm, 'a> Work<'k, 'm, 'a> {
         inside && admitted && self.proposal.give(variable, value)
     }
 
-    /// Keeps the value that was put in place.
+    /// Confirms the value that was given for a trial.
     pub(crate) fn keep(&mut self, variable: usize) -> Result<(), Stop> {
         let number = match self.proposal.values().get(variable) {
             Some(value) => number_of(value),
@@ -245,7 +247,7 @@ impl<'k, 'm, 'a> Work<'k, 'm, 'a> {
         }
     }
 
-    /// Narrows the bounds of a variable, and those of the sums in which it stands.
+    /// Narrows the bounds of a variable, and those of the sums in which it is.
     fn set_ends(&mut self, variable: usize, then: Ends) {
         let Some(ends) = self.ends.get_mut(variable) else {
             return;

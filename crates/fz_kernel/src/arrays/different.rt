@@ -7,11 +7,11 @@ use crate::distinct::all_different;
 use fz_arguments::Elements;
 use std::alloc::{AllocError, Global};
 
-// Up to so many elements each pair is compared, which takes no memory.
+// Up to this many elements each pair is compared, which takes no memory.
 const FEW: usize = 16;
 
-/// Whether no two elements at different places are equal. Only where there are many does it copy
-/// them, to put them in order.
+/// Whether no two elements at different indices are equal. Only where there are many does it copy
+/// them, to sort the copy.
 pub fn all_elements_different(alloc: Global, elements: &Elements) -> Result<bool, AllocError>
     ensures exact { IfOk result (λ r. r ≡ all_different (ints elements.now)) }
 {
@@ -22,7 +22,7 @@ pub fn all_elements_different(alloc: Global, elements: &Elements) -> Result<bool
     Ok(all_different(&mut numbers))
 }
 
-// The elements as they stand.
+// The elements in their order.
 pub fn numbers_of(alloc: Global, elements: &Elements) -> Result<Vec<i64>, AllocError>
     ensures { IfOk result (λ v. v.items ≡ ints elements.now) }
 {
@@ -44,7 +44,7 @@ fn pairs_differ(elements: &Elements) -> bool
     true
 }
 
-// Whether the number stands at a place, or at one behind it.
+// Whether the number is at this index or at a later one.
 pub fn stands_from(number: i64, elements: &Elements, start: usize) -> bool
     ensures { result ≡ is_among number (drop start (ints elements.now)) }
 {

@@ -1,4 +1,4 @@
-// The element at a place.
+// The element at an index.
 ghost use Rattle.std.specs.Prelude.{◌≡◌, ◌+◌, ◌≤◌, ◌<◌, ℕ, pos, IfSome, IfNone, option_map};
 ghost use Rattle.fz_meaning.specs.Values.{◌=ℤ◌, ◌=ᴮ◌, ◌=ˢ◌};
 ghost use Rattle.fz_meaning.specs.Builtins.{element_at, is_element};
@@ -8,8 +8,8 @@ use crate::sets::same_set;
 use fz_arguments::Elements;
 use fz_base::IntSet;
 
-// The place, counted from 0, of an index that is counted from 1; none where it is no index of
-// `count` elements.
+// The index counted from 0, of one that is counted from 1; none where it is no index of `count`
+// elements.
 fn place_of(index: i128, count: usize) -> Option<usize>
     ensures place { IfSome result (λ place. index ≡ pos (place + 1)) }
     ensures in_range { IfSome result (λ place. place < count) }
@@ -31,7 +31,7 @@ pub fn int_element_at(index: i128, elements: &Elements) -> Option<i64>
     }
 }
 
-/// The same of a short index.
+/// The same of an index in 64 bits.
 pub fn int_element(index: i64, elements: &Elements) -> Option<i64>
     ensures exact { result ≡ element_at (ints elements.now) index }
 {

@@ -6,8 +6,7 @@ ghost use Rattle.fz_arguments.specs.Views.{ints, bools};
 use crate::numbers::product;
 use fz_arguments::Elements;
 
-/// The sum of `a[i] * b[i]`, added from the left; none where a sum on the way is no number of
-/// signed 128 bits.
+/// The sum of `a[i] * b[i]`, added from the left; none where a partial sum leaves signed 128 bits.
 #[inline(always)]
 pub fn sum_of_products(a: &Elements, b: &Elements) -> Option<i128>
     ensures exact { IfSome result (λ sum. sum ≡ total (products (ints a.now) (ints b.now))) }

@@ -18,7 +18,7 @@ pub fn all_true(elements: &Elements) -> bool
     true
 }
 
-/// Whether one is true.
+/// Whether at least one is true.
 pub fn any_true(elements: &Elements) -> bool
     ensures exact { result ≡ list_any (λ x. x) (bools elements.now) }
 {
@@ -30,7 +30,7 @@ pub fn any_true(elements: &Elements) -> bool
     false
 }
 
-/// Whether one is false.
+/// Whether at least one is false.
 pub fn any_false(elements: &Elements) -> bool
     ensures exact { result ≡ list_any (λ x. not x) (bools elements.now) }
 {
@@ -55,7 +55,7 @@ pub fn odd_number_true(elements: &Elements) -> bool
     odd
 }
 
-/// Whether one of the first is true, or one of the others false.
+/// Whether one of the first list is true, or one of the second false.
 pub fn clause_holds(positive: &Elements, negative: &Elements) -> bool
     ensures exact { result ≡ (list_any (λ x. x) (bools positive.now)
         || list_any (λ x. not x) (bools negative.now)) }
