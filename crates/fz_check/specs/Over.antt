@@ -1,6 +1,6 @@
--- What a check over a reader and a writer answers (this project's profile). The bytes that the
--- reader gave and those that the writer got are known where these tell them; of a reader or a
--- writer that tells nothing, such as a file, nothing is said.
+-- What a check over a reader and a writer answers (this project's profile). The bytes that a reader
+-- still has and those that a writer got are options: where there is None, as for a file, nothing is
+-- said of them.
 use Rattle.std.specs.Prelude.{◌≡◌, ℕ, List, ⊤, Option}
 use Rattle.std.specs.Io.KnownBytes.{Appends, Consumes, IsAtEnd}
 use Rattle.fz_syntax.specs.Text.{IsTextOfTree}

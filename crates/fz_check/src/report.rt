@@ -69,7 +69,7 @@ pub(crate) fn answer_to(verdicts: &[Verdict<'_>]) -> Answer
     }
 }
 
-/// Adds the lines of the claims at the front that come right after this number of blocks, and gives
+/// Adds the lines of the first claims, those that come right after this number of blocks, and gives
 /// the other claims.
 fn push_claims<'a>(
     text: &mut Vec<u8>,

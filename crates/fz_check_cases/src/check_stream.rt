@@ -23,7 +23,7 @@ pub(crate) struct Run<'a> {
     pub(crate) ends: bool,
     /// the most reads, where there is a bound
     pub(crate) reads: Option<u64>,
-    /// whether values that the solver left out are looked for
+    /// whether values that the solver left out are searched for
     pub(crate) completion: Completion,
 }
 

@@ -7,7 +7,7 @@ use crate::outside::{file, number, tell, tell_error};
 use crate::reading::tell_block;
 use fz_stream::{Part, Splitter, Stream, StreamError, blocks};
 
-/// Makes a call on a stream. A splitter is fed the stream in pieces of so many bytes as the second
+/// Makes a call on a stream. A splitter is fed the stream in pieces of as many bytes as the second
 /// operand says.
 pub fn make_call(rt: &HostRuntime, call: &str, operands: &[String]) -> Option<()> {
     let stream = file(rt, operands, 0)?;

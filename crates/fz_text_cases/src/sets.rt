@@ -174,7 +174,7 @@ fn ranges_of_sets(rt: HostRuntime) -> Result<(), Fail> {
 }
 
 /// Numbers of which no two are neighbours, so that a set of some of them has as many ranges as
-/// numbers. A set of low ones can be stored as the bits of a word.
+/// numbers. A set of low ones can be stored as the bits of a 64-bit word.
 const LOW: [i64; 6] = [0, 3, 5, 7, 9, 63];
 
 const APART: [i64; 6] = [101, 103, 105, 107, 109, 111];
@@ -214,7 +214,7 @@ fn few_and_many_ranges(rt: HostRuntime) -> Result<(), Fail> {
 
 /// The numbers in the sets of `agree_with_sorted_lists`, each with the bit that stands for it in
 /// the number of a subset: neighbours, numbers with gaps between them, the least and the greatest,
-/// and some on both sides of those that can be stored as the bits of a word.
+/// and some on both sides of those that can be stored as the bits of a 64-bit word.
 const UNIVERSE: [(i64, u32); 7] = [
     (i64::MIN, 1),
     (-1, 2),

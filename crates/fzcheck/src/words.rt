@@ -32,7 +32,7 @@ pub enum Printing {
 /// The options of `check`.
 #[derive(Clone, Copy)]
 pub struct CheckOptions {
-    /// Whether values that the solver left out are looked for.
+    /// Whether values that the solver left out are searched for.
     pub completion: Completion,
     /// Whether refusals and verdicts are explained.
     pub explains: bool,
