@@ -1,4 +1,4 @@
--- What is so where a check is refused (this project's profile).
+-- What holds where a check is refused (this project's profile).
 use Rattle.std.specs.Prelude.{◌≡◌, ◌≢◌, ◌↔◌, ℕ, ◌+◌, ◌<◌, ◌≤◌, List, ◌∷◌, ◌++◌, length, None}
 use Rattle.std.specs.List.{AllByRecursion}
 use Rattle.fz_syntax.specs.Limits.{most_bytes}

@@ -1,4 +1,4 @@
--- What is so of a report (this project's profile).
+-- What holds of a report (this project's profile).
 use Rattle.std.specs.Prelude.{◌≡◌, ℕ, suc, ℤ, List, map, Some}
 use Rattle.std.specs.List.{AllByRecursion, slice_get}
 use Rattle.fz_syntax.specs.Text.{IsTextOfTree}

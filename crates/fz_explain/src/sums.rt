@@ -25,7 +25,7 @@ fn number_at(filling: &Partial, scalar: Scalar<'_>) -> Option<i64>
     }
 }
 
-/// Adds the product of two numbers where there are both.
+/// Adds the product of two numbers where both are there.
 fn push_product(
     products: &mut Vec<i128>,
     left: Option<i64>,

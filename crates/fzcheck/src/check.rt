@@ -63,8 +63,8 @@ fn find_input(rt: &HostRuntime) -> io::Result<()> {
     Ok(())
 }
 
-/// Checks the stream that one reader gives against the model that the other gives. Before each
-/// read, the lines for what was read so far are written.
+/// Checks the stream that one reader gives against the model that the other gives. Before each read
+/// of the stream, the lines for what was read so far are written.
 fn check_readers<M: Read + Drop, S: Read + Drop>(
     rt: &HostRuntime,
     task: &Task<'_>,

@@ -6,7 +6,7 @@ use fz_check::{BlockError, CheckError, ModelError, StreamError, SyntaxError, ref
 use fz_message::{Source, message_at, message_text};
 use std::alloc::{AllocError, Global};
 
-/// A source of which these bytes are given, behind what has passed.
+/// A source of which only the bytes behind what has passed are given.
 pub fn source_behind<'a>(name: &'a str, bytes: &'a [u8], passed: Passed) -> Source<'a> {
     Source {
         name,

@@ -42,7 +42,7 @@ pub fn refuse(rt: &HostRuntime, error: &CheckError) -> u8 {
     }
 }
 
-/// Whether the line of the refusal was written, and not that of memory which ran out meanwhile.
+/// Whether the line of the refusal was written, and not `refused: memory` in its place.
 fn is_told(told: u8, error: &CheckError) -> bool {
     told == status(&Err(*error))
 }
