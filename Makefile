@@ -1,7 +1,8 @@
 # make             proves the program with all that it stands on, builds it: build/fzcheck
 # make test        the gate: every proof from nothing, the must-fail edits, the tests, the program
-# make corpus      runs the built program over tests/corpus and examples, beside a second checker
-#                  on random models, and with minizinc/ where MiniZinc is installed
+# make corpus      runs the built program over tests/corpus and examples, beside the second checker
+#                  (tests/corpus/slow.py) on random models, and with minizinc/ where MiniZinc is
+#                  installed
 # make fuzz        runs it on random broken texts beside that checker, for SECONDS (600), by SEED
 # make bench       measures the built program beside the plain program in plain/ (some minutes)
 # make quick       judges examples/first.fzn with NO proof, or MODEL=FILE [STREAM=FILE]; with a
