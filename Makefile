@@ -1,9 +1,10 @@
 # make             proves the program with all that it stands on, builds it: build/fzcheck
 # make test        the gate: every proof from nothing, the must-fail edits, the tests, the program
-# make corpus      runs the built program over tests/corpus and examples, beside a second checker
-#                  on random models, and with minizinc/ where MiniZinc is installed
+# make corpus      runs the built program over tests/corpus and examples, beside the second checker
+#                  (tests/corpus/slow.py) on random models, and with minizinc/ where MiniZinc is
+#                  installed
 # make fuzz        runs it on random broken texts beside that checker, for SECONDS (600), by SEED
-# make bench       measures the built program beside a plain program (some minutes)
+# make bench       measures the built program beside the plain program in plain/ (some minutes)
 # make quick       judges examples/first.fzn with NO proof, or MODEL=FILE [STREAM=FILE]; with a
 #                  MODEL and no STREAM it reads standard input; it tells the program's status
 # make install     puts the program and its manual page in place, below PREFIX (/usr/local)
@@ -51,7 +52,7 @@ fuzz: build/fzcheck
 
 # Cargo builds the plain program, from its own sources alone; build/bench has the files to measure.
 bench: build/fzcheck
-	cargo build --release --offline --quiet --manifest-path bench/plain/Cargo.toml \
+	cargo build --release --offline --quiet --manifest-path plain/Cargo.toml \
 	  --target-dir build/plain
 	bench/run.py build/fzcheck build/plain/release/plain build/bench
 

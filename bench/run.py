@@ -1,9 +1,9 @@
 #!/usr/bin/env python3
-"""Measures whole runs of the built fzcheck beside a plain program, and prints one table.
+"""Measures whole runs of the built fzcheck beside the plain program, and prints one table.
 
     run.py FZCHECK PLAIN FOLDER [MEGABYTES..]
 
-FZCHECK is the built program, PLAIN the plain program of bench/plain, FOLDER where the files are
+FZCHECK is the built program, PLAIN the plain program of plain/, FOLDER where the files are
 made and unpacked, MEGABYTES the sizes of the made files, 1 4 16 where none is given. Both programs
 are run in turn, all rows one after another, and all of that five times over, so that rows can be
 compared where the machine changes its speed. The least processor time of a row counts, as another

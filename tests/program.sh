@@ -1,5 +1,6 @@
 #!/usr/bin/env bash
-# Runs the built program on what no contract speaks of: words, files, exit statuses and standard error.
+# Runs the built program on what no contract speaks of: words, files, exit statuses and standard
+# error. What a report says of a model and a stream is tested by tests/corpus.
 # usage: tests/program.sh PROGRAM; the last line is 'N passed, M failed'.
 set -u
 program=$(realpath "$1")
@@ -9,7 +10,7 @@ trap 'rm -rf "$folder"' EXIT
 passed=0
 failed=0
 
-# expect NAME STATUS OUT ERR COMMAND..: the command's status, standard output and standard error
+# expect NAME STATUS OUT ERR COMMAND..: the command's status, standard output and standard error.
 expect() {
   local name=$1 status=$2 out=$3 err=$4
   shift 4
@@ -28,15 +29,9 @@ usage='usage: fzcheck show [--print-all] MODEL | check [--complete] [--explain] 
 accepted=$'block 1: satisfied\naccepted: blocks 1'
 printf 'x = 1;\n----------\n' >"$folder/wrong.out"
 printf 'x = 3;\n' >"$folder/open.out"
-printf 'x = 3;\n----------\nx = 4;\n' >"$folder/two.out"
-printf 'x = 3;\n----------\ny = 4;\n----------\n' >"$folder/other.out"
 printf 'solve satisfy' >"$folder/broken.fzn"
-printf 'var bool: p;\nvar bool: q;\narray [1..2] of var bool: bs :: output_array([1..2]) = [p,q];\nsolve satisfy;\n' >"$folder/list.fzn"
-printf 'bs = array1d(1..2,[12,true]);\n----------\n' >"$folder/first.out"
-printf 'bs = array1d(1..2,[true, -7]);\n----------\n' >"$folder/last.out"
-printf 'bool: b = true;\nvar int: b;\nsolve satisfy;\n' >"$folder/twice.fzn"
 
-# wrong VALUE.. : what the words are told to be, behind the usage
+# wrong MESSAGE WORDS..: the message on these words, behind the usage line.
 wrong() {
   local told=$1
   shift
@@ -78,21 +73,15 @@ expect 'the first model, by --' 0 "$accepted" '' "$program" check -- examples/fi
 expect 'standard input without a block' 3 'no blocks' '' "$program" check examples/first.fzn
 expect 'a violated block' 1 $'block 1: violated: constraint 1 int_le\nrejected: block 1' '' "$program" check examples/first.fzn "$folder/wrong.out"
 expect 'an open block' 4 '' 'refused: stream: Unfinished at 0..7' "$program" check examples/first.fzn "$folder/open.out"
-expect 'the lines before a fault' 4 'block 1: satisfied' 'refused: stream: Unfinished at 18..25' "$program" check examples/first.fzn "$folder/two.out"
-expect 'the lines before a block that does not fit' 4 'block 1: satisfied' 'refused: block 2: UnknownName at 18..19' "$program" check examples/first.fzn "$folder/other.out"
-expect 'the place of a number in a list' 4 '' 'refused: block 1: Kind at 19..21' "$program" check "$folder/list.fzn" "$folder/first.out"
-expect 'the place of the last number in a list' 4 '' 'refused: block 1: Kind at 25..27' "$program" check "$folder/list.fzn" "$folder/last.out"
 printf 'var 0..9: x;\nvar 0..9: y;\nconstraint int_mod(x,3,y);\nsolve satisfy;\n' >"$folder/left.fzn"
 printf 'x = 7;\n----------\n' >"$folder/left.out"
 expect 'a value that was left out' 2 $'block 1: undecided: no value for y\nundecided: block 1' '' "$program" check "$folder/left.fzn" "$folder/left.out"
 expect 'a value that is looked for' 0 "$accepted" '' "$program" check --complete "$folder/left.fzn" "$folder/left.out"
-expect 'an optimisation' 0 "$(cat examples/knapsack/report.txt)" '' "$program" check examples/knapsack/model.fzn examples/knapsack/stream.txt
 expect 'a broken model' 4 '' 'refused: model: Syntax at 13..13' "$program" show "$folder/broken.fzn"
-expect 'a name declared twice' 4 '' 'refused: model: DuplicateName at 25..26' "$program" show "$folder/twice.fzn"
-expect 'a name declared twice, checked' 4 '' 'refused: model: DuplicateName at 25..26' "$program" check "$folder/twice.fzn" examples/first.out
+expect 'a name declared twice' 4 '' 'refused: model: DuplicateName at 25..26' "$program" show tests/corpus/by_hand/name_declared_twice/model.fzn
 expect 'a model shown' 0 "$(cat examples/first.fzn)" '' "$program" show examples/first.fzn
 
-# where a refusal stands, and what stands behind a verdict: pages that are kept as files
+# The position of a refusal, and what is behind a verdict: the messages are files.
 report() {
   (cd "$1" && "$program" check "${@:2}" model.fzn stream.txt 2>"$folder/told"; echo "status $?")
 }
@@ -105,12 +94,12 @@ for page in tests/explained/*/; do
   expect "the refusal alone: $name" 0 "$(grep '^refused:' "$page/told.txt")" '' printf '%s\n' "$refusal"
 done
 expect 'nothing to explain' 0 "$accepted" '' "$program" check --explain examples/first.fzn examples/first.out
-# after many blocks, from a pipe: the line is counted through the whole stream
+# After many blocks, from a pipe: lines are counted through the whole stream.
 many() { awk 'BEGIN { for (i = 0; i < 20000; i++) print "x = 3;\n----------"; print "x = 3;\ny = 4;\n----------" }' </dev/null; }
 far=$'refused: block 20001: UnknownName at 360007..360008\n(standard input):40002:1: the model declares no such name to print, in block 20001\n   40002 | y = 4;\n         | ^'
 told=$(many | "$program" check --explain examples/first.fzn 2>&1 >/dev/null)
 expect 'a fault far on in a pipe' 0 "$far" '' printf '%s' "$told"
-# a block that is violated far on in a pipe, with undecided ones before it and others behind it
+# A block that is violated far on in a pipe, with undecided ones before it and others behind it.
 deep() { awk 'BEGIN { for (i = 0; i < 9000; i++) print "y = 1;\n----------"; print "x = 9;\n----------"; for (i = 0; i < 9000; i++) print "x = 8;\n----------" }' </dev/null; }
 printf 'var 0..9: x;\nvar 0..9: y :: output_var;\nconstraint int_le(x,5);\nsolve satisfy;\n' >"$folder/deep.fzn"
 deep | "$program" check --explain "$folder/deep.fzn" 2>"$folder/told" >/dev/null
@@ -118,28 +107,28 @@ expect 'a verdict far on in a pipe' 0 "$folder/deep.fzn:3:12: constraint 1 int_l
    3 | constraint int_le(x,5);
      |            ^^^^^^
      = x = 9, printed" '' cat "$folder/told"
-# reads that end right behind the dashes: no block is counted twice
+# Reads that end right behind the dashes: no block is counted twice.
 torn() { printf 'x = 3;\n----------'; sleep 0.3; printf '\nx = 4;\n----------'; sleep 0.3; printf '\nx = 9;\n----------\n'; sleep 0.3; printf 'x = 2;\n----------\n'; }
 torn | "$program" check --explain "$folder/deep.fzn" 2>"$folder/told" >/dev/null
 expect 'a verdict in a stream that comes in torn pieces' 0 "$folder/deep.fzn:3:12: constraint 1 int_le fails in block 3
    3 | constraint int_le(x,5);
      |            ^^^^^^
      = x = 9, printed" '' cat "$folder/told"
-# a line of a megabyte: what is shown of it has at most 120 columns
+# A line of a megabyte: what is shown of it has at most 120 columns.
 awk 'BEGIN { printf "var 0..9: x;\nconstraint int_lin_le(["; for (i = 0; i < 500000; i++) printf "1,"; print "y],[x],0);\nsolve satisfy;" }' </dev/null >"$folder/wide.fzn"
 "$program" check --explain "$folder/wide.fzn" examples/first.out 2>"$folder/told"
 expect 'a line of a megabyte' 0 $'refused: model: UnknownName at 1000036..1000037\n'"$folder/wide.fzn:2:1000024: this name isn't declared before" '' \
   head -2 "$folder/told"
 expect 'a line of a megabyte, cut' 0 127 '' awk 'NR == 3 { print length($0) }' "$folder/told"
 
-# a model that asks for every variable, and its own stream
+# A model that asks for every variable, and its own stream.
 "$program" show --print-all examples/knapsack/model.fzn >"$folder/all.fzn"
 expect 'a model that asks for all' 0 15 '' grep -c ':: output_var' "$folder/all.fzn"
 expect 'a model that asks for all asks for no more' 0 "$(cat "$folder/all.fzn")" '' "$program" show --print-all "$folder/all.fzn"
 expect 'a stream against a model that asks for all' 0 "$(cat examples/knapsack/report.txt)" '' \
   "$program" check "$folder/all.fzn" examples/knapsack/stream.txt
 
-# what is shown is shown as itself, and is what is written beside it
+# The text that `show` gives is what is stored beside the model, and is shown as itself.
 for model in examples/*.fzn examples/*/model.fzn tests/corpus/*/model.fzn; do
   [ -e "$model" ] || continue
   "$program" show "$model" >"$folder/shown.fzn" 2>/dev/null || continue # one of floats is refused
@@ -149,8 +138,8 @@ for model in examples/*.fzn examples/*/model.fzn tests/corpus/*/model.fzn; do
   expect "$model shown twice" 0 "$(cat "$folder/shown.fzn")" '' "$program" show "$folder/shown.fzn"
 done
 
-# a block's line is written before the next block is complete
-# A model of 20,000 points, whose constraints are looked at row by row: rows of several kinds, constants of all, a declared array.
+# A model of 20,000 points, whose constraints are looked at row by row: rows of several kinds,
+# constants of all, a declared array. It is made here, since its files are too large to be stored.
 large() {
   awk 'BEGIN {
     n = 5000
@@ -177,46 +166,7 @@ values 2500 >"$folder/large_wrong.out"
 expect 'a large model' 0 "$accepted" '' "$program" check "$folder/large.fzn" "$folder/large.out"
 expect 'a large model, violated' 1 $'block 1: violated: constraint 5000 set_in\nrejected: block 1' '' "$program" check "$folder/large.fzn" "$folder/large_wrong.out"
 expect 'a large model with an unknown constraint' 2 $'block 1: undecided: constraint 10001 my_own not known\nundecided: block 1' '' "$program" check "$folder/unknown.fzn" "$folder/large.out"
-# The steps of one block are tried first for the next: blocks that print other names, and steps in the other order.
-cat >"$folder/steps.fzn" <<'END'
-var 0..9: x :: output_var;
-var 0..9: y :: output_var;
-var 0..99: z;
-constraint int_times(x,y,z) :: defines_var(z);
-constraint int_plus(x,1,y) :: defines_var(y);
-constraint int_ne(z,20);
-solve satisfy;
-END
-printf '%s\n----------\n' 'x = 2;' 'x = 3;' 'y = 4;' 'x = 4;' $'y = 6;\nx = 5;' 'x = 9;' >"$folder/steps.out"
-expect 'steps of the block before' 1 $'block 1: satisfied\nblock 2: satisfied\nblock 3: undecided: no value for x\nblock 4: violated: constraint 3 int_ne\nblock 5: satisfied\nblock 6: violated: domain of y\nrejected: block 4' '' \
-  "$program" check "$folder/steps.fzn" "$folder/steps.out"
-# Two constraints that give y different values: the first in the model's order does, in each block.
-cat >"$folder/rivals.fzn" <<'END'
-var 0..9: x :: output_var;
-var 0..9: y;
-constraint int_plus(x,1,y) :: defines_var(y);
-constraint int_times(x,2,y) :: defines_var(y);
-solve satisfy;
-END
-printf '%s\n----------\n' 'x = 1;' 'x = 2;' 'x = 1;' >"$folder/rivals.out"
-expect 'two that give one variable' 1 $'block 1: satisfied\nblock 2: violated: constraint 2 int_times\nblock 3: satisfied\nrejected: block 2' '' \
-  "$program" check "$folder/rivals.fzn" "$folder/rivals.out"
-# Nothing of one block is seen in the next: values that only the block before gives, and declarations of all kinds.
-cat >"$folder/again.fzn" <<'END'
-var 0..9: x;
-var {1, 4, 6}: y;
-var set of 0..5: s;
-var bool: b;
-var int: z = x;
-array [1..2] of var 0..7: a = [x, y];
-constraint int_le(x, y);
-constraint set_in(x, s);
-solve satisfy;
-END
-printf '%s\n----------\n' $'x = 3;\ny = 4;\ns = {1,3};\nb = true;\nz = 3;' $'x = 3;\ny = 4;\nb = true;' $'x = 3;\ny = 5;\ns = {3,4};\nb = false;' $'x = 9;\ny = 6;\ns = 0..5;\nb = false;' \
-  $'x = 5;\ny = 6;\ns = 0..5;\nb = false;\nz = 4;' $'x = 5;\ny = 6;\ns = 4..9;\nb = true;' $'x = 4;\ny = 6;\ns = {4};\nb = true;' 'y = 4;' >"$folder/again.out"
-expect 'values of the block before' 1 $'block 1: satisfied\nblock 2: undecided: no value for s\nblock 3: violated: domain of y\nblock 4: violated: domain of a\nblock 5: violated: definition of z\nblock 6: violated: domain of s\nblock 7: satisfied\nblock 8: undecided: no value for x\nrejected: block 3' '' \
-  "$program" check "$folder/again.fzn" "$folder/again.out"
+# A block's line is written before the next block is complete.
 mkfifo "$folder/pipe"
 "$program" check examples/first.fzn <"$folder/pipe" >"$folder/lines" 2>&1 &
 exec 7>"$folder/pipe"

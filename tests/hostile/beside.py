@@ -9,6 +9,7 @@ import slow
 
 EXAMPLES = os.path.join(ROOT, "examples")
 CORPUS = os.path.join(ROOT, "tests", "corpus")
+BY_HAND = "by_hand" + os.sep  # how the names of the corpus's small cases begin
 FIRST_MODEL = os.path.join(EXAMPLES, "first.fzn")
 FIRST_STREAM = os.path.join(EXAMPLES, "first.out")
 

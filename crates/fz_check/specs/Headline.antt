@@ -9,7 +9,7 @@ use Rattle.fz_verdict.specs.Blocks.{Block, bare_of_block}
 use Rattle.fz_verdict.specs.Headline.{HaveSolutions}
 
 -- The model's bytes are a text of a tree without faults; the stream's bytes are a text of parts, of
--- which so many are blocks, at least one; and for these blocks there are assignments, one per
+-- which `count` are blocks, at least one; and for these blocks there are assignments, one per
 -- block, each of which extends its block, lies inside all declared domains, satisfies every
 -- definition and constraint, and has an objective strictly better than the block before it.
 pub record HasSolutions (model stream : List ℕ) (count : ℕ) : Type 0 where

@@ -1,5 +1,5 @@
--- How the claims of a report are written where they stand. Private functions alone cite this file,
--- and a reader need not believe it.
+-- How the claims of a report are written, each behind the block that it follows. Private functions
+-- alone cite this file, and a reader need not believe it.
 use Rattle.std.specs.Prelude.{◌≡◌, ℕ, suc, ◌<◌, ◌≢◌, List, [], ◌∷◌, ◌++◌, length, map, ⊤}
 use Rattle.std.specs.List.{AllByRecursion}
 use Rattle.fz_stream.specs.declared.reading.Claim.{Claim}
@@ -7,7 +7,7 @@ use Rattle.fz_verdict.specs.Report.{claim_line, claim_lines, lines_from, text_of
 use Rattle.fz_verdict.specs.Verdict.{Verdict}
 use Rattle.fz_stream.specs.Found.{AreInOrder}
 
--- no claim stands at the front, or one that comes after another number of blocks
+-- there are no claims, or the first one comes after another number of blocks
 abbrev pub BeginsElsewhere : ℕ → List Claim → Type 0
 BeginsElsewhere n [] = ⊤
 BeginsElsewhere n (c ∷ cs) = c.after ≢ n
@@ -24,8 +24,8 @@ pub record IsPushed (old new : List ℕ) (claims rest : List Claim) (after : ℕ
   pub pushing : IsPushing old new claims rest after
   pub elsewhere : BeginsElsewhere after rest
 
--- So much of the report is written: the claims before the first block, and so many blocks with
--- their claims; and these claims are left.
+-- What is written of a report: the claims before the first block, and the blocks with these
+-- verdicts, each with the claims behind it. The claims `rest` are left to be written.
 pub record IsWritten (text : List ℕ) (verdicts : List Verdict) (claims rest : List Claim)
     (most : ℕ) : Type 0 where
   pub lines : text ≡ text_of_lines (claim_lines 0 claims ++ lines_from 0 verdicts claims)

@@ -20,13 +20,13 @@ IsModelRefusal (errors.Names e) = ⊤
 IsModelRefusal errors.Memory = ⊤
 IsModelRefusal _ = ⊥
 
--- those of a whole check, where nothing is read and written
+-- the refusals of a whole check, where nothing is read or written
 abbrev pub IsCheckRefusal : CheckError → Type 0
 IsCheckRefusal errors.Read = ⊥
 IsCheckRefusal errors.Write = ⊥
 IsCheckRefusal _ = ⊤
 
--- those of one step alone
+-- the refusals of each step alone
 abbrev pub IsTextRefusal : CheckError → Type 0
 IsTextRefusal (errors.Model e) = ⊤
 IsTextRefusal errors.Memory = ⊤
@@ -47,7 +47,7 @@ IsJudgingRefusal (errors.Block n e) = ⊤
 IsJudgingRefusal errors.Memory = ⊤
 IsJudgingRefusal _ = ⊥
 
--- ---- what is answered where a step refuses: where any part runs out of memory, so does all
+-- ---- the error of a check for an error of a step: out of memory, where the step is
 
 abbrev pub text_refusal : SyntaxError → CheckError
 text_refusal syntax.Memory = errors.Memory

@@ -1,5 +1,6 @@
--- What a check over a reader and a writer answers (this project's profile). The bytes read are
--- those that the reader gave, the bytes written those that the writer got, where they tell them.
+-- What a check over a reader and a writer answers (this project's profile). The bytes that a reader
+-- still has and those that a writer got are options: where there is None, as for a file, nothing is
+-- said of them.
 use Rattle.std.specs.Prelude.{◌≡◌, ℕ, List, ⊤, Option}
 use Rattle.std.specs.Io.KnownBytes.{Appends, Consumes, IsAtEnd}
 use Rattle.fz_syntax.specs.Text.{IsTextOfTree}
@@ -40,7 +41,7 @@ pub record HoldsOfModel (model : List ℕ) (Holds : Model → Type 0) : Type 0 w
   pub no_fault : HasNoFault tree
   pub holds : Holds (model_of tree)
 
--- the model is refused
+-- the refusal is of the model
 abbrev pub IsOfModel : CheckError → Type 0
 IsOfModel (errors.Model e) = ⊤
 IsOfModel (errors.Names e) = ⊤

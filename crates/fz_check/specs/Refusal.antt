@@ -1,4 +1,4 @@
--- The line that tells of a refusal, and the program's exit status (this project's profile).
+-- The line and the byte range of a refusal, and the program's exit status (this project's profile).
 use Rattle.std.specs.Prelude.{ℕ, List, ◌++◌, Option, Some, None, Result, Ok, Err, codes, decimal}
 use Rattle.fz_base.specs.declared.span.Span.{Span}
 use Rattle.fz_syntax.specs.SyntaxError.{SyntaxError}
@@ -14,7 +14,7 @@ use Rattle.fz_check.specs.declared.error.CheckError.TheVariants as errors
 use Rattle.fz_streaming.specs.declared.line.Answer.{Answer}
 use Rattle.fz_streaming.specs.declared.line.Answer.TheVariants as answers
 
--- the name of a fault, and its place where it has one
+-- the name of a fault, and its byte range where it has one
 pub record Named : Type 0 where
   pub name : List ℕ
   pub place : Option Span
@@ -77,8 +77,7 @@ refusal errors.Write = codes "write"
 abbrev pub refusal_line : CheckError → List ℕ
 refusal_line e = codes "refused: " ++ refusal e ++ codes "\n"
 
--- the place of the fault that a refusal tells of, where it has one: in the model's text, or in the
--- whole stream
+-- the byte range of the fault, where it has one: in the model's text, or in the whole stream
 abbrev pub refusal_place : CheckError → Option Span
 refusal_place (errors.Model e) = (syntax_fault e).place
 refusal_place (errors.Names e) = (model_fault e).place

@@ -1,4 +1,4 @@
--- What a refusal says (this project's profile).
+-- What holds where a check is refused (this project's profile).
 use Rattle.std.specs.Prelude.{◌≡◌, ◌≢◌, ◌↔◌, ℕ, ◌+◌, ◌<◌, ◌≤◌, List, ◌∷◌, ◌++◌, length, None}
 use Rattle.std.specs.List.{AllByRecursion}
 use Rattle.fz_syntax.specs.Limits.{most_bytes}
@@ -25,8 +25,9 @@ use Rattle.fz_streaming.specs.of_judge.declared.error.BlockError.{BlockError}
 use Rattle.fz_streaming.specs.of_judge.declared.error.BlockError.TheVariants.{Memory as BlockMemory}
 use Rattle.fz_check.specs.Reported.{Checked}
 
--- The model's bytes are a text of no tree, and the fault tells of them: it is that they are too
--- many just where they are, else it comes in the order of faults, and its place lies within them.
+-- The model's bytes are not a text of any tree. The fault is `TooLong` exactly where they are too
+-- many. It comes in the order of faults, one of the lexer before one of the grammar, and its byte
+-- range is within them.
 pub record HasTextFault (model : List ℕ) (e : SyntaxError) : Type 0 where
   pub no_tree : (t : Tree) → IsTextOfTree model t → ⊥
   pub too_long : (e ≡ TextTooLong) ↔ (most_bytes < length model)
@@ -34,13 +35,13 @@ pub record HasTextFault (model : List ℕ) (e : SyntaxError) : Type 0 where
   pub place : IsPlacedWithin (length model) e
   pub not_memory : e ≢ TextMemory
 
--- The model's bytes are a text of a tree whose names and literals stand there, and this is its
--- leftmost fault.
+-- The model's bytes are a text of a tree whose names and literals have their byte ranges in it, and
+-- this is the tree's leftmost fault.
 pub record HasNameFault (model : List ℕ) (e : ModelError) : Type 0 where
   pub fault : IsNameFault model e
   pub not_memory : e ≢ NameMemory
 
--- The stream's bytes are not too many and a text of no parts, and the fault is that of the first
+-- The stream's bytes are not too many, and not a text of parts. The fault is that of the first
 -- block that is broken.
 pub record IsBroken (bytes : List ℕ) (e : StreamError) : Type 0 where
   pub short : length bytes ≤ most_bytes
@@ -49,13 +50,13 @@ pub record IsBroken (bytes : List ℕ) (e : StreamError) : Type 0 where
   pub stops : StopsAfter bytes before e
   pub fault : IsStreamFault e
 
--- the stream's bytes are too many, or a text of no parts
+-- the stream's bytes are too many, or not a text of parts
 abbrev pub HasStreamFault : List ℕ → StreamError → Type 0
 HasStreamFault bytes stream.TooLong = most_bytes < length bytes
 HasStreamFault bytes stream.Memory = ⊥
 HasStreamFault bytes e = IsBroken bytes e
 
--- The block with this number, from 1, is the first that has a fault, and its first fault is told.
+-- The block with this number, from 1, is the first that has a fault, and this is its first fault.
 pub record IsFirstFault (m : Model) (blocks : List the_block.Block) (number : ℕ)
     (e : BlockError) : Type 0 where
   pub before : List the_block.Block
@@ -67,8 +68,8 @@ pub record IsFirstFault (m : Model) (blocks : List the_block.Block) (number : �
   pub tells : IsBlockRefusal m (located_block block) e
   pub not_memory : e ≢ BlockMemory
 
--- The stream's bytes are not too many; of the blocks that are checked, the one with this number is
--- the first that has a fault against the tree's model, and it is told.
+-- The stream's bytes are not too many. Of its blocks, the one with this number is the first that
+-- doesn't fit the tree's model, and this is its first fault.
 pub record HasBlockFault (model stream : List ℕ) (number : ℕ) (e : BlockError) : Type 0 where
   pub short : length stream ≤ most_bytes
   pub checked : Checked model stream

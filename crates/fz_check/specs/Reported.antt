@@ -1,4 +1,4 @@
--- What a report says (this project's profile).
+-- What holds of a report (this project's profile).
 use Rattle.std.specs.Prelude.{◌≡◌, ℕ, suc, ℤ, List, map, Some}
 use Rattle.std.specs.List.{AllByRecursion, slice_get}
 use Rattle.fz_syntax.specs.Text.{IsTextOfTree}
@@ -18,8 +18,8 @@ use Rattle.fz_verdict.specs.Verdict.Verdict.{Satisfied, Violated}
 use Rattle.fz_verdict.specs.Verdict.Fault.{NotBetter}
 
 -- What is checked against what: the model's bytes are a text of a tree without faults, and the
--- stream's bytes are a text of parts, of which these are the blocks, with the places where their
--- names and literals stand in them.
+-- stream's bytes are a text of parts, of which these are the blocks, with the byte ranges of their
+-- names and literals.
 pub record Checked (model stream : List ℕ) : Type 0 where
   pub tree : LocatedTree
   pub text_of_model : IsTextOfTree model (bare_of tree)
@@ -30,7 +30,7 @@ pub record Checked (model stream : List ℕ) : Type 0 where
   pub blocks_are : map block_of blocks ≡ blocks_in parts
   pub places : AllByRecursion HasPlaces blocks
 
--- ---- a yes is a yes, and a no is a no
+-- ---- what the verdicts of a report say of solutions
 
 -- an assignment that is a solution extends the block
 abbrev pub HasOne : Model → Block → Type 0
@@ -62,8 +62,8 @@ pub record AreBorneOut (m : Model) (blocks : List Block) (verdicts : List Verdic
       → (j : ℕ) × (earlier : Block) × (i ≡ suc j) × (slice_get blocks j ≡ Some earlier)
       × NoneImproves m earlier block
 
--- Whether values are looked for or not, the report is that of the tree's model on the parts, and
--- its verdicts are borne out.
+-- The report is that of the tree's model on the parts, with a search for values that were left out
+-- or without one, and its verdicts are borne out.
 pub record HasReport (c : Completion) (model stream : List ℕ) (r : Report) : Type 0 where
   pub checked : Checked model stream
   pub is_report : IsReport c (model_of checked.tree)

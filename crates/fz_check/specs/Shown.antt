@@ -1,4 +1,4 @@
--- What is shown of a model (this project's profile).
+-- What `show` gives of a model (this project's profile).
 use Rattle.std.specs.Prelude.{◌≡◌, ℕ, List}
 use Rattle.fz_syntax.specs.Limits.{LexesWithNumbersInLimit}
 use Rattle.fz_syntax.specs.Print.{tree_text}

@@ -1,4 +1,4 @@
--- Which verdicts a search looks for. Private functions alone cite this file, and a reader need not
+-- Which verdicts are looked for. Private functions alone cite this file, and a reader need not
 -- believe it.
 use Rattle.std.specs.Prelude.{Bool}
 use Rattle.fz_verdict.specs.Verdict.{Verdict, is_violated, is_undecided}

@@ -1,5 +1,5 @@
--- What the code keeps of a fault that it tells. A private function's, so a reader need not believe
--- it.
+-- The name and the byte range of a fault, as the code has them. Private functions alone cite this
+-- file, and a reader need not believe it.
 use Rattle.fz_check.specs.declared.refusal.Told.{Told}
 use Rattle.fz_check.specs.Refusal.{Named}
 

@@ -1,4 +1,4 @@
--- What the values of this crate's types stand for: plain reports.
+-- The report, as defined, that a `Report` of the code stands for.
 use Rattle.std.specs.Prelude.{map}
 use Rattle.fz_verdict.specs.Report as report
 use Rattle.fz_streaming.specs.of_judge.View.{verdict_view}

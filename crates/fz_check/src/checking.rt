@@ -1,4 +1,4 @@
-//! The check of a stream against a model.
+//! The check of a stream that is read whole, and the canonical text of a model.
 
 ghost use Rattle.std.specs.Prelude.{◌≡◌, ◌≢◌, ◌≤◌, ℕ, length, map, vec_len, IfOk, IfErr, Err};
 ghost use Rattle.std.specs.List.{AllByRecursion};
@@ -46,7 +46,7 @@ use fz_streaming::fz_judge::{BlockError, Judge, Verdict};
 use fz_syntax::{Ast, SyntaxError, parse, to_text};
 use std::alloc::Global;
 
-/// What is answered where the text of a model is refused.
+/// The error of a check for an error in the text of its model.
 fn text_refusal(error: SyntaxError) -> CheckError
     ensures { result ≡ text_refusal error }
 {
@@ -56,7 +56,7 @@ fn text_refusal(error: SyntaxError) -> CheckError
     }
 }
 
-/// What is answered where the names of a model are refused.
+/// The error of a check for an error in the names of its model.
 fn name_refusal(error: ModelError) -> CheckError
     ensures { result ≡ name_refusal error }
 {
@@ -66,7 +66,7 @@ fn name_refusal(error: ModelError) -> CheckError
     }
 }
 
-/// What is answered where a stream is refused.
+/// The error of a check for an error in its stream.
 fn stream_refusal(error: StreamError) -> CheckError
     ensures { result ≡ stream_refusal error }
 {
@@ -76,7 +76,7 @@ fn stream_refusal(error: StreamError) -> CheckError
     }
 }
 
-/// What is answered where the block of this number is refused.
+/// The error of a check for an error in the block with this number.
 fn block_refusal(number: usize, error: BlockError) -> CheckError
     ensures { result ≡ block_refusal number error }
 {
@@ -163,7 +163,7 @@ fn read_stream<'s>(alloc: Global, stream: &'s [u8]) -> Result<Stream<'s>, CheckE
     }
 }
 
-/// The verdicts on the blocks, in order, by one judge, which keeps the objective of the block
+/// The verdicts on the blocks, in order, by one judge, which stores the objective of the block
 /// before.
 fn judge_blocks<'a>(
     alloc: Global,
@@ -189,32 +189,34 @@ fn judge_blocks<'a>(
     Ok(verdicts)
 }
 
-/// Judges each block of a stream against a model. The model's text, its names, the whole stream and
-/// then the blocks are looked at in this order, and the first fault refuses the check.
+/// Judges each block of a stream against a model. First the model's text is looked at, then its
+/// names, then the whole stream, then its blocks. The check is refused with the first fault in this
+/// order.
 ///
 /// # Errors
 ///
-/// `Model` where the model's bytes are a text of no tree, `Names` with the leftmost fault of its
-/// names, `Stream` where the stream's bytes are too many or a text of no blocks and claims, `Block`
-/// with the first fault of the first block that has one, and `Memory` where memory runs out.
+/// `Model` where the model's bytes are not a text of any tree, `Names` with the leftmost fault of
+/// its names, `Stream` where the stream's bytes are too many or not a text of blocks and claims,
+/// `Block` with the first fault of the first block that has one, and `Memory` where memory runs
+/// out.
 pub fn check<'a>(alloc: Global, model: &'a [u8], stream: &[u8]) -> Result<Report<'a>, CheckError>
-    // A yes is a yes: what is accepted has solutions.
+    // What is accepted has solutions.
     ensures accepted { IfOk result (λ r. (count : ℕ) → r.answer ≡ Answer.Accepted count
         → HasSolutions model.now stream.now count) }
     // The report is the one as defined, with one verdict for each block, the stream's claims and
-    // the answer that follows. What it tells satisfied has a solution. A no is a no: what it tells
-    // violated has none.
+    // the answer that follows. A block that is satisfied has a solution. A block that is violated
+    // has none, or none that improves on the block before.
     ensures report { IfOk result (λ r. HasReport Completion.Off model.now stream.now
         (report_view r)) }
     ensures in_order { IfOk result (λ r. AreInOrder 0 (vec_len r.verdicts) r.claims.items) }
     ensures short { IfOk result (λ _. length stream.now ≤ most_bytes) }
-    // The model is refused only where its bytes are a text of no tree, or with the leftmost fault
-    // of its names.
+    // The model is refused only where its bytes are not a text of any tree, or with the leftmost
+    // fault of its names.
     ensures model { (e : SyntaxFault) → result ≡ Err (CheckError.Model e)
         → HasTextFault model.now e }
     ensures names { (e : NameFault) → result ≡ Err (CheckError.Names e) → HasNameFault model.now e }
-    // The stream is refused only where the model is good and its bytes are too many or a text of no
-    // parts, a block with the first fault.
+    // The stream is refused only where the model has no fault, and the stream's bytes are too many
+    // or not a text of parts. A block is refused only with the first fault.
     ensures stream { (e : StreamFault) → result ≡ Err (CheckError.Stream e)
         → HoldsOfModel model.now (λ _. HasStreamFault stream.now e) }
     ensures block { (n : ℕ) (e : BlockFault) → result ≡ Err (CheckError.Block n e)
@@ -232,18 +234,18 @@ pub fn check<'a>(alloc: Global, model: &'a [u8], stream: &[u8]) -> Result<Report
     })
 }
 
-/// The canonical text of a model, one line an item, as `to_text` writes it, after its names were
-/// looked up.
+/// The canonical text of a model, one line for each item, as `to_text` writes it. The names of the
+/// model are looked up first.
 ///
 /// # Errors
 ///
-/// `Model` where the bytes are a text of no tree, `Names` with the leftmost fault of its names, and
-/// `Memory` where memory runs out.
+/// `Model` where the bytes are not a text of any tree, `Names` with the leftmost fault of its
+/// names, and `Memory` where memory runs out.
 pub fn show(alloc: Global, model: &[u8]) -> Result<Vec<u8>, CheckError>
-    // The bytes are a text of a tree without faults, and the text is that tree's.
+    // The bytes are a text of a tree without faults, and the result is that tree's text.
     ensures shown { IfOk result (λ text. IsShown model.now text.items) }
-    // It is refused only where the bytes are a text of no tree, or with the leftmost fault of its
-    // names.
+    // It is refused only where the bytes are not a text of any tree, or with the leftmost fault of
+    // its names.
     ensures model { (e : SyntaxFault) → result ≡ Err (CheckError.Model e)
         → HasTextFault model.now e }
     ensures names { (e : NameFault) → result ≡ Err (CheckError.Names e) → HasNameFault model.now e }
@@ -258,19 +260,19 @@ pub fn show(alloc: Global, model: &[u8]) -> Result<Vec<u8>, CheckError>
 }
 
 /// As `show`, with `:: output_var` behind each scalar variable that lacks it. A solver that runs
-/// this model prints the value of every variable, and what it prints can be checked against the
-/// first model too.
+/// this model prints the value of every variable, and what it prints can also be checked against
+/// the model as it was.
 ///
 /// # Errors
 ///
 /// As `show`.
 pub fn show_printing_all(alloc: Global, model: &[u8]) -> Result<Vec<u8>, CheckError>
-    // The bytes are a text of a tree without faults, and the text is that tree's, with the
-    // annotation at each scalar variable. It has the same names, domains, constraints and
-    // objective: it is a text of the same model.
+    // The bytes are a text of a tree without faults, and the result is that tree's text, with the
+    // annotation at each scalar variable. It is a text of the same model, with the same names,
+    // domains, constraints and objective.
     ensures shown { IfOk result (λ text. IsShownPrintingAll model.now text.items) }
-    // It is refused only where the bytes are a text of no tree, or with the leftmost fault of its
-    // names.
+    // It is refused only where the bytes are not a text of any tree, or with the leftmost fault of
+    // its names.
     ensures model { (e : SyntaxFault) → result ≡ Err (CheckError.Model e)
         → HasTextFault model.now e }
     ensures names { (e : NameFault) → result ≡ Err (CheckError.Names e) → HasNameFault model.now e }

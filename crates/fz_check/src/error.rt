@@ -1,3 +1,5 @@
+//! The errors of a check.
+
 use fz_model::ModelError;
 use fz_stream::StreamError;
 use fz_streaming::fz_judge::BlockError;
@@ -8,16 +10,16 @@ use thiserror::Error;
 /// Why a check has no report.
 #[derive(Clone, Copy, Debug, PartialEq, Eq, Error)]
 pub enum CheckError {
-    /// The model's bytes are a text of no tree.
+    /// The model's bytes are not a text of any tree.
     #[error("model: {0}")]
     Model(SyntaxError),
-    /// The model's tree has a fault; this is the leftmost.
+    /// The model's tree has a fault of names; this is the leftmost.
     #[error("model: {0}")]
     Names(ModelError),
-    /// The stream's bytes are no text of blocks and claims.
+    /// The stream's bytes are not a text of blocks and claims.
     #[error("stream: {0}")]
     Stream(StreamError),
-    /// The block of this number, from 1, has a fault against the model.
+    /// The block with this number, from 1, doesn't fit the model; this is its first fault.
     #[error("block {0}: {1}")]
     Block(usize, BlockError),
     #[error("memory")]

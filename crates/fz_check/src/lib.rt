@@ -1,5 +1,7 @@
-//! Judging a stream of solution blocks against a model. The internal crate `fz_judge` judges one
-//! block after another.
+//! The check of a stream of solution blocks against a model, and the canonical text of a model. The
+//! internal crate `fz_judge` judges one block after another.
+//!
+//! Worked cases are in `fz_check_cases`.
 #![tactic(auto)]
 
 mod checking;

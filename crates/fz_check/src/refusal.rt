@@ -1,4 +1,4 @@
-//! What a refusal tells its reader, and the exit status of the program.
+//! The line and the byte range of a refusal, and the exit status of the program.
 
 ghost use Rattle.std.specs.Prelude.{◌≡◌, ◌++◌, IfOk, OnOk};
 ghost use Rattle.fz_check.specs.Refusal.{block_fault, model_fault, named_text, refusal_line, refusal_place, status_of, stream_fault, syntax_fault};
@@ -13,7 +13,7 @@ use fz_streaming::{Answer, push_bytes, push_count};
 use fz_syntax::SyntaxError;
 use std::alloc::{AllocError, Global};
 
-/// The name of a fault, and its place where it has one.
+/// The name of a fault, and its byte range where it has one.
 #[derive(Clone, Copy)]
 struct Told {
     name: &'static [u8],
@@ -88,7 +88,7 @@ fn told_block(error: BlockError) -> Told
     }
 }
 
-/// Adds a fault's name, and ` at START..END` where it has a place.
+/// Adds a fault's name, and ` at START..END` where it has a byte range.
 fn push_told(text: &mut Vec<u8>, told: Told) -> Result<(), AllocError>
     ensures { OnOk result (text.new.items ≡ text.old.items ++ named_text (named told)) }
 {
@@ -140,9 +140,8 @@ pub fn refusal_text(alloc: Global, error: &CheckError) -> Result<Vec<u8>, AllocE
     Ok(text)
 }
 
-/// The place of the fault that a refusal tells of, in bytes from 0: in the model's text, or in the
-/// whole stream. A refusal for a text that is too long, for lack of memory, or for a failed read or
-/// write has none.
+/// The byte range of the fault, counted from 0 in the model's text or in the whole stream. There is
+/// none where a text is too long, memory ran out, or a read or a write failed.
 pub fn refusal_place(error: &CheckError) -> Option<Span>
     ensures { result ≡ refusal_place error.now }
 {

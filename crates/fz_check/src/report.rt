@@ -23,7 +23,7 @@ pub struct Report<'a> {
     pub answer: Answer,
 }
 
-/// Which verdicts a search looks for.
+/// Which verdicts are looked for.
 #[derive(Clone, Copy)]
 enum Sought {
     Violated,
@@ -41,7 +41,7 @@ impl Sought {
     }
 }
 
-/// The number of the first block, from 1, whose verdict is one that is sought.
+/// The number, from 1, of the first block whose verdict is one that is looked for.
 fn first_number(sought: Sought, verdicts: &[Verdict<'_>]) -> Option<usize>
     ensures { result ≡ first_number 1 (is_sought sought) (map verdict_view verdicts.now) }
 {
@@ -69,8 +69,8 @@ pub(crate) fn answer_to(verdicts: &[Verdict<'_>]) -> Answer
     }
 }
 
-/// Adds the lines of the claims at the front that come right after this number of blocks, and gives
-/// the rest.
+/// Adds the lines of the first claims, those that come right after this number of blocks, and gives
+/// the other claims.
 fn push_claims<'a>(
     text: &mut Vec<u8>,
     claims: &'a [Claim],
@@ -97,7 +97,7 @@ fn push_claims<'a>(
 ///
 /// Out of memory.
 pub fn report_text(alloc: Global, report: &Report<'_>) -> Result<Vec<u8>, AllocError>
-    // Of a report whose claims stand in the stream's order.
+    // Where the report's claims are in the stream's order.
     ensures { IfOk result (λ text. AreInOrder 0
         (vec_len report.now.verdicts) report.now.claims.items
         → text.items ≡ report_bytes (report_view report.now)) }

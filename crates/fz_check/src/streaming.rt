@@ -23,7 +23,7 @@ use fz_streaming::{Answer, StreamingError, check_parts};
 use std::alloc::Global;
 use std::io::{Read, Write};
 
-/// What is answered where the check of a loaded model is refused.
+/// The error of `check_stream` for an error of the check of a loaded model.
 fn streaming_refusal(error: StreamingError) -> CheckError
     ensures { result ≡ streaming_refusal error }
 {
@@ -36,9 +36,9 @@ fn streaming_refusal(error: StreamingError) -> CheckError
     }
 }
 
-/// As `check_stream`, with at most so many reads; values that the solver left out are looked for
-/// where completion is on. What is found is judged as the filling is, and only then is a block
-/// satisfied by it; none is violated by it.
+/// As `check_stream`, with at most `reads` reads. Where completion is on, values are searched for
+/// that the solver left out. What is found is judged as the filling is: it can make a block
+/// satisfied, never violated.
 ///
 /// # Errors
 ///
@@ -51,7 +51,7 @@ pub fn check_stream_up_to<R: Read, W: Write>(
     reads: u64,
     completion: Completion,
 ) -> Result<Answer, CheckError>
-    // A yes is a yes: what is accepted has solutions.
+    // What is accepted has solutions.
     ensures accepted { IfOk result (λ a. (count : ℕ) → a ≡ Answer.Accepted count
         → HoldsOfStream (R.remaining reader.old) (R.remaining reader.new)
         (λ given. HasSolutions model.now given count)) }
@@ -59,17 +59,17 @@ pub fn check_stream_up_to<R: Read, W: Write>(
     ensures report { IfOk result (λ a. HoldsOfStream (R.remaining reader.old)
         (R.remaining reader.new) (λ given. IsReportedTo completion model.now given
         (W.contents writer.old) (W.contents writer.new) (answer_view a))) }
-    // The model is refused only where its bytes are a text of no tree, or with the leftmost fault
-    // of its names.
+    // The model is refused only where its bytes are not a text of any tree, or with the leftmost
+    // fault of its names.
     ensures model { (e : SyntaxFault) → result ≡ Err (CheckError.Model e)
         → HasTextFault model.now e }
     ensures names { (e : NameFault) → result ≡ Err (CheckError.Names e) → HasNameFault model.now e }
-    // Then nothing is read, and nothing is written.
+    // Where the model is refused, nothing is read and nothing is written.
     ensures model_first { IfErr result (λ e. IsOfModel e
         → IsUntouched (R.remaining reader.old) (R.remaining reader.new) (W.contents writer.old)
         (W.contents writer.new)) }
-    // After the other refusals the lines of all parts that ended before the fault were written, and
-    // nothing else.
+    // Where the stream or a block is refused, or a read failed, the lines of all parts that ended
+    // before the fault were written, and nothing else.
     ensures fault { (e : StreamFault) → result ≡ Err (CheckError.Stream e)
         → IsStreamFault e × (e ≢ OfMemory) }
     ensures stream { (e : StreamFault) → result ≡ Err (CheckError.Stream e)
@@ -83,7 +83,7 @@ pub fn check_stream_up_to<R: Read, W: Write>(
     ensures read { result ≡ Err CheckError.Read → HoldsOfModel model.now
         (λ m. StopsAfterLines completion m (R.remaining reader.old) (R.remaining reader.new)
         (W.contents writer.old) (W.contents writer.new) HasNoMore) }
-    // After a failed write a front of the lines for the bytes that were read was written, and
+    // After a failed write a prefix of the lines for the bytes that were read was written, and
     // nothing else.
     ensures write { result ≡ Err CheckError.Write → HoldsOfModel model.now
         (λ m. WritesFrontOfLines completion m (R.remaining reader.old) (R.remaining reader.new)
@@ -92,8 +92,8 @@ pub fn check_stream_up_to<R: Read, W: Write>(
         (R.remaining reader.new) (W.contents writer.old) (W.contents writer.new)
         ⊎ HoldsOfModel model.now (λ m. WritesFrontOfLines completion m (R.remaining reader.old)
         (R.remaining reader.new) (W.contents writer.old) (W.contents writer.new)) }
-    // It reads at most so often, 4,096 bytes at most at a time, and before there is an answer one
-    // read finds the end.
+    // There are at most `reads` reads, each of at most 4,096 bytes. Before there is an answer, one
+    // of them finds the end.
     ensures reads { SpendsReads reads 0 (R.remaining reader.old) (R.remaining reader.new) }
     ensures end_read { IfOk result
         (λ _. SpendsReads reads 1 (R.remaining reader.old) (R.remaining reader.new)) }
@@ -108,20 +108,21 @@ pub fn check_stream_up_to<R: Read, W: Write>(
     }
 }
 
-/// The most reads of a stream.
+/// The most reads that `check_stream` makes.
 pub const MOST_READS: u64 = 4_294_967_296;
 
-/// Judges each block of the stream that a reader gives, and writes the lines of the report. Those
-/// of all that was read so far are written before the next read, and before any answer. At most
-/// 4,096 bytes are read at a time, in at most 4,294,967,296 reads, and one block is held.
+/// Judges each block of the stream that a reader gives, and writes the lines of the report. The
+/// lines for all that was read so far are written before the next read, and before any answer. At
+/// most 4,096 bytes are read at a time, in at most 4,294,967,296 reads, and one block at a time is
+/// in memory.
 ///
 /// # Errors
 ///
 /// `Model` and `Names` as `check` has them, before anything is read or written. Then the first
-/// fault in the stream's order: `Stream` where the stream's bytes cannot go on, or are too many to
-/// be held, `Block` with the first fault of a block. `Read` where a read fails or there were as
-/// many as may be, `Write` where a write fails or takes nothing, and `Memory` where memory runs
-/// out.
+/// fault in the stream's order: `Stream` where no stream continues in this way, or where more bytes
+/// would have to be held than may be, `Block` with the first fault of a block. `Read` where a read
+/// fails or the most reads have been made, `Write` where a write fails or takes nothing, and
+/// `Memory` where memory runs out.
 pub fn check_stream<R: Read, W: Write>(
     alloc: Global,
     model: &[u8],

@@ -15,7 +15,7 @@ const VIOLATED: &[u8] = b"block 1: violated: constraint 1 ";
 
 const UNDECIDED: &[u8] = b"block 1: undecided: constraint 1 ";
 
-/// The points before the name of the constraint.
+/// The lines of the points, up to the name of the constraint.
 const POINTS: &[u8] = b"domain of x: Holds\ndomain of b: Holds\ndomain of s: Holds\nconstraint 1 ";
 
 /// A line for each row: its name, arguments with which it holds, and with which it fails.
@@ -146,7 +146,7 @@ const LIMITS: &str = "
     set_symdiff            (1..4,3..6,{1,2,5,6})         (1..4,3..6,1..6)
 ";
 
-/// Other names, numbers of arguments and kinds.
+/// Names, numbers of arguments and kinds that no row has.
 const FITTING_NO_ROW: &str = "
     int_lin_eq                  ([1],[1,2],3)
     int_lin_le_reif             ([1,2],[x],3,b)
@@ -187,7 +187,7 @@ fn wanted(alloc: Global, state: State, name: &[u8]) -> Result<Vec<u8>, AllocErro
     Ok(text)
 }
 
-/// What is told of a constraint, where x is 3, b is true and s is {1,3}.
+/// The report and the points of a constraint, where x is 3, b is true and s is {1,3}.
 fn given(alloc: Global, name: &[u8], arguments: &[u8]) -> Result<Vec<u8>, AllocError> {
     let mut model = Vec::from_slice(alloc, DECLARED)?;
     push_all(&mut model, &[name, arguments, b";\nsolve satisfy;\n"])?;
@@ -217,7 +217,7 @@ fn holds_and_fails(alloc: Global, line: &str) -> Result<bool, AllocError> {
     Ok(holds && fails)
 }
 
-/// Looks at a table of such lines.
+/// Tests each line of a table of rows.
 pub(crate) fn look_at_rows(rt: &impl Abort, alloc: Global, table: &str) {
     for line in table.trim().split('\n') {
         let as_said = matches!(holds_and_fails(alloc, line), Ok(true));
@@ -226,7 +226,7 @@ pub(crate) fn look_at_rows(rt: &impl Abort, alloc: Global, table: &str) {
 }
 
 #[test]
-fn rows(rt: HostRuntime) {
+fn rows_that_hold_and_fail(rt: HostRuntime) {
     look_at_rows(&rt, rt.alloc(), ROWS);
     look_at_rows(&rt, rt.alloc(), ROWS_WITH_TRUTH);
     look_at_rows(&rt, rt.alloc(), LIMITS);
@@ -239,7 +239,7 @@ fn is_unknown(alloc: Global, line: &str) -> Result<bool, AllocError> {
     }
 }
 
-/// Looks at a table of constraints that fit no row: a name and arguments in each line.
+/// Tests each line of a table of constraints that fit no row: a name and arguments.
 pub(crate) fn look_at_strangers(rt: &impl Abort, alloc: Global, table: &str) {
     for line in table.trim().split('\n') {
         let is_unknown = matches!(is_unknown(alloc, line), Ok(true));

@@ -50,7 +50,7 @@ var 1..5: x :: output_var; constraint int_le(2,x); solve satisfy;
 = refused: block 1: Kind at 0..1
 ";
 
-/// Where these are read in pieces, the lines before the fault are told too.
+/// Streams for `check` alone: `check_stream` writes the lines before the fault too.
 const FAULTS_IN_THE_SECOND_BLOCK: &str = "
 var 1..5: x :: output_var; constraint int_le(2,x); solve satisfy;
 > x = 3; / ---------- / y = 1; / ----------
@@ -197,7 +197,8 @@ const REFUSED: &str = "
     var int: x1; var int: y1 = z1; solve satisfy; => UnknownName at 27..29
 ";
 
-/// Whether a line's model is refused so. The stream is broken too: that comes later.
+/// Whether a line's model is refused with its fault. The stream has a fault too, which is found
+/// later.
 fn is_refused(alloc: Global, call: Call, line: &str) -> Result<bool, AllocError> {
     let Some((model, fault)) = line.trim().split_once(" => ") else {
         return Ok(false);

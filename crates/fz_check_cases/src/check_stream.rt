@@ -23,7 +23,7 @@ pub(crate) struct Run<'a> {
     pub(crate) ends: bool,
     /// the most reads, where there is a bound
     pub(crate) reads: Option<u64>,
-    /// whether values that the solver left out are looked for
+    /// whether values that the solver left out are searched for
     pub(crate) completion: Completion,
 }
 
@@ -96,7 +96,7 @@ impl Run<'_> {
     }
 }
 
-/// A stream that is read byte by byte, and at last ends or fails.
+/// A stream that is read byte by byte to its end, or until a read fails in the place of its end.
 pub(crate) fn bytewise<'a>(model: &'a [u8], stream: &'a [u8], ends: bool) -> Run<'a> {
     Run {
         model,
@@ -109,8 +109,8 @@ pub(crate) fn bytewise<'a>(model: &'a [u8], stream: &'a [u8], ends: bool) -> Run
     }
 }
 
-/// A stream that is read byte by byte to its end, where values that the solver left out are looked
-/// for.
+/// A stream that is read byte by byte to its end, with a search for values that the solver left
+/// out.
 pub(crate) fn completed<'a>(model: &'a [u8], stream: &'a [u8]) -> Run<'a> {
     let mut run = bytewise(model, stream, true);
     run.completion = Completion::On;
@@ -157,7 +157,7 @@ fn reads_up_to_a_bound(rt: HostRuntime) {
     assert!(rt; up_to(0, broken).tells(alloc, b"refused: model: Syntax at 13..13\n"));
 }
 
-/// Streams of which a read fails behind the bytes that are shown.
+/// Streams of which a read fails behind these bytes.
 const FAILING: &str = "
 var 1..5: x :: output_var; constraint int_le(2,x); solve satisfy;
 > \\
@@ -168,7 +168,7 @@ var 1..5: x :: output_var; constraint int_le(2,x); solve satisfy;
 = block 1: satisfied / refused: read
 ";
 
-/// The lines of what ended before a fault are written.
+/// The lines of the parts that ended before a fault are written.
 const STOPPING: &str = "
 var 1..5: x :: output_var; constraint int_le(2,x); solve satisfy;
 > x = 3; / ---------- / x = 4;
@@ -194,7 +194,7 @@ fn unfinished(start: usize, end: usize) -> Result<Answer, CheckError> {
     Err(CheckError::Stream(StreamError::Unfinished(Span { start, end })))
 }
 
-/// The answer on the first bytes of the improving stream, by their number.
+/// The answer on the first `count` bytes of the improving stream.
 fn answer_to_front(count: usize) -> Result<Answer, CheckError> {
     match count {
         0 => Ok(Answer::NoBlocks),
@@ -206,7 +206,7 @@ fn answer_to_front(count: usize) -> Result<Answer, CheckError> {
     }
 }
 
-/// Whether `check` and `check_stream` give the answer on so many bytes.
+/// Whether `check` and `check_stream` give the wanted answer on a stream of the first bytes.
 fn is_answer(alloc: Global, count: usize, stream: &[u8]) -> bool {
     let run = bytewise(IMPROVING, stream, true);
     let mut writer = Narrow::new(alloc);
@@ -249,7 +249,8 @@ impl Read for Watching<'_> {
     }
 }
 
-/// How many bytes the lines take of the parts that end in the first bytes of the improving stream.
+/// The length of the lines on the parts that end within the first `count` bytes of the improving
+/// stream.
 fn known_after(count: usize) -> usize {
     match count {
         0..=17 => 0,
@@ -279,8 +280,8 @@ impl Write for Counting<'_> {
     }
 }
 
-/// Whether no line of the improving stream that was known waited for a read, of which each gives so
-/// many bytes at most, and how many writes brought the report.
+/// Checks a stream in reads of at most `piece` bytes. Whether before each read the lines known so
+/// far of the improving stream were written, and how many writes there were.
 fn watch(alloc: Global, model: &[u8], stream: &[u8], piece: usize) -> (bool, usize) {
     let written = Cell::new(0);
     let mut reader = Watching {
@@ -310,7 +311,8 @@ fn known_lines_wait_for_no_read(rt: HostRuntime) {
 /// The third block is refused.
 const REFUSED: &[u8] = b"c = 7;\n----------\nc = 5;\n----------\nd = 1;\n----------\n";
 
-/// The lines of all that one read brought are one write, the answer's too where no read follows.
+/// The lines on all that one read brought are one write, with the answer's line where no read
+/// follows.
 #[test]
 fn lines_of_a_read_are_one_write(rt: HostRuntime) {
     let alloc = rt.alloc();
@@ -324,7 +326,7 @@ fn lines_of_a_read_are_one_write(rt: HostRuntime) {
 /// Four blocks that print nothing.
 const EMPTY: &[u8] = b"----------\n----------\n----------\n----------\n";
 
-/// How many writes bring the report on these blocks, where each has a line with a name so long.
+/// How many writes the report on the empty blocks takes, where each line has a name of this length.
 fn writes_with_names(alloc: Global, length: usize) -> Result<usize, AllocError> {
     let mut model = Vec::from_slice(alloc, b"var 0..9: ")?;
     model.resize(model.len().saturating_add(length), b'n')?;

@@ -1,5 +1,5 @@
-//! Values that a solver left out are looked for. Each table's answers follow from its model by
-//! hand; without the option each block that lacks a value is undecided.
+//! Checks with a search for values that a solver left out. The reports in each table were worked
+//! out from its model by hand. Without the search, each block that lacks a value is undecided.
 
 use crate::table::{Call, look_at};
 
@@ -72,7 +72,8 @@ fn values_are_found(rt: HostRuntime) {
     look_at(&rt, rt.alloc(), Call::Completed, FOUND);
 }
 
-/// A proposal that fails leaves its block undecided, and what is violated stays so.
+/// Where the values that are found don't satisfy the model, the block stays undecided. A violated
+/// block stays violated.
 const NOT_FOUND: &str = "
 var 0..9: x; var 0..9: y; constraint int_mod(x,3,y); constraint int_le(y,0); solve satisfy;
 > x = 7; / ----------
@@ -101,7 +102,8 @@ fn a_proposal_decides_nothing(rt: HostRuntime) {
     look_at(&rt, rt.alloc(), Call::Completed, NOT_FOUND);
 }
 
-/// The objective that is kept is that of what was found; one that isn't better than it is no fault.
+/// The objective that was found is stored for the next block. It is no fault where the next block's
+/// isn't better than that: the block is then undecided.
 const OBJECTIVES: &str = "
 var 0..9: x; var 0..9: z; constraint int_lin_eq([1,-1],[z,x],0); solve minimize z;
 > x = 5; / ---------- / x = 3; / ----------

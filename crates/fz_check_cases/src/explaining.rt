@@ -1,4 +1,4 @@
-//! What stands behind a verdict: the point, the variables in it, and where their values are from.
+//! What is behind a verdict: the point, the variables in it, and where their values come from.
 
 ghost use Rattle.std.specs.Prelude.{◌≡◌, ◌<◌, length};
 ghost use Rattle.fz_model.specs.Meaning.{IsPartial, points};
@@ -12,7 +12,7 @@ use fz_stream::{Block, blocks};
 use fz_syntax::{Ast, parse};
 use std::alloc::{AllocError, Global};
 
-/// Adds where the value of a variable is from.
+/// Adds where the value of a variable comes from.
 fn push_source(text: &mut Vec<u8>, model: &Model<'_>, source: Source) -> Result<(), AllocError> {
     match source {
         Source::Printed => text.extend_from_slice(b", printed"),
@@ -41,7 +41,7 @@ fn push_variable(
     text.extend_from_slice(b"\n")
 }
 
-/// Adds what stands behind a point: its name with its place, and its variables.
+/// Adds the explanation of a point: its name, its byte range, and its variables.
 fn push_explained(
     alloc: Global,
     text: &mut Vec<u8>,
@@ -69,7 +69,7 @@ fn push_explained(
     Ok(())
 }
 
-/// Adds what stands behind the first point that is as it is sought.
+/// Adds the explanation of the first point of the kind that is sought.
 fn push_sought(
     alloc: Global,
     text: &mut Vec<u8>,
@@ -88,7 +88,7 @@ fn push_sought(
     }
 }
 
-/// What stands behind the verdict on a stream's first block.
+/// Adds what is behind the verdict on a block.
 fn push_block(
     alloc: Global,
     text: &mut Vec<u8>,
@@ -121,8 +121,8 @@ fn push_block(
     Ok(())
 }
 
-/// What stands behind the verdict on a stream's first block: the first point that fails, and the
-/// first that is undecided.
+/// What is behind the verdict on a stream's first block: the first point that fails, and the first
+/// that is undecided.
 pub(crate) fn explained(alloc: Global, model: &[u8], stream: &[u8]) -> Result<Vec<u8>, CheckError> {
     let mut text = Vec::new(alloc);
     let ast = match parse(alloc, model) {
@@ -144,7 +144,7 @@ pub(crate) fn explained(alloc: Global, model: &[u8], stream: &[u8]) -> Result<Ve
 }
 
 // Values that are printed, alone and in an array, or given by a constraint, a definition or a
-// domain; of two constraints that give one value the first is told. A variable stands once.
+// domain. Of two constraints that give a value, the first is named. Each variable is listed once.
 const EXPLAINED: &str = "
 var 0..9: x;
 var 0..9: y;
@@ -201,6 +201,6 @@ solve satisfy;
 ";
 
 #[test]
-fn what_stands_behind_verdicts(rt: HostRuntime) {
+fn what_is_behind_verdicts(rt: HostRuntime) {
     look_at(&rt, rt.alloc(), Call::Explained, EXPLAINED);
 }

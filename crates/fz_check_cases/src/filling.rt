@@ -40,7 +40,7 @@ fn push_given(text: &mut Vec<u8>, value: Option<&Value>) -> Result<(), AllocErro
     }
 }
 
-/// A line for each variable.
+/// A line for each variable, with its value where the filling has one.
 pub(crate) fn values(
     alloc: Global,
     model: &Model<'_>,

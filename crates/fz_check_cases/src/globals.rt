@@ -1,5 +1,6 @@
 //! Each row of a global constraint, with arguments with which it holds and with which it fails, and
-//! the ends of its definition: empty lists, one element, places out of range, numbers at the limit.
+//! the ends of its definition: empty lists, one element, indices out of range, numbers at the
+//! limit.
 
 use crate::builtins::{look_at_rows, look_at_strangers};
 
@@ -160,7 +161,7 @@ const IMPLIED: &str = "
     set_superset_imp   (1..3,s,b)         (s,1..3,b)
 ";
 
-/// Arrays that belong together and differ in length, and names that are left unknown on purpose.
+/// Arrays that should be of one length and aren't, and names that are left unknown on purpose.
 const FITTING_NO_ROW: &str = "
     fzn_cumulative              ([0],[1,2],[1],3)
     fzn_cumulative              ([0],[1],[1,2],3)
@@ -185,7 +186,7 @@ const FITTING_NO_ROW: &str = "
 ";
 
 #[test]
-fn rows(rt: HostRuntime) {
+fn rows_that_hold_and_fail(rt: HostRuntime) {
     for table in [COUNTING, TASKS, PLACES, ORDER, IMPLIED] {
         look_at_rows(&rt, rt.alloc(), table);
     }

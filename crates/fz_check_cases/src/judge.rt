@@ -1,5 +1,5 @@
-//! The verdicts of one judge on blocks that don't print the same names in the same order. It is
-//! unchanged where it refuses a block.
+//! The verdicts of one judge on blocks that don't print the same names in the same order. The judge
+//! is unchanged where it refuses a block.
 
 use crate::filling::read;
 use crate::table::{Call, look_at};

@@ -1,5 +1,5 @@
-//! Loaded models: what names stand for, and which variables the constraints define; and values that
-//! are given to variables.
+//! Loaded models: what names stand for, and which variables the constraints define. Partial
+//! assignments: values are given to variables and taken away.
 
 use crate::table::{Call, look_at, push_all};
 use fz_base::Value;
@@ -17,7 +17,7 @@ fn target<'a>(variables: &[Variable<'a>], number: Option<usize>) -> Option<&'a [
     }
 }
 
-/// A line for each constraint.
+/// A line for each constraint, with the variable that it defines.
 pub(crate) fn targets(alloc: Global, model: &Model<'_>) -> Result<Vec<u8>, CheckError> {
     let mut text = Vec::new(alloc);
     for posted in model.constraints().posted {
@@ -57,7 +57,7 @@ fn number(scalar: Scalar<'_>) -> Option<usize> {
     }
 }
 
-/// The number of the variable of a name, or the length of the array.
+/// The number of the variable that a name stands for, or the length of the array.
 fn found(model: &Model<'_>, name: &[u8]) -> Option<usize> {
     match model.find(name)?.what {
         What::Scalar(scalar) => number(scalar),
@@ -66,7 +66,7 @@ fn found(model: &Model<'_>, name: &[u8]) -> Option<usize> {
 }
 
 #[test]
-fn names(rt: HostRuntime) -> Result<(), Fail> {
+fn what_names_stand_for(rt: HostRuntime) -> Result<(), Fail> {
     let tree = parse(rt.alloc(), MIXED)?;
     let model = load(rt.alloc(), &tree)?;
     let variables = found(&model, b"x") == Some(0) && found(&model, b"y") == Some(1);

@@ -1,4 +1,4 @@
-//! Messages on the first point that fails, and the text of each.
+//! Messages on the first point that fails or is undecided, and the text of each.
 
 ghost use Rattle.std.specs.Prelude.{◌≡◌, ◌<◌, length};
 ghost use Rattle.fz_model.specs.Meaning.{IsPartial, points};
@@ -90,7 +90,8 @@ fn point_text(
     message_text(alloc, &message)
 }
 
-/// The same of the first point that is as it is sought under the filling of a block.
+/// The text of the message on the first point of the kind that is sought, under the filling of a
+/// block.
 fn block_text(
     alloc: Global,
     loaded: Loaded<'_, '_>,
@@ -106,7 +107,7 @@ fn block_text(
     }
 }
 
-/// The same of the first block of a stream.
+/// The same for the first block of a stream.
 fn message(
     alloc: Global,
     text: &[u8],
@@ -130,7 +131,7 @@ fn message(
     }
 }
 
-/// A model, a stream, which point is sought, and the message's text.
+/// A model, a stream, which kind of point is sought, and the message's text.
 #[derive(Clone, Copy)]
 struct Case {
     model: &'static str,
@@ -204,7 +205,7 @@ fn is_told(alloc: Global, case: Case) -> Result<bool, AllocError> {
 }
 
 #[test]
-fn messages(rt: HostRuntime) -> Result<(), AllocError> {
+fn texts_of_messages(rt: HostRuntime) -> Result<(), AllocError> {
     for case in CASES {
         assert!(rt; is_told(rt.alloc(), case)?, "{}", case.model);
     }

@@ -70,7 +70,7 @@ fn push_forced(
     push_value(text, &value)
 }
 
-/// Adds the line of the point of a number.
+/// Adds the line of the point with this number.
 fn push_line(
     text: &mut Vec<u8>,
     alloc: Global,
@@ -108,7 +108,8 @@ fn first_is_number(model: &Model<'_>) -> bool
     }
 }
 
-/// Values of which the first variable, a number, has this one, and no other has any.
+/// A partial assignment: the first variable, where it is an integer variable, has this value, and
+/// no other variable has any.
 fn given(alloc: Global, model: &Model<'_>, first: Option<i64>) -> Result<Partial, AllocError>
     ensures { IfOk result (λ p. IsPartial model.now p) }
 {
@@ -129,7 +130,7 @@ pub(crate) fn points(alloc: Global, model: &Model<'_>) -> Result<Vec<u8>, CheckE
     Ok(points_under(alloc, model, &partial)?)
 }
 
-/// The points where the values are those that fill the stream's first block.
+/// The points under the filling of the stream's first block.
 pub(crate) fn filled_points(
     alloc: Global,
     model: &Model<'_>,

@@ -1,4 +1,4 @@
-//! The lines of refusals that have no place, and the statuses.
+//! The lines of refusals without a byte range, and the exit statuses.
 
 use fz_check::{Answer, CheckError, refusal_text, status};
 use fz_stream::StreamError;
@@ -17,7 +17,7 @@ fn is_line(alloc: Global, error: CheckError, wanted: &str) -> bool {
 }
 
 #[test]
-fn refusals_without_a_place(rt: HostRuntime) {
+fn refusals_without_a_byte_range(rt: HostRuntime) {
     let alloc = rt.alloc();
     assert!(rt; is_line(alloc, MODEL_TOO_LONG, "refused: model: TooLong\n"));
     assert!(rt; is_line(alloc, STREAM_TOO_LONG, "refused: stream: TooLong\n"));
@@ -31,7 +31,7 @@ fn is_status(outcome: Result<Answer, CheckError>, wanted: u8) -> bool {
 }
 
 #[test]
-fn statuses(rt: HostRuntime) {
+fn exit_statuses(rt: HostRuntime) {
     assert!(rt; is_status(Ok(Answer::Accepted(1)), 0));
     assert!(rt; is_status(Ok(Answer::Rejected(2)), 1));
     assert!(rt; is_status(Ok(Answer::Undecided(1)), 2));

@@ -17,8 +17,9 @@ solve satisfy;
 = solve satisfy;
 ";
 
-// The annotation goes behind those that are there, and only to scalar variables without it: not to
-// parameters and arrays, nor where the word has arguments, or stands in another one.
+// The annotation is added behind the others to each scalar variable that lacks it, but not to
+// parameters and arrays. An `output_var` that has arguments, or is inside another annotation, isn't
+// this annotation.
 const PRINTING_ALL: &str = "
 int: p = 3;
 var 0..9: x;

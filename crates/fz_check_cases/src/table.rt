@@ -1,9 +1,9 @@
 //! Tables of worked cases, as texts.
 //!
-//! A model's lines stand first. Behind `>` stand the lines of a stream, and behind `=` what a call
-//! tells of the two; more streams of the same model may follow, each with what is told of it. An
-//! empty line ends the model. Within a line ` / ` ends a line too, and one that ends in `\` has no
-//! line feed.
+//! First come the lines of a model. Behind `>` come the lines of a stream, and behind `=` the
+//! answer of a call on the two, as text. More streams for the same model may follow, each with its
+//! answer. An empty line ends the model. ` / ` stands for a line feed, and a `\` at the end of a
+//! line says that no line feed is there.
 
 use crate::check_stream::{bytewise, completed};
 use crate::explaining::explained;
@@ -14,7 +14,7 @@ use fz_syntax::parse;
 use std::alloc::{AllocError, Global};
 use std::process::Abort;
 
-/// What is told of a model and a stream.
+/// A call on a model and a stream, by its answer.
 #[derive(Clone, Copy)]
 pub(crate) enum Call {
     /// the report on the whole stream
@@ -23,7 +23,7 @@ pub(crate) enum Call {
     CheckStream,
     /// the same, where a read fails in the place of the stream's end
     BrokenStream,
-    /// the same as of a stream up to its end, where values that the solver left out are looked for
+    /// the same up to the stream's end, with a search for values that the solver left out
     Completed,
     /// the model's canonical text
     Show,
@@ -33,13 +33,13 @@ pub(crate) enum Call {
     Targets,
     /// the points where no variable has a value
     Points,
-    /// the points where the values are those that fill the stream's first block
+    /// the points under the filling of the stream's first block
     FilledPoints,
-    /// the values that fill the stream's first block
+    /// the filling of the stream's first block
     Fill,
     /// the verdicts of one judge
     Judge,
-    /// what stands behind the verdict on the stream's first block
+    /// what is behind the verdict on the stream's first block
     Explained,
 }
 
@@ -100,7 +100,7 @@ fn told(alloc: Global, call: Call, model: &[u8], stream: &[u8]) -> Result<Vec<u8
     }
 }
 
-/// What is told, or the line of the refusal.
+/// The answer as text, or the line of the refusal.
 pub(crate) fn line_or_text(
     alloc: Global,
     call: Call,
@@ -127,7 +127,7 @@ fn push_lines(text: &mut Vec<u8>, lines: &str) -> Result<(), AllocError> {
     Ok(())
 }
 
-/// A model, a stream, and what is to be told of them.
+/// A model, a stream, and the wanted answer.
 #[derive(Drop)]
 struct Case {
     model: Vec<u8>,
@@ -159,7 +159,7 @@ impl Case {
     }
 }
 
-/// Whether a model with each of its streams is as its text says.
+/// Whether a model has the wanted answer with each of its streams.
 fn are_so(alloc: Global, call: Call, text: &str) -> Result<bool, AllocError> {
     let mut case = Case {
         model: Vec::new(alloc),
@@ -178,7 +178,7 @@ fn are_so(alloc: Global, call: Call, text: &str) -> Result<bool, AllocError> {
     Ok(case.is_so(alloc, call))
 }
 
-/// Looks at each model of a table, with its streams.
+/// Tests each model of a table, with its streams.
 pub(crate) fn look_at(rt: &impl Abort, alloc: Global, call: Call, table: &str) {
     for text in table.trim().split("\n\n") {
         let are_so = matches!(are_so(alloc, call, text), Ok(true));

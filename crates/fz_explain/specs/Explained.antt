@@ -1,17 +1,17 @@
--- What is told of variables (this project's profile).
+-- What an explanation says of variables (this project's profile).
 use Rattle.std.specs.Prelude.{◌≡◌, ◌-◌, ℕ, List, ◌++◌, length, take, drop, cond, nat_le}
 use Rattle.fz_model.specs.Meaning.{Model, Partial, value_at}
 use Rattle.fz_verdict.specs.Blocks.{Printed}
 use Rattle.fz_explain.specs.Sources.{IsSourceOf}
 use Rattle.fz_explain.specs.declared.explained.Explained.{Explained}
 
--- a variable with its value under a filling of these items, and where that is from
+-- a variable with its value under a filling of these items, and where that comes from
 pub record IsTold (m : Model) (items : List Printed) (F : Partial) (n : ℕ)
     (e : Explained) : Type 0 where
   pub variable : e.variable ≡ n
   pub value : e.value ≡ value_at F n
   pub source : IsSourceOf m items F n e.source
 
--- all of twelve, or of more the first eight and the last four
+-- all of the variables where they are at most twelve, or else the first eight and the last four
 abbrev pub shortened : List ℕ → List ℕ
 shortened ns = cond (nat_le (length ns) 12) ns (take 8 ns ++ drop (length ns - 4) ns)

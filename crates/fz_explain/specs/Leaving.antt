@@ -6,8 +6,8 @@ use Rattle.fz_model.specs.Builtins.{fits_128}
 use Rattle.fz_model.specs.Meaning.{Argument, Partial, Point, known_products, row_of, terms_at_argument}
 use Rattle.fz_model.specs.Meaning.Point.{DomainPoint, DefinitionPoint, ArrayPoint, ConstraintPoint}
 
--- the number of the first of them with which it does, where so many stand before them that add up
--- to s
+-- the number, from 1, of the first addend with which the sum leaves signed 128 bits, where k
+-- addends come before these and add up to s
 abbrev pub leaving_from : ℕ → ℤ → List ℤ → Option ℕ
 leaving_from k s [] = None
 leaving_from k s (n ∷ ns) =
@@ -16,7 +16,7 @@ leaving_from k s (n ∷ ns) =
 abbrev pub first_leaving : List ℤ → Option ℕ
 first_leaving ns = leaving_from 0 (pos 0) ns
 
--- of the sums over these pairs of arguments, the first that does
+-- the same number, of the first sum over these pairs of arguments that leaves signed 128 bits
 abbrev pub leaving_of : Partial → List Argument → List (ℕ × ℕ) → Option ℕ
 leaving_of K xs [] = None
 leaving_of K xs (at ∷ ats) = option_or (first_leaving (known_products K (terms_at_argument xs at.0)

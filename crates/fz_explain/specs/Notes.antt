@@ -1,4 +1,4 @@
--- What is told of variables, as notes of a message (this project's profile).
+-- An explanation of variables as notes of a message (this project's profile).
 use Rattle.std.specs.Prelude.{◌≡◌, ℕ, zero, suc, List, [], ◌∷◌, ◌++◌, Option, Some, None, drop, encode_utf8_all, option_map, slice_get, string_bytes, take}
 use Rattle.std.specs.Option.{MatchOption, option_map_or}
 use Rattle.fz_base.specs.declared.value.Value.{Value}
@@ -24,16 +24,16 @@ use Rattle.fz_explain.specs.declared.explained.Explanation.{Explanation}
 use Rattle.fz_explain.specs.declared.source.Source.{Source}
 use Rattle.fz_explain.specs.declared.source.Source.TheVariants as sources
 
--- the line, from 1, of the name by which a point is told
+-- the line, from 1, of a point's name; 0 where the tree has no such name
 abbrev pub line_of : Ast → List ℕ → told.Point → ℕ
 line_of a text p = option_map_or (λ s. suc (line_ends (take s.start text))) (point_place a p) 0
 
--- the text is that of bytes as a message shows them
+-- the text is these bytes, as a message shows them
 abbrev pub IsShownText : List ℕ → List ℕ → Type 0
 IsShownText bytes text = text ≡ encode_utf8_all (shown bytes)
 
--- a value that a point gives is told by the point's name and line; a domain's has no line of its
--- own
+-- the origin of a value that a point gives: a definition or a constraint, with its name and line,
+-- or the variable's own domain
 abbrev pub IsOriginAt : Ast → List ℕ → told.Point → Origin → Type 0
 IsOriginAt a text (told_points.Domain x) o = o ≡ origins.Domain
 IsOriginAt a text (told_points.Definition x) (origins.Definition y line) = IsShownText x.now
@@ -43,7 +43,7 @@ IsOriginAt a text (told_points.Constraint k x) (origins.Constraint j y line) =
     × (line ≡ line_of a text (told_points.Constraint k x))
 IsOriginAt a text p o = ⊥
 
--- the model's point of this number, where it has one
+-- where a value comes from, in the words of a message; a number that is no point's is Filled
 abbrev pub IsOriginOf : Model → Ast → List ℕ → Source → Origin → Type 0
 IsOriginOf m a text sources.Printed o = o ≡ origins.Printed
 IsOriginOf m a text (sources.Given k) o =
@@ -60,7 +60,7 @@ IsShownOption None None = Unit {0}
 IsShownOption (Some v) (Some w) = IsShownValue v w
 IsShownOption v w = ⊥
 
--- the note has the variable's name, its value and where that is from
+-- the note has the variable's name, its value and where that comes from
 abbrev pub IsVariableNote : Model → Ast → List ℕ → Explained → Note → Type 0
 IsVariableNote m a text e (notes.Variable x v o) =
     IsShownText (name_at m e.variable) (string_bytes x) × IsShownOption e.value v
@@ -76,7 +76,8 @@ abbrev pub left_out_notes : ℕ → List Note
 left_out_notes zero = []
 left_out_notes (suc n) = notes.LeftOut (suc n) ∷ []
 
--- those on the first eight, one on how many are left out, where any are, and those on the others
+-- the notes on the first eight variables, one on how many are left out, where any are, and the
+-- notes on the others
 abbrev pub AreNotesOfAll : Model → Ast → List ℕ → Explanation → List Note → Type 0
 AreNotesOfAll m a text x ns =
     (front back : List Note) × (ns ≡ front ++ left_out_notes x.left_out ++ back)

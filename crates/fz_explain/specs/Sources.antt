@@ -1,4 +1,4 @@
--- Where the values of a point are from (this project's profile).
+-- Where the value of a variable comes from, and the variables of a point (this project's profile).
 use Rattle.std.specs.Prelude.{◌≡◌, ℕ, Bool, false, true, cond, List, [], ◌∷◌, ◌++◌, ◌==◌, None, Some}
 use Rattle.std.specs.List.{list_any}
 use Rattle.std.specs.Option.{option_map_or}
@@ -22,12 +22,12 @@ abbrev pub prints : Model → List Printed → ℕ → Bool
 prints m items n = list_any (λ i. option_map_or (λ p. list_any (is_variable n) (terms_at p))
     (find_name m i.name.text) false) items
 
--- where the value of a variable is from under a filling of these items
+-- where the value of a variable comes from, under a filling of these items
 abbrev pub IsSourceOf : Model → List Printed → Partial → ℕ → Source → Type 0
 -- it is printed
 IsSourceOf m items F n sources.Printed =
     (v : Value) × (value_at F n ≡ Some v) × (prints m items n ≡ true)
--- it isn't, and the point of this number is the first that gives it from the values of the others
+-- it isn't, and the point with this number is the first that gives it from the values of the others
 IsSourceOf m items F n (sources.Given k) =
     (v : Value) × (value_at F n ≡ Some v) × (prints m items n ≡ false)
     × IsFirst m (GivesIt m (without F n) n v) k
@@ -44,7 +44,7 @@ IsSourceOf m items F n sources.Nothing = value_at F n ≡ None
 abbrev pub is_listed : List ℕ → ℕ → Bool
 is_listed ns n = list_any (λ k. n == k) ns
 
--- with one more scalar: a variable goes behind the others where it isn't there
+-- with one more scalar: a variable is added at the end, unless it is listed
 abbrev pub with_term : List ℕ → Term → List ℕ
 with_term ns (Var n) = cond (is_listed ns n) ns (ns ++ n ∷ [])
 with_term ns (Fixed v) = ns
@@ -53,6 +53,6 @@ abbrev pub with_terms : List ℕ → List Term → List ℕ
 with_terms ns [] = ns
 with_terms ns (t ∷ ts) = with_terms (with_term ns t) ts
 
--- those that stand in a point, each where it stands first
+-- the variables in a point, each once, in the order in which they first occur
 abbrev pub variables_in : Point → List ℕ
 variables_in p = with_terms [] (terms_of p)

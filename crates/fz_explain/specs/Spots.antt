@@ -1,4 +1,5 @@
--- Where the name stands by which a point is told (this project's profile).
+-- The byte range of a point's name: of a constraint's predicate, or of a declared name (this
+-- project's profile).
 use Rattle.std.specs.Prelude.{ℕ, ◌-◌, Option, map, option_map, slice_get}
 use Rattle.fz_base.specs.declared.span.Span.{Span}
 use Rattle.fz_syntax.specs.declared.tree.Ast.{Ast}

@@ -1,5 +1,5 @@
--- The point that a verdict tells of: one that fails, or one that neither holds nor fails (this
--- project's profile).
+-- The point that a verdict is about: one that fails, or one that is undecided, which neither holds
+-- nor fails (this project's profile).
 use Rattle.std.specs.Prelude.{◌≡◌, Bool, true, false}
 use Rattle.fz_model.specs.declared.State.{State}
 use Rattle.fz_model.specs.declared.State.TheVariants.{Holds, Fails, NoValue, Unknown, TooLarge}
@@ -22,6 +22,6 @@ is_sought s NoValue = is_undecided s
 is_sought s Unknown = is_undecided s
 is_sought s TooLarge = is_undecided s
 
--- the point is as it is sought
+-- the point's state is one that is sought
 abbrev pub IsSought : Partial → Sought → Point → Type 0
 IsSought F s p = is_sought s (state F p) ≡ true

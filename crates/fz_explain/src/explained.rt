@@ -1,4 +1,4 @@
-//! What is told of variables: their values, and where these are from.
+//! What an explanation says of variables: their values, and where these come from.
 
 ghost use Rattle.std.specs.Prelude.{◌≡◌, ◌-◌, IfOk, length, map};
 ghost use Rattle.std.specs.List.{AllByRecursion};
@@ -12,13 +12,13 @@ use fz_model::{Model, Partial};
 use fz_syntax::Printed;
 use std::alloc::{AllocError, Global};
 
-/// The most variables that are told.
+/// The most variables of an explanation.
 const MOST_VARIABLES: usize = 12;
 
-/// How many of them are the first ones, where there are more; the others are the last ones.
+/// Where there are more, how many are taken from the front; the others are the last ones.
 pub(crate) const FIRST_VARIABLES: usize = 8;
 
-/// A variable, its value where it has one, and where that is from.
+/// A variable's number, its value where it has one, and where that comes from.
 #[derive(Debug, Drop)]
 pub struct Explained {
     pub variable: usize,
@@ -26,14 +26,14 @@ pub struct Explained {
     pub source: Source,
 }
 
-/// What is told of variables, in their order, and how many are left out behind the first ones.
+/// Variables in their order, and how many are left out behind the first eight.
 #[derive(Debug, Drop)]
 pub struct Explanation {
     pub variables: Vec<Explained>,
     pub left_out: usize,
 }
 
-/// All the variables, or of many the first ones and the last ones.
+/// All the variables where they are at most twelve, or else the first eight and the last four.
 fn shorten(alloc: Global, variables: &[usize]) -> Result<Vec<usize>, AllocError>
     ensures { IfOk result (λ v. v.items ≡ shortened variables.now) }
 {
@@ -46,7 +46,8 @@ fn shorten(alloc: Global, variables: &[usize]) -> Result<Vec<usize>, AllocError>
     Ok(shown)
 }
 
-/// What is told of a variable.
+/// A variable with its value under the filling, and where that comes from. The filling is
+/// unchanged.
 fn explain_variable(
     alloc: Global,
     model: &Model<'_>,
@@ -70,7 +71,8 @@ fn explain_variable(
     })
 }
 
-/// What is told of each of these variables.
+/// Each of these variables with its value under the filling, and where that comes from. The filling
+/// is unchanged.
 fn explain_variables(
     alloc: Global,
     model: &Model<'_>,
@@ -91,8 +93,8 @@ fn explain_variables(
     Ok(told)
 }
 
-/// What is told of variables under the filling of a block with these items, which is as before: of
-/// all of a dozen, or of more of the first eight and the last four.
+/// Explains variables under the filling of a block with these items: all of them where they are at
+/// most twelve, or else the first eight and the last four. The filling is unchanged.
 ///
 /// # Errors
 ///
@@ -107,7 +109,7 @@ pub fn explain(
     requires fits { IsPartial model.now filling.old }
     ensures variables { IfOk result
         (λ x. map (λ e. e.variable) x.variables.items ≡ shortened variables.now) }
-    // Each has its value under the filling, with where that is from.
+    // Each has its value under the filling, and where that comes from.
     ensures told { IfOk result (λ x. AllByRecursion (λ e. IsTold model.now
         (located_items items.now) filling.old e.variable e) x.variables.items) }
     ensures left_out { IfOk result

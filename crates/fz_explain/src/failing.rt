@@ -1,4 +1,4 @@
-//! The point that a verdict tells of.
+//! The point that a verdict is about: the first that fails, or the first that is undecided.
 
 ghost use Rattle.std.specs.Prelude.{◌≡◌, ◌<◌, IfOk, IfSome, IsNone, Some, length, slice_get};
 ghost use Rattle.fz_model.specs.Meaning.{Point, points, state};
@@ -8,7 +8,7 @@ ghost use Rattle.fz_explain.specs.Told.{IsSought, is_sought};
 use fz_model::{Model, Partial, State, state};
 use std::alloc::{AllocError, Global};
 
-/// Which point is looked for.
+/// What kind of point is looked for.
 #[derive(Clone, Copy, Debug, PartialEq, Eq)]
 pub enum Sought {
     /// One that fails.
@@ -31,7 +31,7 @@ impl Sought {
     }
 }
 
-/// The number of the first point, from 0, that is as it is sought.
+/// The number, from 0, of the first point of the kind that is sought.
 ///
 /// # Errors
 ///

@@ -33,14 +33,14 @@ fn first_giver(
     Ok(None)
 }
 
-/// Whether two steps are the same.
+/// Whether two steps give the same variable the same value.
 fn is_step(number: usize, given: &Value, variable: usize, value: &Value) -> bool
     ensures { IsTrue result ↔ ((number ≡ variable) × (given.now ≡ value.now)) }
 {
     number == variable && given.equals(value)
 }
 
-/// Whether the point of a number gives a variable this value.
+/// Whether the point with this number gives a variable this value.
 fn gives(
     alloc: Global,
     model: &Model<'_>,
@@ -64,8 +64,8 @@ fn gives(
     }
 }
 
-/// The number of the first point that gives a variable the value that it has, from those of the
-/// others. The assignment is as before.
+/// The number of the first point that gives a variable the value that it has, from the values of
+/// the others. The assignment is unchanged.
 ///
 /// # Errors
 ///

@@ -1,5 +1,7 @@
-//! What stands behind a verdict on a block, for a person to act on: the point that it tells of, the
-//! variables in it, and where the value of each is from.
+//! What is behind a verdict on a block, for a person to act on: the point that the verdict is
+//! about, the variables in that point, and where the value of each comes from.
+//!
+//! Worked cases are in `fz_check_cases` (`explaining.rt`, `messages.rt`).
 #![tactic(auto)]
 
 mod explained;

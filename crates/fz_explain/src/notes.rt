@@ -1,4 +1,4 @@
-//! What is told of variables, as notes of a message.
+//! An explanation of variables as notes of a message.
 
 ghost use Rattle.std.specs.Prelude.{◌≡◌, ◌<◌, ◌++◌, List, IfOk, OnOk, length, slice_get};
 ghost use Rattle.fz_model.specs.Meaning.{Point as ModelPoint, points};
@@ -22,7 +22,7 @@ pub struct Loaded<'s, 'a> {
     pub text: &'s [u8],
 }
 
-/// The line of the name by which a point is told, from 1.
+/// The line, from 1, of a point's name in the text; 0 where the tree has no such name.
 fn line_of(loaded: Loaded<'_, '_>, point: &Point<'_>) -> usize
     ensures { result ≡ line_of loaded.entry.ast.now loaded.entry.text.now point.now }
 {
@@ -32,7 +32,7 @@ fn line_of(loaded: Loaded<'_, '_>, point: &Point<'_>) -> usize
     }
 }
 
-/// A point that gives a value.
+/// The origin of a value that this point gives.
 fn point_origin(
     alloc: Global,
     loaded: Loaded<'_, '_>,
@@ -51,7 +51,7 @@ fn point_origin(
     }
 }
 
-/// Where a value is from.
+/// Where a value comes from, in the words of a message.
 fn origin_of(alloc: Global, loaded: Loaded<'_, '_>, source: Source) -> Result<Origin, AllocError>
     ensures { IfOk result (IsOriginOf loaded.entry.model.now loaded.entry.ast.now
         loaded.entry.text.now source) }
@@ -70,7 +70,7 @@ fn origin_of(alloc: Global, loaded: Loaded<'_, '_>, source: Source) -> Result<Or
     }
 }
 
-/// The name of a variable, or none where there is no such variable.
+/// The name of a variable, or an empty text where there is no such variable.
 fn name_at<'m>(model: &'m Model<'_>, variable: usize) -> &'m [u8]
     ensures { result.now ≡ name_at model.now variable }
 {
@@ -115,7 +115,7 @@ fn push_variables(
     Ok(())
 }
 
-/// Adds the note on those that are left out, where there are any.
+/// Adds the note on how many variables are left out, where there are any.
 fn push_left_out(notes: &mut Vec<Note>, left_out: usize) -> Result<(), AllocError>
     ensures { OnOk result (notes.new.items ≡ notes.old.items ++ left_out_notes left_out) }
 {
@@ -125,8 +125,8 @@ fn push_left_out(notes: &mut Vec<Note>, left_out: usize) -> Result<(), AllocErro
     Ok(())
 }
 
-/// The notes on what was explained: one on each variable, and one on those that are left out, where
-/// they are.
+/// The notes on an explanation: one on each variable, and, in the gap, one on how many are left
+/// out.
 ///
 /// # Errors
 ///
@@ -147,7 +147,7 @@ pub fn notes_of(
     Ok(notes)
 }
 
-/// The note on a domain; there is none on one that takes any value.
+/// The note on a domain; there is none on a domain of all values.
 fn domain_note(alloc: Global, domain: &Domain) -> Result<Option<Note>, AllocError>
     ensures { IfOk result (IsDomainNote domain.now) }
 {
@@ -158,7 +158,8 @@ fn domain_note(alloc: Global, domain: &Domain) -> Result<Option<Note>, AllocErro
     }
 }
 
-/// The note on the bounds that are declared, where the point of this number, from 0, is a domain.
+/// The note on the declared domain, where the point with this number, from 0, is a domain; none
+/// where it is another point.
 ///
 /// # Errors
 ///

@@ -1,4 +1,4 @@
-//! Where the name stands by which a point is told.
+//! The byte range of a point's name.
 
 ghost use Rattle.std.specs.Prelude.{◌≡◌, ◌-◌, map, option_map, slice_get};
 ghost use Rattle.fz_model.specs.Names.{declaration};
@@ -9,7 +9,7 @@ use fz_base::Span;
 use fz_model::Point;
 use fz_syntax::Ast;
 
-/// The place of the predicate of the constraint with this number, from 1.
+/// The byte range of the predicate of the constraint with this number, from 1.
 fn constraint_place(ast: &Ast<'_>, number: usize) -> Option<Span>
     ensures { result ≡ option_map (λ c. c.name.span)
         (slice_get ast.now.constraints.items (number - 1)) }
@@ -18,7 +18,7 @@ fn constraint_place(ast: &Ast<'_>, number: usize) -> Option<Span>
     Some(constraint.name.span)
 }
 
-/// The place where a name is declared.
+/// The byte range of a name where it is declared.
 fn declared_place(ast: &Ast<'_>, name: &[u8]) -> Option<Span>
     ensures { result ≡ option_map (λ d. d.name.span)
         (declaration (map located_decl ast.now.decls.items) name.now) }
@@ -31,8 +31,8 @@ fn declared_place(ast: &Ast<'_>, name: &[u8]) -> Option<Span>
     None
 }
 
-/// The place of the name by which a point is told, in the text of the tree: a constraint's
-/// predicate, or a declared name.
+/// The byte range of a point's name in the text of the tree: of a constraint's predicate, or of a
+/// declared name.
 pub fn point_place(ast: &Ast<'_>, point: &Point<'_>) -> Option<Span>
     ensures { result ≡ point_place ast.now point.now }
 {

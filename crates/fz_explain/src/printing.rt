@@ -1,4 +1,4 @@
-//! What is printed of a variable.
+//! Whether the value of a variable is printed.
 
 ghost use Rattle.std.specs.Prelude.{◌≡◌, false};
 ghost use Rattle.std.specs.List.{list_any};

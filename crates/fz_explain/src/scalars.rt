@@ -1,4 +1,4 @@
-//! The scalars that stand in the arguments of a constraint.
+//! The scalars in the arguments of a constraint.
 
 ghost use Rattle.std.specs.Prelude.{◌≡◌, ◌++◌, IfOk, OnOk, flat_map, map};
 ghost use Rattle.fz_model.specs.Meaning.{terms_at, terms_at_argument, terms_in};
@@ -9,7 +9,7 @@ use fz_base::Value;
 use fz_model::{Argument, ConstraintParts, Scalar, Slot, part, scalar_at};
 use std::alloc::{AllocError, Global};
 
-/// Adds those of a list.
+/// Adds the scalars of a list of slots.
 pub(crate) fn push_list<'m>(
     scalars: &mut Vec<Scalar<'m>>,
     slots: &[Slot],
@@ -24,7 +24,7 @@ pub(crate) fn push_list<'m>(
     Ok(())
 }
 
-/// Adds those that a slot stands for: those of an array, or the one that it is.
+/// Adds the scalars that a slot stands for: the elements of an array, or one scalar.
 fn push_place<'m>(
     scalars: &mut Vec<Scalar<'m>>,
     parts: &ConstraintParts<'m, '_>,
@@ -47,7 +47,7 @@ fn push_place<'m>(
     }
 }
 
-/// Adds those that the slots of a list in brackets stand for.
+/// Adds the scalars that the slots of a list in brackets stand for.
 fn push_places<'m>(
     scalars: &mut Vec<Scalar<'m>>,
     parts: &ConstraintParts<'m, '_>,
@@ -64,7 +64,7 @@ fn push_places<'m>(
     Ok(())
 }
 
-/// Adds those of an argument.
+/// Adds the scalars of an argument.
 pub(crate) fn push_argument<'m>(
     scalars: &mut Vec<Scalar<'m>>,
     parts: &ConstraintParts<'m, '_>,
@@ -80,7 +80,7 @@ pub(crate) fn push_argument<'m>(
     }
 }
 
-/// The scalars of the argument at a place, from 0; none where there is no such argument.
+/// The scalars of the argument at an index, from 0; none where there is no such argument.
 pub(crate) fn scalars_at<'m>(
     alloc: Global,
     parts: &ConstraintParts<'m, '_>,

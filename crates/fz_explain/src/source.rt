@@ -1,4 +1,4 @@
-//! Where the value of a variable is from.
+//! Where the value of a variable comes from.
 
 ghost use Rattle.std.specs.Prelude.{◌≡◌, IfOk};
 ghost use Rattle.fz_model.specs.Meaning.{IsPartial};
@@ -11,21 +11,22 @@ use fz_model::{Model, Partial};
 use fz_syntax::Printed;
 use std::alloc::{AllocError, Global};
 
-/// Where the value of a variable is from.
+/// Where the value of a variable comes from.
 #[derive(Clone, Copy, Debug, PartialEq, Eq)]
 pub enum Source {
-    /// A printed name stands for it.
+    /// A printed name stands for the variable.
     Printed,
-    /// The point of this number is the first that gives it, from the values of the others.
+    /// The point with this number, from 0, is the first that gives it, from the values of the other
+    /// variables.
     Given(usize),
-    /// No single point gives it from the values of the others.
+    /// No single point gives it from the values of the other variables.
     Filled,
     /// There is no value.
     Nothing,
 }
 
-/// Where the value of a variable is from under the filling of a block with these items, which is
-/// as before.
+/// Where the value of a variable comes from, under the filling of a block with these items. The
+/// filling is unchanged.
 ///
 /// # Errors
 ///

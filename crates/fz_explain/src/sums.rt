@@ -1,4 +1,4 @@
-//! Where a sum leaves 128 bits.
+//! The product with which a sum of products leaves signed 128 bits.
 
 ghost use Rattle.std.specs.Prelude.{◌≡◌, ◌<◌, ◌++◌, [], IfOk, OnOk, Some, length, map, slice_get};
 ghost use Rattle.fz_model.specs.Meaning.{Point, known_products, number_at, points, product_before};
@@ -11,7 +11,7 @@ use fz_base::Value;
 use fz_model::{ConstraintParts, Model, Partial, PointParts, Scalar};
 use std::alloc::{AllocError, Global};
 
-/// The number that a scalar has.
+/// The integer value of a scalar: of a literal, or of a variable that has a value.
 fn number_at(filling: &Partial, scalar: Scalar<'_>) -> Option<i64>
     ensures { result ≡ number_at filling.now (scalar_term scalar.entry) }
 {
@@ -25,7 +25,7 @@ fn number_at(filling: &Partial, scalar: Scalar<'_>) -> Option<i64>
     }
 }
 
-/// Adds a product where both numbers are there.
+/// Adds the product of two numbers where both are there.
 fn push_product(
     products: &mut Vec<i128>,
     left: Option<i64>,
@@ -40,7 +40,7 @@ fn push_product(
     }
 }
 
-/// The products of two lists, at each place where both have a number.
+/// The products of two lists, at each index where both have a number.
 fn products_of(
     alloc: Global,
     filling: &Partial,
@@ -59,7 +59,8 @@ fn products_of(
     Ok(products)
 }
 
-/// The number, from 1, of the first of the numbers with which their sum leaves signed 128 bits.
+/// Of numbers that are added from the left, how many have been added when their sum first leaves
+/// signed 128 bits.
 fn first_leaving(numbers: &[i128]) -> Option<usize>
     ensures { result ≡ first_leaving numbers.now }
 {
@@ -73,7 +74,7 @@ fn first_leaving(numbers: &[i128]) -> Option<usize>
     None
 }
 
-/// The same of the sums of a constraint: of the first that leaves.
+/// The same of the first of a constraint's sums that leaves signed 128 bits.
 fn leaving_of(
     alloc: Global,
     filling: &Partial,
@@ -93,8 +94,8 @@ fn leaving_of(
     Ok(None)
 }
 
-/// Of a point whose sum leaves signed 128 bits, the number, from 1, of the product with which it
-/// does, where they are added from the left.
+/// Of a point that has a sum of products, the number, from 1, of the product with which the sum
+/// leaves signed 128 bits, where they are added from the left; none where it doesn't leave them.
 ///
 /// # Errors
 ///

@@ -1,4 +1,4 @@
-//! The variables that stand in a point.
+//! The variables in a point.
 
 ghost use Rattle.std.specs.Prelude.{◌≡◌, ◌<◌, IfOk, OnOk, Some, flat_map, length, map, slice_get};
 ghost use Rattle.fz_model.specs.Meaning.{Point, points, terms_in};
@@ -13,10 +13,10 @@ use fz_model::{Argument, ConstraintParts, Model, PointParts, Scalar, Term};
 use indexmap::IndexSet;
 use std::alloc::{AllocError, Global};
 
-/// Numbers of variables, each once, in the order in which they came.
+/// Numbers of variables, each once, in the order in which they were added.
 type Variables = IndexSet<usize>;
 
-/// Adds the variable that a scalar is.
+/// Adds a scalar, where it is a variable.
 fn add(variables: &mut Variables, scalar: Scalar<'_>) -> Result<(), AllocError>
     ensures { OnOk result (variables.new.keys
         ≡ with_term variables.old.keys (scalar_term scalar.entry)) }
@@ -27,7 +27,7 @@ fn add(variables: &mut Variables, scalar: Scalar<'_>) -> Result<(), AllocError>
     Ok(())
 }
 
-/// Adds those that are among scalars.
+/// Adds the variables among scalars.
 fn add_all(variables: &mut Variables, scalars: &[Scalar<'_>]) -> Result<(), AllocError>
     ensures { OnOk result (variables.new.keys
         ≡ with_terms variables.old.keys (map scalar_term scalars.now)) }
@@ -38,7 +38,7 @@ fn add_all(variables: &mut Variables, scalars: &[Scalar<'_>]) -> Result<(), Allo
     Ok(())
 }
 
-/// Adds those of an argument.
+/// Adds the variables of an argument.
 fn add_argument(
     alloc: Global,
     variables: &mut Variables,
@@ -54,7 +54,7 @@ fn add_argument(
     add_all(variables, &scalars)
 }
 
-/// Adds those of a constraint.
+/// Adds the variables of a constraint.
 fn add_arguments(
     alloc: Global,
     variables: &mut Variables,
@@ -69,7 +69,7 @@ fn add_arguments(
     Ok(())
 }
 
-/// Adds those of a point.
+/// Adds the variables of a point.
 fn add_point(
     alloc: Global,
     variables: &mut Variables,
@@ -93,7 +93,7 @@ fn add_point(
     }
 }
 
-/// Adds the variable that a term is.
+/// Adds a term, where it is a variable.
 fn add_term(variables: &mut Variables, term: &Term) -> Result<(), AllocError>
     ensures { OnOk result (variables.new.keys ≡ with_term variables.old.keys term.now) }
 {
@@ -103,7 +103,8 @@ fn add_term(variables: &mut Variables, term: &Term) -> Result<(), AllocError>
     }
 }
 
-/// The variables that stand in the point of a number, each where it stands first.
+/// The variables in the point with this number, from 0, each once, in the order in which they first
+/// occur.
 ///
 /// # Errors
 ///

@@ -1,11 +1,11 @@
-//! Whole checks, and the texts of reports and refusals.
+//! Calls that make a whole check, and that give the texts of reports and refusals.
 
 use crate::outside::{file, is_given, tell, tell_error, tell_text};
 use fz_check::{
     CheckError, Report, check, refusal_text, report_text, show, show_printing_all, status,
 };
 
-/// Makes a call on the text of a model and, where it wants one, on a stream.
+/// Makes a call on the text of a model and, where it takes one, on a stream.
 pub fn make_call(rt: &HostRuntime, call: &str, operands: &[String]) -> Option<()> {
     let model = file(rt, operands, 0)?;
     if call == "show" || call == "show_printing_all" {
@@ -66,7 +66,7 @@ fn tell_checked(rt: &HostRuntime, model: &[u8], stream: &[u8]) {
     }
 }
 
-/// Tells the text of a report, or the line of a refusal.
+/// Prints the exit status of a check, and the text of its report or the line of its refusal.
 fn call_on_answer(rt: &HostRuntime, model: &[u8], stream: &[u8]) -> Option<()> {
     match check(rt.alloc(), model, stream) {
         Ok(report) => tell_report(rt, &report),

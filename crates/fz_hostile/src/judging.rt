@@ -1,4 +1,4 @@
-//! Blocks against a model: they are filled and judged.
+//! Calls that fill and judge the blocks of a stream against a model.
 
 use crate::loading::tell_points;
 use crate::outside::{file, tell, tell_error};
@@ -43,8 +43,8 @@ fn call_on_blocks(
     }
 }
 
-/// Fills a block and tells its values, or the points under them, or the refusal; says whether that
-/// is out of memory.
+/// Fills a block, and prints its values, or the points under them, or the refusal. Whether memory
+/// ran out.
 fn fill_lacks_memory(rt: &HostRuntime, call: &str, model: &Model<'_>, block: &Block<'_>) -> bool {
     match fill(rt.alloc(), model, block) {
         Ok(partial) => {
@@ -82,7 +82,7 @@ fn tell_fillings(
     Some(())
 }
 
-/// Tells a verdict. Where the judge finds no memory for a block, it judges that one again.
+/// Prints the verdict on a block. Where memory runs out, the same judge judges the block again.
 fn tell_verdict(rt: &HostRuntime, judge: &mut Judge<'_, '_>, block: &Block<'_>) {
     for _ in 0..2 {
         let verdict = judge.judge(rt.alloc(), block);
@@ -93,7 +93,7 @@ fn tell_verdict(rt: &HostRuntime, judge: &mut Judge<'_, '_>, block: &Block<'_>) 
     }
 }
 
-/// Tells the verdicts of one judge.
+/// Prints the verdicts of one judge.
 fn tell_verdicts(rt: &HostRuntime, model: &Model<'_>, given: &[Block<'_>]) -> Option<()> {
     let mut judge = Judge::new(model, Completion::Off);
     for block in given {

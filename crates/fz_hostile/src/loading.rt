@@ -1,4 +1,4 @@
-//! Models: they are loaded, and their points are looked at where no variable has a value.
+//! Calls that load a model, and calls on its points where no variable has a value.
 
 ghost use Rattle.std.specs.Prelude.{◌<◌, length};
 ghost use Rattle.fz_model.specs.Meaning.{IsPartial, points};
@@ -91,7 +91,7 @@ fn tell_new_partial(rt: &HostRuntime, model: &Model<'_>) {
     }
 }
 
-/// Makes a call on a model and on values of which no variable has one.
+/// Makes a call on a model and a partial assignment without values.
 fn call_on_nothing(rt: &HostRuntime, call: &str, model: &Model<'_>, mut partial: Partial)
     requires fits { IsPartial model.now partial }
 {
@@ -102,8 +102,8 @@ fn call_on_nothing(rt: &HostRuntime, call: &str, model: &Model<'_>, mut partial:
     }
 }
 
-/// Tells what the calls answer that ask something of a model or of values, and gives the first
-/// variable a value.
+/// Prints the answers of the calls that look something up in a model or a partial assignment, and
+/// gives the first variable a value, where it has none.
 fn ask(rt: &HostRuntime, model: &Model<'_>, partial: &mut Partial) {
     tell_model(rt, model);
     for variable in model.variables() {
@@ -153,7 +153,7 @@ fn tell_step(rt: &HostRuntime, model: &Model<'_>, number: usize, partial: &Parti
     }
 }
 
-/// Tells each point, its state and the step that it forces.
+/// Prints each point, its state and the step that it forces.
 pub fn tell_points(rt: &HostRuntime, model: &Model<'_>, partial: &Partial)
     requires fits { IsPartial model.now partial.now }
 {

@@ -1,5 +1,6 @@
-//! The program `fz_hostile`, a part of the tests alone: one public call on what some files hold,
-//! told on standard output. Where it finds no memory it is made once more on the same operands.
+//! The program `fz_hostile`, which only `tests/hostile` runs. It makes one public call on what some
+//! files hold, and prints the answer. Where the call runs out of memory, it is made once more on
+//! the same operands.
 #![tactic(auto)]
 
 mod checking;
@@ -17,7 +18,7 @@ use std::process::ExitCode;
 /// The status where the call is made, whatever it answers.
 const MADE: u8 = 0;
 
-/// The status where the call isn't made, since its words or its operands can't be had.
+/// The status where the call isn't made, since the words or its operands can't be read.
 const NOT_MADE: u8 = 7;
 
 fn main(rt: HostRuntime) -> ExitCode {

@@ -1,4 +1,4 @@
-//! Texts: their tokens, the trees and printed items that they are texts of, and the texts of trees.
+//! Calls that read texts, as tokens, trees or printed items, and that write the text of a tree.
 
 use crate::outside::{file, is_given, tell, tell_error};
 use fz_stream::Block;
@@ -20,7 +20,7 @@ pub fn make_call(rt: &HostRuntime, call: &str, operands: &[String]) -> Option<()
     Some(())
 }
 
-/// Makes the call, tells its answer, and says whether memory ran out.
+/// Makes the call and prints its answer. Whether memory ran out.
 fn lacks_memory(rt: &HostRuntime, call: &str, source: &[u8]) -> bool {
     match call {
         "lex" => lex_lacks_memory(rt, source),
@@ -44,7 +44,7 @@ fn lex_lacks_memory(rt: &HostRuntime, source: &[u8]) -> bool {
     }
 }
 
-/// The tree is told by its text.
+/// Of a tree the text is printed.
 fn parse_lacks_memory(rt: &HostRuntime, source: &[u8]) -> bool {
     match parse(rt.alloc(), source) {
         Ok(tree) => {
@@ -113,7 +113,7 @@ fn tell_items(rt: &HostRuntime, items: &[Printed<'_>]) {
     }
 }
 
-/// Tells a block with its items.
+/// Prints a block with its items.
 pub fn tell_block(rt: &HostRuntime, block: &Block<'_>) {
     tell(rt, &(block.offset, block.text.len()));
     tell_items(rt, &block.items);

@@ -1,4 +1,4 @@
-//! Sets and values: they are made, combined, copied and asked.
+//! Calls that make, combine, copy and examine sets and values.
 
 use crate::outside::{file, tell};
 use fz_base::{IntSet, SetError, Value};
@@ -22,7 +22,7 @@ pub fn make_call(rt: &HostRuntime, call: &str, operands: &[String]) -> Option<()
     }
 }
 
-/// The literal that the item of a place prints.
+/// The literal that the item at an index prints.
 fn literal<'a>(items: &'a [Printed<'_>], place: usize) -> Option<&'a LiteralKind> {
     let item = items.get(place)?;
     match &item.value {
@@ -51,7 +51,7 @@ fn tell_made(rt: &HostRuntime, literal: &LiteralKind) -> Option<()> {
     Some(())
 }
 
-/// Tells copies of a value, and then the value.
+/// Prints copies of a value, and then the value.
 fn copy_value(rt: &HostRuntime, literal: &LiteralKind) -> Option<()> {
     let Ok(set) = made(rt.alloc(), literal) else {
         return None;
@@ -68,7 +68,7 @@ fn copy_value(rt: &HostRuntime, literal: &LiteralKind) -> Option<()> {
     Some(())
 }
 
-/// Tells the ranges of a set, and then the set.
+/// Prints the ranges of a set, and then the set.
 fn tell_ranges(rt: &HostRuntime, literal: &LiteralKind) -> Option<()> {
     let Ok(set) = made(rt.alloc(), literal) else {
         return None;
@@ -94,7 +94,7 @@ fn combined(alloc: Global, call: &str, a: &IntSet, b: &IntSet) -> Result<IntSet,
     }
 }
 
-/// Tells what an operation makes of two sets, and then the two.
+/// Prints the result of an operation on two sets, and then the two.
 fn combine(rt: &HostRuntime, call: &str, first: &LiteralKind, second: &LiteralKind) -> Option<()> {
     let Ok(a) = made(rt.alloc(), first) else {
         return None;
@@ -114,7 +114,7 @@ fn combine(rt: &HostRuntime, call: &str, first: &LiteralKind, second: &LiteralKi
     Some(())
 }
 
-/// Tells what the calls answer that ask something of sets and values.
+/// Prints the answers of the calls that examine sets and values.
 fn ask(rt: &HostRuntime, first: &LiteralKind, second: &LiteralKind) -> Option<()> {
     let Ok(a) = made(rt.alloc(), first) else {
         return None;

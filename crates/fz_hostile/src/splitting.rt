@@ -1,4 +1,4 @@
-//! Streams: their blocks and claims, read whole and by a splitter.
+//! Calls that read the blocks and claims of a stream, whole and by a splitter.
 
 ghost use Rattle.std.specs.Prelude.{◌≢◌, ◌≤◌, length, IfSome};
 ghost use Rattle.fz_stream.specs.declared.splitter.Stage.TheVariants.{Finished};
@@ -7,7 +7,8 @@ use crate::outside::{file, number, tell, tell_error};
 use crate::reading::tell_block;
 use fz_stream::{Part, Splitter, Stream, StreamError, blocks};
 
-/// Makes a call on a stream. To a splitter the stream is fed in pieces of so many bytes.
+/// Makes a call on a stream. A splitter is fed the stream in pieces of as many bytes as the second
+/// operand says.
 pub fn make_call(rt: &HostRuntime, call: &str, operands: &[String]) -> Option<()> {
     let stream = file(rt, operands, 0)?;
     if call == "split" {
@@ -22,7 +23,7 @@ pub fn make_call(rt: &HostRuntime, call: &str, operands: &[String]) -> Option<()
     Some(())
 }
 
-/// Reads a stream whole, tells its parts or the refusal, and says whether memory ran out.
+/// Reads a stream whole, and prints its parts or the refusal. Whether memory ran out.
 fn lacks_memory(rt: &HostRuntime, stream: &[u8]) -> bool {
     match blocks(rt.alloc(), stream) {
         Ok(found) => {
@@ -51,7 +52,7 @@ fn tell_part(rt: &HostRuntime, part: &Option<Part<'_>>) {
     }
 }
 
-/// Tells the part that waits, and says whether it was lent.
+/// Prints the part that waits. Whether it was lent.
 fn is_lent(rt: &HostRuntime, splitter: &Splitter) -> bool {
     match splitter.take() {
         Ok(part) => {
@@ -74,7 +75,7 @@ fn tell_taken(rt: &HostRuntime, splitter: &Splitter) {
     }
 }
 
-/// Feeds a piece, and tells how much of it was taken.
+/// Feeds a piece, and prints how many of its bytes were taken.
 fn fed(rt: &HostRuntime, splitter: &mut Splitter, piece: &[u8]) -> Option<usize>
     requires { splitter.old.stage ≢ Finished }
     ensures open { splitter.new.stage ≢ Finished }
@@ -92,8 +93,8 @@ fn fed(rt: &HostRuntime, splitter: &mut Splitter, piece: &[u8]) -> Option<usize>
     }
 }
 
-/// Feeds a stream in pieces, tells each part, and says whether all was taken. Of a piece that isn't
-/// empty a byte is taken at least, so there are no more pieces than bytes.
+/// Feeds a stream in pieces, and prints each part. Whether all was taken. Of a piece that isn't
+/// empty at least one byte is taken, so there are no more pieces than bytes.
 fn feeds_all(rt: &HostRuntime, splitter: &mut Splitter, stream: &[u8], piece: usize) -> bool
     requires { splitter.old.stage ≢ Finished }
     ensures { splitter.new.stage ≢ Finished }
@@ -113,7 +114,7 @@ fn feeds_all(rt: &HostRuntime, splitter: &mut Splitter, stream: &[u8], piece: us
     true
 }
 
-/// Tells what a splitter answers that has failed.
+/// Prints what a splitter answers once it has failed.
 fn tell_failed(rt: &HostRuntime, splitter: &mut Splitter)
     requires { splitter.old.stage ≢ Finished }
 {

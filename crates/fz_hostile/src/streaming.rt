@@ -5,7 +5,7 @@ use fz_check::{Answer, CheckError, Completion, check_stream, check_stream_up_to}
 use std::alloc::Global;
 use std::io::{self, ErrorKind, Read, Stdout, Write};
 
-/// What is left of a stream.
+/// A reader of what is left of a stream.
 #[derive(Clone, Copy)]
 struct Source<'a> {
     rest: &'a [u8],
@@ -28,7 +28,7 @@ impl Read for Source<'_> {
     }
 }
 
-/// Standard output, which takes so many bytes in all.
+/// A writer to standard output that takes so many bytes in all, and at most three at a time.
 #[derive(Clone, Copy)]
 struct Narrow {
     out: Stdout,
@@ -53,10 +53,10 @@ impl Write for Narrow {
     }
 }
 
-/// Checks a stream against a model. The words behind their files are the most bytes of a read, how
-/// many reads there are before one fails, how many bytes the writer takes, whether it fails then
-/// (1) or takes nothing (0), the bound on the reads, where there is one, and whether values are
-/// looked for (1).
+/// Checks a stream against a model. The words behind the names of their files are the most bytes of
+/// a read, how many reads there are before one fails, how many bytes the writer takes, whether it
+/// fails then (1) or takes nothing (0), the bound on the reads, where there is one, and whether
+/// values are searched for that were left out (1).
 pub fn make_call(rt: &HostRuntime, operands: &[String]) -> Option<()> {
     let model = file(rt, operands, 0)?;
     let stream = file(rt, operands, 1)?;
@@ -82,7 +82,8 @@ pub fn make_call(rt: &HostRuntime, operands: &[String]) -> Option<()> {
     Some(())
 }
 
-/// How many reads are made at most, where there is a bound, and whether values are looked for.
+/// How many reads are made at most, where there is a bound, and whether values are searched for
+/// that were left out.
 #[derive(Clone, Copy)]
 struct Bounds {
     most: Option<usize>,

@@ -1,4 +1,4 @@
-//! Texts, each with the tokens or the fault that the language gives it.
+//! Texts, each with its tokens or its fault.
 
 use crate::tables::{is_told, repeated, wrong_row};
 use crate::telling::Call;
@@ -60,7 +60,7 @@ fn texts_and_their_faults(rt: HostRuntime) {
 }
 
 #[test]
-fn long_numbers(rt: HostRuntime) -> Result<(), Fail> {
+fn long_numbers_and_leading_zeros(rt: HostRuntime) -> Result<(), Fail> {
     let nines = repeated(rt.alloc(), b"", b"9", 100, b"")?;
     assert!(rt; is_told(rt.alloc(), Call::Lex, &nines, "TooLarge 0..100"));
     let zeros = repeated(rt.alloc(), b"", b"0", 100, b"3")?;
@@ -69,7 +69,7 @@ fn long_numbers(rt: HostRuntime) -> Result<(), Fail> {
 }
 
 #[test]
-fn long_texts(rt: HostRuntime) -> Result<(), Fail> {
+fn at_most_16777216_bytes(rt: HostRuntime) -> Result<(), Fail> {
     let longest = vec![in rt.alloc(); b' '; 16_777_216]?;
     assert!(rt; is_told(rt.alloc(), Call::Lex, &longest, ""));
     let longer = vec![in rt.alloc(); b'#'; 16_777_217]?;

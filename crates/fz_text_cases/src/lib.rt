@@ -1,4 +1,5 @@
-//! Worked cases over the public calls that read and write text, and over sets and values, as tests.
+//! Worked cases of the public calls that read and write texts and streams, and of sets and values,
+//! as tests.
 #![tactic(auto)]
 
 #[cfg(test)]

@@ -1,4 +1,4 @@
-//! Models, and which fault other texts have and where.
+//! Texts that are read as models, and other texts with the name and byte range of their fault.
 
 use crate::tables::{is_told, repeated, wrong_row};
 use crate::telling::Call;
@@ -192,7 +192,7 @@ fn annotations(rt: HostRuntime) {
     assert_eq!(rt; wrong_row(rt.alloc(), Call::Parse, ANNOTATIONS), None);
 }
 
-/// A solve item with an annotation of which so many stand around the inner one.
+/// A solve item whose annotation is the inner one inside `count` others.
 fn nested(alloc: Global, count: usize, inner: &[u8]) -> Result<Vec<u8>, AllocError> {
     let mut text = repeated(alloc, b"solve :: ", b"a(", count, inner)?;
     let behind = repeated(alloc, b"", b")", count, b" satisfy;")?;
@@ -208,7 +208,7 @@ fn nested_is_told(alloc: Global, count: usize, inner: &[u8], wanted: &str) -> bo
 }
 
 #[test]
-fn depths(rt: HostRuntime) {
+fn annotations_nested_too_deep(rt: HostRuntime) {
     assert!(rt; nested_is_told(rt.alloc(), 31, b"a", "read"));
     assert!(rt; nested_is_told(rt.alloc(), 32, b"a", "TooDeep 73..74"));
     assert!(rt; nested_is_told(rt.alloc(), 32, b"1", "read"));
@@ -216,7 +216,7 @@ fn depths(rt: HostRuntime) {
 }
 
 #[test]
-fn elements(rt: HostRuntime) -> Result<(), Fail> {
+fn at_most_1048576_elements(rt: HostRuntime) -> Result<(), Fail> {
     let tail = b"1]);solve satisfy;";
     let most = repeated(rt.alloc(), b"constraint c([", b"1,", 1_048_575, tail)?;
     assert!(rt; is_told(rt.alloc(), Call::Parse, &most, "read"));
@@ -226,7 +226,7 @@ fn elements(rt: HostRuntime) -> Result<(), Fail> {
 }
 
 #[test]
-fn arguments(rt: HostRuntime) -> Result<(), Fail> {
+fn any_number_of_arguments(rt: HostRuntime) -> Result<(), Fail> {
     let tail = b"1);solve satisfy;";
     let free = repeated(rt.alloc(), b"constraint c(", b"1,", 1_048_576, tail)?;
     assert!(rt; is_told(rt.alloc(), Call::Parse, &free, "read"));
@@ -234,7 +234,7 @@ fn arguments(rt: HostRuntime) -> Result<(), Fail> {
 }
 
 #[test]
-fn long_texts(rt: HostRuntime) -> Result<(), Fail> {
+fn at_most_16777216_bytes(rt: HostRuntime) -> Result<(), Fail> {
     let blank = vec![in rt.alloc(); b' '; 16_777_216]?;
     assert!(rt; is_told(rt.alloc(), Call::Parse, &blank, "Syntax 16777216..16777216"));
     let longer = vec![in rt.alloc(); b' '; 16_777_217]?;

@@ -1,4 +1,5 @@
-//! Texts of printed items, and which fault other texts have and where.
+//! Texts that are read as printed items, and other texts with the name and byte range of their
+//! fault.
 
 use crate::tables::{is_told, repeated, wrong_row};
 use crate::telling::Call;
@@ -47,7 +48,7 @@ fn printed_items(rt: HostRuntime) {
 }
 
 #[test]
-fn elements(rt: HostRuntime) -> Result<(), Fail> {
+fn too_many_elements(rt: HostRuntime) -> Result<(), Fail> {
     let braces = repeated(rt.alloc(), b"x = {", b"1,", 1_048_576, b"1};")?;
     assert!(rt;
         is_told(
@@ -61,7 +62,7 @@ fn elements(rt: HostRuntime) -> Result<(), Fail> {
 }
 
 #[test]
-fn long_texts(rt: HostRuntime) -> Result<(), Fail> {
+fn at_most_16777216_bytes(rt: HostRuntime) -> Result<(), Fail> {
     let blank = vec![in rt.alloc(); b' '; 16_777_216]?;
     assert!(rt; is_told(rt.alloc(), Call::ReadItems, &blank, "0"));
     let longer = vec![in rt.alloc(); b' '; 16_777_217]?;
@@ -69,7 +70,7 @@ fn long_texts(rt: HostRuntime) -> Result<(), Fail> {
     Ok(())
 }
 
-/// Whether the item prints a literal that stands there.
+/// Whether the item prints a literal with this byte range.
 fn stands_at(item: Option<&Printed<'_>>, start: usize, end: usize) -> bool {
     match item {
         Some(item) => match &item.value {
@@ -81,7 +82,7 @@ fn stands_at(item: Option<&Printed<'_>>, start: usize, end: usize) -> bool {
 }
 
 #[test]
-fn places_of_literals(rt: HostRuntime) -> Result<(), Fail> {
+fn byte_ranges_of_literals(rt: HostRuntime) -> Result<(), Fail> {
     let items = read_items(rt.alloc(), b"x = 3;y = 1 .. 2;z = { 1, 2 } ;t = true;")?;
     assert!(rt; stands_at(items.get(0), 4, 5));
     assert!(rt; stands_at(items.get(1), 10, 16));

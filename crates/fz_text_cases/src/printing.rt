@@ -1,4 +1,4 @@
-//! Models, each with its canonical text, which is its own canonical text.
+//! Models, each with its canonical text. The canonical text of that text is itself.
 
 use crate::tables::wrong_row;
 use crate::telling::Call;

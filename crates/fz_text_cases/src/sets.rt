@@ -1,4 +1,4 @@
-//! Sets beside plain sorted lists.
+//! Sets compared with sorted lists, and worked cases of sets.
 
 use fz_base::{IntSet, SetError};
 use std::alloc::{AllocError, Global};
@@ -64,7 +64,7 @@ const MIDDLE: Making<'static> = Making::Range(4, 6);
 
 const ALL: Making<'static> = Making::Range(i64::MIN, i64::MAX);
 
-/// Two sets with an operation between them, and what it makes of them.
+/// Two sets with an operation between them, and its result.
 const COMBINED: [(Making<'static>, Operation, Making<'static>, Making<'static>); 8] = [
     (A, Operation::Union, B, Making::List(&[1, 2, 3, 5])),
     (A, Operation::Intersect, B, Making::List(&[3])),
@@ -91,7 +91,7 @@ const COMBINED: [(Making<'static>, Operation, Making<'static>, Making<'static>);
     ),
 ];
 
-/// Whether the operation makes of two sets the third.
+/// Whether the third set is the result of the operation on the first two.
 fn makes(
     alloc: Global,
     a: Making<'_>,
@@ -173,8 +173,8 @@ fn ranges_of_sets(rt: HostRuntime) -> Result<(), Fail> {
     Ok(())
 }
 
-/// Numbers of which no two are neighbours: a set of the first of them has as many ranges as
-/// numbers. A word can have the low ones.
+/// Numbers of which no two are neighbours, so that a set of some of them has as many ranges as
+/// numbers. A set of low ones can be stored as the bits of a 64-bit word.
 const LOW: [i64; 6] = [0, 3, 5, 7, 9, 63];
 
 const APART: [i64; 6] = [101, 103, 105, 107, 109, 111];
@@ -186,7 +186,7 @@ fn is_copied(alloc: Global, listed: &[i64]) -> Result<bool, SetError> {
     Ok(has_exactly(&set, listed) && has_exactly(&copy, listed) && copy.equals(&set))
 }
 
-/// Whether a further number makes the set another until it is taken away again.
+/// Whether adding a number gives another set, and taking it away again gives the same set.
 fn is_changed(alloc: Global, listed: &[i64]) -> Result<bool, SetError> {
     let set = made(alloc, Making::List(listed))?;
     let further = made(alloc, Making::Range(99, 99))?;
@@ -212,8 +212,9 @@ fn few_and_many_ranges(rt: HostRuntime) -> Result<(), Fail> {
     Ok(())
 }
 
-/// What the sets of `agree_with_sorted_lists` are made of: neighbours, gaps, both ends, and numbers
-/// on both sides of those that a word can have; each with the bit that stands for it.
+/// The numbers in the sets of `agree_with_sorted_lists`, each with the bit that stands for it in
+/// the number of a subset: neighbours, numbers with gaps between them, the least and the greatest,
+/// and some on both sides of those that can be stored as the bits of a 64-bit word.
 const UNIVERSE: [(i64, u32); 7] = [
     (i64::MIN, 1),
     (-1, 2),
@@ -224,10 +225,10 @@ const UNIVERSE: [(i64, u32); 7] = [
     (i64::MAX, 64),
 ];
 
-/// How many subsets the universe has. The number of a subset has the bits of what is in it.
+/// How many subsets the universe has. The number of a subset has the bits of the numbers in it.
 const SUBSETS: u32 = 128;
 
-/// Whether a number is in what the operation makes of two sets, by whether it is in them.
+/// Whether a number is in the result of an operation on two sets, by whether it is in each.
 fn keeps(operation: Operation, in_a: bool, in_b: bool) -> bool {
     match operation {
         Operation::Union => in_a || in_b,
@@ -237,7 +238,7 @@ fn keeps(operation: Operation, in_a: bool, in_b: bool) -> bool {
     }
 }
 
-/// What the operation makes of two subsets, as a plain sorted list.
+/// The result of an operation on two subsets, as a sorted list.
 fn numbers(alloc: Global, operation: Operation, a: u32, b: u32) -> Result<Vec<i64>, AllocError> {
     let mut listed = Vec::new(alloc);
     for (number, bit) in &UNIVERSE {
@@ -253,7 +254,7 @@ fn set_of(alloc: Global, subset: u32) -> Result<IntSet, SetError> {
     IntSet::list(alloc, &listed)
 }
 
-/// Whether the set and the list have the same numbers, and both lie between the same two.
+/// Whether the set and the list have the same numbers, and lie within the same bounds.
 fn agrees(set: &IntSet, listed: &[i64]) -> bool {
     let mut agree = has_exactly(set, listed);
     for (lo, _) in &UNIVERSE {
@@ -271,7 +272,7 @@ fn subset_agrees(alloc: Global, a: u32) -> Result<bool, SetError> {
     Ok(agrees(&set, &listed))
 }
 
-/// Whether the set is told to be what the operation makes of two.
+/// Whether the relation that belongs to the operation says that the set is its result on two.
 fn is_told(operation: Operation, set: &IntSet, a: &IntSet, b: &IntSet) -> bool {
     match operation {
         Operation::Union => set.is_union(a, b),
@@ -281,7 +282,7 @@ fn is_told(operation: Operation, set: &IntSet, a: &IntSet, b: &IntSet) -> bool {
     }
 }
 
-/// Whether the operation gives of two sets what it gives of the lists.
+/// Whether an operation and its relation agree with the lists of two subsets.
 fn operation_agrees(alloc: Global, operation: Operation, a: u32, b: u32) -> Result<bool, SetError> {
     let set = set_of(alloc, a)?;
     let other = set_of(alloc, b)?;
@@ -291,7 +292,7 @@ fn operation_agrees(alloc: Global, operation: Operation, a: u32, b: u32) -> Resu
     Ok(same && has_exactly(&made, &listed) && is_told(operation, &made, &set, &other))
 }
 
-/// Whether each relation and operation gives of two sets what it gives of the lists.
+/// Whether all operations and relations agree with the lists of two subsets.
 fn pair_agrees(alloc: Global, a: u32, b: u32) -> Result<bool, SetError> {
     let set = set_of(alloc, a)?;
     let other = set_of(alloc, b)?;

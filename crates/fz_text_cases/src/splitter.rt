@@ -1,4 +1,4 @@
-//! A splitter call by call.
+//! A splitter, call by call.
 
 ghost use Rattle.std.specs.Prelude.{◌≢◌};
 ghost use Rattle.fz_stream.specs.declared.splitter.Stage.TheVariants.{Finished};
@@ -7,7 +7,7 @@ use fz_stream::{Block, ClaimKind, Part, Splitter, StreamError};
 use fz_syntax::{LiteralKind, PrintedValue};
 use std::test::Fail;
 
-/// Whether a block at the stream's front waits that prints one item.
+/// Whether a block waits that is at offset 0 and prints one item.
 fn lends_first_block(splitter: &Splitter) -> bool {
     match splitter.take() {
         Ok(Some(Part::Block(block))) => block.offset == 0 && block.items.len() == 1,
@@ -16,7 +16,7 @@ fn lends_first_block(splitter: &Splitter) -> bool {
 }
 
 #[test]
-fn pieces(rt: HostRuntime) -> Result<(), Fail> {
+fn a_stream_fed_in_pieces(rt: HostRuntime) -> Result<(), Fail> {
     let mut splitter = Splitter::new(rt.alloc());
     assert_eq!(rt; splitter.feed(b"x = 3;\n---")?, 10);
     assert!(rt; !splitter.waiting());
@@ -44,7 +44,7 @@ fn is_set(value: &PrintedValue) -> bool {
     }
 }
 
-/// Whether the block stands at the front and prints `x = {1,3};` alone.
+/// Whether the block is at offset 0 and prints one item, whose value is the set of 1 and 3.
 fn prints_set(block: &Block<'_>) -> bool {
     match block.items.first() {
         Some(item) => block.offset == 0 && block.items.len() == 1 && is_set(&item.value),
@@ -60,7 +60,7 @@ fn is_block_of_set(part: &Option<Part<'_>>) -> bool {
 }
 
 #[test]
-fn released_items(rt: HostRuntime) -> Result<(), Fail> {
+fn a_released_block_is_lent_and_taken(rt: HostRuntime) -> Result<(), Fail> {
     let mut splitter = Splitter::new(rt.alloc());
     assert_eq!(rt; splitter.feed(b"x = {1,3};\n----------\n")?, 22);
     let released = splitter.release();
@@ -71,7 +71,7 @@ fn released_items(rt: HostRuntime) -> Result<(), Fail> {
     Ok(())
 }
 
-/// Whether one more byte is refused like this.
+/// Whether one more byte is refused with this error.
 fn refuses(splitter: &mut Splitter, want: StreamError) -> bool
     requires { splitter.old.stage ≢ Finished }
     ensures { splitter.new.stage ≢ Finished }
@@ -83,7 +83,7 @@ fn refuses(splitter: &mut Splitter, want: StreamError) -> bool
 }
 
 #[test]
-fn too_many_bytes(rt: HostRuntime) -> Result<(), Fail> {
+fn at_most_16777216_bytes(rt: HostRuntime) -> Result<(), Fail> {
     let most = vec![in rt.alloc(); b'x'; 16_777_216]?;
     let mut splitter = Splitter::new(rt.alloc());
     assert_eq!(rt; splitter.feed(&most)?, 16_777_216);

@@ -56,14 +56,14 @@ fn refused_streams(rt: HostRuntime) {
 }
 
 #[test]
-fn long_streams(rt: HostRuntime) -> Result<(), Fail> {
+fn at_most_16777216_bytes(rt: HostRuntime) -> Result<(), Fail> {
     let long = vec![in rt.alloc(); b'x'; 16_777_217]?;
     assert!(rt; is_told(rt.alloc(), Call::Blocks, &long, "TooLong"));
     Ok(())
 }
 
 #[test]
-fn moved_places(rt: HostRuntime) {
+fn moved_byte_ranges(rt: HostRuntime) {
     let moved = moved_span(Span { start: 4, end: 7 }, 20);
     assert_eq!(rt; moved, Span { start: 24, end: 27 });
 }

@@ -1,5 +1,5 @@
-//! Tables of cases as texts. Each line is a case: a source, ` =>`, and what a call tells of it. A
-//! bar stands for the end of a line.
+//! Tables of cases as texts. Each line is a case: a source, ` =>`, and the answer of a call on it,
+//! as text. A `|` stands for a line feed.
 
 use crate::telling::{Call, told};
 use std::alloc::{AllocError, Global};
@@ -13,13 +13,13 @@ fn meant(alloc: Global, part: &str) -> Result<Vec<u8>, AllocError> {
     Ok(bytes)
 }
 
-/// Whether the call tells this of the source.
+/// Whether this is the answer of the call on the source.
 fn tells(alloc: Global, call: Call, source: &[u8], wanted: &[u8]) -> Result<bool, AllocError> {
     let given = told(alloc, call, source)?;
     Ok(given.as_slice().trim_ascii_start() == wanted.trim_ascii_start())
 }
 
-/// The same, where there is memory.
+/// The same, or false where memory runs out.
 pub fn is_told(alloc: Global, call: Call, source: &[u8], wanted: &str) -> bool {
     matches!(tells(alloc, call, source, wanted.as_bytes()), Ok(true))
 }
@@ -35,7 +35,7 @@ fn is_right(alloc: Global, call: Call, row: &str) -> Result<bool, AllocError> {
     }
 }
 
-/// The first line of which the call tells something else. Empty lines are no cases.
+/// The first line whose source has another answer. Empty lines are no cases.
 pub fn wrong_row(alloc: Global, call: Call, table: &str) -> Option<&str> {
     for row in table.lines() {
         if !matches!(is_right(alloc, call, row), Ok(true)) {
@@ -45,7 +45,7 @@ pub fn wrong_row(alloc: Global, call: Call, table: &str) -> Option<&str> {
     None
 }
 
-/// `before`, `part` so often, and `after`.
+/// `before`, `count` times `part`, and `after`.
 pub fn repeated(
     alloc: Global,
     before: &[u8],

@@ -1,4 +1,4 @@
-//! What each call tells of a source, as text.
+//! The answer of each call on a source, as text.
 
 ghost use Rattle.std.specs.Prelude.{◌≢◌, OnOk};
 ghost use Rattle.fz_stream.specs.declared.splitter.Stage.TheVariants.{Finished};
@@ -10,7 +10,7 @@ use std::fmt::Write;
 
 #[derive(Clone, Copy)]
 pub enum Call {
-    /// The tokens, by kind and place.
+    /// The tokens, by kind and byte range.
     Lex,
     /// That the source is a model's text.
     Parse,
@@ -18,7 +18,7 @@ pub enum Call {
     ParseItems,
     /// How many items are printed.
     ReadItems,
-    /// The canonical text, which is its own.
+    /// The canonical text, and whether its own canonical text is another.
     ToText,
     /// The parts in their order: each block by its offset, the length of its text and how many
     /// items it prints, each claim by its kind.
@@ -27,7 +27,7 @@ pub enum Call {
     Split,
 }
 
-/// What the call tells, or why it refuses the source.
+/// The answer of the call, or its refusal.
 pub fn told(alloc: Global, call: Call, source: &[u8]) -> Result<Vec<u8>, AllocError> {
     match call {
         Call::Lex => syntax_told(alloc, tokens_told(alloc, source)),
@@ -44,7 +44,7 @@ pub fn told(alloc: Global, call: Call, source: &[u8]) -> Result<Vec<u8>, AllocEr
     }
 }
 
-/// The place of a refusal.
+/// The byte range of a refusal.
 fn place_of(error: SyntaxError) -> Option<Span> {
     match error {
         SyntaxError::BadByte(span)
@@ -65,7 +65,7 @@ fn place_in_stream(error: StreamError) -> Option<Span> {
     }
 }
 
-/// The name of a refusal and its place.
+/// The name of a refusal and its byte range.
 fn refusal(alloc: Global, name: String, place: Option<Span>) -> Result<Vec<u8>, AllocError> {
     let mut text = name;
     if let Some(span) = place {
@@ -122,7 +122,7 @@ fn tell_block(text: &mut String, block: &Block<'_>) -> Result<(), AllocError> {
     write!(text, " {}+{length}:{count}", block.offset)
 }
 
-/// The claims before which so many blocks stand.
+/// Adds the claims that come right after so many blocks.
 fn tell_claims(text: &mut String, claims: &[Claim], after: usize) -> Result<(), AllocError> {
     for claim in claims {
         if claim.after == after {

@@ -4,7 +4,7 @@ use fz_base::{IntSet, Value};
 use std::mem::size_of;
 use std::test::Fail;
 
-// Values stand in tables that are read for each constraint of each block, so they are kept small.
+// Tables of values are read for each constraint of each block, so a value has to be small.
 const _: () = prove!(size_of::<IntSet>() == 16);
 
 const _: () = prove!(size_of::<Value>() == 24);

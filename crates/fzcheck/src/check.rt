@@ -14,7 +14,7 @@ use std::io::Read;
 use std::os::fd::AsFd;
 use std::{fs, io};
 
-/// What stands for the name of the stream on standard input.
+/// The name of the stream in messages, where it is on standard input.
 const STANDARD_INPUT: &str = "(standard input)";
 
 /// The names of the files, and how they are checked.
@@ -56,15 +56,15 @@ pub fn check_files(
     }
 }
 
-/// Fails where standard input isn't open. This is asked before a file is opened, since a file takes
-/// the number of a standard stream that is closed, and would be read in its place.
+/// Fails where standard input isn't open. This is checked before a file is opened: a file that is
+/// opened while standard input is closed gets its descriptor, and would be read in its place.
 fn find_input(rt: &HostRuntime) -> io::Result<()> {
     rt.stdin().as_fd().try_clone_to_owned()?;
     Ok(())
 }
 
-/// Checks what one reader gives as a stream against what the other gives as a model, and writes
-/// what is known before each read.
+/// Checks the stream that one reader gives against the model that the other gives. Before each read
+/// of the stream, the lines for what was read so far are written.
 fn check_readers<M: Read + Drop, S: Read + Drop>(
     rt: &HostRuntime,
     task: &Task<'_>,
@@ -125,7 +125,7 @@ fn explain_verdict<S: Read + Drop>(
     }
 }
 
-/// Tells why there is no answer, and where that stands, if it is to be explained.
+/// Writes the refusal and, with `--explain`, where its fault is.
 fn refuse_check<S: Read + Drop>(
     rt: &HostRuntime,
     task: &Task<'_>,

@@ -1,12 +1,12 @@
-//! Where a refusal stands, as a message: the file, the line and column, what is wrong, and the line
-//! with the place marked.
+//! Where the fault of a refusal is, as a message: the file, the line and column, what is wrong, and
+//! the line with the fault marked.
 
 use crate::recent::{Passed, count_blocks};
 use fz_check::{BlockError, CheckError, ModelError, StreamError, SyntaxError, refusal_place};
 use fz_message::{Source, message_at, message_text};
 use std::alloc::{AllocError, Global};
 
-/// A source, of which so much stands before the bytes that are given.
+/// A source of which only the bytes behind what has passed are given.
 pub fn source_behind<'a>(name: &'a str, bytes: &'a [u8], passed: Passed) -> Source<'a> {
     Source {
         name,
@@ -17,7 +17,7 @@ pub fn source_behind<'a>(name: &'a str, bytes: &'a [u8], passed: Passed) -> Sour
 }
 
 /// The message of a refusal in a source that has this name and, behind what has passed, these
-/// bytes. There is none where the refusal has no place.
+/// bytes. There is none where the refusal has no byte range.
 ///
 /// # Errors
 ///
@@ -44,7 +44,7 @@ pub fn explanation(
     }
 }
 
-/// The number of the block that a fault stands in, where it is one of a stream.
+/// The number of the block that a fault is in, where it is a fault of the stream.
 fn block_number(before: &[u8], passed: Passed, error: &CheckError) -> Option<usize> {
     match error {
         CheckError::Block(number, _) => Some(*number),

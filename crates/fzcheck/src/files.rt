@@ -1,3 +1,5 @@
+//! The bytes of a file.
+
 ghost use Rattle.std.specs.Prelude.{◌≡◌, ◌⊎◌, suc, take, IfErr, IfOk, IfSome};
 ghost use Rattle.std.specs.Io.KnownBytes.{Consumes};
 ghost use Rattle.fz_check.specs.declared.error.CheckError.{CheckError as Refusal};
@@ -9,9 +11,9 @@ use std::io::Read;
 /// The most bytes that are read at a time.
 const PIECE: usize = 16_384;
 
-/// The bytes of a reader up to its end. Where there are more than the most, one more than the most
-/// is given, and it is not read further. A read that fails is not repeated, whatever its kind,
-/// which is why this is no call of `read_to_end`: that one repeats a read that a signal interrupts.
+/// The bytes of a reader up to its end, or `most + 1` of them where there are more than `most`. A
+/// read that fails is not repeated, whatever the error: `read_to_end` isn't used, since it repeats
+/// a read that a signal interrupts.
 pub fn read_up_to<R: Read>(alloc: Global, reader: &mut R, most: u32) -> Result<Vec<u8>, CheckError>
     ensures bytes { IfOk result (λ bytes. IfSome (R.remaining reader.old)
         (λ xs. bytes.items ≡ take (suc most) xs)) }

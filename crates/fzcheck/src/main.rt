@@ -1,5 +1,7 @@
-//! The program `fzcheck`: its words, its files, its messages and its exit status. All judging is
-//! done by `fz_check`.
+//! The program `fzcheck`: its command line, files, messages and exit status. All judging is done by
+//! `fz_check`.
+//!
+//! Tests are in `tests/program.sh` and `tests/explained`.
 #![tactic(auto)]
 
 mod check;
@@ -32,7 +34,7 @@ fn main(rt: HostRuntime) -> ExitCode {
     ExitCode::from(run(&rt))
 }
 
-/// Carries out what the command line asks for, and gives the exit status.
+/// Carries out the command line, and gives the exit status.
 fn run(rt: &HostRuntime) -> u8 {
     let args = match env::args(rt) {
         Ok(args) => args,
@@ -58,7 +60,7 @@ fn run(rt: &HostRuntime) -> u8 {
     }
 }
 
-/// Words that can't be had: they are no text, or there is no memory for them.
+/// The answer where the words can't be read: they aren't UTF-8, or memory ran out.
 fn refuse_words(rt: &HostRuntime, kind: io::ErrorKind) -> u8 {
     match kind {
         io::ErrorKind::OutOfMemory => refuse(rt, &CheckError::Memory),

@@ -1,6 +1,6 @@
-//! What the program says of itself.
+//! The usage line, the help page and the version.
 
-/// The line on standard error where the words are wrong, or ask for help.
+/// The line on standard error where the command line is wrong, or asks for help.
 pub const USAGE: &str = "\
 usage: fzcheck show [--print-all] MODEL | check [--complete] [--explain] MODEL [STREAM]";
 

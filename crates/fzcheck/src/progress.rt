@@ -1,4 +1,5 @@
-//! A line on standard error that tells how far a long check is, for who waits at a terminal.
+//! A line on standard error that shows how far a long check is, for a user who waits at a terminal;
+//! and which block is to be explained.
 
 ghost use Rattle.std.specs.Io.{WritesAtMost};
 ghost use Rattle.std.specs.Io.KnownBytes.{Keeps, WriteAppends};
@@ -9,10 +10,10 @@ use std::io;
 use std::io::{IsTerminal, Write};
 use std::time::Instant;
 
-/// After how many seconds the line is shown first. Then it is shown anew each second.
+/// After how many seconds the line is shown first. From then on it is shown again each second.
 const PATIENCE: u64 = 2;
 
-/// A writer that gives what it takes to another one, and shows how far the report is.
+/// A writer that passes on the report to another writer, and shows how far it is.
 #[derive(Drop)]
 pub struct Progress<'r, W> {
     writer: W,
@@ -20,9 +21,9 @@ pub struct Progress<'r, W> {
 }
 
 impl<'r, W: Write> Progress<'r, W> {
-    /// The line is shown only where standard error is a terminal and standard output isn't.
-    /// Where blocks are to be explained, the cell gets the number of the one that the answer so far
-    /// names.
+    /// The line is shown only where standard error is a terminal and standard output isn't. With
+    /// `--explain`, the cell gets the number of the block that the answer so far names: the first
+    /// that is violated, or else the first that is undecided.
     pub fn new(
         rt: &'r HostRuntime,
         writer: W,
@@ -49,12 +50,12 @@ impl<'r, W: Write> Progress<'r, W> {
         }
     }
 
-    /// Takes the line away.
+    /// Removes the line from the terminal.
     pub fn clear(&mut self) {
         self.seen.clear();
     }
 
-    /// What the report says of the block that is to be explained, behind its number.
+    /// What the report says of the block that is to be explained, behind the block's number.
     pub fn told(&self) -> &[u8] {
         &self.seen.told
     }
@@ -84,31 +85,31 @@ impl<'r, W: Write> Write for Progress<'r, W> {
     }
 }
 
-/// What was written so far.
+/// What is known of the report that was written so far.
 #[derive(Drop)]
 struct Seen<'r> {
     rt: &'r HostRuntime,
     explains: bool,
-    /// The number of the block that the answer names, from 1, or 0.
+    /// The number, from 1, of the block that the answer so far names, or 0.
     wanted: &'r Cell<usize>,
-    /// The line of that block, behind its number.
+    /// The line of that block, behind the block's number.
     told: Vec<u8>,
     is_violated: bool,
     /// When the check began; none where nothing is to be shown.
     start: Option<Instant>,
-    /// The second in which the line is due.
+    /// The second, counted from the start, in which the line is due.
     due: u64,
-    /// The line of the report that hasn't ended.
+    /// The line of the report of which the end wasn't written yet.
     line: Vec<u8>,
     blocks: usize,
     /// The first block that isn't satisfied.
     other: Option<usize>,
-    /// How long the line is that is shown.
+    /// The length of the line that is shown.
     columns: usize,
 }
 
 impl<'r> Seen<'r> {
-    /// Takes note of what was written. Where there is no memory for it, nothing more is shown.
+    /// Looks through what was written. Where memory runs out, no more is shown or explained.
     fn note(&mut self, bytes: &[u8]) {
         if self.explains || self.start.is_some() {
             let noted = self.note_lines(bytes).is_ok() && self.show().is_ok();
@@ -167,7 +168,7 @@ impl<'r> Seen<'r> {
         Ok(())
     }
 
-    /// How many seconds the check has run, or none where that isn't known.
+    /// How many seconds the check has run, or 0 where that isn't known.
     fn seconds(&self) -> u64 {
         match self.start {
             Some(start) => match start.elapsed(self.rt) {

@@ -1,4 +1,4 @@
-//! A reader that keeps the last of what it gave, so that a fault can be shown where it stands.
+//! A reader that stores the last of what it gave, so that a fault can be shown in its line.
 
 ghost use Rattle.std.specs.Prelude.{◌≡◌};
 ghost use Rattle.std.specs.Io.{ReadsAtMost};
@@ -13,7 +13,7 @@ use std::io::Read;
 /// The line that ends a block.
 const MARKER: &[u8] = b"----------";
 
-/// How many bytes, lines and blocks stand before something in a stream.
+/// How many bytes, lines and blocks come before something in a stream.
 #[derive(Clone, Copy)]
 pub struct Passed {
     pub bytes: usize,
@@ -21,14 +21,14 @@ pub struct Passed {
     pub blocks: usize,
 }
 
-/// Before anything.
+/// At the start of a stream.
 pub const NOTHING: Passed = Passed {
     bytes: 0,
     lines: 0,
     blocks: 0,
 };
 
-/// A block that is to be explained: its text, and what stands before it.
+/// A block that is to be explained: its number, its text, and what comes before it.
 #[derive(Drop)]
 pub struct Told {
     pub number: usize,
@@ -36,9 +36,9 @@ pub struct Told {
     pub passed: Passed,
 }
 
-/// A reader that gives what another one gives. Where that is asked for, it keeps what it gave since
-/// the last block ended, and the block whose number stands in a cell; and it keeps why a read
-/// failed.
+/// A reader that gives what another one gives. Where that is asked for, it stores what it gave
+/// since the last block ended, and the block whose number is in a cell. Of a failed read it stores
+/// the error.
 #[derive(Drop)]
 pub struct Recent<'c, R> {
     reader: R,
@@ -47,14 +47,15 @@ pub struct Recent<'c, R> {
     alloc: Global,
     keeps: bool,
     bytes: Vec<u8>,
-    /// Where the first line begins that wasn't looked at.
+    /// The index in `bytes` of the first line that wasn't looked at.
     next: usize,
     passed: Passed,
     failure: Option<io::Error>,
 }
 
 impl<'c, R: Read> Recent<'c, R> {
-    /// The cell has the number of the block to be told, from 1, or 0 where there is none so far.
+    /// The cell has the number, from 1, of the block to be explained, or 0 where there is none so
+    /// far.
     pub fn new(alloc: Global, reader: R, keeps: bool, wanted: &'c Cell<usize>) -> Recent<'c, R> {
         Recent {
             reader,
@@ -69,7 +70,8 @@ impl<'c, R: Read> Recent<'c, R> {
         }
     }
 
-    /// What is kept, and what was given before it; nothing where there was no memory to keep it.
+    /// The bytes that are stored, and what was given before them; none where nothing is stored, or
+    /// memory ran out.
     pub fn kept(&self) -> Option<(&[u8], Passed)> {
         if self.keeps {
             Some((&self.bytes, self.passed))
@@ -83,7 +85,7 @@ impl<'c, R: Read> Recent<'c, R> {
         self.failure.as_ref()
     }
 
-    /// Lets go of the blocks that have ended: what was given is judged before more is asked for.
+    /// Drops the blocks that have ended, since what was given is judged before more is read.
     fn let_go(&mut self)
         ensures { self.new.reader ≡ self.old.reader }
     {
@@ -104,7 +106,7 @@ impl<'c, R: Read> Recent<'c, R> {
         }
     }
 
-    /// Keeps the block that is wanted, where that isn't kept already.
+    /// Stores the block whose number is in the cell, where that isn't stored already.
     fn tell_wanted(&mut self) -> Result<(), AllocError>
         ensures { self.new.reader ≡ self.old.reader }
     {
@@ -152,7 +154,7 @@ impl<'c, R: Read> Recent<'c, R> {
         self.drop_front(ended)
     }
 
-    /// Keeps what stands behind this many bytes.
+    /// Drops so many bytes at the front.
     fn drop_front(&mut self, count: usize) -> Result<(), AllocError>
         ensures { self.new.reader ≡ self.old.reader }
     {
@@ -166,7 +168,7 @@ impl<'c, R: Read> Recent<'c, R> {
         Ok(())
     }
 
-    /// Keeps more bytes. Where there is no memory for them, nothing is kept any more.
+    /// Stores more bytes. Where memory runs out, nothing is stored from then on.
     fn keep(&mut self, bytes: &[u8])
         ensures { self.new.reader ≡ self.old.reader }
     {
@@ -187,8 +189,8 @@ pub fn count_blocks(bytes: &[u8]) -> usize {
     count
 }
 
-/// Where the block with this number, from 1, begins in the bytes, and where it ends with its
-/// marker.
+/// The indices in the bytes where the block with this number, from 1, begins and where it ends,
+/// behind its marker line.
 fn block_ends(bytes: &[u8], number: usize) -> (usize, usize) {
     let mut at: usize = 0;
     let mut start = 0;
@@ -206,12 +208,12 @@ fn block_ends(bytes: &[u8], number: usize) -> (usize, usize) {
     (start, at)
 }
 
-/// What stands in the first bytes.
+/// The first `count` bytes, or all.
 fn before(bytes: &[u8], count: usize) -> &[u8] {
     bytes.split_at(count.min(bytes.len())).0
 }
 
-/// What stands behind so many bytes.
+/// What is behind the first `count` bytes.
 fn behind(bytes: &[u8], count: usize) -> &[u8] {
     bytes.split_at(count.min(bytes.len())).1
 }

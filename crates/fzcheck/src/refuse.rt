@@ -1,4 +1,4 @@
-//! What the program says on standard error where it carries nothing out, and its status then.
+//! What the program writes to standard error where it refuses, and the exit status then.
 
 use crate::explain::explanation;
 use crate::pages::USAGE;
@@ -11,14 +11,14 @@ use std::io::Write;
 /// The status where the words of the command line are wrong, or ask for help.
 const WRONG_WORDS: u8 = 5;
 
-/// Tells how the program is used.
+/// Writes the usage line.
 pub fn refuse_usage(rt: &HostRuntime) -> u8 {
     let _ = eprintln!(rt; "{USAGE}");
     WRONG_WORDS
 }
 
-/// Tells which words are wrong: the first paragraph of what the reader of words says, since what
-/// follows there is its own usage.
+/// Writes which words are wrong: the first paragraph of the message of `clap`, since its own usage
+/// follows there.
 pub fn refuse_wrong(rt: &HostRuntime, error: &Error) -> u8 {
     let Ok(text) = format!(in rt.alloc(); "{error}") else {
         return refuse(rt, &CheckError::Memory);
@@ -28,7 +28,7 @@ pub fn refuse_wrong(rt: &HostRuntime, error: &Error) -> u8 {
     WRONG_WORDS
 }
 
-/// Tells a refusal, and gives its status.
+/// Writes the line of a refusal, and gives its status.
 pub fn refuse(rt: &HostRuntime, error: &CheckError) -> u8 {
     match refusal_text(rt.alloc(), error) {
         Ok(text) => {
@@ -42,13 +42,13 @@ pub fn refuse(rt: &HostRuntime, error: &CheckError) -> u8 {
     }
 }
 
-/// Whether this is the status of a refusal itself, and not of one for lack of memory to tell it.
+/// Whether the line of the refusal was written, and not `refused: memory` in its place.
 fn is_told(told: u8, error: &CheckError) -> bool {
     told == status(&Err(*error))
 }
 
-/// Tells a refusal, and where its fault stands in the source that has this name and, behind what
-/// has passed, these bytes.
+/// Writes the line of a refusal, and where its fault is in the source that has this name and,
+/// behind what has passed, these bytes.
 pub fn refuse_at(
     rt: &HostRuntime,
     error: &CheckError,
@@ -65,7 +65,7 @@ pub fn refuse_at(
     told
 }
 
-/// Tells a refusal, and what the system says of the file, where it says something.
+/// Writes the line of a refusal, and the system's error for the file, where there is one.
 pub fn refuse_file(
     rt: &HostRuntime,
     error: &CheckError,
@@ -81,7 +81,7 @@ pub fn refuse_file(
     told
 }
 
-/// Tells what the system says of a file, without the system's number for it.
+/// Writes the system's error for a file, without its number.
 fn tell_failure(rt: &HostRuntime, name: &str, failure: &io::Error) {
     let Ok(text) = format!(in rt.alloc(); "{failure}") else {
         return;
@@ -90,7 +90,7 @@ fn tell_failure(rt: &HostRuntime, name: &str, failure: &io::Error) {
     let _ = eprintln!(rt; "{name}: {told}");
 }
 
-/// What stands before the mark, or all.
+/// The text before the mark, or all of it.
 fn before<'a>(text: &'a str, mark: &str) -> &'a str {
     match text.split_once(mark) {
         Some((front, _)) => front,

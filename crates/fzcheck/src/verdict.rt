@@ -1,5 +1,5 @@
-//! What stands behind the verdict that the answer names: the point, the variables in it, their
-//! values and where these are from.
+//! The explanation of the verdict that the answer names: the point, the variables in it, their
+//! values and where these come from.
 
 ghost use Rattle.std.specs.Prelude.{◌≡◌, ◌<◌, length};
 ghost use Rattle.fz_model.specs.Meaning.{IsPartial, points};
@@ -18,7 +18,7 @@ use fz_stream::{Block, blocks};
 use fz_syntax::{Ast, Basic, Goal as GoalItem, Printed, parse};
 use std::alloc::{AllocError, Global};
 
-/// A verdict to be explained: what the report says of the block, behind its number, and the
+/// A verdict to be explained: what the report says of the block, behind the block's number, and the
 /// sources.
 #[derive(Clone, Copy)]
 pub struct Case<'a> {
@@ -28,7 +28,7 @@ pub struct Case<'a> {
     pub told: &'a Told,
 }
 
-/// What is read again of a case.
+/// What was read again of the sources of a case.
 #[derive(Clone, Copy)]
 struct Reading<'s, 'a> {
     case: &'s Case<'a>,
@@ -98,7 +98,7 @@ fn verdict_message(
     }
 }
 
-/// What the report says of the block, in a sentence.
+/// What the report says of the block, as the sentence of a message.
 fn sentence(alloc: Global, case: &Case<'_>) -> Result<String, AllocError> {
     let said = shown_text(alloc, case.said)?;
     let number = case.told.number;
@@ -146,8 +146,8 @@ fn point_explanation(
     Ok(Some(message))
 }
 
-/// The message on a piece of a source, with a note on each of the variables; of many on some at the
-/// front and at the end.
+/// The message on a byte range of a source, with a note on each of the variables; of more than
+/// twelve, on the first eight and the last four.
 fn variables_message(
     alloc: Global,
     reading: &Reading<'_, '_>,
@@ -253,7 +253,7 @@ fn printed_explanation(
     variables_message(alloc, reading, filling, source, place, &variables)
 }
 
-/// Where a name is printed.
+/// The byte range, within its block, of a name that is printed.
 fn printed_place(items: &[Printed<'_>], name: &[u8]) -> Option<Span> {
     for item in items {
         if item.name.text == name {

@@ -1,10 +1,12 @@
+//! The words of the command line.
+
 use crate::pages::VERSION;
 use clap::error::ErrorKind;
 use clap::{Arg, ArgAction, ArgMatches, Command, Error};
 use fz_check::Completion;
 use std::alloc::{AllocError, Global};
 
-/// What the command line asks for.
+/// A command, as the command line asks for it.
 #[derive(Clone, Copy)]
 pub enum Request<'a> {
     /// Print the canonical text of the model in a file.
@@ -20,32 +22,32 @@ pub enum Request<'a> {
     },
 }
 
-/// Which variables a model that is shown asks a solver to print.
+/// Which variables the shown model marks as output.
 #[derive(Clone, Copy)]
 pub enum Printing {
     AsWritten,
     All,
 }
 
-/// How a check goes on.
+/// The options of `check`.
 #[derive(Clone, Copy)]
 pub struct CheckOptions {
-    /// Whether values that the solver left out are looked for.
+    /// Whether values that the solver left out are searched for.
     pub completion: Completion,
-    /// Whether a refusal is explained.
+    /// Whether refusals and verdicts are explained.
     pub explains: bool,
 }
 
-/// Why no command is carried out.
+/// Why the command line gives no command.
 #[derive(Drop)]
 pub enum Refused {
     /// The words ask for help.
     Help,
     /// The words ask for the version.
     Version,
-    /// The words are wrong, and how.
+    /// The words are wrong, and this is how.
     Wrong(Error),
-    /// There is no memory to read them.
+    /// Memory ran out while they were read.
     Memory,
 }
 
@@ -66,15 +68,15 @@ impl From<Error> for Refused {
     }
 }
 
-/// What the words ask for, of which the first is the program's own name. It isn't inlined, so that
-/// its large frame is gone from the stack once the words are read.
+/// What the words ask for; the first word is the program's own name. It isn't inlined, so that its
+/// large stack frame is gone once the words are read.
 #[inline(never)]
 pub fn read_words<'a>(alloc: Global, words: &'a [String]) -> Result<Request<'a>, Refused> {
     let matches = command(alloc)?.try_get_matches_from(words)?;
     request_of(&matches)
 }
 
-/// What the words that were read ask for.
+/// The command of the words that `clap` read.
 fn request_of<'a>(matches: &ArgMatches<'a>) -> Result<Request<'a>, Refused> {
     match matches.subcommand() {
         Some(("show", given)) => Ok(Request::Show {
@@ -114,17 +116,17 @@ fn completion_of(given: &ArgMatches<'_>) -> Completion {
     }
 }
 
-/// A word that names a file.
+/// An argument that names a file.
 fn file_word<'a>(alloc: Global, id: &'a str) -> Arg<'a> {
     Arg::new(alloc, id).action(ArgAction::Set)
 }
 
-/// A command that wants the file of a model.
+/// A command that requires the file of a model.
 fn over_model<'a>(alloc: Global, name: &'a str) -> Result<Command<'a>, AllocError> {
     Command::new(alloc, name).arg(file_word(alloc, "MODEL").required(true))
 }
 
-/// A word that is said or not.
+/// An option without a value.
 fn flag<'a>(alloc: Global, name: &'a str) -> Arg<'a> {
     Arg::new(alloc, name).long(name).action(ArgAction::SetTrue)
 }
@@ -149,8 +151,8 @@ fn program<'a>(alloc: Global) -> Result<Command<'a>, AllocError> {
         .subcommand(show)
 }
 
-/// The program with both commands. Each function here holds one command where it may fail, since
-/// each that is held there is one more to free.
+/// The program with both commands. Where a function here may fail, it holds one command alone,
+/// since each one that it holds would have to be dropped.
 fn command<'a>(alloc: Global) -> Result<Command<'a>, AllocError> {
     let check = check_command(alloc)?;
     program(alloc)?.subcommand(check)
