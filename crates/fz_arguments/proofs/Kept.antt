@@ -1,5 +1,6 @@
 -- Slots and arguments, as a store has them and as they are defined.
-use Rattle.std.proofs.Common.{◌≡◌, ℕ, zero, suc, Bool, true, false, ◌&&◌, List, [], ◌∷◌, map, flat_map, Option, Some, None, slice_get, option_map, refl, sym, ap, ◌∙◌}
+use Rattle.std.proofs.Common.{◌≡◌, ℕ, Bool, true, ◌&&◌, List, [], ◌∷◌, map, flat_map, Option, Some, None, slice_get, option_map, refl, sym, ap, ◌∙◌}
+use Rattle.std.proofs.Math.Bool.{and-true}
 use Rattle.std.specs.List.{list_all}
 use Rattle.std.specs.Option.{option_map_or}
 use Rattle.std.proofs.lemmas.Bool.{false≢true}
@@ -44,7 +45,7 @@ map-same : {A B : Type 0} (f g : A → B) → ((x : A) → f x ≡ g x) → (ys 
 map-same f g same [] = refl
 map-same f g same (y ∷ ys) = λ i. same y i ∷ map-same f g same ys i
 
-map-map : {A B C : Type 0} (f : B → C) (g : A → B) (ys : List A)
+pub map-map : {A B C : Type 0} (f : B → C) (g : A → B) (ys : List A)
     → map f (map g ys) ≡ map (λ y. f (g y)) ys
 map-map f g [] = refl
 map-map f g (y ∷ ys) = ap (λ zs. f (g y) ∷ zs) (map-map f g ys)
@@ -123,12 +124,8 @@ module _ (K : Partial) (vs : List Variable) (xs : List Array) (st : Store) where
   its_values None = refl
   its_values (Some a) = have_values_read K a.elements.constants.items a.elements.slots.items
 
-  and_true : (b : Bool) → b ≡ (b && true)
-  and_true true = refl
-  and_true false = refl
-
   same_place : (s : Slot) → slot_is_given K xs s ≡ list_all (has_value K) (terms_at (view s))
-  same_place (slots.Variable n) = and_true (has_value_at K (slots.Variable n))
+  same_place (slots.Variable n) = sym (and-true (has_value_at K (slots.Variable n)))
   same_place (slots.Number i) = refl
   same_place (slots.Truth b) = refl
   same_place (slots.Constant k) = refl

@@ -1,6 +1,7 @@
 -- What the readiness of arguments says of their values, where the arguments are of the kinds asked
 -- for.
-use Rattle.std.proofs.Common.{◌≡◌, ℕ, suc, Bool, true, false, ◌&&◌, List, [], ◌∷◌, map, flat_map, Option, Some, None, option_map, refl, sym, ap, ◌∙◌}
+use Rattle.std.proofs.Common.{◌≡◌, ℕ, suc, true, false, ◌&&◌, List, [], ◌∷◌, map, flat_map, Option, Some, None, option_map, refl, sym, ap, ◌∙◌}
+use Rattle.std.proofs.Math.Bool.{and-true}
 use Rattle.std.specs.Prelude.{is_some}
 use Rattle.std.specs.List.{list_all}
 use Rattle.std.specs.Option.{option_map_or}
@@ -19,6 +20,7 @@ use Rattle.fz_meaning.specs.Meaning.Argument.{One, ListOf}
 use Rattle.fz_meaning.proofs.Values.{no, no', and_first, and_second}
 use Rattle.fz_meaning.proofs.Steps.{option_cons_parts, map_some}
 use Rattle.fz_arguments.specs.Given.{slot_of, slot_in, slots_in, value_of, int_in, bool_in, set_in, int_of, bool_of, set_of_slot, given, given_from, given_values, is_read, argument_is_read, are_read, has_value, is_given, are_given}
+use Rattle.fz_arguments.proofs.Kept.{map-map}
 
 -- ---- an argument that has the shape of an array is a list of scalars
 
@@ -77,11 +79,6 @@ read_elements K k (t ∷ ts) h =
     let first : value K t ≡ Some (read_as k (value K t)) = read_value k (value K t) (and_first (is_read K k (Some t)) _ h) in
     let rest : values K ts ≡ Some (map (λ s. read_as k (value_of K s)) (map Some ts)) = read_elements K k ts (and_second (is_read K k (Some t)) _ h) in
     λ i. option_cons (first i) (rest i)
-
-map-map : {A B C : Type 0} (f : B → C) (g : A → B) (ys : List A)
-    → map f (map g ys) ≡ map (λ y. f (g y)) ys
-map-map f g [] = refl
-map-map f g (y ∷ ys) = ap (λ zs. f (g y) ∷ zs) (map-map f g ys)
 
 -- the argument at the first index
 abbrev given_here : Partial → Argument → Shape → ArgValue
@@ -228,12 +225,8 @@ pub values_some : (K : Partial) (ts : List Term) → is_some (values K ts) ≡ l
 values_some K [] = refl
 values_some K (t ∷ ts) = cons_some (value K t) (values K ts) ∙ ap (λ b. is_some (value K t) && b) (values_some K ts)
 
-and_true : (b : Bool) → (b && true) ≡ b
-and_true true = refl
-and_true false = refl
-
 argument_some : (K : Partial) (x : Argument) → is_some (argument_value K x) ≡ is_given K x
-argument_some K (One (Scalar k t)) = map_is_some OneValue (value K t) ∙ sym (and_true (has_value K t))
+argument_some K (One (Scalar k t)) = map_is_some OneValue (value K t) ∙ sym (and-true (has_value K t))
 argument_some K (One (Array x k ts)) = map_is_some ManyValues (values K ts) ∙ values_some K ts
 argument_some K (ListOf ps) = map_is_some ManyValues (values K (flat_map terms_at ps)) ∙ values_some K (flat_map terms_at ps)
 

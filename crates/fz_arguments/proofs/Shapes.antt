@@ -1,14 +1,11 @@
 -- The shapes of several arguments, one after another.
 use Rattle.std.proofs.Common.{◌≡◌, ◌≢◌, ◌<◌, ◌+◌, min, get_or, drop, ℕ, suc, Bool, true, false, ◌&&◌, List, [], ◌∷◌, map, length, refl, sym, ap, ◌∙◌, arith}
+use Rattle.std.proofs.Math.Bool.{and-false}
 use Rattle.std.proofs.lemmas.List.{at_drop_more, at_drop_all}
 use Rattle.fz_meaning.specs.Meaning.{Partial}
 use Rattle.fz_meaning.specs.declared.row.Shape.{Shape}
 use Rattle.fz_meaning.specs.Known.{shape_of}
 use Rattle.fz_arguments.specs.Arguments.{Reading, reading_is_read, readings_are_read}
-
-and_false : (a : Bool) → (a && false) ≡ false
-and_false true = refl
-and_false false = refl
 
 module _ {X : Type 0} (K : Partial) (view : X → Reading) where
   -- the arguments can be read as the shapes ask
@@ -22,7 +19,7 @@ module _ {X : Type 0} (K : Partial) (view : X → Reading) where
   fit_not_long [] [] h = absurd (h refl)
   fit_not_long [] (a ∷ as') h = refl
   fit_not_long (s ∷ ss) [] h = refl
-  fit_not_long (s ∷ ss) (a ∷ as') h = sym (and_false (one s a)) ∙ ap (λ b. one s a && b) (fit_not_long ss as' (λ e. h (ap suc e)))
+  fit_not_long (s ∷ ss) (a ∷ as') h = sym (and-false (one s a)) ∙ ap (λ b. one s a && b) (fit_not_long ss as' (λ e. h (ap suc e)))
 
   module _ (ss : List Shape) (as' : List X) (k : ℕ) where
     module _ (s : Shape) (a : X) (lt : k < length ss) (lt' : k < length as') (at : s ≡ get_or ss k s) (at' : a ≡ get_or as' k a)

@@ -1,7 +1,7 @@
 -- The arguments of a constraint under a partial assignment, read as integers, Booleans and sets. A
 -- reading is total: what cannot be read as a number is read as 0, as a Boolean `false`, as a set
 -- the empty set; `are_read` says where nothing of that kind happens.
-use Rattle.std.specs.Prelude.{ℕ, suc, ℤ, pos, Bool, true, false, ◌&&◌, List, [], ◌∷◌, map, slice_get, Option, None, Some, option_and_then, is_some}
+use Rattle.std.specs.Prelude.{ℕ, suc, ℤ, Bool, true, false, ◌&&◌, List, [], ◌∷◌, map, slice_get, Option, None, Some, option_and_then, is_some}
 use Rattle.std.specs.List.{list_all}
 use Rattle.std.specs.Option.{option_map_or}
 use Rattle.std.specs.FinSet as sets

@@ -1,14 +1,11 @@
 //! Reading one scalar.
 
-ghost use Rattle.std.specs.Prelude.{◌≡◌, Some, false, option_map};
-ghost use Rattle.std.specs.Option.{option_map_or};
+ghost use Rattle.std.specs.Prelude.{◌≡◌, Some, option_map};
 ghost use Rattle.std.specs.FinSet as sets;
-ghost use Rattle.fz_meaning.specs.Values.{kind_of, same_kind};
 ghost use Rattle.fz_arguments.specs.Given.{bool_in, int_in, set_in};
 
 use fz_base::{IntSet, Value};
 use fz_data::{number_of, truth_of};
-use fz_meaning::Kind;
 
 /// Whether the arguments of a constraint can be read as its row asks: each scalar has a value of
 /// the kind; or each has a value, but one is of another kind; or one has none.
@@ -61,28 +58,5 @@ pub(crate) fn set_in<'s>(value: Option<&'s Value>, empty: &'s IntSet) -> &'s Int
     match value {
         Some(value) => set_of(value, empty),
         None => empty,
-    }
-}
-
-/// Whether there is a value of the kind.
-#[inline(always)]
-pub(crate) fn is_of(value: Option<&Value>, kind: Kind) -> bool
-    ensures { result ≡ option_map_or (λ v. same_kind (kind_of v) kind)
-        (option_map (λ v. v.now) value.entry) false }
-{
-    match value {
-        Some(value) => has_kind(value, kind),
-        None => false,
-    }
-}
-
-#[inline(always)]
-pub(crate) fn has_kind(value: &Value, kind: Kind) -> bool
-    ensures { result ≡ same_kind (kind_of value.now) kind }
-{
-    match value {
-        Value::Int(_) => matches!(kind, Kind::Int),
-        Value::Bool(_) => matches!(kind, Kind::Bool),
-        Value::Set(_) => matches!(kind, Kind::Set),
     }
 }

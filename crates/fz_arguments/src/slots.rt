@@ -3,15 +3,14 @@
 ghost use Rattle.std.specs.Prelude.{◌≡◌, Some};
 ghost use Rattle.std.specs.List.{list_all};
 ghost use Rattle.std.specs.FinSet as sets;
-ghost use Rattle.fz_meaning.specs.Values.{kind_of, same_kind};
 ghost use Rattle.fz_data.specs.Partial.{number_in, truth_in};
 ghost use Rattle.fz_data.specs.Slots.{constant_at};
 ghost use Rattle.fz_arguments.specs.Given.{bool_of, int_of, is_read, set_in, set_of_slot};
 ghost use Rattle.fz_arguments.specs.Views.{slot_read};
 
-use crate::reading::{bool_in, has_kind, int_in, is_of, set_in};
+use crate::reading::{bool_in, int_in, set_in};
 use fz_base::{IntSet, Value};
-use fz_data::{Partial, Slot};
+use fz_data::{Partial, Slot, kind_of, same_kind};
 use fz_meaning::Kind;
 
 /// The number of a constant.
@@ -37,17 +36,6 @@ fn constant_set<'s>(constants: &'s [Value], place: u32, empty: &'s IntSet) -> &'
     ensures { result.now ≡ set_in (Some (constant_at constants.now place)) }
 {
     set_in(constants.get(place as usize), empty)
-}
-
-/// Whether a constant is of the kind.
-#[inline(always)]
-fn constant_is_of(constants: &[Value], place: u32, kind: Kind) -> bool
-    ensures { result ≡ same_kind (kind_of (constant_at constants.now place)) kind }
-{
-    match constants.get(place as usize) {
-        Some(value) => has_kind(value, kind),
-        None => matches!(kind, Kind::Int),
-    }
 }
 
 /// The number that a slot is read as.
@@ -98,10 +86,15 @@ pub(crate) fn slot_is_read(partial: &Partial, constants: &[Value], kind: Kind, s
     ensures { result ≡ is_read partial.now kind (slot_read constants.now slot.now) }
 {
     match slot {
-        Slot::Variable(number) => is_of(partial.get(*number as usize), kind),
+        Slot::Variable(number) => partial
+            .get(*number as usize)
+            .is_some_and(|value| same_kind(kind_of(value), kind)),
         Slot::Number(_) => matches!(kind, Kind::Int),
         Slot::Truth(_) => matches!(kind, Kind::Bool),
-        Slot::Constant(place) => constant_is_of(constants, *place, kind),
+        Slot::Constant(place) => constants.get(*place as usize).map_or(
+            matches!(kind, Kind::Int),
+            |value| same_kind(kind_of(value), kind),
+        ),
         Slot::Array(_) => false,
     }
 }

@@ -1,5 +1,6 @@
 -- The test of a value by its bounds is that of the kind and the domain that they are made of.
-use Rattle.std.proofs.Common.{◌≡◌, ℕ, zero, suc, ◌<◌, get_or, Bool, true, false, ◌&&◌, List, [], ◌∷◌, map, length, refl, sym, ap, ◌∙◌, arith}
+use Rattle.std.proofs.Common.{◌≡◌, ℕ, zero, suc, ◌<◌, get_or, true, ◌&&◌, List, [], ◌∷◌, map, length, refl, sym, ap, ◌∙◌, arith}
+use Rattle.std.proofs.Math.Bool.{and-true}
 use Rattle.fz_base.specs.declared.value.Value.{Value}
 use Rattle.fz_base.specs.declared.value.Value.TheVariants.{Int, Bool as Truth, Set}
 use Rattle.fz_meaning.specs.declared.kind.Kind.{Kind}
@@ -20,14 +21,10 @@ inside_all (Int n) = refl
 inside_all (Truth b) = refl
 inside_all (Set s) = sym (all_admitted s)
 
-and_true : (a b : Bool) → b ≡ true → a ≡ (a && b)
-and_true true b e = sym e
-and_true false b e = refl
-
 -- where any value of a kind will do, the kind alone decides
 pub any_of : (j k : Kind) (d : Domain) (v : Value) → Any j ≡ bounds_in k d
     → same_kind (kind_of v) j ≡ (same_kind (kind_of v) k && inside d v)
-any_of j k domains.All v e = let same : j ≡ k = cc in ap (same_kind (kind_of v)) same ∙ and_true (same_kind (kind_of v) k) (inside domains.All v) (inside_all v)
+any_of j k domains.All v e = let same : j ≡ k = cc in ap (same_kind (kind_of v)) same ∙ sym (ap (λ b. same_kind (kind_of v) k && b) (inside_all v) ∙ and-true (same_kind (kind_of v) k))
 any_of j kinds.Int (domains.Within lo hi) v e = cc
 any_of j kinds.Bool (domains.Within lo hi) v e = cc
 any_of j kinds.Set (domains.Within lo hi) v e = cc

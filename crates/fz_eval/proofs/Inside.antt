@@ -1,5 +1,6 @@
 -- Where each element of a set lies in a domain.
 use Rattle.std.proofs.Common.{◌≡◌, ℤ, ◌≤ℤ◌, Bool, true, false, ◌&&◌, ◌||◌, List, [], ◌∷◌, refl, sym, ap, ◌∙◌, int_le, int_cmp, arith}
+use Rattle.std.proofs.lemmas.Bool.{or_left, or_right}
 use Rattle.std.proofs.lemmas.Int.{ints}
 use Rattle.std.specs.Prelude.{◌↔◌}
 use Rattle.std.specs.List.{list_all, list_any}
@@ -11,14 +12,6 @@ use Rattle.fz_base.proofs.Covers.{at_most_yes}
 use Rattle.fz_meaning.proofs.Values.{no, and_first, and_second, and_both, same_int, same_truth, int_itself}
 
 -- ---- a test of each element of a set
-
-or_left : (a b : Bool) → a ≡ true → (a || b) ≡ true
-or_left true b h = refl
-or_left false b h = no h
-
-or_right : (a b : Bool) → b ≡ true → (a || b) ≡ true
-or_right true b h = refl
-or_right false b h = h
 
 each_listed : (p : ℤ → Bool) (ns : List ℤ)
     → ((x : ℤ) → list_any (eq_by_cmp int_cmp x) ns ≡ true → p x ≡ true) → list_all p ns ≡ true

@@ -3,31 +3,24 @@ use Rattle.std.proofs.Common.{◌≡◌, ℕ, suc, ◌+◌, Bool, true, false, n
 use Rattle.std.specs.Prelude.{IsSome}
 use Rattle.std.specs.List.{list_any}
 use Rattle.fz_base.specs.declared.value.Value.TheVariants.{Bool as BoolValue}
-use Rattle.fz_meaning.specs.declared.kind.Kind.TheVariants.{Int as IntKind, Bool as BoolKind, Set as SetKind}
 use Rattle.fz_meaning.specs.Values.{◌=ᴮ◌}
 use Rattle.fz_meaning.specs.Builtins.{Shape, Row, implied, reified, with_bool, read}
 use Rattle.fz_meaning.specs.declared.known.Form.{Form}
 use Rattle.fz_meaning.specs.declared.known.Form.TheVariants.{Base, Reified, Implied}
 use Rattle.fz_meaning.specs.Known.{HasTruth, form_at}
-use Rattle.fz_meaning.specs.Builtins.Shape.{ScalarOf, ArrayOf}
 use Rattle.fz_meaning.specs.Builtins.ArgValue.{OneValue}
 use Rattle.fz_meaning.specs.Meaning.{Argument, Partial, row_holds}
-use Rattle.fz_meaning.proofs.TableRows.{AreRead, implied_holds, reified_holds, plain_ints, plain_bools, plain_sets}
-use Rattle.fz_kernel.specs.of_view.Given.{given, given_from, given_values, bool_at, ints_at, bools_at, sets_at, read_leave}
+use Rattle.fz_meaning.proofs.TableRows.{AreRead, implied_holds, reified_holds}
+use Rattle.fz_kernel.specs.of_view.Given.{given, given_from, given_values, bool_at, read_leave}
 use Rattle.fz_eval.specs.Outcomes.{row_outcome, sum_outcome, compared, implied_by}
-use Rattle.fz_eval.proofs.Rows.{outcome_is}
+use Rattle.fz_eval.proofs.Rows.{outcome_is, reads}
 
 -- the values that are given are read as they are
 given_read : (K : Partial) (xs : List Argument) (i : ℕ) (s : Shape)
     → IsSome (read s (given K xs i s))
-given_read K xs i (ScalarOf IntKind) = refl
-given_read K xs i (ScalarOf BoolKind) = refl
-given_read K xs i (ScalarOf SetKind) = refl
-given_read K xs i (ArrayOf IntKind) = rw (plain_ints (ints_at K xs i)) refl
-given_read K xs i (ArrayOf BoolKind) = rw (plain_bools (bools_at K xs i)) refl
-given_read K xs i (ArrayOf SetKind) = rw (plain_sets (sets_at K xs i)) refl
+given_read K xs i s = rw (reads K xs i s) refl
 
-all_read : (K : Partial) (xs : List Argument) (i : ℕ) (ss : List Shape)
+pub all_read : (K : Partial) (xs : List Argument) (i : ℕ) (ss : List Shape)
     → AreRead ss (given_from K xs i ss)
 all_read K xs i [] = tt
 all_read K xs i (s ∷ ss) = (given_read K xs i s, all_read K xs (suc i) ss)

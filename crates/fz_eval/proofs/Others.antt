@@ -2,6 +2,7 @@
 use Rattle.std.proofs.Common.{◌≡◌, ℕ, zero, suc, ◌+◌, ◌<◌, ◌≤◌, Bool, true, false, cond, ◌&&◌, List, [], ◌∷◌, ◌++◌, flat_map, length, take, Some, slice_get, refl, sym, ap, subst, ◌∙◌, arith, append_assoc, length-append}
 use Rattle.std.specs.List.{AllByRecursion, list_all}
 use Rattle.std.specs.Option.{option_map_or}
+use Rattle.std.proofs.lemmas.List.{append-nil}
 use Rattle.fz_meaning.specs.declared.state.State.{State}
 use Rattle.fz_meaning.specs.Meaning.{Model, Partial, Point, constraint_points, declared_points, numbered, points, state, variables_of}
 use Rattle.fz_eval.specs.Holding.{is_held, point_holds}
@@ -35,13 +36,9 @@ others_more k (q ∷ ps) (suc n) p at =
     ∙ ap (λ xs. cond (is_domain q) xs (k ∷ xs)) (others_more (suc k) ps n p at ∙ ap (λ z. others_from (suc k) (take n ps) ++ listed (is_domain p) z) place)
     ∙ before_more (is_domain q) k (others_from (suc k) (take n ps)) (listed (is_domain p) (k + suc n))
 
-append_nil : (xs : List ℕ) → xs ++ [] ≡ xs
-append_nil [] = refl
-append_nil (x ∷ xs) = ap (λ ys. x ∷ ys) (append_nil xs)
-
 module _ (ps : List Point) (n : ℕ) (p : Point) (at : slice_get ps n ≡ Some p) (xs : List ℕ) (is : xs ≡ others_from 0 (take n ps)) where
   pub passed_domain : is_domain p ≡ true → xs ≡ others_from 0 (take (n + 1) ps)
-  passed_domain e = sym (others_more 0 ps n p at ∙ ap (λ b. others_from 0 (take n ps) ++ listed b (0 + n)) e ∙ append_nil (others_from 0 (take n ps)) ∙ sym is)
+  passed_domain e = sym (others_more 0 ps n p at ∙ ap (λ b. others_from 0 (take n ps) ++ listed b (0 + n)) e ∙ append-nil (others_from 0 (take n ps)) ∙ sym is)
 
   pub noted_other : is_domain p ≡ false → xs ++ n ∷ [] ≡ others_from 0 (take (n + 1) ps)
   noted_other e =

@@ -1,6 +1,7 @@
 -- A row's test at the arguments, each read as its kind asks, is whether it holds of the values
 -- given.
-use Rattle.std.proofs.Common.{◌≡◌, ℕ, suc, Bool, false, true, ◌||◌, List, [], ◌∷◌, Some, refl, sym, ap, ◌∙◌}
+use Rattle.std.proofs.Common.{◌≡◌, ℕ, suc, Bool, false, ◌||◌, List, [], ◌∷◌, Some, refl, sym, ap, ◌∙◌}
+use Rattle.std.proofs.Math.Bool.{or-false}
 use Rattle.std.specs.List.{list_any}
 use Rattle.fz_meaning.specs.declared.kind.Kind.TheVariants.{Int as IntKind, Bool as BoolKind, Set as SetKind}
 use Rattle.fz_meaning.specs.declared.builtin.Builtin.{Builtin}
@@ -14,7 +15,7 @@ use Rattle.fz_kernel.specs.of_view.Views.{arguments_of, assigned}
 use Rattle.fz_kernel.specs.of_view.declared.view.ArgumentView.{ArgumentView}
 use Rattle.fz_eval.specs.Outcomes.{argument_at, row_outcome, sum_outcome, test_from}
 
-reads : (K : Partial) (xs : List Argument) (i : ℕ) (s : Shape)
+pub reads : (K : Partial) (xs : List Argument) (i : ℕ) (s : Shape)
     → read s (given K xs i s) ≡ Some (argument_at K xs i s)
 reads K xs i (ScalarOf IntKind) = refl
 reads K xs i (ScalarOf BoolKind) = refl
@@ -41,13 +42,9 @@ pub arm : {b : Builtin} (d : Builtin) {o : Outcome} (s : ArgumentView) → b ≡
 arm d s is e = e ∙ ap (λ z. row_outcome (row_at z) (assigned s) (arguments_of s)) (sym is)
 
 -- where a row has one sum, or two
-or_false : (b : Bool) → b ≡ (b || false)
-or_false true = refl
-or_false false = refl
-
 pub one_sum : (leaves holds : Bool) → sum_outcome leaves holds ≡ sum_outcome (leaves || false) holds
-one_sum leaves holds = ap (λ b. sum_outcome b holds) (or_false leaves)
+one_sum leaves holds = ap (λ b. sum_outcome b holds) (sym (or-false leaves))
 
 pub two_sums : (one other holds : Bool)
     → sum_outcome (one || other) holds ≡ sum_outcome (one || (other || false)) holds
-two_sums one other holds = ap (λ b. sum_outcome (one || b) holds) (or_false other)
+two_sums one other holds = ap (λ b. sum_outcome (one || b) holds) (sym (or-false other))

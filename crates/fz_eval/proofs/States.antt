@@ -1,5 +1,5 @@
 -- From readiness and outcome to the state of a constraint.
-use Rattle.std.proofs.Common.{◌≡◌, Bool, true, false, not, ◌&&◌, ◌||◌, List, map, [], ◌∷◌, Option, Some, None, cond, refl, sym, ap, ◌∙◌}
+use Rattle.std.proofs.Common.{◌≡◌, Bool, true, false, ◌&&◌, ◌||◌, List, map, [], ◌∷◌, Option, Some, None, cond, refl, sym, ap, ◌∙◌}
 use Rattle.std.specs.Prelude.{is_some, find, bytes_eq}
 use Rattle.std.specs.List.{list_all, list_any}
 use Rattle.fz_meaning.specs.declared.state.State.{State}
@@ -8,7 +8,6 @@ use Rattle.fz_meaning.specs.declared.state.State.TheVariants.{Holds, Fails, NoVa
 use Rattle.fz_meaning.specs.Builtins.{Row, ArgValue, builtins, row_at, rows}
 use Rattle.fz_meaning.specs.Meaning.{Argument, Partial, Posted, argument_values, fits, have_shapes, judged, judged_by, row_holds, row_of, state_of_row, state_of_values, sums_leave, values}
 use Rattle.fz_meaning.proofs.Values.{no, no', and_first, and_second}
-use Rattle.fz_meaning.specs.declared.builtin.Builtin.{Builtin}
 use Rattle.fz_meaning.specs.declared.known.Form.{Form}
 use Rattle.fz_meaning.specs.declared.known.Form.TheVariants.{Base, Reified, Implied}
 use Rattle.fz_meaning.specs.declared.known.Known.{Known}
@@ -95,7 +94,7 @@ module _ (k : Known) (K : Partial) (xs : List Argument) (shaped : have_shapes (k
 
 -- ---- a constraint has the shapes of its row
 
-found_passes : {A : Type 0} (p : A → Bool) (ys : List A) (y : A) → find p ys ≡ Some y → p y ≡ true
+pub found_passes : {A : Type 0} (p : A → Bool) (ys : List A) (y : A) → find p ys ≡ Some y → p y ≡ true
 found_passes p [] y e = cc
 found_passes p (z ∷ ys) y e =
     elim (p z) as (λ b. p z ≡ b → cond b (Some z) (find p ys) ≡ Some y → p y ≡ true) [

@@ -3,6 +3,7 @@
 use Rattle.std.proofs.Common.{◌≡◌, ◌≢◌, ◌<◌, ◌≤◌, ◌+◌, get_or, drop, ℕ, zero, suc, Bool, true, false, ◌&&◌, List, [], ◌∷◌, ◌++◌, map, flat_map, length, Option, Some, None, option_map, slice_get, refl, sym, ap, subst, ◌∙◌, arith, append_assoc, length-append}
 use Rattle.std.specs.List.{AllByRecursion, list_all}
 use Rattle.std.specs.Option.{option_map_or}
+use Rattle.std.proofs.Math.Bool.{and-false, and-true}
 use Rattle.std.proofs.lemmas.List.{at_drop_more, at_drop_all}
 use Rattle.fz_base.specs.declared.value.Value.{Value}
 use Rattle.fz_meaning.specs.declared.kind.Kind.{Kind}
@@ -15,7 +16,7 @@ use Rattle.fz_meaning.specs.Values.{kind_of, same_kind}
 use Rattle.fz_meaning.specs.Builtins.{Shape}
 use Rattle.fz_meaning.specs.Builtins.Shape.{ScalarOf, ArrayOf}
 use Rattle.fz_meaning.specs.Meaning as meaning
-use Rattle.fz_meaning.specs.Meaning.{Argument, Declared, Model, Partial, Place, Point, Posted, array_points, declared_points, definition_points, has_shape, have_shapes, inside, is_term_of, judged, judged_by, numbered, numbered_from, value_at, variable_of, variables_of}
+use Rattle.fz_meaning.specs.Meaning.{Argument, Declared, Model, Partial, Place, Point, Posted, array_points, declared_points, definition_points, has_shape, have_shapes, inside, is_term_of, terms_at, terms_in, judged, judged_by, numbered, numbered_from, value_at, variable_of, variables_of}
 use Rattle.fz_meaning.specs.Meaning.Declared.{Parameter, ScalarVariable, ArrayOfVariables}
 use Rattle.fz_meaning.specs.Meaning.Point.{DomainPoint, DefinitionPoint, ArrayPoint}
 use Rattle.fz_meaning.specs.Meaning.Place.{Scalar, Array}
@@ -29,9 +30,10 @@ use Rattle.fz_data.specs.declared.point.PointParts.{PointParts}
 use Rattle.fz_data.specs.declared.point.PointParts.TheVariants as parts
 use Rattle.fz_data.specs.Parts.{constraint_view, variable_view}
 use Rattle.fz_data.specs.Shown.{IfConstraint}
-use Rattle.fz_kernel.specs.of_view.Given.{slot_of, is_read, argument_is_read, are_read}
+use Rattle.fz_kernel.specs.of_view.Given.{is_read, argument_is_read, are_read}
+use Rattle.fz_kernel.proofs.of_view.Ready.{slots_are_terms}
 use Rattle.fz_eval.specs.Holding.{is_held, point_holds}
-use Rattle.fz_eval.specs.Whole.{IsReady, is_domain, lies_inside, lie_inside}
+use Rattle.fz_eval.specs.Whole.{IsReady, is_domain, kind_in, lies_inside, lie_inside}
 use Rattle.fz_eval.proofs.States.{row_fits}
 
 -- ---- what the overview of a model says of its variables
@@ -59,10 +61,37 @@ its_value (x ∷ xs) [] h n k e = no h
 its_value (x ∷ xs) (o ∷ K) h zero k e = let same : x.kind ≡ k = cc in subst (λ j. is_of j o ≡ true) same (own_kind x o (and_first (lies_inside x o) _ h))
 its_value (x ∷ xs) (o ∷ K) h (suc n) k e = its_value xs K (and_second (lies_inside x o) _ h) n k e
 
-same_as_itself : (k : Kind) → same_kind k k ≡ true
+pub same_as_itself : (k : Kind) → same_kind k k ≡ true
 same_as_itself IntKind = refl
 same_as_itself BoolKind = refl
 same_as_itself SetKind = refl
+
+-- ---- the scalars of an argument have the kind that is asked of them
+
+-- what is asked of an argument that has the shape is asked of each of its scalars
+pub shaped : (L : Partial) (s : Shape) (x : Argument) → has_shape s x ≡ true
+    → argument_is_read L s x ≡ list_all (is_read L (kind_in s)) (map Some (terms_in x))
+shaped L (ScalarOf k) (One (Scalar j t)) h = sym (and-true (is_read L k (Some t)))
+shaped L (ScalarOf k) (One (Array name j ts)) h = no h
+shaped L (ScalarOf k) (ListOf ps) h = no h
+shaped L (ArrayOf k) x h = ap (list_all (is_read L k)) (slots_are_terms k x h)
+
+module _ (m : Model) where
+  places_of_kind : (k : Kind) (ps : List Place) → list_all (is_term_of k) ps ≡ true
+      → AllByRecursion (PlaceFits m) ps → AllByRecursion (TermFits m k) (flat_map terms_at ps)
+  places_of_kind k [] h fits = tt
+  places_of_kind k (Scalar j t ∷ ps) h fits =
+      (subst (λ i. TermFits m i t) (same_kind_is j k (and_first (same_kind j k) _ h)) fits.0, places_of_kind k ps (and_second (same_kind j k) _ h) fits.1)
+  places_of_kind k (Array x j ts ∷ ps) h fits = no h
+
+  pub terms_of_kind : (s : Shape) (x : Argument) → has_shape s x ≡ true → ArgumentFits m x
+      → AllByRecursion (TermFits m (kind_in s)) (terms_in x)
+  terms_of_kind (ScalarOf k) (One (Scalar j t)) h fits = (subst (λ i. TermFits m i t) (same_kind_is j k h) fits, tt)
+  terms_of_kind (ScalarOf k) (One (Array x j ts)) h fits = no h
+  terms_of_kind (ScalarOf k) (ListOf ps) h fits = no h
+  terms_of_kind (ArrayOf k) (One (Scalar j t)) h fits = no h
+  terms_of_kind (ArrayOf k) (One (Array x j ts)) h fits = subst (λ i. AllByRecursion (TermFits m i) ts) (same_kind_is j k h) fits
+  terms_of_kind (ArrayOf k) (ListOf ps) h fits = places_of_kind k ps h fits
 
 -- ---- a constraint's scalars
 
@@ -76,23 +105,9 @@ module _ (m : Model) (K : Partial) (within : lie_inside (variables_of m) K ≡ t
   terms_read k [] h = refl
   terms_read k (t ∷ ts) h = λ i. term_read k t h.0 i && terms_read k ts h.1 i
 
-  places_read : (k : Kind) (ps : List Place) → list_all (is_term_of k) ps ≡ true
-      → AllByRecursion (PlaceFits m) ps → list_all (is_read K k) (map slot_of ps) ≡ true
-  places_read k [] shaped h = refl
-  places_read k (Scalar j t ∷ ps) shaped h =
-      let same = same_kind_is j k (and_first (same_kind j k) _ shaped) in
-      let rest = places_read k ps (and_second (same_kind j k) _ shaped) h.1 in
-      λ i. term_read k t (subst (λ l. TermFits m l t) same h.0) i && rest i
-  places_read k (Array x j ts ∷ ps) shaped h = no shaped
-
   argument_read : (s : Shape) (x : Argument) → has_shape s x ≡ true → ArgumentFits m x
       → argument_is_read K s x ≡ true
-  argument_read (ScalarOf k) (One (Scalar j t)) shaped h = term_read k t (subst (λ l. TermFits m l t) (same_kind_is j k shaped) h)
-  argument_read (ScalarOf k) (One (Array x j ts)) shaped h = no shaped
-  argument_read (ScalarOf k) (ListOf ps) shaped h = no shaped
-  argument_read (ArrayOf k) (One (Scalar j t)) shaped h = no shaped
-  argument_read (ArrayOf k) (One (Array x j ts)) shaped h = terms_read k ts (subst (λ l. AllByRecursion (TermFits m l) ts) (same_kind_is j k shaped) h)
-  argument_read (ArrayOf k) (ListOf ps) shaped h = places_read k ps shaped h
+  argument_read s x h fits = shaped K s x h ∙ terms_read (kind_in s) (terms_in x) (terms_of_kind m s x h fits)
 
   arguments_read : (ss : List Shape) (xs : List Argument) → have_shapes ss xs ≡ true
       → AllByRecursion (ArgumentFits m) xs → are_read K ss xs ≡ true
@@ -172,16 +187,12 @@ has_own v o = lies_inside (variable_view v) o
 abbrev pub side_by_side : List Variable → Partial → Bool
 side_by_side vs K = lie_inside (map variable_view vs) K
 
-and_false : (a : Bool) → (a && false) ≡ false
-and_false true = refl
-and_false false = refl
-
 pub not_as_many : (vs : List Variable) (K : Partial) → length vs ≢ length K
     → false ≡ side_by_side vs K
 not_as_many [] [] h = absurd (h refl)
 not_as_many [] (o ∷ K) h = refl
 not_as_many (v ∷ vs) [] h = refl
-not_as_many (v ∷ vs) (o ∷ K) h = sym (and_false (has_own v o)) ∙ ap (λ b. has_own v o && b) (not_as_many vs K (λ e. h (ap suc e)))
+not_as_many (v ∷ vs) (o ∷ K) h = sym (and-false (has_own v o)) ∙ ap (λ b. has_own v o && b) (not_as_many vs K (λ e. h (ap suc e)))
 
 module _ (vs : List Variable) (K : Partial) (k : ℕ) where
   module _ (v : Variable) (o : Option Value) (lt : k < length vs) (lt' : k < length K) (at : v ≡ get_or vs k v) (at' : o ≡ get_or K k o)

@@ -2,8 +2,10 @@
 -- then. Only private functions use these, but for `is_domain`, which `IsOverview` cites.
 use Rattle.std.specs.Prelude.{◌≡◌, Bool, true, false, ◌&&◌, List, [], ◌∷◌, Option, Some, None}
 use Rattle.fz_base.specs.declared.value.Value.{Value}
+use Rattle.fz_meaning.specs.declared.kind.Kind.{Kind}
 use Rattle.fz_meaning.specs.Values.{kind_of, same_kind}
-use Rattle.fz_meaning.specs.Builtins.{Row}
+use Rattle.fz_meaning.specs.Builtins.{Row, Shape}
+use Rattle.fz_meaning.specs.Builtins.Shape.{ScalarOf, ArrayOf}
 use Rattle.fz_meaning.specs.Meaning.{Partial, Point, Posted, Variable, inside, row_of}
 use Rattle.fz_meaning.specs.Meaning.Point.{DomainPoint, DefinitionPoint, ArrayPoint, ConstraintPoint}
 use Rattle.fz_kernel.specs.of_view.Given.{are_read}
@@ -29,3 +31,8 @@ is_domain (ConstraintPoint k p) = false
 -- each scalar of the constraint has a value of the kind that its row asks for, where it has a row
 abbrev pub IsReady : Partial → Posted → Type 0
 IsReady K p = (r : Row) → row_of p ≡ Some r → are_read K r.shapes p.arguments ≡ true
+
+-- the kind that is asked of a scalar, or of each element
+abbrev pub kind_in : Shape → Kind
+kind_in (ScalarOf k) = k
+kind_in (ArrayOf k) = k

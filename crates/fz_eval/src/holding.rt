@@ -20,26 +20,6 @@ fn is_held(state: State) -> bool
     matches!(state, State::Holds)
 }
 
-/// Whether the first so many points hold.
-fn first_hold(
-    alloc: Global,
-    model: &Model<'_>,
-    count: usize,
-    partial: &Partial,
-) -> Result<bool, AllocError>
-    requires in_range { count ≤ length (points model.now) }
-    ensures { IfOk result (λ b. b ≡ list_all (point_holds partial.now)
-        (take count (points model.now))) }
-{
-    for number in 0..count {
-        let found = state(alloc, model, number, partial)?;
-        if !is_held(found) {
-            return Ok(false);
-        }
-    }
-    Ok(true)
-}
-
 /// Whether the points of these numbers hold.
 fn others_hold(
     alloc: Global,
@@ -78,7 +58,7 @@ fn declared_hold(
     if inside {
         others_hold(alloc, model, &overview.others, partial)
     } else {
-        first_hold(alloc, model, count, partial)
+        rest_holds(alloc, model, 0, count, partial, false)
     }
 }
 
@@ -101,20 +81,23 @@ fn number_holds(
     Ok(is_held(found))
 }
 
-/// Whether all points hold, where those before a number do.
+/// Whether the points before an end hold, where those before a number do.
 fn rest_holds(
     alloc: Global,
     model: &Model<'_>,
     from: usize,
+    end: usize,
     partial: &Partial,
     whole: bool,
 ) -> Result<bool, AllocError>
-    requires in_range { from ≤ length (points model.now) }
+    requires in_range { end ≤ length (points model.now) }
     requires whole { IsTrue whole → lie_inside (variables_of model.now) partial.now ≡ true }
-    requires before { list_all (point_holds partial.now) (take from (points model.now)) ≡ true }
-    ensures { IfOk result (λ b. b ≡ list_all (point_holds partial.now) (points model.now)) }
+    requires before { list_all (point_holds partial.now) (take from (take end (points model.now)))
+        ≡ true }
+    ensures { IfOk result (λ b. b ≡ list_all (point_holds partial.now)
+        (take end (points model.now))) }
 {
-    for number in from..model.points() {
+    for number in from..end {
         if !number_holds(alloc, model, number, partial, whole)? {
             return Ok(false);
         }
@@ -133,10 +116,11 @@ pub fn all_hold(
     requires overview { IsOverview model.now overview.now }
     ensures exact { IfOk result (λ b. b ≡ list_all (point_holds partial.now) (points model.now)) }
 {
-    let declared = model.points() - model.constraints().posted.len();
+    let count = model.points();
+    let declared = count - model.constraints().posted.len();
     let inside = lie_inside(&overview.bounds, model.variables(), partial.values());
     if !declared_hold(alloc, model, overview, declared, partial, inside)? {
         return Ok(false);
     }
-    Ok(rest_holds(alloc, model, declared, partial, inside)?)
+    Ok(rest_holds(alloc, model, declared, count, partial, inside)?)
 }

@@ -1,7 +1,7 @@
 -- A constraint's arguments with one more value: where the only open scalar gets a value of its
 -- kind, the arguments can be read as the row asks, and what is given of them changes at that
 -- scalar's argument alone.
-use Rattle.std.proofs.Common.{◌≡◌, ℕ, zero, suc, ◌<◌, Bool, true, false, cond, ◌&&◌, List, [], ◌∷◌, length, map, flat_map, Option, Some, None, slice_get, slice_set, option_and_then, is_none, refl, sym, ap, subst, ◌∙◌}
+use Rattle.std.proofs.Common.{◌≡◌, ℕ, zero, suc, ◌<◌, Bool, true, false, cond, List, [], ◌∷◌, length, map, flat_map, Option, Some, None, slice_get, slice_set, option_and_then, is_none, refl, sym, ap, subst, ◌∙◌}
 use Rattle.std.specs.List.{list_all}
 use Rattle.std.specs.Option.{option_map_or}
 use Rattle.fz_base.specs.declared.value.Value.{Value}
@@ -23,17 +23,9 @@ use Rattle.fz_meaning.proofs.Scope.{same_kind_is}
 use Rattle.fz_meaning.proofs.Steps.{is_open, term_keeps, filter-none, filter-append, append-nil, append_one, append_one_left, variable_open}
 use Rattle.fz_eval.specs.of_view.Given.{slot_in, slots_in, slot_at, value_of, int_in, bool_in, set_in, given, given_values, is_read, argument_is_read, are_read}
 use Rattle.fz_eval.proofs.of_view.Ready.{slots_are_terms, given_first, given_next, given_later}
+use Rattle.fz_eval.proofs.Valued.{same_as_itself, shaped}
 use Rattle.fz_force.specs.Kinds.{kind_in, kind_fits, each_fits}
 use Rattle.fz_force.proofs.Gaps.{value_at_new}
-
-and_true : (b : Bool) → (b && true) ≡ b
-and_true true = refl
-and_true false = refl
-
-pub same_kind_itself : (k : Kind) → same_kind k k ≡ true
-same_kind_itself IntKind = refl
-same_kind_itself BoolKind = refl
-same_kind_itself SetKind = refl
 
 -- a value is of the kind, where there is one
 abbrev of_kind : Kind → Value → Bool
@@ -43,14 +35,6 @@ closed_has : (k : Kind) (o : Option Value) → is_none o ≡ false
     → option_map_or (of_kind k) o true ≡ true → option_map_or (of_kind k) o false ≡ true
 closed_has k None closed fits = no' closed
 closed_has k (Some w) closed fits = fits
-
--- what is asked of an argument that has the shape is asked of each of its scalars
-shaped : (L : Partial) (s : Shape) (x : Argument) → has_shape s x ≡ true
-    → argument_is_read L s x ≡ list_all (is_read L (kind_in s)) (map Some (terms_in x))
-shaped L (ScalarOf k) (One (Scalar j t)) h = sym (and_true (is_read L k (Some t)))
-shaped L (ScalarOf k) (One (Array name j ts)) h = no h
-shaped L (ScalarOf k) (ListOf ps) h = no h
-shaped L (ArrayOf k) x h = ap (list_all (is_read L k)) (slots_are_terms k x h)
 
 element_passes : (p : Option Term → Bool) (ts : List Term) (j : ℕ) (t : Term)
     → list_all p (map Some ts) ≡ true → slice_get ts j ≡ Some t → p (Some t) ≡ true
@@ -79,7 +63,7 @@ module _ (K : Partial) (n : ℕ) (none : value_at K n ≡ None) (within : n < le
   read_closed k t closed fits = ap (λ o. option_map_or (of_kind k) o false) (term_keeps K n none v t closed) ∙ closed_has k (value K t) closed fits
 
   read_new : (k : Kind) → kind_of v ≡ k → is_read (give K n v) k (Some (Var n)) ≡ true
-  read_new k e = ap (λ o. option_map_or (of_kind k) o false) new_value ∙ ap (λ j. same_kind j k) e ∙ same_kind_itself k
+  read_new k e = ap (λ o. option_map_or (of_kind k) o false) new_value ∙ ap (λ j. same_kind j k) e ∙ same_as_itself k
 
   all_closed : (k : Kind) (ts : List Term) → open_terms K ts ≡ []
       → list_all (kind_fits K k) ts ≡ true → list_all (is_read (give K n v) k) (map Some ts) ≡ true

@@ -1,5 +1,5 @@
 -- One more value in a partial assignment, and what is forced of a point.
-use Rattle.std.proofs.Common.{◌≡◌, ℕ, zero, suc, ◌<◌, true, false, Bor, is_some, List, [], ◌∷◌, length, map, Option, Some, None, option_map, Result, Ok, Err, IfOk, IfSome, IsNone, slice_get, refl, sym, ap, subst, arith}
+use Rattle.std.proofs.Common.{◌≡◌, ℕ, zero, suc, ◌<◌, false, Bor, is_some, List, [], ◌∷◌, length, map, Option, Some, None, option_map, Result, Ok, Err, IfOk, IfSome, IsNone, slice_get, refl, sym, subst, arith}
 use Rattle.fz_base.specs.declared.value.Value.{Value}
 use Rattle.fz_meaning.specs.declared.kind.Kind.{Kind}
 use Rattle.fz_meaning.specs.Meaning.{Variable, Model, Point, Partial, FitVariables, IsPartial, variables_of, value_at, give}
@@ -61,12 +61,6 @@ gone (Some x) p none e = no none
 pub nothing_there : {A : Type 0} (o : Option A) → false ≡ is_some o → o ≡ None
 nothing_there None e = refl
 nothing_there (Some x) e = no e
-
--- what is found to be there
-pub found_some : {A : Type 0} (o : Option (Bor A)) (p : Option A) → is_some o ≡ true
-    → option_map (λ x. x.now) o ≡ p → is_some p ≡ true
-found_some None p some e = no some
-found_some (Some x) p some e = ap is_some (sym e)
 
 -- ---- where nothing has a value
 

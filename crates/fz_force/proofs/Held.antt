@@ -1,15 +1,15 @@
 -- The values with which a row holds, where the only open scalar of its constraint is at a spot.
-use Rattle.std.proofs.Common.{◌≡◌, ℕ, zero, suc, ◌<◌, Bool, true, false, cond, ◌&&◌, List, [], ◌∷◌, length, flat_map, find, is_none, Option, Some, None, IsSomeAnd, IsTrue, slice_get, slice_set, bytes_eq, Contains, refl, sym, ap, subst, ◌∙◌}
+use Rattle.std.proofs.Common.{◌≡◌, ℕ, zero, suc, ◌<◌, Bool, true, false, cond, List, [], ◌∷◌, length, flat_map, is_none, Option, Some, None, IsSomeAnd, IsTrue, slice_get, slice_set, Contains, refl, sym, ap, subst, ◌∙◌}
 use Rattle.std.specs.Option.{option_map_or}
 use Rattle.fz_base.specs.declared.value.Value.{Value}
 use Rattle.fz_meaning.specs.declared.kind.Kind.{Kind}
 use Rattle.fz_meaning.specs.declared.term.Term.{Term}
 use Rattle.fz_meaning.specs.declared.term.Term.TheVariants.{Var}
 use Rattle.fz_meaning.specs.Values.{kind_of}
-use Rattle.fz_meaning.specs.Builtins.{Shape, Row, Result, rows}
+use Rattle.fz_meaning.specs.Builtins.{Shape, Row, Result}
 use Rattle.fz_meaning.specs.Builtins.Shape.{ScalarOf, ArrayOf}
 use Rattle.fz_meaning.specs.Builtins.Result.{NoResult, Places, UnitTerm}
-use Rattle.fz_meaning.specs.Meaning.{Argument, Partial, Posted, value_at, give, argument_values, fits, has_shape, have_shapes, row_holds, row_of, sums_leave, terms_in, terms_at_argument}
+use Rattle.fz_meaning.specs.Meaning.{Argument, Partial, value_at, give, argument_values, has_shape, have_shapes, row_holds, sums_leave, terms_in, terms_at_argument}
 use Rattle.fz_meaning.specs.Meaning.Place.{Scalar, Array}
 use Rattle.fz_meaning.specs.Meaning.Argument.{One, ListOf}
 use Rattle.fz_meaning.specs.Steps.{IsResult, open_terms}
@@ -23,24 +23,7 @@ use Rattle.fz_force.specs.Forced.{IsOnlyValue, IsReady}
 use Rattle.fz_force.specs.Kinds.{kind_in}
 use Rattle.fz_force.specs.Left.{IsLeft, IsOfKind, IsPlaceOf, holds_with}
 use Rattle.fz_force.proofs.Fits.{reads, kind_back, changes, given_new, open_first, open_behind, argument_open}
-
--- ---- the row of a constraint
-
-pub found_passes : {A : Type 0} (t : A → Bool) (xs : List A) (x : A) → find t xs ≡ Some x
-    → t x ≡ true
-found_passes t [] x e = cc
-found_passes t (y ∷ ys) x e =
-    elim (t y) as (λ b. t y ≡ b → cond b (Some y) (find t ys) ≡ Some x → t x ≡ true) [
-      | true ↦ λ h e. let same : y ≡ x = cc in subst (λ z. t z ≡ true) same h
-      | false ↦ λ _ e. found_passes t ys x e
-    ] refl e
-
-pub row_fits : (p : Posted) (r : Row) → row_of p ≡ Some r → fits r p.arguments ≡ true
-row_fits p r e = and_second (bytes_eq r.name p.name) (fits r p.arguments) (found_passes (λ r. bytes_eq r.name p.name && fits r p.arguments) rows r e)
-
-pub row_shapes : (p : Posted) (r : Row) → row_of p ≡ Some r
-    → have_shapes r.shapes p.arguments ≡ true
-row_shapes p r e = and_first (have_shapes r.shapes p.arguments) _ (row_fits p r e)
+use Rattle.fz_force.proofs.Opens.{alone}
 
 -- ---- kinds and indices
 
@@ -68,10 +51,6 @@ scalar_shape (s ∷ ss) (x ∷ xs) zero k t h at =
         → (j : Kind) × (Some s ≡ Some (ScalarOf j))
     here (ScalarOf j) h = (j, refl)
     here (ArrayOf j) h = no h
-
-alone : (t u : Term) (j : ℕ) → slice_get (t ∷ []) j ≡ Some u → t ≡ u
-alone t u zero e = cc
-alone t u (suc j) e = cc
 
 -- where a scalar is asked for, the argument is a scalar by itself
 by_itself : (ss : List Shape) (xs : List Argument) (i j : ℕ) (k : Kind) (t : Term)
@@ -102,12 +81,12 @@ module _ (K : Partial) (n : ℕ) (none : value_at K n ≡ None) (within : n < le
       ] refl e
 
   -- the first is closed where the open one comes later
-  open_later : (t : Term) (ts : List Term) (i : ℕ) → slice_get ts i ≡ Some (Var n)
-      → open_terms K (t ∷ ts) ≡ Var n ∷ [] → open_terms K ts ≡ Var n ∷ []
-  open_later t ts i at e =
-      elim (is_open K t) as (λ b. cond b (t ∷ open_terms K ts) (open_terms K ts) ≡ Var n ∷ [] → open_terms K ts ≡ Var n ∷ []) [
-        | true ↦ λ e. let rest : open_terms K ts ≡ [] = cc in absurd (variable_open K n none v v ts i at rest)
-        | false ↦ λ e. e
+  pub first_closed : (t : Term) (ts : List Term) (j : ℕ) → slice_get ts j ≡ Some (Var n)
+      → open_terms K (t ∷ ts) ≡ Var n ∷ [] → (is_open K t ≡ false) × (open_terms K ts ≡ Var n ∷ [])
+  first_closed t ts j at e =
+      elim (is_open K t) as (λ b. cond b (t ∷ open_terms K ts) (open_terms K ts) ≡ Var n ∷ [] → (b ≡ false) × (open_terms K ts ≡ Var n ∷ [])) [
+        | true ↦ λ e. let rest : open_terms K ts ≡ [] = cc in absurd (variable_open K n none v v ts j at rest)
+        | false ↦ λ e. (refl, e)
       ] e
 
   same_place : (ts : List Term) (i j : ℕ) → slice_get ts i ≡ Some (Var n)
@@ -116,7 +95,7 @@ module _ (K : Partial) (n : ℕ) (none : value_at K n ≡ None) (within : n < le
   same_place (t ∷ ts) zero zero at at' e = refl
   same_place (t ∷ ts) zero (suc j) at at' e = let is : t ≡ Var n = cc in absurd (variable_open K n none v v ts j at' (open_here t ts is e))
   same_place (t ∷ ts) (suc i) zero at at' e = let is : t ≡ Var n = cc in absurd (variable_open K n none v v ts i at (open_here t ts is e))
-  same_place (t ∷ ts) (suc i) (suc j) at at' e = ap suc (same_place ts i j at at' (open_later t ts i at e))
+  same_place (t ∷ ts) (suc i) (suc j) at at' e = ap suc (same_place ts i j at at' (first_closed t ts i at e).1)
 
   pub same_spot : (xs : List Argument) (i j k l : ℕ) → slice_get (terms_at_argument xs i) j
       ≡ Some (Var n) → slice_get (terms_at_argument xs k) l ≡ Some (Var n)

@@ -1,6 +1,6 @@
 -- Each value that a constraint's scalars have is of the kind that its row asks for, and so is the
 -- one that it leaves to its result: the scalars have the kinds that they are read with.
-use Rattle.std.proofs.Common.{◌≡◌, ℕ, zero, suc, ◌<◌, true, false, cond, List, [], ◌∷◌, flat_map, length, Option, Some, None, IfSome, option_map, slice_get, refl, sym, ap, subst, ◌∙◌}
+use Rattle.std.proofs.Common.{◌≡◌, ℕ, zero, suc, ◌<◌, true, false, cond, List, [], ◌∷◌, flat_map, length, Option, Some, None, IfSome, option_map, slice_get, refl, sym, ap, ◌∙◌}
 use Rattle.std.specs.List.{AllByRecursion, list_all}
 use Rattle.std.specs.Option.{option_map_or}
 use Rattle.fz_base.specs.declared.value.Value.{Value}
@@ -9,44 +9,24 @@ use Rattle.fz_meaning.specs.declared.term.Term.{Term}
 use Rattle.fz_meaning.specs.declared.term.Term.TheVariants.{Var, Fixed}
 use Rattle.fz_meaning.specs.Values.{kind_of, same_kind}
 use Rattle.fz_meaning.specs.Builtins.{Row, Shape, Result}
-use Rattle.fz_meaning.specs.Builtins.Shape.{ScalarOf, ArrayOf}
 use Rattle.fz_meaning.specs.Builtins.Result.{NoResult, Places, UnitTerm}
-use Rattle.fz_meaning.specs.Meaning.{Argument, FitVariables, IsPartial, Model, Partial, Place, Posted, Variable, give, has_shape, have_shapes, is_term_of, row_of, terms_at, terms_in, value_at, variables_of, terms_at_argument}
-use Rattle.fz_meaning.specs.Meaning.Argument.{One, ListOf}
-use Rattle.fz_meaning.specs.Meaning.Place.{Scalar, Array}
+use Rattle.fz_meaning.specs.Meaning.{Argument, FitVariables, IsPartial, Model, Partial, Posted, Variable, give, has_shape, have_shapes, row_of, terms_in, value_at, variables_of, terms_at_argument}
 use Rattle.fz_meaning.specs.Steps.{IsResult, kind_at, open_terms}
 use Rattle.fz_meaning.proofs.Lists.{all_append, all_map, at_place}
-use Rattle.fz_meaning.proofs.Scope.{same_kind_is}
 use Rattle.fz_meaning.proofs.Steps.{is_open, only_open_none}
 use Rattle.fz_meaning.proofs.Values.{no, and_first, and_second, and_both}
 use Rattle.fz_meaning.specs.declared.known.Known.{Known}
 use Rattle.fz_meaning.specs.Known.{known_row}
-use Rattle.fz_data.specs.Kinds.{ArgumentFits, PlaceFits, PostedFits, TermFits}
+use Rattle.fz_data.specs.Kinds.{ArgumentFits, PostedFits, TermFits}
+use Rattle.fz_eval.proofs.States.{row_fits}
+use Rattle.fz_eval.proofs.Valued.{same_as_itself, terms_of_kind}
 use Rattle.fz_force.specs.Forced.{Fills}
 use Rattle.fz_force.specs.Kinds.{each_fits, kind_fits, kind_in}
-use Rattle.fz_force.proofs.Fits.{kind_back, same_kind_itself}
+use Rattle.fz_force.proofs.Fits.{kind_back}
 use Rattle.fz_force.proofs.Gaps.{has_place}
-use Rattle.fz_force.proofs.Held.{holds_read, row_shapes}
-
--- ---- the scalars of an argument have the kind that is asked of them
+use Rattle.fz_force.proofs.Held.{holds_read}
 
 module _ (m : Model) where
-  places_of_kind : (k : Kind) (ps : List Place) → list_all (is_term_of k) ps ≡ true
-      → AllByRecursion (PlaceFits m) ps → AllByRecursion (TermFits m k) (flat_map terms_at ps)
-  places_of_kind k [] h fits = tt
-  places_of_kind k (Scalar j t ∷ ps) h fits =
-      (subst (λ i. TermFits m i t) (same_kind_is j k (and_first (same_kind j k) _ h)) fits.0, places_of_kind k ps (and_second (same_kind j k) _ h) fits.1)
-  places_of_kind k (Array x j ts ∷ ps) h fits = no h
-
-  terms_of_kind : (s : Shape) (x : Argument) → has_shape s x ≡ true → ArgumentFits m x
-      → AllByRecursion (TermFits m (kind_in s)) (terms_in x)
-  terms_of_kind (ScalarOf k) (One (Scalar j t)) h fits = (subst (λ i. TermFits m i t) (same_kind_is j k h) fits, tt)
-  terms_of_kind (ScalarOf k) (One (Array x j ts)) h fits = no h
-  terms_of_kind (ScalarOf k) (ListOf ps) h fits = no h
-  terms_of_kind (ArrayOf k) (One (Scalar j t)) h fits = no h
-  terms_of_kind (ArrayOf k) (One (Array x j ts)) h fits = subst (λ i. AllByRecursion (TermFits m i) ts) (same_kind_is j k h) fits
-  terms_of_kind (ArrayOf k) (ListOf ps) h fits = places_of_kind k ps h fits
-
   -- where a variable is, its kind is the one that is asked for
   kind_there : (ss : List Shape) (xs : List Argument) (i j n : ℕ) → have_shapes ss xs ≡ true
       → AllByRecursion (ArgumentFits m) xs → slice_get (terms_at_argument xs i) j ≡ Some (Var n)
@@ -54,7 +34,7 @@ module _ (m : Model) where
   kind_there ss [] i j n h fits at = cc
   kind_there [] (x ∷ xs) i j n h fits at = no h
   kind_there (s ∷ ss) (x ∷ xs) zero j n h fits at =
-      (s, refl, at_place (TermFits m (kind_in s)) (terms_in x) j (Var n) (terms_of_kind s x (and_first (has_shape s x) _ h) fits.0) at)
+      (s, refl, at_place (TermFits m (kind_in s)) (terms_in x) j (Var n) (terms_of_kind m s x (and_first (has_shape s x) _ h) fits.0) at)
   kind_there (s ∷ ss) (x ∷ xs) (suc i) j n h fits at = kind_there ss xs i j n (and_second (has_shape s x) _ h) fits.1 at
 
 -- ---- and so have their values
@@ -65,13 +45,13 @@ kind_of_value : (xs : List Variable) (K : Partial) (n : ℕ) (k : Kind) → FitV
 kind_of_value [] K n k h e = cc
 kind_of_value (x ∷ xs) [] n k h e = absurd h
 kind_of_value (x ∷ xs) (None ∷ K) zero k h e = refl
-kind_of_value (x ∷ xs) (Some v ∷ K) zero k h e = let same : x.kind ≡ k = cc in ap (λ j. same_kind j k) (h.0 ∙ same) ∙ same_kind_itself k
+kind_of_value (x ∷ xs) (Some v ∷ K) zero k h e = let same : x.kind ≡ k = cc in ap (λ j. same_kind j k) (h.0 ∙ same) ∙ same_as_itself k
 kind_of_value (x ∷ xs) (o ∷ K) (suc n) k h e = kind_of_value xs K n k h.1 e
 
 module _ (m : Model) (K : Partial) (partial : IsPartial m K) where
   value_fits : (k : Kind) (t : Term) → TermFits m k t → kind_fits K k t ≡ true
   value_fits k (Var n) e = kind_of_value (variables_of m) K n k partial e
-  value_fits k (Fixed v) e = ap (λ j. same_kind j k) e ∙ same_kind_itself k
+  value_fits k (Fixed v) e = ap (λ j. same_kind j k) e ∙ same_as_itself k
 
   values_fit : (k : Kind) (ts : List Term) → AllByRecursion (TermFits m k) ts
       → list_all (kind_fits K k) ts ≡ true
@@ -90,7 +70,7 @@ module _ (m : Model) (K : Partial) (partial : IsPartial m K) where
       → option_map known_row o ≡ row_of p
       → IfSome o (λ k. each_fits K (known_row k).shapes p.arguments ≡ true)
   known_fits p None fits known = tt
-  known_fits p (Some k) fits known = all_fit (known_row k).shapes p.arguments (row_shapes p (known_row k) (sym known)) fits
+  known_fits p (Some k) fits known = all_fit (known_row k).shapes p.arguments (row_fits p (known_row k) (sym known)) fits
 
   -- ---- the value that a result gets
 
@@ -126,13 +106,13 @@ module _ (m : Model) (K : Partial) (partial : IsPartial m K) where
     pub has_number : open_terms K (flat_map terms_in p.arguments) ≡ Var n ∷ [] → n < length K
     has_number only =
         let (j, at) = open_stands (flat_map terms_in p.arguments) n only in
-        let (k, kind) = at_place HasKind (flat_map terms_in p.arguments) j (Var n) (have_kinds r.shapes p.arguments (row_shapes p r row) fits) at in
+        let (k, kind) = at_place HasKind (flat_map terms_in p.arguments) j (Var n) (have_kinds r.shapes p.arguments (row_fits p r row) fits) at in
         has_place m K n k partial kind
 
     -- what a result gets has its kind
     pub filled_kind : (v : Value) → Fills K p.arguments r n v → kind_at m n ≡ Some (kind_of v)
     filled_kind v f =
-        let shaped : have_shapes r.shapes p.arguments ≡ true = row_shapes p r row in
+        let shaped : have_shapes r.shapes p.arguments ≡ true = row_fits p r row in
         let (i, j, at) = result_stands p.arguments n r.result f.result in
         let (s, shape, kind) = kind_there m r.shapes p.arguments i j n shaped fits at in
         let is : kind_of v ≡ kind_in s =

@@ -1,41 +1,27 @@
 -- The scalars of an argument by their indices, and which of them are open as more of them come.
-use Rattle.std.proofs.Common.{◌≡◌, ℕ, zero, suc, ◌+◌, ◌<◌, ◌≤◌, true, false, cond, List, [], ◌∷◌, ◌++◌, length, take, drop, get_or, Option, Some, None, option_map, IfSome, MatchOption, slice_get, is_none, Bor, refl, sym, ap, subst, ◌∙◌, ◌⊎◌, inl, inr, arith}
-use Rattle.std.proofs.lemmas.Option.{slice_get_past, slice_get_read}
+use Rattle.std.proofs.Common.{◌≡◌, ℕ, zero, suc, ◌+◌, ◌<◌, List, [], ◌∷◌, ◌++◌, length, take, drop, Some, slice_get, refl, sym, ap, subst, ◌∙◌, ◌⊎◌, inl, inr, arith}
+use Rattle.std.proofs.lemmas.List.{append-nil as nothing_more, length-take-le, take-append-drop, take_more}
+use Rattle.std.proofs.lemmas.Option.{get_or_from_slice_get, slice_get_within}
 use Rattle.fz_meaning.specs.declared.term.Term.{Term}
 use Rattle.fz_meaning.specs.declared.term.Term.TheVariants.{Var}
-use Rattle.fz_meaning.specs.Meaning.{Partial, value}
+use Rattle.fz_meaning.specs.Meaning.{Partial}
 use Rattle.fz_meaning.specs.Steps.{open_terms}
+use Rattle.fz_meaning.proofs.Steps.{append-nil as neither, filter-append, is_open}
 use Rattle.fz_force.specs.declared.only.Open.{Open}
 use Rattle.fz_force.specs.declared.only.Open.TheVariants.{Nothing, Target, More}
 use Rattle.fz_force.specs.Only.{AreOpen}
 
--- ---- what a slice's `get` gives
-
-pub from_lookup : {A : Type 0} (o : Option (Bor A)) (ts : List A) (k : ℕ)
-    → IfSome o (λ x. x.now ≡ get_or ts k x.now) → MatchOption o (length ts ≤ k) (λ x. k < length ts)
-    → option_map (λ x. x.now) o ≡ slice_get ts k
-from_lookup None ts k at within = sym (slice_get_past ts k within)
-from_lookup (Some x) ts k at within = sym (slice_get_read ts (length ts) k x.now refl within at)
+-- the only one of a list
+pub alone : {A : Type 0} (t u : A) (j : ℕ) → slice_get (t ∷ []) j ≡ Some u → t ≡ u
+alone t u zero e = cc
+alone t u (suc j) e = cc
 
 -- ---- which are open, as more come
 
 module _ (K : Partial) where
   pub open_append : (ts us : List Term)
       → open_terms K (ts ++ us) ≡ open_terms K ts ++ open_terms K us
-  open_append [] us = refl
-  open_append (t ∷ ts) us =
-      elim (is_none (value K t)) as (λ b. cond b (t ∷ open_terms K (ts ++ us)) (open_terms K (ts ++ us)) ≡ cond b (t ∷ open_terms K ts) (open_terms K ts) ++ open_terms K us) [
-        | true ↦ ap (λ zs. t ∷ zs) (open_append ts us)
-        | false ↦ open_append ts us
-      ]
-
-  nothing_more : {A : Type 0} (xs : List A) → xs ++ [] ≡ xs
-  nothing_more [] = refl
-  nothing_more (x ∷ xs) = ap (λ zs. x ∷ zs) (nothing_more xs)
-
-  neither : {A : Type 0} (xs ys : List A) → xs ++ ys ≡ [] → (xs ≡ []) × (ys ≡ [])
-  neither [] ys e = (refl, e)
-  neither (x ∷ xs) ys e = cc
+  open_append ts us = filter-append (is_open K) ts us
 
   one_of : {A : Type 0} (xs ys : List A) (y : A) → xs ++ ys ≡ y ∷ []
       → ((xs ≡ []) × (ys ≡ y ∷ [])) ⊎ ((xs ≡ y ∷ []) × (ys ≡ []))
@@ -85,11 +71,6 @@ module _ (K : Partial) where
         let both : open_terms K (ts ++ us) ≡ Var n ∷ Var n ∷ [] = open_append ts us ∙ (λ k. h.0 k ++ g.0 k) in
         ((λ e. cc), (λ e. cc))
 
-    -- the variable is the only scalar
-    alone : (t : Term) (i : ℕ) → slice_get (t ∷ []) i ≡ Some (Var n) → t ≡ Var n
-    alone t zero e = cc
-    alone t (suc i) e = cc
-
     pub at_end : {A : Type 0} (ts : List A) (t : A) (k : ℕ) → length ts ≡ k
         → slice_get (ts ++ t ∷ []) k ≡ Some t
     at_end [] t k e = ap (λ j. slice_get (t ∷ []) j) (sym e)
@@ -97,39 +78,15 @@ module _ (K : Partial) where
 
     pub then_target : (ts : List Term) (t : Term) (k i : ℕ) → length ts ≡ k → AreOpen K n ts Nothing
         → AreOpen K n (t ∷ []) (Target i) → AreOpen K n (ts ++ t ∷ []) (Target k)
-    then_target ts t k i e h g = (open_append ts (t ∷ []) ∙ (λ j. h j ++ g.0 j), at_end ts t k e ∙ ap Some (alone t i g.1))
+    then_target ts t k i e h g = (open_append ts (t ∷ []) ∙ (λ j. h j ++ g.0 j), at_end ts t k e ∙ ap Some (alone t (Var n) i g.1))
 
 -- ---- indices within a list
-
-pub nothing_at : {A : Type 0} (ts : List A) (k : ℕ) → k < length ts → None ≡ slice_get ts k → ⊥
-nothing_at [] k h e = absurd (omega arith)
-nothing_at (t ∷ ts) zero h e = cc
-nothing_at (t ∷ ts) (suc k) h e = nothing_at ts k (omega arith) e
 
 -- one more of a list
 pub take_one : {A : Type 0} (ts : List A) (k : ℕ) (t : A) → Some t ≡ slice_get ts k
     → take (k + 1) ts ≡ take k ts ++ t ∷ []
-take_one [] k t e = cc
-take_one (x ∷ ts) zero t e = let same : x ≡ t = cc in ap (λ z. z ∷ []) same
-take_one (x ∷ ts) (suc k) t e =
-    let more : suc k + 1 ≡ suc (k + 1) = omega arith in
-    ap (λ j. take j (x ∷ ts)) more ∙ ap (λ zs. x ∷ zs) (take_one ts k t e)
-
-pub take_length : {A : Type 0} (ts : List A) (k : ℕ) → k ≤ length ts → length (take k ts) ≡ k
-take_length ts zero h = refl
-take_length [] (suc k) h = absurd (omega arith)
-take_length (t ∷ ts) (suc k) h = ap suc (take_length ts k (omega arith))
-
-pub take_and_drop : {A : Type 0} (ts : List A) (k : ℕ) → take k ts ++ drop k ts ≡ ts
-take_and_drop ts zero = refl
-take_and_drop [] (suc k) = refl
-take_and_drop (t ∷ ts) (suc k) = ap (λ zs. t ∷ zs) (take_and_drop ts k)
-
-pub take_whole : {A : Type 0} (ts : List A) (k : ℕ) → length ts ≤ k → take k ts ≡ ts
-take_whole [] zero h = refl
-take_whole [] (suc k) h = refl
-take_whole (t ∷ ts) zero h = absurd (omega arith)
-take_whole (t ∷ ts) (suc k) h = ap (λ zs. t ∷ zs) (take_whole ts k (omega arith))
+take_one ts k t e =
+    take_more ts k t (slice_get_within ts k t (sym e)) ∙ ap (λ z. take k ts ++ z ∷ []) (get_or_from_slice_get ts k t t (sym e))
 
 -- ---- one more scalar
 
@@ -140,10 +97,10 @@ module _ (K : Partial) (n : ℕ) (ts : List Term) (k : ℕ) (t : Term) (at : Som
 
   pub finds : (i : ℕ) → k < length ts → AreOpen K n (take k ts) Nothing
       → AreOpen K n (t ∷ []) (Target i) → AreOpen K n (take (k + 1) ts) (Target k)
-  finds i within h g = subst (λ us. AreOpen K n us (Target k)) (sym (take_one ts k t at)) (then_target K n (take k ts) t k i (take_length ts k (omega arith)) h g)
+  finds i within h g = subst (λ us. AreOpen K n us (Target k)) (sym (take_one ts k t at)) (then_target K n (take k ts) t k i (length-take-le k ts (omega arith)) h g)
 
   stops : AreOpen K n (take (k + 1) ts) More → AreOpen K n ts More
-  stops h = subst (λ us. AreOpen K n us More) (take_and_drop ts (k + 1)) (others_first K n (take (k + 1) ts) (drop (k + 1) ts) h)
+  stops h = subst (λ us. AreOpen K n us More) (take-append-drop (k + 1) ts) (others_first K n (take (k + 1) ts) (drop (k + 1) ts) h)
 
   pub stops_here : AreOpen K n (t ∷ []) More → AreOpen K n ts More
   stops_here h = stops (subst (λ us. AreOpen K n us More) (sym (take_one ts k t at)) (others_then K n (take k ts) (t ∷ []) h))

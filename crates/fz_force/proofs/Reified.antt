@@ -1,14 +1,13 @@
 -- The Boolean that a reified form leaves: whether the base row holds.
 use Rattle.std.proofs.Common.{◌≡◌, ℕ, suc, Bool, true, false, List, [], ◌∷◌, ◌++◌, length, Option, Some, Result, IfOk, refl, sym, ap, subst, subst₂, ◌∙◌, slice_get, slice_set}
-use Rattle.std.specs.Prelude.{IsSome}
 use Rattle.std.specs.List.{list_any}
 use Rattle.fz_base.specs.declared.value.Value.{Value}
 use Rattle.fz_base.specs.declared.value.Value.TheVariants.{Bool as Truth}
 use Rattle.fz_meaning.specs.declared.kind.Kind.{Kind}
-use Rattle.fz_meaning.specs.declared.kind.Kind.TheVariants.{Int as IntKind, Bool as BoolKind, Set as SetKind}
+use Rattle.fz_meaning.specs.declared.kind.Kind.TheVariants.{Bool as BoolKind}
 use Rattle.fz_meaning.specs.Values.{◌=ᴮ◌}
-use Rattle.fz_meaning.specs.Builtins.{Shape, Row, read, reified, with_bool}
-use Rattle.fz_meaning.specs.Builtins.Shape.{ScalarOf, ArrayOf}
+use Rattle.fz_meaning.specs.Builtins.{Shape, Row, reified, with_bool}
+use Rattle.fz_meaning.specs.Builtins.Shape.{ScalarOf}
 use Rattle.fz_meaning.specs.Builtins.ArgValue.{OneValue}
 use Rattle.fz_meaning.specs.Meaning.{Argument, Partial, row_holds}
 use Rattle.fz_meaning.proofs.Values.{no, bool_itself}
@@ -16,9 +15,10 @@ use Rattle.fz_meaning.specs.Builtins.{row_at}
 use Rattle.fz_meaning.specs.Known.{form_at, known_row}
 use Rattle.fz_meaning.specs.declared.known.Form.TheVariants.{Base as FormBase, Reified as FormReified, Implied as FormImplied}
 use Rattle.fz_meaning.specs.declared.known.Known.{Known}
-use Rattle.fz_meaning.proofs.TableRows.{plain_ints, plain_bools, plain_sets, AreRead, reified_holds}
-use Rattle.fz_eval.specs.of_view.Given.{given, given_from, given_values, ints_at, bools_at, sets_at, read_leave}
+use Rattle.fz_meaning.proofs.TableRows.{reified_holds}
+use Rattle.fz_eval.specs.of_view.Given.{given, given_from, given_values, read_leave}
 use Rattle.fz_eval.specs.Outcomes.{row_outcome, sum_outcome}
+use Rattle.fz_eval.proofs.Known.{all_read}
 use Rattle.fz_eval.proofs.Rows.{outcome_is}
 use Rattle.fz_eval.specs.declared.outcome.Outcome.TheVariants.{Truth as TruthOutcome, TooLarge}
 use Rattle.fz_force.specs.Left.{IsLeft, IsOfKind, IsPlaceOf, holds_with, is_too_large}
@@ -26,18 +26,6 @@ use Rattle.fz_force.proofs.RowLemmas.{only_place}
 use Rattle.fz_force.proofs.RowKinds.{adds_nothing}
 
 module _ (K : Partial) (xs : List Argument) where
-  one_is_read : (s : Shape) (j : ℕ) → IsSome (read s (given K xs j s))
-  one_is_read (ScalarOf IntKind) j = refl
-  one_is_read (ScalarOf BoolKind) j = refl
-  one_is_read (ScalarOf SetKind) j = refl
-  one_is_read (ArrayOf IntKind) j = rw (plain_ints (ints_at K xs j)) refl
-  one_is_read (ArrayOf BoolKind) j = rw (plain_bools (bools_at K xs j)) refl
-  one_is_read (ArrayOf SetKind) j = rw (plain_sets (sets_at K xs j)) refl
-
-  all_are_read : (ss : List Shape) (j : ℕ) → AreRead ss (given_from K xs j ss)
-  all_are_read [] j = tt
-  all_are_read (s ∷ ss) j = (one_is_read s j, all_are_read ss (suc j))
-
   with_truth : (ss : List Shape) (j : ℕ) (v : Value) → slice_set (given_from K xs j (with_bool ss))
       (length ss) (OneValue v) ≡ given_from K xs j ss ++ OneValue v ∷ []
   with_truth [] j v = refl
@@ -45,7 +33,7 @@ module _ (K : Partial) (xs : List Argument) where
 
   reified_with : (r : Row) (t : Bool) → holds_with (reified r) K xs (length r.shapes) (Truth t)
       ≡ (t =ᴮ row_holds r (given_values K r.shapes xs))
-  reified_with r t = ap (row_holds (reified r)) (with_truth r.shapes 0 (Truth t)) ∙ reified_holds r (given_values K r.shapes xs) t (all_are_read r.shapes 0)
+  reified_with r t = ap (row_holds (reified r)) (with_truth r.shapes 0 (Truth t)) ∙ reified_holds r (given_values K r.shapes xs) t (all_read K xs 0 r.shapes)
 
   pub reified_row : (r : Row) (i : ℕ) (t : Bool) → i ≡ length r.shapes
       → t ≡ row_holds r (given_values K r.shapes xs)

@@ -15,6 +15,7 @@ use Rattle.fz_meaning.specs.declared.builtin.Builtin.TheVariants as builtin
 use Rattle.fz_meaning.proofs.Named.{same_name}
 use Rattle.fz_meaning.proofs.FoundRows.{each_builtin, own_name}
 use Rattle.fz_meaning.proofs.Values.{no}
+use Rattle.fz_eval.proofs.Valued.{same_as_itself}
 use Rattle.fz_force.specs.Counted.{IsNoneOf}
 use Rattle.fz_force.specs.Left.{IsOfKind, IsPlaceOf}
 
@@ -60,11 +61,6 @@ any_listed q [] i (k, below, e) h = absurd (omega arith)
 any_listed q (j ∷ js) i (zero, below, e) h = ap (λ b. b || list_any q js) (ap q e ∙ h)
 any_listed q (j ∷ js) i (suc k, below, e) h = elim (q j) as (λ b. (b || list_any q js) ≡ true) [ true ↦ refl | false ↦ any_listed q js i (k, omega arith, e) h ]
 
-is_itself : (k : Kind) → same_kind k k ≡ true
-is_itself IntKind = refl
-is_itself BoolKind = refl
-is_itself SetKind = refl
-
 at_places : (o : Result) (i : ℕ) → IsPlaceOf o i → Contains (places o) i
 unfolding places
 at_places NoResult i place = absurd place
@@ -74,7 +70,7 @@ at_places UnitTerm i place = absurd place
 filled : (k : Kind) (r : Row) (i : ℕ) → IsPlaceOf r.result i → IsOfKind r.shapes i k
     → fills k r ≡ true
 unfolding fills is_scalar_of
-filled k r i place kind = any_listed _ (places r.result) i (at_places r.result i place) (ap (λ o. option_map_or (is_scalar_of k) o false) kind ∙ is_itself k)
+filled k r i place kind = any_listed _ (places r.result) i (at_places r.result i place) (ap (λ o. option_map_or (is_scalar_of k) o false) kind ∙ same_as_itself k)
 
 one_way : (a b : Bool) → (not a || b) ≡ true → a ≡ true → b ≡ true
 one_way true b h e = h

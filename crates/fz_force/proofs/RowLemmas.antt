@@ -1,12 +1,11 @@
 -- What is left of plain values is what is left of each row: one lemma for each builtin that has a
 -- result.
 use mathlib.Core.Bool.{beq}
-use Rattle.std.proofs.Common.{◌≡◌, ℕ, suc, zero, ℤ, pos, ◌+ℤ◌, ◌*ℤ◌, Bool, true, false, not, ◌&&◌, ◌||◌, List, [], ◌∷◌, map, Option, Some, Result, Ok, Err, IfOk, refl, sym, ap, subst, subst₂, ◌∙◌, option_map, slice_get, slice_set, int_le, int_div, int_rem, unsigned_abs, Contains, arith, FitsSigned, w64, to_z, of_z, ◌≤◌, ◌-◌, ◌⊎◌, inl, inr}
+use Rattle.std.proofs.Common.{◌≡◌, ℕ, suc, zero, ℤ, pos, ◌+ℤ◌, ◌*ℤ◌, Bool, true, false, not, ◌&&◌, ◌||◌, List, [], ◌∷◌, map, Option, Some, Result, Ok, Err, IfOk, refl, sym, ap, subst, subst₂, ◌∙◌, option_map, slice_get, slice_set, int_le, unsigned_abs, Contains, arith, FitsSigned, w64, to_z, of_z, ◌≤◌, ◌-◌, ◌⊎◌, inl, inr}
 use Rattle.std.proofs.lemmas.Int.{to_z-of_z}
-use Rattle.std.specs.Int.{int_min, int_max}
 use Rattle.std.specs.List.{list_all, list_any}
 use Rattle.std.specs.FinSet as sets
-use Rattle.fz_base.specs.Sets.{NumberSet, symmetric_difference}
+use Rattle.fz_base.specs.Sets.{NumberSet}
 use Rattle.fz_base.specs.declared.value.Value.{Value}
 use Rattle.fz_base.specs.declared.value.Value.TheVariants.{Int, Bool as Truth, Set}
 use Rattle.fz_meaning.specs.declared.kind.Kind.{Kind}
@@ -16,7 +15,7 @@ use Rattle.fz_meaning.specs.Builtins.{plain_list, total, products, where_true, i
 use Rattle.fz_meaning.specs.Meaning.{Argument, Partial}
 use Rattle.fz_meaning.specs.Builtins.{row_at}
 use Rattle.fz_meaning.specs.declared.builtin.Builtin.{Builtin}
-use Rattle.fz_meaning.specs.declared.builtin.Builtin.TheVariants.{IntEq, IntLinEq, IntPlus, IntTimes, IntMin, IntMax, IntAbs, IntDiv, IntMod, ArrayIntElement, ArrayVarIntElement, ArrayIntMaximum, ArrayIntMinimum, BoolEq, BoolNot, BoolAnd, BoolOr, BoolXor, ArrayBoolAnd, ArrayBoolOr, ArrayBoolElement, ArrayVarBoolElement, Bool2Int, BoolLinEq, SetEq, SetUnion, SetIntersect, SetDiff, SetSymdiff, SetCard, ArraySetElement, ArrayVarSetElement}
+use Rattle.fz_meaning.specs.declared.builtin.Builtin.TheVariants.{IntEq, IntLinEq, IntAbs, ArrayIntElement, ArrayVarIntElement, ArrayIntMaximum, ArrayIntMinimum, BoolEq, BoolNot, BoolAnd, BoolOr, BoolXor, ArrayBoolAnd, ArrayBoolOr, ArrayBoolElement, ArrayVarBoolElement, Bool2Int, BoolLinEq, SetEq, SetCard, ArraySetElement, ArrayVarSetElement}
 use Rattle.fz_meaning.proofs.TableRows.{plain_ints, plain_bools, plain_sets, int_lin_eq_holds}
 use Rattle.fz_eval.specs.of_view.Given.{int_at, bool_at, set_at, ints_at, bools_at, sets_at}
 use Rattle.fz_meaning.proofs.Values.{same_int, int_itself, bool_itself, set_itself, same_truth}
@@ -58,56 +57,6 @@ module _ (K : Partial) (xs : List Argument) (i : ℕ) where
         | inl here ↦ let is : n ≡ int_at K xs 1 = e ∙ ap (λ j. int_at K xs (1 - j)) here in rw here (refl, fits, rw (← is) (int_itself n))
         | inr here ↦ let is : n ≡ int_at K xs 0 = e ∙ ap (λ j. int_at K xs (1 - j)) here in rw here (refl, fits, rw (← is) (int_itself n))
       ]
-
-  pub int_plus_row : (a b : ℤ) (o : Option ℤ) → IsPlaceOf (row_at IntPlus).result i
-      → a ≡ int_at K xs 0 → b ≡ int_at K xs 1 → IsLeftNumber (λ c. c =ℤ (a +ℤ b)) o
-      → IsLeft IntKind (holds_with (row_at IntPlus) K xs i) (option_map Int o)
-  unfolding row_at
-  int_plus_row a b o place d e h =
-      let here : i ≡ 2 = only_place 2 i place in
-      rw here (number_left _ o (subst₂ (λ x y. IsLeftNumber (λ c. c =ℤ (x +ℤ y)) o) d e h))
-
-  pub int_times_row : (a b : ℤ) (o : Option ℤ) → IsPlaceOf (row_at IntTimes).result i
-      → a ≡ int_at K xs 0 → b ≡ int_at K xs 1 → IsLeftNumber (λ c. c =ℤ (a *ℤ b)) o
-      → IsLeft IntKind (holds_with (row_at IntTimes) K xs i) (option_map Int o)
-  unfolding row_at
-  int_times_row a b o place d e h =
-      let here : i ≡ 2 = only_place 2 i place in
-      rw here (number_left _ o (subst₂ (λ x y. IsLeftNumber (λ c. c =ℤ (x *ℤ y)) o) d e h))
-
-  pub int_min_row : (a b : ℤ) (o : Option ℤ) → IsPlaceOf (row_at IntMin).result i
-      → a ≡ int_at K xs 0 → b ≡ int_at K xs 1 → IsLeftNumber (λ c. c =ℤ int_min a b) o
-      → IsLeft IntKind (holds_with (row_at IntMin) K xs i) (option_map Int o)
-  unfolding row_at
-  int_min_row a b o place d e h =
-      let here : i ≡ 2 = only_place 2 i place in
-      rw here (number_left _ o (subst₂ (λ x y. IsLeftNumber (λ c. c =ℤ int_min x y) o) d e h))
-
-  pub int_max_row : (a b : ℤ) (o : Option ℤ) → IsPlaceOf (row_at IntMax).result i
-      → a ≡ int_at K xs 0 → b ≡ int_at K xs 1 → IsLeftNumber (λ c. c =ℤ int_max a b) o
-      → IsLeft IntKind (holds_with (row_at IntMax) K xs i) (option_map Int o)
-  unfolding row_at
-  int_max_row a b o place d e h =
-      let here : i ≡ 2 = only_place 2 i place in
-      rw here (number_left _ o (subst₂ (λ x y. IsLeftNumber (λ c. c =ℤ int_max x y) o) d e h))
-
-  pub int_div_row : (a b : ℤ) (o : Option ℤ) → IsPlaceOf (row_at IntDiv).result i
-      → a ≡ int_at K xs 0 → b ≡ int_at K xs 1 → IsLeftNumber
-      (λ c. not (b =ℤ pos 0) && (c =ℤ int_div a b)) o
-      → IsLeft IntKind (holds_with (row_at IntDiv) K xs i) (option_map Int o)
-  unfolding row_at
-  int_div_row a b o place d e h =
-      let here : i ≡ 2 = only_place 2 i place in
-      rw here (number_left _ o (subst₂ (λ x y. IsLeftNumber (λ c. not (y =ℤ pos 0) && (c =ℤ int_div x y)) o) d e h))
-
-  pub int_mod_row : (a b : ℤ) (o : Option ℤ) → IsPlaceOf (row_at IntMod).result i
-      → a ≡ int_at K xs 0 → b ≡ int_at K xs 1 → IsLeftNumber
-      (λ c. not (b =ℤ pos 0) && (c =ℤ int_rem a b)) o
-      → IsLeft IntKind (holds_with (row_at IntMod) K xs i) (option_map Int o)
-  unfolding row_at
-  int_mod_row a b o place d e h =
-      let here : i ≡ 2 = only_place 2 i place in
-      rw here (number_left _ o (subst₂ (λ x y. IsLeftNumber (λ c. not (y =ℤ pos 0) && (c =ℤ int_rem x y)) o) d e h))
 
   pub int_abs_row : (a : ℤ) (o : Option ℤ) → IsPlaceOf (row_at IntAbs).result i → a ≡ int_at K xs 0
       → IsLeftNumber (λ b. b =ℤ pos (unsigned_abs a)) o
@@ -162,10 +111,7 @@ module _ (K : Partial) (xs : List Argument) (i : ℕ) where
       → IsLeftNumber (λ c. is_element ◌=ℤ◌ a b c) o
       → IsLeft IntKind (holds_with (row_at ArrayVarIntElement) K xs i) (option_map Int o)
   unfolding row_at
-  array_var_int_element_row a b o place d e h =
-      let here : i ≡ 2 = only_place 2 i place in
-      let left : IsLeftNumber (λ c. is_element ◌=ℤ◌ (int_at K xs 0) (ints_at K xs 1) c) o = subst₂ (λ a b. IsLeftNumber (λ c. is_element ◌=ℤ◌ a b c) o) d e h in
-      rw here (number_left _ o (rw (plain_ints (ints_at K xs 1)) left))
+  array_var_int_element_row = array_int_element_row
 
   pub bool_lin_eq_row : (n : ℤ) (o : Option ℤ) → IsPlaceOf (row_at BoolLinEq).result i
       → n ≡ total (where_true (ints_at K xs 0) (bools_at K xs 1)) → IsLeftNumber (λ c. c =ℤ n) o
@@ -269,10 +215,7 @@ module _ (K : Partial) (xs : List Argument) (i : ℕ) where
       → IsLeftPlain (λ c. is_element ◌=ᴮ◌ a b c) o
       → IsLeft BoolKind (holds_with (row_at ArrayVarBoolElement) K xs i) (option_map Truth o)
   unfolding row_at
-  array_var_bool_element_row a b o place d e h =
-      let here : i ≡ 2 = only_place 2 i place in
-      let left : IsLeftPlain (λ c. is_element ◌=ᴮ◌ (int_at K xs 0) (bools_at K xs 1) c) o = subst₂ (λ a b. IsLeftPlain (λ c. is_element ◌=ᴮ◌ a b c) o) d e h in
-      rw here (truth_left _ o (rw (plain_bools (bools_at K xs 1)) left))
+  array_var_bool_element_row = array_bool_element_row
 
   -- ---- sets
 
@@ -284,38 +227,6 @@ module _ (K : Partial) (xs : List Argument) (i : ℕ) where
         | inl here ↦ let is : s ≡ set_at K xs 1 = e ∙ ap (λ j. set_at K xs (1 - j)) here in rw here (refl, tt, rw (← is) (set_itself s))
         | inr here ↦ let is : s ≡ set_at K xs 0 = e ∙ ap (λ j. set_at K xs (1 - j)) here in rw here (refl, tt, rw (← is) (set_itself s))
       ]
-
-  pub set_union_row : (s : NumberSet) → IsPlaceOf (row_at SetUnion).result i
-      → s ≡ sets.union (set_at K xs 0) (set_at K xs 1)
-      → IsLeft SetKind (holds_with (row_at SetUnion) K xs i) (Some (Set s))
-  unfolding row_at
-  set_union_row s place e =
-      let here : i ≡ 2 = only_place 2 i place in
-      rw here (refl, tt, rw (← e) (set_itself s))
-
-  pub set_intersect_row : (s : NumberSet) → IsPlaceOf (row_at SetIntersect).result i
-      → s ≡ sets.intersection (set_at K xs 0) (set_at K xs 1)
-      → IsLeft SetKind (holds_with (row_at SetIntersect) K xs i) (Some (Set s))
-  unfolding row_at
-  set_intersect_row s place e =
-      let here : i ≡ 2 = only_place 2 i place in
-      rw here (refl, tt, rw (← e) (set_itself s))
-
-  pub set_diff_row : (s : NumberSet) → IsPlaceOf (row_at SetDiff).result i
-      → s ≡ sets.difference (set_at K xs 0) (set_at K xs 1)
-      → IsLeft SetKind (holds_with (row_at SetDiff) K xs i) (Some (Set s))
-  unfolding row_at
-  set_diff_row s place e =
-      let here : i ≡ 2 = only_place 2 i place in
-      rw here (refl, tt, rw (← e) (set_itself s))
-
-  pub set_symdiff_row : (s : NumberSet) → IsPlaceOf (row_at SetSymdiff).result i
-      → s ≡ symmetric_difference (set_at K xs 0) (set_at K xs 1)
-      → IsLeft SetKind (holds_with (row_at SetSymdiff) K xs i) (Some (Set s))
-  unfolding row_at
-  set_symdiff_row s place e =
-      let here : i ≡ 2 = only_place 2 i place in
-      rw here (refl, tt, rw (← e) (set_itself s))
 
   pub array_set_element_row : (a : ℤ) (b : List NumberSet) (o : Option NumberSet)
       → IsPlaceOf (row_at ArraySetElement).result i → a ≡ int_at K xs 0 → b ≡ sets_at K xs 1
@@ -332,10 +243,7 @@ module _ (K : Partial) (xs : List Argument) (i : ℕ) where
       → IsLeftPlain (λ c. is_element ◌=ˢ◌ a b c) o
       → IsLeft SetKind (holds_with (row_at ArrayVarSetElement) K xs i) (option_map Set o)
   unfolding row_at
-  array_var_set_element_row a b o place d e h =
-      let here : i ≡ 2 = only_place 2 i place in
-      let left : IsLeftPlain (λ c. is_element ◌=ˢ◌ (int_at K xs 0) (sets_at K xs 1) c) o = subst₂ (λ a b. IsLeftPlain (λ c. is_element ◌=ˢ◌ a b c) o) d e h in
-      rw here (set_left _ o (rw (plain_sets (sets_at K xs 1)) left))
+  array_var_set_element_row = array_set_element_row
 
 -- from the row of a builtin to that of an equal one
 pub from_row : (K : Partial) (xs : List Argument) (i : ℕ) (k : Kind) (o : Option Value)
@@ -367,6 +275,31 @@ set_eq_place b i is place = within_two i (either_place 0 1 i (subst (λ d. IsPla
 -- a number as the code passes it
 pub passed : (z n : ℤ) → FitsSigned w64 z → z ≡ n → to_z w64 (of_z w64 z) ≡ n
 passed z n fits e = to_z-of_z w64 z fits ∙ e
+
+-- rows of two numbers or two sets, with the result in the third argument
+module _ (K : Partial) (xs : List Argument) (i : ℕ) (b d : Builtin) (is : b ≡ d) (place : IsPlaceOf (row_at b).result i) (third : IsPlaceOf (row_at d).result i → i ≡ 2) where
+  in_third : (k : Kind) (o : Option Value) → IsLeft k (holds_with (row_at d) K xs 2) o
+      → IsLeft k (holds_with (row_at b) K xs i) o
+  in_third k o left =
+      let here : i ≡ 2 = third (subst (λ z. IsPlaceOf (row_at z).result i) is place) in
+      subst₂ (λ z j. IsLeft k (holds_with (row_at z) K xs j) o) (sym is) (sym here) left
+
+  pub two_numbers : (f : ℤ → ℤ → ℤ → Bool) (x y : ℤ) (o : Option ℤ)
+      → ((n : ℤ) → holds_with (row_at d) K xs 2 (Int n) ≡ f (int_at K xs 0) (int_at K xs 1) n)
+      → FitsSigned w64 x → FitsSigned w64 y → x ≡ int_at K xs 0 → y ≡ int_at K xs 1
+      → IsLeftNumber (f (to_z w64 (of_z w64 x)) (to_z w64 (of_z w64 y))) o
+      → IsLeft IntKind (holds_with (row_at b) K xs i) (option_map Int o)
+  two_numbers f x y o test x_fits y_fits x_is y_is left =
+      in_third IntKind (option_map Int o) (number_left (holds_with (row_at d) K xs 2) o
+      (same_numbers (f (int_at K xs 0) (int_at K xs 1)) (λ n. holds_with (row_at d) K xs 2 (Int n)) o test
+      (subst₂ (λ v w. IsLeftNumber (f v w) o) (passed x (int_at K xs 0) x_fits x_is) (passed y (int_at K xs 1) y_fits y_is) left)))
+
+  pub two_sets : (f : NumberSet → NumberSet → NumberSet) (x y s : NumberSet)
+      → holds_with (row_at d) K xs 2 (Set s) ≡ (s =ˢ f (set_at K xs 0) (set_at K xs 1))
+      → x ≡ set_at K xs 0 → y ≡ set_at K xs 1 → s ≡ f x y
+      → IsLeft SetKind (holds_with (row_at b) K xs i) (Some (Set s))
+  two_sets f x y s test x_is y_is e =
+      in_third SetKind (Some (Set s)) (refl, tt, test ∙ ap (λ t. s =ˢ t) (sym (e ∙ (λ j. f (x_is j) (y_is j)))) ∙ set_itself s)
 
 pub xor_is : (a b : Bool) → not (beq a b) ≡ not (a =ᴮ b)
 xor_is true true = refl

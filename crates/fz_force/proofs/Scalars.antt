@@ -1,8 +1,9 @@
 -- The scalars of a constraint's arguments, as a store has them.
-use Rattle.std.proofs.Common.{◌≡◌, ℕ, zero, suc, true, List, [], ◌∷◌, ◌++◌, length, map, flat_map, Some, option_map, slice_get, refl, sym, ap, ◌∙◌}
+use Rattle.std.proofs.Common.{◌≡◌, ℕ, zero, suc, true, List, [], ◌∷◌, map, flat_map, Some, option_map, slice_get, refl, sym, ap, ◌∙◌}
 use Rattle.std.specs.List.{list_all}
 use Rattle.std.specs.Option.{option_map_or}
 use Rattle.std.proofs.lemmas.Bool.{false≢true}
+use Rattle.std.proofs.lemmas.List.Folds.{flat_map-map}
 use Rattle.std.proofs.lemmas.Option.{slice_get-map}
 use Rattle.fz_base.specs.declared.value.Value.{Value}
 use Rattle.fz_meaning.specs.Meaning.{Argument, terms_at, terms_in}
@@ -14,10 +15,6 @@ use Rattle.fz_data.specs.Parts.{place_view}
 use Rattle.fz_data.specs.Slots.{is_scalar, slot_term}
 
 -- ---- a list that is mapped
-
-pub as_many : {A B : Type 0} (f : A → B) (xs : List A) → length xs ≡ length (map f xs)
-as_many f [] = refl
-as_many f (x ∷ xs) = ap suc (as_many f xs)
 
 pub mapped_at : {A B : Type 0} (f : A → B) (xs : List A) (i : ℕ) (x : A) → slice_get xs i ≡ Some x
     → Some (f x) ≡ slice_get (map f xs) i
@@ -40,8 +37,7 @@ flat_terms vs xs cs (slots.Array i ∷ ss) h = absurd (false≢true h)
 module _ {A : Type 0} (view : A → Argument) where
   pub of_arguments : (as' : List A)
       → flat_map (λ a. terms_in (view a)) as' ≡ flat_map terms_in (map view as')
-  of_arguments [] = refl
-  of_arguments (a ∷ as') = ap (λ ts. terms_in (view a) ++ ts) (of_arguments as')
+  of_arguments as' = sym (flat_map-map terms_in view as')
 
   pub at_argument : (as' : List A) (i : ℕ) → option_map_or (λ a. terms_in (view a))
       (slice_get as' i) [] ≡ option_map_or terms_in (slice_get (map view as') i) []

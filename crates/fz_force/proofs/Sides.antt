@@ -1,7 +1,8 @@
 -- What a domain and a definition force.
-use Rattle.std.proofs.Common.{◌≡◌, ℕ, ℤ, pos, ◌≤ℤ◌, true, cond, ◌&&◌, [], ◌∷◌, Option, Some, None, IfSome, IfNone, IsTrue, IsSomeAnd, is_none, FitsSigned, w64, refl, sym, ap, subst, ◌∙◌, inl, inr, arith}
+use Rattle.std.proofs.Common.{◌⊎◌, length, ◌<◌, ◌≡◌, ℕ, ℤ, pos, ◌≤ℤ◌, true, cond, ◌&&◌, [], ◌∷◌, Option, Some, None, IfSome, IfNone, IsTrue, IsSomeAnd, is_none, FitsSigned, w64, refl, sym, ap, subst, ◌∙◌, inl, inr, arith}
 use Rattle.std.specs.Prelude.{int_le}
 use Rattle.std.proofs.lemmas.Int.{ints}
+use Rattle.std.proofs.lemmas.Option.{same_Some}
 use Rattle.fz_base.specs.Sets.{NumberSet, IsOnly}
 use Rattle.fz_base.specs.declared.value.Value.{Value}
 use Rattle.fz_base.specs.declared.value.Value.TheVariants.{Int}
@@ -69,72 +70,53 @@ module _ (m : Model) (K : Partial) (fits : IsPartial m K) where
 
   -- ---- the sides of a definition
 
-  both_sides : (K' : Partial) (x : Variable) (n : ℕ) (e : Term) (w : Value) → value_at K' n ≡ Some w
-      → value K' e ≡ Some w → HoldsUnder K' (DefinitionPoint x n e)
-  both_sides K' x n e w left right = intro (λ v. IsSomeAnd (value K' e) (λ u. v ≡ u)) (value_at K' n) w left (intro (λ u. w ≡ u) (value K' e) w right refl)
-
-  -- the variable has no value, and the other side has one
-  module _ (x : Variable) (n : ℕ) (e : Term) (w : Value) (none : value_at K n ≡ None) (some : value K e ≡ Some w) where
-    only_left : open_terms K (Var n ∷ e ∷ []) ≡ Var n ∷ []
-    only_left = ap (λ o. cond (is_none o) (Var n ∷ cond (is_none (value K e)) (e ∷ []) []) (cond (is_none (value K e)) (e ∷ []) [])) none ∙ ap (λ o. Var n ∷ cond (is_none o) (e ∷ []) []) some
-
-    right_stays : (v : Value) → value (give K n v) e ≡ Some w
-    right_stays v = term_keeps K n none v e (ap is_none some) ∙ some
-
-    gives_left : IsFitting m n w (Some (n, w)) → Gives m K (DefinitionPoint x n e) n w
-    gives_left fit = record {
-      target = inl refl;
-      only_open = only_left;
-      of_kind = fit.2;
-      within_limits = fit.1;
-      sums_fit = tt;
-      then_holds = both_sides (give K n w) x n e w (value_at_new K n w (has_place m K n (kind_of w) fits fit.2)) (right_stays w);
-    }
-
-    pub left_forced : (o : Option (ℕ × Value)) → IsFitting m n w o
-        → IsForced m K (DefinitionPoint x n e) o
-    left_forced (Some r) fit = subst (λ q. Gives m K (DefinitionPoint x n e) q.0 q.1) (sym fit.0) (gives_left (refl, fit.1, fit.2))
-    left_forced None fit = nothing
+  -- where exactly one side, that of y, has no value, and the other has the value w
+  module _ (x : Variable) (n y : ℕ) (e : Term) (w : Value) (target : (n ≡ y) ⊎ (e ≡ Var y)) (only : open_terms K (Var n ∷ e ∷ []) ≡ Var y ∷ [])
+      (same_sides : (v u : Value) → value_at (give K y v) n ≡ Some u → value (give K y v) e ≡ Some u → v ≡ w)
+      (both_sides : y < length K → (value_at (give K y w) n ≡ Some w) × (value (give K y w) e ≡ Some w)) where
+    side_forced : (o : Option (ℕ × Value)) → IsFitting m y w o → IsForced m K (DefinitionPoint x n e) o
+    side_forced (Some r) fit =
+        let both = both_sides (has_place m K y (kind_of w) fits fit.2) in
+        let inner = intro (λ u. w ≡ u) (value (give K y w) e) w both.1 refl in
+        subst (λ q. Gives m K (DefinitionPoint x n e) q.0 q.1) (sym fit.0) (record {
+          target = target;
+          only_open = only;
+          of_kind = fit.2;
+          within_limits = fit.1;
+          sums_fit = tt;
+          then_holds = intro (λ v. IsSomeAnd (value (give K y w) e) (λ u. v ≡ u)) (value_at (give K y w) n) w both.0 inner;
+        })
+    side_forced None fit = nothing
       where
         nothing : (k : ℕ) (v : Value) → Gives m K (DefinitionPoint x n e) k v → ⊥
         nothing k v g =
-            let same_terms : Var n ∷ [] ≡ Var k ∷ [] = sym only_left ∙ g.only_open in
-            let same : k ≡ n = cc in
-            let (u, left, right) = definition_sides (give K n v) x n e (subst (λ j. HoldsUnder (give K j v) (DefinitionPoint x n e)) same g.then_holds) in
-            let is_v : u ≡ v = value_at_given K n v u left in
-            let is_w : Some u ≡ Some w = sym right ∙ right_stays v in
-            let equal : v ≡ w = cc in
-            fit (ap (kind_at m) (sym same) ∙ g.of_kind ∙ ap (λ z. Some (kind_of z)) equal)
+            let same_terms : Var y ∷ [] ≡ Var k ∷ [] = sym only ∙ g.only_open in
+            let same : k ≡ y = cc in
+            let (u, left, right) = definition_sides (give K y v) x n e (subst (λ j. HoldsUnder (give K j v) (DefinitionPoint x n e)) same g.then_holds) in
+            fit (ap (kind_at m) (sym same) ∙ g.of_kind ∙ ap (λ z. Some (kind_of z)) (same_sides v u left right))
+
+  -- the variable has no value, and the other side has one
+  module _ (x : Variable) (n : ℕ) (e : Term) (w : Value) (none : value_at K n ≡ None) (some : value K e ≡ Some w) where
+    right_stays : (v : Value) → value (give K n v) e ≡ Some w
+    right_stays v = term_keeps K n none v e (ap is_none some) ∙ some
+
+    pub left_forced : (o : Option (ℕ × Value)) → IsFitting m n w o
+        → IsForced m K (DefinitionPoint x n e) o
+    left_forced =
+        side_forced x n n e w (inl refl)
+        (ap (λ o. cond (is_none o) (Var n ∷ cond (is_none (value K e)) (e ∷ []) []) (cond (is_none (value K e)) (e ∷ []) [])) none ∙ ap (λ o. Var n ∷ cond (is_none o) (e ∷ []) []) some)
+        (λ v u left right. sym (value_at_given K n v u left) ∙ same_Some u w (sym right ∙ right_stays v))
+        (λ within. (value_at_new K n w within, right_stays w))
 
   -- the variable has a value, and the other side is a variable without one
   module _ (x : Variable) (n y : ℕ) (w : Value) (some : value_at K n ≡ Some w) (none : value_at K y ≡ None) where
-    only_right : open_terms K (Var n ∷ Var y ∷ []) ≡ Var y ∷ []
-    only_right = ap (λ o. cond (is_none o) (Var n ∷ cond (is_none (value_at K y)) (Var y ∷ []) []) (cond (is_none (value_at K y)) (Var y ∷ []) [])) some ∙ ap (λ o. cond (is_none o) (Var y ∷ []) []) none
-
     left_stays : (v : Value) → value (give K y v) (Var n) ≡ Some w
     left_stays v = term_keeps K y none v (Var n) (ap is_none some) ∙ some
 
-    gives_right : IsFitting m y w (Some (y, w)) → Gives m K (DefinitionPoint x n (Var y)) y w
-    gives_right fit = record {
-      target = inr refl;
-      only_open = only_right;
-      of_kind = fit.2;
-      within_limits = fit.1;
-      sums_fit = tt;
-      then_holds = both_sides (give K y w) x n (Var y) w (left_stays w) (value_at_new K y w (has_place m K y (kind_of w) fits fit.2));
-    }
-
     pub right_forced : (o : Option (ℕ × Value)) → IsFitting m y w o
         → IsForced m K (DefinitionPoint x n (Var y)) o
-    right_forced (Some r) fit = subst (λ q. Gives m K (DefinitionPoint x n (Var y)) q.0 q.1) (sym fit.0) (gives_right (refl, fit.1, fit.2))
-    right_forced None fit = nothing
-      where
-        nothing : (k : ℕ) (v : Value) → Gives m K (DefinitionPoint x n (Var y)) k v → ⊥
-        nothing k v g =
-            let same_terms : Var y ∷ [] ≡ Var k ∷ [] = sym only_right ∙ g.only_open in
-            let same : k ≡ y = cc in
-            let (u, left, right) = definition_sides (give K y v) x n (Var y) (subst (λ j. HoldsUnder (give K j v) (DefinitionPoint x n (Var y))) same g.then_holds) in
-            let is_v : u ≡ v = value_at_given K y v u right in
-            let is_w : Some u ≡ Some w = sym left ∙ left_stays v in
-            let equal : v ≡ w = cc in
-            fit (ap (kind_at m) (sym same) ∙ g.of_kind ∙ ap (λ z. Some (kind_of z)) equal)
+    right_forced =
+        side_forced x n y (Var y) w (inr refl)
+        (ap (λ o. cond (is_none o) (Var n ∷ cond (is_none (value_at K y)) (Var y ∷ []) []) (cond (is_none (value_at K y)) (Var y ∷ []) [])) some ∙ ap (λ o. cond (is_none o) (Var y ∷ []) []) none)
+        (λ v u left right. sym (value_at_given K y v u right) ∙ same_Some u w (sym left ∙ left_stays v))
+        (λ within. (left_stays w, value_at_new K y w within))

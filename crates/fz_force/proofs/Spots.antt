@@ -1,6 +1,8 @@
 -- The only open scalar among the arguments, as more arguments come.
 use Rattle.std.proofs.Common.{◌≡◌, ℕ, zero, suc, ◌+◌, ◌<◌, true, is_some, List, [], ◌∷◌, ◌++◌, length, take, drop, flat_map, Option, Some, None, slice_get, refl, sym, ap, subst, ◌∙◌, arith, append_assoc}
 use Rattle.std.specs.Option.{option_map_or}
+use Rattle.std.proofs.lemmas.Grind.{flat_map-append}
+use Rattle.std.proofs.lemmas.List.{append-nil, length-take-le, take-append-drop}
 use Rattle.fz_meaning.specs.declared.term.Term.{Term}
 use Rattle.fz_meaning.specs.declared.term.Term.TheVariants.{Var}
 use Rattle.fz_meaning.specs.Meaning.{Partial}
@@ -9,17 +11,12 @@ use Rattle.fz_force.specs.declared.only.Open.TheVariants.{Nothing, Target, More}
 use Rattle.fz_force.specs.declared.only.Spot.{Spot}
 use Rattle.fz_meaning.proofs.Values.{no'}
 use Rattle.fz_force.specs.Only.{AreOpen, IsOnlyAt, IsOnlyOpen}
-use Rattle.fz_force.proofs.Opens.{open_append, at_end, others_first, others_then, take_one, take_length, take_and_drop}
+use Rattle.fz_force.proofs.Opens.{open_append, at_end, others_first, others_then, take_one}
 
 -- what is found among the arguments so far
 abbrev pub SoFar : {A : Type 0} → Partial → (A → List Term) → List A → ℕ → Option Spot → Type 0
 SoFar K f as' n (Some s) = IsOnlyAt K f as' n s
 SoFar K f as' n None = open_terms K (flat_map f as') ≡ []
-
-flat_append : {A B : Type 0} (f : A → List B) (xs ys : List A)
-    → flat_map f (xs ++ ys) ≡ flat_map f xs ++ flat_map f ys
-flat_append f [] ys = refl
-flat_append f (x ∷ xs) ys = ap (λ zs. f x ++ zs) (flat_append f xs ys) ∙ sym (append_assoc (f x) (flat_map f xs) (flat_map f ys))
 
 two_not_none : {A : Type 0} {x y : A} {xs : List A} → x ∷ y ∷ xs ≡ [] → ⊥
 two_not_none e = cc
@@ -36,11 +33,7 @@ module _ {A : Type 0} (K : Partial) (f : A → List Term) (n : ℕ) where
   stands_in_front (b ∷ bs) cs (suc j) k t e = stands_in_front bs cs j k t e
 
   one_more : (bs : List A) (a : A) → flat_map f (bs ++ a ∷ []) ≡ flat_map f bs ++ f a
-  one_more bs a = flat_append f bs (a ∷ []) ∙ ap (λ ts. flat_map f bs ++ ts) (nothing_behind (f a))
-    where
-      nothing_behind : {B : Type 0} (ts : List B) → ts ++ [] ≡ ts
-      nothing_behind [] = refl
-      nothing_behind (t ∷ ts) = ap (λ zs. t ∷ zs) (nothing_behind ts)
+  one_more bs a = flat_map-append f bs (a ∷ []) ∙ ap (λ ts. flat_map f bs ++ ts) (append-nil (f a))
 
   closed_behind : (bs : List A) (a : A) (o : Option Spot) → SoFar K f bs n o
       → AreOpen K n (f a) Nothing → SoFar K f (bs ++ a ∷ []) n o
@@ -63,19 +56,19 @@ module _ {A : Type 0} (K : Partial) (f : A → List Term) (n : ℕ) where
       → IsOnlyOpen K f (bs ++ a ∷ cs) n None
   others bs cs a h e =
       let parts : flat_map f (bs ++ a ∷ cs) ≡ (flat_map f bs ++ f a) ++ flat_map f cs =
-      flat_append f bs (a ∷ cs) ∙ sym (append_assoc (flat_map f bs) (f a) (flat_map f cs)) in
+      flat_map-append f bs (a ∷ cs) ∙ sym (append_assoc (flat_map f bs) (f a) (flat_map f cs)) in
       (others_first K n (flat_map f bs ++ f a) (flat_map f cs) h).1 (ap (open_terms K) (sym parts) ∙ e)
 
   module _ (as' : List A) (i : ℕ) (a : A) (at : slice_get as' i ≡ Some a) (within : i < length as') where
     in_parts : take i as' ++ a ∷ drop (i + 1) as' ≡ as'
-    in_parts = sym (append_assoc (take i as') (a ∷ []) (drop (i + 1) as')) ∙ ap (λ bs. bs ++ drop (i + 1) as') (sym (take_one as' i a (sym at))) ∙ take_and_drop as' (i + 1)
+    in_parts = sym (append_assoc (take i as') (a ∷ []) (drop (i + 1) as')) ∙ ap (λ bs. bs ++ drop (i + 1) as') (sym (take_one as' i a (sym at))) ∙ take-append-drop (i + 1) as'
 
     pub goes_on : (o : Option Spot) → SoFar K f (take i as') n o → AreOpen K n (f a) Nothing
         → SoFar K f (take (i + 1) as') n o
     goes_on o h g = subst (λ bs. SoFar K f bs n o) (sym (take_one as' i a (sym at))) (closed_behind (take i as') a o h g)
 
     pub finds : (k : ℕ) → SoFar K f (take i as') n None → AreOpen K n (f a) (Target k) → SoFar K f (take (i + 1) as') n (Some (record { variable = n; argument = i; place = k }))
-    finds k h g = subst (λ bs. SoFar K f bs n (Some (record { variable = n; argument = i; place = k }))) (sym (take_one as' i a (sym at))) (found_behind (take i as') a i k (take_length as' i (omega arith)) h g)
+    finds k h g = subst (λ bs. SoFar K f bs n (Some (record { variable = n; argument = i; place = k }))) (sym (take_one as' i a (sym at))) (found_behind (take i as') a i k (length-take-le i as' (omega arith)) h g)
 
     pub has_others : AreOpen K n (f a) More → IsOnlyOpen K f as' n None
     has_others h = subst (λ bs. IsOnlyOpen K f bs n None) in_parts (others (take i as') (drop (i + 1) as') a (others_then K n (flat_map f (take i as')) (f a) h))

@@ -1,6 +1,6 @@
 -- An element of a sum: where its coefficient is 1 or -1, and how what is given changes with its
 -- value.
-use Rattle.std.proofs.Common.{◌≡◌, ℕ, zero, suc, ◌<◌, ℤ, pos, negsuc, true, false, cond, List, [], ◌∷◌, length, map, flat_map, Option, Some, None, option_map, slice_get, slice_set, refl, sym, ap, subst, ◌∙◌, ◌⊎◌, inl, inr, ◌||◌}
+use Rattle.std.proofs.Common.{◌≡◌, ℕ, zero, suc, ◌<◌, ℤ, pos, negsuc, true, false, List, [], ◌∷◌, length, map, flat_map, Option, Some, None, option_map, slice_get, slice_set, refl, sym, ap, subst, ◌∙◌, ◌⊎◌, inl, inr, ◌||◌}
 use Rattle.std.specs.List.{list_any}
 use Rattle.fz_base.specs.declared.value.Value.{Value}
 use Rattle.fz_base.specs.declared.value.Value.TheVariants.{Int, Bool as Truth, Set}
@@ -15,7 +15,7 @@ use Rattle.fz_meaning.specs.Builtins.Result.{UnitTerm}
 use Rattle.fz_meaning.specs.Meaning.{Argument, Partial, value, value_at, give, row_holds, sums_leave, terms_in, terms_at_argument}
 use Rattle.fz_meaning.specs.Steps.{IsResult, open_terms}
 use Rattle.fz_meaning.proofs.States.{intro}
-use Rattle.fz_meaning.proofs.Steps.{is_open, term_keeps, variable_open, some_of, as_number_of}
+use Rattle.fz_meaning.proofs.Steps.{is_open, term_keeps, some_of, as_number_of}
 use Rattle.fz_meaning.specs.declared.builtin.Builtin.TheVariants.{IntLinEq}
 use Rattle.fz_meaning.specs.Builtins.{row_at}
 use Rattle.fz_eval.specs.of_view.Given.{slots_at, int_in, ints_of, ints_at, given, given_values, read_leave}
@@ -24,7 +24,7 @@ use Rattle.fz_force.specs.Left.{HasUnit, IsLeft, IsReadAsNone, IsUnit, holds_wit
 use Rattle.fz_force.specs.declared.only.Spot.{Spot}
 use Rattle.fz_force.specs.Forced.{IsOnlyValue, IsReady}
 use Rattle.fz_force.proofs.Fits.{changes, new_value, open_first, open_behind, values_stay}
-use Rattle.fz_force.proofs.Held.{is_left, none, open_here, same_spot, too_large}
+use Rattle.fz_force.proofs.Held.{first_closed, is_left, none, open_here, same_spot, too_large}
 
 -- ---- the elements of an array of numbers
 
@@ -62,14 +62,6 @@ unit_of o (inr e) = (negsuc 0, e, inr refl)
 -- ---- the elements, with one more value
 
 module _ (K : Partial) (n : ℕ) (unset : value_at K n ≡ None) (within : n < length K) (w : Value) where
-  first_closed : (t : Term) (ts : List Term) (j : ℕ) → slice_get ts j ≡ Some (Var n)
-      → open_terms K (t ∷ ts) ≡ Var n ∷ [] → (is_open K t ≡ false) × (open_terms K ts ≡ Var n ∷ [])
-  first_closed t ts j at e =
-      elim (is_open K t) as (λ b. cond b (t ∷ open_terms K ts) (open_terms K ts) ≡ Var n ∷ [] → (b ≡ false) × (open_terms K ts ≡ Var n ∷ [])) [
-        | true ↦ λ e. let rest : open_terms K ts ≡ [] = cc in absurd (variable_open K n unset w w ts j at rest)
-        | false ↦ λ e. (refl, e)
-      ] e
-
   ints_change : (a : ℤ) → w ≡ Int a → (ts : List Term) (j : ℕ) → slice_get ts j ≡ Some (Var n)
       → open_terms K ts ≡ Var n ∷ []
       → map Int (ints_of (give K n w) (map Some ts)) ≡ slice_set (map Int (ints_of K (map Some ts))) j w
@@ -81,7 +73,7 @@ module _ (K : Partial) (n : ℕ) (unset : value_at K n ≡ None) (within : n < l
       let tail = ap (map Int) (values_stay K n unset within w int_in ts (open_here K n unset within w t ts here e)) in
       λ i. head i ∷ tail i
   ints_change a is (t ∷ ts) (suc j) at e =
-      let parts : (is_open K t ≡ false) × (open_terms K ts ≡ Var n ∷ []) = first_closed t ts j at e in
+      let parts : (is_open K t ≡ false) × (open_terms K ts ≡ Var n ∷ []) = first_closed K n unset within w t ts j at e in
       let head : Int (int_in (value (give K n w) t)) ≡ Int (int_in (value K t)) = ap (λ o. Int (int_in o)) (term_keeps K n unset w t parts.0) in
       let tail = ints_change a is ts j at parts.1 in
       λ i. head i ∷ tail i

@@ -7,12 +7,8 @@ use Rattle.fz_meaning.specs.declared.kind.Kind.{Kind}
 use Rattle.fz_meaning.specs.declared.term.Term.{Term}
 use Rattle.fz_meaning.specs.Values.{kind_of, same_kind}
 use Rattle.fz_meaning.specs.Builtins.{Shape}
-use Rattle.fz_meaning.specs.Builtins.Shape.{ScalarOf, ArrayOf}
 use Rattle.fz_meaning.specs.Meaning.{Argument, Partial, value, terms_in}
-
-abbrev pub kind_in : Shape → Kind
-kind_in (ScalarOf k) = k
-kind_in (ArrayOf k) = k
+pub use Rattle.fz_eval.specs.Whole.{kind_in}
 
 -- a scalar's value is of the kind, if it has one
 abbrev pub kind_fits : Partial → Kind → Term → Bool

@@ -9,7 +9,6 @@
 
 mod base_row;
 mod counted;
-mod kinds;
 mod numbers;
 mod only;
 mod row;

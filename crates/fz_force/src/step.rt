@@ -8,10 +8,9 @@ ghost use Rattle.fz_meaning.specs.declared.kind.Kind.TheVariants.{Int as IntKind
 ghost use Rattle.fz_data.specs.Parts.{variable_view};
 ghost use Rattle.fz_force.specs.Forced.{IsFitting, IsForced, IsOnlyNumber};
 
-use crate::kinds::is_of;
 use crate::row::by_row;
 use fz_base::Value;
-use fz_data::{Model, Partial, PointParts, Variable};
+use fz_data::{Model, Partial, PointParts, Variable, kind_of, same_kind};
 use fz_meaning::{Domain, Kind, Term};
 use std::alloc::{AllocError, Global};
 
@@ -97,7 +96,7 @@ fn fitting(model: &Model<'_>, number: usize, value: Value) -> Option<(usize, Val
     ensures { IsFitting model.now number value result }
 {
     let variable = model.variables().get(number)?;
-    if is_of(&value, variable.kind) {
+    if same_kind(kind_of(&value), variable.kind) {
         Some((number, value))
     } else {
         None

@@ -1,31 +1,22 @@
 //! The values so far: at each step a partial assignment of the model.
 
-ghost use Rattle.std.specs.Prelude.{◌≡◌, ◌↔◌, IfOk, IsTrue, Some};
+ghost use Rattle.std.specs.Prelude.{◌≡◌, IfOk, IsTrue, Some};
 ghost use Rattle.fz_model.specs.Meaning.{IsPartial};
 ghost use Rattle.fz_model.specs.Steps.{kind_at};
 ghost use Rattle.fz_model.specs.Values.{kind_of};
 
 use fz_base::Value;
-use fz_model::{ConstraintParts, Kind, Model, Partial, PointParts, State, forced, state};
+use fz_model::{
+    ConstraintParts, Model, Partial, PointParts, State, forced, kind_of, same_kind, state,
+};
 use std::alloc::{AllocError, Global};
-
-/// Whether a value is of a kind.
-fn is_of(value: &Value, kind: Kind) -> bool
-    ensures { IsTrue result ↔ (kind_of value.now ≡ kind) }
-{
-    match value {
-        Value::Int(_) => matches!(kind, Kind::Int),
-        Value::Bool(_) => matches!(kind, Kind::Bool),
-        Value::Set(_) => matches!(kind, Kind::Set),
-    }
-}
 
 /// Whether a value is of the kind of the variable of a number.
 fn suits(model: &Model<'_>, number: usize, value: &Value) -> bool
     ensures { IsTrue result → kind_at model.now number ≡ Some (kind_of value.now) }
 {
     match model.variables().get(number) {
-        Some(variable) => is_of(value, variable.kind),
+        Some(variable) => same_kind(kind_of(value), variable.kind),
         None => false,
     }
 }

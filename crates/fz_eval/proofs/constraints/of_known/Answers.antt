@@ -1,4 +1,4 @@
-use Rattle.std.proofs.Common.{◌≡◌, length, sym, ap, ◌∙◌}
+use Rattle.std.proofs.Common.{length, sym, ap, ◌∙◌}
 use Rattle.fz_meaning.specs.Builtins.{row_at}
 use Rattle.fz_meaning.specs.Known.{form_at}
 use Rattle.fz_kernel.specs.of_view.Views.{arguments_of, assigned}

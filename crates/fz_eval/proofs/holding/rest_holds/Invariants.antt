@@ -5,4 +5,4 @@ use Rattle.fz_eval.specs.Holding.{point_holds}
 use Rattle.fz_eval.proofs.holding.rest_holds.Given as goal
 
 abbrev pub invariant-loop-number : goal.invariant-loop-number
-invariant-loop-number l = list_all (point_holds l.partial) (take l.number (points l.model)) ≡ true
+invariant-loop-number l = list_all (point_holds l.partial) (take l.number (take l.end (points l.model))) ≡ true

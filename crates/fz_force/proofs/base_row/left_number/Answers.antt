@@ -1,5 +1,5 @@
-use Rattle.std.proofs.Common.{rules, ◌≡◌, Some, option_map, IfSome, ap, ◌∙◌, subst, FitsSigned, w64, to_z, of_z, int_le}
-use Rattle.std.specs.Int.{w128}
+use Rattle.std.proofs.Common.{rules, ◌≡◌, refl, pos, ◌+ℤ◌, ◌*ℤ◌, not, ◌&&◌, int_div, int_rem, Some, option_map, IfSome, ap, ◌∙◌, subst, FitsSigned, w64, to_z, of_z, int_le}
+use Rattle.std.specs.Int.{w128, int_min, int_max}
 use Rattle.std.proofs.lemmas.Int.{to_z-of_z}
 use Rattle.fz_base.specs.declared.value.Value.TheVariants.{Int}
 use Rattle.fz_meaning.specs.declared.kind.Kind.TheVariants.{Int as IntKind}
@@ -13,7 +13,7 @@ use Rattle.fz_meaning.specs.declared.builtin.Builtin.TheVariants.{IntEq, IntPlus
 use Rattle.fz_force.specs.Left.{IsOfKind, IsLeftNumber}
 use Rattle.fz_force.proofs.Plain.{element_left, best_left}
 use Rattle.fz_eval.proofs.ElementReadings.{ints_are, bools_are}
-use Rattle.fz_force.proofs.RowLemmas.{array_int_element_row, array_int_maximum_row, array_int_minimum_row, array_var_int_element_row, bool2int_number_row, bool_lin_eq_row, from_row, int_abs_row, int_div_row, int_eq_place, int_eq_row, int_max_row, int_min_row, int_mod_row, int_plus_row, int_times_row, passed, set_card_row}
+use Rattle.fz_force.proofs.RowLemmas.{array_int_element_row, array_int_maximum_row, array_int_minimum_row, array_var_int_element_row, bool2int_number_row, bool_lin_eq_row, from_row, int_abs_row, int_eq_place, int_eq_row, passed, set_card_row, only_place, two_numbers}
 use Rattle.fz_force.proofs.RowKinds.{leaves_number, number_rows, not_both}
 use Rattle.fz_force.proofs.base_row.left_number.Goals as goal
 
@@ -30,82 +30,40 @@ returns-in-IntEq c =
     simp to_z-of_z (from_row K xs i IntKind (Some (Int n)) c.args.builtin IntEq c.in-IntEq.is c.requires.result (λ place. int_eq_row K xs i n place fits c.int.ensures.read))
 
 pub returns-in-IntPlus : goal.returns-in-IntPlus
+unfolding row_at
 returns-in-IntPlus c =
-    let K = assigned c.args.view.now in
-    let xs = arguments_of c.args.view.now in
-    let i = c.args.place in
-    let a = c.int-in-IntPlus.result in
-    let b = c.int-in-IntPlus-2.result in
-    let a_fits : FitsSigned w64 a = search rules in
-    let b_fits : FitsSigned w64 b = search rules in
-    from_row K xs i IntKind (option_map Int c.plus.result) c.args.builtin IntPlus c.in-IntPlus.is c.requires.result
-    (λ place. int_plus_row K xs i (to_z w64 (of_z w64 a)) (to_z w64 (of_z w64 b)) c.plus.result place
-    (passed a (int_at K xs 0) a_fits c.int-in-IntPlus.ensures.read) (passed b (int_at K xs 1) b_fits c.int-in-IntPlus-2.ensures.read) c.plus.ensures)
+    two_numbers (assigned c.args.view.now) (arguments_of c.args.view.now) c.args.place c.args.builtin IntPlus c.in-IntPlus.is c.requires.result (only_place 2 c.args.place)
+    (λ a b n. n =ℤ (a +ℤ b)) c.int-in-IntPlus.result c.int-in-IntPlus-2.result c.plus.result (λ n. refl) (search rules) (search rules) c.int-in-IntPlus.ensures.read c.int-in-IntPlus-2.ensures.read c.plus.ensures
 
 pub returns-in-IntTimes : goal.returns-in-IntTimes
+unfolding row_at
 returns-in-IntTimes c =
-    let K = assigned c.args.view.now in
-    let xs = arguments_of c.args.view.now in
-    let i = c.args.place in
-    let a = c.int-in-IntTimes.result in
-    let b = c.int-in-IntTimes-2.result in
-    let a_fits : FitsSigned w64 a = search rules in
-    let b_fits : FitsSigned w64 b = search rules in
-    from_row K xs i IntKind (option_map Int c.times.result) c.args.builtin IntTimes c.in-IntTimes.is c.requires.result
-    (λ place. int_times_row K xs i (to_z w64 (of_z w64 a)) (to_z w64 (of_z w64 b)) c.times.result place
-    (passed a (int_at K xs 0) a_fits c.int-in-IntTimes.ensures.read) (passed b (int_at K xs 1) b_fits c.int-in-IntTimes-2.ensures.read) c.times.ensures)
+    two_numbers (assigned c.args.view.now) (arguments_of c.args.view.now) c.args.place c.args.builtin IntTimes c.in-IntTimes.is c.requires.result (only_place 2 c.args.place)
+    (λ a b n. n =ℤ (a *ℤ b)) c.int-in-IntTimes.result c.int-in-IntTimes-2.result c.times.result (λ n. refl) (search rules) (search rules) c.int-in-IntTimes.ensures.read c.int-in-IntTimes-2.ensures.read c.times.ensures
 
 pub returns-in-IntMin : goal.returns-in-IntMin
+unfolding row_at
 returns-in-IntMin c =
-    let K = assigned c.args.view.now in
-    let xs = arguments_of c.args.view.now in
-    let i = c.args.place in
-    let a = c.int-in-IntMin.result in
-    let b = c.int-in-IntMin-2.result in
-    let a_fits : FitsSigned w64 a = search rules in
-    let b_fits : FitsSigned w64 b = search rules in
-    from_row K xs i IntKind (option_map Int c.least.result) c.args.builtin IntMin c.in-IntMin.is c.requires.result
-    (λ place. int_min_row K xs i (to_z w64 (of_z w64 a)) (to_z w64 (of_z w64 b)) c.least.result place
-    (passed a (int_at K xs 0) a_fits c.int-in-IntMin.ensures.read) (passed b (int_at K xs 1) b_fits c.int-in-IntMin-2.ensures.read) c.least.ensures)
+    two_numbers (assigned c.args.view.now) (arguments_of c.args.view.now) c.args.place c.args.builtin IntMin c.in-IntMin.is c.requires.result (only_place 2 c.args.place)
+    (λ a b n. n =ℤ int_min a b) c.int-in-IntMin.result c.int-in-IntMin-2.result c.least.result (λ n. refl) (search rules) (search rules) c.int-in-IntMin.ensures.read c.int-in-IntMin-2.ensures.read c.least.ensures
 
 pub returns-in-IntMax : goal.returns-in-IntMax
+unfolding row_at
 returns-in-IntMax c =
-    let K = assigned c.args.view.now in
-    let xs = arguments_of c.args.view.now in
-    let i = c.args.place in
-    let a = c.int-in-IntMax.result in
-    let b = c.int-in-IntMax-2.result in
-    let a_fits : FitsSigned w64 a = search rules in
-    let b_fits : FitsSigned w64 b = search rules in
-    from_row K xs i IntKind (option_map Int c.greatest.result) c.args.builtin IntMax c.in-IntMax.is c.requires.result
-    (λ place. int_max_row K xs i (to_z w64 (of_z w64 a)) (to_z w64 (of_z w64 b)) c.greatest.result place
-    (passed a (int_at K xs 0) a_fits c.int-in-IntMax.ensures.read) (passed b (int_at K xs 1) b_fits c.int-in-IntMax-2.ensures.read) c.greatest.ensures)
+    two_numbers (assigned c.args.view.now) (arguments_of c.args.view.now) c.args.place c.args.builtin IntMax c.in-IntMax.is c.requires.result (only_place 2 c.args.place)
+    (λ a b n. n =ℤ int_max a b) c.int-in-IntMax.result c.int-in-IntMax-2.result c.greatest.result (λ n. refl) (search rules) (search rules) c.int-in-IntMax.ensures.read c.int-in-IntMax-2.ensures.read c.greatest.ensures
 
 pub returns-in-IntDiv : goal.returns-in-IntDiv
+unfolding row_at
 returns-in-IntDiv c =
-    let K = assigned c.args.view.now in
-    let xs = arguments_of c.args.view.now in
-    let i = c.args.place in
-    let a = c.int-in-IntDiv.result in
-    let b = c.int-in-IntDiv-2.result in
-    let a_fits : FitsSigned w64 a = search rules in
-    let b_fits : FitsSigned w64 b = search rules in
-    from_row K xs i IntKind (option_map Int c.quotient.result) c.args.builtin IntDiv c.in-IntDiv.is c.requires.result
-    (λ place. int_div_row K xs i (to_z w64 (of_z w64 a)) (to_z w64 (of_z w64 b)) c.quotient.result place
-    (passed a (int_at K xs 0) a_fits c.int-in-IntDiv.ensures.read) (passed b (int_at K xs 1) b_fits c.int-in-IntDiv-2.ensures.read) c.quotient.ensures)
+    two_numbers (assigned c.args.view.now) (arguments_of c.args.view.now) c.args.place c.args.builtin IntDiv c.in-IntDiv.is c.requires.result (only_place 2 c.args.place)
+    (λ a b n. not (b =ℤ pos 0) && (n =ℤ int_div a b)) c.int-in-IntDiv.result c.int-in-IntDiv-2.result c.quotient.result (λ n. refl) (search rules) (search rules) c.int-in-IntDiv.ensures.read c.int-in-IntDiv-2.ensures.read c.quotient.ensures
 
 pub returns-in-IntMod : goal.returns-in-IntMod
+unfolding row_at
 returns-in-IntMod c =
-    let K = assigned c.args.view.now in
-    let xs = arguments_of c.args.view.now in
-    let i = c.args.place in
-    let a = c.int-in-IntMod.result in
-    let b = c.int-in-IntMod-2.result in
-    let a_fits : FitsSigned w64 a = search rules in
-    let b_fits : FitsSigned w64 b = search rules in
-    from_row K xs i IntKind (option_map Int c.remainder.result) c.args.builtin IntMod c.in-IntMod.is c.requires.result
-    (λ place. int_mod_row K xs i (to_z w64 (of_z w64 a)) (to_z w64 (of_z w64 b)) c.remainder.result place
-    (passed a (int_at K xs 0) a_fits c.int-in-IntMod.ensures.read) (passed b (int_at K xs 1) b_fits c.int-in-IntMod-2.ensures.read) c.remainder.ensures)
+    two_numbers (assigned c.args.view.now) (arguments_of c.args.view.now) c.args.place c.args.builtin IntMod c.in-IntMod.is c.requires.result (only_place 2 c.args.place)
+    (λ a b n. not (b =ℤ pos 0) && (n =ℤ int_rem a b)) c.int-in-IntMod.result c.int-in-IntMod-2.result c.remainder.result (λ n. refl) (search rules) (search rules) c.int-in-IntMod.ensures.read c.int-in-IntMod-2.ensures.read c.remainder.ensures
 
 pub returns-in-IntAbs : goal.returns-in-IntAbs
 returns-in-IntAbs c =

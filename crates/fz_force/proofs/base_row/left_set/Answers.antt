@@ -1,4 +1,4 @@
-use Rattle.std.proofs.Common.{rules, ◌≡◌, Some, option_map, ◌∙◌, FitsSigned, w64, to_z, of_z}
+use Rattle.std.proofs.Common.{rules, ◌≡◌, refl, Some, option_map, ◌∙◌, FitsSigned, w64, to_z, of_z}
 use Rattle.std.specs.FinSet as finite
 use Rattle.fz_base.specs.Sets.{symmetric_difference}
 use Rattle.fz_base.specs.declared.value.Value.TheVariants.{Set}
@@ -13,7 +13,7 @@ use Rattle.fz_meaning.specs.declared.builtin.Builtin.TheVariants.{SetEq, SetUnio
 use Rattle.fz_force.specs.Left.{IsLeft, holds_with}
 use Rattle.fz_force.proofs.Plain.{element_of}
 use Rattle.fz_eval.proofs.ElementReadings.{sets_are}
-use Rattle.fz_force.proofs.RowLemmas.{from_row, passed, ok_then, set_eq_place, set_eq_row, set_union_row, set_intersect_row, set_diff_row, set_symdiff_row, array_set_element_row, array_var_set_element_row}
+use Rattle.fz_force.proofs.RowLemmas.{from_row, passed, ok_then, set_eq_place, set_eq_row, only_place, two_sets, array_set_element_row, array_var_set_element_row}
 use Rattle.fz_force.proofs.RowKinds.{leaves_set, set_rows, not_both}
 use Rattle.fz_force.proofs.base_row.left_set.Goals as goal
 
@@ -29,40 +29,28 @@ returns-in_ok-copy-in-SetEq c =
     from_row K xs i SetKind (Some (Set s)) c.args.builtin SetEq c.in-SetEq.is c.requires.result (λ place. set_eq_row K xs i s place (c.in_ok-copy-in-SetEq.ensures ∙ c.set.ensures.read))
 
 pub returns-in_ok-union-in-SetUnion : goal.returns-in_ok-union-in-SetUnion
+unfolding row_at
 returns-in_ok-union-in-SetUnion c =
-    let K = assigned c.args.view.now in
-    let xs = arguments_of c.args.view.now in
-    let i = c.args.place in
-    let s = c.in_ok-union-in-SetUnion.field-0 in
-    from_row K xs i SetKind (Some (Set s)) c.args.builtin SetUnion c.in-SetUnion.is c.requires.result
-    (λ place. set_union_row K xs i s place (c.in_ok-union-in-SetUnion.ensures ∙ (λ j. finite.union (c.set-in-SetUnion.ensures.read j) (c.set-in-SetUnion-2.ensures.read j))))
+    two_sets (assigned c.args.view.now) (arguments_of c.args.view.now) c.args.place c.args.builtin SetUnion c.in-SetUnion.is c.requires.result (only_place 2 c.args.place)
+    (λ a b. finite.union a b) _ _ c.in_ok-union-in-SetUnion.field-0 refl c.set-in-SetUnion.ensures.read c.set-in-SetUnion-2.ensures.read c.in_ok-union-in-SetUnion.ensures
 
 pub returns-in_ok-intersect-in-SetIntersect : goal.returns-in_ok-intersect-in-SetIntersect
+unfolding row_at
 returns-in_ok-intersect-in-SetIntersect c =
-    let K = assigned c.args.view.now in
-    let xs = arguments_of c.args.view.now in
-    let i = c.args.place in
-    let s = c.in_ok-intersect-in-SetIntersect.field-0 in
-    from_row K xs i SetKind (Some (Set s)) c.args.builtin SetIntersect c.in-SetIntersect.is c.requires.result
-    (λ place. set_intersect_row K xs i s place (c.in_ok-intersect-in-SetIntersect.ensures ∙ (λ j. finite.intersection (c.set-in-SetIntersect.ensures.read j) (c.set-in-SetIntersect-2.ensures.read j))))
+    two_sets (assigned c.args.view.now) (arguments_of c.args.view.now) c.args.place c.args.builtin SetIntersect c.in-SetIntersect.is c.requires.result (only_place 2 c.args.place)
+    (λ a b. finite.intersection a b) _ _ c.in_ok-intersect-in-SetIntersect.field-0 refl c.set-in-SetIntersect.ensures.read c.set-in-SetIntersect-2.ensures.read c.in_ok-intersect-in-SetIntersect.ensures
 
 pub returns-in_ok-minus-in-SetDiff : goal.returns-in_ok-minus-in-SetDiff
+unfolding row_at
 returns-in_ok-minus-in-SetDiff c =
-    let K = assigned c.args.view.now in
-    let xs = arguments_of c.args.view.now in
-    let i = c.args.place in
-    let s = c.in_ok-minus-in-SetDiff.field-0 in
-    from_row K xs i SetKind (Some (Set s)) c.args.builtin SetDiff c.in-SetDiff.is c.requires.result
-    (λ place. set_diff_row K xs i s place (c.in_ok-minus-in-SetDiff.ensures ∙ (λ j. finite.difference (c.set-in-SetDiff.ensures.read j) (c.set-in-SetDiff-2.ensures.read j))))
+    two_sets (assigned c.args.view.now) (arguments_of c.args.view.now) c.args.place c.args.builtin SetDiff c.in-SetDiff.is c.requires.result (only_place 2 c.args.place)
+    (λ a b. finite.difference a b) _ _ c.in_ok-minus-in-SetDiff.field-0 refl c.set-in-SetDiff.ensures.read c.set-in-SetDiff-2.ensures.read c.in_ok-minus-in-SetDiff.ensures
 
 pub returns-in_ok-symdiff-in-SetSymdiff : goal.returns-in_ok-symdiff-in-SetSymdiff
+unfolding row_at
 returns-in_ok-symdiff-in-SetSymdiff c =
-    let K = assigned c.args.view.now in
-    let xs = arguments_of c.args.view.now in
-    let i = c.args.place in
-    let s = c.in_ok-symdiff-in-SetSymdiff.field-0 in
-    from_row K xs i SetKind (Some (Set s)) c.args.builtin SetSymdiff c.in-SetSymdiff.is c.requires.result
-    (λ place. set_symdiff_row K xs i s place (c.in_ok-symdiff-in-SetSymdiff.ensures ∙ (λ j. symmetric_difference (c.set-in-SetSymdiff.ensures.read j) (c.set-in-SetSymdiff-2.ensures.read j))))
+    two_sets (assigned c.args.view.now) (arguments_of c.args.view.now) c.args.place c.args.builtin SetSymdiff c.in-SetSymdiff.is c.requires.result (only_place 2 c.args.place)
+    (λ a b. symmetric_difference a b) _ _ c.in_ok-symdiff-in-SetSymdiff.field-0 refl c.set-in-SetSymdiff.ensures.read c.set-in-SetSymdiff-2.ensures.read c.in_ok-symdiff-in-SetSymdiff.ensures
 
 pub returns-in-ArraySetElement : goal.returns-in-ArraySetElement
 returns-in-ArraySetElement c =

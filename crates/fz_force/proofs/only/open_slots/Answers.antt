@@ -1,9 +1,10 @@
 use Rattle.std.proofs.Common.{refl, sym, subst, map, take, ◌+◌, ◌<◌, ◌≤◌}
+use Rattle.std.proofs.lemmas.List.{length-map, take_all}
 use Rattle.fz_meaning.proofs.Values.{no}
 use Rattle.fz_force.specs.Only.{AreOpen}
 use Rattle.fz_data.specs.Slots.{slot_term}
-use Rattle.fz_force.proofs.Opens.{goes_on, finds, stops_here, stops_twice, take_whole}
-use Rattle.fz_force.proofs.Scalars.{as_many, mapped_at}
+use Rattle.fz_force.proofs.Opens.{goes_on, finds, stops_here, stops_twice}
+use Rattle.fz_force.proofs.Scalars.{mapped_at}
 use Rattle.fz_force.proofs.only.open_slots.Goals as goal
 use Rattle.fz_force.proofs.only.open_slots.Goals.{in-Nothing, in-Target+else-not-is_nothing}
 
@@ -34,7 +35,7 @@ loop-place-preserved c = λ cs.
     let s = c.item_at.result.now in
     let t = slot_term cs s in
     let at = mapped_at (slot_term cs) ss i s c.item_at.ensures in
-    let long = as_many (slot_term cs) ss in
+    let long = sym (length-map ss (slot_term cs)) in
     elim c.match-open_slot.branch [
       | in-Nothing w ↦ subst (AreOpen K n (take (i + 1) ts)) (sym w.found-is) (goes_on K n ts i t at c.loop-place.found (c.loop-place.invariant cs) (w.in-Nothing.ensures cs))
       | in-Target+else-not-is_nothing w ↦ subst (AreOpen K n (take (i + 1) ts)) (sym w.found-is)
@@ -46,5 +47,5 @@ pub returns : goal.returns
 returns c = λ cs.
     let ss = c.args.slots.now in
     let ts = map (slot_term cs) ss in
-    let long = as_many (slot_term cs) ss in
-    subst (λ us. AreOpen c.args.partial.now c.args.target us c.loop-place.found) (take_whole ts c.loop-place.place (subst (λ m. m ≤ c.loop-place.place) long c.loop-place-test.false)) (c.loop-place.invariant cs)
+    let long = sym (length-map ss (slot_term cs)) in
+    subst (λ us. AreOpen c.args.partial.now c.args.target us c.loop-place.found) (take_all c.loop-place.place ts (subst (λ m. m ≤ c.loop-place.place) long c.loop-place-test.false)) (c.loop-place.invariant cs)

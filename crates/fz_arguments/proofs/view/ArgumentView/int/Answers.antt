@@ -1,4 +1,4 @@
-use Rattle.std.proofs.Common.{None, option_and_then, sym, ap, ◌∙◌, rules, FitsSigned, w64}
+use Rattle.std.proofs.Common.{option_and_then, sym, ap, ◌∙◌, rules, FitsSigned, w64}
 use Rattle.std.proofs.lemmas.Int.{to_z-of_z}
 use Rattle.fz_arguments.specs.Given.{int_of}
 use Rattle.fz_arguments.specs.Views.{assigned, slot_read}

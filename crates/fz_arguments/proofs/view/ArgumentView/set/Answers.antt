@@ -1,4 +1,4 @@
-use Rattle.std.proofs.Common.{None, option_and_then, sym, ap, ◌∙◌}
+use Rattle.std.proofs.Common.{option_and_then, sym, ap, ◌∙◌}
 use Rattle.fz_arguments.specs.Given.{set_of_slot}
 use Rattle.fz_arguments.specs.Views.{assigned, slot_read}
 use Rattle.fz_arguments.proofs.view.ArgumentView.set.Goals as goal

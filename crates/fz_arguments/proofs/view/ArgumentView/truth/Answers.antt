@@ -1,4 +1,4 @@
-use Rattle.std.proofs.Common.{None, option_and_then, sym, ap, ◌∙◌}
+use Rattle.std.proofs.Common.{option_and_then, sym, ap, ◌∙◌}
 use Rattle.fz_arguments.specs.Given.{bool_of}
 use Rattle.fz_arguments.specs.Views.{assigned, slot_read}
 use Rattle.fz_arguments.proofs.view.ArgumentView.truth.Goals as goal
