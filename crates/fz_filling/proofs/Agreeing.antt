@@ -1,5 +1,5 @@
 -- What a point gives rests on the values of its own scalars alone.
-use Rattle.std.proofs.Common.{◌≡◌, ◌||◌, ℕ, suc, zero, pos, negsuc, cond, List, [], ◌∷◌, ◌++◌, length, Option, Some, None, refl, sym, ap, subst, subst₂, ◌∙◌, option_map, option_and_then, slice_get, is_none, flat_map, IsSomeAnd, IfSome, IsFalse, IsTrue, arith, ◌&&◌, ◌⊎◌}
+use Rattle.std.proofs.Common.{◌≡◌, ◌||◌, ℕ, suc, zero, pos, negsuc, cond, List, [], ◌∷◌, ◌++◌, length, Option, Some, None, refl, sym, ap, subst, subst₂, ◌∙◌, option_map, option_and_then, slice_get, is_none, flat_map, IsSomeAnd, IfSome, IsFalse, IsTrue, arith, ◌⊎◌}
 use Rattle.std.specs.List.{AllByRecursion, list_any}
 use Rattle.fz_base.specs.declared.value.Value.{Value}
 use Rattle.fz_base.specs.declared.value.Value.TheVariants.{Int}
@@ -26,6 +26,10 @@ all_right P [] ys h = h
 all_right P (x ∷ xs) ys h = all_right P xs ys h.1
 
 -- ---- values
+
+pub agree_back : (K L : Partial) (ts : List Term) → Agree K L ts → Agree L K ts
+agree_back K L [] h = tt
+agree_back K L (t ∷ ts) h = (sym h.0, agree_back K L ts h.1)
 
 module _ (K L : Partial) where
   pub values_agree : (ts : List Term) → Agree K L ts → values K ts ≡ values L ts

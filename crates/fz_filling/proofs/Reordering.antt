@@ -11,7 +11,7 @@ use Rattle.fz_model.proofs.Steps.{PointFits, only_value, only_open_none, value_a
 use Rattle.fz_verdict.specs.Filling.{HasAllOf}
 use Rattle.fz_verdict.proofs.Chain.{value_under}
 use Rattle.fz_filling.specs.Outlooks.{Agree, IsLater, IsOpen}
-use Rattle.fz_filling.proofs.Agreeing.{gives_agree}
+use Rattle.fz_filling.proofs.Agreeing.{agree_back, gives_agree}
 use Rattle.fz_filling.proofs.Keeping.{length_given}
 
 -- ---- later values
@@ -62,10 +62,6 @@ module _ (K L : Partial) (under : HasAllOf K L) where
             (subst (λ s. value K s ≡ value L s) (sym here) (none ∙ sym still), closed_agree ts closed)
         | false ↦ λ closed e. (same_value t (value K t) refl closed, one_agrees n none still ts e)
       ]) refl e
-
-agree_back : (K L : Partial) (ts : List Term) → Agree K L ts → Agree L K ts
-agree_back K L [] h = tt
-agree_back K L (t ∷ ts) h = (sym h.0, agree_back K L ts h.1)
 
 -- ---- steps
 

@@ -1,6 +1,7 @@
 -- Steps in any order make a chain, where no two points can give the same variable a value.
 use Rattle.std.proofs.Common.{◌≡◌, ℕ, suc, zero, ◌+◌, ◌-◌, ◌≤◌, ◌<◌, ◌⊎◌, inl, inr, List, [], ◌∷◌, length, Option, Some, None, refl, sym, ap, subst, subst₂, ◌∙◌, slice_get, take, drop, arith}
 use Rattle.std.specs.List.{AllByRecursion, enumerate_from}
+use Rattle.std.proofs.lemmas.Bool.{cases_eq}
 use Rattle.fz_base.specs.declared.value.Value.{Value}
 use Rattle.fz_model.specs.declared.Term.{Term}
 use Rattle.fz_model.specs.declared.Term.TheVariants.{Var, Fixed}
@@ -15,7 +16,7 @@ use Rattle.fz_filling.specs.Outlooks.{IsLater, IsOpen}
 use Rattle.fz_filling.specs.Stepping.{NoneGives, IsStepAhead}
 use Rattle.fz_filling.specs.Runs.{Run, AreLone}
 use Rattle.fz_filling.specs.Runs.Run.{Stays, Goes}
-use Rattle.fz_filling.proofs.Keeping.{is_same, same_later, none_and_one}
+use Rattle.fz_filling.proofs.Keeping.{same_later, none_and_one}
 use Rattle.fz_filling.proofs.Stepping.{there_is, ahead_is_first, wrapped_is_first, no_first}
 use Rattle.fz_filling.proofs.Reordering.{then_later, given_later, still_open, swapped, later_gives, gives_before, gives_after, step_value}
 
@@ -83,7 +84,7 @@ module _ (m : Model) (lone : AreLone m) where
   taken_first : (l : ℕ) (K F : Partial) (p : Point) (k n : ℕ) (v u : Value)
       → slice_get (points m) k ≡ Some p → Gives m K p n v → value_at F n ≡ Some u
       → Walk m (suc l) K F → Walk m l (give K n v) F
-  taken_first zero K F p k n v u at g set (i, n', v', q, at', h, rest) = elim (is_same n' n) [
+  taken_first zero K F p k n v u at g set (i, n', v', q, at', h, rest) = elim (cases_eq n' n) [
     | inl same ↦
         let moved : Gives m K q n v' = subst (λ j. Gives m K q j v') same h in
         subst₂ (λ j w. give K j w ≡ F) same (same_step K i k n q p v' v at' at moved g) rest
@@ -92,7 +93,7 @@ module _ (m : Model) (lone : AreLone m) where
         let here : value_at (give K n' v') n ≡ Some u = ap (λ L. value_at L n) rest ∙ set in
         cc
   ]
-  taken_first (suc l) K F p k n v u at g set (i, n', v', q, at', h, rest) = elim (is_same n' n) [
+  taken_first (suc l) K F p k n v u at g set (i, n', v', q, at', h, rest) = elim (cases_eq n' n) [
     | inl same ↦
         let moved : Gives m K q n v' = subst (λ j. Gives m K q j v') same h in
         subst₂ (λ j w. Walk m (suc l) (give K j w) F) same (same_step K i k n q p v' v at' at moved g) rest
@@ -119,7 +120,7 @@ record Given (m : Model) (K : Partial) (n : ℕ) : Type 0 where
 given_in : (m : Model) (l : ℕ) (K F : Partial) (n : ℕ) (u : Value) → IsOpen K n
     → value_at F n ≡ Some u → Walk m l K F → Given m K n
 given_in m zero K F n u none set same = let here : value_at K n ≡ Some u = ap (λ L. value_at L n) same ∙ set in cc
-given_in m (suc l) K F n u none set (k, i, v, p, at, g, rest) = elim (is_same i n) [
+given_in m (suc l) K F n u none set (k, i, v, p, at, g, rest) = elim (cases_eq i n) [
   | inl same ↦ record { later = K; is_later = same_later K; number = k; point = p; at = at; given = v; gives = subst (λ j. Gives m K p j v) same g }
   | inr other ↦
       let more : Given m (give K i v) n = given_in m l (give K i v) F n u (still_open K i n v (λ e. other (sym e)) none) set rest in
@@ -154,7 +155,7 @@ module _ (m : Model) (lone : AreLone m) (l : ℕ) (K F : Partial) (walk : Walk m
       set_at_end j p i v at g (subst (IsOpen F) number still))
   known_of_one j p n (Some u) at only set =
       let s : Given m K n = given_in m l K F n u (only_open_none K n (terms_of p) only) set walk in
-      elim (is_same s.number j) [
+      elim (cases_eq s.number j) [
         | inl same ↦
             let equal : s.point ≡ p = cc in
             inl (n, s.given, gives_before m K s.later p n s.given s.is_later only (subst (λ q. Gives m s.later q n s.given) equal s.gives))

@@ -1,6 +1,6 @@
 -- The first answer in a list, as a loop looks for it, and the scalars of arguments.
-use Rattle.std.proofs.Common.{◌≡◌, ℕ, suc, zero, ◌+◌, ◌<◌, ◌≤◌, List, [], ◌∷◌, ◌++◌, map, flat_map, length, drop, get_or, Option, Some, None, is_some, refl, sym, ap, ◌∙◌, slice_get, arith, add-one, drop-cons, true, false}
-use Rattle.std.specs.Option.{option_or, option_map_or}
+use Rattle.std.proofs.Common.{◌≡◌, ℕ, suc, zero, ◌+◌, ◌≤◌, List, [], ◌∷◌, ◌++◌, map, flat_map, length, drop, Option, Some, None, is_some, refl, sym, ap, ◌∙◌, slice_get, arith, true, false}
+use Rattle.std.specs.Option.{option_or}
 use Rattle.fz_model.specs.declared.ConstraintParts.{ConstraintParts}
 use Rattle.fz_model.specs.declared.Slot.{Slot}
 use Rattle.fz_model.specs.declared.Argument.{Argument}

@@ -1,6 +1,8 @@
 -- The chain of the filling: the first step, and the end where each variable has a value.
-use Rattle.std.proofs.Common.{◌≡◌, ℕ, zero, suc, ◌<◌, ◌≤◌, ◌⊎◌, inl, inr, List, [], ◌∷◌, length, Option, Some, None, slice_get, IfSome, IfOk, OnOk, Result, Ok, Err, option_map, refl, sym, ap, subst, arith}
+use Rattle.std.proofs.Common.{◌≡◌, ℕ, zero, suc, ◌<◌, ◌≤◌, ◌⊎◌, inl, inr, List, [], ◌∷◌, length, Option, Some, None, slice_get, IfSome, option_map, refl, sym, ap, subst, arith}
 use Rattle.std.specs.List.{AllByRecursion}
+use Rattle.std.proofs.lemmas.Bool.{cases_lt}
+use Rattle.std.proofs.lemmas.Option.{slice_get_within}
 use Rattle.fz_base.specs.declared.value.Value.{Value}
 use Rattle.fz_model.specs.declared.Kind.{Kind}
 use Rattle.fz_model.specs.Meaning.{Model, Point, Partial, Variable, FitVariables, give, value_at, variables_of, points, IsPartial}
@@ -48,11 +50,6 @@ number_within m K n k h e = let long : length K ≡ length (variables_of m) = fi
 
 -- ---- the points from a number up to another
 
-in_range : {A : Type 0} (xs : List A) (j : ℕ) (x : A) → slice_get xs j ≡ Some x → j < length xs
-in_range [] j x e = cc
-in_range (y ∷ xs) zero x e = omega arith
-in_range (y ∷ xs) (suc j) x e = let below : j < length xs = in_range xs j x e in omega arith
-
 -- a step from the number on up to the last point is the first one
 pub ahead_is_first : (m : Model) (K : Partial) (from to k n : ℕ) (v : Value)
     → to ≡ length (points m) → IsStepAhead m K from to k n v → IsFirstStep m K from k n v
@@ -69,19 +66,13 @@ wrapped_is_first m K from to k n v all inside none s =
     let below : k < from = s.below in
     let within : k < length (points m) = omega arith in
     let (p, at) = there_is (points m) k within in
-    first_wrapped m K from k n v p s.below at (λ j q above at'. let short : j < length (points m) = in_range (points m) j q at' in none j q above (subst (λ z. j < z) (sym all) short) at') s.none_before (s.gives p at)
+    first_wrapped m K from k n v p s.below at (λ j q above at'. let short : j < length (points m) = slice_get_within (points m) j q at' in none j q above (subst (λ z. j < z) (sym all) short) at') s.none_before (s.gives p at)
 
 -- where there is none from the number on and none before it, no point gives a step
 pub no_first : (m : Model) (K : Partial) (from to : ℕ) → to ≡ length (points m)
     → NoneGives m K from to → NoneGives m K 0 from → AllByRecursion (GivesNothing m K) (points m)
-no_first m K from to all after before = none_gives m K (λ j p above below at. by_number j p (split j from) below at)
+no_first m K from to all after before = none_gives m K (λ j p above below at. by_number j p (cases_lt j from) below at)
   where
-    split : (j k : ℕ) → (j < k) ⊎ (k ≤ j)
-    split zero zero = inr (omega arith)
-    split zero (suc k) = inl (omega arith)
-    split (suc j) zero = inr (omega arith)
-    split (suc j) (suc k) = elim (split j k) [ inl l ↦ inl (omega arith) | inr l ↦ inr (omega arith) ]
-
     by_number : (j : ℕ) (p : Point) → (j < from) ⊎ (from ≤ j) → j < length (points m)
         → slice_get (points m) j ≡ Some p → GivesNothing m K p
     by_number j p (inl l) below at = before j p (omega arith) l at
@@ -132,12 +123,6 @@ nothing_left m K fits none = each (points m)
 pub at_some : {A : Type 0} (P : A → Type 0) (o : Option A) (x : A) → o ≡ Some x → IfSome o P → P x
 at_some P o x e h = subst (λ p. IfSome p P) e h
 
--- what follows from what is said of a result
-pub ok_then : {T E : Type 0} (r : Result T E) {P Q : T → Type 0} → IfOk r P → ((x : T) → P x → Q x)
-    → IfOk r Q
-ok_then (Ok x) h f = f x h
-ok_then (Err e) h f = tt
-
 -- ---- what the chain reaches from here it reaches from the start
 
 abbrev pub Reaches : Model → Partial → ℕ → Partial → ℕ → Type 0
@@ -153,11 +138,6 @@ reaches_end m S start K from reaches none = reaches K (Ends none)
 
 -- the point of a number, and what it gives
 pub point_gives : (m : Model) (K : Partial) (k n : ℕ) (v : Value) (o : Option (ℕ × Value))
-    → o ≡ Some (n, v) → k < length (points m)
+    (all : ℕ) → o ≡ Some (n, v) → all ≡ length (points m) → k < all
     → IfSome o (λ r. (p : Point) → slice_get (points m) k ≡ Some p → Gives m K p r.0 r.1) → (p : Point) × (slice_get (points m) k ≡ Some p) × Gives m K p n v
-point_gives m K k n v o is within gives = let (p, at) = there_is (points m) k within in (p, at, at_some _ o (n, v) is gives p at)
-
--- what follows where a call succeeds
-pub on_ok_then : {T E : Type 0} (r : Result T E) {P Q : Type 0} → OnOk r P → (P → Q) → OnOk r Q
-on_ok_then (Ok x) h f = f h
-on_ok_then (Err e) h f = tt
+point_gives m K k n v o all is counted below gives = let (p, at) = there_is (points m) k (omega arith) in (p, at, at_some _ o (n, v) is gives p at)

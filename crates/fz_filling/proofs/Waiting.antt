@@ -13,7 +13,7 @@ use Rattle.fz_verdict.specs.Filling.{HasAllOf}
 use Rattle.fz_filling.specs.Outlooks.{Agree, IsLater, IsOpen, IsOutlook, IsWaiting, open_variable, open_other, first_other}
 use Rattle.fz_filling.specs.declared.outlook.Outlook.TheVariants.{Asks}
 use Rattle.fz_filling.specs.declared.outlook.Waiting.TheVariants.{Forever, For}
-use Rattle.fz_filling.proofs.Agreeing.{gives_agree}
+use Rattle.fz_filling.proofs.Agreeing.{agree_back, gives_agree}
 
 -- ---- the only scalar without a value
 
@@ -154,11 +154,7 @@ never_set K n v set L later ts only = let here : value_at L n ≡ Some v = later
 
 pub asks : (m : Model) (K : Partial) (a : ℕ) (p : Point) → IsOpen K a
     → first_other K a (terms_of p) ≡ None → IsOutlook m K p (Asks a)
-asks m K a p none closed = λ nothing. (none, λ L later still n v g. nothing n v (gives_agree m L K p n v (sym later.as_many) (back L (terms_of p) (agree_later K L a later.has_all none still (terms_of p) closed)) g))
-  where
-    back : (L : Partial) (ts : List Term) → Agree K L ts → Agree L K ts
-    back L [] h = tt
-    back L (t ∷ ts) h = (sym h.0, back L ts h.1)
+asks m K a p none closed = λ nothing. (none, λ L later still n v g. nothing n v (gives_agree m L K p n v (sym later.as_many) (agree_back K L (terms_of p) (agree_later K L a later.has_all none still (terms_of p) closed)) g))
 
 -- the variable itself is no other one
 own_is_none : (K : Partial) (n : ℕ) → open_other K n (Var n) ≡ None

@@ -1,6 +1,7 @@
 -- Which points are to be looked at, and which wait for a variable. Only private functions use
 -- these.
 use Rattle.std.specs.Prelude.{◌≡◌, ℕ, ◌<◌, ◌≤◌, ◌*◌, ◌/◌, List, [], ◌∷◌, length, Some, slice_get, slice_set, slice_index, Vec, ◌⊎◌}
+use Rattle.std.specs.List.{Contains}
 use Rattle.std.specs.Option.{option_map_or}
 use Rattle.std.specs.declared.alloc.Global.{Global}
 use Rattle.fz_model.specs.Meaning.{Model, Partial, Point, points}
@@ -20,7 +21,7 @@ watched watchers n = option_map_or (λ v. v.items) (slice_get watchers n) []
 
 -- the point waits for the variable
 abbrev pub WaitsFor : List (Vec ℕ Global) → ℕ → ℕ → Type 0
-WaitsFor watchers n k = (i : ℕ) × (slice_get (watched watchers n) i ≡ Some k)
+WaitsFor watchers n k = Contains (watched watchers n) k
 
 -- each point that is to be looked at lies in a block that is marked; 512 points make a block
 pub record IsCovered (pending blocks : List ℕ) : Type 0 where
@@ -39,12 +40,12 @@ abbrev pub marked_blocks : List ℕ → List ℕ → List ℕ
 marked_blocks blocks [] = blocks
 marked_blocks blocks (k ∷ ks) = marked_blocks (slice_set blocks (k / 512) 1) ks
 
--- the point waits for the variable too, and nothing else changes
-pub record WaitsToo (before after : List (Vec ℕ Global)) (n k : ℕ) : Type 0 where
+-- the point waits for these variables too, and nothing else changes
+pub record WaitsToo (before after : List (Vec ℕ Global)) (these : ℕ → Type 0) (k : ℕ) : Type 0 where
   pub as_many : length after ≡ length before
   pub keeps : (j i : ℕ) → WaitsFor before j i → WaitsFor after j i
-  pub no_more : (j i : ℕ) → WaitsFor after j i → WaitsFor before j i ⊎ ((j ≡ n) × (i ≡ k))
-  pub waits : n < length before → WaitsFor after n k
+  pub no_more : (j i : ℕ) → WaitsFor after j i → WaitsFor before j i ⊎ ((i ≡ k) × these j)
+  pub waits : (j : ℕ) → these j → j < length before → WaitsFor after j k
 
 -- no point waits for the variable any more, and nothing else changes
 pub record IsLeft (before after : List (Vec ℕ Global)) (n : ℕ) : Type 0 where
@@ -62,12 +63,7 @@ IsAwaited (ForEither a b) n = (n ≡ a) ⊎ (n ≡ b)
 pub record IsSettled (before after : Watch) (k : ℕ) (w : Waiting) : Type 0 where
   pub pending : after.pending.items ≡ slice_set before.pending.items k 0
   pub blocks : after.blocks.items ≡ before.blocks.items
-  pub as_many : length after.watchers.items ≡ length before.watchers.items
-  pub keeps : (j i : ℕ) → WaitsFor before.watchers.items j i → WaitsFor after.watchers.items j i
-  pub no_more : (j i : ℕ) → WaitsFor after.watchers.items j i
-      → WaitsFor before.watchers.items j i ⊎ ((i ≡ k) × IsAwaited w j)
-  pub waits : (j : ℕ) → IsAwaited w j → j < length before.watchers.items
-      → WaitsFor after.watchers.items j k
+  pub watchers : WaitsToo before.watchers.items after.watchers.items (IsAwaited w) k
 
 -- ---- what is kept through a filling
 
@@ -83,12 +79,12 @@ pub record IsKept (m : Model) (K : Partial) (w : Watch) : Type 0 where
       → (L : Partial) → IsLater K L → ((n : ℕ) → WaitsFor w.watchers.items n k → IsOpen L n)
       → GivesNothing m L p
 
--- the first that is to be looked at of the points from a number up to another
-pub record IsNext (pending : List ℕ) (from to k : ℕ) : Type 0 where
-  pub ahead : from ≤ k
-  pub below : k < to
-  pub is_pending : IsPending pending k
-  pub none_before : (j : ℕ) → from ≤ j → j < k → IsPending pending j → ⊥
-
 abbrev pub NoneIsPending : List ℕ → ℕ → ℕ → Type 0
 NoneIsPending pending from to = (j : ℕ) → from ≤ j → j < to → IsPending pending j → ⊥
+
+-- the first that is to be looked at of the points from a number up to another, or the other
+pub record IsNext (pending : List ℕ) (from to k : ℕ) : Type 0 where
+  pub ahead : from ≤ k
+  pub below : k ≤ to
+  pub is_pending : k < to → IsPending pending k
+  pub none_before : NoneIsPending pending from k

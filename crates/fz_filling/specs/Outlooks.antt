@@ -1,6 +1,6 @@
 -- What a point gives later, and the scalars without a value that it waits for. Only private
 -- functions use these.
-use Rattle.std.specs.Prelude.{◌≡◌, ℕ, cond, ◌==◌, is_none, List, [], ◌∷◌, length, Option, None, Some, flat_map}
+use Rattle.std.specs.Prelude.{◌≡◌, ℕ, cond, ◌==◌, is_none, List, length, Option, None, Some, flat_map}
 use Rattle.std.specs.List.{AllByRecursion}
 use Rattle.fz_model.specs.declared.Term.{Term}
 use Rattle.fz_model.specs.declared.Term.TheVariants.{Var, Fixed}

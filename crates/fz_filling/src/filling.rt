@@ -5,30 +5,11 @@ ghost use Rattle.fz_model.specs.Meaning.{IsPartial};
 ghost use Rattle.fz_verdict.specs.Filling.{Chain};
 ghost use Rattle.fz_filling.specs.Courses.{IsCourse};
 
-use crate::ahead::fill_ahead;
-use crate::course::{Course, Trail};
+use crate::course::Course;
 use crate::retrace::retrace;
-use crate::waking::fill_woken;
+use crate::steps::fill_on;
 use fz_model::{Model, Partial};
 use std::alloc::{AllocError, Global};
-
-/// Goes through the points in their order, as most chains do; for the rest of a longer one it keeps
-/// which points wait.
-fn fill_on(
-    alloc: Global,
-    model: &Model<'_>,
-    partial: &mut Partial,
-    trail: &mut Trail,
-) -> Result<(), AllocError>
-    requires fits { IsPartial model.now partial.old }
-    ensures filled { OnOk result (Chain model.now partial.old 0 partial.new) }
-    ensures kinds { OnOk result (IsPartial model.now partial.new) }
-{
-    match fill_ahead(alloc, model, partial, trail)? {
-        Some(from) => fill_woken(alloc, model, partial, from, trail),
-        None => Ok(()),
-    }
-}
 
 /// Takes the steps of the filling before again, and then those that are left.
 fn fill_along(
@@ -64,11 +45,9 @@ pub fn fill_in(
     ensures kinds { OnOk result (IsPartial model.now partial.new) }
     ensures course { IfSome known.new (IsCourse model.now) }
 {
-    let mut course = match known.take() {
-        Some(course) => course,
-        None => Course::new(alloc, model)?,
-    };
-    fill_along(alloc, model, partial, &mut course)?;
-    *known = Some(course);
-    Ok(())
+    if let Some(course) = known {
+        return fill_along(alloc, model, partial, course);
+    }
+    let course = known.insert(Course::new(alloc, model)?);
+    fill_along(alloc, model, partial, course)
 }

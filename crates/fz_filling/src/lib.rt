@@ -1,14 +1,14 @@
-//! The filling of a block: the chain of forced steps. A point is looked at again only where a
-//! variable that it waits for has got a value. An internal crate of `fz_judge`.
+//! The filling of a block: the chain of forced steps. Those of the block before are tried first,
+//! where they come to the same in any order; one search through the points finds the rest. An
+//! internal crate of `fz_check`.
 #![tactic(auto)]
 
-mod ahead;
 mod course;
 mod filling;
 mod lone;
 mod outlook;
 mod retrace;
-mod waking;
+mod steps;
 mod watch;
 
 pub use course::Course;

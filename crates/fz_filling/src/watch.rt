@@ -1,7 +1,7 @@
-//! Which points are to be looked at, and which wait for a variable.
+//! The watch lists: which points wait for a variable, and which are to be looked at.
 
-ghost use Rattle.std.specs.Prelude.{◌≡◌, ◌<◌, ◌≤◌, ◌+◌, ◌*◌, ◌/◌, IfOk, IfSome, IsNone, OnOk, length, replicate, ℕ, []};
-ghost use Rattle.fz_filling.specs.Kept.{IsCovered, IsLeft, IsNext, IsSettled, NoneIsPending, WaitsFor, WaitsToo, marked, marked_blocks, watched};
+ghost use Rattle.std.specs.Prelude.{◌≡◌, ◌<◌, ◌≤◌, ◌+◌, ◌*◌, ◌/◌, IfOk, OnOk, length, replicate, slice_set, ℕ, []};
+ghost use Rattle.fz_filling.specs.Kept.{IsCovered, IsLeft, IsNext, IsSettled, WaitsFor, WaitsToo, marked, marked_blocks, watched};
 
 use crate::outlook::Waiting;
 use memchr::memchr;
@@ -43,55 +43,54 @@ impl Watch {
         })
     }
 
-    /// The first point to be looked at of those from a number up to another.
-    pub(crate) fn next(&mut self, from: usize, to: usize) -> Option<usize>
+    /// The first point to be looked at of those from a number up to another; the other where there
+    /// is none.
+    pub(crate) fn next(&mut self, from: usize, to: usize) -> usize
         requires in_order { from ≤ to }
         requires in_range { to ≤ length self.old.pending.items }
         requires covered { IsCovered self.old.pending.items self.old.blocks.items }
-        ensures first { IfSome result (λ k. IsNext self.old.pending.items from to k) }
-        ensures none { IsNone result → NoneIsPending self.old.pending.items from to }
+        ensures first { IsNext self.old.pending.items from to result }
         ensures pending { self.new.pending.items ≡ self.old.pending.items }
         ensures watchers { self.new.watchers.items ≡ self.old.watchers.items }
         ensures covered { IsCovered self.new.pending.items self.new.blocks.items }
     {
         let mut at = from;
         while at < to {
-            let Some(block) = first_set(&self.blocks, at / BLOCK, (to - 1) / BLOCK + 1) else {
-                return None;
-            };
+            let last = (to - 1) / BLOCK + 1;
+            let block = first_set(&self.blocks, at / BLOCK, last);
+            if block == last {
+                return to;
+            }
             let base = block * BLOCK;
             let start = if at < base { base } else { at };
             let end = if to - base < BLOCK { to } else { base + BLOCK };
-            if let Some(point) = self.next_within(block, start, end) {
-                return Some(point);
+            let point = self.next_within(block, start, end);
+            if point < end {
+                return point;
             }
             at = end;
         }
-        None
+        to
     }
 
-    /// The first point to be looked at of a part of a block. Where a whole block has none, that is
-    /// kept.
-    fn next_within(&mut self, block: usize, start: usize, end: usize) -> Option<usize>
+    /// The same of a part of a block. Where a whole block has none, that is kept.
+    fn next_within(&mut self, block: usize, start: usize, end: usize) -> usize
         requires in_order { start ≤ end }
         requires in_range { end ≤ length self.old.pending.items }
         requires in_block { (block * 512 ≤ start) × (end ≤ block * 512 + 512) }
         requires is_block { block < length self.old.blocks.items }
         requires covered { IsCovered self.old.pending.items self.old.blocks.items }
-        ensures first { IfSome result (λ k. IsNext self.old.pending.items start end k) }
-        ensures none { IsNone result → NoneIsPending self.old.pending.items start end }
+        ensures first { IsNext self.old.pending.items start end result }
         ensures pending { self.new.pending.items ≡ self.old.pending.items }
         ensures watchers { self.new.watchers.items ≡ self.old.watchers.items }
         ensures covered { IsCovered self.new.pending.items self.new.blocks.items }
     {
-        if let Some(point) = first_set(&self.pending, start, end) {
-            return Some(point);
-        }
-        if end - start < BLOCK {
-            return None;
+        let point = first_set(&self.pending, start, end);
+        if point < end || end - start < BLOCK {
+            return point;
         }
         self.blocks[block] = SETTLED;
-        None
+        point
     }
 
     /// The point waits, and is not looked at until then.
@@ -120,8 +119,11 @@ impl Watch {
             ≡ marked_blocks self.old.blocks.items (watched self.old.watchers.items variable) }
         ensures left { IsLeft self.old.watchers.items self.new.watchers.items variable }
     {
-        mark(&mut self.pending, &self.watchers[variable]);
-        mark_blocks(&mut self.blocks, &self.watchers[variable]);
+        mark(
+            &mut self.pending,
+            &mut self.blocks,
+            &self.watchers[variable],
+        );
         self.watchers[variable].clear();
     }
 }
@@ -140,7 +142,8 @@ fn no_watchers(alloc: Global, variables: usize) -> Result<Vec<Vec<usize>>, Alloc
 
 /// The point waits for the variable too.
 fn wait(watchers: &mut Vec<Vec<usize>>, variable: usize, point: usize) -> Result<(), AllocError>
-    ensures waits { OnOk result (WaitsToo watchers.old.items watchers.new.items variable point) }
+    ensures waits { OnOk result
+        (WaitsToo watchers.old.items watchers.new.items (λ j. j ≡ variable) point) }
 {
     if variable < watchers.len() {
         watchers[variable].push(point)?;
@@ -148,38 +151,34 @@ fn wait(watchers: &mut Vec<Vec<usize>>, variable: usize, point: usize) -> Result
     Ok(())
 }
 
-/// These points are to be looked at.
-fn mark(pending: &mut Vec<u8>, points: &[usize])
-    ensures { pending.new.items ≡ marked pending.old.items points.now }
+/// These points are to be looked at, and so each of their blocks has one.
+fn mark(pending: &mut Vec<u8>, blocks: &mut Vec<u8>, points: &[usize])
+    ensures pending { pending.new.items ≡ marked pending.old.items points.now }
+    ensures blocks { blocks.new.items ≡ marked_blocks blocks.old.items points.now }
 {
     for point in points {
-        if *point < pending.len() {
-            pending[*point] = PENDING;
-        }
+        mark_one(pending, *point);
+        mark_one(blocks, *point / BLOCK);
     }
 }
 
-/// The blocks of these points have one to be looked at.
-fn mark_blocks(blocks: &mut Vec<u8>, points: &[usize])
-    ensures { blocks.new.items ≡ marked_blocks blocks.old.items points.now }
+/// Sets the byte of a number, where there is one.
+fn mark_one(bytes: &mut Vec<u8>, number: usize)
+    ensures { bytes.new.items ≡ slice_set bytes.old.items number 1 }
 {
-    for point in points {
-        let block = *point / BLOCK;
-        if block < blocks.len() {
-            blocks[block] = PENDING;
-        }
+    if number < bytes.len() {
+        bytes[number] = PENDING;
     }
 }
 
-/// The first of the bytes from a place up to another that is set.
-fn first_set(bytes: &[u8], from: usize, to: usize) -> Option<usize>
+/// The first byte that is set, of those from a place up to another; the other where there is none.
+fn first_set(bytes: &[u8], from: usize, to: usize) -> usize
     requires in_order { from ≤ to }
     requires in_range { to ≤ length bytes.now }
-    ensures first { IfSome result (λ k. IsNext bytes.now from to k) }
-    ensures none { IsNone result → NoneIsPending bytes.now from to }
+    ensures { IsNext bytes.now from to result }
 {
     match memchr(PENDING, &bytes[from..to]) {
-        Some(place) => Some(from + place),
-        None => None,
+        Some(place) => from + place,
+        None => to,
     }
 }

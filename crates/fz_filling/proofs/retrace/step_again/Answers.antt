@@ -1,5 +1,5 @@
-use Rattle.std.proofs.Common.{◌<◌, length, sym, subst, arith}
-use Rattle.fz_model.specs.Meaning.{IsPartial, points, variables_of}
+use Rattle.std.proofs.Common.{sym, subst}
+use Rattle.fz_model.specs.Meaning.{IsPartial, variables_of}
 use Rattle.fz_model.specs.Steps.{terms_of}
 use Rattle.fz_model.specs.Values.{kind_of}
 use Rattle.fz_model.proofs.Steps.{only_open_none}
@@ -13,26 +13,22 @@ returns-then-point-points-clause-run c = Stays
 
 pub set-requires-clause-in_range : goal.set-requires-clause-in_range
 set-requires-clause-in_range c =
-    let within : c.args.point < length (points c.args.model.now) = omega (arith, c.points.ensures.counted, c.if-point-points.false) in
-    let (p, at, g) = point_gives c.args.model.now c.args.partial.now c.args.point c.in-Some.variable c.in-Some.value c.in_ok-variable.field-0 c.in-Some.is within c.in_ok-variable.ensures.given in
+    let (p, at, g) = point_gives c.args.model.now c.args.partial.now c.args.point c.in-Some.variable c.in-Some.value c.in_ok-variable.field-0 c.points.result c.in-Some.is c.points.ensures.counted c.if-point-points.false c.in_ok-variable.ensures.given in
     number_within c.args.model.now c.args.partial.now c.in-Some.variable (kind_of c.in-Some.value) c.requires.fits g.of_kind
 
 pub set-requires-clause-unset : goal.set-requires-clause-unset
 set-requires-clause-unset c =
-    let within : c.args.point < length (points c.args.model.now) = omega (arith, c.points.ensures.counted, c.if-point-points.false) in
-    let (p, at, g) = point_gives c.args.model.now c.args.partial.now c.args.point c.in-Some.variable c.in-Some.value c.in_ok-variable.field-0 c.in-Some.is within c.in_ok-variable.ensures.given in
+    let (p, at, g) = point_gives c.args.model.now c.args.partial.now c.args.point c.in-Some.variable c.in-Some.value c.in_ok-variable.field-0 c.points.result c.in-Some.is c.points.ensures.counted c.if-point-points.false c.in_ok-variable.ensures.given in
     only_open_none c.args.partial.now c.in-Some.variable (terms_of p) g.only_open
 
 pub returns-in-Some-clause-run : goal.returns-in-Some-clause-run
 returns-in-Some-clause-run c =
-    let within : c.args.point < length (points c.args.model.now) = omega (arith, c.points.ensures.counted, c.if-point-points.false) in
-    let (p, at, g) = point_gives c.args.model.now c.args.partial.now c.args.point c.in-Some.variable c.in-Some.value c.in_ok-variable.field-0 c.in-Some.is within c.in_ok-variable.ensures.given in
+    let (p, at, g) = point_gives c.args.model.now c.args.partial.now c.args.point c.in-Some.variable c.in-Some.value c.in_ok-variable.field-0 c.points.result c.in-Some.is c.points.ensures.counted c.if-point-points.false c.in_ok-variable.ensures.given in
     subst (Run c.args.model.now c.args.partial.now) (sym c.set.ensures.given) (Goes c.args.point p at g Stays)
 
 pub returns-in-Some-clause-kinds : goal.returns-in-Some-clause-kinds
 returns-in-Some-clause-kinds c =
-    let within : c.args.point < length (points c.args.model.now) = omega (arith, c.points.ensures.counted, c.if-point-points.false) in
-    let (p, at, g) = point_gives c.args.model.now c.args.partial.now c.args.point c.in-Some.variable c.in-Some.value c.in_ok-variable.field-0 c.in-Some.is within c.in_ok-variable.ensures.given in
+    let (p, at, g) = point_gives c.args.model.now c.args.partial.now c.args.point c.in-Some.variable c.in-Some.value c.in_ok-variable.field-0 c.points.result c.in-Some.is c.points.ensures.counted c.if-point-points.false c.in_ok-variable.ensures.given in
     subst (IsPartial c.args.model.now) (sym c.set.ensures.given) (give_fits (variables_of c.args.model.now) c.args.partial.now c.in-Some.variable c.in-Some.value c.requires.fits g.of_kind)
 
 pub returns-in_default-clause-run : goal.returns-in_default-clause-run
