@@ -1,6 +1,6 @@
 -- What is known of a stream while a reader gives its bytes (this project's profile). What a reader
--- still has to give is known or not, as `Consumes` and `IsAtEnd` have it: of a reader that tells
--- nothing, as a file, they say nothing.
+-- still has to give is known or not, as `Consumes` and `IsAtEnd` have it: of a reader of which
+-- nothing is known, such as a file, they say nothing.
 use Rattle.std.specs.Prelude.{◌≡◌, ℕ, suc, ◌+◌, ◌*◌, ◌≤◌, List, [], ◌∷◌, ◌++◌, length, Option, ◌⊎◌}
 use Rattle.std.specs.Io.KnownBytes.{Consumes, IsAtEnd}
 use Rattle.fz_stream.specs.declared.error.StreamError.{StreamError}

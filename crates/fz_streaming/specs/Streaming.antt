@@ -1,6 +1,6 @@
 -- What a check over a reader and a writer answers, and what it writes (this project's profile). The
--- bytes read are those that the reader gave, the bytes written those that the writer got, where
--- they tell them.
+-- bytes read are those that the reader gave, the bytes written those that the writer got, as far as
+-- these are known.
 use Rattle.std.specs.Prelude.{◌≡◌, ◌≢◌, ℕ, suc, List, [], ◌∷◌, ◌++◌, ◌⊎◌, length, map, Option}
 use Rattle.std.specs.List.{AllByRecursion}
 use Rattle.std.specs.Io.KnownBytes.{Appends, Consumes, IsAtEnd}
@@ -22,8 +22,8 @@ use Rattle.fz_streaming.specs.Reading.{HasNoMore}
 abbrev pub lines_text : List Verdict → List StreamPart → List ℕ
 lines_text verdicts parts = text_of_lines (part_lines 0 verdicts parts)
 
--- These are the verdicts of the blocks among the parts, with the places where their names and
--- literals stand in them; no block among them has a fault.
+-- These are the verdicts of the blocks among the parts, with the byte ranges of their names and
+-- literals; no block among them has a fault.
 pub record HaveVerdicts (c : Completion) (m : Model) (parts : List StreamPart)
     (verdicts : List Verdict) : Type 0 where
   pub blocks : List the_block.Block
@@ -66,8 +66,8 @@ abbrev pub EndInside : Option (List ℕ) → List ℕ → List StreamPart → Ty
 EndInside left given parts = ((front : List ℕ) × (rest : List ℕ) × (given ≡ front ++ rest)
     × HasNoMore front parts) ⊎ (IsAtEnd left × IsStreamText given parts)
 
--- The block that comes next after the parts has the number, and this is its fault, at the place
--- where it stands in the stream.
+-- The block that comes next after the parts has the number, and this is its fault, with its byte
+-- range in the stream.
 pub record BlockIsRefused (m : Model) (left : Option (List ℕ)) (given : List ℕ)
     (parts : List StreamPart) (number : ℕ) (e : BlockError) : Type 0 where
   pub block : the_block.Block

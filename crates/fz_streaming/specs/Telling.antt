@@ -56,7 +56,7 @@ pub record HasTold (c : Completion) (m : Model) (j : JudgeState) (t : Tally)
   pub tallies : Tallies t verdicts
   pub one_each : length verdicts ≡ length (blocks_in parts)
 
--- One more part was told, by this line.
+-- One more part was reported, by this line.
 pub record TellsOneMore (c : Completion) (m : Model) (j : JudgeState) (t : Tally)
     (parts : List StreamPart) (verdicts : List Verdict) (part : StreamPart)
     (line : List ℕ) : Type 0 where
@@ -86,8 +86,8 @@ IsWritingRefusal errors.Write = ⊤
 IsWritingRefusal errors.Memory = ⊤
 IsWritingRefusal _ = ⊥
 
--- Where the reader of parts stands behind some parts and one more, of which all but the last were
--- told, the last is told too.
+-- Where the reader of parts has passed some parts and one more, and all but the last were reported,
+-- the last is reported too.
 abbrev pub IsTold : ReaderState → JudgeState → JudgeState → Tally → Tally → List ℕ → Type 0
 IsTold s j j' t t' line =
     (c : Completion) (m : Model) (left : Option (List ℕ)) (given : List ℕ) (parts : List StreamPart)

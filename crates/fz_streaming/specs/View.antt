@@ -1,4 +1,4 @@
--- What the answer of the code stands for.
+-- The answer of the code, as a definition.
 use Rattle.fz_judge.specs.of_verdict.Verdict as plain
 use Rattle.fz_streaming.specs.declared.line.Answer.{Answer}
 use Rattle.fz_streaming.specs.declared.line.Answer.TheVariants as answers

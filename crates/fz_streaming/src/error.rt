@@ -21,7 +21,7 @@ pub enum PartError {
     Memory,
 }
 
-/// What is answered where a splitter refuses a stream's bytes.
+/// The error of a part for an error of the splitter.
 pub(crate) fn part_refusal(error: StreamError) -> PartError
     ensures { result ≡ part_refusal error }
 {
@@ -51,7 +51,7 @@ pub enum StreamingError {
     Memory,
 }
 
-/// What is answered where the next part is not known.
+/// The error of a check for an error of the next part.
 pub(crate) fn streaming_refusal(error: PartError) -> StreamingError
     ensures { result ≡ streaming_refusal error }
 {

@@ -10,7 +10,7 @@ use fz_judge::Verdict;
 use fz_stream::ClaimKind;
 use std::alloc::AllocError;
 
-/// What a whole stream is judged to be.
+/// The answer on a whole stream.
 #[derive(Clone, Copy, Debug, PartialEq, Eq)]
 pub enum Answer {
     /// There are this many blocks, at least one, and all are satisfied.

@@ -14,11 +14,11 @@ const PIECE: usize = 4096;
 #[error("read")]
 pub(crate) struct ReadFailed;
 
-/// What a reader gave last, as far as it is not taken yet.
+/// The bytes of the last read that aren't taken yet.
 #[derive(Drop)]
 pub(crate) struct Pieces {
     buffer: [u8; PIECE],
-    /// What is left lies in the buffer from `next` to `end`.
+    /// The bytes from `next` up to `end` in the buffer aren't taken yet.
     next: usize,
     end: usize,
     /// How many more reads may be made.
@@ -67,7 +67,7 @@ impl Pieces {
         self.next += n;
     }
 
-    /// Reads once, and tells whether the reader gave anything.
+    /// Reads once; `true` where the reader gave any bytes.
     pub(crate) fn read<R: Read>(&mut self, reader: &mut R) -> Result<bool, ReadFailed>
         requires none { self.old.pending ≡ [] }
         ensures given { Consumes (R.remaining reader.old)

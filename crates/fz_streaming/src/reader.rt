@@ -53,8 +53,8 @@ impl PartReader {
         }
     }
 
-    /// Lets the splitter take of what was read until the next part has ended, and tells whether one
-    /// has.
+    /// Feeds the splitter with what was read, up to the end of the next part; `true` where a part has
+    /// ended.
     fn feed(&mut self) -> Result<bool, StreamError>
         requires going { self.old.splitter.stage ≢ Finished }
         ensures going { OnOk result (self.new.splitter.stage ≡ Running) }
@@ -87,7 +87,7 @@ impl PartReader {
         Ok(splitter.waiting())
     }
 
-    /// Reads once, and tells whether the reader gave anything.
+    /// Reads once; `true` where the reader gave any bytes.
     fn read<R: Read>(&mut self, reader: &mut R) -> Result<bool, ReadFailed>
         requires none { self.old.pending ≡ [] }
         ensures same { self.new.splitter ≡ self.old.splitter }
@@ -103,7 +103,7 @@ impl PartReader {
         self.pieces.read(reader)
     }
 
-    /// Ends the stream, whose bytes were all given, and tells whether its last line ended a part.
+    /// Ends the stream, whose bytes were all given; `true` where its last line ended a part.
     fn finish(&mut self) -> Result<bool, StreamError>
         requires none { self.old.pending ≡ [] }
         requires going { self.old.splitter.stage ≢ Finished }

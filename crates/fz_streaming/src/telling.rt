@@ -25,7 +25,7 @@ use fz_stream::{Block, Part};
 use std::alloc::Global;
 use std::io::Write;
 
-/// So many bytes of lines don't wait for the next read.
+/// The most bytes of lines that wait for the next read, but for the last line.
 const MOST_WAITING: usize = 65_536;
 
 /// Judges a block, counts it and adds its line.
@@ -59,7 +59,7 @@ fn tell_block(
     }
 }
 
-/// Tells the next part: the line of a claim, or of a block's verdict.
+/// Makes the line of the next part: of a claim, or of a block's verdict.
 pub(crate) fn tell(
     alloc: Global,
     judge: &mut Judge<'_, '_>,
@@ -89,7 +89,7 @@ pub(crate) fn tell(
     }
 }
 
-/// Tells the part that waits. The items of a block are moved, and none is copied.
+/// Makes the line of the part that waits. The items of a block are moved, and none is copied.
 pub(crate) fn tell_next(
     alloc: Global,
     parts: &mut PartReader,
@@ -114,8 +114,9 @@ pub(crate) fn tell_next(
     tell(alloc, judge, tally, line, &part)
 }
 
-/// Lets the line wait with the others, or writes them all where they are many: lines with long
-/// names would fill the memory. Where there is no memory for the line, the others wait as before.
+/// Appends the line to those that wait for the next read, or writes them all where they are many:
+/// lines with long names would fill the memory. Where there is no memory for the line, the others
+/// wait as before.
 pub(crate) fn gather<W: Write>(
     writer: &mut W,
     lines: &mut Vec<u8>,
@@ -142,7 +143,7 @@ pub(crate) fn gather<W: Write>(
     }
 }
 
-/// Tells the answer: its line waits with the others.
+/// Appends the line of the answer to those that wait.
 pub(crate) fn tell_answer(
     line: &mut Vec<u8>,
     lines: &mut Vec<u8>,
