@@ -1,8 +1,7 @@
 //! The streaming check: over a reader and a writer. `PartReader` gives the parts of the stream one
-//! after another while a reader gives its bytes, and `check_parts` judges each
-//! block when its last line has come, and writes the lines of the report before each read. The
-//! lines themselves, and the answer, serve the check of a whole stream too. An internal crate of
-//! `fz_check`.
+//! after another while a reader gives its bytes, and `check_parts` judges each block when its last
+//! line has come, and writes the lines of the report before each read. The lines themselves, and
+//! the answer, serve the check of a whole stream too. An internal crate of `fz_check`.
 //!
 //! Its worked cases are in `fz_check_cases`.
 #![tactic(auto)]

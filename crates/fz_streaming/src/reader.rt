@@ -53,8 +53,8 @@ impl PartReader {
         }
     }
 
-    /// Feeds the splitter with what was read, up to the end of the next part; `true` where a part has
-    /// ended.
+    /// Feeds the splitter with what was read, up to the end of the next part; `true` where a part
+    /// has ended.
     fn feed(&mut self) -> Result<bool, StreamError>
         requires going { self.old.splitter.stage ≢ Finished }
         ensures going { OnOk result (self.new.splitter.stage ≡ Running) }
