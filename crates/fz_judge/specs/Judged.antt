@@ -11,15 +11,15 @@ use Rattle.fz_judge.specs.declared.error.BlockError.{BlockError}
 use Rattle.fz_judge.specs.declared.error.BlockError.TheVariants as errors
 
 -- a judge: the model, whether values are looked for, and the objective of the block before, under
--- its filling and under the values for which it was told satisfied
+-- its filling and under the values with which it was satisfied
 pub record JudgeState : Type 0 where
   pub model : Model
   pub completion : Completion
   pub before : Option ℤ
   pub found : Option ℤ
 
--- What is told of a block is told by its verdict under its filling, which is compared with the
--- objective before, and the objective under that filling is kept.
+-- The verdict on a block is that under its filling, compared with the objective before; the
+-- objective under that filling is stored.
 pub record IsJudged (old new : JudgeState) (block : Block) (v : Verdict) : Type 0 where
   pub filling : Partial
   pub is_filled : IsFilled old.model block filling
@@ -27,29 +27,29 @@ pub record IsJudged (old new : JudgeState) (block : Block) (v : Verdict) : Type 
       (verdict old.model filling block old.before) v new.found
   pub kept_is : new.before ≡ objective old.model filling
 
--- the error tells the fault, unless memory ran out
+-- the error is that of the fault, unless memory ran out
 abbrev pub TellsFault : BlockError → Option BlockFault → Type 0
 TellsFault (errors.UnknownName at) f = f ≡ Some (record { kind = UnknownName; at = at })
 TellsFault (errors.Kind at) f = f ≡ Some (record { kind = WrongKind; at = at })
 TellsFault (errors.Length at) f = f ≡ Some (record { kind = WrongLength; at = at })
 TellsFault errors.Memory f = ⊤
 
--- the kind of fault that an error tells, unless memory ran out
+-- the kind of fault that an error is of, unless memory ran out
 abbrev pub kind_told : BlockError → Option BlockFaultKind
 kind_told (errors.UnknownName at) = Some UnknownName
 kind_told (errors.Kind at) = Some WrongKind
 kind_told (errors.Length at) = Some WrongLength
 kind_told errors.Memory = None
 
--- there is a fault of the kind that the error tells
+-- there is a fault of the kind that the error is of
 abbrev pub TellsKind : BlockError → Option BlockFault → Type 0
 TellsKind e f = IfSome (kind_told e) (λ k. IsSomeAnd f (λ x. x.kind ≡ k))
 
--- a block is refused for its fault, at its place in the stream, or for lack of memory
+-- a block is refused for its fault, with its byte range in the stream, or for lack of memory
 abbrev pub IsBlockRefusal : Model → Block → BlockError → Type 0
 IsBlockRefusal m block e = TellsFault e (block_fault m block)
 
--- the refusal that tells a fault
+-- the refusal for a fault
 abbrev pub refusal_at : BlockFaultKind → Span → BlockError
 refusal_at UnknownName at = errors.UnknownName at
 refusal_at WrongKind at = errors.Kind at

@@ -1,4 +1,4 @@
--- What verdicts as the code keeps them stand for: plain verdicts, with names as bytes.
+-- The verdicts of the code as definitions have them: with names as bytes.
 use Rattle.fz_verdict.specs.Verdict as plain
 use Rattle.fz_judge.specs.declared.verdict.Fault.{Fault}
 use Rattle.fz_judge.specs.declared.verdict.Fault.TheVariants as faults

@@ -27,7 +27,7 @@ use Rattle.fz_judge.specs.declared.error.BlockError.TheVariants as errors
 
 -- ---- the start
 
--- it has a place for each variable
+-- it has room for the value of each variable
 abbrev pub HasRoom : Model → Partial → Type 0
 HasRoom m K = length K ≡ length (variables_of m)
 
@@ -93,7 +93,7 @@ is_failed NoValue = false
 is_failed Unknown = false
 is_failed TooLarge = false
 
--- what is undecided at a point by what it is told by
+-- the reason that a point is undecided, by its name
 abbrev pub reason_named : List ℕ → PointName → State → Option Reason
 reason_named unset q NoValue = Some (NoValueFor unset)
 reason_named unset q Unknown = not_known_at q
@@ -107,8 +107,8 @@ with_objective (Violated f) o = Violated f
 with_objective (Undecided r) o = verdict_by o (Some r)
 with_objective Satisfied o = verdict_by o None
 
--- what is told of a block that is satisfied, where its objective may not be better than one that
--- was looked for
+-- the verdict on a block that is satisfied, where its objective may not be better than one that a
+-- search found
 abbrev pub compared : Model → Option Fault → Verdict
 compared m None = Satisfied
 compared m (Some f) = Undecided (NoValueFor (name_of_aim m m.aim))
@@ -120,14 +120,14 @@ IsFound m block before kept =
 
 -- ---- refusals
 
--- the place that an error names, if it names one, lies within so many bytes
+-- the byte range that an error names, if it names one, is within so many bytes
 abbrev pub IsPlacedWithin : ℕ → BlockError → Type 0
 IsPlacedWithin n (errors.UnknownName at) = IsSpanWithin n at
 IsPlacedWithin n (errors.Kind at) = IsSpanWithin n at
 IsPlacedWithin n (errors.Length at) = IsSpanWithin n at
 IsPlacedWithin n errors.Memory = ⊤
 
--- the same fault at its place in the stream
+-- the same fault with its byte range in the stream
 abbrev pub moved_error : ℕ → BlockError → BlockError
 moved_error offset (errors.UnknownName at) = errors.UnknownName (moved offset at)
 moved_error offset (errors.Kind at) = errors.Kind (moved offset at)

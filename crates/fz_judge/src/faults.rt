@@ -1,4 +1,4 @@
-//! What of a printed item does not fit the model. Places count from the block's text.
+//! What of a printed item does not fit the model. Byte ranges count from the block's text.
 
 ghost use Rattle.std.specs.Prelude.{◌≡◌, ℕ, List, map, option_map, slice_get};
 ghost use Rattle.std.specs.Option.{option_map_or};
@@ -41,7 +41,7 @@ fn elements_fault(kind: Kind, literals: &[Literal]) -> Option<BlockError>
     None
 }
 
-/// The kind of the variable of a number; no scalar has a number that is none's.
+/// The kind of the variable with a number.
 fn variable_kind(variables: &[Variable<'_>], number: usize) -> Kind
     ensures { result ≡ option_map_or (λ v. v.kind)
         (slice_get (map variable_view variables.now) number) Kind.Int }

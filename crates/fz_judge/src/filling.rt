@@ -12,25 +12,25 @@ ghost use Rattle.fz_judge.specs.Judged.{IsBlockRefusal, TellsKind, kind_told};
 ghost use Rattle.fz_judge.specs.Working.{HasRoom, IsPlacedWithin, moved_error};
 
 use crate::error::BlockError;
-use crate::start::{Proposed, start};
+use crate::start::{Proposed, nothing_proposed, start};
 use fz_base::Span;
 use fz_filling::{Course, fill_in};
 use fz_model::{Model, Partial};
 use fz_stream::Block;
 use std::alloc::Global;
 
-/// A place in a block's text as one of the stream.
+/// The byte range in the stream of one in a block's text.
 fn moved_span(span: Span, offset: usize) -> Span
     ensures { IsSpanWithin (usize.MAX - offset) span → result ≡ moved offset span }
 {
-    // Both ends of a block's places lie within the stream, so nothing saturates.
+    // Both ends of a byte range of a block are in the stream, so nothing saturates.
     Span {
         start: offset.saturating_add(span.start),
         end: offset.saturating_add(span.end),
     }
 }
 
-/// A fault of a block, at its place in the stream.
+/// A fault of a block, with its byte range in the stream.
 fn moved_error(error: BlockError, offset: usize) -> BlockError
     ensures moved { IsPlacedWithin (usize.MAX - offset) error → result ≡ moved_error offset error }
     ensures kind { kind_told result ≡ kind_told error }
@@ -43,42 +43,36 @@ fn moved_error(error: BlockError, offset: usize) -> BlockError
     }
 }
 
-/// The filling of a block, along the course of those before it, in the room of a spare proposal
-/// where there is one. Where each name has its printed value as it is taken, each has it under the
-/// filling: no value changes any more.
+/// The filling of a block, with the propagation order of those before it, in the memory of a spare
+/// proposal where there is one. Where each name has its printed value as it is taken, each has it
+/// under the filling: no value changes any more.
 pub(crate) fn filled(
     alloc: Global,
     model: &Model<'_>,
     block: &Block<'_>,
     course: &mut Option<Course>,
-    spare: Option<Proposed>,
-) -> Result<Proposed, BlockError>
+    spare: Option<Box<Proposed>>,
+) -> Result<Box<Proposed>, BlockError>
     requires course { IfSome course.old (IsCourse model.now) }
-    requires room { IfSome spare (λ s. HasRoom model.now s.partial) }
-    ensures filled { IfOk result (λ f. IsFilled model.now (located_block block.now) f.partial) }
-    ensures kinds { IfOk result (λ f. IsPartial model.now f.partial) }
-    ensures agrees { IfOk result (λ f. IsTrue f.agrees → first_some
-        (printed_fails model.now f.partial) (located_items block.now.items.items) ≡ None) }
+    requires room { IfSome spare (λ s. HasRoom model.now s.value.partial) }
+    ensures filled { IfOk result (λ f. IsFilled model.now (located_block block.now)
+        f.value.partial) }
+    ensures kinds { IfOk result (λ f. IsPartial model.now f.value.partial) }
+    ensures agrees { IfOk result (λ f. IsTrue f.value.agrees → first_some
+        (printed_fails model.now f.value.partial) (located_items block.now.items.items) ≡ None) }
     ensures only { IfErr result (λ e. TellsKind e
         (block_fault model.now (located_block block.now))) }
     ensures refused { IfErr result (λ e. HasPlaces block.now → EndsWithin usize.MAX block.now
         → IsBlockRefusal model.now (located_block block.now) e) }
     ensures course { IfSome course.new (IsCourse model.now) }
 {
-    let Proposed {
-        mut partial,
-        agrees,
-        places,
-    } = match start(alloc, model, &block.items, spare) {
-        Ok(started) => started,
+    let mut proposed = nothing_proposed(alloc, model, spare)?;
+    match start(alloc, model, &block.items, &mut proposed) {
+        Ok(()) => {}
         Err(error) => return Err(moved_error(error, block.offset)),
-    };
-    fill_in(alloc, model, &mut partial, course)?;
-    Ok(Proposed {
-        partial,
-        agrees,
-        places,
-    })
+    }
+    fill_in(alloc, model, &mut proposed.partial, course)?;
+    Ok(proposed)
 }
 
 /// The values that follow from the printed ones by forced steps. It goes over the printed items
@@ -87,24 +81,20 @@ pub(crate) fn filled(
 ///
 /// # Errors
 ///
-/// The fault of the first printed item that has one, at its place in the stream, and `Memory` where
-/// memory runs out.
+/// The fault of the first printed item that has one, with its byte range in the stream, and
+/// `Memory` where memory runs out.
 pub fn fill(alloc: Global, model: &Model<'_>, block: &Block<'_>) -> Result<Partial, BlockError>
     ensures filled { IfOk result (λ F. IsFilled model.now (located_block block.now) F) }
     ensures kinds { IfOk result (λ F. IsPartial model.now F) }
-    // Of any block: it has a fault, and its first is of the kind that is told.
+    // Whatever the block: it has a fault, and its first is of the kind that the error has.
     ensures only { IfErr result (λ e. TellsKind e
         (block_fault model.now (located_block block.now))) }
-    // Of a block as `fz_stream` reads it: its places lie in its text, and its text ends within the
-    // numbers.
+    // Of a block as `fz_stream` reads it, with byte ranges in its text: the error is the block's
+    // first fault, with its byte range in the stream.
     ensures refused { IfErr result (λ e. HasPlaces block.now → EndsWithin usize.MAX block.now
         → IsBlockRefusal model.now (located_block block.now) e) }
 {
     let mut course = Some(Course::unknown(alloc));
-    let Proposed {
-        partial,
-        agrees: _,
-        places: _,
-    } = filled(alloc, model, block, &mut course, None)?;
-    Ok(partial)
+    let filling = filled(alloc, model, block, &mut course, None)?;
+    Ok(Box::into_inner(filling).partial)
 }

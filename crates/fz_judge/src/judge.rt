@@ -1,7 +1,7 @@
 //! A judge: blocks, one after another, against a model.
 
 ghost use Rattle.std.specs.Prelude.{◌≡◌, IfErr, IfOk, IfSome, IsTrue, None, option_map};
-ghost use Rattle.fz_model.specs.Meaning.{IsPartial, first_some};
+ghost use Rattle.fz_model.specs.Meaning.{IsPartial, first_some, objective};
 ghost use Rattle.fz_model.specs.Overviews.{IsOverview};
 ghost use Rattle.fz_stream.specs.Found.{EndsWithin, HasPlaces};
 ghost use Rattle.fz_verdict.specs.Blocks.{block_fault, items_fault};
@@ -23,7 +23,6 @@ use fz_filling::Course;
 use fz_model::{Goal, Model, Overview, Partial, Term};
 use fz_search::{Search, propose};
 use fz_stream::Block;
-use fz_syntax::Printed;
 use fz_verdict::Completion;
 use std::alloc::{AllocError, Global};
 
@@ -45,29 +44,8 @@ fn with_objective<'a>(points: Verdict<'a>, objective: Option<Fault<'a>>) -> Verd
     }
 }
 
-/// The fault of the first printed item whose name has another value than the printed one. Where all
-/// were seen to agree, nothing is looked at again.
-fn disagreement<'a>(
-    alloc: Global,
-    model: &Model<'a>,
-    partial: &Partial,
-    agrees: bool,
-    items: &[Printed<'_>],
-) -> Result<Option<Fault<'a>>, AllocError>
-    requires clean { items_fault model.now (located_items items.now) ≡ None }
-    requires agrees { IsTrue agrees
-        → first_some (printed_fails model.now partial.now) (located_items items.now) ≡ None }
-    ensures { IfOk result (λ o. option_map fault_view o
-        ≡ first_some (printed_fails model.now partial.now) (located_items items.now)) }
-{
-    if agrees {
-        return Ok(None);
-    }
-    printed_fails(alloc, model, partial, items)
-}
-
-/// The verdict on a block under a partial assignment: each point and the objective is looked at
-/// again, and each printed name unless all are known to agree.
+/// The verdict on a block under a partial assignment, and the objective. Every point is evaluated,
+/// and every printed name is compared unless all are known to agree.
 fn verdict_under<'a>(
     alloc: Global,
     model: &Model<'a>,
@@ -76,39 +54,26 @@ fn verdict_under<'a>(
     agrees: bool,
     block: &Block<'_>,
     before: Option<i64>,
-) -> Result<Verdict<'a>, AllocError>
+) -> Result<(Verdict<'a>, Option<i64>), AllocError>
     requires overview { IsOverview model.now overview.now }
     requires clean { items_fault model.now (located_items block.now.items.items) ≡ None }
     requires agrees { IsTrue agrees → first_some (printed_fails model.now partial.now)
         (located_items block.now.items.items) ≡ None }
-    ensures { IfOk result (λ v. verdict_view v
+    ensures judged { IfOk result (λ r. verdict_view r.0
         ≡ verdict model.now partial.now (located_block block.now) before) }
+    ensures objective { IfOk result (λ r. r.1 ≡ objective model.now partial.now) }
 {
-    if let Some(fault) = disagreement(alloc, model, partial, agrees, &block.items)? {
-        return Ok(Verdict::Violated(fault));
+    let now = objective(model, partial);
+    if let Some(fault) = printed_fails(alloc, model, partial, agrees, &block.items)? {
+        return Ok((Verdict::Violated(fault), now));
     }
     let points = points_verdict(alloc, model, overview, partial)?;
-    let now = objective(model, partial);
-    Ok(with_objective(points, objective_fails(model.goal(), before, now)))
+    let verdict = with_objective(points, objective_fails(model.goal(), before, now));
+    Ok((verdict, now))
 }
 
-/// The overview of a model: the one that is known, or else a new one.
-fn overview_of(
-    alloc: Global,
-    model: &Model<'_>,
-    known: Option<Overview>,
-) -> Result<Overview, AllocError>
-    requires overview { IfSome known (IsOverview model.now) }
-    ensures { IfOk result (IsOverview model.now) }
-{
-    match known {
-        Some(overview) => Ok(overview),
-        None => Overview::new(alloc, model),
-    }
-}
-
-/// The verdict on a block under a partial assignment. The overview of the model is made for the
-/// first block, and kept for the next.
+/// The same, with the overview of the model, which is made for the first block and stored for the
+/// next.
 fn verdict_over<'a>(
     alloc: Global,
     model: &Model<'a>,
@@ -117,22 +82,24 @@ fn verdict_over<'a>(
     agrees: bool,
     block: &Block<'_>,
     before: Option<i64>,
-) -> Result<Verdict<'a>, AllocError>
+) -> Result<(Verdict<'a>, Option<i64>), AllocError>
     requires overview { IfSome known.old (IsOverview model.now) }
     requires clean { items_fault model.now (located_items block.now.items.items) ≡ None }
     requires agrees { IsTrue agrees → first_some (printed_fails model.now partial.now)
         (located_items block.now.items.items) ≡ None }
-    ensures judged { IfOk result (λ v. verdict_view v
+    ensures judged { IfOk result (λ r. verdict_view r.0
         ≡ verdict model.now partial.now (located_block block.now) before) }
+    ensures objective { IfOk result (λ r. r.1 ≡ objective model.now partial.now) }
     ensures overview { IfSome known.new (IsOverview model.now) }
 {
-    let overview = overview_of(alloc, model, known.take())?;
-    let found = verdict_under(alloc, model, &overview, partial, agrees, block, before)?;
-    *known = Some(overview);
-    Ok(found)
+    if let Some(overview) = known {
+        return verdict_under(alloc, model, overview, partial, agrees, block, before);
+    }
+    let overview = known.insert(Overview::new(alloc, model)?);
+    verdict_under(alloc, model, overview, partial, agrees, block, before)
 }
 
-/// The name of the variable that a scalar is; none is needed where it is no variable.
+/// The name of the variable that a scalar is; empty where it is no variable.
 fn name_of_term<'a>(model: &Model<'a>, term: &Term) -> &'a [u8]
     ensures { result.now ≡ name_of_term model.now term.now }
 {
@@ -156,8 +123,8 @@ fn objective_name<'a>(model: &Model<'a>) -> &'a [u8]
     }
 }
 
-/// What is told of a block that is satisfied under its filling with the objective `now`, where
-/// the one kept before was looked for.
+/// The verdict on a block that is satisfied under its filling with the objective `now`, where the
+/// objective before was found by a search.
 fn compared<'a>(model: &Model<'a>, before: Option<i64>, now: Option<i64>) -> Verdict<'a>
     ensures { verdict_view result ≡ compared model.now (objective_fails model.now.aim before now) }
 {
@@ -167,21 +134,22 @@ fn compared<'a>(model: &Model<'a>, before: Option<i64>, now: Option<i64>) -> Ver
     }
 }
 
-/// A model with the objectives of the block that was judged last, what its fillings so far have
-/// shown of the next, what is looked at of its declarations for each block, and the last filling.
+/// A model with the objectives of the block that was judged last, and what one block leaves to
+/// make the next one quicker.
 #[derive(Drop)]
 pub struct Judge<'m, 'a> {
     model: &'m Model<'a>,
     completion: Completion,
     /// the objective of the block before under its filling
     before: Option<i64>,
-    /// and under the values that were found for it
+    /// the objective of the block before under the values that were found for it
     found: Option<i64>,
     course: Option<Course>,
     overview: Option<Overview>,
     search: Option<Search>,
-    /// the filling of the block before, whose room the next one takes, and where it finds its names
-    spare: Option<Proposed>,
+    /// the filling of the block before: the next one takes its memory, and the indices of its
+    /// names; in a box, since it is moved for each block
+    spare: Option<Box<Proposed>>,
 }
 
 impl<'m, 'a> std::marker::Model for Judge<'m, 'a> {
@@ -207,7 +175,7 @@ impl<'m, 'a> std::marker::Model for Judge<'m, 'a> {
 
     ghost invariant = { λ j. IfSome j.course (IsCourse j.model.now)
         × IfSome j.overview (IsOverview j.model.now)
-        × IfSome j.spare (λ s. HasRoom j.model.now s.partial) };
+        × IfSome j.spare (λ s. HasRoom j.model.now s.value.partial) };
 }
 
 impl<'m, 'a> Judge<'m, 'a> {
@@ -232,30 +200,31 @@ impl<'m, 'a> Judge<'m, 'a> {
         }
     }
 
-    /// The verdict on a block that has this one under its filling, and its objective, where values
-    /// that the solver left out are looked for. What was found is judged anew, and only where it
-    /// satisfies the block it is told.
+    /// The verdict on a block that has the verdict `under` and the objective `now` under its filling,
+    /// and the objective to compare the next block with, where values that the solver left out are
+    /// looked for. What was found is judged anew, and counts only where it satisfies the block.
     fn completed(
         &mut self,
         alloc: Global,
         filling: &Partial,
         block: &Block<'_>,
         under: Verdict<'a>,
+        now: Option<i64>,
     ) -> Result<(Verdict<'a>, Option<i64>), AllocError>
         requires clean { items_fault self.old.model (located_items block.now.items.items) ≡ None }
         requires kinds { IsPartial self.old.model filling.now }
         requires filled { verdict_view under
             ≡ verdict self.old.model filling.now (located_block block.now) self.old.before }
+        requires objective { now ≡ objective self.old.model filling.now }
         ensures told { IfOk result (λ r. IsCompleted self.old.model
             (located_block block.now) self.old.found filling.now (verdict_view under.entry)
             (verdict_view r.0) r.1) }
         ensures same { self.new ≡ self.old }
     {
-        let filled = objective(self.model, filling);
         match under {
-            Verdict::Satisfied => Ok((compared(self.model, self.found, filled), filled)),
-            Verdict::Undecided(reason) => self.undecided(alloc, filling, block, reason),
-            Verdict::Violated(_) => Ok((under, filled)),
+            Verdict::Satisfied => Ok((compared(self.model, self.found, now), now)),
+            Verdict::Undecided(reason) => self.undecided(alloc, filling, block, reason, now),
+            Verdict::Violated(_) => Ok((under, now)),
         }
     }
 
@@ -266,23 +235,22 @@ impl<'m, 'a> Judge<'m, 'a> {
         filling: &Partial,
         block: &Block<'_>,
         reason: Reason<'a>,
+        now: Option<i64>,
     ) -> Result<(Verdict<'a>, Option<i64>), AllocError>
         requires clean { items_fault self.old.model (located_items block.now.items.items) ≡ None }
         requires kinds { IsPartial self.old.model filling.now }
+        requires objective { now ≡ objective self.old.model filling.now }
         ensures told { IfOk result (λ r. IsCompleted self.old.model
             (located_block block.now) self.old.found filling.now
             (Undecided (reason_view reason.entry)) (verdict_view r.0) r.1) }
         ensures same { self.new ≡ self.old }
     {
-        let filled = objective(self.model, filling);
         match reason {
             Reason::NoValue(_) => match self.satisfied(alloc, filling, block)? {
                 Some(found) => Ok((Verdict::Satisfied, found)),
-                None => Ok((Verdict::Undecided(reason), filled)),
+                None => Ok((Verdict::Undecided(reason), now)),
             },
-            Reason::Unknown(_, _) | Reason::TooLarge(_) => {
-                Ok((Verdict::Undecided(reason), filled))
-            }
+            Reason::Unknown(_, _) | Reason::TooLarge(_) => Ok((Verdict::Undecided(reason), now)),
         }
     }
 
@@ -303,11 +271,11 @@ impl<'m, 'a> Judge<'m, 'a> {
         let Some(found) = propose(alloc, self.model, filling, self.found, &mut self.search)? else {
             return Ok(None);
         };
-        let now = objective(self.model, &found);
         let overview = &mut self.overview;
-        match verdict_over(
+        let (verdict, now) = verdict_over(
             alloc, self.model, overview, &found, false, block, self.found,
-        )? {
+        )?;
+        match verdict {
             Verdict::Satisfied => Ok(Some(now)),
             Verdict::Violated(_) | Verdict::Undecided(_) => Ok(None),
         }
@@ -316,44 +284,44 @@ impl<'m, 'a> Judge<'m, 'a> {
     /// The verdict on the next block, under its filling: the first that fails of the printed names
     /// in block order, then the points, then the objective, which is to be better than that of the
     /// block before; else the first point that is undecided. Where values are looked for and only
-    /// a value is missing, a block that is satisfied under values that were found is told so. After
+    /// a value is missing, a block is satisfied where it is so under values that were found. After
     /// an error the judge is unchanged.
     ///
     /// # Errors
     ///
-    /// The fault of the first printed item that has one, at its place in the stream, and `Memory`
-    /// where memory runs out.
+    /// The fault of the first printed item that has one, with its byte range in the stream, and
+    /// `Memory` where memory runs out.
     pub fn judge(&mut self, alloc: Global, block: &Block<'_>) -> Result<Verdict<'a>, BlockError>
         ensures judged { IfOk result (λ v. IsJudged self.old self.new (located_block block.now)
             (verdict_view v)) }
         ensures same_model { self.new.model ≡ self.old.model }
         ensures same_completion { self.new.completion ≡ self.old.completion }
         ensures unchanged { IfErr result (λ _. self.new ≡ self.old) }
-        // Of any block: it has a fault, and its first is of the kind that is told.
+        // Whatever the block: it has a fault, and its first is of the kind that the error has.
         ensures only { IfErr result (λ e. TellsKind e
             (block_fault self.old.model (located_block block.now))) }
-        // Of a block as `fz_stream` reads it: its places lie in its text, and its text ends within
-        // the numbers.
+        // Of a block as `fz_stream` reads it, with byte ranges in its text: the error is the
+        // block's first fault, with its byte range in the stream.
         ensures refused { IfErr result (λ e. HasPlaces block.now → EndsWithin usize.MAX block.now
             → IsBlockRefusal self.old.model (located_block block.now) e) }
     {
         let spare = self.spare.take();
         let filling = filled(alloc, self.model, block, &mut self.course, spare)?;
-        let verdict = verdict_over(
+        let proposed = &*filling;
+        let (under, now) = verdict_over(
             alloc,
             self.model,
             &mut self.overview,
-            &filling.partial,
-            filling.agrees,
+            &proposed.partial,
+            proposed.agrees,
             block,
             self.before,
         )?;
-        let before = objective(self.model, &filling.partial);
         let (verdict, found) = match self.completion {
-            Completion::Off => (verdict, before),
-            Completion::On => self.completed(alloc, &filling.partial, block, verdict)?,
+            Completion::Off => (under, now),
+            Completion::On => self.completed(alloc, &proposed.partial, block, under, now)?,
         };
-        self.before = before;
+        self.before = now;
         self.found = found;
         self.spare = Some(filling);
         Ok(verdict)

@@ -1,5 +1,7 @@
 //! Judging solution blocks against a model, one after another: the fault of a block, its filling,
-//! and the verdict on it. The internal crate below `fz_check`, which offers all of it.
+//! and the verdict on it. An internal crate of `fz_check`.
+//!
+//! Its worked cases are in `fz_check_cases`.
 #![tactic(auto)]
 
 mod error;

@@ -25,8 +25,7 @@ fn fault_named(point: Point<'_>) -> Fault<'_>
     }
 }
 
-/// The name of the first variable without a value, in source order; none is needed where each has
-/// one.
+/// The name of the first variable without a value, in source order; empty where each has one.
 fn first_unset<'a>(variables: &[Variable<'a>], values: &[Option<Value>]) -> &'a [u8]
     ensures { result.now ≡ first_unset (map variable_view variables.now) values.now }
 {
@@ -60,7 +59,7 @@ fn too_large(point: Point<'_>) -> Option<Reason<'_>>
     }
 }
 
-/// What is undecided at a point of a state.
+/// The reason that a point of a state is undecided, if it is.
 fn undecided<'a>(
     model: &Model<'a>,
     partial: &Partial,
@@ -94,7 +93,7 @@ fn holds(state: State) -> bool
 }
 
 /// The first point that fails, or else the first that is undecided. Mostly all points hold, which
-/// is told soonest in another order than theirs.
+/// is seen soonest in another order than theirs.
 pub(crate) fn points_verdict<'a>(
     alloc: Global,
     model: &Model<'a>,
@@ -112,7 +111,7 @@ pub(crate) fn points_verdict<'a>(
     let mut reason = None;
     for number in 0..model.points() {
         let found = state(alloc, model, number, partial)?;
-        // What a point is told by is looked up only where it doesn't hold, as hardly any does.
+        // A point's name is looked up only where the point doesn't hold, which is rare.
         if holds(found) {
             continue;
         }

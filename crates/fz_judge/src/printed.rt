@@ -1,6 +1,6 @@
 //! Whether the printed names have their printed values.
 
-ghost use Rattle.std.specs.Prelude.{◌≡◌, ℕ, IfOk, List, None, map, option_map};
+ghost use Rattle.std.specs.Prelude.{◌≡◌, ℕ, IfOk, IsTrue, List, None, map, option_map};
 ghost use Rattle.fz_model.specs.Meaning.{Place, Variable as DeclaredVariable, first_some};
 ghost use Rattle.fz_model.specs.declared.Kind.{Kind as KindOf};
 ghost use Rattle.fz_model.specs.Names.{literal_value};
@@ -152,17 +152,24 @@ fn item_fails<'a>(
     }
 }
 
-/// The fault of the first printed item whose name has another value than the printed one.
+/// The fault of the first printed item whose name has another value than the printed one. Where all
+/// are known to agree, nothing is compared.
 pub(crate) fn printed_fails<'a>(
     alloc: Global,
     model: &Model<'a>,
     partial: &Partial,
+    agrees: bool,
     items: &[Printed<'_>],
 ) -> Result<Option<Fault<'a>>, AllocError>
     requires clean { items_fault model.now (located_items items.now) ≡ None }
+    requires agrees { IsTrue agrees
+        → first_some (printed_fails model.now partial.now) (located_items items.now) ≡ None }
     ensures { IfOk result (λ o. option_map fault_view o
         ≡ first_some (printed_fails model.now partial.now) (located_items items.now)) }
 {
+    if agrees {
+        return Ok(None);
+    }
     for item in items {
         let fault = item_fails(alloc, model, partial, item)?;
         if fault.is_some() {

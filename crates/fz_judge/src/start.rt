@@ -29,13 +29,13 @@ use std::alloc::{AllocError, Global};
 pub(crate) struct Proposed {
     pub(crate) partial: Partial,
     pub(crate) agrees: bool,
-    /// where the name of each item stands among the model's, by the item's number, for the next
-    /// block, which mostly prints the same names
+    /// for each item, by its number, the index of its name among the model's: the next block mostly
+    /// prints the same names
     pub(crate) places: Vec<usize>,
 }
 
-/// Gives a variable without a value that of a literal. A number or a Boolean goes to its place with
-/// no copy on the way.
+/// Gives a variable without a value that of a literal. A number or a Boolean is set with no copy on
+/// the way.
 #[inline(always)]
 fn give_value(
     alloc: Global,
@@ -79,8 +79,7 @@ fn give_made(
     Ok(())
 }
 
-/// Gives a variable the value of a literal, where it has none, and tells whether it has that value
-/// then.
+/// Gives a variable the value of a literal, where it has none; `true` where it has that value then.
 #[inline(always)]
 fn set_variable(
     alloc: Global,
@@ -101,8 +100,8 @@ fn set_variable(
     Ok(true)
 }
 
-/// Gives a scalar the value of a literal, where it is a variable without one, and tells whether it
-/// has that value then.
+/// Gives a scalar the value of a literal, where it is a variable without one; `true` where it has
+/// that value then.
 #[inline(always)]
 fn set_scalar(
     alloc: Global,
@@ -124,8 +123,8 @@ fn set_scalar(
     }
 }
 
-/// Gives each scalar the value of the literal beside it, where it is a variable without one, and
-/// tells whether each has its value then.
+/// Gives each scalar the value of the literal beside it, where it is a variable without one; `true`
+/// where each has its value then.
 fn set_elements(
     alloc: Global,
     partial: &mut Partial,
@@ -148,8 +147,8 @@ fn set_elements(
     Ok(agrees)
 }
 
-/// Gives what a name stands for its printed value, where variables have none, and tells whether it
-/// has that value then.
+/// Gives what a name stands for its printed value, where variables have none; `true` where it has
+/// that value then.
 fn set_value(
     alloc: Global,
     partial: &mut Partial,
@@ -170,7 +169,7 @@ fn set_value(
     }
 }
 
-/// Gives a scalar its printed value, and tells whether it has that value then.
+/// Gives a scalar its printed value; `true` where it has that value then.
 fn set_one(
     alloc: Global,
     partial: &mut Partial,
@@ -189,7 +188,7 @@ fn set_one(
     }
 }
 
-/// Gives the elements of an array their printed values, and tells whether each has its value then.
+/// Gives the elements of an array their printed values; `true` where each has its value then.
 fn set_array(
     alloc: Global,
     partial: &mut Partial,
@@ -208,9 +207,9 @@ fn set_array(
     }
 }
 
-/// Takes the values of an item into the start, where the item has no fault, and tells whether its
-/// name has its printed value then. The name is looked for at a place first, and is left with its
-/// own. A fault's place counts from the block's text.
+/// Gives what an item names its printed value, where the item has no fault; `true` where the name
+/// has its printed value then. The name is compared with that of the index `place` first, which is
+/// its own index afterwards. A fault's byte range counts from the block's text.
 fn set_item(
     alloc: Global,
     model: &Model<'_>,
@@ -238,16 +237,16 @@ fn set_item(
     Ok(set_value(alloc, partial, found.what, &item.value)?)
 }
 
-/// What is proposed before the first item: no variable has a value. It takes the room of a spare
-/// proposal where there is one, and its places. Else it makes the room.
-fn nothing_proposed(
+/// What is proposed before the first item: no variable has a value. It takes the memory of a spare
+/// proposal where there is one, and the indices of its names; else new memory.
+pub(crate) fn nothing_proposed(
     alloc: Global,
     model: &Model<'_>,
-    spare: Option<Proposed>,
-) -> Result<Proposed, AllocError>
-    requires room { IfSome spare (λ s. HasRoom model.now s.partial) }
-    ensures empty { IfOk result (λ s. s.partial ≡ nothing_for model.now) }
-    ensures agrees { IfOk result (λ s. IsTrue s.agrees) }
+    spare: Option<Box<Proposed>>,
+) -> Result<Box<Proposed>, AllocError>
+    requires room { IfSome spare (λ s. HasRoom model.now s.value.partial) }
+    ensures empty { IfOk result (λ s. s.value.partial ≡ nothing_for model.now) }
+    ensures agrees { IfOk result (λ s. IsTrue s.value.agrees) }
 {
     match spare {
         Some(mut proposed) => {
@@ -255,15 +254,18 @@ fn nothing_proposed(
             proposed.agrees = true;
             Ok(proposed)
         }
-        None => Ok(Proposed {
-            partial: Partial::new(alloc, model)?,
-            agrees: true,
-            places: Vec::new(alloc),
-        }),
+        None => {
+            let proposed = Proposed {
+                partial: Partial::new(alloc, model)?,
+                agrees: true,
+                places: Vec::new(alloc),
+            };
+            Ok(Box::new(alloc, proposed)?)
+        }
     }
 }
 
-/// Notes where the name of the item of a number stands.
+/// Stores the index of the name of an item.
 fn note(places: &mut Vec<usize>, number: usize, place: usize) -> Result<(), AllocError> {
     match places.get_mut(number) {
         Some(noted) => {
@@ -274,42 +276,33 @@ fn note(places: &mut Vec<usize>, number: usize, place: usize) -> Result<(), Allo
     }
 }
 
-/// The values that a block's items print, where no item has a fault, and whether each name has its
-/// printed one. They stand in the room of a spare proposal where there is one, and each name is
-/// looked for first where that of the item of the same number stood. A fault's place counts from
-/// the block's text.
+/// Proposes the values that a block's items print, where no item has a fault, and notes whether
+/// each name has its printed one. Each name is compared first with that of the item of the same
+/// number in the block before. A fault's byte range counts from the block's text.
 pub(crate) fn start(
     alloc: Global,
     model: &Model<'_>,
     items: &[Printed<'_>],
-    spare: Option<Proposed>,
-) -> Result<Proposed, BlockError>
-    requires room { IfSome spare (λ s. HasRoom model.now s.partial) }
-    ensures started { IfOk result (λ s. s.partial ≡ start_from
+    proposed: &mut Proposed,
+) -> Result<(), BlockError>
+    requires empty { proposed.old.partial ≡ nothing_for model.now }
+    requires agrees { IsTrue proposed.old.agrees }
+    ensures started { OnOk result (proposed.new.partial ≡ start_from
         (printed_scalars model.now (located_items items.now)) 0 (variables_of model.now)) }
-    ensures kinds { IfOk result (λ s. IsPartial model.now s.partial) }
-    ensures agrees { IfOk result (λ s. s.agrees
+    ensures kinds { OnOk result (IsPartial model.now proposed.new.partial) }
+    ensures agrees { OnOk result (proposed.new.agrees
         ≡ agree_all (nothing_for model.now) (printed_scalars model.now (located_items items.now))) }
-    ensures clean { IfOk result (λ _. items_fault model.now (located_items items.now) ≡ None) }
+    ensures clean { OnOk result (items_fault model.now (located_items items.now) ≡ None) }
     ensures told { IfErr result (λ e. TellsFault e
         (items_fault model.now (located_items items.now))) }
 {
-    let Proposed {
-        mut partial,
-        mut agrees,
-        mut places,
-    } = nothing_proposed(alloc, model, spare)?;
     for (number, item) in items.iter().enumerate() {
-        // Where nothing is noted yet, no name stands at the last number either.
-        let mut place = places.get(number).copied().unwrap_or(usize::MAX);
-        if !set_item(alloc, model, &mut partial, item, &mut place)? {
-            agrees = false;
+        // Where no index is stored yet, this is the index of no name.
+        let mut place = proposed.places.get(number).copied().unwrap_or(usize::MAX);
+        if !set_item(alloc, model, &mut proposed.partial, item, &mut place)? {
+            proposed.agrees = false;
         }
-        note(&mut places, number, place)?;
+        note(&mut proposed.places, number, place)?;
     }
-    Ok(Proposed {
-        partial,
-        agrees,
-        places,
-    })
+    Ok(())
 }

@@ -51,8 +51,8 @@ pub(crate) fn is_set(alloc: Global, set: &IntSet, literal: &LiteralKind) -> Resu
     }
 }
 
-/// Whether a value is the literal's. Numbers and Booleans are compared where they stand; only for a
-/// set is the literal's value made. It refuses only where memory runs out.
+/// Whether a value is the literal's. Only for a set is the literal's value made. It refuses only
+/// where memory runs out.
 #[inline]
 pub(crate) fn is_of_literal(
     alloc: Global,

@@ -24,7 +24,7 @@ pub enum Reason<'a> {
     TooLarge(usize),
 }
 
-/// What is said of one block.
+/// The verdict on one block.
 #[derive(Clone, Copy, Debug)]
 pub enum Verdict<'a> {
     Satisfied,

@@ -1,9 +1,10 @@
-use Rattle.std.proofs.Common.{◌≡◌, None, IfSome, IsSomeAnd, sym, subst, arith, ◌∙◌}
+use Rattle.std.proofs.Common.{◌≡◌, None, IfSome, IsSomeAnd, sym, ap, subst, arith, ◌∙◌}
 use Rattle.fz_model.specs.Meaning.{first_some}
 use Rattle.fz_verdict.specs.Blocks.{block_fault, items_fault}
 use Rattle.fz_verdict.specs.Verdict.{printed_fails}
 use Rattle.fz_verdict.specs.View.{located_block, located_items}
 use Rattle.fz_verdict.proofs.Violated.{chain_grows}
+use Rattle.fz_judge.specs.declared.start.Proposed.{Proposed}
 use Rattle.fz_judge.specs.Judged.{TellsFault}
 use Rattle.fz_judge.proofs.Agreeing.{none_fails}
 use Rattle.fz_judge.proofs.Refusing.{kind_tells, moved_tells, told_within}
@@ -29,4 +30,4 @@ returns-clause-agrees c agrees =
     let m = c.args.model.now in
     let F = c.fill_in.new.partial in
     subst (λ xs. first_some (printed_fails m F) (located_items xs) ≡ None) c.deref.ensures.value
-    (none_fails m c.in-Ok.started.partial F (located_items c.deref.result.now) c.in-Ok.ensures.clean c.in-Ok.ensures.started (sym c.in-Ok.ensures.agrees ∙ agrees) (chain_grows m c.in_ok-fill_in.ensures.filled))
+    (none_fails m c.deref_mut-2.result.now.partial F (located_items c.deref.result.now) c.in-Ok.ensures.clean (ap (λ (p : Proposed). p.partial) c.deref_mut-2.ensures.value ∙ c.in-Ok.ensures.started) (sym c.in-Ok.ensures.agrees ∙ sym (ap (λ (p : Proposed). p.agrees) c.deref_mut-2.ensures.value) ∙ agrees) (chain_grows m c.in_ok-fill_in.ensures.filled))

@@ -8,8 +8,8 @@ use Rattle.fz_judge.specs.Working.{with_objective}
 use Rattle.fz_judge.proofs.Verdicts.{with_objective_is}
 use Rattle.fz_judge.proofs.judge.verdict_under.Goals as goal
 
-pub returns : goal.returns
-returns c =
+pub returns-clause-judged : goal.returns-clause-judged
+returns-clause-judged c =
     let m = c.args.model.now in
     let K = c.args.partial.now in
     let failed = first_some (point_fails K) (points m) in
@@ -17,6 +17,6 @@ returns c =
     let worse = objective_fails m.aim c.args.before (objective m K) in
     let none : first_some (printed_fails m K) (located_items c.args.block.now.items.items) ≡ None =
     ap (λ xs. first_some (printed_fails m K) (located_items xs)) (sym c.deref.ensures.value) ∙ sym c.in_ok-fault.ensures ∙ ap (option_map fault_view) c.in_default.is in
-    c.with_objective.ensures ∙ ap (λ v. with_objective v (option_map fault_view c.objective_fails.result)) c.in_ok-points.ensures
+    c.with_objective-verdict.ensures ∙ ap (λ v. with_objective v (option_map fault_view c.objective_fails.result)) c.in_ok-points.ensures
     ∙ ap (with_objective (verdict_by failed undecided)) (c.objective_fails.ensures ∙ (λ i. objective_fails (c.goal.ensures.asked i) c.args.before (c.objective-now.ensures i)))
     ∙ with_objective_is failed worse undecided ∙ ap (λ o. verdict_by (option_or o (option_or failed worse)) undecided) (sym none)

@@ -9,10 +9,10 @@ use Rattle.fz_judge.proofs.start.start.Given as goal
 
 abbrev pub invariant-loop-number : goal.invariant-loop-number
 invariant-loop-number l = record {
-  started : l.partial ≡ start_from
+  started : l.proposed.partial ≡ start_from
       (printed_scalars l.model (located_items (take l.number l.items))) 0 (variables_of l.model);
-  kinds : IsPartial l.model l.partial;
-  agree : l.agrees ≡ agree_all (nothing_for l.model)
+  kinds : IsPartial l.model l.proposed.partial;
+  agree : l.proposed.agrees ≡ agree_all (nothing_for l.model)
       (printed_scalars l.model (located_items (take l.number l.items)));
   clean : items_fault l.model (located_items (take l.number l.items)) ≡ None;
 }

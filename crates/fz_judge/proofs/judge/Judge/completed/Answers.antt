@@ -1,9 +1,9 @@
-use Rattle.std.proofs.Common.{◌≡◌, ℤ, Option, None, Some, IfOk, refl, sym, ap, subst, subst₂, ◌∙◌}
+use Rattle.std.proofs.Common.{◌≡◌, ℤ, Option, None, Some, IfOk, refl, sym, ap, subst, ◌∙◌}
 use Rattle.fz_model.specs.Meaning.{Model, Partial, IsPartial, objective}
 use Rattle.fz_verdict.specs.Blocks.{Block}
 use Rattle.fz_verdict.specs.Completed.{IsCompleted}
 use Rattle.fz_verdict.specs.Completed.IsCompleted.{Found, AsFilled, NotShownBetter}
-use Rattle.fz_verdict.specs.Verdict.{Fault, objective_fails, verdict}
+use Rattle.fz_verdict.specs.Verdict.{Fault, Verdict, objective_fails, verdict}
 use Rattle.fz_verdict.specs.Verdict.Verdict.{Satisfied, Undecided, Violated}
 use Rattle.fz_verdict.specs.View.{located_block}
 use Rattle.fz_verdict.proofs.Accepted.{satisfied_after}
@@ -13,27 +13,23 @@ use Rattle.fz_judge.specs.Working.{compared}
 use Rattle.fz_judge.proofs.judge.Judge.completed.Goals as goal
 
 -- a block that is satisfied under its filling, beside an objective that was looked for
-satisfied_told : (m : Model) (block : Block) (before found : Option ℤ) (F : Partial)
-    (o : Option Fault) → IsPartial m F → verdict m F block before ≡ Satisfied
-    → o ≡ objective_fails m.aim found (objective m F)
-    → IsCompleted m block found F Satisfied (compared m o) (objective m F)
-satisfied_told m block before found F None partial satisfied is = Found F tt partial (satisfied_after m F block before found satisfied (sym is))
-satisfied_told m block before found F (Some f) partial satisfied is = NotShownBetter (sym is)
+satisfied_told : (m : Model) (block : Block) (before found : Option ℤ) (F : Partial) (v w : Verdict)
+    (kept : Option ℤ) → IsPartial m F → v ≡ verdict m F block before → v ≡ Satisfied
+    → kept ≡ objective m F → w ≡ compared m (objective_fails m.aim found kept)
+    → IsCompleted m block found F v w kept
+satisfied_told m block before found F v w kept partial is satisfied kept_is told =
+    rw (told, kept_is, satisfied) (by_fault (objective_fails m.aim found (objective m F)) refl)
+  where
+    by_fault : (o : Option Fault) → objective_fails m.aim found (objective m F) ≡ o
+        → IsCompleted m block found F Satisfied (compared m o) (objective m F)
+    by_fault None e = Found F tt partial (satisfied_after m F block before found (sym is ∙ satisfied) e)
+    by_fault (Some f) e = NotShownBetter e
 
 pub returns-in-Satisfied-clause-told : goal.returns-in-Satisfied-clause-told
 returns-in-Satisfied-clause-told c =
-    let m = c.self.inside.model.now in
-    let F = c.args.filling.now in
-    let block = located_block c.args.block.now in
-    let fits : IsPartial m F = subst (λ (s : JudgeState). IsPartial s.model F) (sym c.self.view_is) c.requires.kinds in
-    let under : verdict_view c.args.under ≡ verdict m F block c.self.inside.before = subst (λ (s : JudgeState). verdict_view c.args.under ≡ verdict s.model F block s.before) (sym c.self.view_is) c.requires.filled in
-    let satisfied : verdict_view c.args.under ≡ Satisfied = ap verdict_view c.in-Satisfied.is in
-    let told : IsCompleted m block c.self.inside.found F Satisfied (compared m (objective_fails m.aim c.self.inside.found (objective m F))) (objective m F) =
-    satisfied_told m block c.self.inside.before c.self.inside.found F _ fits (sym under ∙ satisfied) refl in
-    let same : compared m (objective_fails m.aim c.self.inside.found (objective m F)) ≡ verdict_view c.compared.result = sym (c.compared.ensures ∙ ap (λ o. compared m (objective_fails m.aim c.self.inside.found o)) c.objective-filled.ensures) in
-    subst (λ (s : JudgeState). IsCompleted s.model block s.found F (verdict_view c.args.under) (verdict_view c.compared.result) c.objective-filled.result) c.self.view_is
-    (subst (λ w. IsCompleted m block c.self.inside.found F w (verdict_view c.compared.result) c.objective-filled.result) (sym satisfied)
-    (subst₂ (λ v o. IsCompleted m block c.self.inside.found F Satisfied v o) same (sym c.objective-filled.ensures) told))
+    let s = c.args.self.now in
+    satisfied_told s.model (located_block c.args.block.now) s.before s.found c.args.filling.now (verdict_view c.args.under) (verdict_view c.compared.result) c.args.now c.requires.kinds c.requires.filled (ap verdict_view c.in-Satisfied.is) c.requires.objective
+    (subst (λ (t : JudgeState). verdict_view c.compared.result ≡ compared t.model (objective_fails t.model.aim t.found c.args.now)) c.self.view_is c.compared.ensures)
 
 pub returns-in-Undecided-clause-told : goal.returns-in-Undecided-clause-told
 returns-in-Undecided-clause-told c =
@@ -42,10 +38,5 @@ returns-in-Undecided-clause-told c =
 
 pub returns-in-Violated-clause-told : goal.returns-in-Violated-clause-told
 returns-in-Violated-clause-told c =
-    let m = c.self.inside.model.now in
-    let F = c.args.filling.now in
-    let block = located_block c.args.block.now in
     let told : verdict_view c.args.under ≡ Violated (fault_view c.in-Violated.field-0) = ap verdict_view c.in-Violated.is in
-    subst (λ (s : JudgeState). IsCompleted s.model block s.found F (verdict_view c.args.under) (verdict_view c.args.under) c.objective-filled.result) c.self.view_is
-    (subst (λ o. IsCompleted m block c.self.inside.found F (verdict_view c.args.under) (verdict_view c.args.under) o) (sym c.objective-filled.ensures)
-    (AsFilled (λ e. (let no : Violated (fault_view c.in-Violated.field-0) ≡ Satisfied = sym told ∙ e in cc))))
+    rw c.requires.objective (AsFilled (λ e. (let no : Violated (fault_view c.in-Violated.field-0) ≡ Satisfied = sym told ∙ e in cc)))

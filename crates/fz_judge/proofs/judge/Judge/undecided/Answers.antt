@@ -21,9 +21,9 @@ found_told m block before F v kept (Some k) is lacks (K, fits, satisfied, kept_i
 found_told m block before F v kept None is lacks found = absurd cc
 
 -- nothing is found, and the verdict stays
-stays : (s t : JudgeState) (block : Block) (F : Partial) (r : Reason) (o : Option ℤ) → s ≡ t
-    → o ≡ objective s.model F → IsCompleted t.model block t.found F (Undecided r) (Undecided r) o
-stays s t block F r o same is = subst (λ (u : JudgeState). IsCompleted u.model block u.found F (Undecided r) (Undecided r) o) same (subst (λ n. IsCompleted s.model block s.found F (Undecided r) (Undecided r) n) (sym is) (AsFilled (λ e. cc)))
+stays : (s : JudgeState) (block : Block) (F : Partial) (r : Reason) (o : Option ℤ)
+    → o ≡ objective s.model F → IsCompleted s.model block s.found F (Undecided r) (Undecided r) o
+stays s block F r o is = rw is (AsFilled (λ (e : ◌≡◌ {A = Verdict} (Undecided r) Satisfied). cc))
 
 pub returns-in-Some-clause-told : goal.returns-in-Some-clause-told
 returns-in-Some-clause-told c =
@@ -31,7 +31,7 @@ returns-in-Some-clause-told c =
     found_told c.args.self.now.model (located_block c.args.block.now) c.args.self.now.found c.args.filling.now (Undecided (reason_view c.args.reason)) c.in-Some.found _ c.in-Some.is (subst LacksValuesAtMost (sym told) tt) c.in_ok-found-in-NoValue.ensures.found
 
 pub returns-in-None-clause-told : goal.returns-in-None-clause-told
-returns-in-None-clause-told c = stays _ c.args.self.now (located_block c.args.block.now) c.args.filling.now (reason_view c.args.reason) c.objective-filled.result c.self.view_is c.objective-filled.ensures
+returns-in-None-clause-told c = stays c.args.self.now (located_block c.args.block.now) c.args.filling.now (reason_view c.args.reason) c.args.now c.requires.objective
 
 pub returns-in-Unknown : goal.returns-in-Unknown
-returns-in-Unknown c = record { told = stays _ c.args.self.now (located_block c.args.block.now) c.args.filling.now (reason_view c.args.reason) c.objective-filled.result c.self.view_is c.objective-filled.ensures; same = refl }
+returns-in-Unknown c = record { told = stays c.args.self.now (located_block c.args.block.now) c.args.filling.now (reason_view c.args.reason) c.args.now c.requires.objective; same = refl }
