@@ -200,9 +200,10 @@ impl<'m, 'a> Judge<'m, 'a> {
         }
     }
 
-    /// The verdict on a block that has the verdict `under` and the objective `now` under its filling,
-    /// and the objective to compare the next block with, where values that the solver left out are
-    /// looked for. What was found is judged anew, and counts only where it satisfies the block.
+    /// The verdict on a block that has the verdict `under` and the objective `now` under its
+    /// filling, and the objective to compare the next block with, where values that the solver left
+    /// out are looked for. What was found is judged anew, and counts only where it satisfies the
+    /// block.
     fn completed(
         &mut self,
         alloc: Global,
