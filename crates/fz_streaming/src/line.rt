@@ -1,6 +1,6 @@
 //! The lines of a report, one at a time, and the answer.
 
-ghost use Rattle.std.specs.Prelude.{◌≡◌, ◌++◌, ◌∷◌, [], OnOk, decimal};
+ghost use Rattle.std.specs.Prelude.{◌≡◌, ◌++◌, ◌∷◌, [], OnOk, codes, decimal};
 ghost use Rattle.fz_judge.specs.of_verdict.Report.{answer_line, block_line, claim_line, claim_text, text_of_lines, verdict_text};
 ghost use Rattle.fz_judge.specs.View.{verdict_view};
 ghost use Rattle.fz_streaming.specs.View.{answer_view};
@@ -48,21 +48,23 @@ pub fn push_claim(text: &mut Vec<u8>, kind: ClaimKind) -> Result<(), AllocError>
     Ok(())
 }
 
-/// Adds a verdict without its LF.
+/// Adds a verdict after its block's number, with its LF.
 fn push_verdict(text: &mut Vec<u8>, verdict: &Verdict<'_>) -> Result<(), AllocError>
     ensures { OnOk result (text.new.items
-        ≡ text.old.items ++ verdict_text (verdict_view verdict.now)) }
+        ≡ text.old.items ++ (codes ": " ++ verdict_text (verdict_view verdict.now) ++ 10 ∷ [])) }
 {
     match verdict {
-        Verdict::Satisfied => push_bytes(text, b"satisfied"),
+        Verdict::Satisfied => push_bytes(text, b": satisfied\n"),
         Verdict::Violated(fault) => {
-            push_bytes(text, b"violated: ")?;
+            push_bytes(text, b": violated: ")?;
             push_fault(text, fault)?;
+            push_bytes(text, b"\n")?;
             Ok(())
         }
         Verdict::Undecided(reason) => {
-            push_bytes(text, b"undecided: ")?;
+            push_bytes(text, b": undecided: ")?;
             push_reason(text, reason)?;
+            push_bytes(text, b"\n")?;
             Ok(())
         }
     }
@@ -79,9 +81,7 @@ pub fn push_block(
 {
     push_bytes(text, b"block ")?;
     push_count(text, number)?;
-    push_bytes(text, b": ")?;
     push_verdict(text, verdict)?;
-    push_bytes(text, b"\n")?;
     Ok(())
 }
 
