@@ -1,12 +1,12 @@
--- What is kept from one filling of a model to the next, which the contract of `fill_in` cites, and
--- which point can give a variable a value, which only private functions do.
+-- What one filling of a model leaves to the next, which the contract of `fill_in` cites, and which
+-- point can give a variable a value, which only private functions cite.
 use Rattle.std.specs.Prelude.{◌≡◌, ℕ, suc, List, Some, IsTrue, slice_get}
 use Rattle.fz_model.specs.Meaning.{Model, Partial, Point}
 use Rattle.fz_model.specs.Steps.{IsTarget}
 use Rattle.fz_filling.specs.Runs.{AreLone}
 use Rattle.fz_filling.specs.declared.course.Course.{Course}
 
--- what it says of the model is so
+-- what the course says of the model is true
 abbrev pub IsCourse : Model → Course → Type 0
 IsCourse m c = IsTrue c.lone → AreLone m
 
@@ -16,7 +16,7 @@ IsCourse m c = IsTrue c.lone → AreLone m
 abbrev pub IsNoted : List ℕ → ℕ → Point → Type 0
 IsNoted givers k p = (K : Partial) (n : ℕ) → IsTarget K p n → slice_get givers n ≡ Some (suc k)
 
--- the numbers that stand in the first stand in the second
+-- the numbers in the first list are in the second
 abbrev pub AreKept : List ℕ → List ℕ → Type 0
 AreKept before after =
     (n k : ℕ) → slice_get before n ≡ Some (suc k) → slice_get after n ≡ Some (suc k)

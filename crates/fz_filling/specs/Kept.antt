@@ -1,5 +1,5 @@
--- Which points are to be looked at, and which wait for a variable. Only private functions use
--- these.
+-- Which points are to be looked at (pending), and which wait for a variable. Only private functions
+-- use these.
 use Rattle.std.specs.Prelude.{◌≡◌, ℕ, ◌<◌, ◌≤◌, ◌*◌, ◌/◌, List, [], ◌∷◌, length, Some, slice_get, slice_set, slice_index, Vec, ◌⊎◌}
 use Rattle.std.specs.List.{Contains}
 use Rattle.std.specs.Option.{option_map_or}
@@ -11,7 +11,7 @@ use Rattle.fz_filling.specs.declared.outlook.Waiting.{Waiting}
 use Rattle.fz_filling.specs.declared.outlook.Waiting.TheVariants.{Forever, For, ForEither}
 use Rattle.fz_filling.specs.declared.watch.Watch.{Watch}
 
--- the point of the number is to be looked at
+-- the point of the number is pending
 abbrev pub IsPending : List ℕ → ℕ → Type 0
 IsPending pending k = slice_index pending k ≡ 1
 
@@ -23,14 +23,14 @@ watched watchers n = option_map_or (λ v. v.items) (slice_get watchers n) []
 abbrev pub WaitsFor : List (Vec ℕ Global) → ℕ → ℕ → Type 0
 WaitsFor watchers n k = Contains (watched watchers n) k
 
--- each point that is to be looked at lies in a block that is marked; 512 points make a block
+-- each pending point is in a block that is marked; 512 points make a block
 pub record IsCovered (pending blocks : List ℕ) : Type 0 where
   pub enough : length pending ≤ length blocks * 512
   pub in_block : (k : ℕ) → IsPending pending k → IsPending blocks (k / 512)
 
 -- ---- changes
 
--- these points are to be looked at too
+-- these points are pending too
 abbrev pub marked : List ℕ → List ℕ → List ℕ
 marked pending [] = pending
 marked pending (k ∷ ks) = marked (slice_set pending k 1) ks
@@ -59,16 +59,16 @@ IsAwaited Forever n = ⊥
 IsAwaited (For a) n = n ≡ a
 IsAwaited (ForEither a b) n = (n ≡ a) ⊎ (n ≡ b)
 
--- the point waits, and is not to be looked at
+-- the point waits, and isn't pending
 pub record IsSettled (before after : Watch) (k : ℕ) (w : Waiting) : Type 0 where
   pub pending : after.pending.items ≡ slice_set before.pending.items k 0
   pub blocks : after.blocks.items ≡ before.blocks.items
   pub watchers : WaitsToo before.watchers.items after.watchers.items (IsAwaited w) k
 
--- ---- what is kept through a filling
+-- ---- the invariant of a filling
 
--- Points wait for variables without a value alone; and a point that is not to be looked at gives
--- nothing under any later values, as long as no variable that it waits for has one.
+-- Points wait only for variables without a value; and a point that isn't pending gives nothing under
+-- any later values, as long as no variable that it waits for has one.
 pub record IsKept (m : Model) (K : Partial) (w : Watch) : Type 0 where
   pub each_point : length w.pending.items ≡ length (points m)
   pub each_variable : length w.watchers.items ≡ length K
@@ -82,7 +82,7 @@ pub record IsKept (m : Model) (K : Partial) (w : Watch) : Type 0 where
 abbrev pub NoneIsPending : List ℕ → ℕ → ℕ → Type 0
 NoneIsPending pending from to = (j : ℕ) → from ≤ j → j < to → IsPending pending j → ⊥
 
--- the first that is to be looked at of the points from a number up to another, or the other
+-- the first pending point of those from a number up to another, or the other
 pub record IsNext (pending : List ℕ) (from to k : ℕ) : Type 0 where
   pub ahead : from ≤ k
   pub below : k ≤ to

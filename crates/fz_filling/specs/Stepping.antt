@@ -26,7 +26,7 @@ pub record IsStepAhead (m : Model) (K : Partial) (from to k n : ℕ) (v : Value)
 abbrev pub HasTarget : Point → Option ℕ → Type 0
 HasTarget p t = (i : ℕ) × (q : meaning.Posted) × (p ≡ ConstraintPoint i q) × (q.target ≡ t)
 
--- from the number on, each point has the target of the constraint in its place
+-- from the number on, each point has the target of the constraint at its index
 abbrev pub StandBehind : Model → ℕ → List Posted → Type 0
 StandBehind m before qs = (k : ℕ) (p : Point) (q : Posted) → before ≤ k
     → slice_get (points m) k ≡ Some p → slice_get qs (k - before) ≡ Some q → HasTarget p q.target

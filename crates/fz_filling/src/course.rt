@@ -1,4 +1,4 @@
-//! What is kept from one filling of a model to the next.
+//! What one filling of a model leaves to the next.
 
 ghost use Rattle.std.specs.Prelude.{◌≡◌, IfOk};
 ghost use Rattle.fz_model.specs.Meaning.{Model as Meaning};
@@ -12,12 +12,12 @@ use std::alloc::{AllocError, Global};
 #[derive(Drop)]
 pub(crate) struct Trail {
     pub(crate) points: Vec<usize>,
-    /// so many are kept
+    /// the most points that are stored
     most: usize,
 }
 
 impl Trail {
-    /// Keeps that the point of a number gave a step.
+    /// Appends a point that gave a step.
     pub(crate) fn note(&mut self, point: usize) -> Result<(), AllocError> {
         if self.points.len() < self.most {
             self.points.push(point)?;
@@ -26,7 +26,7 @@ impl Trail {
     }
 }
 
-/// The course that fillings of a model take. Where no two points can give the same variable a
+/// What is known of the fillings of a model. Where no two points can give the same variable a
 /// value, steps come to the same in whatever order they are taken; so those of one block are tried
 /// first for the next, which mostly has the same.
 #[derive(Drop)]
@@ -50,8 +50,7 @@ impl Course {
         })
     }
 
-    /// A course from which nothing is known and nothing is kept, for one block alone. It takes no
-    /// memory.
+    /// A course that knows nothing and stores nothing, for one block alone. It takes no memory.
     pub fn unknown(alloc: Global) -> Course
         ensures { (m : Meaning) → IsCourse m result }
     {

@@ -31,8 +31,8 @@ fn fill_along(
 }
 
 /// Fills in what follows, one forced step after another. Once each variable has a value there is
-/// nothing left to give. What is known of the course of fillings of the same model is made the
-/// first time, and kept for the next. It refuses only where memory runs out.
+/// nothing left to give. What is known of fillings of the same model is made the first time, and
+/// stored for the next. It refuses only where memory runs out.
 pub fn fill_in(
     alloc: Global,
     model: &Model<'_>,

@@ -1,6 +1,8 @@
 //! The filling of a block: the chain of forced steps. Those of the block before are tried first,
 //! where they come to the same in any order; one search through the points finds the rest. An
 //! internal crate of `fz_check`.
+//!
+//! Its worked cases are in `fz_check_cases`.
 #![tactic(auto)]
 
 mod course;

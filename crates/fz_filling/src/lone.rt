@@ -8,8 +8,8 @@ ghost use Rattle.fz_filling.specs.Runs.{AreLone};
 use fz_model::{Model, PointParts, Term, only_number};
 use std::alloc::{AllocError, Global};
 
-/// Notes that a point can give a variable a value, and tells whether it is the only one so far. Of
-/// each variable the number of its point is kept, counted from 1.
+/// Stores that a point can give a variable a value; `true` where it is the only one so far. The
+/// number of its point, counted from 1, is stored for each variable.
 fn note(givers: &mut Vec<usize>, variable: usize, point: usize) -> bool
     requires { point < usize.MAX }
     ensures noted { IsTrue result → slice_get givers.new.items variable ≡ Some (suc point) }
@@ -24,7 +24,8 @@ fn note(givers: &mut Vec<usize>, variable: usize, point: usize) -> bool
     givers[variable] == point + 1
 }
 
-/// Notes each variable that a point can give a value, and tells whether no other point so far can.
+/// Stores this of each variable that a point can give a value; `true` where no other point so far
+/// can.
 fn note_all(givers: &mut Vec<usize>, parts: &PointParts<'_, '_>, point: usize) -> bool
     requires { point < usize.MAX }
     ensures noted { IsTrue result → IsNoted givers.new.items point (point_view parts.now) }
@@ -44,7 +45,7 @@ fn note_all(givers: &mut Vec<usize>, parts: &PointParts<'_, '_>, point: usize) -
     }
 }
 
-/// Notes both sides of a definition.
+/// Stores this of both sides of a definition.
 fn note_sides(givers: &mut Vec<usize>, own: usize, side: &Term, point: usize) -> bool
     requires { point < usize.MAX }
     ensures own { IsTrue result → slice_get givers.new.items own ≡ Some (suc point) }

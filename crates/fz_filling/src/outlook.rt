@@ -86,7 +86,7 @@ fn of_constraint(parts: &ConstraintParts<'_, '_>, partial: &Partial) -> Outlook
     }
 }
 
-/// The first variable without a value that stands in the arguments, other than the target.
+/// The first variable without a value in the arguments, other than the target.
 fn first_open(
     arguments: &[Argument],
     parts: &ConstraintParts<'_, '_>,

@@ -26,7 +26,8 @@ struct Step {
     value: Value,
 }
 
-/// Whether there is nothing to give to a target: there is none, or it has a value.
+/// Whether there is nothing to give to a constraint's defined variable: it has none, or that has a
+/// value.
 fn is_shut(target: Option<usize>, partial: &Partial) -> bool
     ensures { result ≡ is_shut partial.now target }
 {
@@ -52,8 +53,8 @@ fn is_idle(posted: &[Posted<'_>], before: usize, point: usize, partial: &Partial
 }
 
 /// The first point that may give a step, of those from a number up to another; the other where
-/// there is none. With watch lists that is the first that is to be looked at, without them the
-/// first that isn't a constraint that can give nothing.
+/// there is none. With watch lists that is the first pending one, without them the first that isn't
+/// a constraint that can give nothing.
 fn next_point(
     model: &Model<'_>,
     partial: &Partial,
@@ -175,8 +176,8 @@ fn next_step(
 }
 
 /// Takes a step that was found from a point on. With watch lists, the points that wait for its
-/// variable are to be looked at again. Without them, they are made where the search came round to
-/// the first point for this step, unless each variable has a value now.
+/// variable are pending again. Without them, they are made where the search came round to the first
+/// point for this step, unless each variable has a value now.
 fn take(
     alloc: Global,
     model: &Model<'_>,

@@ -11,12 +11,12 @@ const PENDING: u8 = 1;
 
 const SETTLED: u8 = 0;
 
-/// So many points make a block.
+/// How many points a block of them has.
 const BLOCK: usize = 512;
 
-/// One byte a point, which tells whether the point is to be looked at, and for each variable the
-/// points that wait for it. One byte a block of points tells whether one of them may be to be
-/// looked at, so that the next such point is found without a walk over all.
+/// The points that are to be looked at (pending), a byte for each point, and for each variable the
+/// points that wait for it. A byte for each block of points is `SETTLED` only where no point of the
+/// block is pending, so the next pending point is found without a walk over all.
 #[derive(Drop)]
 pub(crate) struct Watch {
     pending: Vec<u8>,
@@ -25,7 +25,7 @@ pub(crate) struct Watch {
 }
 
 impl Watch {
-    /// All points are to be looked at, and none waits.
+    /// All points are pending, and none waits.
     pub(crate) fn new(alloc: Global, points: usize, variables: usize) -> Result<Watch, AllocError>
         ensures pending { IfOk result (λ w. w.pending.items ≡ replicate points 1) }
         ensures blocks { IfOk result (λ w. w.blocks.items ≡ replicate (points / 512 + 1) 1) }
@@ -43,8 +43,7 @@ impl Watch {
         })
     }
 
-    /// The first point to be looked at of those from a number up to another; the other where there
-    /// is none.
+    /// The first pending point of those from a number up to another; the other where there is none.
     pub(crate) fn next(&mut self, from: usize, to: usize) -> usize
         requires in_order { from ≤ to }
         requires in_range { to ≤ length self.old.pending.items }
@@ -73,7 +72,7 @@ impl Watch {
         to
     }
 
-    /// The same of a part of a block. Where a whole block has none, that is kept.
+    /// The same of a part of a block. Where a whole block has none, it is settled.
     fn next_within(&mut self, block: usize, start: usize, end: usize) -> usize
         requires in_order { start ≤ end }
         requires in_range { end ≤ length self.old.pending.items }
@@ -93,7 +92,7 @@ impl Watch {
         point
     }
 
-    /// The point waits, and is not looked at until then.
+    /// The point waits, and isn't pending until what it waits for comes.
     pub(crate) fn settle(&mut self, point: usize, waiting: Waiting) -> Result<(), AllocError>
         requires in_range { point < length self.old.pending.items }
         ensures settled { OnOk result (IsSettled self.old self.new point waiting) }
@@ -110,7 +109,7 @@ impl Watch {
         Ok(())
     }
 
-    /// The points that wait for the variable are to be looked at again.
+    /// The points that wait for the variable are pending again.
     pub(crate) fn wake(&mut self, variable: usize)
         requires in_range { variable < length self.old.watchers.items }
         ensures pending { self.new.pending.items
@@ -151,7 +150,7 @@ fn wait(watchers: &mut Vec<Vec<usize>>, variable: usize, point: usize) -> Result
     Ok(())
 }
 
-/// These points are to be looked at, and so each of their blocks has one.
+/// These points are pending, and so each of their blocks has one that is.
 fn mark(pending: &mut Vec<u8>, blocks: &mut Vec<u8>, points: &[usize])
     ensures pending { pending.new.items ≡ marked pending.old.items points.now }
     ensures blocks { blocks.new.items ≡ marked_blocks blocks.old.items points.now }
@@ -171,7 +170,8 @@ fn mark_one(bytes: &mut Vec<u8>, number: usize)
     }
 }
 
-/// The first byte that is set, of those from a place up to another; the other where there is none.
+/// The index of the first byte that is set, of those from an index up to another; the other where
+/// there is none.
 fn first_set(bytes: &[u8], from: usize, to: usize) -> usize
     requires in_order { from ≤ to }
     requires in_range { to ≤ length bytes.now }
