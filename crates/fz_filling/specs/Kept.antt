@@ -67,8 +67,8 @@ pub record IsSettled (before after : Watch) (k : ℕ) (w : Waiting) : Type 0 whe
 
 -- ---- the invariant of a filling
 
--- Points wait only for variables without a value; and a point that isn't pending gives nothing under
--- any later values, as long as no variable that it waits for has one.
+-- Points wait only for variables without a value; and a point that isn't pending gives nothing
+-- under any later values, as long as no variable that it waits for has one.
 pub record IsKept (m : Model) (K : Partial) (w : Watch) : Type 0 where
   pub each_point : length w.pending.items ≡ length (points m)
   pub each_variable : length w.watchers.items ≡ length K
