@@ -107,10 +107,11 @@ pub(crate) fn tell_next(
     ensures kinds { IfErr result IsTellingRefusal }
 {
     let released = parts.release();
-    match &parts.lend(released) {
-        Ok(part) => tell(alloc, judge, tally, line, part),
-        Err(_) => Err(StreamingError::Memory),
-    }
+    let part = match parts.lend(released) {
+        Ok(part) => part,
+        Err(_) => return Err(StreamingError::Memory),
+    };
+    tell(alloc, judge, tally, line, &part)
 }
 
 /// Appends the line to those that wait for the next read, or writes them all where they are many:
