@@ -78,7 +78,9 @@ printf 'x = 7;\n----------\n' >"$folder/left.out"
 expect 'a value that was left out' 2 $'block 1: undecided: no value for y\nundecided: block 1' '' "$program" check "$folder/left.fzn" "$folder/left.out"
 expect 'a value that is looked for' 0 "$accepted" '' "$program" check --complete "$folder/left.fzn" "$folder/left.out"
 expect 'a broken model' 4 '' 'refused: model: Syntax at 13..13' "$program" show "$folder/broken.fzn"
-expect 'a name declared twice' 4 '' 'refused: model: DuplicateName at 25..26' "$program" show tests/corpus/by_hand/name_declared_twice/model.fzn
+twice=tests/corpus/by_hand/name_declared_twice/model.fzn
+expect 'a name declared twice' 4 '' 'refused: model: DuplicateName at 25..26' \
+  "$program" show $twice
 expect 'a model shown' 0 "$(cat examples/first.fzn)" '' "$program" show examples/first.fzn
 
 # The position of a refusal, and what is behind a verdict: the messages are files.

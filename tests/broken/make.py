@@ -15,8 +15,8 @@ DEPTH = 32           # greatest depth of an annotation
 RESERVED = set("predicate array of var bool int float set constraint solve satisfy minimize maximize "
                "true false".split())
 
-# Braces mean any number of times, brackets mean optional. `int` is an integer, `one` one of value 1,
-# `size` one that is 0 or more. `note@` and the like stand once for each depth.
+# Braces mean any number of times, brackets mean optional. `int` is an integer, `one` one of value
+# 1, `size` one that is 0 or more. `note@` and the like stand once for each depth.
 GRAMMAR = """
 model      = { predicate } { decl } { constraint } solve
 predicate  = "predicate" name "(" [ pparam { "," pparam } ] ")" ";"

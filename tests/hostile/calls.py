@@ -2,9 +2,9 @@
 """Each public call, with each growth of memory refused in turn: calls.py PROGRAM
 
 The program makes one call on what files hold, and makes it once more on the same operands where
-it found no memory. So with one growth refused it tells that memory ran out at most once, and around that
-what it tells with ample memory. The calls are made on the cases of cases.txt, on the examples and
-on pairs of sets.
+it found no memory. So with one growth refused it tells that memory ran out at most once, and
+around that what it tells with ample memory. The calls are made on the cases of cases.txt, on the
+examples and on pairs of sets.
 
 A reader that gives single bytes or fails, a writer that fails and a splitter that is full follow.
 The last line is 'N passed, M failed'."""

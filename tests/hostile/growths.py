@@ -1,7 +1,7 @@
 """Each growth of the program's memory refused in turn, by itself and with all that follow.
 
-Every run answers that memory ran out, or what it answers with ample memory; what it wrote before is a
-front of what it writes then. What explains a refusal or a verdict may be left out."""
+Every run answers that memory ran out, or what it answers with ample memory; what it wrote before
+is a front of what it writes then. What explains a refusal or a verdict may be left out."""
 import itertools
 import os
 
