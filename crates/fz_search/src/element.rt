@@ -1,9 +1,8 @@
 //! Elements of arrays of variables.
 
-use crate::arguments::{elements_in, scalar_in};
-use crate::ends::Ends;
 use crate::stop::Stop;
 use crate::work::Work;
+use fz_linear::{Ends, elements_in, scalar_in};
 use fz_model::Scalar;
 
 impl<'k, 'm, 'a> Work<'k, 'm, 'a> {

@@ -6,19 +6,12 @@
 #![tactic(auto)]
 
 mod agenda;
-mod arguments;
-mod builder;
 mod computed;
 mod element;
-mod ends;
 mod guess;
-mod index;
 mod linear;
 mod lone;
-mod points;
 mod proposal;
-mod relations;
-mod row;
 mod search;
 mod stop;
 mod subsets;
@@ -26,5 +19,5 @@ mod tables;
 mod tally;
 mod work;
 
-pub use index::Search;
+pub use fz_linear::Search;
 pub use search::propose;

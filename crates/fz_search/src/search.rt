@@ -3,12 +3,10 @@
 ghost use Rattle.std.specs.Prelude.{IfOk, IfSome};
 ghost use Rattle.fz_model.specs.Meaning.{IsPartial};
 
-use crate::ends::End;
-use crate::index::Search;
 use crate::proposal::copied;
-use crate::row::Rule;
 use crate::stop::Stop;
 use crate::work::Work;
+use fz_linear::{End, Rule, Search};
 use fz_model::{Goal, Model, Partial, Term};
 use std::alloc::{AllocError, Global};
 

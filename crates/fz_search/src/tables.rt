@@ -1,8 +1,6 @@
 //! What is known of variables and points as a search begins.
 
-use crate::ends::{Ends, ends_of, number_of};
-use crate::index::Search;
-use crate::row::{Reach, Sums};
+use fz_linear::{Ends, Reach, Search, Sums, ends_of, number_of};
 use fz_model::{Domain, Model, Partial, PointParts, Slot};
 use std::alloc::{AllocError, Global};
 

@@ -1,13 +1,11 @@
 //! A search under way: the values and bounds so far, and the points that are to be visited.
 
 use crate::agenda::Agenda;
-use crate::ends::{Ends, admits, number_of, value_of};
-use crate::index::Search;
 use crate::proposal::Proposal;
-use crate::row::{Reach, Rule, Sums};
 use crate::stop::Stop;
 use crate::tables::{all_ends, all_open, all_sums, no_reaches};
 use fz_base::Value;
+use fz_linear::{Ends, Reach, Rule, Search, Sums, admits, number_of, value_of};
 use fz_model::{Domain, Kind, Model, Partial, Scalar};
 use std::alloc::{AllocError, Global};
 

@@ -4,9 +4,9 @@ ghost use Rattle.std.specs.Prelude.{◌≡◌, ◌≢◌, ◌+◌, ◌≤◌, Li
 ghost use Rattle.std.specs.List.{flat_map};
 ghost use Rattle.fz_syntax.specs.Limits.{most_bytes};
 ghost use Rattle.fz_syntax.specs.Places.{IsSpanWithin};
-ghost use Rattle.fz_syntax.specs.Spots.{Stand, literal_spots, printed_value_spots, item_spots};
+ghost use Rattle.fz_syntax.specs.Spots.{Stand, item_spots};
 ghost use Rattle.fz_syntax.specs.Tree.{Printed as PlainPrinted};
-ghost use Rattle.fz_syntax.specs.View.{bare_literal, bare_printed_value, bare_items};
+ghost use Rattle.fz_syntax.specs.View.{bare_items};
 ghost use Rattle.fz_stream.specs.Faults.{IsFaultWithin};
 ghost use Rattle.fz_stream.specs.Found.{HasPlaces};
 ghost use Rattle.fz_stream.specs.Kept.{kept_of, bare_kept, kept_spots, AreKept, AreKeptOf, IsTextOfBlock};
@@ -16,7 +16,7 @@ ghost use Rattle.fz_stream.specs.Telling.{TellsOfText};
 
 use crate::block::{Block, read_block};
 use crate::error::StreamError;
-use fz_syntax::{Literal, LiteralKind, Name, Printed, PrintedValue, Span};
+use fz_syntax::{Name, Printed, PrintedValue, Span};
 use std::alloc::{AllocError, Global};
 
 /// An item without its name's text, which is in the block's text at this byte range.
@@ -27,7 +27,7 @@ pub struct KeptItem {
 }
 
 /// The stored items of a block that waits. A splitter releases them, so that `lend` can move them
-/// into the block instead of copying.
+/// into the block.
 #[derive(Drop)]
 pub struct KeptItems {
     items: Vec<KeptItem>,
@@ -67,79 +67,12 @@ pub fn read_kept(alloc: Global, offset: usize, text: &[u8]) -> Result<KeptItems,
     }
 }
 
-fn copied_literal(alloc: Global, literal: &Literal) -> Result<Literal, AllocError>
-    ensures bare { IfOk result (λ copy. bare_literal copy ≡ bare_literal literal.now) }
-    ensures place { IfOk result (λ copy. copy.span ≡ literal.now.span) }
-{
-    let what = match &literal.what {
-        LiteralKind::Whole(number) => LiteralKind::Whole(*number),
-        LiteralKind::Truth(is_true) => LiteralKind::Truth(*is_true),
-        LiteralKind::Range(low, high) => LiteralKind::Range(*low, *high),
-        LiteralKind::Braces(numbers) => LiteralKind::Braces(Vec::from_slice(alloc, numbers)?),
-    };
-    Ok(Literal {
-        span: literal.span,
-        what,
-    })
-}
-
-fn copied_literals(alloc: Global, literals: &[Literal]) -> Result<Vec<Literal>, AllocError>
-    ensures bare { IfOk result (λ copy. map bare_literal copy.items
-        ≡ map bare_literal literals.now) }
-    ensures places { IfOk result (λ copy. flat_map literal_spots copy.items
-        ≡ flat_map literal_spots literals.now) }
-{
-    let mut copy = Vec::with_capacity(alloc, literals.len())?;
-    for literal in literals {
-        copy.push(copied_literal(alloc, literal)?)?;
-    }
-    Ok(copy)
-}
-
-fn copied_value(alloc: Global, value: &PrintedValue) -> Result<PrintedValue, AllocError>
-    ensures bare { IfOk result (λ copy. bare_printed_value copy ≡ bare_printed_value value.now) }
-    ensures places { IfOk result (λ copy. printed_value_spots copy
-        ≡ printed_value_spots value.now) }
-{
-    match value {
-        PrintedValue::One(literal) => Ok(PrintedValue::One(copied_literal(alloc, literal)?)),
-        PrintedValue::Array { indexes, elements } => Ok(PrintedValue::Array {
-            indexes: copied_literals(alloc, indexes)?,
-            elements: copied_literals(alloc, elements)?,
-        }),
-    }
-}
-
 /// The bytes of the text at a byte range.
 fn text_at(text: &[u8], place: Span) -> &[u8]
     requires { IsSpanWithin (length text.now) place }
     ensures { result.now ≡ slice_range text.now place.start place.end }
 {
     &text[place.start..place.end]
-}
-
-/// The items as they were read, with their names as slices of the text.
-fn lent_items<'a>(
-    alloc: Global,
-    text: &'a [u8],
-    kept: &[KeptItem],
-) -> Result<Vec<Printed<'a>>, AllocError>
-    requires { Stand text.now 0 (length text.now) (flat_map (kept_spots text.now) kept.now) }
-    ensures bare { IfOk result (λ items. bare_items items.items
-        ≡ map (bare_kept text.now) kept.now) }
-    ensures places { IfOk result (λ items. item_spots items.items
-        ≡ flat_map (kept_spots text.now) kept.now) }
-{
-    let mut items = Vec::with_capacity(alloc, kept.len())?;
-    for item in kept {
-        let name = Name {
-            text: text_at(text, item.name),
-            span: item.name,
-        };
-        let value = copied_value(alloc, &item.value)?;
-        items.push(Printed { name, value })?;
-    }
-    Ok(items)
 }
 
 /// The items as they were read, with their names as slices of the text. Their values are moved.
@@ -168,96 +101,18 @@ fn moved_items<'a>(
     Ok(items)
 }
 
-/// The block of a text whose items are stored: what `read_block` gives of the text. The values are
-/// copied.
-fn copied_block<'a>(
-    alloc: Global,
-    offset: usize,
-    text: &'a [u8],
-    kept: &KeptItems,
-) -> Result<Block<'a>, AllocError>
-    requires { AreKeptOf text.now kept.now }
-    ensures offset { IfOk result (λ b. b.offset ≡ offset) }
-    ensures text { IfOk result (λ b. b.text.now ≡ text.now) }
-    ensures items { IfOk result (λ b. IsBlockText text.now (bare_items b.items.items)) }
-    ensures only { IfOk result (λ b. (others : List PlainPrinted) → IsBlockText text.now others
-        → others ≡ bare_items b.items.items) }
-    ensures places { IfOk result HasPlaces }
-{
-    let items = lent_items(alloc, text, &kept.items)?;
-    Ok(Block {
-        offset,
-        text,
-        items,
-    })
-}
-
-/// The same block, into which the stored values are moved.
-fn moved_block<'a>(
-    alloc: Global,
-    offset: usize,
-    text: &'a [u8],
-    kept: KeptItems,
-) -> Result<Block<'a>, AllocError>
-    requires { AreKeptOf text.now kept }
-    ensures offset { IfOk result (λ b. b.offset ≡ offset) }
-    ensures text { IfOk result (λ b. b.text.now ≡ text.now) }
-    ensures items { IfOk result (λ b. IsBlockText text.now (bare_items b.items.items)) }
-    ensures only { IfOk result (λ b. (others : List PlainPrinted) → IsBlockText text.now others
-        → others ≡ bare_items b.items.items) }
-    ensures places { IfOk result HasPlaces }
-{
-    let items = moved_items(alloc, text, kept.items)?;
-    Ok(Block {
-        offset,
-        text,
-        items,
-    })
-}
-
-/// The block of a text that was read before. Its stored items are copied; where they were released,
-/// the text is read again.
-fn kept_block<'a>(
-    alloc: Global,
-    offset: usize,
-    text: &'a [u8],
-    kept: Option<&KeptItems>,
-) -> Result<Block<'a>, StreamError>
-    requires fits { offset + length text.now ≤ usize.MAX }
-    requires short { length text.now ≤ most_bytes }
-    requires block { IsTextOfBlock text.now }
-    requires kept { IfSome kept (λ k. AreKeptOf text.now k.now) }
-    ensures offset { IfOk result (λ b. b.offset ≡ offset) }
-    ensures text { IfOk result (λ b. b.text.now ≡ text.now) }
-    ensures items { IfOk result (λ b. IsBlockText text.now (bare_items b.items.items)) }
-    ensures only { IfOk result (λ b. (others : List PlainPrinted) → IsBlockText text.now others
-        → others ≡ bare_items b.items.items) }
-    ensures places { IfOk result HasPlaces }
-    ensures refused { IfErr result (λ e. e ≡ StreamError.Memory) }
-{
-    match kept {
-        Some(kept) => match copied_block(alloc, offset, text, kept) {
-            Ok(block) => Ok(block),
-            Err(_) => Err(StreamError::Memory),
-        },
-        None => read_block(alloc, offset, text),
-    }
-}
-
-/// The block of a text that was read before. The items that were released, if any, are moved into
-/// it.
+/// The block of a text that was read before. The items that were released are moved into it; where
+/// none were, the text is read again.
 pub fn lent_block<'a>(
     alloc: Global,
     offset: usize,
     text: &'a [u8],
     released: Option<KeptItems>,
-    kept: Option<&KeptItems>,
 ) -> Result<Block<'a>, StreamError>
     requires fits { offset + length text.now ≤ usize.MAX }
     requires short { length text.now ≤ most_bytes }
     requires block { IsTextOfBlock text.now }
     requires released { IfSome released (AreKeptOf text.now) }
-    requires kept { IfSome kept (λ k. AreKeptOf text.now k.now) }
     ensures offset { IfOk result (λ b. b.offset ≡ offset) }
     ensures text { IfOk result (λ b. b.text.now ≡ text.now) }
     ensures items { IfOk result (λ b. IsBlockText text.now (bare_items b.items.items)) }
@@ -266,11 +121,15 @@ pub fn lent_block<'a>(
     ensures places { IfOk result HasPlaces }
     ensures refused { IfErr result (λ e. e ≡ StreamError.Memory) }
 {
-    match released {
-        Some(released) => match moved_block(alloc, offset, text, released) {
-            Ok(block) => Ok(block),
-            Err(_) => Err(StreamError::Memory),
-        },
-        None => kept_block(alloc, offset, text, kept),
+    let Some(released) = released else {
+        return read_block(alloc, offset, text);
+    };
+    match moved_items(alloc, text, released.items) {
+        Ok(items) => Ok(Block {
+            offset,
+            text,
+            items,
+        }),
+        Err(_) => Err(StreamError::Memory),
     }
 }

@@ -79,6 +79,7 @@ impl Splitter {
     }
 
     /// Lends the part that waits, as often as it is called. Running out of memory changes nothing.
+    /// The text of a block is read anew each time: `release` and `lend` spare that.
     pub fn take(&self) -> Result<Option<Part<'_>>, StreamError>
         ensures lent { IfOk result (λ part. Lends self.now.waits (option_map part_of part)) }
         ensures items { IfOk result (λ part. IfSome part (λ p. IsPartOfItems (part_of p))) }
@@ -99,7 +100,7 @@ impl Splitter {
     }
 
     /// Takes the items of the block that waits out of the splitter, so that `lend` moves them and
-    /// copies none. Gives none where no block waits, or where its items were taken out before.
+    /// reads nothing. Gives none where no block waits, or where its items were taken out before.
     pub fn release(&mut self) -> Option<KeptItems>
         ensures same { self.new ≡ self.old }
         ensures items { IfSome result (AreOfWaiting self.old.waits) }
@@ -139,13 +140,7 @@ impl Splitter {
             Some(Ended::ClaimEnded(kind)) => Ok(Some(Part::Claim(kind))),
             Some(Ended::BlockEnded) => {
                 let text = &self.held.buffer[..self.held.line];
-                match lent_block(
-                    self.alloc,
-                    self.held.before,
-                    text,
-                    released,
-                    self.held.kept.as_ref(),
-                ) {
+                match lent_block(self.alloc, self.held.before, text, released) {
                     Ok(block) => Ok(Some(Part::Block(block))),
                     Err(e) => Err(e),
                 }

@@ -1,11 +1,11 @@
 //! Reading the arguments of a constraint that fits a row.
 
 use fz_base::Value;
-use fz_model::{Argument, ConstraintParts, Scalar, Scalars, Slot, part, scalar_at};
+use fz_data::{Argument, ConstraintParts, Scalar, Scalars, Slot, part, scalar_at};
 
 /// The argument at an index as a scalar: the row has one there.
-pub(crate) fn scalar_in<'m>(parts: &ConstraintParts<'m, '_>, place: usize) -> Scalar<'m> {
-    match parts.arguments().get(place) {
+pub fn scalar_in<'m>(parts: &ConstraintParts<'m, '_>, index: usize) -> Scalar<'m> {
+    match parts.arguments().get(index) {
         Some(argument) => scalar_of(&parts.store.constants, argument),
         None => Scalar::Number(0),
     }
@@ -19,8 +19,8 @@ fn scalar_of<'m>(constants: &'m [Value], argument: &Argument) -> Scalar<'m> {
 }
 
 /// The elements of the argument at an index: the row has an array there.
-pub(crate) fn elements_in<'m>(parts: &ConstraintParts<'m, '_>, place: usize) -> Scalars<'m> {
-    match parts.arguments().get(place) {
+pub fn elements_in<'m>(parts: &ConstraintParts<'m, '_>, index: usize) -> Scalars<'m> {
+    match parts.arguments().get(index) {
         Some(argument) => elements_of(parts, argument),
         None => no_elements(),
     }

@@ -4,21 +4,21 @@ use crate::ends::Ends;
 
 /// A variable of a point with its coefficient, which is 0 where it is in no sum.
 #[derive(Clone, Copy)]
-pub(crate) struct Product {
-    pub(crate) variable: usize,
-    pub(crate) coefficient: i64,
+pub struct Product {
+    pub variable: usize,
+    pub coefficient: i64,
 }
 
 /// A point of a variable, and the coefficient that the variable has there.
 #[derive(Clone, Copy)]
-pub(crate) struct Place {
-    pub(crate) point: usize,
-    pub(crate) coefficient: i64,
+pub struct Place {
+    pub point: usize,
+    pub coefficient: i64,
 }
 
 /// How a sum compares with a number.
 #[derive(Clone, Copy)]
-pub(crate) enum Relation {
+pub enum Relation {
     AtMost(i128),
     AtLeast(i128),
     Equal(i128),
@@ -27,7 +27,7 @@ pub(crate) enum Relation {
 
 /// What a constraint says of its relation.
 #[derive(Clone, Copy)]
-pub(crate) enum Claim {
+pub enum Claim {
     Holds,
     Fails,
     /// that it holds exactly where this variable is true
@@ -38,29 +38,29 @@ pub(crate) enum Claim {
 
 /// What a constraint says of the sum of its products.
 #[derive(Clone, Copy)]
-pub(crate) struct Row {
-    pub(crate) relation: Relation,
-    pub(crate) claim: Claim,
+pub struct Row {
+    pub relation: Relation,
+    pub claim: Claim,
 }
 
 /// The least and the greatest that a sum can be.
 #[derive(Clone, Copy)]
-pub(crate) struct Sums {
-    pub(crate) least: i128,
-    pub(crate) most: i128,
+pub struct Sums {
+    pub least: i128,
+    pub most: i128,
 }
 
 /// How far the products of a sum can move: the index of the one that moves furthest, and how far
 /// each other one moves at most.
 #[derive(Clone, Copy)]
-pub(crate) struct Reach {
-    pub(crate) top: usize,
-    pub(crate) others: i128,
+pub struct Reach {
+    pub top: usize,
+    pub others: i128,
 }
 
 impl Sums {
     /// These bounds with one more product: of a coefficient and a variable with these bounds.
-    pub(crate) fn with(self, coefficient: i64, ends: Ends) -> Sums {
+    pub fn with(self, coefficient: i64, ends: Ends) -> Sums {
         let (low, high) = ends.times(coefficient);
         Sums {
             least: self.least.saturating_add(low),
@@ -69,7 +69,7 @@ impl Sums {
     }
 
     /// These bounds without that product.
-    pub(crate) fn without(self, coefficient: i64, ends: Ends) -> Sums {
+    pub fn without(self, coefficient: i64, ends: Ends) -> Sums {
         let (low, high) = ends.times(coefficient);
         Sums {
             least: self.least.saturating_sub(low),
@@ -80,7 +80,7 @@ impl Sums {
 
 impl Relation {
     /// The relation that holds where this one doesn't.
-    pub(crate) fn negated(self) -> Relation {
+    pub fn negated(self) -> Relation {
         match self {
             Relation::AtMost(number) => Relation::AtLeast(number.saturating_add(1)),
             Relation::AtLeast(number) => Relation::AtMost(number.saturating_sub(1)),
@@ -90,7 +90,7 @@ impl Relation {
     }
 
     /// The same relation, of the sum without a constant that was in it.
-    pub(crate) fn without(self, constant: i128) -> Relation {
+    pub fn without(self, constant: i128) -> Relation {
         match self {
             Relation::AtMost(number) => Relation::AtMost(number.saturating_sub(constant)),
             Relation::AtLeast(number) => Relation::AtLeast(number.saturating_sub(constant)),
@@ -100,7 +100,7 @@ impl Relation {
     }
 
     /// Whether it holds, where the bounds of the sum decide that.
-    pub(crate) fn decided(self, sums: Sums) -> Option<bool> {
+    pub fn decided(self, sums: Sums) -> Option<bool> {
         match self {
             Relation::AtMost(number) => is_at_most(sums, number),
             Relation::AtLeast(number) => {
@@ -138,7 +138,7 @@ fn is_equal(sums: Sums, number: i128) -> Option<bool> {
 
 /// How a point is visited.
 #[derive(Clone, Copy)]
-pub(crate) enum Rule {
+pub enum Rule {
     /// as a linear row
     Linear(Row),
     /// as an element of an array of variables, by its index

@@ -1,7 +1,7 @@
 //! Constraints as linear rows. A Boolean is 0 or 1 there.
 
 use crate::row::Relation;
-use fz_model::{Builtin, Form, Known};
+use fz_meaning::{Builtin, Form, Known};
 
 /// The sum of its arguments that a linear row compares.
 #[derive(Clone, Copy)]
@@ -39,11 +39,11 @@ fn plain(terms: Terms, relation: Relation) -> Option<Shape> {
     })
 }
 
-fn told_at(terms: Terms, relation: Relation, place: usize) -> Option<Shape> {
+fn told_at(terms: Terms, relation: Relation, index: usize) -> Option<Shape> {
     Some(Shape {
         terms,
         relation,
-        truth: Some(place),
+        truth: Some(index),
     })
 }
 

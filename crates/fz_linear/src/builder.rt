@@ -4,10 +4,10 @@ use crate::arguments::{declared_elements, elements_in, scalar_in};
 use crate::points::Points;
 use crate::relations::{Shape, Terms, shape_of};
 use crate::row::{Claim, Product, Relation, Row, Rule};
-use fz_model::{
-    Argument, Builtin, ConstraintParts, Form, Kind, Known, Model, PointParts, Scalar, Scalars,
-    Slot, Term, part, scalar_at,
+use fz_data::{
+    Argument, ConstraintParts, Model, PointParts, Scalar, Scalars, Slot, part, scalar_at,
 };
+use fz_meaning::{Builtin, Form, Kind, Known, Term};
 use std::alloc::{AllocError, Global};
 
 /// The points of a model.
@@ -161,7 +161,7 @@ impl Builder {
     ) -> Result<Option<Row>, AllocError> {
         self.add_terms(parts, shape.terms)?;
         let claim = match shape.truth {
-            Some(place) => self.add_truth(scalar_in(parts, place), form)?,
+            Some(index) => self.add_truth(scalar_in(parts, index), form)?,
             None => Some(Claim::Holds),
         };
         let Some(claim) = claim else {
@@ -232,11 +232,11 @@ impl Builder {
         coefficients: Scalars<'_>,
         scalars: Scalars<'_>,
     ) -> Result<(), AllocError> {
-        for place in 0..scalars.len() {
-            let Some(Scalar::Number(coefficient)) = coefficients.get(place) else {
+        for index in 0..scalars.len() {
+            let Some(Scalar::Number(coefficient)) = coefficients.get(index) else {
                 continue;
             };
-            if let Some(scalar) = scalars.get(place) {
+            if let Some(scalar) = scalars.get(index) {
                 self.add(scalar, coefficient)?;
             }
         }

@@ -1,37 +1,38 @@
 //! Bounds of variables. A Boolean is 0 or 1 there.
 
 use fz_base::{IntSet, Value};
-use fz_model::{Domain, Kind};
+use fz_meaning::{Domain, Kind};
 
 /// The numbers from one to another; none where the first is above the second.
 #[derive(Clone, Copy)]
-pub(crate) struct Ends {
-    pub(crate) low: i64,
-    pub(crate) high: i64,
+pub struct Ends {
+    pub low: i64,
+    pub high: i64,
 }
 
 /// The end of some bounds from which on numbers are counted.
 #[derive(Clone, Copy)]
-pub(crate) enum End {
+pub enum End {
     Low,
     High,
 }
 
 impl Ends {
     /// One number alone.
-    pub(crate) fn at(number: i64) -> Ends {
+    pub fn at(number: i64) -> Ends {
         Ends {
             low: number,
             high: number,
         }
     }
 
-    pub(crate) fn has(self, number: i64) -> bool {
+    /// Whether a number lies within them.
+    pub fn has(self, number: i64) -> bool {
         self.low <= number && number <= self.high
     }
 
     /// The number that is so many steps from an end.
-    pub(crate) fn counted(self, from: End, steps: i64) -> Option<i64> {
+    pub fn counted(self, from: End, steps: i64) -> Option<i64> {
         let number = match from {
             End::Low => self.low.checked_add(steps)?,
             End::High => self.high.checked_sub(steps)?,
@@ -40,25 +41,25 @@ impl Ends {
     }
 
     /// How far apart the ends are.
-    pub(crate) fn width(self) -> i128 {
+    pub fn width(self) -> i128 {
         i128::from(self.high).saturating_sub(i128::from(self.low))
     }
 
     /// The least and the greatest product with a coefficient.
-    pub(crate) fn times(self, coefficient: i64) -> (i128, i128) {
+    pub fn times(self, coefficient: i64) -> (i128, i128) {
         let low = i128::from(coefficient).saturating_mul(i128::from(self.low));
         let high = i128::from(coefficient).saturating_mul(i128::from(self.high));
         (low.min(high), low.max(high))
     }
 
     /// How far a product with a coefficient can move.
-    pub(crate) fn reach(self, coefficient: i64) -> i128 {
+    pub fn reach(self, coefficient: i64) -> i128 {
         let (low, high) = self.times(coefficient);
         high.saturating_sub(low)
     }
 
     /// The numbers that lie within both.
-    pub(crate) fn within(self, other: Ends) -> Ends {
+    pub fn within(self, other: Ends) -> Ends {
         Ends {
             low: self.low.max(other.low),
             high: self.high.min(other.high),
@@ -72,7 +73,7 @@ const ALL: Ends = Ends {
 };
 
 /// The number that a value is read as, where it is no set.
-pub(crate) fn number_of(value: &Value) -> Option<i64> {
+pub fn number_of(value: &Value) -> Option<i64> {
     match value {
         Value::Int(number) => Some(*number),
         Value::Bool(truth) => Some(i64::from(*truth)),
@@ -81,7 +82,7 @@ pub(crate) fn number_of(value: &Value) -> Option<i64> {
 }
 
 /// The value that a number stands for: an integer, or a Boolean where that is asked for.
-pub(crate) fn value_of(kind: Kind, number: i64) -> Value {
+pub fn value_of(kind: Kind, number: i64) -> Value {
     match kind {
         Kind::Bool => Value::Bool(number != 0),
         Kind::Int | Kind::Set => Value::Int(number),
@@ -89,7 +90,7 @@ pub(crate) fn value_of(kind: Kind, number: i64) -> Value {
 }
 
 /// The bounds of what a domain admits.
-pub(crate) fn ends_of(kind: Kind, domain: &Domain) -> Ends {
+pub fn ends_of(kind: Kind, domain: &Domain) -> Ends {
     match kind {
         Kind::Bool => Ends { low: 0, high: 1 },
         Kind::Int | Kind::Set => match domain {
@@ -107,7 +108,7 @@ pub(crate) fn ends_of(kind: Kind, domain: &Domain) -> Ends {
 }
 
 /// Whether a domain admits a value.
-pub(crate) fn admits(domain: &Domain, value: &Value) -> bool {
+pub fn admits(domain: &Domain, value: &Value) -> bool {
     match value {
         Value::Int(number) => admits_number(domain, *number),
         Value::Bool(_) => true,
@@ -119,7 +120,8 @@ pub(crate) fn admits(domain: &Domain, value: &Value) -> bool {
     }
 }
 
-pub(crate) fn admits_number(domain: &Domain, number: i64) -> bool {
+/// Whether a domain admits a number.
+pub fn admits_number(domain: &Domain, number: i64) -> bool {
     match domain {
         Domain::All => true,
         Domain::Within(low, high) => *low <= number && number <= *high,

@@ -4,7 +4,7 @@
 use crate::builder::points_of;
 use crate::points::{Points, items_of};
 use crate::row::{Place, Product, Rule};
-use fz_model::Model;
+use fz_data::Model;
 use std::alloc::{AllocError, Global};
 
 const NOWHERE: Place = Place {
@@ -25,7 +25,7 @@ pub struct Search {
 
 impl Search {
     /// What is known of a model. It goes over all its points once.
-    pub(crate) fn new(alloc: Global, model: &Model<'_>) -> Result<Search, AllocError> {
+    pub fn new(alloc: Global, model: &Model<'_>) -> Result<Search, AllocError> {
         let points = points_of(alloc, model)?;
         let variables = model.variables().len();
         let (place_ends, places) = turned(alloc, &points.products, &points.ends, variables)?;
@@ -36,25 +36,28 @@ impl Search {
         })
     }
 
-    pub(crate) fn products_of(&self, point: usize) -> &[Product] {
+    /// The variables of a point, each once, with their coefficients in its sum.
+    pub fn products_of(&self, point: usize) -> &[Product] {
         self.points.products_of(point)
     }
 
-    pub(crate) fn places_of(&self, variable: usize) -> &[Place] {
+    /// The points that a variable is in, and its coefficient in each.
+    pub fn places_of(&self, variable: usize) -> &[Place] {
         items_of(&self.places, &self.place_ends, variable)
     }
 
-    pub(crate) fn rule_of(&self, point: usize) -> Rule {
+    /// How a point is visited.
+    pub fn rule_of(&self, point: usize) -> Rule {
         self.points.rule_of(point)
     }
 
     /// How many steps it takes to look at a point.
-    pub(crate) fn cost_of(&self, point: usize) -> usize {
+    pub fn cost_of(&self, point: usize) -> usize {
         self.points.cost_of(point)
     }
 
     /// How many steps it takes to look at all.
-    pub(crate) fn size(&self) -> usize {
+    pub fn size(&self) -> usize {
         self.points.size()
     }
 }
