@@ -12,11 +12,11 @@ use Rattle.fz_meaning.specs.Meaning.{Partial, terms_at}
 use Rattle.fz_meaning.specs.Meaning.Argument.{One}
 use Rattle.fz_data.specs.declared.parts.Variable.{Variable}
 use Rattle.fz_data.specs.declared.parts.Array.{Array}
-use Rattle.fz_data.specs.declared.store.Slot.{Slot}
-use Rattle.fz_data.specs.declared.store.Slot.TheVariants as slots
-use Rattle.fz_data.specs.declared.store.Argument.{Argument}
-use Rattle.fz_data.specs.declared.store.Argument.TheVariants as arguments
-use Rattle.fz_data.specs.declared.store.Store.{Store}
+use Rattle.fz_data.specs.declared.Slot.{Slot}
+use Rattle.fz_data.specs.declared.Slot.TheVariants as slots
+use Rattle.fz_data.specs.declared.Argument.{Argument}
+use Rattle.fz_data.specs.declared.Argument.TheVariants as arguments
+use Rattle.fz_data.specs.declared.Store.{Store}
 use Rattle.fz_data.specs.Slots.{is_scalar, segment, slot_term}
 use Rattle.fz_data.specs.Parts.{argument_view, place_view, array_view, no_array}
 use Rattle.fz_arguments.specs.Arguments.{argument_is_given, array_slots, has_value_at, reading_in, reading_of, slot_is_given}

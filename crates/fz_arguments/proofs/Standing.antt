@@ -7,7 +7,7 @@ use Rattle.fz_meaning.specs.Builtins.Shape.{ScalarOf, ArrayOf}
 use Rattle.fz_meaning.specs.Meaning as meaning
 use Rattle.fz_meaning.specs.Meaning.{Partial}
 use Rattle.fz_data.specs.Slots.{segment}
-use Rattle.fz_data.specs.declared.store.Argument.{Argument}
+use Rattle.fz_data.specs.declared.Argument.{Argument}
 use Rattle.fz_arguments.specs.declared.view.ArgumentView.{ArgumentView}
 use Rattle.fz_arguments.specs.Given.{slot_in, slots_in, slot_at, slots_at, are_read}
 use Rattle.fz_arguments.specs.Arguments.{Reading, argument_slot, argument_slots, reading_in, reading_of, scalar_read, elements_read, reading_is_read, readings_are_read}

@@ -8,11 +8,11 @@ use Rattle.fz_meaning.specs.Builtins.Shape.{ScalarOf, ArrayOf}
 use Rattle.fz_meaning.specs.Meaning.{Argument, Partial, value_at}
 use Rattle.fz_data.specs.Slots.{segment}
 use Rattle.fz_data.specs.declared.parts.Array.{Array}
-use Rattle.fz_data.specs.declared.store.Slot.{Slot}
-use Rattle.fz_data.specs.declared.store.Slot.TheVariants as slots
-use Rattle.fz_data.specs.declared.store.Argument as kept
-use Rattle.fz_data.specs.declared.store.Argument.TheVariants as arguments
-use Rattle.fz_data.specs.declared.store.Store.{Store}
+use Rattle.fz_data.specs.declared.Slot.{Slot}
+use Rattle.fz_data.specs.declared.Slot.TheVariants as slots
+use Rattle.fz_data.specs.declared.Argument as kept
+use Rattle.fz_data.specs.declared.Argument.TheVariants as arguments
+use Rattle.fz_data.specs.declared.Store.{Store}
 use Rattle.fz_arguments.specs.Given.{slot_in, slots_in, is_read}
 use Rattle.fz_arguments.specs.Views.{slot_read}
 

@@ -5,8 +5,8 @@ use Rattle.fz_base.specs.declared.value.Value.{Value}
 use Rattle.fz_meaning.specs.declared.term.Term.{Term}
 use Rattle.fz_meaning.specs.Builtins.{Shape}
 use Rattle.fz_meaning.specs.Meaning as meaning
-use Rattle.fz_data.specs.declared.store.Slot.{Slot}
-use Rattle.fz_data.specs.declared.store.Slot.TheVariants as slots
+use Rattle.fz_data.specs.declared.Slot.{Slot}
+use Rattle.fz_data.specs.declared.Slot.TheVariants as slots
 use Rattle.fz_data.specs.Parts.{constraint_view}
 use Rattle.fz_data.specs.Slots.{slot_term}
 use Rattle.fz_arguments.specs.declared.elements.Elements.{Elements}

@@ -19,10 +19,11 @@ use Rattle.fz_meaning.specs.Names.{parts, kind_of_base, domain_of, is_scalar, is
 use Rattle.fz_meaning.proofs.Scope.{same_kind_is}
 use Rattle.fz_meaning.proofs.KnownNames.{next_number, number_here}
 use Rattle.fz_data.specs.declared.parts.Array as the_array
-use Rattle.fz_data.specs.Naming.{Declared as declarations}
+use Rattle.fz_names.specs.Naming.{Declared as declarations}
 use Rattle.fz_data.specs.declared.parts.DeclaredPoint.TheVariants as points
 use Rattle.fz_data.specs.declared.parts.Variable.{Variable}
-use Rattle.fz_data.specs.Parts.{variable_view, no_variable, variable_at, definition_at, array_view, array_declared, declared_point, definition_point, elements_point, no_array, elements_of}
+use Rattle.fz_data.specs.Parts.{variable_view, no_variable, variable_at, definition_at, array_view, declared_point, definition_point, elements_point, no_array, elements_of}
+use Rattle.fz_data.specs.Declarations.{array_declared}
 use Rattle.fz_data.specs.Layout.{IsPlaced}
 use Rattle.fz_data.specs.Scope.{has_elements_point}
 use Rattle.fz_data.proofs.Stands.{Adds}

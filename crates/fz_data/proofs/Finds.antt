@@ -14,9 +14,10 @@ use Rattle.fz_meaning.specs.declared.term.Term.TheVariants.{Var, Fixed}
 use Rattle.fz_data.specs.declared.model.Model.TheInside.{Inside}
 use Rattle.fz_data.specs.declared.parts.Variable.{Variable}
 use Rattle.fz_data.specs.declared.parts.Array.{Array}
-use Rattle.fz_data.specs.Naming.{Declared, has_text}
-use Rattle.fz_data.specs.Naming.{Declared as declarations}
-use Rattle.fz_data.specs.Parts.{variable_view, no_variable, kind_of_term, array_view, no_array, declared_place, elements_of}
+use Rattle.fz_names.specs.Naming.{Declared, has_text}
+use Rattle.fz_names.specs.Naming.{Declared as declarations}
+use Rattle.fz_data.specs.Parts.{variable_view, no_variable, kind_of_term, array_view, no_array, elements_of}
+use Rattle.fz_data.specs.Declarations.{declared_place}
 use Rattle.fz_data.specs.Layout.{model_view, named_place, IsArrayNamed, IsKeptAs, IsLaidOut}
 use Rattle.fz_data.specs.Shown.{kind_among}
 use Rattle.fz_data.proofs.Loops.{found_entry}

@@ -15,12 +15,12 @@ use Rattle.fz_meaning.specs.declared.row.Shape.{Shape}
 use Rattle.fz_meaning.specs.Known.{shape_of}
 use Rattle.fz_data.specs.declared.parts.Variable.{Variable}
 use Rattle.fz_data.specs.declared.parts.Array.{Array}
-use Rattle.fz_data.specs.declared.store.Slot.{Slot}
-use Rattle.fz_data.specs.declared.store.Slot.TheVariants as slots
-use Rattle.fz_data.specs.declared.store.Argument.{Argument}
-use Rattle.fz_data.specs.declared.store.Argument.TheVariants as arguments
-use Rattle.fz_data.specs.declared.store.Store.{Store}
-use Rattle.fz_data.specs.Slots.{slot_term, segment}
+use Rattle.fz_store.specs.declared.store.Slot.{Slot}
+use Rattle.fz_store.specs.declared.store.Slot.TheVariants as slots
+use Rattle.fz_store.specs.declared.store.Argument.{Argument}
+use Rattle.fz_store.specs.declared.store.Argument.TheVariants as arguments
+use Rattle.fz_store.specs.declared.store.Store.{Store}
+use Rattle.fz_store.specs.Slots.{slot_term, segment}
 use Rattle.fz_data.specs.Parts.{argument_view, place_view, array_view, no_array}
 use Rattle.fz_data.specs.Fitting.{is_of_kind, is_scalar_of, is_array_slot, is_array_of, slot_length, length_of, length_at, are_equally_long}
 

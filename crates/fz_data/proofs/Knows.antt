@@ -31,8 +31,8 @@ use Rattle.fz_meaning.proofs.Names.{AreNew, variable_number, number_by_name}
 use Rattle.fz_meaning.proofs.ScanSteps.{first_none, second_none, constraint_by_arguments}
 use Rattle.fz_meaning.proofs.Table.{term_or_array}
 use Rattle.fz_data.specs.declared.scope.Scope.{Scope}
-use Rattle.fz_data.specs.Parts.{declared_place}
-use Rattle.fz_data.specs.Naming.{has_text}
+use Rattle.fz_data.specs.Declarations.{declared_place}
+use Rattle.fz_names.specs.Naming.{has_text}
 use Rattle.fz_data.specs.Scope.{place_in, place_fault, fault_in, faults_in, term_at, term_in, place_at, place_of_part, argument_fault, argument_in, is_declared, decl_fault_in, definition_in, constraint_fault_in, variable_by_place, defined_in, posted_in, aim_in}
 use Rattle.fz_data.proofs.Finds.{by_name, first_entry, first_some-same, or_else}
 use Rattle.fz_data.specs.Stands.{Stands, entry_place, declared_pair}

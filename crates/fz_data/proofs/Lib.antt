@@ -14,7 +14,4 @@ pub mod OwnKinds
 pub mod Tabled
 pub mod Loaded
 pub mod RestOfText
-pub mod NameTable
 pub mod Grown
-pub mod Flat
-pub mod Noted

@@ -19,7 +19,7 @@ use Rattle.fz_data.specs.declared.model.Model.TheInside.{Inside}
 use Rattle.fz_data.specs.declared.parts.Goal as the_goal
 use Rattle.fz_data.specs.declared.parts.Posted as the_posted
 use Rattle.fz_data.specs.declared.scope.Scope.{Scope}
-use Rattle.fz_data.specs.declared.store.Store.{Store}
+use Rattle.fz_store.specs.declared.store.Store.{Store}
 use Rattle.fz_data.specs.Parts.{posted_view, kept_row, goal_view, declared_point}
 use Rattle.fz_data.specs.Layout.{model_view, named_place, IsLaidOut, IsPlaced}
 use Rattle.fz_data.specs.Scope.{Tells, posted_in, aim_in, faults_in, constraint_fault_in}

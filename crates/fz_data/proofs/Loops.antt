@@ -7,7 +7,7 @@ use Rattle.std.proofs.lemmas.Slice.Eq.{bytes_eq-Decides}
 use Rattle.fz_meaning.specs.Meaning.{first_some}
 use Rattle.fz_meaning.proofs.Lists.{all_append}
 use Rattle.fz_meaning.proofs.ScanSteps.{first_stops, take_one_more}
-use Rattle.fz_data.specs.Naming.{has_text}
+use Rattle.fz_names.specs.Naming.{has_text}
 use Rattle.fz_syntax.specs.Tree as tree
 use Rattle.fz_syntax.specs.View.{arg_list, bare_arg}
 use Rattle.fz_syntax.specs.declared.tree.NoteArg.{NoteArg}

@@ -12,7 +12,7 @@ use Rattle.fz_data.specs.declared.scope.Item.{Item}
 use Rattle.fz_data.specs.declared.scope.Item.TheVariants as items
 use Rattle.fz_data.specs.declared.scope.Scope.{Scope}
 use Rattle.fz_data.specs.Parts.{variable_view}
-use Rattle.fz_data.specs.Naming.{has_text}
+use Rattle.fz_names.specs.Naming.{has_text}
 use Rattle.fz_data.specs.Scope.{HasKinds, IsNewName, IsAdded, IsItem, name_fault_in, decl_fault_in, faults_in, kept_with, new_variables, new_arrays, new_points}
 use Rattle.fz_data.specs.Fitting.{kinds_among}
 use Rattle.fz_data.specs.Stands.{StandsFor}

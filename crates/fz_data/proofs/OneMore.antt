@@ -15,7 +15,7 @@ use Rattle.fz_meaning.specs.Located.{Constraint}
 use Rattle.fz_meaning.specs.Meaning.{first_some, row_of}
 use Rattle.fz_meaning.proofs.ScanSteps.{first_append, both_none}
 use Rattle.fz_data.specs.declared.parts.Posted.{Posted}
-use Rattle.fz_data.specs.declared.store.Store.{Store}
+use Rattle.fz_store.specs.declared.store.Store.{Store}
 use Rattle.fz_data.specs.Parts.{posted_view, kept_row}
 use Rattle.fz_data.specs.Posting.{IsLonger, IsPostedOf, Posts}
 use Rattle.fz_data.specs.Scope.{constraint_fault_in, posted_in}

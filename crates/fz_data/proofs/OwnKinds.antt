@@ -26,9 +26,10 @@ use Rattle.fz_meaning.proofs.Table.{array_by_place, scalar_by_place}
 use Rattle.fz_data.specs.declared.parts.Array as the_array
 use Rattle.fz_data.specs.declared.parts.Variable.{Variable}
 use Rattle.fz_data.specs.Kinds.{ArgumentFits, PlaceFits, PostedFits, TermFits}
-use Rattle.fz_data.specs.Naming as the_declared
-use Rattle.fz_data.specs.Naming.{Declared as declarations}
-use Rattle.fz_data.specs.Parts.{array_view, declared_place, no_array, elements_of}
+use Rattle.fz_names.specs.Naming as the_declared
+use Rattle.fz_names.specs.Naming.{Declared as declarations}
+use Rattle.fz_data.specs.Parts.{array_view, no_array, elements_of}
+use Rattle.fz_data.specs.Declarations.{declared_place}
 use Rattle.fz_data.specs.Stands.{Entry, declared_pair, entry_place}
 
 -- ---- parameters: the kind of a stored value is its own

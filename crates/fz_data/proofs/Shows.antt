@@ -3,13 +3,13 @@ use Rattle.std.proofs.Common.{◌≡◌, List, [], ◌∷◌, map, Option, Some,
 use Rattle.fz_meaning.specs.Meaning as meaning
 use Rattle.fz_data.specs.declared.parts.Variable.{Variable}
 use Rattle.fz_data.specs.declared.parts.Array.{Array}
-use Rattle.fz_data.specs.declared.store.Slot.{Slot}
-use Rattle.fz_data.specs.declared.store.Slot.TheVariants as slots
-use Rattle.fz_data.specs.declared.store.Argument.{Argument}
-use Rattle.fz_data.specs.declared.store.Argument.TheVariants as arguments
-use Rattle.fz_data.specs.declared.store.Store.{Store}
+use Rattle.fz_store.specs.declared.store.Slot.{Slot}
+use Rattle.fz_store.specs.declared.store.Slot.TheVariants as slots
+use Rattle.fz_store.specs.declared.store.Argument.{Argument}
+use Rattle.fz_store.specs.declared.store.Argument.TheVariants as arguments
+use Rattle.fz_store.specs.declared.store.Store.{Store}
 use Rattle.fz_data.specs.declared.parts.Posted.{Posted}
-use Rattle.fz_data.specs.Slots.{segment}
+use Rattle.fz_store.specs.Slots.{segment}
 use Rattle.fz_data.specs.Parts.{array_view, no_array, place_view, argument_view, posted_view}
 use Rattle.fz_data.specs.Shown.{shown_place, shown_argument, shown_posted}
 use Rattle.std.specs.Option.{option_map_or}

@@ -5,13 +5,14 @@ use Rattle.fz_meaning.specs.Meaning as meaning
 use Rattle.fz_meaning.specs.Meaning.{Model, find_name, name_of, place_named, numbered, variables_of, declared_points, row_of}
 use Rattle.fz_data.specs.declared.parts.Variable.{Variable}
 use Rattle.fz_data.specs.declared.parts.Array.{Array}
-use Rattle.fz_data.specs.Naming.{Declared}
-use Rattle.fz_data.specs.Naming.{Declared as declarations}
+use Rattle.fz_names.specs.Naming.{Declared}
+use Rattle.fz_names.specs.Naming.{Declared as declarations}
 use Rattle.fz_data.specs.declared.parts.DeclaredPoint.{DeclaredPoint}
 use Rattle.fz_data.specs.declared.parts.DeclaredPoint.TheVariants as points
 use Rattle.fz_data.specs.declared.model.Model.TheInside.{Inside}
 use Rattle.fz_data.specs.Kinds.{PlaceFits, PostedFits}
-use Rattle.fz_data.specs.Parts.{variable_view, declared_view, declared_place, posted_view, kept_row, goal_view, declared_point, definition_at}
+use Rattle.fz_data.specs.Parts.{variable_view, posted_view, kept_row, goal_view, declared_point, definition_at}
+use Rattle.fz_data.specs.Declarations.{declared_view, declared_place}
 
 abbrev pub model_view : Inside → Model
 model_view m = record {

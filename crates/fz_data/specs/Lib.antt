@@ -1,5 +1,5 @@
-pub mod Slots
 pub mod Parts
+pub mod Declarations
 pub mod Kinds
 pub mod Layout
 pub mod Shown
@@ -9,7 +9,4 @@ pub mod Scope
 pub mod Posting
 pub mod Stands
 pub mod Texts
-pub mod Naming
-pub mod Names
-pub mod Hashing
-pub mod Numbered
+pub use Rattle.fz_store.specs.Slots

@@ -1,7 +1,7 @@
 -- What the parts of a loaded model stand for: the model as it is defined, apart from memory (this
 -- project's profile). Variables and arrays are cited by their numbers; nothing depends on what a
 -- number stands for that no variable or array has.
-use Rattle.std.specs.Prelude.{ℕ, List, [], map, Option, None, Some, cond, option_map, slice_get}
+use Rattle.std.specs.Prelude.{ℕ, List, [], map, Option, None, Some, option_map, slice_get}
 use Rattle.std.specs.Option.{option_map_or}
 use Rattle.fz_meaning.specs.Values.{kind_of}
 use Rattle.fz_meaning.specs.declared.kind.Kind.{Kind}
@@ -15,17 +15,15 @@ use Rattle.fz_meaning.specs.Meaning as meaning
 use Rattle.fz_data.specs.declared.parts.Variable.{Variable}
 use Rattle.fz_data.specs.declared.parts.Array.{Array}
 use Rattle.fz_data.specs.declared.parts.ScalarList.{ScalarList}
-use Rattle.fz_data.specs.Naming.{Declared}
-use Rattle.fz_data.specs.Naming.{Declared as declarations}
 use Rattle.fz_base.specs.declared.value.Value.{Value}
-use Rattle.fz_data.specs.declared.store.Slot.{Slot}
-use Rattle.fz_data.specs.declared.store.Slot.TheVariants as slots
-use Rattle.fz_data.specs.declared.store.Argument.{Argument}
-use Rattle.fz_data.specs.declared.store.Argument.TheVariants as arguments
-use Rattle.fz_data.specs.declared.store.Store.{Store}
+use Rattle.fz_store.specs.declared.store.Slot.{Slot}
+use Rattle.fz_store.specs.declared.store.Slot.TheVariants as slots
+use Rattle.fz_store.specs.declared.store.Argument.{Argument}
+use Rattle.fz_store.specs.declared.store.Argument.TheVariants as arguments
+use Rattle.fz_store.specs.declared.store.Store.{Store}
 use Rattle.fz_data.specs.declared.parts.Posted.{Posted}
 use Rattle.fz_data.specs.declared.point.ConstraintParts.{ConstraintParts}
-use Rattle.fz_data.specs.Slots.{slot_term, segment}
+use Rattle.fz_store.specs.Slots.{slot_term, segment}
 use Rattle.fz_data.specs.declared.parts.Goal.{Goal}
 use Rattle.fz_data.specs.declared.parts.Goal.TheVariants as goals
 use Rattle.fz_data.specs.declared.parts.DeclaredPoint.{DeclaredPoint}
@@ -68,30 +66,6 @@ no_array = meaning.Place.Array [] IntKind []
 
 abbrev pub array_at : List Array → ℕ → meaning.Place
 array_at xs i = option_map_or array_view (slice_get xs i) no_array
-
--- ---- declarations
-
-abbrev pub scalar_declared : List Variable → List ℕ → Term → meaning.Declared
-scalar_declared vs x (Var n) =
-    meaning.Declared.ScalarVariable (variable_at vs n) (definition_at vs n)
-scalar_declared vs x (Fixed v) =
-    meaning.Declared.Parameter x (meaning.Place.Scalar (kind_of v) (Fixed v))
-
-abbrev pub array_declared : Array → meaning.Declared
-array_declared x =
-    cond x.is_variable
-    (meaning.Declared.ArrayOfVariables x.name.now x.kind x.domain (elements_of x))
-    (meaning.Declared.Parameter x.name.now (array_view x))
-
-abbrev pub declared_view : List Variable → List Array → List ℕ → Declared → meaning.Declared
-declared_view vs xs name (declarations.Scalar t) = scalar_declared vs name t
-declared_view vs xs name (declarations.Array i) =
-    option_map_or array_declared (slice_get xs i) (meaning.Declared.Parameter name no_array)
-
--- what the declared name stands for
-abbrev pub declared_place : List Variable → List Array → Declared → meaning.Place
-declared_place vs xs (declarations.Scalar t) = scalar_view vs t
-declared_place vs xs (declarations.Array i) = array_at xs i
 
 -- ---- constraints and the goal
 

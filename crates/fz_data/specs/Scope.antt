@@ -32,13 +32,14 @@ use Rattle.fz_data.specs.declared.scope.Scope.{Scope}
 use Rattle.fz_data.specs.declared.scope.Item.{Item}
 use Rattle.fz_data.specs.declared.scope.Item.TheVariants as items
 use Rattle.fz_data.specs.declared.parts.Array as the_array
-use Rattle.fz_data.specs.Naming as the_declared
-use Rattle.fz_data.specs.Naming.{has_text}
-use Rattle.fz_data.specs.Naming.{Declared as declarations}
+use Rattle.fz_names.specs.Naming as the_declared
+use Rattle.fz_names.specs.Naming.{has_text}
+use Rattle.fz_names.specs.Naming.{Declared as declarations}
 use Rattle.fz_data.specs.declared.parts.DeclaredPoint.{DeclaredPoint}
 use Rattle.fz_data.specs.declared.parts.DeclaredPoint.TheVariants as points
 use Rattle.fz_data.specs.declared.parts.Variable.{Variable}
-use Rattle.fz_data.specs.Parts.{variable_view, declared_place, elements_of}
+use Rattle.fz_data.specs.Parts.{variable_view, elements_of}
+use Rattle.fz_data.specs.Declarations.{declared_place}
 
 -- the error tells the fault, unless memory ran out
 abbrev pub Tells : ModelError → Option Fault → Type 0

@@ -9,13 +9,13 @@ use Rattle.fz_meaning.specs.declared.term.Term.{Term}
 use Rattle.fz_meaning.specs.declared.term.Term.TheVariants.{Var, Fixed}
 use Rattle.fz_meaning.specs.Meaning as meaning
 use Rattle.fz_base.specs.declared.value.Value.{Value}
-use Rattle.fz_data.specs.Slots.{scalar_term, slot_term, segment}
+use Rattle.fz_store.specs.Slots.{scalar_term, slot_term, segment}
 use Rattle.fz_data.specs.Parts.{variable_view, constraint_view}
-use Rattle.fz_data.specs.declared.store.Slot.{Slot}
-use Rattle.fz_data.specs.declared.store.Slot.TheVariants as slots
-use Rattle.fz_data.specs.declared.store.Argument.{Argument}
-use Rattle.fz_data.specs.declared.store.Argument.TheVariants as arguments
-use Rattle.fz_data.specs.declared.store.Store.{Store}
+use Rattle.fz_store.specs.declared.store.Slot.{Slot}
+use Rattle.fz_store.specs.declared.store.Slot.TheVariants as slots
+use Rattle.fz_store.specs.declared.store.Argument.{Argument}
+use Rattle.fz_store.specs.declared.store.Argument.TheVariants as arguments
+use Rattle.fz_store.specs.declared.store.Store.{Store}
 use Rattle.fz_data.specs.declared.parts.Array.{Array}
 use Rattle.fz_data.specs.declared.parts.Posted.{Posted}
 use Rattle.fz_data.specs.declared.point.Point.{Point}

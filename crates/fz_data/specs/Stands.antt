@@ -8,11 +8,12 @@ use Rattle.fz_meaning.specs.Meaning as meaning
 use Rattle.fz_meaning.specs.Meaning.{Place, declared_points, numbered_from}
 use Rattle.fz_meaning.specs.Names.{scalar_variables, place_of_declared, declared_of, variable_declared}
 use Rattle.fz_data.specs.declared.parts.Array as the_array
-use Rattle.fz_data.specs.Naming as the_declared
+use Rattle.fz_names.specs.Naming as the_declared
 use Rattle.fz_data.specs.declared.parts.DeclaredPoint.{DeclaredPoint}
 use Rattle.fz_data.specs.declared.parts.Variable.{Variable}
 use Rattle.fz_data.specs.declared.scope.Scope.{Scope}
-use Rattle.fz_data.specs.Parts.{variable_view, declared_view, declared_place, declared_point}
+use Rattle.fz_data.specs.Parts.{variable_view, declared_point}
+use Rattle.fz_data.specs.Declarations.{declared_view, declared_place}
 use Rattle.fz_data.specs.Layout.{IsKeptAs, IsPlaced}
 
 abbrev pub Entry : Type 0

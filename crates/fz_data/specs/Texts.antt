@@ -18,7 +18,7 @@ use Rattle.fz_data.specs.Scope.{Tells}
 use Rattle.fz_data.specs.Stands.{Declares}
 use Rattle.fz_data.specs.declared.parts.Posted.{Posted}
 use Rattle.fz_data.specs.declared.scope.Scope.{Scope}
-use Rattle.fz_data.specs.declared.store.Store.{Store}
+use Rattle.fz_store.specs.declared.store.Store.{Store}
 use Rattle.fz_data.specs.declared.error.LoadError.{LoadError}
 use Rattle.fz_data.specs.declared.error.LoadError.TheVariants as errors
 

@@ -12,11 +12,11 @@ ghost use Rattle.fz_data.specs.Stands.{Declares};
 
 use crate::declaring::item_of;
 use crate::model::Model;
-use crate::names::Names;
 use crate::posting::{all_posted, goal_of};
 use crate::scope::{Scope, add};
-use crate::store::Store;
 use fz_meaning::ModelError;
+use fz_names::Names;
+use fz_store::Store;
 use fz_syntax::{Ast, Decl};
 use std::alloc::Global;
 

@@ -8,11 +8,11 @@ ghost use Rattle.fz_data.specs.Parts.{constraint_view, elements_of, goal_view, v
 ghost use Rattle.fz_data.specs.Shown.{IfConstraint, found_place, point_name, point_view, scalar_terms, shown_posted};
 
 use crate::found::{Found, Scalars, What};
-use crate::names::{Names, Standing};
 use crate::parts::{Array, DeclaredPoint, Goal, Posted, Variable};
 use crate::point::{ConstraintParts, Constraints, Point, PointParts};
 use crate::scope::Scope;
-use crate::store::{Scalar, Store, read_term};
+use fz_names::{Names, Standing};
+use fz_store::{Scalar, Store, read_term};
 
 /// A model with its names looked up. A contract sees it as the model of the tree that it was loaded
 /// from.

@@ -8,13 +8,12 @@ ghost use Rattle.fz_meaning.specs.Known.{known_row, shape_of};
 ghost use Rattle.fz_meaning.specs.Values.{kind_of};
 ghost use Rattle.fz_data.specs.Parts.{argument_view, kind_of_term};
 ghost use Rattle.fz_data.specs.Fitting.{are_equally_long, array_kind, is_array_of, is_array_slot, is_of_kind, is_scalar_of, kinds_among, length_at, length_of, slot_length};
-ghost use Rattle.fz_data.specs.Slots.{constant_at};
+ghost use Rattle.fz_store.specs.Slots.{constant_at};
 
 use crate::parts::{Array, Variable};
-use crate::store::{Argument, Slot, Store, part};
-use crate::values::{kind_of, same_kind};
 use fz_base::Value;
 use fz_meaning::{Kind, Known, Shape, Term};
+use fz_store::{Argument, Slot, Store, kind_of, part, same_kind};
 
 /// What constraints cite: the variables, their kinds, and the arrays. The kinds have a list of
 /// their own, a byte each, so that they stay in a near cache while constraints are loaded.

@@ -12,13 +12,12 @@ ghost use Rattle.fz_data.specs.declared.scope.Item.TheVariants.{Parameter, Varia
 ghost use Rattle.fz_meaning.specs.declared.error.ModelError.TheVariants.{Memory};
 ghost use Rattle.fz_data.specs.Scope.{HasKinds, IsAdded, Tells, fault_in, faults_in, has_elements_point, IsNewName, place_fault, place_in, term_at, term_in};
 
-use crate::names::{Names, Standing};
 use crate::parts::{Array, DeclaredPoint, ScalarList, Variable};
 use crate::rows::{Cited, term_kind, variable_kind};
-use crate::store::slot_of;
-use crate::values::{copied, literal_kind, literal_value, same_kind};
 use fz_base::Value;
 use fz_meaning::{Domain, Kind, ModelError, Term};
+use fz_names::{Names, Standing};
+use fz_store::{copied, literal_kind, literal_value, same_kind, slot_of};
 use fz_syntax::{Basic, Literal, Name};
 use std::alloc::{AllocError, Global};
 

@@ -26,8 +26,8 @@ use crate::model::Model;
 use crate::parts::Posted;
 use crate::posting::{goal_of, post};
 use crate::scope::Scope;
-use crate::store::Store;
 use fz_meaning::ModelError;
+use fz_store::Store;
 use fz_syntax::{Constraint, Decl, Items, SyntaxError};
 use std::alloc::Global;
 

@@ -16,10 +16,10 @@ use Rattle.fz_meaning.proofs.Values.{no, and_first, and_second}
 use Rattle.fz_meaning.proofs.States.{intro}
 use Rattle.fz_meaning.proofs.Steps.{only_open_none, some_of}
 use Rattle.fz_data.specs.declared.parts.Array.{Array}
-use Rattle.fz_data.specs.declared.store.Slot.{Slot}
-use Rattle.fz_data.specs.declared.store.Slot.TheVariants as slots
-use Rattle.fz_data.specs.declared.store.Argument.{Argument}
-use Rattle.fz_data.specs.declared.store.Argument.TheVariants as arguments
+use Rattle.fz_data.specs.declared.Slot.{Slot}
+use Rattle.fz_data.specs.declared.Slot.TheVariants as slots
+use Rattle.fz_data.specs.declared.Argument.{Argument}
+use Rattle.fz_data.specs.declared.Argument.TheVariants as arguments
 use Rattle.fz_data.specs.declared.point.ConstraintParts.{ConstraintParts}
 use Rattle.fz_data.specs.Slots.{is_scalar, segment}
 use Rattle.fz_data.specs.Kinds.{PostedFits}

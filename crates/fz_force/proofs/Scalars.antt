@@ -9,8 +9,8 @@ use Rattle.fz_base.specs.declared.value.Value.{Value}
 use Rattle.fz_meaning.specs.Meaning.{Argument, terms_at, terms_in}
 use Rattle.fz_data.specs.declared.parts.Variable.{Variable}
 use Rattle.fz_data.specs.declared.parts.Array.{Array}
-use Rattle.fz_data.specs.declared.store.Slot.{Slot}
-use Rattle.fz_data.specs.declared.store.Slot.TheVariants as slots
+use Rattle.fz_data.specs.declared.Slot.{Slot}
+use Rattle.fz_data.specs.declared.Slot.TheVariants as slots
 use Rattle.fz_data.specs.Parts.{place_view}
 use Rattle.fz_data.specs.Slots.{is_scalar, slot_term}
 

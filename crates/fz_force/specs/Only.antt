@@ -7,8 +7,8 @@ use Rattle.fz_meaning.specs.declared.term.Term.{Term}
 use Rattle.fz_meaning.specs.declared.term.Term.TheVariants.{Var}
 use Rattle.fz_meaning.specs.Meaning.{Partial, terms_in}
 use Rattle.fz_meaning.specs.Steps.{open_terms}
-use Rattle.fz_data.specs.declared.store.Argument.{Argument}
-use Rattle.fz_data.specs.declared.store.Argument.TheVariants as arguments
+use Rattle.fz_data.specs.declared.Argument.{Argument}
+use Rattle.fz_data.specs.declared.Argument.TheVariants as arguments
 use Rattle.fz_data.specs.declared.point.ConstraintParts.{ConstraintParts}
 use Rattle.fz_data.specs.Parts.{argument_view}
 use Rattle.fz_data.specs.Slots.{is_scalar, segment}

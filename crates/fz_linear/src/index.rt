@@ -38,7 +38,7 @@ impl Search {
 
     /// The variables of a point, each once, with their coefficients in its sum.
     pub fn products_of(&self, point: usize) -> &[Product] {
-        self.points.products_of(point)
+        items_of(&self.points.products, &self.points.ends, point)
     }
 
     /// The points that a variable is in, and its coefficient in each.
@@ -48,17 +48,24 @@ impl Search {
 
     /// How a point is visited.
     pub fn rule_of(&self, point: usize) -> Rule {
-        self.points.rule_of(point)
+        match self.points.rules.get(point) {
+            Some(rule) => *rule,
+            None => Rule::Plain,
+        }
     }
 
     /// How many steps it takes to look at a point.
     pub fn cost_of(&self, point: usize) -> usize {
-        self.points.cost_of(point)
+        self.points.costs.get(point).copied().unwrap_or(1)
     }
 
     /// How many steps it takes to look at all.
     pub fn size(&self) -> usize {
-        self.points.size()
+        let mut size = 0usize;
+        for cost in self.points.costs.iter() {
+            size = size.saturating_add(*cost);
+        }
+        size
     }
 }
 

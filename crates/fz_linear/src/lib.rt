@@ -16,4 +16,4 @@ mod row;
 pub use arguments::{elements_in, scalar_in};
 pub use ends::{End, Ends, admits, admits_number, ends_of, number_of, value_of};
 pub use index::Search;
-pub use row::{Claim, Place, Product, Reach, Relation, Row, Rule, Sums};
+pub use row::{Claim, Place, Product, Relation, Row, Rule, Sums};

@@ -29,30 +29,3 @@ pub(crate) fn items_of<'k, T>(items: &'k [T], ends: &[usize], number: usize) -> 
         &[]
     }
 }
-
-impl Points {
-    pub(crate) fn products_of(&self, point: usize) -> &[Product] {
-        items_of(&self.products, &self.ends, point)
-    }
-
-    pub(crate) fn rule_of(&self, point: usize) -> Rule {
-        match self.rules.get(point) {
-            Some(rule) => *rule,
-            None => Rule::Plain,
-        }
-    }
-
-    /// How many steps it takes to look at a point.
-    pub(crate) fn cost_of(&self, point: usize) -> usize {
-        self.costs.get(point).copied().unwrap_or(1)
-    }
-
-    /// How many steps it takes to look at all.
-    pub(crate) fn size(&self) -> usize {
-        let mut size = 0usize;
-        for cost in self.costs.iter() {
-            size = size.saturating_add(*cost);
-        }
-        size
-    }
-}

@@ -50,14 +50,6 @@ pub struct Sums {
     pub most: i128,
 }
 
-/// How far the products of a sum can move: the index of the one that moves furthest, and how far
-/// each other one moves at most.
-#[derive(Clone, Copy)]
-pub struct Reach {
-    pub top: usize,
-    pub others: i128,
-}
-
 impl Sums {
     /// These bounds with one more product: of a coefficient and a variable with these bounds.
     pub fn with(self, coefficient: i64, ends: Ends) -> Sums {

@@ -1,8 +1,16 @@
 //! What is known of variables and points as a search begins.
 
-use fz_linear::{Ends, Reach, Search, Sums, ends_of, number_of};
+use fz_linear::{Ends, Search, Sums, ends_of, number_of};
 use fz_model::{Domain, Model, Partial, PointParts, Slot};
 use std::alloc::{AllocError, Global};
+
+/// How far the products of a sum can move: the index of the one that moves furthest, and how far
+/// each other one moves at most.
+#[derive(Clone, Copy)]
+pub(crate) struct Reach {
+    pub(crate) top: usize,
+    pub(crate) others: i128,
+}
 
 /// The bounds of each variable: those of its value, where it has one, or else of its domain.
 pub(crate) fn all_ends(

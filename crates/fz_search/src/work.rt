@@ -3,9 +3,9 @@
 use crate::agenda::Agenda;
 use crate::proposal::Proposal;
 use crate::stop::Stop;
-use crate::tables::{all_ends, all_open, all_sums, no_reaches};
+use crate::tables::{Reach, all_ends, all_open, all_sums, no_reaches};
 use fz_base::Value;
-use fz_linear::{Ends, Reach, Rule, Search, Sums, admits, number_of, value_of};
+use fz_linear::{Ends, Rule, Search, Sums, admits, number_of, value_of};
 use fz_model::{Domain, Kind, Model, Partial, Scalar};
 use std::alloc::{AllocError, Global};
 

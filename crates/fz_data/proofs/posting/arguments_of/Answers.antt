@@ -3,7 +3,7 @@ use Rattle.std.proofs.lemmas.List.{length-map, take_all}
 use Rattle.std.proofs.lemmas.Result.{err_from_is_err_and}
 use Rattle.fz_meaning.specs.View.{located_expr}
 use Rattle.fz_meaning.proofs.ScanSteps.{first_more}
-use Rattle.fz_data.specs.declared.store.Store.{Store}
+use Rattle.fz_store.specs.declared.store.Store.{Store}
 use Rattle.fz_data.specs.Parts.{argument_view}
 use Rattle.fz_data.specs.Posting.{IsLonger}
 use Rattle.fz_data.specs.Scope.{argument_fault, argument_in}

@@ -1,6 +1,6 @@
 use Rattle.std.proofs.Common.{Some, option_map, sym, ap, ◌∙◌}
-use Rattle.fz_data.specs.Naming.{standing_view}
-use Rattle.fz_data.specs.Parts.{declared_place}
+use Rattle.fz_names.specs.Naming.{standing_view}
+use Rattle.fz_data.specs.Declarations.{declared_place}
 use Rattle.fz_data.specs.Scope.{place_at}
 use Rattle.fz_data.proofs.Grown.{slot_is}
 use Rattle.fz_data.proofs.posting.named_slot.Goals as goal

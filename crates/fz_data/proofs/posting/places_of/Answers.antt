@@ -5,7 +5,7 @@ use Rattle.fz_meaning.specs.View.{located_basic}
 use Rattle.fz_meaning.proofs.ScanSteps.{first_more}
 use Rattle.fz_data.specs.Parts.{place_view}
 use Rattle.fz_data.specs.Scope.{fault_in, place_of_part}
-use Rattle.fz_data.specs.Slots.{IsGrown}
+use Rattle.fz_store.specs.Slots.{IsGrown}
 use Rattle.fz_data.proofs.Grown.{SoFar, grown_none, grown_more, grown_one, longer_none, none_so_far, next_so_far, segment_is}
 use Rattle.fz_data.proofs.Tells.{tells_stop}
 use Rattle.fz_data.proofs.posting.places_of.Goals as goal

@@ -4,7 +4,7 @@ use Rattle.fz_meaning.specs.View.{located_expr}
 use Rattle.fz_syntax.specs.View.{bare_notes}
 use Rattle.fz_data.specs.Parts.{argument_view}
 use Rattle.fz_data.specs.Scope.{argument_in, defined_in}
-use Rattle.fz_data.specs.Slots.{segment}
+use Rattle.fz_store.specs.Slots.{segment}
 use Rattle.fz_data.proofs.Grown.{longer_none}
 use Rattle.fz_data.proofs.posting.posted.Goals as goal
 

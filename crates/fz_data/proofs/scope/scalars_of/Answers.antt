@@ -5,9 +5,9 @@ use Rattle.std.proofs.lemmas.Result.{err_from_is_err_and}
 use Rattle.fz_meaning.specs.View.{located_basic}
 use Rattle.fz_meaning.proofs.ScanSteps.{first_more}
 use Rattle.fz_data.specs.Scope.{fault_in, term_in}
-use Rattle.fz_data.specs.Slots.{IsGrown, is_scalar, slot_term}
+use Rattle.fz_store.specs.Slots.{IsGrown, is_scalar, slot_term}
 use Rattle.fz_data.proofs.Grown.{grown_none, grown_more, none_read, next_read}
-use Rattle.fz_data.proofs.Flat.{one_flat}
+use Rattle.fz_store.proofs.Flat.{one_flat}
 use Rattle.fz_data.proofs.Tells.{tells_stop}
 use Rattle.fz_data.proofs.scope.scalars_of.Goals as goal
 

@@ -3,7 +3,7 @@ use Rattle.std.proofs.lemmas.Option.{slice_get_past, slice_get_read}
 use Rattle.fz_meaning.specs.Meaning.{variables_of}
 use Rattle.fz_meaning.specs.Meaning.Place.{Scalar, Array}
 use Rattle.fz_meaning.specs.declared.term.Term.TheVariants.{Var}
-use Rattle.fz_data.specs.Naming.{standing_view}
+use Rattle.fz_names.specs.Naming.{standing_view}
 use Rattle.fz_data.specs.Parts.{elements_of}
 use Rattle.fz_data.specs.Shown.{found_place, kind_among}
 use Rattle.fz_data.proofs.Finds.{found_none, found_scalar, stands, found_array}

@@ -1,0 +1,184 @@
+-- The table of names: what is looked up there, and what one more name leaves as it is.
+use Rattle.std.proofs.Common.{◌≡◌, ℕ, suc, zero, ◌<◌, List, [], ◌∷◌, ◌++◌, map, length, Option, None, Some, IfSome, Bor, ltb, get_or, option_map, slice_get, cond, if◌then◌else◌, ◌||◌, Bool, true, false, refl, sym, ap, ◌∙◌, subst, is_some, is_none, arith, Result, Ok, Err}
+use Rattle.std.specs.Result.{OnOk, OnErr}
+use Rattle.std.specs.List.{AllByRecursion, IsDistinct, find, list_any}
+use Rattle.std.specs.Option.{option_map_or}
+use Rattle.std.specs.Map.{lookup}
+use Rattle.std.proofs.lemmas.List.{map-append, length-append}
+use Rattle.std.proofs.lemmas.Slice.Eq.{bytes_eq-Decides}
+use Rattle.std.proofs.lemmas.Bool.{ltb-false, ltb-true}
+use Rattle.std.proofs.lemmas.Option.{slice_get_past, slice_get_read}
+use Rattle.indexmap.specs.IndexSet.{insert_key}
+use Rattle.fz_meaning.proofs.Lists.{all_append}
+use Rattle.fz_meaning.specs.declared.term.Term.{Term}
+use Rattle.fz_names.specs.declared.names.Entry.{Entry}
+use Rattle.fz_names.specs.declared.names.Kept.{Kept}
+use Rattle.fz_names.specs.declared.names.Entry.TheVariants as entries
+use Rattle.fz_names.specs.Naming.{Declared, has_text, stands_for, IsAmongTerms, no_term}
+use Rattle.fz_names.specs.Names.{entry_stands, is_among_terms, is_key, same_key}
+
+-- a look-up in the list is one in the table
+pub looked_up : (ts : List Term) (x : List ℕ) (ks : List Kept)
+    → lookup (has_text x) (map (entry_stands ts) ks)
+    ≡ option_map (λ k. stands_for ts k.entry) (find (is_key x) ks)
+looked_up ts x [] = refl
+looked_up ts x (k ∷ ks) = ap (λ o. cond (is_key x k) (Some (stands_for ts k.entry)) o) (looked_up ts x ks) ∙ at_first (is_key x k) (find (is_key x) ks)
+  where
+    at_first : (b : Bool) (o : Option Kept) → cond b (Some (stands_for ts k.entry))
+        (option_map (λ j. stands_for ts j.entry) o)
+        ≡ option_map (λ j. stands_for ts j.entry) (cond b (Some k) o)
+    at_first true o = refl
+    at_first false o = refl
+
+-- an entry that is found is among the terms
+pub found_among : (ts : List Term) (x : List ℕ) (ks : List Kept) (k : Kept)
+    → AllByRecursion (is_among_terms ts) ks → Some k ≡ find (is_key x) ks → IsAmongTerms ts k.entry
+found_among ts x [] k h is = cc
+found_among ts x (y ∷ ks) k h is =
+    (elim (is_key x y) as (λ b. Some k ≡ cond b (Some y) (find (is_key x) ks) → IsAmongTerms ts k.entry) [
+      | true ↦ λ is. let same : y ≡ k = cc in subst (is_among_terms ts) same h.0
+      | false ↦ λ later. found_among ts x ks k h.1 later
+    ]) is
+
+-- the key that is found has the text
+pub key_passes : (x : List ℕ) (ks : List Kept) (k : Kept) → Some k ≡ find (is_key x) ks
+    → k.bytes.now ≡ x
+key_passes x [] k e = cc
+key_passes x (y ∷ ks) k e = (elim (is_key x y) as (λ b. is_key x y ≡ b → Some k ≡ cond b (Some y) (find (is_key x) ks) → k.bytes.now ≡ x) [
+  | true ↦ λ passes e. let same : k ≡ y = cc in ap (λ (w : Kept). w.bytes.now) same ∙ sym ((bytes_eq-Decides x y.bytes.now).0 passes)
+  | false ↦ λ _ later. key_passes x ks k later
+]) refl e
+
+-- the key at an index is the one that is found, since no other has its text
+pub found_there : (ks : List Kept) (i : ℕ) (k : Kept) → IsDistinct same_key ks
+    → Some k ≡ slice_get ks i → find (is_key k.bytes.now) ks ≡ Some k
+unfolding IsDistinct
+found_there [] i k h at = cc
+found_there (y ∷ ks) zero k h at =
+    let same : k ≡ y = cc in
+    subst (λ j. find (is_key j.bytes.now) (y ∷ ks) ≡ Some j) (sym same) (ap (λ b. cond b (Some y) (find (is_key y.bytes.now) ks)) ((bytes_eq-Decides y.bytes.now y.bytes.now).1 refl))
+found_there (y ∷ ks) (suc i) k h at = ap (λ b. cond b (Some y) (find (is_key k.bytes.now) ks)) (other (is_key k.bytes.now y) refl) ∙ found_there ks i k h.1 at
+  where
+    apart : (zs : List Kept) (n : ℕ) → AllByRecursion (λ z. same_key y z ≡ false) zs
+        → Some k ≡ slice_get zs n → same_key y k ≡ false
+    apart [] n all is = cc
+    apart (z ∷ zs) zero all is = let same : z ≡ k = cc in subst (λ w. same_key y w ≡ false) same all.0
+    apart (z ∷ zs) (suc n) all is = apart zs n all.1 is
+
+    other : (b : Bool) → is_key k.bytes.now y ≡ b → is_key k.bytes.now y ≡ false
+    other false e = e
+    other true e =
+        let text = (bytes_eq-Decides k.bytes.now y.bytes.now).0 e in
+        let no : true ≡ false = sym ((bytes_eq-Decides y.bytes.now k.bytes.now).1 (sym text)) ∙ apart ks i h.0 at in cc
+
+-- ---- one more
+
+-- a name that is new in the list is new in the table
+pub new_key : (ts : List Term) (x : List ℕ) (ks : List Kept)
+    → is_none (lookup (has_text x) (map (entry_stands ts) ks)) ≡ true
+    → list_any (is_key x) ks ≡ false
+new_key ts x [] e = refl
+new_key ts x (k ∷ ks) e = (elim (is_key x k) as (λ b. is_none (cond b (Some (stands_for ts k.entry)) (lookup (has_text x) (map (entry_stands ts) ks))) ≡ true → (b || list_any (is_key x) ks) ≡ false) [
+  | true ↦ λ no. cc
+  | false ↦ λ later. new_key ts x ks later
+]) e
+
+-- what was found among the terms is found there where one more comes
+pub get_front : {A : Type 0} (xs ys : List A) (i : ℕ) → i < length xs
+    → slice_get (xs ++ ys) i ≡ slice_get xs i
+get_front [] ys i lt = absurd (omega arith)
+get_front (x ∷ xs) ys zero lt = refl
+get_front (x ∷ xs) ys (suc i) lt = get_front xs ys i (omega arith)
+
+pub among_more : (ts us : List Term) (es : List Kept) → AllByRecursion (is_among_terms ts) es
+    → AllByRecursion (is_among_terms (ts ++ us)) es
+among_more ts us [] h = tt
+among_more ts us (e ∷ es) h = (one e.entry h.0, among_more ts us es h.1)
+  where
+    longer : (n i : ℕ) → i < length ts → i < length (ts ++ us)
+    longer n i lt = omega (arith, length-append ts us)
+
+    one : (e : Entry) → IsAmongTerms ts e → IsAmongTerms (ts ++ us) e
+    one (entries.Variable n) h = tt
+    one (entries.Parameter i) h = longer i i h
+    one (entries.Array i) h = tt
+
+stands_same : (ts us : List Term) (e : Entry) → IsAmongTerms ts e
+    → stands_for (ts ++ us) e ≡ stands_for ts e
+stands_same ts us (entries.Variable n) h = refl
+stands_same ts us (entries.Parameter i) h = ap (λ o. Declared.Scalar (option_map_or (λ t. t) o no_term)) (get_front ts us i h)
+stands_same ts us (entries.Array i) h = refl
+
+pub all_stand_same : (ts us : List Term) (es : List Kept) → AllByRecursion (is_among_terms ts) es
+    → map (entry_stands (ts ++ us)) es ≡ map (entry_stands ts) es
+all_stand_same ts us [] h = refl
+all_stand_same ts us (e ∷ es) h = λ i. (e.bytes.now, stands_same ts us e.entry h.0 i) ∷ all_stand_same ts us es h.1 i
+
+-- ---- one more name
+
+-- what is read at an index
+pub got : (ks : List Kept) (i : ℕ) (r : Option (Bor Kept)) → is_some r ≡ ltb i (length ks)
+    → IfSome r (λ x. x.now ≡ get_or ks i x.now) → option_map (λ x. x.now) r ≡ slice_get ks i
+got ks i None there is = sym (slice_get_past ks i (ltb-false i (length ks) (sym there)))
+got ks i (Some x) there is = sym (slice_get_read ks (length ks) i x.now refl (ltb-true i (length ks) (sym there)) is)
+
+-- keys stay distinct where a new one is added
+pub distinct_pushed : (ks : List Kept) (k : Kept) → IsDistinct same_key ks
+    → list_any (is_key k.bytes.now) ks ≡ false → IsDistinct same_key (ks ++ k ∷ [])
+unfolding IsDistinct
+distinct_pushed [] k h absent = (tt, tt)
+distinct_pushed (y ∷ ks) k h absent = (all_append (λ z. same_key y z ≡ false) ks (k ∷ []) h.0 (apart (is_key k.bytes.now y) refl absent, tt), distinct_pushed ks k h.1 (later (is_key k.bytes.now y) absent))
+  where
+    later : (b : Bool) → (b || list_any (is_key k.bytes.now) ks) ≡ false
+        → list_any (is_key k.bytes.now) ks ≡ false
+    later true e = cc
+    later false e = e
+
+    turned : (b : Bool) → same_key y k ≡ b → is_key k.bytes.now y ≡ false → b ≡ false
+    turned false e other = refl
+    turned true e other =
+        let text = (bytes_eq-Decides y.bytes.now k.bytes.now).0 e in
+        sym ((bytes_eq-Decides k.bytes.now y.bytes.now).1 (sym text)) ∙ other
+
+    apart : (b : Bool) → is_key k.bytes.now y ≡ b → (b || list_any (is_key k.bytes.now) ks) ≡ false
+        → same_key y k ≡ false
+    apart true e absent = cc
+    apart false e absent = turned (same_key y k) refl e
+
+-- a new key is appended
+pub goes_last : (ks : List Kept) (k : Kept) → list_any (same_key k) ks ≡ false
+    → insert_key same_key ks k ≡ ks ++ k ∷ []
+goes_last ks k absent = ap (λ b. if b then ks else ks ++ k ∷ []) absent
+
+module _ (ts : List Term) (ks new : List Kept) (k : Kept) (last : new ≡ ks ++ k ∷ []) where
+  pub among_pushed : AllByRecursion (is_among_terms ts) ks → IsAmongTerms ts k.entry
+      → AllByRecursion (is_among_terms ts) new
+  among_pushed h here = subst (AllByRecursion (is_among_terms ts)) (sym last) (all_append (is_among_terms ts) ks (k ∷ []) h (here, tt))
+
+  pub view_pushed : (n : List (List ℕ × Declared)) → map (entry_stands ts) ks ≡ n
+      → map (entry_stands ts) new ≡ n ++ (k.bytes.now, stands_for ts k.entry) ∷ []
+  view_pushed n is = ap (map (entry_stands ts)) last ∙ map-append (entry_stands ts) ks (k ∷ []) ∙ ap (λ zs. zs ++ (k.bytes.now, stands_for ts k.entry) ∷ []) is
+
+-- what holds of the keys whether the last one was added or memory ran out
+pub among_put : {A E : Type 0} (r : Result A E) (ts : List Term) (ks new : List Kept) (k : Kept)
+    → OnOk r (new ≡ ks ++ k ∷ []) → OnErr r (new ≡ ks)
+    → AllByRecursion (is_among_terms ts) ks → IsAmongTerms ts k.entry → AllByRecursion (is_among_terms ts) new
+among_put (Ok a) ts ks new k last same h here = among_pushed ts ks new k last h here
+among_put (Err e) ts ks new k last same h here = subst (AllByRecursion (is_among_terms ts)) (sym same) h
+
+pub on_ok : {A E : Type 0} {P Q : Type 0} (r : Result A E) → (P → Q) → OnOk r P → OnOk r Q
+on_ok (Ok a) f p = f p
+on_ok (Err e) f p = tt
+
+pub at_end : {A : Type 0} (xs : List A) (x : A) → slice_get (xs ++ x ∷ []) (length xs) ≡ Some x
+at_end [] x = refl
+at_end (y ∷ xs) x = at_end xs x
+
+-- a parameter's term is appended
+pub stands_last : (ts us : List Term) (t : Term) (i : ℕ) → us ≡ ts ++ t ∷ [] → i ≡ length ts
+    → stands_for us (entries.Parameter i) ≡ Declared.Scalar t
+stands_last ts us t i grew last = ap (λ o. Declared.Scalar (option_map_or (λ x. x) o no_term)) ((λ j. slice_get (grew j) (last j)) ∙ at_end ts t)
+
+pub last_within : (ts us : List Term) (t : Term) (i : ℕ) → us ≡ ts ++ t ∷ [] → i ≡ length ts
+    → i < length us
+last_within ts us t i grew last = omega (arith, ap length grew, length-append ts (t ∷ []), last)

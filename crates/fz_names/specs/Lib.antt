@@ -1,0 +1,4 @@
+pub mod Naming
+pub mod Names
+pub mod Hashing
+pub mod Numbered
