@@ -13,7 +13,7 @@ use Rattle.fz_syntax.specs.Places.{IsPlacedWithin}
 use Rattle.fz_syntax.specs.Text.{IsTextOfTree, IsRefusalOf, IsValue}
 use Rattle.fz_syntax.specs.Tree.{Tree}
 use Rattle.fz_syntax.specs.View.{bare}
-use Rattle.fz_syntax.specs.declared.tree.Ast as the_ast
+use Rattle.fz_syntax.specs.declared.Ast as the_ast
 use Rattle.fz_stream.specs.declared.block.Block as the_block
 use Rattle.fz_stream.specs.declared.error.StreamError.{StreamError}
 use Rattle.fz_stream.specs.declared.error.StreamError.TheVariants as stream

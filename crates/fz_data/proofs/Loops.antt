@@ -10,7 +10,7 @@ use Rattle.fz_meaning.proofs.ScanSteps.{first_stops, take_one_more}
 use Rattle.fz_names.specs.Naming.{has_text}
 use Rattle.fz_syntax.specs.Tree as tree
 use Rattle.fz_syntax.specs.View.{arg_list, bare_arg}
-use Rattle.fz_syntax.specs.declared.tree.NoteArg.{NoteArg}
+use Rattle.fz_syntax.specs.declared.NoteArg.{NoteArg}
 use Rattle.fz_data.specs.Scope.{only_arg}
 
 -- one more is found: what it stands for, and what holds of it

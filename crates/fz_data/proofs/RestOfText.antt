@@ -3,8 +3,8 @@ use Rattle.std.proofs.Common.{◌≡◌, ℕ, true, false, List, [], ◌∷◌, 
 use Rattle.std.proofs.lemmas.List.{append-nil, map-append}
 use Rattle.fz_syntax.specs.SyntaxError.{SyntaxError}
 use Rattle.fz_syntax.specs.Offering.{TreeItems, Offers, IsAllOf}
-use Rattle.fz_syntax.specs.declared.tree.Decl.{Decl}
-use Rattle.fz_syntax.specs.declared.tree.Constraint.{Constraint}
+use Rattle.fz_syntax.specs.declared.Decl.{Decl}
+use Rattle.fz_syntax.specs.declared.Constraint.{Constraint}
 use Rattle.fz_meaning.specs.FirstFault.{Fault, decl_fault, decls_fault, first_fault}
 use Rattle.fz_meaning.specs.Meaning.{first_some}
 use Rattle.fz_meaning.specs.View.{located_all, located_constraint, located_decl}

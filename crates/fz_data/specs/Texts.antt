@@ -3,9 +3,9 @@ use Rattle.std.specs.Prelude.{◌≡◌, ◌++◌, ⊤, ℕ, List, [], map, Resu
 use Rattle.fz_syntax.specs.Offering.{TreeItems, IsTextOfAll, IsRefused, AtDecls, AtConstraints, AtSolve}
 use Rattle.fz_syntax.specs.Text.{IsTextOfTree}
 use Rattle.fz_syntax.specs.declared.reader.Items.{Items}
-use Rattle.fz_syntax.specs.declared.tree.Predicate.{Predicate}
-use Rattle.fz_syntax.specs.declared.tree.Decl.{Decl}
-use Rattle.fz_syntax.specs.declared.tree.Constraint.{Constraint}
+use Rattle.fz_syntax.specs.declared.Predicate.{Predicate}
+use Rattle.fz_syntax.specs.declared.Decl.{Decl}
+use Rattle.fz_syntax.specs.declared.Constraint.{Constraint}
 use Rattle.fz_meaning.specs.FirstFault.{first_fault}
 use Rattle.fz_meaning.specs.Located.{LocatedTree, bare_of}
 use Rattle.fz_meaning.specs.Meaning.{Model}

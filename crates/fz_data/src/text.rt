@@ -6,9 +6,9 @@ ghost use Rattle.fz_syntax.specs.Offering.{AtConstraints, AtDecls, AtPredicates,
 ghost use Rattle.fz_syntax.specs.Limits.{most_bytes};
 ghost use Rattle.fz_syntax.specs.SyntaxError.{SyntaxError as SyntaxFault};
 ghost use Rattle.fz_syntax.specs.SyntaxError.TheVariants.{TooLong};
-ghost use Rattle.fz_syntax.specs.declared.tree.Constraint as the_constraint;
-ghost use Rattle.fz_syntax.specs.declared.tree.Decl as the_decl;
-ghost use Rattle.fz_syntax.specs.declared.tree.Predicate as the_predicate;
+ghost use Rattle.fz_syntax.specs.declared.Constraint as the_constraint;
+ghost use Rattle.fz_syntax.specs.declared.Decl as the_decl;
+ghost use Rattle.fz_syntax.specs.declared.Predicate as the_predicate;
 ghost use Rattle.fz_meaning.specs.FirstFault.{decl_fault, decls_fault};
 ghost use Rattle.fz_meaning.specs.Meaning.{first_some};
 ghost use Rattle.fz_meaning.specs.View.{located_constraint, located_decl};

@@ -3,7 +3,7 @@ use Rattle.std.specs.Prelude.{◌≡◌, ℕ, zero, suc, List, [], ◌∷◌, �
 use Rattle.std.specs.Option.{MatchOption, option_map_or}
 use Rattle.fz_base.specs.declared.value.Value.{Value}
 use Rattle.fz_places.specs.Lines.{line_ends}
-use Rattle.fz_syntax.specs.declared.tree.Ast.{Ast}
+use Rattle.fz_syntax.specs.declared.Ast.{Ast}
 use Rattle.fz_message.specs.Columns.{shown}
 use Rattle.fz_message.specs.Values.{IsShownSet, IsShownValue}
 use Rattle.fz_message.specs.declared.note.Note.{Note}

@@ -2,7 +2,7 @@
 -- project's profile).
 use Rattle.std.specs.Prelude.{ℕ, ◌-◌, Option, map, option_map, slice_get}
 use Rattle.fz_base.specs.declared.span.Span.{Span}
-use Rattle.fz_syntax.specs.declared.tree.Ast.{Ast}
+use Rattle.fz_syntax.specs.declared.Ast.{Ast}
 use Rattle.fz_model.specs.Names.{declaration}
 use Rattle.fz_model.specs.View.{located_decl}
 use Rattle.fz_model.specs.declared.Point.{Point}

@@ -9,7 +9,7 @@ use Rattle.fz_model.specs.Meaning.{Partial, option_cons, value, values}
 use Rattle.fz_model.specs.declared.Term.{Term}
 use Rattle.fz_model.proofs.Values.{no, same_value_is, value_itself}
 use Rattle.fz_model.specs.View.{located_literal}
-use Rattle.fz_syntax.specs.declared.tree.Literal as the_literal
+use Rattle.fz_syntax.specs.declared.Literal as the_literal
 use Rattle.fz_verdict.specs.Blocks.{printed_values}
 use Rattle.fz_judge.specs.Working.{has_value, have_values}
 

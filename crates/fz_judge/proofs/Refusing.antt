@@ -10,10 +10,10 @@ use Rattle.fz_model.specs.Meaning.Place.{Scalar, Array}
 use Rattle.fz_model.specs.View.{located_literal, located_name}
 use Rattle.fz_model.specs.Names.{literal_value}
 use Rattle.fz_model.specs.Values.{kind_of, same_kind}
-use Rattle.fz_syntax.specs.declared.tree.Literal as the_literal
-use Rattle.fz_syntax.specs.declared.tree.Printed as the_printed
-use Rattle.fz_syntax.specs.declared.tree.PrintedValue as the_value
-use Rattle.fz_syntax.specs.declared.tree.PrintedValue.TheVariants as printed
+use Rattle.fz_syntax.specs.declared.Literal as the_literal
+use Rattle.fz_syntax.specs.declared.Printed as the_printed
+use Rattle.fz_syntax.specs.declared.PrintedValue as the_value
+use Rattle.fz_syntax.specs.declared.PrintedValue.TheVariants as printed
 use Rattle.fz_syntax.specs.Places.{IsSpanWithin}
 use Rattle.fz_syntax.specs.Spots.{Spot, Stand, name_spot, literal_spot, literal_spots, printed_value_spots, printed_spots, item_spots}
 use Rattle.fz_verdict.specs.Blocks.{Printed, BlockFault, BlockFaultKind, Block, fault_if, literal_fault, value_fault, printed_fault, items_fault, block_fault, moved}

@@ -6,15 +6,15 @@ use Rattle.std.proofs.lemmas.List.{map-append}
 use Rattle.fz_base.specs.declared.span.Span.{Span}
 use Rattle.fz_syntax.specs.Offering.{TreeItems, items_of_tree, spots_all}
 use Rattle.fz_syntax.specs.Spots.{Spot, Stand, spots, basic_spots, expr_spots, base_spots, name_spot, note_spots, value_spots, decl_spots, constraint_spots, goal_spots, solve_spots, predicate_spots}
-use Rattle.fz_syntax.specs.declared.tree.Ast.{Ast}
-use Rattle.fz_syntax.specs.declared.tree.Basic as the_basic
-use Rattle.fz_syntax.specs.declared.tree.Basic.TheVariants as basics
-use Rattle.fz_syntax.specs.declared.tree.Constraint as the_constraint
-use Rattle.fz_syntax.specs.declared.tree.Decl as the_decl
-use Rattle.fz_syntax.specs.declared.tree.Expr as the_expr
-use Rattle.fz_syntax.specs.declared.tree.Expr.TheVariants as exprs
-use Rattle.fz_syntax.specs.declared.tree.Goal as the_goal
-use Rattle.fz_syntax.specs.declared.tree.Goal.TheVariants as goals
+use Rattle.fz_syntax.specs.declared.Ast.{Ast}
+use Rattle.fz_syntax.specs.declared.Basic as the_basic
+use Rattle.fz_syntax.specs.declared.Basic.TheVariants as basics
+use Rattle.fz_syntax.specs.declared.Constraint as the_constraint
+use Rattle.fz_syntax.specs.declared.Decl as the_decl
+use Rattle.fz_syntax.specs.declared.Expr as the_expr
+use Rattle.fz_syntax.specs.declared.Expr.TheVariants as exprs
+use Rattle.fz_syntax.specs.declared.Goal as the_goal
+use Rattle.fz_syntax.specs.declared.Goal.TheVariants as goals
 use Rattle.fz_meaning.specs.Located.{Decl, Constraint}
 use Rattle.fz_meaning.specs.View.{located_basic, located_expr, located_value, located_decl, located_constraint, located_goal, located, located_all}
 use Rattle.fz_meaning.specs.Names.{IsInReadingOrder, RiseFrom, span_of, fault_places, parts, parts_of_arguments, goal_parts}

@@ -6,7 +6,7 @@ use Rattle.fz_base.specs.declared.value.Value.{Value}
 use Rattle.fz_meaning.specs.declared.state.State.TheVariants.{Unknown}
 use Rattle.fz_meaning.specs.Values.{kind_of}
 use Rattle.fz_syntax.specs.View.{bare}
-use Rattle.fz_syntax.specs.declared.tree.Ast.{Ast}
+use Rattle.fz_syntax.specs.declared.Ast.{Ast}
 use Rattle.fz_meaning.specs.View.{located}
 use Rattle.fz_meaning.specs.Located.{LocatedTree, Decl, bare_of}
 use Rattle.fz_meaning.specs.Names.{HasNoFault, number_of, scalar_variables}

@@ -2,7 +2,7 @@
 -- code.
 use Rattle.std.specs.Prelude.{ℕ, List}
 use Rattle.fz_syntax.specs.Spots.{Stand, spots}
-use Rattle.fz_syntax.specs.declared.tree.Ast.{Ast}
+use Rattle.fz_syntax.specs.declared.Ast.{Ast}
 use Rattle.fz_meaning.specs.View.{located}
 use Rattle.fz_meaning.specs.Names.{IsInReadingOrder}
 

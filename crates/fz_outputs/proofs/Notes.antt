@@ -3,9 +3,9 @@ use Rattle.std.proofs.Common.{◌≡◌, ℕ, Bool, true, cond, List, [], ◌∷
 use Rattle.std.specs.Global.{Vec}
 use Rattle.std.proofs.lemmas.List.{map-append}
 use Rattle.fz_syntax.specs.Tree as tree
-use Rattle.fz_syntax.specs.declared.tree.Decl as the_decl
-use Rattle.fz_syntax.specs.declared.tree.Note.{Note}
-use Rattle.fz_syntax.specs.declared.tree.NoteArg.TheFolds.{fold_out-Note}
+use Rattle.fz_syntax.specs.declared.Decl as the_decl
+use Rattle.fz_syntax.specs.declared.Note.{Note}
+use Rattle.fz_syntax.specs.declared.NoteArg.TheFolds.{fold_out-Note}
 use Rattle.fz_syntax.specs.View.{bare_note, bare_notes, bare_base, bare_arg, arg_list, bare_arg_layer, bare_basic_layer, bare_note_layer}
 use Rattle.fz_meaning.specs.View.{located_decl, located_name, located_value}
 use Rattle.fz_outputs.specs.Outputs.{output_var, is_unprinted, printed_decl}

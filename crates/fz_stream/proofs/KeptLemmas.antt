@@ -1,7 +1,7 @@
 -- The stored items of a block.
 use Rattle.std.proofs.Common.{◌≡◌, ℕ, zero, suc, ◌<◌, List, [], ◌∷◌, ◌++◌, length, map, get_or, slice_range, Some, refl, sym, ap, ◌∙◌, subst, arith}
 use Rattle.std.specs.List.{flat_map}
-use Rattle.fz_syntax.specs.declared.tree.Printed.{Printed}
+use Rattle.fz_syntax.specs.declared.Printed.{Printed}
 use Rattle.fz_syntax.specs.Places.{IsSpanWithin}
 use Rattle.fz_syntax.specs.Spots.{Spot, Stand, printed_value_spots, item_spots}
 use Rattle.fz_syntax.specs.Tree as tree

@@ -8,7 +8,7 @@ use Rattle.std.proofs.lemmas.Bool.{false≢true}
 use Rattle.std.specs.List.{list_any}
 use Rattle.std.specs.Str.{bytes_eq}
 use Rattle.indexmap.specs.IndexSet.{insert_key}
-use Rattle.fz_syntax.specs.declared.tree.Printed.{Printed as CodePrinted}
+use Rattle.fz_syntax.specs.declared.Printed.{Printed as CodePrinted}
 use Rattle.fz_syntax.specs.Tree.{Printed}
 use Rattle.fz_syntax.specs.View.{bare_printed, bare_items}
 use Rattle.fz_stream.specs.Parts.{HasDistinctNames}

@@ -1,7 +1,7 @@
 -- The byte ranges of the names of printed items.
 use Rattle.std.proofs.Common.{◌≡◌, ℕ, zero, suc, ◌<◌, ◌≤◌, List, [], ◌∷◌, ◌++◌, length, get_or, Option, Some, IfSome, refl, sym, ap, ◌∙◌, subst, arith, length-append}
 use Rattle.std.proofs.lemmas.List.{get_or_at}
-use Rattle.fz_syntax.specs.declared.tree.Printed.{Printed}
+use Rattle.fz_syntax.specs.declared.Printed.{Printed}
 use Rattle.fz_syntax.specs.Places.{IsSpanWithin}
 use Rattle.fz_syntax.specs.Span.{Span}
 use Rattle.fz_syntax.specs.Spots.{Spot, Stand, printed_value_spots, item_spots}

@@ -6,7 +6,7 @@ use Rattle.std.specs.List.{flat_map}
 use Rattle.fz_syntax.specs.Spots.{Spot, Stand, printed_value_spots}
 use Rattle.fz_syntax.specs.Tree as tree
 use Rattle.fz_syntax.specs.View.{bare_printed_value}
-use Rattle.fz_syntax.specs.declared.tree.Printed.{Printed}
+use Rattle.fz_syntax.specs.declared.Printed.{Printed}
 use Rattle.fz_stream.specs.declared.kept.KeptItem.{KeptItem}
 use Rattle.fz_stream.specs.declared.kept.KeptItems.{KeptItems}
 use Rattle.fz_stream.specs.Parts.{IsBlockText}

@@ -1,6 +1,6 @@
 -- What a refusal says about the open block at which a stream stops (this project's profile).
 use Rattle.std.specs.Prelude.{◌≡◌, ℕ, ◌+◌, List, [], ◌∷◌, ◌++◌, length, Any, Option, Some, None}
-use Rattle.fz_syntax.specs.declared.tree.Printed.{Printed}
+use Rattle.fz_syntax.specs.declared.Printed.{Printed}
 use Rattle.fz_syntax.specs.Places.{IsPlacedWithin}
 use Rattle.fz_syntax.specs.Span.{Span}
 use Rattle.fz_syntax.specs.Spots.{Stand, item_spots}

@@ -10,12 +10,12 @@ use Rattle.fz_lex.specs.Ahead.{tokens_ahead}
 use Rattle.fz_lex.specs.View.{IsSpelledAtSpan}
 use Rattle.fz_lex.proofs.Cuts.{cut_ordered}
 use Rattle.fz_lex.proofs.Texts.{cut_spelled}
-use Rattle.fz_syntax.specs.Tree as tree
-use Rattle.fz_syntax.specs.Tokens.{mark, truth_word, number_toks, separated, literal_toks}
-use Rattle.fz_syntax.specs.View.{bare_literal}
+use Rattle.fz_tree.specs.Tree as tree
+use Rattle.fz_tree.specs.Tokens.{mark, truth_word, number_toks, separated, literal_toks}
+use Rattle.fz_tree.specs.View.{bare_literal}
 use Rattle.fz_syntax.specs.declared.parser.cursor.Parser.{Parser}
-use Rattle.fz_syntax.specs.declared.tree.Literal.{Literal}
-use Rattle.fz_syntax.specs.declared.tree.Name.{Name}
+use Rattle.fz_tree.specs.declared.tree.Literal.{Literal}
+use Rattle.fz_tree.specs.declared.tree.Name.{Name}
 use Rattle.fz_syntax.specs.Spots.{Spot, Stand, name_spots, literal_spots}
 use Rattle.fz_syntax.specs.Placed.{PlacedToken, AgreeWith, ArePlacedIn, unplaced, plain, placed_mark, placed_separated, placed_between, placed_name, starting_at, ending_at, placed_literal}
 use Rattle.fz_syntax.specs.Walk.{ahead, end_of, Walk}

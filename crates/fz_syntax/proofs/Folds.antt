@@ -1,13 +1,13 @@
 -- The placed tokens of an annotation and of a list among its arguments.
 use Rattle.std.proofs.Common.{◌≡◌, ◌∙◌, Vec, Global, List, ◌++◌, map, sym, ap}
-use Rattle.fz_syntax.specs.declared.tree.Name.{Name}
-use Rattle.fz_syntax.specs.declared.tree.NoteArg.{NoteArg}
-use Rattle.fz_syntax.specs.declared.tree.NoteBasic.{NoteBasic}
-use Rattle.fz_syntax.specs.declared.tree.NoteArg.TheViews.{roll-Note}
-use Rattle.fz_syntax.specs.declared.tree.NoteArg.TheViews as views
-use Rattle.fz_syntax.specs.declared.tree.NoteArg.TheVariants as variants
-use Rattle.fz_syntax.specs.declared.tree.NoteArg.TheOpen.{NoteArg-F}
-use Rattle.fz_syntax.specs.declared.tree.NoteArg.TheFolds.{fold-roll-Note, fold-roll-NoteArg}
+use Rattle.fz_tree.specs.declared.tree.Name.{Name}
+use Rattle.fz_tree.specs.declared.tree.NoteArg.{NoteArg}
+use Rattle.fz_tree.specs.declared.tree.NoteBasic.{NoteBasic}
+use Rattle.fz_tree.specs.declared.tree.NoteArg.TheViews.{roll-Note}
+use Rattle.fz_tree.specs.declared.tree.NoteArg.TheViews as views
+use Rattle.fz_tree.specs.declared.tree.NoteArg.TheVariants as variants
+use Rattle.fz_tree.specs.declared.tree.NoteArg.TheOpen.{NoteArg-F}
+use Rattle.fz_tree.specs.declared.tree.NoteArg.TheFolds.{fold-roll-Note, fold-roll-NoteArg}
 use Rattle.fz_lex.specs.declared.token.Mark.TheVariants.{OpenBracket, CloseBracket}
 use Rattle.fz_syntax.specs.Placed.{PlacedToken, placed_name, placed_between, placed_parts, placed_args, placed_note, placed_arg, placed_note_basic, placed_arg_layer, placed_note_basic_layer, placed_note_layer}
 

@@ -3,8 +3,8 @@ use Rattle.std.proofs.Common.{◌≡◌, ℕ, zero, suc, List, [], ◌∷◌, �
 use Rattle.std.proofs.lemmas.List.{append-nil}
 use Rattle.fz_lex.specs.Token.{TokenValue}
 use Rattle.fz_syntax.specs.declared.parser.refusal.Refusal.{Refusal}
-use Rattle.fz_syntax.specs.Tree.{Literal}
-use Rattle.fz_syntax.specs.Shape.{Limits}
+use Rattle.fz_tree.specs.Tree.{Literal}
+use Rattle.fz_tree.specs.Shape.{Limits}
 use Rattle.fz_syntax.specs.Reading.{Fault, Read, ◌>>=◌}
 use Rattle.fz_syntax.specs.ReadingItems.{index_set_at, index_sets_at}
 use Rattle.fz_syntax.specs.Outcome.{Fails}

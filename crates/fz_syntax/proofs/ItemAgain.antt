@@ -4,10 +4,10 @@ use Rattle.std.specs.Prelude.{codes, nat_le, IfSome}
 use Rattle.std.proofs.lemmas.Bool.Decides.{nat_tests}
 use Rattle.fz_lex.specs.declared.token.Mark.TheVariants.{OpenParen, CloseParen, Semicolon, ColonColon, DotDot}
 use Rattle.fz_lex.specs.Token.{TokenValue, Marked}
-use Rattle.fz_syntax.specs.Tree.{Literal, Number, Truth, Range, Braces, Lit, Named, Expr, One, Several, Base, BoolBase, IntBase, SetBase, Constraint, Goal, Satisfy, Minimize, Maximize, Solve}
+use Rattle.fz_tree.specs.Tree.{Literal, Number, Truth, Range, Braces, Lit, Named, Expr, One, Several, Base, BoolBase, IntBase, SetBase, Constraint, Goal, Satisfy, Minimize, Maximize, Solve}
 use Rattle.fz_syntax.specs.Reading.{next_is, next_word, any_number, mark_at, word_at, whole_at, range_at, bounds_at, int_at, base_at, plain_at, one_at, size_at, index_at, expr_at, constraint_at, goal_at, solve_at}
-use Rattle.fz_syntax.specs.Shape.{Limits, IsExpr, IsBounds, IsBase, IsPlain, IsConstraint, IsGoal, IsSolve}
-use Rattle.fz_syntax.specs.Tokens.{mark, expr_toks, literal_toks, separated, notes_toks, bounds_toks, base_toks, index_toks, constraint_toks, goal_toks, solve_toks}
+use Rattle.fz_tree.specs.Shape.{Limits, IsExpr, IsBounds, IsBase, IsPlain, IsConstraint, IsGoal, IsSolve}
+use Rattle.fz_tree.specs.Tokens.{mark, expr_toks, literal_toks, separated, notes_toks, bounds_toks, base_toks, index_toks, constraint_toks, goal_toks, solve_toks}
 use Rattle.fz_syntax.proofs.ListLaws.{mark_again}
 use Rattle.fz_syntax.proofs.ListAgain.{list_again}
 use Rattle.fz_syntax.proofs.ExprLaws.{Ends, name_again, braces_again, basic_again, expr_again}

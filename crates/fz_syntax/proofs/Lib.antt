@@ -22,9 +22,6 @@ pub mod More
 pub mod Listed
 pub mod Walks
 pub mod Folds
-pub mod PrintSteps
-pub mod PrintLaws
-pub mod PrintBack
 pub mod Fits
 pub mod PlacedNotes
 pub mod PlacedLaws

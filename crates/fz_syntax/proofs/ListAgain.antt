@@ -5,7 +5,7 @@ use Rattle.std.proofs.lemmas.List.Concat.{flat_map-cons}
 use Rattle.fz_lex.specs.declared.token.Mark.{Mark}
 use Rattle.fz_lex.specs.declared.token.Mark.TheVariants.{Comma}
 use Rattle.fz_lex.specs.Token.{TokenValue, Marked}
-use Rattle.fz_syntax.specs.Tokens.{separated, mark}
+use Rattle.fz_tree.specs.Tokens.{separated, mark}
 use Rattle.fz_syntax.specs.Reading.{Reader, ◌>>=◌, is_mark, next_passes, next_is, many_at, after_token, separated_at, list_at}
 use Rattle.fz_syntax.proofs.Lists.{Shrinks, many_step, many_ends}
 use Rattle.fz_syntax.proofs.Separated.{Shrinks-after_token}

@@ -8,7 +8,7 @@ use Rattle.std.proofs.lemmas.List.Concat.{flat_map-cons}
 use Rattle.fz_lex.specs.declared.token.Mark.{Mark}
 use Rattle.fz_lex.specs.declared.token.Mark.TheVariants.{OpenParen, CloseParen, OpenBracket, CloseBracket, OpenBrace, CloseBrace, Comma, Semicolon, Colon, ColonColon, Equals, DotDot}
 use Rattle.fz_lex.specs.Token.{TokenValue, Word, Whole, FloatText, StringText, Marked}
-use Rattle.fz_syntax.specs.Tokens.{separated, mark}
+use Rattle.fz_tree.specs.Tokens.{separated, mark}
 use Rattle.fz_syntax.specs.Reading.{mark_number, next_word, word_at, Fault, Read, Reader, ◌>>=◌, is_mark, next_passes, next_is, many_upto, many_at, after_token, separated_at, list_at, mark_at, at_most, too_many}
 use Rattle.fz_syntax.proofs.Lists.{bind_ok, ok_is}
 

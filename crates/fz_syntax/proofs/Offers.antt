@@ -13,20 +13,20 @@ use Rattle.fz_lex.specs.declared.token.Token.{Token}
 use Rattle.fz_lex.specs.Token.{TokenValue}
 use Rattle.fz_lex.specs.declared.error.SyntaxError.{SyntaxError}
 use Rattle.fz_lex.specs.declared.error.SyntaxError.TheVariants as errors
-use Rattle.fz_syntax.specs.Tree as tree
+use Rattle.fz_tree.specs.Tree as tree
 use Rattle.fz_syntax.specs.declared.parser.cursor.Parser.{Parser}
 use Rattle.fz_syntax.specs.declared.parser.refusal.Refusal.{Refusal}
 use Rattle.fz_syntax.specs.declared.reader.Items.{Items}
-use Rattle.fz_syntax.specs.declared.tree.Predicate.{Predicate}
-use Rattle.fz_syntax.specs.declared.tree.Decl.{Decl}
-use Rattle.fz_syntax.specs.declared.tree.Constraint.{Constraint}
-use Rattle.fz_syntax.specs.declared.tree.Solve.{Solve}
-use Rattle.fz_syntax.specs.View.{bare_predicate, bare_decl, bare_constraint, bare_solve}
+use Rattle.fz_tree.specs.declared.tree.Predicate.{Predicate}
+use Rattle.fz_tree.specs.declared.tree.Decl.{Decl}
+use Rattle.fz_tree.specs.declared.tree.Constraint.{Constraint}
+use Rattle.fz_tree.specs.declared.tree.Solve.{Solve}
+use Rattle.fz_tree.specs.View.{bare_predicate, bare_decl, bare_constraint, bare_solve}
 use Rattle.fz_syntax.specs.Placed.{PlacedToken, placed_predicate, placed_decl, placed_constraint, placed_solve}
-use Rattle.fz_syntax.specs.Shape.{the_limits}
+use Rattle.fz_tree.specs.Shape.{the_limits}
 use Rattle.fz_syntax.specs.Reading.{Read, Reader, ◌>>=◌, next_passes, is_word, begins_decl, predicate_at, decl_at, constraint_at, solve_at, tree_at, tree_of, ended}
 use Rattle.fz_syntax.specs.Outcome.{Fails, IsErrorOf, IsRefusal, IsWhole, unexpected_kind}
-use Rattle.fz_syntax.specs.Text.{IsValue}
+use Rattle.fz_tree.specs.Text.{IsValue}
 use Rattle.fz_syntax.specs.Walk.{ahead, lexemes, Walk}
 use Rattle.fz_syntax.specs.Offering.{TreeItems, bare_all, placed_all, placed_before, IsTextOfAll, IsRefused, IsRefusedBy, by_lexer, by_grammar, IsAfter, read_predicates, read_decls, read_constraints, AtPredicates, AtDecls, AtConstraints, AtSolve}
 use Rattle.fz_syntax.proofs.Separated.{fails_bind}

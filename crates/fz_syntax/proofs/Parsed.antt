@@ -11,16 +11,16 @@ use Rattle.fz_lex.proofs.Texts.{words_are_words}
 use Rattle.fz_lex.proofs.AheadLaws.{lexed_ahead}
 use Rattle.fz_lex.specs.declared.error.SyntaxError.{SyntaxError}
 use Rattle.fz_lex.specs.declared.error.SyntaxError.TheVariants as errors
-use Rattle.fz_syntax.specs.View.{bare_printed, bare_items}
+use Rattle.fz_tree.specs.View.{bare_printed, bare_items}
 use Rattle.fz_syntax.specs.declared.parser.cursor.Parser.{Parser}
-use Rattle.fz_syntax.specs.declared.tree.Printed.{Printed as Item}
-use Rattle.fz_syntax.specs.Tree.{Tree, Printed}
-use Rattle.fz_syntax.specs.Tokens.{toks, itoks}
-use Rattle.fz_syntax.specs.Shape.{HasShape, IsPrinted, the_limits}
+use Rattle.fz_tree.specs.declared.tree.Printed.{Printed as Item}
+use Rattle.fz_tree.specs.Tree.{Tree, Printed}
+use Rattle.fz_tree.specs.Tokens.{toks, itoks}
+use Rattle.fz_tree.specs.Shape.{HasShape, IsPrinted, the_limits}
 use Rattle.fz_syntax.specs.Reading.{tree_of, tree_at}
 use Rattle.fz_syntax.specs.ReadingItems.{items_of, items_at}
 use Rattle.fz_syntax.specs.Outcome.{IsWhole}
-use Rattle.fz_syntax.specs.Text.{IsTextOfTree, IsTextOfItems, IsValue}
+use Rattle.fz_tree.specs.Text.{IsTextOfTree, IsTextOfItems, IsValue}
 use Rattle.fz_syntax.specs.Walk.{ahead, lexemes}
 use Rattle.fz_syntax.proofs.Whole.{found_of, only_of}
 use Rattle.fz_syntax.proofs.ItemLaws.{tree_takes}

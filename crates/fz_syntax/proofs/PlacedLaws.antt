@@ -4,31 +4,31 @@ use Rattle.std.specs.Prelude.{codes}
 use Rattle.std.specs.List.{flat_map}
 use Rattle.fz_lex.specs.Token.{Marked}
 use Rattle.fz_lex.specs.declared.token.Mark.TheVariants.{OpenParen, CloseParen, OpenBracket, CloseBracket, Comma, Semicolon, Colon, ColonColon, Equals}
-use Rattle.fz_syntax.specs.Tokens.{prefix_toks, param_prefix_toks, var_toks, array_word}
-use Rattle.fz_syntax.specs.declared.tree.Literal.{Literal}
-use Rattle.fz_syntax.specs.declared.tree.Basic.{Basic}
-use Rattle.fz_syntax.specs.declared.tree.Basic.TheVariants as basics
-use Rattle.fz_syntax.specs.declared.tree.Expr.{Expr}
-use Rattle.fz_syntax.specs.declared.tree.Expr.TheVariants as exprs
-use Rattle.fz_syntax.specs.declared.tree.Base.{Base}
-use Rattle.fz_syntax.specs.declared.tree.Base.TheVariants as bases
-use Rattle.fz_syntax.specs.declared.tree.Param.{Param}
-use Rattle.fz_syntax.specs.declared.tree.Predicate.{Predicate}
-use Rattle.fz_syntax.specs.declared.tree.Decl.{Decl}
-use Rattle.fz_syntax.specs.declared.tree.Constraint.{Constraint}
-use Rattle.fz_syntax.specs.declared.tree.Goal.{Goal}
-use Rattle.fz_syntax.specs.declared.tree.Goal.TheVariants as goals
-use Rattle.fz_syntax.specs.declared.tree.Solve.{Solve}
-use Rattle.fz_syntax.specs.declared.tree.PrintedValue.{PrintedValue}
-use Rattle.fz_syntax.specs.declared.tree.PrintedValue.TheVariants as printed
-use Rattle.fz_syntax.specs.declared.tree.Printed.{Printed}
-use Rattle.fz_syntax.specs.declared.tree.Note.{Note}
+use Rattle.fz_tree.specs.Tokens.{prefix_toks, param_prefix_toks, var_toks, array_word}
+use Rattle.fz_tree.specs.declared.tree.Literal.{Literal}
+use Rattle.fz_tree.specs.declared.tree.Basic.{Basic}
+use Rattle.fz_tree.specs.declared.tree.Basic.TheVariants as basics
+use Rattle.fz_tree.specs.declared.tree.Expr.{Expr}
+use Rattle.fz_tree.specs.declared.tree.Expr.TheVariants as exprs
+use Rattle.fz_tree.specs.declared.tree.Base.{Base}
+use Rattle.fz_tree.specs.declared.tree.Base.TheVariants as bases
+use Rattle.fz_tree.specs.declared.tree.Param.{Param}
+use Rattle.fz_tree.specs.declared.tree.Predicate.{Predicate}
+use Rattle.fz_tree.specs.declared.tree.Decl.{Decl}
+use Rattle.fz_tree.specs.declared.tree.Constraint.{Constraint}
+use Rattle.fz_tree.specs.declared.tree.Goal.{Goal}
+use Rattle.fz_tree.specs.declared.tree.Goal.TheVariants as goals
+use Rattle.fz_tree.specs.declared.tree.Solve.{Solve}
+use Rattle.fz_tree.specs.declared.tree.PrintedValue.{PrintedValue}
+use Rattle.fz_tree.specs.declared.tree.PrintedValue.TheVariants as printed
+use Rattle.fz_tree.specs.declared.tree.Printed.{Printed}
+use Rattle.fz_tree.specs.declared.tree.Note.{Note}
 use Rattle.fz_syntax.specs.Spots.{Spot, name_spots, literal_spots, basic_spots, expr_spots, bounds_spots, base_spots, param_spots, predicate_spots, value_spots, note_spots, decl_spots, constraint_spots, goal_spots, solve_spots, printed_value_spots, printed_spots, item_spots}
 use Rattle.fz_syntax.specs.Offering.{TreeItems, placed_all, spots_all}
 use Rattle.fz_syntax.specs.Placed.{unplaced, plain, placed_mark, placed_word, placed_basic, placed_expr, placed_literal, placed_note, placed_notes, placed_bounds, placed_base, placed_param, placed_predicate, placed_value, placed_decl, placed_constraint, placed_goal, placed_solve, placed_printed_value, placed_printed, placed_items}
 use Rattle.fz_syntax.proofs.Fits.{Fits, fits_plain, fits_skip, fits_end, fits_then, fits_separated, fits_between, fits_each, fits_literal, fits_name}
 use Rattle.fz_syntax.proofs.PlacedNotes.{fits_note}
-use Rattle.fz_syntax.specs.View.{bare_indexes}
+use Rattle.fz_tree.specs.View.{bare_indexes}
 
 to_right : (a b c d : List Spot) → ((a ++ b) ++ c) ++ d ≡ a ++ (b ++ (c ++ d))
 to_right a b c d = append_assoc (a ++ b) c d ∙ append_assoc a b (c ++ d)

@@ -3,12 +3,12 @@ use Rattle.std.proofs.Common.{◌≡◌, List, [], ◌∷◌, map, sym, subst}
 use Rattle.std.specs.List.{flat_map}
 use Rattle.fz_lex.specs.Token.{Marked, FloatText, StringText}
 use Rattle.fz_lex.specs.declared.token.Mark.TheVariants.{OpenParen, CloseParen, OpenBracket, CloseBracket, Comma}
-use Rattle.fz_syntax.specs.declared.tree.Note.{Note}
-use Rattle.fz_syntax.specs.declared.tree.NoteArg.{NoteArg}
-use Rattle.fz_syntax.specs.declared.tree.NoteBasic.{NoteBasic}
-use Rattle.fz_syntax.specs.declared.tree.NoteArg.TheOpen.{NoteArg-F, NoteBasic-F, Note-F}
-use Rattle.fz_syntax.specs.declared.tree.NoteArg.TheFolds.{fold-roll-Note, fold-roll-NoteArg, fold-roll-NoteBasic, map-NoteArg, map-NoteBasic, map-Note, ind-Note}
-use Rattle.fz_syntax.specs.declared.tree.NoteArg.TheViews.{roll-Note, roll-NoteArg, roll-NoteBasic}
+use Rattle.fz_tree.specs.declared.tree.Note.{Note}
+use Rattle.fz_tree.specs.declared.tree.NoteArg.{NoteArg}
+use Rattle.fz_tree.specs.declared.tree.NoteBasic.{NoteBasic}
+use Rattle.fz_tree.specs.declared.tree.NoteArg.TheOpen.{NoteArg-F, NoteBasic-F, Note-F}
+use Rattle.fz_tree.specs.declared.tree.NoteArg.TheFolds.{fold-roll-Note, fold-roll-NoteArg, fold-roll-NoteBasic, map-NoteArg, map-NoteBasic, map-Note, ind-Note}
+use Rattle.fz_tree.specs.declared.tree.NoteArg.TheViews.{roll-Note, roll-NoteArg, roll-NoteBasic}
 use Rattle.fz_syntax.specs.Spots.{Spot, note_spots, arg_spots, note_basic_spots, arg_layer_spots, note_basic_layer_spots, note_layer_spots}
 use Rattle.fz_syntax.specs.Placed.{PlacedToken, unplaced, placed_mark, placed_parts, placed_args, placed_arg, placed_note_basic, placed_note, placed_arg_layer, placed_note_basic_layer, placed_note_layer}
 use Rattle.fz_syntax.proofs.Fits.{Fits, fits_plain, fits_then, fits_skip, fits_between, fits_name, fits_literal}

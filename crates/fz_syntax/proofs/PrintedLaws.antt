@@ -8,11 +8,11 @@ use Rattle.std.proofs.lemmas.Slice.Eq.{bytes_eq-Decides}
 use Rattle.std.proofs.lemmas.List.{append-nil}
 use Rattle.fz_lex.specs.declared.token.Mark.TheVariants.{OpenParen, CloseParen, OpenBracket, CloseBracket, Comma, Semicolon, DotDot, Equals}
 use Rattle.fz_lex.specs.Token.{TokenValue, Word, Whole, FloatText, StringText, Marked}
-use Rattle.fz_syntax.specs.Tree.{Literal, Number, Truth, Range, Braces, PrintedValue, OneValue, ArrayOf, Printed}
+use Rattle.fz_tree.specs.Tree.{Literal, Number, Truth, Range, Braces, PrintedValue, OneValue, ArrayOf, Printed}
 use Rattle.fz_syntax.specs.Reading.{Reader, next_is, next_passes, is_name, any_number, at_most, literal_at, begins_literal, ended}
 use Rattle.fz_syntax.specs.ReadingItems.{dimensions_of, next_dimensions, index_set_at, index_sets_at, elements_at, printed_array_at, printed_value_at, printed_at, items_at, items_of}
-use Rattle.fz_syntax.specs.Shape.{Limits, IsLiteral, IsBounds, IsPrintedValue, IsPrinted}
-use Rattle.fz_syntax.specs.Tokens.{mark, name_toks, literal_toks, separated, array_word, printed_value_toks, printed_toks, itoks}
+use Rattle.fz_tree.specs.Shape.{Limits, IsLiteral, IsBounds, IsPrintedValue, IsPrinted}
+use Rattle.fz_tree.specs.Tokens.{mark, name_toks, literal_toks, separated, array_word, printed_value_toks, printed_toks, itoks}
 use Rattle.fz_syntax.proofs.Lists.{bind_ok, ok_is, Shrinks}
 use Rattle.fz_syntax.proofs.Shorter.{at_most_shortens}
 use Rattle.fz_syntax.proofs.ListLaws.{Took, Takes, Always, chosen, mark_takes, mark_again, list_takes, list_count, at_most_takes, at_most_below, at_most_again, many_takes}

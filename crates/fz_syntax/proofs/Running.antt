@@ -6,8 +6,8 @@ use Rattle.fz_lex.specs.declared.token.Mark.{Mark}
 use Rattle.fz_lex.specs.declared.token.Mark.TheVariants.{Comma}
 use Rattle.fz_lex.specs.declared.token.Mark.TheVariants.{ColonColon}
 use Rattle.fz_lex.specs.Token.{TokenValue}
-use Rattle.fz_syntax.specs.Tree.{Note}
-use Rattle.fz_syntax.specs.Shape.{Limits}
+use Rattle.fz_tree.specs.Tree.{Note}
+use Rattle.fz_tree.specs.Shape.{Limits}
 use Rattle.fz_syntax.specs.Reading.{Read, Reader, is_mark, next_is, next_passes, many_at, after_token, separated_at, any_number, note_at, notes_at}
 use Rattle.fz_syntax.specs.Outcome.{Fails}
 use Rattle.fz_syntax.specs.Offering.{Gathers, with_front}

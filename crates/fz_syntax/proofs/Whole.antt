@@ -13,7 +13,7 @@ use Rattle.fz_lex.specs.of_base.declared.span.Span.{Span}
 use Rattle.fz_lex.specs.Lexing.{SpannedToken}
 use Rattle.fz_lex.specs.Limits.{LexesWithinLimits}
 use Rattle.fz_lex.specs.View.{IsLexicalFault}
-use Rattle.fz_syntax.specs.Text.{IsValue, IsRefusalOf}
+use Rattle.fz_tree.specs.Text.{IsValue, IsRefusalOf}
 use Rattle.fz_syntax.proofs.ListLaws.{Takes}
 
 fault_of : {X A : Type 0} (view : X → A) (e : SyntaxError) (f : Fault) (read : Result A Fault)

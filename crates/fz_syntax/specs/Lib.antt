@@ -1,9 +1,3 @@
-pub mod Tree
-pub mod View
-pub mod Tokens
-pub mod Shape
-pub mod Text
-pub mod Print
 pub mod Spots
 pub mod Reading
 pub mod ReadingItems
@@ -23,3 +17,9 @@ pub use Rattle.fz_lex.specs.declared.error.SyntaxError
 pub use Rattle.fz_lex.specs.declared.token.Mark
 pub use Rattle.fz_lex.specs.declared.token.TokenKind
 pub use Rattle.fz_lex.specs.of_base.declared.span.Span
+pub use Rattle.fz_tree.specs.Tree
+pub use Rattle.fz_tree.specs.View
+pub use Rattle.fz_tree.specs.Tokens
+pub use Rattle.fz_tree.specs.Shape
+pub use Rattle.fz_tree.specs.Text
+pub use Rattle.fz_printer.specs.Print

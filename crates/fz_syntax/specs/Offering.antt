@@ -14,20 +14,20 @@ use Rattle.fz_lex.specs.Left.{source_of}
 use Rattle.fz_lex.specs.Token.{TokenValue}
 use Rattle.fz_lex.specs.declared.error.SyntaxError.{SyntaxError}
 use Rattle.fz_lex.specs.declared.error.SyntaxError.TheVariants.{Memory}
-use Rattle.fz_syntax.specs.Tree as tree
+use Rattle.fz_tree.specs.Tree as tree
 use Rattle.fz_syntax.specs.declared.parser.cursor.Parser.{Parser}
 use Rattle.fz_syntax.specs.declared.reader.Items.{Items}
-use Rattle.fz_syntax.specs.declared.tree.Ast.{Ast}
-use Rattle.fz_syntax.specs.declared.tree.Predicate.{Predicate}
-use Rattle.fz_syntax.specs.declared.tree.Decl.{Decl}
-use Rattle.fz_syntax.specs.declared.tree.Constraint.{Constraint}
-use Rattle.fz_syntax.specs.declared.tree.Solve.{Solve}
-use Rattle.fz_syntax.specs.View.{bare_predicate, bare_decl, bare_constraint, bare_solve}
+use Rattle.fz_tree.specs.declared.tree.Ast.{Ast}
+use Rattle.fz_tree.specs.declared.tree.Predicate.{Predicate}
+use Rattle.fz_tree.specs.declared.tree.Decl.{Decl}
+use Rattle.fz_tree.specs.declared.tree.Constraint.{Constraint}
+use Rattle.fz_tree.specs.declared.tree.Solve.{Solve}
+use Rattle.fz_tree.specs.View.{bare_predicate, bare_decl, bare_constraint, bare_solve}
 use Rattle.fz_syntax.specs.Placed.{PlacedToken, ArePlacedIn, placed_predicate, placed_decl, placed_constraint, placed_solve}
-use Rattle.fz_syntax.specs.Shape.{the_limits}
+use Rattle.fz_tree.specs.Shape.{the_limits}
 use Rattle.fz_syntax.specs.Spots.{Spot, Stand, predicate_spots, decl_spots, constraint_spots, solve_spots}
 use Rattle.fz_syntax.specs.Reading.{Read, Reader, ◌>>=◌, many_at, any_number, is_word, begins_decl, predicate_at, decl_at, constraint_at}
-use Rattle.fz_syntax.specs.Text.{IsTextOfTree, IsRefusalOf}
+use Rattle.fz_tree.specs.Text.{IsTextOfTree, IsRefusalOf}
 use Rattle.fz_syntax.specs.Walk.{ahead, lexemes, Walk}
 
 -- The items of a tree, those of each kind in source order.

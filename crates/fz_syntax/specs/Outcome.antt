@@ -9,10 +9,10 @@ use Rattle.fz_syntax.specs.declared.parser.kinds.Plain.{Plain}
 use Rattle.fz_syntax.specs.declared.parser.kinds.Plain.TheVariants as plains
 use Rattle.fz_lex.specs.Token.{TokenValue, Word, Whole, Marked}
 use Rattle.fz_lex.specs.declared.token.Mark.TheVariants.{Comma}
-use Rattle.fz_syntax.specs.declared.tree.LiteralKind.{LiteralKind}
-use Rattle.fz_syntax.specs.declared.tree.LiteralKind.TheVariants as literals
-use Rattle.fz_syntax.specs.Tree.{Literal, Number, Truth}
-use Rattle.fz_syntax.specs.Tokens.{truth_word}
+use Rattle.fz_tree.specs.declared.tree.LiteralKind.{LiteralKind}
+use Rattle.fz_tree.specs.declared.tree.LiteralKind.TheVariants as literals
+use Rattle.fz_tree.specs.Tree.{Literal, Number, Truth}
+use Rattle.fz_tree.specs.Tokens.{truth_word}
 use Rattle.fz_syntax.specs.Reading.{FaultKind, Syntax, Float, TooDeep, TooMany, Fault, Read, is_float, next_passes}
 
 -- an error is this fault's

@@ -2,30 +2,30 @@
 -- project's profile.)
 use Rattle.std.specs.Prelude.{◌≡◌, ◌≤◌, ◌<◌, ℕ, List, [], ◌∷◌, ◌++◌, Option, Some, None, IfSome, slice_range}
 use Rattle.std.specs.List.{flat_map}
-use Rattle.fz_syntax.specs.declared.tree.Literal.{Literal}
-use Rattle.fz_syntax.specs.declared.tree.Name.{Name}
-use Rattle.fz_syntax.specs.declared.tree.Basic.{Basic}
-use Rattle.fz_syntax.specs.declared.tree.Basic.TheVariants as basics
-use Rattle.fz_syntax.specs.declared.tree.Expr.{Expr}
-use Rattle.fz_syntax.specs.declared.tree.Expr.TheVariants as exprs
-use Rattle.fz_syntax.specs.declared.tree.Base.{Base}
-use Rattle.fz_syntax.specs.declared.tree.Base.TheVariants as bases
-use Rattle.fz_syntax.specs.declared.tree.Param.{Param}
-use Rattle.fz_syntax.specs.declared.tree.Predicate.{Predicate}
-use Rattle.fz_syntax.specs.declared.tree.Decl.{Decl}
-use Rattle.fz_syntax.specs.declared.tree.Constraint.{Constraint}
-use Rattle.fz_syntax.specs.declared.tree.Goal.{Goal}
-use Rattle.fz_syntax.specs.declared.tree.Goal.TheVariants as goals
-use Rattle.fz_syntax.specs.declared.tree.Solve.{Solve}
-use Rattle.fz_syntax.specs.declared.tree.Ast.{Ast}
-use Rattle.fz_syntax.specs.declared.tree.PrintedValue.{PrintedValue}
-use Rattle.fz_syntax.specs.declared.tree.PrintedValue.TheVariants as printed
-use Rattle.fz_syntax.specs.declared.tree.Printed.{Printed}
-use Rattle.fz_syntax.specs.declared.tree.Note.{Note}
-use Rattle.fz_syntax.specs.declared.tree.NoteArg.{NoteArg}
-use Rattle.fz_syntax.specs.declared.tree.NoteBasic.{NoteBasic}
-use Rattle.fz_syntax.specs.declared.tree.NoteArg.TheFolds.{fold-NoteArg, fold-NoteBasic, fold-Note}
-use Rattle.fz_syntax.specs.declared.tree.NoteArg.TheOpen.{NoteArg-F, NoteBasic-F, Note-F}
+use Rattle.fz_tree.specs.declared.tree.Literal.{Literal}
+use Rattle.fz_tree.specs.declared.tree.Name.{Name}
+use Rattle.fz_tree.specs.declared.tree.Basic.{Basic}
+use Rattle.fz_tree.specs.declared.tree.Basic.TheVariants as basics
+use Rattle.fz_tree.specs.declared.tree.Expr.{Expr}
+use Rattle.fz_tree.specs.declared.tree.Expr.TheVariants as exprs
+use Rattle.fz_tree.specs.declared.tree.Base.{Base}
+use Rattle.fz_tree.specs.declared.tree.Base.TheVariants as bases
+use Rattle.fz_tree.specs.declared.tree.Param.{Param}
+use Rattle.fz_tree.specs.declared.tree.Predicate.{Predicate}
+use Rattle.fz_tree.specs.declared.tree.Decl.{Decl}
+use Rattle.fz_tree.specs.declared.tree.Constraint.{Constraint}
+use Rattle.fz_tree.specs.declared.tree.Goal.{Goal}
+use Rattle.fz_tree.specs.declared.tree.Goal.TheVariants as goals
+use Rattle.fz_tree.specs.declared.tree.Solve.{Solve}
+use Rattle.fz_tree.specs.declared.tree.Ast.{Ast}
+use Rattle.fz_tree.specs.declared.tree.PrintedValue.{PrintedValue}
+use Rattle.fz_tree.specs.declared.tree.PrintedValue.TheVariants as printed
+use Rattle.fz_tree.specs.declared.tree.Printed.{Printed}
+use Rattle.fz_tree.specs.declared.tree.Note.{Note}
+use Rattle.fz_tree.specs.declared.tree.NoteArg.{NoteArg}
+use Rattle.fz_tree.specs.declared.tree.NoteBasic.{NoteBasic}
+use Rattle.fz_tree.specs.declared.tree.NoteArg.TheFolds.{fold-NoteArg, fold-NoteBasic, fold-Note}
+use Rattle.fz_tree.specs.declared.tree.NoteArg.TheOpen.{NoteArg-F, NoteBasic-F, Note-F}
 
 -- The byte range of a name or a literal, and of a name its text.
 pub record Spot : Type 0 where

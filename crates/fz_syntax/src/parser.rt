@@ -6,14 +6,14 @@ ghost use Rattle.fz_lex.specs.View.{IsPlacedWithin};
 ghost use Rattle.fz_syntax.specs.Walk.{Walk, ahead, lexemes};
 ghost use Rattle.fz_syntax.specs.Placed.{ArePlacedIn, placed_tree, placed_items};
 ghost use Rattle.fz_syntax.specs.Spots.{Stand, spots, item_spots};
-ghost use Rattle.fz_syntax.specs.View.{bare, bare_items};
+ghost use Rattle.fz_tree.specs.View.{bare, bare_items};
 ghost use Rattle.fz_syntax.specs.Outcome.{IsWhole};
-ghost use Rattle.fz_syntax.specs.Text.{IsTextOfTree, IsTextOfItems, IsValue, IsRefusalOf};
+ghost use Rattle.fz_tree.specs.Text.{IsTextOfTree, IsTextOfItems, IsValue, IsRefusalOf};
 ghost use Rattle.fz_syntax.specs.Reading.{tree_of};
 ghost use Rattle.fz_syntax.specs.ReadingItems.{items_of};
-ghost use Rattle.fz_syntax.specs.Tokens.{toks, itoks};
-ghost use Rattle.fz_syntax.specs.Tree as tree;
-ghost use Rattle.fz_syntax.specs.Shape.{Limits, HasShape, IsTree, IsPrinted, the_limits};
+ghost use Rattle.fz_tree.specs.Tokens.{toks, itoks};
+ghost use Rattle.fz_tree.specs.Tree as tree;
+ghost use Rattle.fz_tree.specs.Shape.{Limits, HasShape, IsTree, IsPrinted, the_limits};
 ghost use Rattle.fz_lex.specs.Limits.{most_bytes};
 ghost use Rattle.fz_lex.specs.declared.error.SyntaxError.TheVariants.{TooLong, Memory};
 
@@ -29,8 +29,8 @@ mod types;
 
 use crate::parser::cursor::Parser;
 use crate::reader::Items;
-use crate::tree::{Ast, Printed};
 use fz_lex::{MOST_BYTES, SyntaxError, check_tokens};
+use fz_tree::{Ast, Printed};
 use std::alloc::Global;
 
 /// Reads all tokens that are left as printed items.

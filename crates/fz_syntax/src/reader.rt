@@ -3,16 +3,16 @@
 ghost use Rattle.std.specs.Prelude.{◌≡◌, ◌<◌, ◌≤◌, ◌++◌, ◌∷◌, ℕ, List, [], length, IfErr, IfOk, IfSome, Err};
 ghost use Rattle.fz_lex.specs.Limits.{most_bytes};
 ghost use Rattle.fz_lex.specs.declared.error.SyntaxError.TheVariants.{TooLong};
-ghost use Rattle.fz_syntax.specs.declared.tree.Predicate as the_predicate;
-ghost use Rattle.fz_syntax.specs.declared.tree.Decl as the_decl;
-ghost use Rattle.fz_syntax.specs.declared.tree.Constraint as the_constraint;
+ghost use Rattle.fz_tree.specs.declared.tree.Predicate as the_predicate;
+ghost use Rattle.fz_tree.specs.declared.tree.Decl as the_decl;
+ghost use Rattle.fz_tree.specs.declared.tree.Constraint as the_constraint;
 ghost use Rattle.fz_syntax.specs.Offering.{AtPredicates, AtDecls, AtConstraints, AtSolve, IsAllOf, IsRefused, IsRefusedBy, IsTextOfAll, Offers, left_of};
 
 use crate::parser::cursor::Parser;
 use crate::parser::lists::trimmed;
 use crate::parser::refusal::Refusal;
-use crate::tree::{Constraint, Decl, Expr, Predicate, Solve};
 use fz_lex::{MOST_BYTES, SyntaxError, check_tokens};
+use fz_tree::{Constraint, Decl, Expr, Predicate, Solve};
 use std::alloc::Global;
 
 /// The items of a model's text, read as they are asked for: first the predicate items, then the

@@ -5,7 +5,7 @@ ghost use Rattle.std.specs.Bool.{OnTrue, OnFalse};
 ghost use Rattle.std.specs.List.{All};
 ghost use Rattle.fz_lex.specs.View.{IsSpanWithin, IsPlacedWithin};
 ghost use Rattle.fz_lex.specs.Left.{left};
-ghost use Rattle.fz_syntax.specs.View.{bare_name};
+ghost use Rattle.fz_tree.specs.View.{bare_name};
 ghost use Rattle.fz_syntax.specs.Outcome.{Gives, IsRefusal, IsErrorOf, unexpected_kind};
 ghost use Rattle.fz_syntax.specs.Reading.{next_is, next_word, next_passes, is_float, mark_at, word_at, name_at, whole_at, is_name, is_whole, begins_index, begins_literal, begins_basic, begins_note_basic, is_quoted, begins_decl};
 
@@ -13,9 +13,9 @@ use crate::parser::kinds::{
     begins_decl, begins_index, begins_literal, is_float, is_name, is_quoted,
 };
 use crate::parser::refusal::Refusal;
-use crate::tree::Name;
 use fz_lex::fz_base::Span;
 use fz_lex::{Mark, SyntaxError, TokenKind, Tokens};
+use fz_tree::Name;
 use std::alloc::Global;
 
 pub(crate) const MAX_ELEMENTS: usize = 1_048_576;

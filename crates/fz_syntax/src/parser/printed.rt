@@ -1,22 +1,22 @@
 //! Reads the items of a solver's output.
 
 ghost use Rattle.std.specs.Prelude.{◌≡◌, ◌≤◌, ◌==◌, if◌then◌else◌, drop, ◌++◌, length, map, IfOk};
-ghost use Rattle.fz_syntax.specs.View.{bare_literal, bare_printed_value, bare_printed, bare_items};
+ghost use Rattle.fz_tree.specs.View.{bare_literal, bare_printed_value, bare_printed, bare_items};
 ghost use Rattle.fz_syntax.specs.Outcome.{Gives};
 ghost use Rattle.fz_syntax.specs.Reading.{any_number, at_most, separated_at, begins_literal, literal_at, many_at, is_name};
 ghost use Rattle.fz_syntax.specs.ReadingItems.{next_dimensions, index_set_at, index_sets_at, elements_at, printed_array_at, printed_value_at, printed_at};
-ghost use Rattle.fz_syntax.specs.Shape.{the_limits};
+ghost use Rattle.fz_tree.specs.Shape.{the_limits};
 ghost use Rattle.fz_syntax.specs.Placed.{placed_mark, placed_word, placed_separated, placed_literal, placed_indexes, placed_printed_value, placed_printed, placed_items};
 ghost use Rattle.fz_lex.specs.declared.token.Mark.TheVariants.{CloseBracket, Comma};
-ghost use Rattle.fz_syntax.specs.Tokens.{array_word};
+ghost use Rattle.fz_tree.specs.Tokens.{array_word};
 ghost use Rattle.fz_syntax.specs.Walk.{Passed, Walk, lexemes};
 
 use crate::parser::cursor::{MAX_ELEMENTS, Parser};
 use crate::parser::kinds::dimensions;
 use crate::parser::lists::trimmed;
 use crate::parser::refusal::Refusal;
-use crate::tree::{Literal, Printed, PrintedValue};
 use fz_lex::Mark;
+use fz_tree::{Literal, Printed, PrintedValue};
 
 impl<'a> Parser<'a> {
     /// Takes the word that begins an array, and gives the number of its index sets, or 0 where the

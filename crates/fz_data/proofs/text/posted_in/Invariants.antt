@@ -1,8 +1,8 @@
 use Rattle.std.proofs.Common.{◌≡◌, List, [], map}
 use Rattle.fz_syntax.specs.Offering.{AtConstraints, left_of}
-use Rattle.fz_syntax.specs.declared.tree.Constraint.{Constraint}
-use Rattle.fz_syntax.specs.declared.tree.Decl.{Decl}
-use Rattle.fz_syntax.specs.declared.tree.Predicate.{Predicate}
+use Rattle.fz_syntax.specs.declared.Constraint.{Constraint}
+use Rattle.fz_syntax.specs.declared.Decl.{Decl}
+use Rattle.fz_syntax.specs.declared.Predicate.{Predicate}
 use Rattle.fz_meaning.specs.View.{located_constraint}
 use Rattle.fz_data.specs.Posting.{Posts}
 use Rattle.fz_data.proofs.text.posted_in.Given as goal

@@ -5,7 +5,7 @@ use Rattle.fz_model.specs.declared.Term.{Term}
 use Rattle.fz_model.specs.Slots.{slot_term}
 use Rattle.fz_model.specs.Meaning.{Partial}
 use Rattle.fz_model.specs.View.{located_literal}
-use Rattle.fz_syntax.specs.declared.tree.Literal.{Literal}
+use Rattle.fz_syntax.specs.declared.Literal.{Literal}
 use Rattle.fz_verdict.specs.Blocks.{printed_values}
 use Rattle.fz_verdict.specs.Filling.{pairs}
 use Rattle.fz_judge.specs.Working.{IsWithin, agree_all, with_all}

@@ -1,7 +1,7 @@
 use Rattle.std.proofs.Common.{◌∙◌, Ok}
-use Rattle.fz_syntax.specs.View.{bare}
+use Rattle.fz_tree.specs.View.{bare}
 use Rattle.fz_syntax.specs.Offering.{IsTextOfAll, items_of_tree}
-use Rattle.fz_syntax.specs.declared.tree.Ast.{Ast}
+use Rattle.fz_tree.specs.declared.tree.Ast.{Ast}
 use Rattle.fz_syntax.proofs.More.{same_of_tree, one_tree}
 use Rattle.fz_syntax.proofs.parser.parse.Goals as goal
 

@@ -1,7 +1,7 @@
 use Rattle.std.proofs.Common.{◌∙◌, Ok, Err}
 use Rattle.std.proofs.Common.{Vec, Global}
-use Rattle.fz_syntax.specs.declared.tree.Printed.{Printed}
-use Rattle.fz_syntax.specs.View.{bare_items}
+use Rattle.fz_tree.specs.declared.tree.Printed.{Printed}
+use Rattle.fz_tree.specs.View.{bare_items}
 use Rattle.fz_syntax.specs.Placed.{placed_items}
 use Rattle.fz_syntax.proofs.Parsed.{items_found, items_only, empty_of_only}
 use Rattle.fz_syntax.proofs.More.{same_of_items}

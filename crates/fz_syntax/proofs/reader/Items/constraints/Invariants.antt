@@ -1,6 +1,6 @@
 use Rattle.std.proofs.Common.{◌≡◌, List, []}
-use Rattle.fz_syntax.specs.declared.tree.Predicate as the_predicate
-use Rattle.fz_syntax.specs.declared.tree.Decl as the_decl
+use Rattle.fz_tree.specs.declared.tree.Predicate as the_predicate
+use Rattle.fz_tree.specs.declared.tree.Decl as the_decl
 use Rattle.fz_syntax.specs.Offering.{AtConstraints, left_of}
 use Rattle.fz_syntax.proofs.reader.Items.constraints.Given as goal
 

@@ -1,5 +1,5 @@
 use Rattle.std.proofs.Common.{◌≡◌, List, []}
-use Rattle.fz_syntax.specs.declared.tree.Predicate as the_predicate
+use Rattle.fz_tree.specs.declared.tree.Predicate as the_predicate
 use Rattle.fz_syntax.specs.Offering.{AtDecls, left_of}
 use Rattle.fz_syntax.proofs.reader.Items.decls.Given as goal
 

@@ -5,9 +5,9 @@ use Rattle.fz_syntax.specs.Placed.{placed_arg, placed_note_basic}
 use Rattle.fz_syntax.proofs.Walks.{separated_first, separated_more, some_pushed, walk_then, walk_from, walk_kept, walk_empty, no_args_walk, ate, mark_walk, args_walk, note_list_walk}
 use Rattle.fz_syntax.proofs.Folds.{note_unfolds, list_unfolds}
 use Rattle.fz_syntax.specs.Walk.{Walk}
-use Rattle.fz_syntax.specs.View.{bare_arg, bare_basic}
+use Rattle.fz_tree.specs.View.{bare_arg, bare_basic}
 use Rattle.fz_syntax.specs.Reading.{any_number, at_most, note_at, note_arg_at, note_basic_at, begins_note_basic}
-use Rattle.fz_syntax.specs.Shape.{the_limits}
+use Rattle.fz_tree.specs.Shape.{the_limits}
 use Rattle.fz_syntax.proofs.Separated.{separated_fails}
 use Rattle.fz_syntax.proofs.Running.{separated_init, keeps_on, stops, is_whole_list, grown, length_seen}
 use Rattle.fz_syntax.proofs.NoteLaws.{note_list_shrinks, note_args_shrink}

@@ -2,8 +2,8 @@ use Rattle.std.proofs.Common.{◌-◌, ◌∙◌, suc, [], ◌∷◌, length, le
 use Rattle.std.proofs.lemmas.Result.{err_from_is_err_and}
 use Rattle.fz_syntax.specs.Placed.{placed_literal}
 use Rattle.fz_syntax.proofs.Walks.{walk_zero, walk_more, with_comma}
-use Rattle.fz_syntax.specs.View.{bare_literal}
-use Rattle.fz_syntax.specs.Shape.{the_limits}
+use Rattle.fz_tree.specs.View.{bare_literal}
+use Rattle.fz_tree.specs.Shape.{the_limits}
 use Rattle.fz_syntax.proofs.Running.{grown}
 use Rattle.fz_syntax.proofs.IndexSets.{counts_begin, counts_on, counts_stop, counts_all}
 use Rattle.fz_syntax.proofs.parser.cursor.Parser.index_sets.Goals as goal

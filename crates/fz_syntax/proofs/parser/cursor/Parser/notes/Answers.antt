@@ -4,9 +4,9 @@ use Rattle.std.proofs.lemmas.Result.{err_from_is_err_and}
 use Rattle.fz_lex.specs.declared.token.Mark.TheVariants.{ColonColon}
 use Rattle.fz_syntax.specs.Placed.{unplaced, placed_note}
 use Rattle.fz_syntax.proofs.Walks.{walk_zero, walk_more, walk_then, walk_kept, ate}
-use Rattle.fz_syntax.specs.View.{bare_note}
+use Rattle.fz_tree.specs.View.{bare_note}
 use Rattle.fz_syntax.specs.Reading.{any_number, note_at}
-use Rattle.fz_syntax.specs.Shape.{the_limits}
+use Rattle.fz_tree.specs.Shape.{the_limits}
 use Rattle.fz_syntax.proofs.Running.{keeps_on, stops, is_whole_list, grown, notes_begin}
 use Rattle.fz_syntax.proofs.NoteLaws.{notes_shrink}
 use Rattle.fz_syntax.proofs.parser.cursor.Parser.notes.Goals as goal

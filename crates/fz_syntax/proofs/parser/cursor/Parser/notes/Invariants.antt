@@ -2,9 +2,9 @@ use Rattle.std.proofs.Common.{◌≡◌, ◌≤◌, length}
 use Rattle.fz_lex.specs.declared.token.Mark.TheVariants.{ColonColon}
 use Rattle.fz_syntax.specs.Walk.{Walk, lexemes}
 use Rattle.fz_syntax.specs.Placed.{placed_notes}
-use Rattle.fz_syntax.specs.View.{bare_notes}
+use Rattle.fz_tree.specs.View.{bare_notes}
 use Rattle.fz_syntax.specs.Reading.{any_number, note_at, notes_at}
-use Rattle.fz_syntax.specs.Shape.{the_limits}
+use Rattle.fz_tree.specs.Shape.{the_limits}
 use Rattle.fz_syntax.proofs.Running.{Continues}
 use Rattle.fz_syntax.proofs.parser.cursor.Parser.notes.Given as goal
 

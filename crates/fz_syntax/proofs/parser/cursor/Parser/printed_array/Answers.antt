@@ -2,9 +2,9 @@ use Rattle.fz_lex.specs.declared.token.Mark.TheVariants.{OpenParen, CloseParen, 
 use Rattle.fz_syntax.specs.Placed.{placed_between, placed_elements, placed_indexes, placed_word}
 use Rattle.std.proofs.Common.{ℕ, ◌++◌, ◌∙◌, map, sym, ap}
 use Rattle.std.proofs.lemmas.List.{length-map}
-use Rattle.fz_syntax.specs.Tokens.{array_word}
-use Rattle.fz_syntax.specs.View.{bare_literal}
-use Rattle.fz_syntax.specs.Shape.{the_limits}
+use Rattle.fz_tree.specs.Tokens.{array_word}
+use Rattle.fz_tree.specs.View.{bare_literal}
+use Rattle.fz_tree.specs.Shape.{the_limits}
 use Rattle.fz_syntax.proofs.PrintedLaws.{index_sets_take}
 use Rattle.fz_syntax.proofs.Walks.{mark_walk, walk_then}
 use Rattle.fz_syntax.proofs.parser.cursor.Parser.printed_array.Goals as goal

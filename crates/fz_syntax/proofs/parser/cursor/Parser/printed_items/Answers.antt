@@ -2,10 +2,10 @@ use Rattle.std.proofs.Common.{ap, map, arith}
 use Rattle.std.proofs.lemmas.Result.{err_from_is_err_and}
 use Rattle.fz_syntax.specs.Placed.{placed_printed}
 use Rattle.fz_syntax.proofs.Walks.{walk_zero, walk_more}
-use Rattle.fz_syntax.specs.View.{bare_printed}
+use Rattle.fz_tree.specs.View.{bare_printed}
 use Rattle.fz_syntax.specs.Reading.{is_name}
 use Rattle.fz_syntax.specs.ReadingItems.{printed_at}
-use Rattle.fz_syntax.specs.Shape.{the_limits}
+use Rattle.fz_tree.specs.Shape.{the_limits}
 use Rattle.fz_syntax.proofs.Running.{gathers_begin, gathers_on, gathers_stop, gathers_all, grown}
 use Rattle.fz_syntax.proofs.PrintedLaws.{printed_shrink}
 use Rattle.fz_syntax.proofs.parser.cursor.Parser.printed_items.Goals as goal

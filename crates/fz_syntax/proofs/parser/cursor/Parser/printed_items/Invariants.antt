@@ -2,10 +2,10 @@ use Rattle.std.proofs.Common.{◌≡◌, ◌≤◌, length, map}
 use Rattle.fz_syntax.specs.Walk.{Walk, lexemes}
 use Rattle.std.specs.List.{flat_map}
 use Rattle.fz_syntax.specs.Placed.{placed_printed}
-use Rattle.fz_syntax.specs.View.{bare_printed}
+use Rattle.fz_tree.specs.View.{bare_printed}
 use Rattle.fz_syntax.specs.Reading.{many_at, any_number, is_name}
 use Rattle.fz_syntax.specs.ReadingItems.{printed_at}
-use Rattle.fz_syntax.specs.Shape.{the_limits}
+use Rattle.fz_tree.specs.Shape.{the_limits}
 use Rattle.fz_syntax.specs.Offering.{Gathers}
 use Rattle.fz_syntax.proofs.parser.cursor.Parser.printed_items.Given as goal
 

@@ -2,9 +2,9 @@ use Rattle.std.proofs.Common.{◌≡◌, ◌≤◌, ◌<◌, length, map}
 use Rattle.fz_lex.specs.declared.token.Mark.TheVariants.{Comma}
 use Rattle.fz_syntax.specs.Walk.{Walk, lexemes}
 use Rattle.fz_syntax.specs.Placed.{placed_separated, placed_expr}
-use Rattle.fz_syntax.specs.View.{bare_expr}
+use Rattle.fz_tree.specs.View.{bare_expr}
 use Rattle.fz_syntax.specs.Reading.{separated_at, any_number, expr_at}
-use Rattle.fz_syntax.specs.Shape.{the_limits}
+use Rattle.fz_tree.specs.Shape.{the_limits}
 use Rattle.fz_syntax.proofs.Running.{Continues}
 use Rattle.fz_syntax.proofs.parser.cursor.Parser.separated_args.Given as goal
 

@@ -4,9 +4,9 @@ use Rattle.fz_lex.specs.declared.token.Mark.TheVariants.{Comma}
 use Rattle.fz_syntax.specs.Placed.{placed_literal}
 use Rattle.fz_syntax.proofs.Walks.{walk_zero, walk_more, walk_then, walk_kept, walk_none, walk_end, separated_end, with_comma, ate}
 use Rattle.fz_syntax.specs.Walk.{Walk, lexemes}
-use Rattle.fz_syntax.specs.View.{bare_literal}
+use Rattle.fz_tree.specs.View.{bare_literal}
 use Rattle.fz_syntax.specs.Reading.{at_most, begins_literal, literal_at}
-use Rattle.fz_syntax.specs.Shape.{the_limits}
+use Rattle.fz_tree.specs.Shape.{the_limits}
 use Rattle.fz_syntax.proofs.Running.{wants_first, wants_next, wants_part, wants_fails, wants_more, awaits_first, is_whole_list, grown, length_seen}
 use Rattle.fz_syntax.proofs.Listed.{listed_element}
 use Rattle.fz_syntax.proofs.PrintedLaws.{elements_shrink}

@@ -2,9 +2,9 @@ use Rattle.std.proofs.Common.{◌≡◌, ◌≤◌, length, map}
 use Rattle.fz_syntax.specs.Walk.{Walk, lexemes}
 use Rattle.std.specs.List.{flat_map}
 use Rattle.fz_syntax.specs.Placed.{placed_literal}
-use Rattle.fz_syntax.specs.View.{bare_literal}
+use Rattle.fz_tree.specs.View.{bare_literal}
 use Rattle.fz_syntax.specs.Reading.{separated_at, at_most, begins_literal, literal_at}
-use Rattle.fz_syntax.specs.Shape.{the_limits}
+use Rattle.fz_tree.specs.Shape.{the_limits}
 use Rattle.fz_syntax.proofs.Running.{Wants}
 use Rattle.fz_syntax.proofs.Walks.{with_comma}
 use Rattle.fz_syntax.proofs.parser.cursor.Parser.separated_elements.Given as goal

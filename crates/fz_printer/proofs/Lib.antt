@@ -1,0 +1,3 @@
+pub mod PrintSteps
+pub mod PrintLaws
+pub mod PrintBack

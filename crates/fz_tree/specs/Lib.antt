@@ -1,0 +1,5 @@
+pub mod Tree
+pub mod View
+pub mod Tokens
+pub mod Shape
+pub mod Text
