@@ -1,0 +1,51 @@
+-- The outcome of a row at the values that are given.
+use Rattle.std.specs.Prelude.{ℕ, suc, Bool, cond, not, ◌||◌, List, [], ◌∷◌}
+use Rattle.std.specs.List.{list_any}
+use Rattle.fz_meaning.specs.declared.kind.Kind.TheVariants.{Int as IntKind, Bool as BoolKind, Set as SetKind}
+use Rattle.fz_meaning.specs.declared.state.State.{State}
+use Rattle.fz_meaning.specs.declared.state.State.TheVariants.{TooLarge as TooLargeState}
+use Rattle.fz_meaning.specs.Values.{◌=ᴮ◌}
+use Rattle.fz_meaning.specs.Builtins.{Of, Row, Shape, Test}
+use Rattle.fz_meaning.specs.Builtins.Shape.{ScalarOf, ArrayOf}
+use Rattle.fz_meaning.specs.Meaning.{Argument, Partial, judged}
+use Rattle.fz_kernel.specs.of_view.Given.{int_at, bool_at, set_at, ints_at, bools_at, sets_at, read_leave}
+use Rattle.fz_builtins.specs.declared.outcome.Outcome.{Outcome}
+use Rattle.fz_builtins.specs.declared.outcome.Outcome.TheVariants.{Truth, TooLarge}
+
+-- the argument at an index, read as its kind asks
+abbrev pub argument_at : Partial → List Argument → ℕ → (s : Shape) → Of s
+argument_at K xs i (ScalarOf IntKind) = int_at K xs i
+argument_at K xs i (ScalarOf BoolKind) = bool_at K xs i
+argument_at K xs i (ScalarOf SetKind) = set_at K xs i
+argument_at K xs i (ArrayOf IntKind) = ints_at K xs i
+argument_at K xs i (ArrayOf BoolKind) = bools_at K xs i
+argument_at K xs i (ArrayOf SetKind) = sets_at K xs i
+
+-- a test at the arguments from an index on
+abbrev pub test_from : ℕ → Partial → List Argument → (ss : List Shape) → Test ss → Bool
+test_from i K xs [] t = t
+test_from i K xs (s ∷ ss) t = test_from (suc i) K xs ss (t (argument_at K xs i s))
+
+-- too large where a sum leaves 128 bits, or else a Boolean
+abbrev pub sum_outcome : Bool → Bool → Outcome
+sum_outcome leaves holds = cond leaves TooLarge (Truth holds)
+
+-- whether the row holds, unless a sum of it that is added in 128 bits leaves them
+unfoldable pub row_outcome : Row → Partial → List Argument → Outcome
+row_outcome r K xs =
+    sum_outcome (list_any (read_leave K xs) r.sums) (test_from 0 K xs r.shapes r.holds)
+
+-- reified: the Boolean says whether the row holds
+abbrev pub compared : Bool → Outcome → Outcome
+compared t TooLarge = TooLarge
+compared t (Truth b) = Truth (t =ᴮ b)
+
+-- half-reified: the row holds, or the Boolean is false
+abbrev pub implied_by : Bool → Outcome → Outcome
+implied_by t TooLarge = TooLarge
+implied_by t (Truth b) = Truth (not t || b)
+
+-- the state of a constraint with that outcome
+abbrev pub told : Outcome → State
+told TooLarge = TooLargeState
+told (Truth b) = judged b

@@ -1,0 +1,47 @@
+//! The outcome of a row.
+
+ghost use Rattle.std.specs.Prelude.{◌≡◌, not, ◌||◌};
+ghost use Rattle.fz_meaning.specs.Values.{◌=ᴮ◌};
+ghost use Rattle.fz_builtins.specs.Outcomes.{compared, implied_by, told};
+
+use fz_meaning::State;
+
+/// Whether a row holds, or that a sum of it leaves 128 bits.
+#[derive(Clone, Copy)]
+pub enum Outcome {
+    Truth(bool),
+    TooLarge,
+}
+
+impl Outcome {
+    /// Of a reified row: whether the Boolean is true exactly where the base row holds.
+    pub fn compared(self, truth: bool) -> Outcome
+        ensures { result ≡ compared truth self }
+    {
+        match self {
+            Outcome::Truth(holds) => Outcome::Truth(truth == holds),
+            Outcome::TooLarge => Outcome::TooLarge,
+        }
+    }
+
+    /// Of a half-reified row: whether the base row holds or the Boolean is false.
+    pub fn implied_by(self, truth: bool) -> Outcome
+        ensures { result ≡ implied_by truth self }
+    {
+        match self {
+            Outcome::Truth(holds) => Outcome::Truth(!truth || holds),
+            Outcome::TooLarge => Outcome::TooLarge,
+        }
+    }
+
+    /// The state of a constraint with this outcome.
+    pub fn told(self) -> State
+        ensures { result ≡ told self }
+    {
+        match self {
+            Outcome::Truth(true) => State::Holds,
+            Outcome::Truth(false) => State::Fails,
+            Outcome::TooLarge => State::TooLarge,
+        }
+    }
+}

@@ -1,0 +1,67 @@
+//! The rows whose products are added in 128 bits.
+
+ghost use Rattle.std.specs.Prelude.{◌≡◌, ◌||◌, int_le, not};
+ghost use Rattle.fz_meaning.specs.Values.{◌=ℤ◌};
+ghost use Rattle.fz_meaning.specs.Builtins.{leaves_128, products, total};
+ghost use Rattle.fz_meaning.specs.Globals.{is_knapsack};
+ghost use Rattle.fz_builtins.specs.Outcomes.{sum_outcome};
+ghost use Rattle.fz_builtins.specs.Readings.{int, ints};
+
+use crate::outcome::Outcome;
+use fz_kernel::arrays::sum_of_products;
+use fz_kernel::fz_arguments::ArgumentView;
+use fz_scheduling::packed::is_knapsack;
+
+/// Whether the sum of products is the third argument.
+pub(crate) fn int_lin_eq(view: &ArgumentView<'_, '_>) -> Outcome
+    ensures { result ≡ sum_outcome (leaves_128 (products (ints view.now 0) (ints view.now 1)))
+        (total (products (ints view.now 0) (ints view.now 1)) =ℤ int view.now 2) }
+{
+    match sum_of_products(&view.elements(0), &view.elements(1)) {
+        Some(sum) => Outcome::Truth(sum == i128::from(view.int(2))),
+        None => Outcome::TooLarge,
+    }
+}
+
+/// Whether the sum of products is not the third argument.
+pub(crate) fn int_lin_ne(view: &ArgumentView<'_, '_>) -> Outcome
+    ensures { result ≡ sum_outcome (leaves_128 (products (ints view.now 0) (ints view.now 1)))
+        (not (total (products (ints view.now 0) (ints view.now 1)) =ℤ int view.now 2)) }
+{
+    match sum_of_products(&view.elements(0), &view.elements(1)) {
+        Some(sum) => Outcome::Truth(sum != i128::from(view.int(2))),
+        None => Outcome::TooLarge,
+    }
+}
+
+/// Whether the sum of products is at most the third argument.
+pub(crate) fn int_lin_le(view: &ArgumentView<'_, '_>) -> Outcome
+    ensures { result ≡ sum_outcome (leaves_128 (products (ints view.now 0) (ints view.now 1)))
+        (int_le (total (products (ints view.now 0) (ints view.now 1))) (int view.now 2)) }
+{
+    match sum_of_products(&view.elements(0), &view.elements(1)) {
+        Some(sum) => Outcome::Truth(sum <= i128::from(view.int(2))),
+        None => Outcome::TooLarge,
+    }
+}
+
+/// Whether the weight and the profit of the things are the last two arguments.
+pub(crate) fn knapsack(view: &ArgumentView<'_, '_>) -> Outcome
+    ensures { result ≡ sum_outcome (leaves_128 (products (ints view.now 0) (ints view.now 2))
+        || leaves_128 (products (ints view.now 1) (ints view.now 2)))
+        (is_knapsack (ints view.now 0) (ints view.now 1) (ints view.now 2) (int view.now 3)
+        (int view.now 4)) }
+{
+    let (weights, profits, numbers) = (view.elements(0), view.elements(1), view.elements(2));
+    match is_knapsack(&weights, &profits, &numbers, view.int(3), view.int(4)) {
+        Some(holds) => Outcome::Truth(holds),
+        None => Outcome::TooLarge,
+    }
+}
+
+/// Whether a partial sum of the products of two arrays leaves 128 bits.
+pub fn products_leave(view: &ArgumentView<'_, '_>, first: usize, second: usize) -> bool
+    ensures { result ≡ leaves_128 (products (ints view.now first) (ints view.now second)) }
+{
+    sum_of_products(&view.elements(first), &view.elements(second)).is_none()
+}
