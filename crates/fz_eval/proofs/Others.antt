@@ -8,7 +8,8 @@ use Rattle.fz_meaning.specs.Meaning.{Model, Partial, Point, constraint_points, d
 use Rattle.fz_eval.specs.Holding.{is_held, point_holds}
 use Rattle.fz_eval.specs.Overviews.{others_from, holds_at}
 use Rattle.fz_eval.specs.Whole.{is_domain, lie_inside}
-use Rattle.fz_eval.proofs.Together.{declared_first, there}
+use Rattle.fz_meaning.proofs.Lists.{there_is}
+use Rattle.fz_eval.proofs.Together.{declared_first}
 use Rattle.fz_eval.proofs.Valued.{HoldsIfDomain, domains_hold}
 
 -- ---- one point more
@@ -61,7 +62,7 @@ others_within k (p ∷ ps) limit le =
 -- one of them, by its state
 pub number_told : (K : Partial) (ps : List Point) (n : ℕ) (s : State) → n < length ps
     → ((p : Point) → slice_get ps n ≡ Some p → s ≡ state K p) → is_held s ≡ holds_at K ps n
-number_told K ps n s lt exact = let (p, at) = there ps n lt in ap is_held (exact p at) ∙ sym (ap (λ o. option_map_or (point_holds K) o true) at)
+number_told K ps n s lt exact = let (p, at) = there_is ps n lt in ap is_held (exact p at) ∙ sym (ap (λ o. option_map_or (point_holds K) o true) at)
 
 point_between : (before after : List Point) (p : Point)
     → slice_get (before ++ p ∷ after) (length before) ≡ Some p

@@ -30,11 +30,6 @@ module _ {A : Type 0} (f : A → Bool) where
 
 -- ---- items by their indices
 
-pub there : {A : Type 0} (xs : List A) (n : ℕ) → n < length xs → (x : A) × (slice_get xs n ≡ Some x)
-there [] n lt = absurd (omega (arith, lt))
-there (x ∷ xs) zero lt = (x, refl)
-there (x ∷ xs) (suc n) lt = there xs n (omega (arith, lt))
-
 pub at_take : {A : Type 0} (xs : List A) (count n : ℕ) (x : A) → n < count → slice_get xs n ≡ Some x
     → slice_get (take count xs) n ≡ Some x
 at_take [] count n x lt e = cc

@@ -17,7 +17,8 @@ use Rattle.fz_filling.specs.Stepping.{NoneGives, IsStepAhead}
 use Rattle.fz_filling.specs.Runs.{Run, AreLone}
 use Rattle.fz_filling.specs.Runs.Run.{Stays, Goes}
 use Rattle.fz_filling.proofs.Keeping.{same_later, none_and_one}
-use Rattle.fz_filling.proofs.Stepping.{there_is, ahead_is_first, wrapped_is_first, no_first}
+use Rattle.fz_model.proofs.Lists.{there_is}
+use Rattle.fz_filling.proofs.Stepping.{ahead_is_first, wrapped_is_first, no_first}
 use Rattle.fz_filling.proofs.Reordering.{then_later, given_later, still_open, swapped, later_gives, gives_before, gives_after, step_value}
 
 -- ---- a run by the number of its steps

@@ -9,44 +9,13 @@ use Rattle.fz_model.specs.Meaning.{Model, Point, Partial, Variable, FitVariables
 use Rattle.fz_model.specs.Partial.{unset_count}
 use Rattle.fz_model.specs.Steps.{Gives, GivesNothing, kind_at, terms_of}
 use Rattle.fz_model.specs.Values.{kind_of}
+use Rattle.fz_model.proofs.Lists.{there_is}
+use Rattle.fz_model.proofs.Partials.{give_fits, has_place}
 use Rattle.fz_model.proofs.Steps.{only_open_none}
 use Rattle.fz_verdict.specs.Filling.{IsFirstStep, Chain}
 use Rattle.fz_verdict.specs.Filling.Chain.{Ends, Step}
 use Rattle.fz_verdict.proofs.Loops.{first_ahead, first_wrapped, none_gives}
 use Rattle.fz_filling.specs.Stepping.{NoneGives, IsStepAhead}
-
--- ---- the values of a partial assignment
-
--- there is an element at each number in range
-pub there_is : {A : Type 0} (xs : List A) (k : ℕ) → k < length xs
-    → (x : A) × (slice_get xs k ≡ Some x)
-there_is [] k h = absurd (omega arith)
-there_is (x ∷ xs) zero h = (x, refl)
-there_is (x ∷ xs) (suc k) h = there_is xs k (omega arith)
-
-fits_length : (xs : List Variable) (K : Partial) → FitVariables xs K → length K ≡ length xs
-fits_length [] [] h = refl
-fits_length [] (o ∷ K) h = absurd h
-fits_length (x ∷ xs) [] h = absurd h
-fits_length (x ∷ xs) (o ∷ K) h = ap suc (fits_length xs K h.1)
-
-pub give_fits : (xs : List Variable) (K : Partial) (n : ℕ) (v : Value) → FitVariables xs K
-    → option_map (λ x. x.kind) (slice_get xs n) ≡ Some (kind_of v) → FitVariables xs (give K n v)
-give_fits [] [] n v h e = cc
-give_fits [] (o ∷ K) n v h e = absurd h
-give_fits (x ∷ xs) [] n v h e = absurd h
-give_fits (x ∷ xs) (o ∷ K) zero v h e = let same : kind_of v ≡ x.kind = cc in (same, h.1)
-give_fits (x ∷ xs) (o ∷ K) (suc n) v h e = (h.0, give_fits xs K n v h.1 e)
-
-in_list : (xs : List Variable) (n : ℕ) (k : Kind)
-    → option_map (λ x. x.kind) (slice_get xs n) ≡ Some k → n < length xs
-in_list [] n k e = cc
-in_list (x ∷ xs) zero k e = omega arith
-in_list (x ∷ xs) (suc n) k e = let below : n < length xs = in_list xs n k e in omega arith
-
-pub number_within : (m : Model) (K : Partial) (n : ℕ) (k : Kind) → IsPartial m K
-    → kind_at m n ≡ Some k → n < length K
-number_within m K n k h e = let long : length K ≡ length (variables_of m) = fits_length (variables_of m) K h in let below : n < length (variables_of m) = in_list (variables_of m) n k e in omega arith
 
 -- ---- the points from a number up to another
 
@@ -86,21 +55,13 @@ step_unset m K from k n v s = only_open_none K n (terms_of s.point) s.gives.only
 
 pub step_within : (m : Model) (K : Partial) (from k n : ℕ) (v : Value) → IsPartial m K
     → IsFirstStep m K from k n v → n < length K
-step_within m K from k n v fits s = number_within m K n (kind_of v) fits s.gives.of_kind
+step_within m K from k n v fits s = has_place m K n (kind_of v) fits s.gives.of_kind
 
 pub step_fits : (m : Model) (K : Partial) (from k n : ℕ) (v : Value) → IsPartial m K
     → IsFirstStep m K from k n v → IsPartial m (give K n v)
 step_fits m K from k n v fits s = give_fits (variables_of m) K n v fits s.gives.of_kind
 
 -- ---- variables without a value
-
-pub one_less : (K : Partial) (n : ℕ) (v : Value) → n < length K → value_at K n ≡ None
-    → unset_count K ≡ suc (unset_count (give K n v))
-one_less [] n v h e = absurd (omega arith)
-one_less (None ∷ K) zero v h e = refl
-one_less (Some u ∷ K) zero v h e = cc
-one_less (None ∷ K) (suc n) v h e = ap suc (one_less K n v (omega arith) e)
-one_less (Some u ∷ K) (suc n) v h e = one_less K n v (omega arith) e
 
 all_set : (K : Partial) (n : ℕ) → n < length K → value_at K n ≡ None → unset_count K ≡ 0 → ⊥
 all_set [] n h e none = omega arith
@@ -114,7 +75,7 @@ pub nothing_left : (m : Model) (K : Partial) → IsPartial m K → unset_count K
 nothing_left m K fits none = each (points m)
   where
     gives_nothing : (p : Point) → GivesNothing m K p
-    gives_nothing p n v g = all_set K n (number_within m K n (kind_of v) fits g.of_kind) (only_open_none K n (terms_of p) g.only_open) none
+    gives_nothing p n v g = all_set K n (has_place m K n (kind_of v) fits g.of_kind) (only_open_none K n (terms_of p) g.only_open) none
 
     each : (ps : List Point) → AllByRecursion (GivesNothing m K) ps
     each [] = tt

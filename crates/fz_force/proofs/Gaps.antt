@@ -16,18 +16,6 @@ value_at_new [] n v h = absurd (omega arith)
 value_at_new (o ∷ K) zero v h = refl
 value_at_new (o ∷ K) (suc n) v h = value_at_new K n v (omega arith)
 
--- a number that has a kind is that of a variable, so it is an index of the values
-in_range : (xs : List Variable) (K : Partial) (n : ℕ) (k : Kind) → FitVariables xs K
-    → option_map (λ x. x.kind) (slice_get xs n) ≡ Some k → n < length K
-in_range [] K n k h e = cc
-in_range (x ∷ xs) [] n k h e = absurd h
-in_range (x ∷ xs) (o ∷ K) zero k h e = omega arith
-in_range (x ∷ xs) (o ∷ K) (suc n) k h e = let below : n < length K = in_range xs K n k h.1 e in omega arith
-
-pub has_place : (m : Model) (K : Partial) (n : ℕ) (k : Kind) → IsPartial m K → kind_at m n ≡ Some k
-    → n < length K
-has_place m K n k h e = in_range (variables_of m) K n k h e
-
 -- ---- what is forced
 
 module _ (m : Model) (K : Partial) (p : Point) (ps : List Point) (k : ℕ) (at : slice_get ps k ≡ Some p) where
@@ -61,12 +49,3 @@ gone (Some x) p none e = no none
 pub nothing_there : {A : Type 0} (o : Option A) → false ≡ is_some o → o ≡ None
 nothing_there None e = refl
 nothing_there (Some x) e = no e
-
--- ---- where nothing has a value
-
-nothing_fits : (xs : List Variable) → FitVariables xs (map (λ x. None) xs)
-nothing_fits [] = tt
-nothing_fits (x ∷ xs) = (tt, nothing_fits xs)
-
-pub nothing_is_partial : (m : Model) → IsPartial m (nothing_for m)
-nothing_is_partial m = nothing_fits (variables_of m)

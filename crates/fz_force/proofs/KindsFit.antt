@@ -23,7 +23,7 @@ use Rattle.fz_eval.proofs.Valued.{same_as_itself, terms_of_kind}
 use Rattle.fz_force.specs.Forced.{Fills}
 use Rattle.fz_force.specs.Kinds.{each_fits, kind_fits, kind_in}
 use Rattle.fz_force.proofs.Fits.{kind_back}
-use Rattle.fz_force.proofs.Gaps.{has_place}
+use Rattle.fz_meaning.proofs.Partials.{has_place}
 use Rattle.fz_force.proofs.Held.{holds_read}
 
 module _ (m : Model) where

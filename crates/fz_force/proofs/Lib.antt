@@ -16,3 +16,4 @@ pub mod Tables
 pub mod Units
 pub mod Placed
 pub mod Chosen
+pub use Rattle.fz_data.proofs as of_data

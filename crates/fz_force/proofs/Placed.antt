@@ -28,7 +28,7 @@ use Rattle.fz_force.specs.declared.only.Spot.{Spot}
 use Rattle.fz_force.specs.Forced.{Fills, IsForced, IsOnlyValue, IsReady}
 use Rattle.fz_force.specs.Kinds.{each_fits}
 use Rattle.fz_force.specs.Only.{IsFlat, IsOnlyAt, IsOnlyOpen, terms_of}
-use Rattle.fz_force.proofs.Gaps.{has_place}
+use Rattle.fz_meaning.proofs.Partials.{has_place}
 use Rattle.fz_force.proofs.KindsFit.{filled_kind, has_number}
 use Rattle.fz_force.proofs.Scalars.{at_argument, of_arguments}
 

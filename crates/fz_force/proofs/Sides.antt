@@ -17,7 +17,8 @@ use Rattle.fz_meaning.specs.Steps.{Gives, HasOneNumber, kind_at, open_terms}
 use Rattle.fz_meaning.proofs.States.{intro}
 use Rattle.fz_meaning.proofs.Steps.{term_keeps, value_at_given, definition_sides}
 use Rattle.fz_force.specs.Forced.{IsForced, IsFitting, IsOnlyNumber}
-use Rattle.fz_force.proofs.Gaps.{has_place, value_at_new}
+use Rattle.fz_meaning.proofs.Partials.{has_place}
+use Rattle.fz_force.proofs.Gaps.{value_at_new}
 
 -- ---- domains of one number
 

@@ -30,13 +30,6 @@ both_end h r left right (x ∷ xs) [] (suc k) e = absurd (omega arith)
 both_end h r left right (x ∷ xs) (y ∷ ys) zero e = absurd (omega arith)
 both_end h r left right (x ∷ xs) (y ∷ ys) (suc k) e = both_end h r left right xs ys k (omega arith)
 
--- there is an element at each number in range
-pub there_is : {A : Type 0} (xs : List A) (k : ℕ) → k < length xs
-    → (x : A) × (slice_get xs k ≡ Some x)
-there_is [] k h = absurd (omega arith)
-there_is (x ∷ xs) zero h = (x, refl)
-there_is (x ∷ xs) (suc k) h = there_is xs k (omega arith)
-
 -- what holds of what each element stands for holds of what one stands for
 pub mapped_at : {A B : Type 0} (P : B → Type 0) (f : A → B) (xs : List A) (k : ℕ) (x : A)
     → k < length xs → x ≡ get_or xs k x → AllByRecursion P (map f xs) → P (f x)

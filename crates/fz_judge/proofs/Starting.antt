@@ -21,6 +21,7 @@ use Rattle.fz_model.specs.Meaning.Place.{Scalar, Array}
 use Rattle.fz_model.specs.Steps.{kind_at}
 use Rattle.fz_model.specs.Values.{kind_of, same_kind}
 use Rattle.fz_model.proofs.Lists.{all_map}
+use Rattle.fz_model.proofs.Partials.{fits_length, give_fits, has_place}
 use Rattle.fz_model.proofs.Scope.{same_kind_is}
 use Rattle.fz_verdict.specs.Blocks.{Printed, PrintedValue, printed_values, literal_fault, fault_if, value_fault}
 use Rattle.fz_verdict.specs.Blocks.PrintedValue.{OneValue, ArrayOf}
@@ -136,20 +137,6 @@ cleared_is_nothing m K room = same_nothing K (variables_of m) room
 
 -- ---- kinds
 
-pub fits_length : (xs : List Variable) (K : Partial) → FitVariables xs K → length K ≡ length xs
-fits_length [] [] h = refl
-fits_length [] (o ∷ K) h = absurd h
-fits_length (x ∷ xs) [] h = absurd h
-fits_length (x ∷ xs) (o ∷ K) h = ap suc (fits_length xs K h.1)
-
-pub give_fits : (xs : List Variable) (K : Partial) (n : ℕ) (v : Value) → FitVariables xs K
-    → option_map (λ x. x.kind) (slice_get xs n) ≡ Some (kind_of v) → FitVariables xs (give K n v)
-give_fits [] [] n v h e = cc
-give_fits [] (o ∷ K) n v h e = absurd h
-give_fits (x ∷ xs) [] n v h e = absurd h
-give_fits (x ∷ xs) (o ∷ K) zero v h e = let same : kind_of v ≡ x.kind = cc in (same, h.1)
-give_fits (x ∷ xs) (o ∷ K) (suc n) v h e = (h.0, give_fits xs K n v h.1 e)
-
 -- what is filled in has a place for each variable
 pub has_room : (m : Model) (K : Partial) → IsPartial m K → HasRoom m K
 has_room m K fits = fits_length (variables_of m) K fits
@@ -172,13 +159,6 @@ pub all_fit : (m : Model) (K : Partial) (qs : List (Term × Value)) → IsPartia
 all_fit m K [] h fits = h
 all_fit m K (q ∷ qs) h fits = all_fit m (with_first K q) qs (first_fits m K q h fits.0) fits.1
 
-pub nothing_fits : (m : Model) → IsPartial m (nothing_for m)
-nothing_fits m = none_fit (variables_of m)
-  where
-    none_fit : (xs : List Variable) → FitVariables xs (map (λ x. None) xs)
-    none_fit [] = tt
-    none_fit (x ∷ xs) = (tt, none_fit xs)
-
 literal_kind : (k : Kind) (l : Literal) → literal_fault k l ≡ None
     → kind_of (literal_value l.what) ≡ k
 literal_kind k l e = same_kind_is (kind_of (literal_value l.what)) k ((elim (same_kind (kind_of (literal_value l.what)) k) as (λ b. fault_if (not b) WrongKind l.span ≡ None → b ≡ true) [ true ↦ λ _. refl | false ↦ λ e. cc ]) e)
@@ -200,19 +180,9 @@ place_pairs_fit m x (Array y k ts) (ArrayOf is ls) h e =
 
 -- ---- numbers
 
-in_list : (xs : List Variable) (n : ℕ) (k : Kind)
-    → option_map (λ x. x.kind) (slice_get xs n) ≡ Some k → n < length xs
-in_list [] n k e = cc
-in_list (x ∷ xs) zero k e = omega arith
-in_list (x ∷ xs) (suc n) k e = let below : n < length xs = in_list xs n k e in omega arith
-
-pub number_within : (m : Model) (K : Partial) (n : ℕ) (k : Kind) → IsPartial m K
-    → kind_at m n ≡ Some k → n < length K
-number_within m K n k h e = let long : length K ≡ length (variables_of m) = fits_length (variables_of m) K h in let below : n < length (variables_of m) = in_list (variables_of m) n k e in omega arith
-
 term_within : (m : Model) (K : Partial) (k : Kind) (t : Term) → IsPartial m K → TermFits m k t
     → IsWithin (length K) t
-term_within m K k (Var n) h fits = number_within m K n k h fits
+term_within m K k (Var n) h fits = has_place m K n k h fits
 term_within m K k (Fixed v) h fits = tt
 
 -- what a name stands for has numbers of variables

@@ -10,7 +10,8 @@ use Rattle.fz_model.specs.Meaning.{Model, Partial, Point, PointName, points, sta
 use Rattle.fz_verdict.specs.Verdict.{Fault, Reason, fault_at, fault_named, first_unset, point_fails, point_undecided, reason_at, verdict_by}
 use Rattle.fz_verdict.specs.Verdict.Verdict.{Violated, Satisfied}
 use Rattle.fz_judge.specs.Working.{holds, is_failed, reason_named, with_objective}
-use Rattle.fz_judge.proofs.Lists.{first_append, or_some, there_is}
+use Rattle.fz_model.proofs.Lists.{there_is}
+use Rattle.fz_judge.proofs.Lists.{first_append, or_some}
 
 -- ---- the objective after the points
 

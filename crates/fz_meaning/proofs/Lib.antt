@@ -1,6 +1,7 @@
 mod Rows
 pub mod Values
 pub mod Lists
+pub mod Partials
 pub mod Determined
 pub mod Steps
 pub mod Points

@@ -1,5 +1,6 @@
--- What holds of each element of a list, through the operations on lists.
-use Rattle.std.proofs.Common.{◌≡◌, ℕ, suc, zero, ◌+◌, List, [], ◌∷◌, ◌++◌, Some, subst, take, drop, slice_get}
+-- What holds of each element of a list, through the operations on lists; and the element at an
+-- index.
+use Rattle.std.proofs.Common.{◌≡◌, ℕ, suc, zero, ◌+◌, ◌<◌, List, [], ◌∷◌, ◌++◌, length, Some, refl, subst, take, drop, slice_get, arith}
 use Rattle.std.specs.List.{AllByRecursion, enumerate_from}
 
 -- ---- lists
@@ -52,3 +53,10 @@ pub at_place : {A : Type 0} (P : A → Type 0) (xs : List A) (k : ℕ) (x : A) �
 at_place P [] k x h e = cc
 at_place P (y ∷ ys) zero x h e = let same : y ≡ x = cc in subst P same h.0
 at_place P (y ∷ ys) (suc k) x h e = at_place P ys k x h.1 e
+
+-- there is an element at each index in range
+pub there_is : {A : Type 0} (xs : List A) (k : ℕ) → k < length xs
+    → (x : A) × (slice_get xs k ≡ Some x)
+there_is [] k h = absurd (omega arith)
+there_is (x ∷ xs) zero h = (x, refl)
+there_is (x ∷ xs) (suc k) h = there_is xs k (omega arith)

@@ -1,5 +1,6 @@
 pub use Rattle.fz_meaning.proofs.Values
 pub use Rattle.fz_meaning.proofs.Lists
+pub use Rattle.fz_meaning.proofs.Partials
 pub use Rattle.fz_meaning.proofs.Determined
 pub use Rattle.fz_meaning.proofs.Steps
 pub use Rattle.fz_meaning.proofs.Points
@@ -10,3 +11,4 @@ pub use Rattle.fz_meaning.proofs.Places
 pub use Rattle.fz_meaning.proofs.NamedKinds
 pub use Rattle.fz_meaning.proofs.Writing
 pub use Rattle.fz_meaning.proofs.Reading
+pub use Rattle.fz_force.proofs.of_data.Tabled

@@ -15,6 +15,7 @@ use Rattle.fz_model.specs.Meaning.Place.{Scalar, Array}
 use Rattle.fz_model.specs.Steps.{kind_at}
 use Rattle.fz_model.proofs.NamedKinds.{TermFits, PlaceFits, named_fits}
 use Rattle.fz_model.proofs.Lists.{all_append}
+use Rattle.fz_model.proofs.Partials.{give_fits}
 use Rattle.fz_model.proofs.Scope.{same_kind_is}
 use Rattle.fz_verdict.specs.Blocks.{Printed, PrintedValue, Block, BlockFault, printed_values, fault_if, literal_fault, value_fault, printed_fault, items_fault, block_fault, moved}
 use Rattle.fz_verdict.specs.Blocks.PrintedValue.{OneValue, ArrayOf}
@@ -116,14 +117,6 @@ start_is_partial t sound block e =
     kind_is (variables_of (model_of t)) k x (kind_of v) at (first_fits (model_of t) (printed_scalars (model_of t) block.items) k v fit (ap (first_printed (printed_scalars (model_of t) block.items)) (sym number) ∙ printed)))
 
 -- ---- the chain
-
-give_fits : (xs : List Variable) (K : Partial) (n : ℕ) (v : Value) → FitVariables xs K
-    → option_map (λ x. x.kind) (slice_get xs n) ≡ Some (kind_of v) → FitVariables xs (give K n v)
-give_fits [] [] n v h e = cc
-give_fits [] (o ∷ K) n v h e = absurd h
-give_fits (x ∷ xs) [] n v h e = absurd h
-give_fits (x ∷ xs) (o ∷ K) zero v h e = let same : kind_of v ≡ x.kind = cc in (same, h.1)
-give_fits (x ∷ xs) (o ∷ K) (suc n) v h e = (h.0, give_fits xs K n v h.1 e)
 
 pub chain_is_partial : (m : Model) {K : Partial} {from : ℕ} {F : Partial} → IsPartial m K
     → Chain m K from F → IsPartial m F

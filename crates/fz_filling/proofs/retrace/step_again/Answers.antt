@@ -5,7 +5,8 @@ use Rattle.fz_model.specs.Values.{kind_of}
 use Rattle.fz_model.proofs.Steps.{only_open_none}
 use Rattle.fz_filling.specs.Runs.{Run}
 use Rattle.fz_filling.specs.Runs.Run.{Goes, Stays}
-use Rattle.fz_filling.proofs.Stepping.{give_fits, number_within, point_gives}
+use Rattle.fz_model.proofs.Partials.{give_fits, has_place}
+use Rattle.fz_filling.proofs.Stepping.{point_gives}
 use Rattle.fz_filling.proofs.retrace.step_again.Goals as goal
 
 pub returns-then-point-points-clause-run : goal.returns-then-point-points-clause-run
@@ -14,7 +15,7 @@ returns-then-point-points-clause-run c = Stays
 pub set-requires-clause-in_range : goal.set-requires-clause-in_range
 set-requires-clause-in_range c =
     let (p, at, g) = point_gives c.args.model.now c.args.partial.now c.args.point c.in-Some.variable c.in-Some.value c.in_ok-variable.field-0 c.points.result c.in-Some.is c.points.ensures.counted c.if-point-points.false c.in_ok-variable.ensures.given in
-    number_within c.args.model.now c.args.partial.now c.in-Some.variable (kind_of c.in-Some.value) c.requires.fits g.of_kind
+    has_place c.args.model.now c.args.partial.now c.in-Some.variable (kind_of c.in-Some.value) c.requires.fits g.of_kind
 
 pub set-requires-clause-unset : goal.set-requires-clause-unset
 set-requires-clause-unset c =

@@ -1,7 +1,8 @@
 use Rattle.std.proofs.Common.{◌≡◌, suc, is_some, sym, ap, subst, arith}
 use Rattle.fz_model.specs.Meaning.{IsPartial, give}
 use Rattle.fz_model.specs.Partial.{unset_count}
-use Rattle.fz_filling.proofs.Stepping.{Reaches, at_some, nothing_left, one_less, reaches_after, reaches_end, step_fits, step_unset, step_within}
+use Rattle.fz_model.proofs.Tabled.{one_unset_less}
+use Rattle.fz_filling.proofs.Stepping.{Reaches, at_some, nothing_left, reaches_after, reaches_end, step_fits, step_unset, step_within}
 use Rattle.fz_filling.proofs.steps.fill_on.Goals as goal
 
 pub returns-in_default-clause-filled : goal.returns-in_default-clause-filled
@@ -23,7 +24,7 @@ steps-smaller c =
     let first = at_some _ c.in_ok-step.field-0 c.in-Some.step c.in-Some.is c.in_ok-step.ensures.first in
     let within = step_within c.args.model.now c.steps.partial c.steps.from c.in-Some.step.point c.in-Some.step.variable c.in-Some.step.value c.steps.invariant.fits first in
     let unset = step_unset c.args.model.now c.steps.partial c.steps.from c.in-Some.step.point c.in-Some.step.variable c.in-Some.step.value first in
-    let less : unset_count c.steps.partial ≡ suc (unset_count (give c.steps.partial c.in-Some.step.variable c.in-Some.step.value)) = one_less c.steps.partial c.in-Some.step.variable c.in-Some.step.value within unset in
+    let less : unset_count c.steps.partial ≡ suc (unset_count (give c.steps.partial c.in-Some.step.variable c.in-Some.step.value)) = one_unset_less c.steps.partial c.in-Some.step.variable c.in-Some.step.value within unset in
     let same : unset_count c.take.new.partial ≡ unset_count (give c.steps.partial c.in-Some.step.variable c.in-Some.step.value) = ap unset_count c.take.ensures.given in
     omega (arith, less, same)
 

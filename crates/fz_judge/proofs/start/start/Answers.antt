@@ -11,14 +11,15 @@ use Rattle.fz_judge.proofs.Agreeing.{agree_item_more, and_true}
 use Rattle.fz_judge.proofs.Lists.{first_more, take_one_more}
 use Rattle.fz_judge.proofs.Printing.{and_false}
 use Rattle.fz_judge.proofs.Refusing.{tells_stop}
-use Rattle.fz_judge.proofs.Starting.{nothing_fits, start_item_more, starts_with_nothing}
+use Rattle.fz_model.proofs.Partials.{nothing_fits}
+use Rattle.fz_judge.proofs.Starting.{start_item_more, starts_with_nothing}
 use Rattle.fz_judge.proofs.start.start.Goals.{then-not-branch, else-not-branch}
 use Rattle.fz_judge.proofs.start.start.Goals as goal
 
 pub loop-number-init : goal.loop-number-init
 loop-number-init c = record {
   started = c.requires.empty ∙ starts_with_nothing c.args.model.now;
-  kinds = subst (IsPartial c.args.model.now) (sym c.requires.empty) (nothing_fits c.args.model.now);
+  kinds = subst (IsPartial c.args.model.now) (sym c.requires.empty) (nothing_fits (variables_of c.args.model.now));
   agree = c.requires.agrees;
   clean = refl;
 }
