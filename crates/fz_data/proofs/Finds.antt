@@ -11,6 +11,7 @@ use Rattle.fz_meaning.specs.Meaning.{find_name, first_some, place_if_named, numb
 use Rattle.fz_meaning.specs.declared.kind.Kind.TheVariants.{Int as IntKind}
 use Rattle.fz_meaning.specs.declared.term.Term.{Term}
 use Rattle.fz_meaning.specs.declared.term.Term.TheVariants.{Var, Fixed}
+use Rattle.fz_meaning.proofs.ScanSteps.{first_map}
 use Rattle.fz_data.specs.declared.model.Model.TheInside.{Inside}
 use Rattle.fz_data.specs.declared.parts.Variable.{Variable}
 use Rattle.fz_data.specs.declared.parts.Array.{Array}
@@ -26,11 +27,6 @@ use Rattle.fz_data.proofs.Loops.{found_entry}
 abbrev pub by_name : List ℕ → (List ℕ × meaning.Place) → Option meaning.Place
 by_name x (n, p) = cond (bytes_eq n x) (Some p) None
 
-first_some-map : {A B C : Type 0} (f : B → Option C) (g : A → B) (xs : List A)
-    → first_some f (map g xs) ≡ first_some (λ x. f (g x)) xs
-first_some-map f g [] = refl
-first_some-map f g (x ∷ xs) = ap (option_or (f (g x))) (first_some-map f g xs)
-
 place_by_name : (x : List ℕ) (d : ℕ × meaning.Declared)
     → place_if_named x d ≡ by_name x (named_place d)
 place_by_name x (n, d) = refl
@@ -42,7 +38,7 @@ first_some-same f g same (x ∷ xs) = λ i. option_or (same x i) (first_some-sam
 
 find_by_name : (m : meaning.Model) (x : List ℕ)
     → find_name m x ≡ first_some (by_name x) (map named_place (numbered m))
-find_by_name m x = first_some-same (place_if_named x) (λ d. by_name x (named_place d)) (place_by_name x) (numbered m) ∙ sym (first_some-map (by_name x) named_place (numbered m))
+find_by_name m x = first_some-same (place_if_named x) (λ d. by_name x (named_place d)) (place_by_name x) (numbered m) ∙ sym (first_map (by_name x) named_place (numbered m))
 
 bytes_eq-turn : (xs ys : List ℕ) → bytes_eq xs ys ≡ bytes_eq ys xs
 bytes_eq-turn xs ys =

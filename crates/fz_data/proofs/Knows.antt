@@ -34,6 +34,7 @@ use Rattle.fz_data.specs.declared.scope.Scope.{Scope}
 use Rattle.fz_data.specs.Declarations.{declared_place}
 use Rattle.fz_names.specs.Naming.{has_text}
 use Rattle.fz_data.specs.Scope.{place_in, place_fault, fault_in, faults_in, term_at, term_in, place_at, place_of_part, argument_fault, argument_in, is_declared, decl_fault_in, definition_in, constraint_fault_in, variable_by_place, defined_in, posted_in, aim_in}
+use Rattle.fz_data.proofs.Shows.{same_map}
 use Rattle.fz_data.proofs.Finds.{by_name, first_entry, first_some-same, or_else}
 use Rattle.fz_data.specs.Stands.{Stands, entry_place, declared_pair}
 
@@ -72,11 +73,6 @@ variable_by all (Some d) =
       | true ↦ elim (is_scalar d) as (λ c. variable_by_place (Some (cond c (Scalar (kind_of_base d.base) (Var (number_of all d.name.text))) (Array d.name.text (kind_of_base d.base) (map (term_of all) (parts d.value))))) ≡ cond c (Some (number_of all d.name.text)) None) [ true ↦ refl | false ↦ refl ]
       | false ↦ elim (is_scalar d) as (λ c. variable_by_place (Some (cond c (Scalar (kind_of_base d.base) (Fixed (literal_of d.value))) (Array d.name.text (kind_of_base d.base) (map (term_of all) (parts d.value))))) ≡ None) [ true ↦ refl | false ↦ refl ]
     ]
-
-same_map : {A B : Type 0} (f g : A → B) → ((x : A) → f x ≡ g x) → (xs : List A)
-    → map f xs ≡ map g xs
-same_map f g same [] = refl
-same_map f g same (x ∷ xs) = λ i. same x i ∷ same_map f g same xs i
 
 no_answer : (b : Bool) → ◌≡◌ {A = Option ℕ} (cond b None None) None
 no_answer true = refl

@@ -1,9 +1,9 @@
 -- A point gives one value to one variable; and what becomes of a partial assignment from which a
 -- value is taken and given back.
-use Rattle.std.proofs.Common.{◌≡◌, ◌<◌, ℕ, zero, suc, List, [], ◌∷◌, Some, None, length, slice_get, slice_set, subst, sym, ap, arith, refl}
+use Rattle.std.proofs.Common.{◌≡◌, ◌<◌, ℕ, zero, suc, List, [], ◌∷◌, Some, None, length, slice_get, subst, sym, ap, arith, refl}
 use Rattle.fz_base.specs.declared.value.Value.{Value}
 use Rattle.fz_model.specs.declared.Term.TheVariants.{Var}
-use Rattle.fz_model.specs.Meaning.{FitVariables, IsPartial, Model, Partial, Point, Variable, give, points, value_at, variables_of}
+use Rattle.fz_model.specs.Meaning.{Model, Partial, Point, give, points, value_at}
 use Rattle.fz_model.specs.Partial.{without}
 use Rattle.fz_model.specs.Steps.{Gives}
 use Rattle.fz_model.proofs.Lists.{at_place}
@@ -23,17 +23,6 @@ one_step m K k n j p v u at g h =
     record { variable = variable; value = step_value m K p n v u (at_place (PointFits m) (points m) k p (points_fit m) at) g moved }
 
 -- ---- without a value, and with it again
-
-takes : (xs : List Variable) (K : Partial) (n : ℕ) → FitVariables xs K
-    → FitVariables xs (slice_set K n None)
-takes [] [] n h = h
-takes [] (o ∷ K) n h = absurd h
-takes (x ∷ xs) [] n h = absurd h
-takes (x ∷ xs) (o ∷ K) zero h = (tt, h.1)
-takes (x ∷ xs) (o ∷ K) (suc n) h = (h.0, takes xs K n h.1)
-
-pub less_fits : (m : Model) (K : Partial) (n : ℕ) → IsPartial m K → IsPartial m (without K n)
-less_fits m K n h = takes (variables_of m) K n h
 
 pub none_there : (K : Partial) (n : ℕ) → value_at (without K n) n ≡ None
 none_there [] n = refl

@@ -12,18 +12,9 @@ use Rattle.fz_model.specs.Meaning.{Argument, Model, Point, Partial, value, value
 use Rattle.fz_model.specs.Meaning.Place.{Scalar, Array}
 use Rattle.fz_model.specs.Meaning.Argument.{One, ListOf}
 use Rattle.fz_model.specs.Meaning.Point.{DomainPoint, DefinitionPoint, ArrayPoint, ConstraintPoint}
+use Rattle.fz_model.proofs.Lists.{all_left, all_right}
 use Rattle.fz_model.specs.Steps.{Gives, IsResult, IsTarget, SumsFit, HasUnitCoefficient, terms_of, open_terms}
 use Rattle.fz_filling.specs.Outlooks.{Agree}
-
-pub all_left : {A : Type 0} (P : A → Type 0) (xs ys : List A) → AllByRecursion P (xs ++ ys)
-    → AllByRecursion P xs
-all_left P [] ys h = tt
-all_left P (x ∷ xs) ys h = (h.0, all_left P xs ys h.1)
-
-pub all_right : {A : Type 0} (P : A → Type 0) (xs ys : List A) → AllByRecursion P (xs ++ ys)
-    → AllByRecursion P ys
-all_right P [] ys h = h
-all_right P (x ∷ xs) ys h = all_right P xs ys h.1
 
 -- ---- values
 

@@ -13,22 +13,6 @@ use Rattle.fz_filling.specs.Outlooks.{first_other, open_other, slot_terms, terms
 
 -- ---- the first answer
 
-or_assoc : {A : Type 0} (o p q : Option A)
-    → option_or (option_or o p) q ≡ option_or o (option_or p q)
-or_assoc None p q = refl
-or_assoc (Some x) p q = refl
-
-first_append : {A B : Type 0} (f : A → Option B) (xs ys : List A)
-    → first_some f (xs ++ ys) ≡ option_or (first_some f xs) (first_some f ys)
-first_append f [] ys = refl
-first_append f (x ∷ xs) ys = ap (option_or (f x)) (first_append f xs ys) ∙ sym (or_assoc (f x) (first_some f xs) (first_some f ys))
-
--- in the lists that elements stand for
-pub first_flat : {A B C : Type 0} (f : B → Option C) (g : A → List B) (xs : List A)
-    → first_some f (flat_map g xs) ≡ first_some (λ x. first_some f (g x)) xs
-first_flat f g [] = refl
-first_flat f g (x ∷ xs) = first_append f (g x) (flat_map g xs) ∙ ap (option_or (first_some f (g x))) (first_flat f g xs)
-
 dropped_at : {A : Type 0} (xs : List A) (i : ℕ) (x : A) → slice_get xs i ≡ Some x
     → drop i xs ≡ x ∷ drop (i + 1) xs
 dropped_at [] i x at = cc

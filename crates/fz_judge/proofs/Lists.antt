@@ -5,19 +5,7 @@ use Rattle.std.specs.Option.{option_or}
 use Rattle.std.proofs.lemmas.List.{take-append-drop, map-append}
 use Rattle.std.proofs.Math.Seq.{take-suc}
 use Rattle.fz_model.specs.Meaning.{first_some}
-
--- the whole list: what was read, the one at the place, and what follows
-pub whole_at : {A B : Type 0} (f : A → B) (xs : List A) (i : ℕ) (x : A) → i < length xs
-    → x ≡ get_or xs i x → map f xs ≡ map f (take i xs) ++ f x ∷ map f (drop (i + 1) xs)
-whole_at f xs i x h e =
-    let rest : drop i xs ≡ x ∷ drop (i + 1) xs = drop-cons xs i x h ∙ (λ j. sym e j ∷ drop (sym (add-one i) j) xs) in
-    ap (map f) (sym (take-append-drop i xs)) ∙ map-append f (take i xs) (drop i xs) ∙ ap (λ ys. map f (take i xs) ++ map f ys) rest
-
--- one more
-pub take_one_more : {A B : Type 0} (f : A → B) (xs : List A) (i : ℕ) (x : A) → i < length xs
-    → x ≡ get_or xs i x → map f (take (i + 1) xs) ≡ map f (take i xs) ++ f x ∷ []
-take_one_more f xs i x h e =
-    ap (λ n. map f (take n xs)) (add-one i) ∙ ap (map f) (take-suc xs i x h) ∙ map-append f (take i xs) (get_or xs i x ∷ []) ∙ ap (λ y. map f (take i xs) ++ f y ∷ []) (sym e)
+use Rattle.fz_model.proofs.ScanSteps.{first_append, whole_at}
 
 -- at the end of the shorter one, a function that is the same for each empty list is at its end
 pub both_end : {A B R : Type 0} (h : List A → List B → R) (r : R) → ((ys : List B) → h [] ys ≡ r)
@@ -39,19 +27,6 @@ mapped_at P f (y ∷ xs) (suc k) x h e all = mapped_at P f xs k x (omega arith) 
 
 -- ---- the first answer
 
-pub or_assoc : {A : Type 0} (o p q : Option A)
-    → option_or (option_or o p) q ≡ option_or o (option_or p q)
-or_assoc None p q = refl
-or_assoc (Some x) p q = refl
-
-pub both_none : {A : Type 0} (o p : Option A) → o ≡ None → p ≡ None → option_or o p ≡ None
-both_none o p a b = ap (λ z. option_or z p) a ∙ b
-
-pub first_append : {A B : Type 0} (f : A → Option B) (xs ys : List A)
-    → first_some f (xs ++ ys) ≡ option_or (first_some f xs) (first_some f ys)
-first_append f [] ys = refl
-first_append f (x ∷ xs) ys = ap (option_or (f x)) (first_append f xs ys) ∙ sym (or_assoc (f x) (first_some f xs) (first_some f ys))
-
 pub not_some : {A : Type 0} (o : Option A) → is_some o ≡ false → o ≡ None
 not_some None e = refl
 not_some (Some x) e = cc
@@ -68,14 +43,7 @@ pub or_some : {A : Type 0} (o p : Option A) → is_some o ≡ true → option_or
 or_some None p e = cc
 or_some (Some x) p e = refl
 
--- over elements that stand for `g x`: none so far, and none at the next
-pub first_more : {A B C : Type 0} (f : B → Option C) (g : A → B) (xs : List A) (i : ℕ) (x : A)
-    → i < length xs → x ≡ get_or xs i x → first_some f (map g (take i xs)) ≡ None → f (g x) ≡ None
-    → first_some f (map g (take (i + 1) xs)) ≡ None
-first_more f g xs i x h e none here =
-    ap (first_some f) (take_one_more g xs i x h e) ∙ first_append f (map g (take i xs)) (g x ∷ []) ∙ both_none (first_some f (map g (take i xs))) (option_or (f (g x)) None) none (both_none (f (g x)) None here refl)
-
--- none so far, and one at the next
+-- over elements that stand for `g x`: none so far, and one at the next
 pub first_found : {A B C : Type 0} (f : B → Option C) (g : A → B) (xs : List A) (i : ℕ) (x : A)
     → i < length xs → x ≡ get_or xs i x → first_some f (map g (take i xs)) ≡ None
     → is_some (f (g x)) ≡ true → first_some f (map g xs) ≡ f (g x)

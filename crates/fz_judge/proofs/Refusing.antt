@@ -23,7 +23,7 @@ use Rattle.fz_judge.specs.declared.error.BlockError.{BlockError}
 use Rattle.fz_judge.specs.declared.error.BlockError.TheVariants as errors
 use Rattle.fz_judge.specs.Judged.{TellsFault, TellsKind}
 use Rattle.fz_judge.specs.Working.{IsPlacedWithin, moved_error}
-use Rattle.fz_judge.proofs.Lists.{whole_at, first_append}
+use Rattle.fz_model.proofs.ScanSteps.{whole_at, first_append}
 
 -- ---- what an error tells
 

@@ -22,6 +22,7 @@ use Rattle.fz_model.specs.Steps.{kind_at}
 use Rattle.fz_model.specs.Values.{kind_of, same_kind}
 use Rattle.fz_model.proofs.Lists.{all_map}
 use Rattle.fz_model.proofs.Partials.{fits_length, give_fits, has_place}
+use Rattle.fz_model.proofs.ScanSteps.{or_nothing}
 use Rattle.fz_model.proofs.Scope.{same_kind_is}
 use Rattle.fz_verdict.specs.Blocks.{Printed, PrintedValue, printed_values, literal_fault, fault_if, value_fault}
 use Rattle.fz_verdict.specs.Blocks.PrintedValue.{OneValue, ArrayOf}
@@ -45,10 +46,6 @@ printed_more (p ∷ qs) q n = ap (option_or (if_var n p)) (printed_more qs q n) 
         → option_or o (option_or p q) ≡ option_or (option_or o p) q
     assoc None p q = refl
     assoc (Some x) p q = refl
-
-or_nothing : {A : Type 0} (o : Option A) → option_or o None ≡ o
-or_nothing None = refl
-or_nothing (Some x) = refl
 
 other_number : (k n : ℕ) (v : Value) → (k ≡ n → ⊥) → if_var n (Var k, v) ≡ None
 other_number k n v h = (elim (k == n) as (λ b. (k == n) ≡ b → cond b (Some v) None ≡ None) [ true ↦ λ e. absurd (h (eqb-true k n e)) | false ↦ λ _. refl ]) refl

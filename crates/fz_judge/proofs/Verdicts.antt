@@ -11,7 +11,8 @@ use Rattle.fz_verdict.specs.Verdict.{Fault, Reason, fault_at, fault_named, first
 use Rattle.fz_verdict.specs.Verdict.Verdict.{Violated, Satisfied}
 use Rattle.fz_judge.specs.Working.{holds, is_failed, reason_named, with_objective}
 use Rattle.fz_model.proofs.Lists.{there_is}
-use Rattle.fz_judge.proofs.Lists.{first_append, or_some}
+use Rattle.fz_model.proofs.ScanSteps.{first_append, or_nothing}
+use Rattle.fz_judge.proofs.Lists.{or_some}
 
 -- ---- the objective after the points
 
@@ -61,10 +62,6 @@ whole_point [] i p e = cc
 whole_point (q ∷ ps) zero p e = let same : q ≡ p = cc in ap (λ x. x ∷ ps) same
 whole_point (q ∷ ps) (suc i) p e = ap (λ xs. q ∷ xs) (whole_point ps i p e)
 
-or_none : {A : Type 0} (o : Option A) → option_or o None ≡ o
-or_none None = refl
-or_none (Some x) = refl
-
 module _ {A B : Type 0} (f : A → Option B) (ps : List A) (i : ℕ) (p : A) (at : slice_get ps i ≡ Some p) where
   -- none before the point, and one at it
   pub first_at : (b : B) → first_some f (take i ps) ≡ None → f p ≡ Some b → first_some f ps ≡ Some b
@@ -72,7 +69,7 @@ module _ {A B : Type 0} (f : A → Option B) (ps : List A) (i : ℕ) (p : A) (at
       ap (first_some f) (whole_point ps i p at) ∙ first_append f (take i ps) (p ∷ drop (suc i) ps) ∙ (λ j. option_or (none j) (option_or (here j) (first_some f (drop (suc i) ps))))
 
   pub first_so_far : first_some f (take (i + 1) ps) ≡ option_or (first_some f (take i ps)) (f p)
-  first_so_far = ap (first_some f) (take_point ps i p at) ∙ first_append f (take i ps) (p ∷ []) ∙ ap (option_or (first_some f (take i ps))) (or_none (f p))
+  first_so_far = ap (first_some f) (take_point ps i p at) ∙ first_append f (take i ps) (p ∷ []) ∙ ap (option_or (first_some f (take i ps))) (or_nothing (f p))
 
 -- ---- a point that holds adds nothing
 
@@ -96,7 +93,7 @@ module _ (m : Model) (K : Partial) (i : ℕ) (s : State) (within : i < length (p
       let (p, at) = there_is (points m) i within in
       let before = first_some (point_undecided m K) (take i (points m)) in
       let none : point_undecided m K p ≡ None = ap (reason_at m K p) (sym (is p at) ∙ holds_is s held) in
-      e ∙ sym (first_so_far (point_undecided m K) (points m) i p at ∙ ap (option_or before) none ∙ or_none before)
+      e ∙ sym (first_so_far (point_undecided m K) (points m) i p at ∙ ap (option_or before) none ∙ or_nothing before)
 
 -- ---- a point by its number
 

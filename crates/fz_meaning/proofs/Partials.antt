@@ -1,5 +1,5 @@
--- Values that fit a model's variables: none at all, and one more of its variable's kind.
-use Rattle.std.proofs.Common.{◌≡◌, ℕ, zero, suc, ◌<◌, List, [], ◌∷◌, length, map, None, Some, option_map, slice_get, refl, ap, arith}
+-- Values that fit a model's variables: none at all, one more of its variable's kind, and one less.
+use Rattle.std.proofs.Common.{◌≡◌, ℕ, zero, suc, ◌<◌, List, [], ◌∷◌, length, map, None, Some, option_map, slice_get, slice_set, refl, ap, arith}
 use Rattle.fz_base.specs.declared.value.Value.{Value}
 use Rattle.fz_meaning.specs.declared.kind.Kind.{Kind}
 use Rattle.fz_meaning.specs.Meaning.{FitVariables, IsPartial, Model, Partial, Variable, give, variables_of}
@@ -35,3 +35,11 @@ give_fits [] (o ∷ K) n v h e = absurd h
 give_fits (x ∷ xs) [] n v h e = absurd h
 give_fits (x ∷ xs) (o ∷ K) zero v h e = let same : kind_of v ≡ x.kind = cc in (same, h.1)
 give_fits (x ∷ xs) (o ∷ K) (suc n) v h e = (h.0, give_fits xs K n v h.1 e)
+
+pub less_fits : (xs : List Variable) (K : Partial) (n : ℕ) → FitVariables xs K
+    → FitVariables xs (slice_set K n None)
+less_fits [] [] n h = h
+less_fits [] (o ∷ K) n h = absurd h
+less_fits (x ∷ xs) [] n h = absurd h
+less_fits (x ∷ xs) (o ∷ K) zero h = (tt, h.1)
+less_fits (x ∷ xs) (o ∷ K) (suc n) h = (h.0, less_fits xs K n h.1)

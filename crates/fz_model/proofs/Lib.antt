@@ -1,6 +1,7 @@
 pub use Rattle.fz_meaning.proofs.Values
 pub use Rattle.fz_meaning.proofs.Lists
 pub use Rattle.fz_meaning.proofs.Partials
+pub use Rattle.fz_meaning.proofs.ScanSteps
 pub use Rattle.fz_meaning.proofs.Determined
 pub use Rattle.fz_meaning.proofs.Steps
 pub use Rattle.fz_meaning.proofs.Points

@@ -1,10 +1,11 @@
 use Rattle.std.proofs.Common.{◌<◌, ◌∙◌, length, subst, sym, ap}
-use Rattle.fz_model.specs.Meaning.{IsPartial, give, value_at}
-use Rattle.fz_explain.proofs.Steps.{given_back, less_fits, none_there, still_long}
+use Rattle.fz_model.specs.Meaning.{IsPartial, give, value_at, variables_of}
+use Rattle.fz_model.proofs.Partials.{less_fits}
+use Rattle.fz_explain.proofs.Steps.{given_back, none_there, still_long}
 use Rattle.fz_explain.proofs.giving.giver.Goals as goal
 
 pub first_giver-found-requires : goal.first_giver-found-requires
-first_giver-found-requires c = record { fits = subst (IsPartial c.args.model.now) (sym c.take_away.ensures.taken) (less_fits c.args.model.now c.args.filling.now c.args.variable c.requires.fits) }
+first_giver-found-requires c = record { fits = subst (IsPartial c.args.model.now) (sym c.take_away.ensures.taken) (less_fits (variables_of c.args.model.now) c.args.filling.now c.args.variable c.requires.fits) }
 
 pub set-requires-clause-in_range : goal.set-requires-clause-in_range
 set-requires-clause-in_range c =

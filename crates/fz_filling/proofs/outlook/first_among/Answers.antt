@@ -1,6 +1,7 @@
 use Rattle.std.proofs.Common.{is_some, sym, ap, ◌∙◌}
 use Rattle.fz_filling.specs.Outlooks.{first_other, open_other, slot_terms}
-use Rattle.fz_filling.proofs.Searching.{some_here, none_here, none_left, first_flat}
+use Rattle.fz_model.proofs.ScanSteps.{first_flat}
+use Rattle.fz_filling.proofs.Searching.{some_here, none_here, none_left}
 use Rattle.fz_filling.proofs.outlook.first_among.Goals as goal
 
 pub returns-then-is_some : goal.returns-then-is_some

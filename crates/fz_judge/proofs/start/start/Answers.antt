@@ -8,7 +8,7 @@ use Rattle.fz_verdict.specs.View.{located_items, located_printed}
 use Rattle.fz_judge.specs.declared.start.Proposed.{Proposed}
 use Rattle.fz_judge.specs.Working.{agree_all, item_scalars}
 use Rattle.fz_judge.proofs.Agreeing.{agree_item_more, and_true}
-use Rattle.fz_judge.proofs.Lists.{first_more, take_one_more}
+use Rattle.fz_model.proofs.ScanSteps.{first_more, take_one_more}
 use Rattle.fz_judge.proofs.Printing.{and_false}
 use Rattle.fz_judge.proofs.Refusing.{tells_stop}
 use Rattle.fz_model.proofs.Partials.{nothing_fits}
