@@ -9,6 +9,7 @@ use Rattle.fz_model.specs.Meaning as meaning
 use Rattle.fz_model.specs.Meaning.{Partial, first_some, terms_at, terms_in}
 use Rattle.fz_model.specs.Parts.{argument_view, place_view}
 use Rattle.fz_model.specs.Slots.{segment}
+use Rattle.fz_model.proofs.ScanSteps.{first_flat}
 use Rattle.fz_filling.specs.Outlooks.{first_other, open_other, slot_terms, terms_given}
 
 -- ---- the first answer

@@ -1,13 +1,12 @@
 -- The chain of the filling: the first step, and the end where each variable has a value.
-use Rattle.std.proofs.Common.{◌≡◌, ℕ, zero, suc, ◌<◌, ◌≤◌, ◌⊎◌, inl, inr, List, [], ◌∷◌, length, Option, Some, None, slice_get, IfSome, option_map, refl, sym, ap, subst, arith}
+use Rattle.std.proofs.Common.{◌≡◌, ℕ, zero, suc, ◌<◌, ◌≤◌, ◌⊎◌, inl, inr, List, [], ◌∷◌, length, Option, Some, None, slice_get, IfSome, sym, subst, arith}
 use Rattle.std.specs.List.{AllByRecursion}
 use Rattle.std.proofs.lemmas.Bool.{cases_lt}
 use Rattle.std.proofs.lemmas.Option.{slice_get_within}
 use Rattle.fz_base.specs.declared.value.Value.{Value}
-use Rattle.fz_model.specs.declared.Kind.{Kind}
-use Rattle.fz_model.specs.Meaning.{Model, Point, Partial, Variable, FitVariables, give, value_at, variables_of, points, IsPartial}
+use Rattle.fz_model.specs.Meaning.{Model, Point, Partial, give, value_at, variables_of, points, IsPartial}
 use Rattle.fz_model.specs.Partial.{unset_count}
-use Rattle.fz_model.specs.Steps.{Gives, GivesNothing, kind_at, terms_of}
+use Rattle.fz_model.specs.Steps.{Gives, GivesNothing, terms_of}
 use Rattle.fz_model.specs.Values.{kind_of}
 use Rattle.fz_model.proofs.Lists.{there_is}
 use Rattle.fz_model.proofs.Partials.{give_fits, has_place}

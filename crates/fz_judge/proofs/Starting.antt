@@ -1,5 +1,5 @@
 -- The start of a filling: printed values taken one after another.
-use Rattle.std.proofs.Common.{◌≡◌, ℕ, zero, suc, ◌+◌, ◌<◌, true, false, not, cond, ◌==◌, List, [], ◌∷◌, ◌++◌, map, length, Option, Some, None, option_map, slice_get, is_none, refl, sym, ap, subst, ◌∙◌, arith, add-zero, zero-add, append_assoc, eqb-true}
+use Rattle.std.proofs.Common.{◌≡◌, ℕ, zero, suc, ◌+◌, ◌<◌, true, false, not, cond, ◌==◌, List, [], ◌∷◌, ◌++◌, map, length, Option, Some, None, is_none, refl, sym, ap, subst, ◌∙◌, arith, add-zero, zero-add, append_assoc, eqb-true}
 use Rattle.std.proofs.lemmas.Bool.{eqb-false}
 use Rattle.std.specs.Prelude.{Bool}
 use Rattle.std.specs.List.{AllByRecursion}
@@ -16,9 +16,8 @@ use Rattle.fz_model.specs.Names.{literal_value}
 use Rattle.fz_model.specs.Partial.{nothing_for}
 use Rattle.fz_model.specs.Shown.{scalar_terms, what_place}
 use Rattle.fz_model.specs.Slots.{scalar_term}
-use Rattle.fz_model.specs.Meaning.{Place, Variable, Model, Partial, give, value_at, variables_of, first_some, FitVariables, IsPartial}
+use Rattle.fz_model.specs.Meaning.{Place, Variable, Model, Partial, give, value_at, variables_of, first_some, IsPartial}
 use Rattle.fz_model.specs.Meaning.Place.{Scalar, Array}
-use Rattle.fz_model.specs.Steps.{kind_at}
 use Rattle.fz_model.specs.Values.{kind_of, same_kind}
 use Rattle.fz_model.proofs.Lists.{all_map}
 use Rattle.fz_model.proofs.Partials.{fits_length, give_fits, has_place}
