@@ -11,9 +11,9 @@ use Rattle.fz_meaning.specs.Known.{HasTruth, form_at}
 use Rattle.fz_meaning.specs.Builtins.ArgValue.{OneValue}
 use Rattle.fz_meaning.specs.Meaning.{Argument, Partial, row_holds}
 use Rattle.fz_meaning.proofs.TableRows.{AreRead, implied_holds, reified_holds}
-use Rattle.fz_kernel.specs.of_view.Given.{given, given_from, given_values, bool_at, read_leave}
-use Rattle.fz_eval.specs.Outcomes.{row_outcome, sum_outcome, compared, implied_by}
-use Rattle.fz_eval.proofs.Rows.{outcome_is, reads}
+use Rattle.fz_builtins.specs.of_view.Given.{given, given_from, given_values, bool_at, read_leave}
+use Rattle.fz_builtins.specs.Outcomes.{row_outcome, sum_outcome, compared, implied_by}
+use Rattle.fz_builtins.proofs.Rows.{outcome_is, reads}
 
 -- the values that are given are read as they are
 given_read : (K : Partial) (xs : List Argument) (i : ℕ) (s : Shape)

@@ -13,11 +13,11 @@ use Rattle.fz_meaning.specs.declared.known.Form.TheVariants.{Base, Reified, Impl
 use Rattle.fz_meaning.specs.declared.known.Known.{Known}
 use Rattle.fz_meaning.specs.Known.{form_at, known_row}
 use Rattle.fz_meaning.proofs.FoundRows.{each_builtin}
-use Rattle.fz_kernel.specs.of_view.Given.{are_read, are_given, has_value, given_values, read_leave}
-use Rattle.fz_kernel.proofs.of_view.Ready.{ready_values, values_given, values_some, wrong_kind}
-use Rattle.fz_kernel.proofs.of_view.Sums.{are_ints, sums_leave_are, sums_with_bool}
-use Rattle.fz_eval.specs.Outcomes.{row_outcome, sum_outcome, told}
-use Rattle.fz_eval.proofs.Rows.{outcome_is}
+use Rattle.fz_builtins.specs.of_view.Given.{are_read, are_given, has_value, given_values, read_leave}
+use Rattle.fz_builtins.proofs.of_view.Ready.{ready_values, values_given, values_some, wrong_kind}
+use Rattle.fz_builtins.proofs.of_view.Sums.{are_ints, sums_leave_are, sums_with_bool}
+use Rattle.fz_builtins.specs.Outcomes.{row_outcome, sum_outcome, told}
+use Rattle.fz_builtins.proofs.Rows.{outcome_is}
 
 -- ---- a row adds products of arrays of numbers
 

@@ -30,8 +30,8 @@ use Rattle.fz_data.specs.declared.point.PointParts.{PointParts}
 use Rattle.fz_data.specs.declared.point.PointParts.TheVariants as parts
 use Rattle.fz_data.specs.Parts.{constraint_view, variable_view}
 use Rattle.fz_data.specs.Shown.{IfConstraint}
-use Rattle.fz_kernel.specs.of_view.Given.{is_read, argument_is_read, are_read}
-use Rattle.fz_kernel.proofs.of_view.Ready.{slots_are_terms}
+use Rattle.fz_builtins.specs.of_view.Given.{is_read, argument_is_read, are_read}
+use Rattle.fz_builtins.proofs.of_view.Ready.{slots_are_terms}
 use Rattle.fz_eval.specs.Holding.{is_held, point_holds}
 use Rattle.fz_eval.specs.Whole.{IsReady, is_domain, kind_in, lies_inside, lie_inside}
 use Rattle.fz_eval.proofs.States.{row_fits}

@@ -1,6 +1,6 @@
-pub mod Readings
-pub mod Outcomes
 pub mod Holding
 pub mod Whole
 pub mod Overviews
-pub use Rattle.fz_kernel.specs.of_view
+pub use Rattle.fz_builtins.specs.Readings
+pub use Rattle.fz_builtins.specs.Outcomes
+pub use Rattle.fz_builtins.specs.of_view

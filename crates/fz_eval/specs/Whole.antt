@@ -8,7 +8,7 @@ use Rattle.fz_meaning.specs.Builtins.{Row, Shape}
 use Rattle.fz_meaning.specs.Builtins.Shape.{ScalarOf, ArrayOf}
 use Rattle.fz_meaning.specs.Meaning.{Partial, Point, Posted, Variable, inside, row_of}
 use Rattle.fz_meaning.specs.Meaning.Point.{DomainPoint, DefinitionPoint, ArrayPoint, ConstraintPoint}
-use Rattle.fz_kernel.specs.of_view.Given.{are_read}
+use Rattle.fz_builtins.specs.of_view.Given.{are_read}
 
 -- there is a value of the variable's kind, and it lies in the variable's domain
 abbrev pub lies_inside : Variable → Option Value → Bool

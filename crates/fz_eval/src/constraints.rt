@@ -6,17 +6,15 @@ ghost use Rattle.fz_meaning.specs.Meaning.{have_shapes, row_of, state_of_row};
 ghost use Rattle.fz_meaning.specs.Builtins.{row_at};
 ghost use Rattle.fz_meaning.specs.Known.{HasTruth, known_row};
 ghost use Rattle.fz_data.specs.Parts.{constraint_view};
-ghost use Rattle.fz_kernel.specs.of_view.Given.{are_read, read_leave};
-ghost use Rattle.fz_kernel.specs.of_view.Views.{arguments_of, assigned};
-ghost use Rattle.fz_eval.specs.Outcomes.{row_outcome};
-ghost use Rattle.fz_eval.specs.Readings.{truth};
+ghost use Rattle.fz_builtins.specs.of_view.Given.{are_read, read_leave};
+ghost use Rattle.fz_builtins.specs.of_view.Views.{arguments_of, assigned};
+ghost use Rattle.fz_builtins.specs.Outcomes.{row_outcome};
+ghost use Rattle.fz_builtins.specs.Readings.{truth};
 ghost use Rattle.fz_eval.specs.Whole.{IsReady};
 
-use crate::builtins::of_builtin;
-use crate::outcome::Outcome;
-use crate::sums::products_leave;
+use fz_builtins::fz_arguments::{ArgumentView, Readiness};
+use fz_builtins::{Outcome, of_builtin, products_leave};
 use fz_data::{ConstraintParts, Partial};
-use fz_kernel::fz_arguments::{ArgumentView, Readiness};
 use fz_meaning::{Form, Known, State};
 use std::alloc::{AllocError, Global};
 

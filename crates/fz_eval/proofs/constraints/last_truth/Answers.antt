@@ -1,8 +1,8 @@
 use Rattle.std.proofs.Common.{ap, ◌∙◌, arith}
 use Rattle.fz_meaning.specs.Builtins.{row_at}
 use Rattle.fz_meaning.proofs.WithTruth.{last_place, one_more}
-use Rattle.fz_kernel.specs.of_view.Given.{bool_at}
-use Rattle.fz_kernel.specs.of_view.Views.{arguments_of, assigned}
+use Rattle.fz_builtins.specs.of_view.Given.{bool_at}
+use Rattle.fz_builtins.specs.of_view.Views.{arguments_of, assigned}
 use Rattle.fz_eval.proofs.Known.{form_shapes}
 use Rattle.fz_eval.proofs.constraints.last_truth.Goals as goal
 

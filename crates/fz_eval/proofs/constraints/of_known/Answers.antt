@@ -1,9 +1,9 @@
 use Rattle.std.proofs.Common.{length, sym, ap, ◌∙◌}
 use Rattle.fz_meaning.specs.Builtins.{row_at}
 use Rattle.fz_meaning.specs.Known.{form_at}
-use Rattle.fz_kernel.specs.of_view.Views.{arguments_of, assigned}
-use Rattle.fz_eval.specs.Outcomes.{row_outcome, compared, implied_by}
-use Rattle.fz_eval.specs.Readings.{truth}
+use Rattle.fz_builtins.specs.of_view.Views.{arguments_of, assigned}
+use Rattle.fz_builtins.specs.Outcomes.{row_outcome, compared, implied_by}
+use Rattle.fz_builtins.specs.Readings.{truth}
 use Rattle.fz_eval.proofs.Known.{reified_outcome, implied_outcome}
 use Rattle.fz_eval.proofs.constraints.of_known.Goals as goal
 

@@ -1,6 +1,6 @@
 use Rattle.std.proofs.Common.{ap, ◌∙◌}
-use Rattle.fz_kernel.specs.of_view.Views.{arguments_of, assigned}
-use Rattle.fz_eval.specs.Outcomes.{told}
+use Rattle.fz_builtins.specs.of_view.Views.{arguments_of, assigned}
+use Rattle.fz_builtins.specs.Outcomes.{told}
 use Rattle.fz_eval.proofs.States.{of_ready}
 use Rattle.fz_eval.proofs.constraints.of_ready.Goals as goal
 

@@ -1,7 +1,7 @@
 use Rattle.std.proofs.Common.{cond, sym, ap, ◌∙◌}
 use Rattle.fz_meaning.specs.declared.state.State.TheVariants.{Fails, TooLarge}
-use Rattle.fz_kernel.specs.of_view.Given.{are_read}
-use Rattle.fz_kernel.specs.of_view.Views.{arguments_of, assigned}
+use Rattle.fz_builtins.specs.of_view.Given.{are_read}
+use Rattle.fz_builtins.specs.of_view.Views.{arguments_of, assigned}
 use Rattle.fz_eval.proofs.States.{missing, of_wrong_kind}
 use Rattle.fz_eval.proofs.constraints.of_view.Goals as goal
 

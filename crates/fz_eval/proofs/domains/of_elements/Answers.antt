@@ -4,7 +4,7 @@ use Rattle.fz_meaning.specs.declared.state.State.TheVariants.{Holds, Fails, NoVa
 use Rattle.fz_meaning.specs.Meaning.{is_outside, judged_by, values}
 use Rattle.fz_data.specs.Shown.{scalar_terms}
 use Rattle.fz_data.specs.Slots.{slot_term}
-use Rattle.fz_kernel.specs.of_view.Given.{has_value}
+use Rattle.fz_builtins.specs.of_view.Given.{has_value}
 use Rattle.fz_eval.proofs.States.{any_after, none_outside}
 use Rattle.fz_eval.proofs.domains.of_elements.Goals as goal
 

@@ -4,7 +4,7 @@ ghost use Rattle.std.specs.Prelude.{◌≡◌, not, ◌&&◌, ◌||◌, length, 
 ghost use Rattle.std.specs.List.{list_all, list_any, filter};
 ghost use Rattle.fz_meaning.specs.Values.{◌=ℤ◌, ◌=ᴮ◌, ◌=ˢ◌};
 ghost use Rattle.fz_meaning.specs.Builtins.{all_different, is_among, is_element, is_odd, total, where_true};
-ghost use Rattle.fz_eval.specs.Readings.{int, ints, numbers, sets_of, truth, truths};
+ghost use Rattle.fz_builtins.specs.Readings.{int, ints, numbers, sets_of, truth, truths};
 
 use fz_kernel::arrays::{
     all_elements_different, all_true, any_true, clause_holds, is_bool_element, is_int_element,

@@ -5,7 +5,7 @@ ghost use Rattle.std.specs.List.{list_any, filter};
 ghost use Rattle.fz_meaning.specs.Values.{◌=ℤ◌, ◌=ᴮ◌};
 ghost use Rattle.fz_meaning.specs.Builtins.{all_different, is_among};
 ghost use Rattle.fz_meaning.specs.Globals.{count_of, count_in, values_of, is_nonzero};
-ghost use Rattle.fz_eval.specs.Readings.{int, ints, numbers, truth, truths};
+ghost use Rattle.fz_builtins.specs.Readings.{int, ints, numbers, truth, truths};
 
 use fz_globals::counts;
 use fz_globals::counts::{count_in, count_of, is_listed, is_truth_listed, nonzero_are_different};

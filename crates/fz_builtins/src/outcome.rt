@@ -2,7 +2,7 @@
 
 ghost use Rattle.std.specs.Prelude.{◌≡◌, not, ◌||◌};
 ghost use Rattle.fz_meaning.specs.Values.{◌=ᴮ◌};
-ghost use Rattle.fz_eval.specs.Outcomes.{compared, implied_by, told};
+ghost use Rattle.fz_builtins.specs.Outcomes.{compared, implied_by, told};
 
 use fz_meaning::State;
 
@@ -15,7 +15,7 @@ pub enum Outcome {
 
 impl Outcome {
     /// Of a reified row: whether the Boolean is true exactly where the base row holds.
-    pub(crate) fn compared(self, truth: bool) -> Outcome
+    pub fn compared(self, truth: bool) -> Outcome
         ensures { result ≡ compared truth self }
     {
         match self {
@@ -25,7 +25,7 @@ impl Outcome {
     }
 
     /// Of a half-reified row: whether the base row holds or the Boolean is false.
-    pub(crate) fn implied_by(self, truth: bool) -> Outcome
+    pub fn implied_by(self, truth: bool) -> Outcome
         ensures { result ≡ implied_by truth self }
     {
         match self {
@@ -35,7 +35,7 @@ impl Outcome {
     }
 
     /// The state of a constraint with this outcome.
-    pub(crate) fn told(self) -> State
+    pub fn told(self) -> State
         ensures { result ≡ told self }
     {
         match self {

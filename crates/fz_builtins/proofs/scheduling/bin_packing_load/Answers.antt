@@ -3,8 +3,8 @@ use Rattle.std.proofs.lemmas.Int.{to_z-of_z}
 use Rattle.std.specs.List.{list_all}
 use Rattle.fz_meaning.specs.Globals.{lies_between, loads_are}
 use Rattle.fz_kernel.specs.of_view.Views.{arguments_of, assigned, ints}
-use Rattle.fz_eval.proofs.ElementReadings.{ints_are}
-use Rattle.fz_eval.proofs.scheduling.bin_packing_load.Goals as goal
+use Rattle.fz_builtins.proofs.ElementReadings.{ints_are}
+use Rattle.fz_builtins.proofs.scheduling.bin_packing_load.Goals as goal
 
 abbrev packed : ℤ → List ℤ → List ℤ → List ℤ → Bool
 packed o bins weights loads = list_all (lies_between o ((o +ℤ pos (length loads)) -ℤ pos 1)) bins && loads_are o bins weights loads

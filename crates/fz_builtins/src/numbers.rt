@@ -3,7 +3,7 @@
 ghost use Rattle.std.specs.Prelude.{◌≡◌, pos, ◌+ℤ◌, ◌*ℤ◌, not, ◌&&◌, int_le, int_lt, int_div, int_rem, unsigned_abs};
 ghost use Rattle.std.specs.Int.{int_min, int_max};
 ghost use Rattle.fz_meaning.specs.Values.{◌=ℤ◌};
-ghost use Rattle.fz_eval.specs.Readings.{int};
+ghost use Rattle.fz_builtins.specs.Readings.{int};
 
 use fz_kernel::fz_arguments::ArgumentView;
 use fz_kernel::numbers::{

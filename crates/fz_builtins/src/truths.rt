@@ -3,7 +3,7 @@
 ghost use Rattle.std.specs.Prelude.{◌≡◌, not, ◌&&◌, ◌||◌};
 ghost use Rattle.fz_meaning.specs.Values.{◌=ℤ◌, ◌=ᴮ◌};
 ghost use Rattle.fz_meaning.specs.Builtins.{as_number};
-ghost use Rattle.fz_eval.specs.Readings.{int, truth};
+ghost use Rattle.fz_builtins.specs.Readings.{int, truth};
 
 use fz_kernel::fz_arguments::ArgumentView;
 use fz_kernel::numbers::number_of_truth;

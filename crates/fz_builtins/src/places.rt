@@ -3,7 +3,7 @@
 ghost use Rattle.std.specs.Prelude.{◌≡◌, int_le, IfOk};
 ghost use Rattle.fz_meaning.specs.Values.{◌=ℤ◌, ◌=ᴮ◌};
 ghost use Rattle.fz_meaning.specs.Globals.{as_places, is_circuit, is_subcircuit, are_inverse, is_row_of, is_word, is_index_of_best};
-ghost use Rattle.fz_eval.specs.Readings.{int, ints, numbers, truths};
+ghost use Rattle.fz_builtins.specs.Readings.{int, ints, numbers, truths};
 
 use fz_globals::best_index::{is_index_of_maximum, is_index_of_minimum};
 use fz_globals::tables::{is_bool_row, is_int_row};

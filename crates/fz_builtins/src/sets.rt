@@ -4,7 +4,7 @@ ghost use Rattle.std.specs.Prelude.{◌≡◌, pos, not};
 ghost use Rattle.std.specs.FinSet as sets;
 ghost use Rattle.fz_base.specs.Sets.{symmetric_difference};
 ghost use Rattle.fz_meaning.specs.Values.{◌=ℤ◌, ◌=ˢ◌};
-ghost use Rattle.fz_eval.specs.Readings.{int, numbers};
+ghost use Rattle.fz_builtins.specs.Readings.{int, numbers};
 
 use fz_kernel::fz_arguments::ArgumentView;
 use fz_kernel::sets::{

@@ -5,7 +5,7 @@ use Rattle.std.proofs.Math.Bool.{or-false}
 use Rattle.std.specs.List.{list_any}
 use Rattle.fz_meaning.specs.declared.kind.Kind.TheVariants.{Int as IntKind, Bool as BoolKind, Set as SetKind}
 use Rattle.fz_meaning.specs.declared.builtin.Builtin.{Builtin}
-use Rattle.fz_eval.specs.declared.outcome.Outcome.{Outcome}
+use Rattle.fz_builtins.specs.declared.outcome.Outcome.{Outcome}
 use Rattle.fz_meaning.specs.Builtins.{row_at, Row, Shape, Test, passes, read}
 use Rattle.fz_meaning.specs.Builtins.Shape.{ScalarOf, ArrayOf}
 use Rattle.fz_meaning.specs.Meaning.{Argument, Partial, row_holds}
@@ -13,7 +13,7 @@ use Rattle.fz_meaning.proofs.TableRows.{plain_ints, plain_bools, plain_sets}
 use Rattle.fz_kernel.specs.of_view.Given.{given, given_from, given_values, ints_at, bools_at, sets_at, read_leave}
 use Rattle.fz_kernel.specs.of_view.Views.{arguments_of, assigned}
 use Rattle.fz_kernel.specs.of_view.declared.view.ArgumentView.{ArgumentView}
-use Rattle.fz_eval.specs.Outcomes.{argument_at, row_outcome, sum_outcome, test_from}
+use Rattle.fz_builtins.specs.Outcomes.{argument_at, row_outcome, sum_outcome, test_from}
 
 pub reads : (K : Partial) (xs : List Argument) (i : ℕ) (s : Shape)
     → read s (given K xs i s) ≡ Some (argument_at K xs i s)

@@ -2,7 +2,7 @@
 
 ghost use Rattle.std.specs.Prelude.{◌≡◌, ◌&&◌, IfOk};
 ghost use Rattle.fz_meaning.specs.Globals.{counts_are, counts_lie, is_closed};
-ghost use Rattle.fz_eval.specs.Readings.{ints};
+ghost use Rattle.fz_builtins.specs.Readings.{ints};
 
 use fz_globals::cover::{counts_are, counts_lie, is_closed};
 use fz_kernel::fz_arguments::ArgumentView;

@@ -3,7 +3,7 @@
 ghost use Rattle.std.specs.Prelude.{◌≡◌, IfOk};
 ghost use Rattle.fz_meaning.specs.Builtins.{row_at};
 ghost use Rattle.fz_kernel.specs.of_view.Views.{arguments_of, assigned};
-ghost use Rattle.fz_eval.specs.Outcomes.{row_outcome};
+ghost use Rattle.fz_builtins.specs.Outcomes.{row_outcome};
 
 use crate::outcome::Outcome;
 use crate::{

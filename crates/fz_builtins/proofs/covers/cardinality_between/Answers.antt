@@ -1,8 +1,8 @@
 use Rattle.std.proofs.Common.{◌≡◌, IfOk, subst}
 use Rattle.fz_meaning.specs.Globals.{counts_lie}
 use Rattle.fz_kernel.specs.of_view.Views.{arguments_of, assigned}
-use Rattle.fz_eval.proofs.ElementReadings.{ints_are}
-use Rattle.fz_eval.proofs.covers.cardinality_between.Goals as goal
+use Rattle.fz_builtins.proofs.ElementReadings.{ints_are}
+use Rattle.fz_builtins.proofs.covers.cardinality_between.Goals as goal
 
 pub returns : goal.returns
 returns c =

@@ -1,10 +1,10 @@
 use Rattle.std.proofs.Common.{ap, ◌∙◌}
 use Rattle.fz_meaning.specs.declared.builtin.Builtin.TheVariants as builtin
 use Rattle.fz_meaning.specs.Builtins.{row_at}
-use Rattle.fz_eval.specs.declared.outcome.Outcome.TheVariants.{Truth}
-use Rattle.fz_eval.specs.Outcomes.{row_outcome}
-use Rattle.fz_eval.proofs.Rows.{arm, one_sum, two_sums}
-use Rattle.fz_eval.proofs.builtins.of_builtin.Goals as goal
+use Rattle.fz_builtins.specs.declared.outcome.Outcome.TheVariants.{Truth}
+use Rattle.fz_builtins.specs.Outcomes.{row_outcome}
+use Rattle.fz_builtins.proofs.Rows.{arm, one_sum, two_sums}
+use Rattle.fz_builtins.proofs.builtins.of_builtin.Goals as goal
 
 pub returns-in-IntEq : goal.returns-in-IntEq
 unfolding row_outcome row_at

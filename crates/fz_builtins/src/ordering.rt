@@ -3,7 +3,7 @@
 ghost use Rattle.std.specs.Prelude.{◌≡◌, not, pos, int_le, int_lt, ◌&&◌, ◌||◌, IfOk};
 ghost use Rattle.fz_meaning.specs.Values.{◌=ℤ◌, ◌=ᴮ◌};
 ghost use Rattle.fz_meaning.specs.Globals.{all_neighbours, is_sorted_form, is_before, precedes, rises_by_one};
-ghost use Rattle.fz_eval.specs.Readings.{int, ints, truths};
+ghost use Rattle.fz_builtins.specs.Readings.{int, ints, truths};
 
 use fz_globals::lexical::{
     bools_are_before, bools_are_not_behind, ints_are_before, ints_are_not_behind,

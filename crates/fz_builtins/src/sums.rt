@@ -4,8 +4,8 @@ ghost use Rattle.std.specs.Prelude.{◌≡◌, ◌||◌, int_le, not};
 ghost use Rattle.fz_meaning.specs.Values.{◌=ℤ◌};
 ghost use Rattle.fz_meaning.specs.Builtins.{leaves_128, products, total};
 ghost use Rattle.fz_meaning.specs.Globals.{is_knapsack};
-ghost use Rattle.fz_eval.specs.Outcomes.{sum_outcome};
-ghost use Rattle.fz_eval.specs.Readings.{int, ints};
+ghost use Rattle.fz_builtins.specs.Outcomes.{sum_outcome};
+ghost use Rattle.fz_builtins.specs.Readings.{int, ints};
 
 use crate::outcome::Outcome;
 use fz_globals::packed::is_knapsack;
@@ -60,7 +60,7 @@ pub(crate) fn knapsack(view: &ArgumentView<'_, '_>) -> Outcome
 }
 
 /// Whether a partial sum of the products of two arrays leaves 128 bits.
-pub(crate) fn products_leave(view: &ArgumentView<'_, '_>, first: usize, second: usize) -> bool
+pub fn products_leave(view: &ArgumentView<'_, '_>, first: usize, second: usize) -> bool
     ensures { result ≡ leaves_128 (products (ints view.now first) (ints view.now second)) }
 {
     sum_of_products(&view.elements(first), &view.elements(second)).is_none()
