@@ -5,11 +5,11 @@ ghost use Rattle.std.specs.List.{list_all, zip};
 ghost use Rattle.fz_meaning.specs.Globals.{is_cumulative, is_disjunctive, is_strictly_disjunctive, boxes, overlap_nowhere, overlap_in_no_area, load_of, lies_between, loads_are, slides_between};
 ghost use Rattle.fz_builtins.specs.Readings.{int, ints};
 
-use fz_globals::bins::{loads_are_given, loads_are_within};
-use fz_globals::boxes::{overlap_in_no_area, overlap_nowhere};
-use fz_globals::slides::slides_between;
-use fz_globals::tasks::{is_cumulative, is_disjunctive, is_strictly_disjunctive};
 use fz_kernel::fz_arguments::ArgumentView;
+use fz_scheduling::bins::{loads_are_given, loads_are_within};
+use fz_scheduling::boxes::{overlap_in_no_area, overlap_nowhere};
+use fz_scheduling::slides::slides_between;
+use fz_scheduling::tasks::{is_cumulative, is_disjunctive, is_strictly_disjunctive};
 
 /// Whether the tasks that run at one time never use more than there is.
 pub(crate) fn cumulative(view: &ArgumentView<'_, '_>) -> bool

@@ -8,9 +8,9 @@ ghost use Rattle.fz_builtins.specs.Outcomes.{sum_outcome};
 ghost use Rattle.fz_builtins.specs.Readings.{int, ints};
 
 use crate::outcome::Outcome;
-use fz_globals::packed::is_knapsack;
 use fz_kernel::arrays::sum_of_products;
 use fz_kernel::fz_arguments::ArgumentView;
+use fz_scheduling::packed::is_knapsack;
 
 /// Whether the sum of products is the third argument.
 pub(crate) fn int_lin_eq(view: &ArgumentView<'_, '_>) -> Outcome

@@ -1,4 +1,3 @@
 pub mod Held
 pub mod Keys
-pub mod Places
 pub use Rattle.fz_kernel.specs.of_view

@@ -1,8 +1,0 @@
-use Rattle.std.specs.List.{zip}
-use Rattle.fz_meaning.specs.Values.{◌=ℤ◌}
-use Rattle.fz_kernel.specs.of_view.Views.{ints}
-use Rattle.fz_globals.proofs.Chosen.{IsChosen}
-use Rattle.fz_globals.proofs.bins.load_of.Given as goal
-
-abbrev pub invariant-loop-place : goal.invariant-loop-place
-invariant-loop-place l = IsChosen (λ b. b =ℤ l.bin) (zip (ints l.bins) (ints l.weights)) l.place l.load

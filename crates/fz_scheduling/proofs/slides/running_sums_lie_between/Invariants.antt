@@ -1,0 +1,6 @@
+use Rattle.fz_kernel.specs.of_view.Views.{ints}
+use Rattle.fz_scheduling.proofs.Windowed.{Slides}
+use Rattle.fz_scheduling.proofs.slides.running_sums_lie_between.Given as goal
+
+abbrev pub invariant-loop-start : goal.invariant-loop-start
+invariant-loop-start l = Slides l.low l.high l.width (ints l.xs) l.start l.sum
