@@ -1,6 +1,7 @@
 //! The builtins of THE TABLE: whether a builtin's row holds of the values that an argument view
-//! gives (`of_builtin`). A row has a function that reads its arguments and asks `fz_kernel`,
-//! `fz_globals` or `fz_scheduling` for the relation. An internal crate of `fz_model`.
+//! gives, or that a sum of it leaves 128 bits (`of_builtin`). A row has a function that reads its
+//! arguments, and asks `fz_kernel`, `fz_globals` or `fz_scheduling` for the relation. An internal
+//! crate of `fz_model`.
 //!
 //! Its worked cases are in `fz_check_cases` (`builtins.rt` and `globals.rt`).
 #![tactic(auto)]

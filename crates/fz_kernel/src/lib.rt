@@ -1,6 +1,6 @@
 //! The relations of FlatZinc's builtins, each exactly as THE TABLE (`fz_meaning`'s `Builtins`) has
 //! it: over numbers and sets, and over the elements of arrays under a partial assignment. An
-//! internal crate of `fz_model`: `fz_eval` decides with these relations whether a constraint holds,
+//! internal crate of `fz_model`: `fz_builtins` decides with these relations whether a row holds,
 //! and `fz_force` which value it leaves.
 //!
 //! Numbers go in as 64 bits and are computed with exactly: nothing wraps, and only a sum of

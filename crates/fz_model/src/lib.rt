@@ -1,9 +1,10 @@
 //! Models of FlatZinc: what they mean, loading them, the state of a point and the step that it
 //! forces. This crate is a facade over its internal crates, with no code of its own: `fz_meaning`
 //! has the definitions, the table of builtins and the laws, and `fz_data` the loaded model;
-//! `fz_arguments` reads the arguments of a constraint, `fz_kernel` and `fz_globals` have the
-//! relations of the builtins and of the global constraints, `fz_eval` tells the state of a point,
-//! and `fz_force` the step that it forces.
+//! `fz_arguments` reads the arguments of a constraint; `fz_kernel`, `fz_globals` and
+//! `fz_scheduling` have the relations of the builtins and of the global constraints; `fz_builtins`
+//! tells whether a row of THE TABLE holds, `fz_eval` the state of a point, and `fz_force` the step
+//! that it forces.
 //!
 //! Its worked cases are in `fz_check_cases`.
 #![tactic(auto)]
