@@ -6,7 +6,7 @@ use Rattle.fz_syntax.specs.Text.{IsTextOfTree}
 use Rattle.fz_syntax.specs.Tokens.{toks}
 use Rattle.fz_syntax.specs.View.{bare}
 use Rattle.fz_syntax.specs.declared.Ast as the_ast
-use Rattle.fz_syntax.proofs.PrintBack.{read_can_be_written}
+use Rattle.fz_printer.proofs.PrintBack.{read_can_be_written}
 use Rattle.fz_model.specs.Names.{HasNoFault}
 use Rattle.fz_model.specs.Located.{bare_of}
 use Rattle.fz_model.specs.View.{located}
