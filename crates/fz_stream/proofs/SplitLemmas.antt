@@ -147,12 +147,10 @@ module _ (bytes : List ℕ) (parts : List StreamPart) (held : List ℕ) (h : Kee
       breaks begun cannot fault tells rest = record {
         gap = h.gap;
         body = body;
-        line = line;
-        rest = lines_of rest;
+        rest = line ∷ lines_of rest;
         stands = record { covers = record { covered = h.covered; whole = lines; of_parts = h.of_parts }; fillers = h.fillers; own = own };
         begun = begun;
-        ends = ends;
-        breaks = cannot;
+        breaks = (ends, cannot);
         tells = tells;
       }
         where

@@ -56,9 +56,8 @@ GoesOnHolding old new body line = DropsLine new body line ⊎ JoinsLine old new 
 -- what a part that ended is; of a block, with this offset and text
 abbrev pub EndedAs : Ended → ℕ → List ℕ → StreamPart → Type 0
 EndedAs BlockEnded offset text (BlockPart block) = (block.offset ≡ offset) × (block.text ≡ text)
-EndedAs BlockEnded offset text (ClaimPart kind) = ⊥
-EndedAs (ClaimEnded kind) offset text (BlockPart block) = ⊥
 EndedAs (ClaimEnded kind) offset text (ClaimPart other) = kind ≡ other
+EndedAs _ offset text _ = ⊥
 
 -- The lines that are held are those of a part, with blank lines and comments before it.
 pub record EndsPart (h : Held) (body : List Line) (line : Line) (ended : Ended) : Type 0 where
@@ -83,9 +82,8 @@ pub record IsWaiting (text : List ℕ) (kept : Option KeptItems) : Type 0 where
 
 -- where a block waits, its items are stored or were released
 abbrev pub IsKept : Option Ended → Held → Type 0
-IsKept None h = Unit {0}
 IsKept (Some BlockEnded) h = IsWaiting (take h.line h.buffer.items) h.kept
-IsKept (Some (ClaimEnded kind)) h = Unit {0}
+IsKept _ h = Unit {0}
 
 -- All of the piece was taken, and no part ended.
 pub record KeepsAll (old new : Held) (piece : List ℕ) (n : ℕ) : Type 0 where

@@ -13,7 +13,7 @@ use Rattle.fz_stream.specs.Broken.{StopsAfter}
 use Rattle.fz_stream.specs.Parts.{StreamPart, IsBlockText, IsStreamText}
 use Rattle.fz_stream.specs.declared.line.ClaimKind.{ClaimKind}
 use Rattle.fz_stream.specs.declared.reading.Claim.{Claim}
-use Rattle.fz_stream.specs.Step.{step_of, IsBlockFault}
+use Rattle.fz_stream.specs.Step.{step_of, IsLineFault}
 use Rattle.fz_stream.specs.declared.error.StreamError.{StreamError}
 use Rattle.fz_stream.specs.declared.error.StreamError.TheVariants.{TooLong, Memory}
 use Rattle.fz_stream.specs.declared.step.Step.TheVariants.{EndsBlock, Breaks}
@@ -36,7 +36,7 @@ returns-in_err-block-in-EndsBlock-clause-too_long c =
     let p = err_from_is_err_and c.from_residual.result c.from_residual.ensures.1 in (
       λ h. (
           let same : p.0 ≡ TooLong = cc in
-          absurd (subst IsBlockFault (sym p.2 ∙ same) c.in_err-block-in-EndsBlock.ensures.fault)),
+          absurd (subst IsLineFault (sym p.2 ∙ same) c.in_err-block-in-EndsBlock.ensures.fault)),
       λ long. absurd (omega (arith, long)),
     )
 
