@@ -1,5 +1,7 @@
 -- What `feed` promises, from what its parts do.
 use Rattle.std.proofs.Common.{◌≡◌, ℕ, ◌+◌, ◌≤◌, Option, Some, None, List, [], ◌∷◌, ◌++◌, length, take, refl, sym, ◌∙◌, subst, inl, inr, arith, append-nil, length-append, length-take, IsSome}
+use Rattle.std.specs.List.{AllByRecursion}
+use Rattle.fz_stream.specs.Lines.{EndsWithFeed}
 use Rattle.fz_stream.specs.declared.splitter.Stage.{Stage}
 use Rattle.fz_stream.specs.declared.splitter.Stage.TheVariants.{Running}
 use Rattle.fz_stream.specs.declared.held.Ended.{Ended}
@@ -81,7 +83,7 @@ module _ (s : SplitterState) (old new : Held) (piece : List ℕ) (n : ℕ) (stag
         fits = record {
           running = running;
           taken = omega (arith, count, taken, f.taken, length-append bytes (take n piece), length-take n piece, within);
-          holds = holds_current _ _ _ t.keeps [] tt tt [] refl tt;
+          holds = record { gap = []; body = []; current = []; stands = record { covers = t.completes; fillers = tt; own = tt }; ended = subst (AllByRecursion EndsWithFeed) (sym (append-nil _)) t.are_whole; goes_on = tt; held_are = refl };
           waits = waits_for e _ _ parts t.part t.is;
         };
         completes = t.completes;

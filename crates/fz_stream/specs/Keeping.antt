@@ -98,17 +98,22 @@ pub record TakesPart (new : Held) (bytes taken : List ℕ) (parts : List StreamP
   pub part : StreamPart
   pub is : EndedAs ended new.before (take new.line new.buffer.items) part
   pub completes : Covers (bytes ++ taken) (parts ++ part ∷ []) []
-  pub keeps : Keeps (bytes ++ taken) (parts ++ part ∷ []) []
+  pub are_whole : AllByRecursion EndsWithFeed completes.covered
+
+-- A block is open, and what is held is its lines, the body, of which the first begins at the offset.
+pub record IsLeftOpen (h : Held) (offset : ℕ) (body : List Line) : Type 0 where
+  pub line : h.line ≢ 0
+  pub some : body ≢ []
+  pub place : h.before ≡ offset
+  pub size : length h.buffer.items ≡ length (joined body)
 
 -- At the end of the stream a block is open whose lines are the body, or none is.
 pub record EndsOpen (h : Held) (bytes : List ℕ) (parts : List StreamPart) : Type 0 where
   pub gap : List Line
   pub body : List Line
   pub stands : GoesOnAfter bytes parts gap body []
-  pub none : h.line ≡ 0 → body ≡ []
-  pub some : h.line ≢ 0 → body ≢ []
-  pub place : h.line ≢ 0 → h.before ≡ length (joined stands.covers.covered) + length (joined gap)
-  pub size : h.line ≢ 0 → length h.buffer.items ≡ length (joined body)
+  pub left : ((h.line ≡ 0) × (body ≡ []))
+      ⊎ IsLeftOpen h (length (joined stands.covers.covered) + length (joined gap)) body
 
 -- At the end of the stream the bytes are a text of the parts, and of one more where one ended.
 abbrev pub EndsStream : Held → List ℕ → List StreamPart → Option Ended → Type 0

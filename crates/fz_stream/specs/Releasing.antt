@@ -1,6 +1,6 @@
 -- The items that a splitter releases. That they are those of the block that waits is a promise of
 -- `release` and a premise of `lend`.
-use Rattle.std.specs.Prelude.{Option, Some, None}
+use Rattle.std.specs.Prelude.{Option, Some}
 use Rattle.fz_stream.specs.declared.kept.KeptItems.{KeptItems}
 use Rattle.fz_stream.specs.Kept.{AreKeptOf}
 use Rattle.fz_stream.specs.Splitting.{WaitingPart, WaitingBlock}
