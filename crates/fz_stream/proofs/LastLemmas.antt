@@ -127,43 +127,16 @@ ends_left_open bytes parts h e z span from upto =
         → ((h.line ≡ 0) × (body ≡ [])) ⊎ IsLeftOpen h start body → IsLeftOpen h start body
     left_open h start body z left = ⊎_elim (λ n. absurd (z n.0)) (λ o. o) left
 
--- the same for what the end of the last line answers
-module _ (h new : Held) (i : IsHeld h) (l : h.line < length h.buffer.items) where
-  pub all_goes_on : (r : Result (Option Ended) StreamError)
-      → new.before + length new.buffer.items ≡ h.before + length h.buffer.items
-      → IfOk r (λ r. r ≡ None → (body : List Line) (line : Line) → HasLine h body line
-      → GoesOnHolding h new body line)
-      → IfOk r (λ r. r ≡ None → (bytes : List ℕ) (parts : List StreamPart) → Keeps bytes parts h.buffer.items → h.before + length h.buffer.items ≡ length bytes → EndsOpen new bytes parts)
-  all_goes_on (Ok r) count g = λ none bytes parts k size. ends_open bytes parts h i k size l new count (g none i.body i.current i.lines)
-  all_goes_on (Err e) count g = tt
+-- what is so of a stream whose lines have ended is so of what was held before
+module _ (h new : Held) (then_open : (bytes : List ℕ) (parts : List StreamPart) → Keeps bytes parts h.buffer.items → h.before + length h.buffer.items ≡ length bytes → EndsOpen new bytes parts) where
+  pub then_ends : (r : Result (Option Ended) StreamError)
+      → IfOk r (λ r. (bytes : List ℕ) (parts : List StreamPart) → EndsOpen new bytes parts → EndsStream new bytes parts r)
+      → IfOk r (λ r. (bytes : List ℕ) (parts : List StreamPart) → Keeps bytes parts h.buffer.items → h.before + length h.buffer.items ≡ length bytes → EndsStream new bytes parts r)
+  then_ends (Ok r) ends = λ bytes parts k size. ends bytes parts (then_open bytes parts k size)
+  then_ends (Err e) ends = tt
 
-  pub all_ends : (r : Result (Option Ended) StreamError)
-      → new.before + length new.buffer.items ≡ h.before + length h.buffer.items
-      → IfOk r (λ r. IsSome r → (new.buffer.items ≡ h.buffer.items) × (new.line ≡ h.line))
-      → IfOk r (λ r. (ended : Ended) → r ≡ Some ended → (body : List Line) (line : Line) → HasLine h body line → EndsPart new body line ended)
-      → IfOk r (λ r. (ended : Ended) → r ≡ Some ended → (bytes : List ℕ) (parts : List StreamPart) → Keeps bytes parts h.buffer.items → h.before + length h.buffer.items ≡ length bytes → EndsStream new bytes parts (Some ended))
-  all_ends (Ok r) count same g = λ ended is bytes parts k size. ends_stream bytes parts h i k size l new ended count (same (ap is_some is)).0 (g ended is i.body i.current i.lines)
-  all_ends (Err e) count same g = tt
-
-  pub all_broken : (r : Result (Option Ended) StreamError)
-      → IfErr r (λ e. e ≢ Memory → (body : List Line) (line : Line) → HasLine h body line
-      → BreaksBlock h.before body line e)
+  pub then_broken : (r : Result (Option Ended) StreamError)
+      → IfErr r (λ e. (bytes : List ℕ) (parts : List StreamPart) → EndsOpen new bytes parts → IsBrokenAtEndAfter bytes parts e)
       → IfErr r (λ e. e ≢ Memory → (bytes : List ℕ) (parts : List StreamPart) → Keeps bytes parts h.buffer.items → h.before + length h.buffer.items ≡ length bytes → IsBrokenAtEndAfter bytes parts e)
-  all_broken (Ok r) g = tt
-  all_broken (Err e) g = λ known bytes parts k size. ends_broken bytes parts h i k size l e (g known i.body i.current i.lines)
-
--- what the end of the last line answers is what the stream ends with
-pub stream_ends : (h new : Held) (ended : Option Ended) → (ended ≡ None → new.line ≡ 0)
-    → (ended ≡ None → (bytes : List ℕ) (parts : List StreamPart) → Keeps bytes parts h.buffer.items → h.before + length h.buffer.items ≡ length bytes → EndsOpen new bytes parts)
-    → ((e : Ended) → ended ≡ Some e → (bytes : List ℕ) (parts : List StreamPart) → Keeps bytes parts h.buffer.items → h.before + length h.buffer.items ≡ length bytes → EndsStream new bytes parts (Some e))
-    → (bytes : List ℕ) (parts : List StreamPart) → Keeps bytes parts h.buffer.items → h.before + length h.buffer.items ≡ length bytes → EndsStream new bytes parts ended
-stream_ends h new None z open_ ends bytes parts k size = ends_text bytes parts new (open_ refl bytes parts k size) (z refl)
-stream_ends h new (Some e) z open_ ends bytes parts k size = ends e refl bytes parts k size
-
-pub none_from : (ended : Option Ended) → is_some ended ≡ false → ended ≡ None
-none_from None e = refl
-none_from (Some ended) e = absurd (let no : true ≡ false = e in cc)
-
-pub some_from : (ended : Option Ended) → is_some ended ≡ true → ended ≡ None → ⊥
-some_from None e n = (let no : false ≡ true = e in cc)
-some_from (Some ended) e n = (let no : Some ended ≡ None = n in cc)
+  then_broken (Ok r) broken = tt
+  then_broken (Err e) broken = λ known bytes parts k size. broken bytes parts (then_open bytes parts k size)
