@@ -9,9 +9,6 @@ use Rattle.fz_stream.proofs.FaultLemmas.{placed_more, placed_fault, block_fault,
 use Rattle.fz_stream.proofs.PlaceLemmas.{again_in, again_within, second_printing}
 use Rattle.fz_stream.proofs.block.read_block.Goals as goal
 
-pub item_fault-requires : goal.item_fault-requires
-item_fault-requires c = placed_more (length c.args.text.now) _ c.in-Err.e (omega (arith, c.requires.fits)) c.in-Err.ensures.placed
-
 pub returns-in-Err : goal.returns-in-Err
 returns-in-Err c =
     let short : c.in-Err.e ≡ TooLong → ⊥ = λ e. absurd (omega (arith, c.requires.short, (c.read_items.ensures.too_long).0 (c.in-Err.is ∙ ap Err e))) in

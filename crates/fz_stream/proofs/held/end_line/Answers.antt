@@ -17,12 +17,6 @@ returns-in_err-kept-in-EndsBlock-clause-breaks c =
     (step_is c.args.held.now body line l _ _ _ _ _ c.begun_at-begun.ensures c.deref.ensures.value c.line_kind-kind.ensures c.after_line.ensures c.in-EndsBlock.is)
     _ (ap (take c.args.held.now.line) c.deref-in-EndsBlock.ensures.value ∙ text_is c.args.held.now body line l) (c.in_err-kept-in-EndsBlock.ensures.refused known) _ _ refl c.in_err-kept-in-EndsBlock.ensures.tells)
 
-pub returns-in-Breaks-clause-breaks : goal.returns-in-Breaks-clause-breaks
-returns-in-Breaks-clause-breaks c _ body line l =
-    breaks_claim c.args.held.now.before c.in-Breaks.start body line
-    (step_is c.args.held.now body line l _ _ _ _ _ c.begun_at-begun.ensures c.deref.ensures.value c.line_kind-kind.ensures c.after_line.ensures c.in-Breaks.is)
-    _ refl (omega (arith, l.place))
-
 pub returns-in-GoesOn-None-clause-goes_on : goal.returns-in-GoesOn-None-clause-goes_on
 returns-in-GoesOn-None-clause-goes_on c _ body line l =
     let d = step_is c.args.held.now body line l _ _ _ _ _ c.begun_at-begun.ensures c.deref.ensures.value c.line_kind-kind.ensures c.after_line.ensures (c.in-GoesOn-None.is ∙ ap GoesOn c.in-GoesOn-None.field-0-is) in

@@ -77,9 +77,6 @@ loop-at-preserved c =
 pub returns-clause-read : goal.returns-clause-read
 returns-clause-read c = so_far_read c.args.stream.now c.loop-at.at _ _ (omega (arith, c.loop-at-test.false)) c.loop-at.begun c.loop-at.invariant.so_far c.in-None.is
 
-pub returns-clause-places : goal.returns-clause-places
-returns-clause-places c = c.loop-at.invariant.places
-
 pub returns-clause-before_markers : goal.returns-clause-before_markers
 returns-clause-before_markers c = read_before_markers _ _ _ (so_far_read c.args.stream.now c.loop-at.at _ _ (omega (arith, c.loop-at-test.false)) c.loop-at.begun c.loop-at.invariant.so_far c.in-None.is)
 
