@@ -1,14 +1,14 @@
 -- How the end of a stream changes the state of a splitter.
-use Rattle.std.proofs.Common.{◌≡◌, ◌≢◌, ℕ, ◌+◌, ◌<◌, Option, Some, None, List, [], ◌∷◌, ◌++◌, length, refl, sym, ap, ◌∙◌, subst, ◌⊎◌, inl, inr, ⊎_elim, append-nil, length-append, arith, Result, Ok, Err, IfOk, IfErr, IsSome, is_some, true, false}
+use Rattle.std.proofs.Common.{◌≡◌, ◌≢◌, ℕ, ◌+◌, ◌<◌, Option, Some, List, [], ◌∷◌, ◌++◌, length, refl, sym, ap, ◌∙◌, subst, ◌⊎◌, inl, inr, ⊎_elim, length-append, arith, Result, Ok, Err, IfOk, IfErr}
 use Rattle.fz_syntax.specs.Span.{Span}
 use Rattle.fz_stream.specs.declared.held.Ended.{Ended}
 use Rattle.fz_stream.specs.declared.held.Held.{Held}
 use Rattle.fz_stream.specs.declared.error.StreamError.{StreamError}
 use Rattle.fz_stream.specs.declared.error.StreamError.TheVariants.{Memory, Unfinished}
 use Rattle.fz_stream.specs.Lines.{Line, lines_of, joined, kind_of, HasNoFeed}
-use Rattle.fz_stream.specs.Parts.{StreamPart, AreBlockLines, GoesOnAfter, IsStreamText}
+use Rattle.fz_stream.specs.Parts.{StreamPart, AreBlockLines, GoesOnAfter}
 use Rattle.fz_stream.specs.Broken.{IsBrokenAtEndAfter}
-use Rattle.fz_stream.specs.Keeping.{Keeps, HasLine, IsHeld, DropsLine, JoinsLine, GoesOnHolding, EndsPart, BreaksBlock, IsLeftOpen, EndsOpen, EndsStream}
+use Rattle.fz_stream.specs.Keeping.{Keeps, IsHeld, DropsLine, JoinsLine, GoesOnHolding, EndsPart, BreaksBlock, IsLeftOpen, EndsOpen, EndsStream}
 use Rattle.fz_stream.specs.Telling.{TellsOf}
 use Rattle.fz_stream.proofs.PartLemmas.{joined-append, joined_one, into_gap, into_body, into_parts}
 use Rattle.fz_stream.proofs.SplitLemmas.{goes_on_after, place, lines_of-begun, no_end}
@@ -105,14 +105,6 @@ module _ (bytes : List ℕ) (parts : List StreamPart) (h : Held) (i : IsHeld h) 
       breaks = (no_end i.current i.begun, b.cannot);
       tells = subst (λ n. TellsOf n (joined i.body) (Some (kind_of i.current)) e) begins b.tells;
     }
-
--- no block is left open
-pub ends_text : (bytes : List ℕ) (parts : List StreamPart) (h : Held) → EndsOpen h bytes parts
-    → h.line ≡ 0 → IsStreamText bytes parts
-ends_text bytes parts h e z =
-    let c = e.stands.covers in
-    let none : e.body ≡ [] = ⊎_elim (λ n. n.1) (λ o. absurd (o.line z)) e.left in
-    record { rest = e.gap; covers = record { covered = c.covered; whole = c.whole ∙ ap (λ b. c.covered ++ (e.gap ++ (b ++ []))) none ∙ ap (λ l. c.covered ++ l) (append-nil _); of_parts = c.of_parts }; fillers = e.stands.fillers }
 
 -- a block is left open
 pub ends_left_open : (bytes : List ℕ) (parts : List StreamPart) (h : Held) → EndsOpen h bytes parts

@@ -1,11 +1,11 @@
-use Rattle.std.proofs.Common.{◌≡◌, ℕ, List, ap, ◌∙◌, inl, inr, refl, subst, take, Some, arith}
+use Rattle.std.proofs.Common.{◌≡◌, ℕ, List, ap, ◌∙◌, inl, inr, refl, subst, take, Some}
 use Rattle.std.proofs.lemmas.Result.{err_from_is_err_and}
 use Rattle.fz_stream.specs.declared.held.Ended.TheVariants.{BlockEnded, ClaimEnded}
 use Rattle.fz_stream.specs.declared.step.Step.TheVariants.{GoesOn}
 use Rattle.fz_stream.specs.Kept.{AreKept}
 use Rattle.fz_stream.specs.Keeping.{EndsPart}
 use Rattle.fz_stream.proofs.EndLemmas.{text_is, step_is, ends_with_block, ends_with_claim, beside_kept}
-use Rattle.fz_stream.proofs.StopLemmas.{breaks_block, breaks_claim}
+use Rattle.fz_stream.proofs.StopLemmas.{breaks_block}
 use Rattle.fz_stream.proofs.held.end_line.Goals as goal
 
 pub returns-in_err-kept-in-EndsBlock-clause-breaks :
