@@ -16,24 +16,27 @@ CannotFollow text (Claim kind) = Unit {0}
 CannotFollow text Marker = (items : List Printed) → IsBlockText text items → ⊥
 CannotFollow text _ = ⊥
 
--- what comes after an open block of this text can't follow it: a line that ends with LF
+-- what comes after an open block of this text can't follow it, whatever more comes: a line that
+-- ends with LF
 abbrev pub CannotGoOn : List ℕ → List Line → Type 0
 CannotGoOn text [] = ⊥
 CannotGoOn text (line ∷ lines) = EndsWithFeed line × CannotFollow text (kind_of line)
 
--- at the end of the stream: nothing, or a last line without LF
+-- what comes after an open block of this text at the end of the stream: nothing, or a last line
+-- without LF that can't follow it
 abbrev pub CannotEnd : List ℕ → List Line → Type 0
 CannotEnd text [] = Unit {0}
 CannotEnd text (line ∷ []) = (EndsWithFeed line → ⊥) × CannotFollow text (kind_of line)
 CannotEnd text (line ∷ next ∷ lines) = ⊥
 
--- in a whole stream: nothing, or any line
+-- what comes after an open block of this text breaks it: nothing, as the stream ends there, or a
+-- line that can't follow it
 abbrev pub BreaksText : List ℕ → List Line → Type 0
 BreaksText text [] = Unit {0}
 BreaksText text (line ∷ lines) = CannotFollow text (kind_of line)
 
--- A block is open after the parts, and what comes after its text breaks it in the way given. The
--- fault says what is wrong.
+-- After the parts a block is open, and what comes after it breaks it: `Breaks` of the block's text
+-- and the lines after it. The fault says what is wrong.
 pub record BreaksAfter (Breaks : List ℕ → List Line → Type 0) (bytes : List ℕ)
     (parts : List StreamPart) (fault : StreamError) : Type 0 where
   pub gap : List Line
@@ -45,14 +48,16 @@ pub record BreaksAfter (Breaks : List ℕ → List Line → Type 0) (bytes : Lis
   pub tells : TellsOf (length (joined stands.covers.covered) + length (joined gap)) (joined body)
       (first_kind rest) fault
 
--- the bytes are broken after the parts, whatever bytes follow
+-- The bytes are broken after the parts: a block is open, and then comes a line, which ends with LF
+-- and can't follow it.
 abbrev pub IsBrokenAfter : List ℕ → List StreamPart → StreamError → Type 0
 IsBrokenAfter = BreaksAfter CannotGoOn
 
--- the bytes are broken at their end after the parts
+-- The bytes are broken at their end after the parts: a block is open, and the stream ends there or
+-- with a line that can't follow it.
 abbrev pub IsBrokenAtEndAfter : List ℕ → List StreamPart → StreamError → Type 0
 IsBrokenAtEndAfter = BreaksAfter CannotEnd
 
--- the whole stream stops after the parts
+-- The whole stream stops after the parts: a block is open, which is broken by what comes after it.
 abbrev pub StopsAfter : List ℕ → List StreamPart → StreamError → Type 0
 StopsAfter = BreaksAfter BreaksText
