@@ -26,17 +26,15 @@ waits_for : (ended : Ended) (offset : ℕ) (text : List ℕ) (front : List Strea
     (part : StreamPart) → EndedAs ended offset text part
     → WaitsForLast (waiting_of (Some ended) offset text) (front ++ part ∷ [])
 waits_for BlockEnded offset text front (BlockPart block) is = (front, BlockPart block, refl, (sym is.0, sym is.1))
-waits_for BlockEnded offset text front (ClaimPart kind) is = absurd is
-waits_for (ClaimEnded kind) offset text front (BlockPart block) is = absurd is
 waits_for (ClaimEnded kind) offset text front (ClaimPart other) is = (front, ClaimPart other, refl, is)
+waits_for _ offset text front _ is = absurd is
 
 waits_for_more : (ended : Ended) (offset : ℕ) (text : List ℕ) (part : StreamPart)
     → EndedAs ended offset text part
     → WaitsForMore (waiting_of (Some ended) offset text) (part ∷ [])
 waits_for_more BlockEnded offset text (BlockPart block) is = (sym is.0, sym is.1)
-waits_for_more BlockEnded offset text (ClaimPart kind) is = absurd is
-waits_for_more (ClaimEnded kind) offset text (BlockPart block) is = absurd is
 waits_for_more (ClaimEnded kind) offset text (ClaimPart other) is = is
+waits_for_more _ offset text _ is = absurd is
 
 some_waits : (ended : Ended) (offset : ℕ) (text : List ℕ)
     → IsSome (waiting_of (Some ended) offset text)

@@ -100,7 +100,8 @@ pub record TakesPart (new : Held) (bytes taken : List ℕ) (parts : List StreamP
   pub completes : Covers (bytes ++ taken) (parts ++ part ∷ []) []
   pub are_whole : AllByRecursion EndsWithFeed completes.covered
 
--- A block is open, and what is held is its lines, the body, of which the first begins at the offset.
+-- A block is open, and what is held is its lines, the body, of which the first begins at the
+-- offset.
 pub record IsLeftOpen (h : Held) (offset : ℕ) (body : List Line) : Type 0 where
   pub line : h.line ≢ 0
   pub some : body ≢ []
