@@ -1,5 +1,7 @@
 -- What `feed` promises, from what its parts do.
 use Rattle.std.proofs.Common.{◌≡◌, ℕ, ◌+◌, ◌≤◌, Option, Some, None, List, [], ◌∷◌, ◌++◌, length, take, refl, sym, ◌∙◌, subst, inl, inr, arith, append-nil, length-append, length-take, IsSome}
+use Rattle.std.specs.List.{AllByRecursion}
+use Rattle.fz_stream.specs.Lines.{EndsWithFeed}
 use Rattle.fz_stream.specs.declared.splitter.Stage.{Stage}
 use Rattle.fz_stream.specs.declared.splitter.Stage.TheVariants.{Running}
 use Rattle.fz_stream.specs.declared.held.Ended.{Ended}
@@ -24,17 +26,15 @@ waits_for : (ended : Ended) (offset : ℕ) (text : List ℕ) (front : List Strea
     (part : StreamPart) → EndedAs ended offset text part
     → WaitsForLast (waiting_of (Some ended) offset text) (front ++ part ∷ [])
 waits_for BlockEnded offset text front (BlockPart block) is = (front, BlockPart block, refl, (sym is.0, sym is.1))
-waits_for BlockEnded offset text front (ClaimPart kind) is = absurd is
-waits_for (ClaimEnded kind) offset text front (BlockPart block) is = absurd is
 waits_for (ClaimEnded kind) offset text front (ClaimPart other) is = (front, ClaimPart other, refl, is)
+waits_for _ offset text front _ is = absurd is
 
 waits_for_more : (ended : Ended) (offset : ℕ) (text : List ℕ) (part : StreamPart)
     → EndedAs ended offset text part
     → WaitsForMore (waiting_of (Some ended) offset text) (part ∷ [])
 waits_for_more BlockEnded offset text (BlockPart block) is = (sym is.0, sym is.1)
-waits_for_more BlockEnded offset text (ClaimPart kind) is = absurd is
-waits_for_more (ClaimEnded kind) offset text (BlockPart block) is = absurd is
 waits_for_more (ClaimEnded kind) offset text (ClaimPart other) is = is
+waits_for_more _ offset text _ is = absurd is
 
 some_waits : (ended : Ended) (offset : ℕ) (text : List ℕ)
     → IsSome (waiting_of (Some ended) offset text)
@@ -81,7 +81,7 @@ module _ (s : SplitterState) (old new : Held) (piece : List ℕ) (n : ℕ) (stag
         fits = record {
           running = running;
           taken = omega (arith, count, taken, f.taken, length-append bytes (take n piece), length-take n piece, within);
-          holds = holds_current _ _ _ t.keeps [] tt tt [] refl tt;
+          holds = record { gap = []; body = []; current = []; stands = record { covers = t.completes; fillers = tt; own = tt }; ended = subst (AllByRecursion EndsWithFeed) (sym (append-nil _)) t.are_whole; goes_on = tt; held_are = refl };
           waits = waits_for e _ _ parts t.part t.is;
         };
         completes = t.completes;

@@ -1,5 +1,5 @@
 -- The stored items of a block.
-use Rattle.std.proofs.Common.{◌≡◌, ℕ, zero, suc, ◌<◌, List, [], ◌∷◌, ◌++◌, length, map, get_or, slice_range, Some, refl, sym, ap, ◌∙◌, subst, arith}
+use Rattle.std.proofs.Common.{◌≡◌, ℕ, List, [], ◌∷◌, ◌++◌, length, map, slice_range, Some, refl, sym, ap, ◌∙◌, subst}
 use Rattle.std.specs.List.{flat_map}
 use Rattle.fz_syntax.specs.declared.Printed.{Printed}
 use Rattle.fz_syntax.specs.Places.{IsSpanWithin}
@@ -9,7 +9,7 @@ use Rattle.fz_syntax.specs.View.{bare_printed, bare_printed_value, bare_items}
 use Rattle.fz_stream.specs.declared.kept.KeptItem.{KeptItem}
 use Rattle.fz_stream.specs.Kept.{kept_of, bare_kept, kept_spots, AreKept}
 use Rattle.fz_stream.specs.Parts.{IsBlockText}
-use Rattle.fz_stream.proofs.PlaceLemmas.{stand_before, stand_behind}
+use Rattle.fz_stream.proofs.PlaceLemmas.{stand_behind, within_behind}
 
 module _ (text : List ℕ) (upto : ℕ) where
   -- an item's name is the text at its byte range
@@ -39,25 +39,13 @@ module _ (text : List ℕ) (upto : ℕ) where
       spot_of : List ℕ → Printed → Spot
       spot_of n p = record { start = p.name.span.start; end = p.name.span.end; text = Some n }
 
-  -- the byte range of each name is in the text
-  pub placed_kept : (from : ℕ) (kept : List KeptItem) (k : ℕ) (d : KeptItem) → k < length kept
-      → Stand text from upto (flat_map (kept_spots text) kept)
-      → IsSpanWithin upto (get_or kept k d).name
-  placed_kept from [] k d l h = absurd (omega (arith, l))
-  placed_kept from (x ∷ kept) zero d l h =
-      let here : x.name.start < x.name.end = h.1 in
-      (omega (arith, here), stand_before text upto x.name.end (printed_value_spots x.value ++ flat_map (kept_spots text) kept) h.3)
-  placed_kept from (x ∷ kept) (suc k) d l h =
-      let w = stand_behind text upto x.name.end (printed_value_spots x.value) (flat_map (kept_spots text) kept) h.3 in
-      placed_kept w.0 kept k d (omega arith) w.1
-
   -- the byte range of the name that comes next, after the items before it
   pub placed_next : (items : List Printed) (x : KeptItem) (more all : List KeptItem)
       → item_spots items ++ flat_map (kept_spots text) (x ∷ more) ≡ flat_map (kept_spots text) all
       → Stand text 0 upto (flat_map (kept_spots text) all) → IsSpanWithin upto x.name
   placed_next items x more all e h =
-      let w = stand_behind text upto 0 (item_spots items) (flat_map (kept_spots text) (x ∷ more)) (subst (Stand text 0 upto) (sym e) h) in
-      placed_kept w.0 (x ∷ more) zero x (omega arith) w.1
+      within_behind text upto 0 (item_spots items) (record { start = x.name.start; end = x.name.end; text = Some (slice_range text x.name.start x.name.end) }) (printed_value_spots x.value ++ flat_map (kept_spots text) more)
+      (subst (Stand text 0 upto) (sym e) h)
 
 -- the stored items of a block
 pub are_kept : (text : List ℕ) (items : List Printed) (kept : List KeptItem)

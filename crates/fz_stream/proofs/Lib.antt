@@ -1,5 +1,4 @@
 pub mod LineLemmas
-pub mod KindLemmas
 pub mod NameLemmas
 pub mod PartLemmas
 pub mod OnePartLemmas

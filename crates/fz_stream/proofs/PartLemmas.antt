@@ -3,9 +3,9 @@ use Rattle.std.proofs.Common.{◌≡◌, ℕ, ◌+◌, List, [], ◌∷◌, ◌+
 use Rattle.std.specs.List.{AllByRecursion}
 use Rattle.fz_stream.specs.declared.line.ClaimKind.{ClaimKind}
 use Rattle.fz_stream.specs.declared.line.LineKind.{LineKind}
-use Rattle.fz_stream.specs.declared.line.LineKind.TheVariants.{Blank, Comment, Marker, Claim, Item as ItemLine}
+use Rattle.fz_stream.specs.declared.line.LineKind.TheVariants.{Marker, Claim}
 use Rattle.fz_stream.specs.Lines.{Line, lines_of, joined, kind_of, IsFiller, IsFillerKind, IsInner, IsInnerKind}
-use Rattle.fz_stream.specs.Parts.{StreamPart, BlockPart, ClaimPart, IsBlockText, AreBlockLines, AreLinesOfPart, AreLinesOf, IsStreamText}
+use Rattle.fz_stream.specs.Parts.{StreamPart, BlockPart, ClaimPart, IsBlockText, AreBlockLines, AreLinesOfPart, AreLinesOf, IsStreamText, GoesOnAfter}
 
 -- The lines, of which the first begins at byte `start`, are those of the parts, and then blank
 -- lines and comments.
@@ -15,10 +15,6 @@ pub record EndAfter (start : ℕ) (lines : List Line) (parts : List StreamPart) 
   pub whole : lines ≡ covered ++ tail
   pub of_parts : AreLinesOf start covered parts
   pub fillers : AllByRecursion IsFiller tail
-
-pub stream_text : (bytes : List ℕ) (parts : List StreamPart) → EndAfter 0 (lines_of bytes) parts
-    → IsStreamText bytes parts
-stream_text bytes parts e = record { rest = e.tail; covers = record { covered = e.covered; whole = e.whole; of_parts = e.of_parts }; fillers = e.fillers }
 
 pub end_after : (bytes : List ℕ) (parts : List StreamPart) → IsStreamText bytes parts
     → EndAfter 0 (lines_of bytes) parts
@@ -46,21 +42,13 @@ pub joined_one : (x : Line) → joined (x ∷ []) ≡ x
 joined_one x = append-nil x
 
 inner_kind : (k : LineKind) → IsFillerKind k → IsInnerKind k
-inner_kind Blank h = tt
-inner_kind Comment h = tt
 inner_kind Marker h = h
 inner_kind (Claim k) h = h
-inner_kind ItemLine h = tt
+inner_kind _ h = tt
 
 pub inner_from_filler : (xs : List Line) → AllByRecursion IsFiller xs → AllByRecursion IsInner xs
 inner_from_filler [] h = tt
 inner_from_filler (x ∷ xs) h = (inner_kind (kind_of x) h.0, inner_from_filler xs h.1)
-
-pub item_inner : (k : LineKind) → k ≡ ItemLine → IsInnerKind k
-item_inner k e = subst IsInnerKind (sym e) tt
-
-pub item_no_filler : (k : LineKind) → k ≡ ItemLine → IsFillerKind k → ⊥
-item_no_filler k e h = subst IsFillerKind e h
 
 pub marker_closes : (k : LineKind) → k ≡ Marker → IsInnerKind k → ⊥
 marker_closes k e h = subst IsInnerKind e h
@@ -70,7 +58,7 @@ claim_closes k c e h = subst IsInnerKind e h
 
 pub inner_body : (xs : List Line) → AreBlockLines xs → AllByRecursion IsInner xs
 inner_body [] h = tt
-inner_body (x ∷ xs) h = (item_inner (kind_of x) h.0, h.1)
+inner_body (x ∷ xs) h = (subst IsInnerKind (sym h.0) tt, h.1)
 
 -- there is one first line that closes something
 pub split_once : (xs ys : List Line) (x y : Line) (r s : List Line) → AllByRecursion IsInner xs
@@ -91,14 +79,25 @@ pub split_item : (g h b c : List Line) → AllByRecursion IsFiller g → AllByRe
     → g ++ b ≡ h ++ c → (g ≡ h) × (b ≡ c)
 split_item [] [] b c p q u v e = (refl, e)
 split_item [] (y ∷ h) [] c p q u v e = absurd (let no : [] ≡ y ∷ (h ++ c) = e in cc)
-split_item [] (y ∷ h) (x ∷ b) c p q u v e = let s : x ≡ y = cc in absurd (item_no_filler (kind_of x) u.0 (subst IsFiller (sym s) q.0))
+split_item [] (y ∷ h) (x ∷ b) c p q u v e = let s : x ≡ y = cc in absurd (subst IsFillerKind u.0 (subst IsFiller (sym s) q.0))
 split_item (x ∷ g) [] b [] p q u v e = absurd (let no : x ∷ (g ++ b) ≡ [] = e in cc)
-split_item (x ∷ g) [] b (y ∷ c) p q u v e = let s : x ≡ y = cc in absurd (item_no_filler (kind_of y) v.0 (subst IsFiller s p.0))
+split_item (x ∷ g) [] b (y ∷ c) p q u v e = let s : x ≡ y = cc in absurd (subst IsFillerKind v.0 (subst IsFiller s p.0))
 split_item (x ∷ g) (y ∷ h) b c p q u v e =
     let s : x ≡ y = cc in
     let t : g ++ b ≡ h ++ c = cc in
     let w = split_item g h b c p.1 q.1 u v t in
     (ap (λ l. x ∷ l) w.0 ∙ ap (λ l. l ∷ h) s, w.1)
+
+-- so the lines before it, and the line, are the same
+cut_once : (g h b c : List Line) (x y : Line) (r s : List Line) → AllByRecursion IsFiller g
+    → AllByRecursion IsFiller h → AreBlockLines b → AreBlockLines c → (IsInner x → ⊥)
+    → (IsInner y → ⊥) → g ++ (b ++ (x ∷ r)) ≡ h ++ (c ++ (y ∷ s))
+    → (g ≡ h) × (b ≡ c) × (x ≡ y) × (r ≡ s)
+cut_once g h b c x y r s p q u v cx cy e =
+    let w = split_once (g ++ b) (h ++ c) x y r s (every_append IsInner g b (inner_from_filler g p) (inner_body b u)) (every_append IsInner h c (inner_from_filler h q) (inner_body c v)) cx cy
+    (append_assoc g b (x ∷ r) ∙ e ∙ sym (append_assoc h c (y ∷ s))) in
+    let k = split_item g h b c p q u v w.0 in
+    (k.0, k.1, w.1, w.2)
 
 -- no line closes anything
 pub none_closes : (xs ys : List Line) (y : Line) (s : List Line) → AllByRecursion IsInner xs
@@ -111,6 +110,24 @@ IsPartOf start gap body line (BlockPart block) =
     (kind_of line ≡ Marker) × (block.offset ≡ start + length (joined gap)) × (block.text ≡ joined body) × IsBlockText block.text block.items
 IsPartOf start gap body line (ClaimPart kind) = (kind_of line ≡ Claim kind) × (body ≡ [])
 
+-- The lines are those of the part: with the first that closes something it ends.
+pub record Shape (start : ℕ) (lines : List Line) (part : StreamPart) : Type 0 where
+  pub gap : List Line
+  pub body : List Line
+  pub line : Line
+  pub whole : lines ≡ gap ++ (body ++ line ∷ [])
+  pub fillers : AllByRecursion IsFiller gap
+  pub own : AreBlockLines body
+  pub closes : IsInner line → ⊥
+  pub is : IsPartOf start gap body line part
+
+pub shape_of : (start : ℕ) (lines : List Line) (part : StreamPart)
+    → AreLinesOfPart start lines part → Shape start lines part
+shape_of start lines (BlockPart block) k =
+    record { gap = k.gap; body = k.body; line = k.marker; whole = k.whole; fillers = k.fillers; own = k.own; closes = marker_closes (kind_of k.marker) k.closes; is = (k.closes, k.offset, k.text, k.items) }
+shape_of start lines (ClaimPart kind) k =
+    record { gap = k.gap; body = []; line = k.line; whole = k.whole; fillers = k.fillers; own = tt; closes = claim_closes (kind_of k.line) kind k.claims; is = (k.claims, refl) }
+
 pub record Next (start : ℕ) (gap body : List Line) (line : Line) (rest : List Line) (parts : List StreamPart) : Type 0 where
   pub part : StreamPart
   pub more : List StreamPart
@@ -120,50 +137,24 @@ pub record Next (start : ℕ) (gap body : List Line) (line : Line) (rest : List 
 
 -- The part that ends with the first line that closes something.
 module _ (start : ℕ) (gap body : List Line) (line : Line) (rest : List Line) (fill : AllByRecursion IsFiller gap) (own : AreBlockLines body) (closes : IsInner line → ⊥) where
-  inner : AllByRecursion IsInner (gap ++ body)
-  inner = every_append IsInner gap body (inner_from_filler gap fill) (inner_body body own)
-
-  grouped : gap ++ (body ++ (line ∷ rest)) ≡ (gap ++ body) ++ (line ∷ rest)
-  grouped = sym (append_assoc gap body (line ∷ rest))
-
   pub next_part : (parts : List StreamPart) → EndAfter start (gap ++ (body ++ (line ∷ rest))) parts
       → Next start gap body line rest parts
   next_part [] h =
-      let all : gap ++ (body ++ (line ∷ rest)) ≡ h.tail = h.whole ∙ ap (λ l. l ++ h.tail) h.of_parts in
-      let filled = subst (AllByRecursion IsFiller) (sym (sym grouped ∙ all)) h.fillers in
-      absurd (closes (inner_kind (kind_of line) (every_right IsFiller (gap ++ body) (line ∷ rest) filled).0))
-  next_part (BlockPart block ∷ parts) h =
+      let filled = subst (AllByRecursion IsFiller) (sym (h.whole ∙ ap (λ l. l ++ h.tail) h.of_parts)) h.fillers in
+      absurd (closes (inner_kind (kind_of line) (every_right IsFiller body (line ∷ rest) (every_right IsFiller gap (body ++ (line ∷ rest)) filled)).0))
+  next_part (part ∷ parts) h =
       let p = h.of_parts in
-      let k = p.3 in
-      let cut : (gap ++ body) ++ (line ∷ rest) ≡ (k.gap ++ k.body) ++ (k.marker ∷ (p.1 ++ h.tail)) =
-      sym grouped ∙ h.whole ∙ ap (λ l. l ++ h.tail) (p.2 ∙ ap (λ l. l ++ p.1) k.whole)
-      ∙ simp append_assoc in
-      let w = split_once (gap ++ body) (k.gap ++ k.body) line k.marker rest (p.1 ++ h.tail) inner
-      (every_append IsInner k.gap k.body (inner_from_filler k.gap k.fillers) (inner_body k.body k.own)) closes (marker_closes (kind_of k.marker) k.closes) cut in
-      let v = split_item gap k.gap body k.body fill k.fillers own k.own w.0 in
-      let same : p.0 ≡ gap ++ (body ++ line ∷ []) = k.whole ∙ sym (ap (λ g. g ++ (body ++ line ∷ [])) v.0 ∙ ap (λ b. k.gap ++ (b ++ line ∷ [])) v.1 ∙ ap (λ m. k.gap ++ (k.body ++ m ∷ [])) w.1) in
+      let k = shape_of start p.0 part p.3 in
+      let cut : gap ++ (body ++ (line ∷ rest)) ≡ k.gap ++ (k.body ++ (k.line ∷ (p.1 ++ h.tail))) =
+      h.whole ∙ ap (λ l. l ++ h.tail) (p.2 ∙ ap (λ l. l ++ p.1) k.whole) ∙ simp append_assoc in
+      let w = cut_once gap k.gap body k.body line k.line rest (p.1 ++ h.tail) fill k.fillers own k.own closes k.closes cut in
+      let same : p.0 ≡ gap ++ (body ++ line ∷ []) = k.whole ∙ sym (ap (λ g. g ++ (body ++ line ∷ [])) w.0 ∙ ap (λ b. k.gap ++ (b ++ line ∷ [])) w.1 ∙ ap (λ m. k.gap ++ (k.body ++ m ∷ [])) w.2) in
       record {
-        part = BlockPart block;
+        part = part;
         more = parts;
         parts_are = refl;
-        is = (ap kind_of w.1 ∙ k.closes, k.offset ∙ ap (λ g. start + length (joined g)) (sym v.0), k.text ∙ ap joined (sym v.1), k.items);
-        others = record { covered = p.1; tail = h.tail; whole = w.2; of_parts = subst (λ o. AreLinesOf (start + length (joined o)) p.1 parts) same p.4; fillers = h.fillers };
-      }
-  next_part (ClaimPart kind ∷ parts) h =
-      let p = h.of_parts in
-      let k = p.3 in
-      let cut : (gap ++ body) ++ (line ∷ rest) ≡ k.gap ++ (k.line ∷ (p.1 ++ h.tail)) =
-      sym grouped ∙ h.whole ∙ ap (λ l. l ++ h.tail) (p.2 ∙ ap (λ l. l ++ p.1) k.whole)
-      ∙ simp append_assoc in
-      let w = split_once (gap ++ body) k.gap line k.line rest (p.1 ++ h.tail) inner (inner_from_filler k.gap k.fillers) closes (claim_closes (kind_of k.line) kind k.claims) cut in
-      let v = split_item gap k.gap body [] fill k.fillers own tt (w.0 ∙ sym (append-nil k.gap)) in
-      let same : p.0 ≡ gap ++ (body ++ line ∷ []) = k.whole ∙ sym (ap (λ g. g ++ (body ++ line ∷ [])) v.0 ∙ ap (λ b. k.gap ++ (b ++ line ∷ [])) v.1 ∙ ap (λ m. k.gap ++ (m ∷ [])) w.1) in
-      record {
-        part = ClaimPart kind;
-        more = parts;
-        parts_are = refl;
-        is = (ap kind_of w.1 ∙ k.claims, v.1);
-        others = record { covered = p.1; tail = h.tail; whole = w.2; of_parts = subst (λ o. AreLinesOf (start + length (joined o)) p.1 parts) same p.4; fillers = h.fillers };
+        is = subst (λ g. IsPartOf start g body line part) (sym w.0) (subst (λ b. IsPartOf start k.gap b line part) (sym w.1) (subst (λ m. IsPartOf start k.gap k.body m part) (sym w.2) k.is));
+        others = record { covered = p.1; tail = h.tail; whole = w.3; of_parts = subst (λ o. AreLinesOf (start + length (joined o)) p.1 parts) same p.4; fillers = h.fillers };
       }
 
 -- where no line closes anything there is no part, and all lines are blank or comments
@@ -171,16 +162,11 @@ pub no_part : (start : ℕ) (lines : List Line) → AllByRecursion IsInner lines
     → (parts : List StreamPart) → EndAfter start lines parts
     → (parts ≡ []) × AllByRecursion IsFiller lines
 no_part start lines inner [] h = (refl, subst (AllByRecursion IsFiller) (sym (h.whole ∙ ap (λ l. l ++ h.tail) h.of_parts)) h.fillers)
-no_part start lines inner (BlockPart block ∷ parts) h =
+no_part start lines inner (part ∷ parts) h =
     let p = h.of_parts in
-    let k = p.3 in
-    let cut : lines ≡ (k.gap ++ k.body) ++ (k.marker ∷ (p.1 ++ h.tail)) = h.whole ∙ ap (λ l. l ++ h.tail) (p.2 ∙ ap (λ l. l ++ p.1) k.whole) ∙ simp append_assoc in
-    absurd (none_closes lines (k.gap ++ k.body) k.marker (p.1 ++ h.tail) inner (marker_closes (kind_of k.marker) k.closes) cut)
-no_part start lines inner (ClaimPart kind ∷ parts) h =
-    let p = h.of_parts in
-    let k = p.3 in
-    let cut : lines ≡ k.gap ++ (k.line ∷ (p.1 ++ h.tail)) = h.whole ∙ ap (λ l. l ++ h.tail) (p.2 ∙ ap (λ l. l ++ p.1) k.whole) ∙ simp append_assoc in
-    absurd (none_closes lines k.gap k.line (p.1 ++ h.tail) inner (claim_closes (kind_of k.line) kind k.claims) cut)
+    let k = shape_of start p.0 part p.3 in
+    let cut : lines ≡ (k.gap ++ k.body) ++ (k.line ∷ (p.1 ++ h.tail)) = h.whole ∙ ap (λ l. l ++ h.tail) (p.2 ∙ ap (λ l. l ++ p.1) k.whole) ∙ simp append_assoc in
+    absurd (none_closes lines (k.gap ++ k.body) k.line (p.1 ++ h.tail) inner k.closes cut)
 
 -- one more part
 pub AreLinesOf-push : (start : ℕ) (covered own : List Line) (parts : List StreamPart)
@@ -198,3 +184,43 @@ AreLinesOf-push start covered own (p ∷ parts) part h k =
       h.3,
       AreLinesOf-push (start + length (joined h.0)) h.1 own parts part h.4 (subst (λ s. AreLinesOfPart s own part) at k),
     )
+
+-- the next line goes to the gap, to the body, or ends a part
+module _ (bytes : List ℕ) (parts : List StreamPart) (gap body : List Line) (line : Line) (rest : List Line) (g : GoesOnAfter bytes parts gap body (line ∷ rest)) where
+  abbrev pub into_gap : body ≡ [] → IsFiller line
+      → GoesOnAfter bytes parts (gap ++ line ∷ []) [] rest
+  into_gap e f = record {
+    covers = record {
+      covered = g.covers.covered;
+      whole = g.covers.whole ∙ ap (λ l. g.covers.covered ++ l) (ap (λ b. gap ++ (b ++ (line ∷ rest))) e ∙ sym (append_assoc gap (line ∷ []) rest));
+      of_parts = g.covers.of_parts;
+    };
+    fillers = every_append IsFiller gap (line ∷ []) g.fillers (f, tt);
+    own = tt;
+  }
+
+  abbrev pub into_body : AreBlockLines (body ++ line ∷ [])
+      → GoesOnAfter bytes parts gap (body ++ line ∷ []) rest
+  into_body own = record {
+    covers = record {
+      covered = g.covers.covered;
+      whole = g.covers.whole ∙ ap (λ l. g.covers.covered ++ (gap ++ l)) (sym (append_assoc body (line ∷ []) rest));
+      of_parts = g.covers.of_parts;
+    };
+    fillers = g.fillers;
+    own = own;
+  }
+
+  abbrev pub into_parts : (part : StreamPart)
+      → AreLinesOfPart (length (joined g.covers.covered)) (gap ++ (body ++ line ∷ [])) part
+      → GoesOnAfter bytes (parts ++ part ∷ []) [] [] rest
+  into_parts part here = record {
+    covers = record {
+      covered = g.covers.covered ++ (gap ++ (body ++ line ∷ []));
+      whole = g.covers.whole ∙ simp append_assoc;
+      of_parts = AreLinesOf-push 0 g.covers.covered (gap ++ (body ++ line ∷ [])) parts part g.covers.of_parts
+          (subst (λ s. AreLinesOfPart s (gap ++ (body ++ line ∷ [])) part) (let z : length (joined g.covers.covered) ≡ 0 + length (joined g.covers.covered) = omega arith in z) here);
+    };
+    fillers = tt;
+    own = tt;
+  }

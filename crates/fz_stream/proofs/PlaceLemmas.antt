@@ -1,10 +1,10 @@
 -- The byte ranges of the names of printed items.
-use Rattle.std.proofs.Common.{◌≡◌, ℕ, zero, suc, ◌<◌, ◌≤◌, List, [], ◌∷◌, ◌++◌, length, get_or, Option, Some, IfSome, refl, sym, ap, ◌∙◌, subst, arith, length-append}
-use Rattle.std.proofs.lemmas.List.{get_or_at}
+use Rattle.std.proofs.Common.{◌≡◌, ℕ, ◌<◌, ◌≤◌, List, [], ◌∷◌, ◌++◌, length, Option, Some, IfSome, sym, ap, ◌∙◌, subst, arith}
+use Rattle.std.proofs.lemmas.Grind.{flat_map-append}
 use Rattle.fz_syntax.specs.declared.Printed.{Printed}
 use Rattle.fz_syntax.specs.Places.{IsSpanWithin}
 use Rattle.fz_syntax.specs.Span.{Span}
-use Rattle.fz_syntax.specs.Spots.{Spot, Stand, printed_value_spots, item_spots}
+use Rattle.fz_syntax.specs.Spots.{Spot, Stand, name_spot, printed_value_spots, printed_spots, item_spots}
 use Rattle.fz_syntax.specs.Text.{IsTextOfItems}
 use Rattle.fz_syntax.specs.View.{bare_items}
 use Rattle.fz_stream.specs.Moving.{moved_span}
@@ -20,21 +20,18 @@ module _ (source : List ℕ) (upto : ℕ) where
   stand_behind from [] ys h = (from, h)
   stand_behind from (x ∷ xs) ys h = stand_behind x.end xs ys h.3
 
-  placed_at : (from : ℕ) (items : List Printed) (k : ℕ) (d : Printed) → k < length items
-      → Stand source from upto (item_spots items) → IsSpanWithin upto (get_or items k d).name.span
-  placed_at from [] k d l h = absurd (omega (arith, l))
-  placed_at from (p ∷ items) zero d l h = let here : p.name.span.start < p.name.span.end = h.1 in (omega (arith, here), stand_before p.name.span.end (printed_value_spots p.value ++ item_spots items) h.3)
-  placed_at from (p ∷ items) (suc k) d l h =
-      let w = stand_behind p.name.span.end (printed_value_spots p.value) (item_spots items) h.3 in
-      placed_at w.0 items k d (omega arith) w.1
+  -- a byte range that comes after some
+  pub within_behind : (from : ℕ) (xs : List Spot) (s : Spot) (ys : List Spot)
+      → Stand source from upto (xs ++ (s ∷ ys)) → (s.start ≤ s.end) × (s.end ≤ upto)
+  within_behind from [] s ys h = let here : s.start < s.end = h.1 in (omega (arith, here), stand_before s.end ys h.3)
+  within_behind from (x ∷ xs) s ys h = within_behind x.end xs s ys h.3
 
   -- the byte range of the item after the front
   pub placed_again : (items : List Printed) (again : Printed) → PrintsAgain items again
       → Stand source 0 upto (item_spots items) → IsSpanWithin upto again.name.span
   placed_again items again p h =
-      let there : get_or items (length p.front) again ≡ again = ap (λ xs. get_or xs (length p.front) again) p.items_are ∙ get_or_at p.front again p.rest again (length p.front) refl in
-      let within : length p.front < length items = omega (arith, ap length p.items_are, length-append p.front (again ∷ p.rest)) in
-      subst (λ (x : Printed). IsSpanWithin upto x.name.span) there (placed_at 0 items (length p.front) again within h)
+      within_behind 0 (item_spots p.front) (name_spot again.name) (printed_value_spots again.value ++ item_spots p.rest)
+      (subst (Stand source 0 upto) (ap item_spots p.items_are ∙ flat_map-append printed_spots p.front (again ∷ p.rest)) h)
 
 abbrev AgainAt : List Printed → Span → Type 0
 AgainAt items span = (again : Printed) × PrintsAgain items again × (span ≡ again.name.span)

@@ -116,12 +116,10 @@ unfolding kind_of
 broken = record {
   gap = [];
   body = (codes "x = 1;" ++ 10 ∷ []) ∷ [];
-  line = codes "==========" ++ 10 ∷ [];
-  rest = [];
+  rest = (codes "==========" ++ 10 ∷ []) ∷ [];
   stands = record { covers = record { covered = []; whole = refl; of_parts = refl }; fillers = tt; own = (refl, tt) };
   begun = no_line _ _;
-  ends = (codes "==========", (sign, (sign, (sign, (sign, (sign, (sign, (sign, (sign, (sign, (sign, tt)))))))))), refl);
-  breaks = tt;
+  breaks = ((codes "==========", (sign, (sign, (sign, (sign, (sign, (sign, (sign, (sign, (sign, (sign, tt)))))))))), refl), tt);
   tells = ((Complete, refl), refl, refl);
 }
   where

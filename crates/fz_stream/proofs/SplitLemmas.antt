@@ -1,17 +1,16 @@
 -- The state of a splitter after a line, or a piece of one.
-use Rattle.std.proofs.Common.{◌≡◌, ◌≢◌, ℕ, ◌+◌, List, [], ◌∷◌, ◌++◌, length, take, refl, sym, ap, ◌∙◌, subst, inl, inr, ◌⊎◌, ⊎_elim, zero, suc, ◌<◌, ◌-◌, length-append, append_assoc, append-nil, arith, cond, get_or, Some}
+use Rattle.std.proofs.Common.{◌≡◌, ◌≢◌, ℕ, ◌+◌, List, [], ◌∷◌, ◌++◌, length, take, drop, refl, sym, ap, ◌∙◌, subst, inl, inr, ◌⊎◌, ⊎_elim, zero, suc, ◌<◌, ◌≤◌, ◌-◌, length-append, append_assoc, append-nil, take-append-drop, arith, cond, get_or}
 use Rattle.std.proofs.lemmas.Bool.{ne_eqb, eq-eqb, cases_eq}
-use Rattle.std.proofs.lemmas.List.{get_or_at}
+use Rattle.std.proofs.lemmas.List.{get_or_at, take-append-le}
 use Rattle.std.specs.List.{AllByRecursion}
-use Rattle.fz_stream.specs.Lines.{Line, lines_of, onto_first, joined, kind_of, HasNoFeed, EndsWithFeed, IsFiller}
-use Rattle.fz_stream.specs.Parts.{StreamPart, AreBlockLines, AreLinesOfPart, AreLinesOf, Covers, GoesOnAfter}
-use Rattle.fz_stream.specs.Broken.{IsBrokenAfter, CannotFollow}
+use Rattle.fz_stream.specs.Lines.{Line, lines_of, onto_first, joined, HasNoFeed, EndsWithFeed, IsFiller}
+use Rattle.fz_stream.specs.Parts.{StreamPart, AreBlockLines, GoesOnAfter}
+use Rattle.fz_stream.specs.Broken.{IsBrokenAfter}
 use Rattle.fz_stream.specs.Splitting.{Holds}
-use Rattle.fz_stream.specs.Keeping.{Keeps}
-use Rattle.fz_stream.specs.Telling.{TellsOf}
+use Rattle.fz_stream.specs.Keeping.{Keeps, BreaksBlock}
 use Rattle.fz_stream.specs.declared.error.StreamError.{StreamError}
 use Rattle.fz_stream.proofs.LineLemmas.{joined-lines_of}
-use Rattle.fz_stream.proofs.PartLemmas.{every_append, every_left, every_right, joined-append, joined_one, AreLinesOf-push}
+use Rattle.fz_stream.proofs.PartLemmas.{every_append, every_left, every_right, joined-append, into_gap}
 
 -- the step of `lines_of` at a byte that is no LF
 onto : (x : ℕ) (xs : List ℕ) → x ≢ 10 → lines_of (x ∷ xs) ≡ onto_first x (lines_of xs)
@@ -23,7 +22,7 @@ lines_of-front : (front rest : List ℕ) → HasNoFeed front
 lines_of-front [] rest h = refl
 lines_of-front (x ∷ front) rest h = onto x (front ++ (10 ∷ rest)) h.0 ∙ ap (onto_first x) (lines_of-front front rest h.1)
 
-lines_of-line : (line rest : List ℕ) → EndsWithFeed line
+pub lines_of-line : (line rest : List ℕ) → EndsWithFeed line
     → lines_of (line ++ rest) ≡ line ∷ lines_of rest
 lines_of-line line rest w =
     ap (λ l. lines_of (l ++ rest)) w.2 ∙ ap lines_of (append_assoc w.0 (10 ∷ []) rest) ∙ lines_of-front w.0 rest w.1 ∙ ap (λ l. l ∷ lines_of rest) (sym w.2)
@@ -43,125 +42,6 @@ lines_of-begun x (y ∷ ys) h = onto x (y ∷ ys) h.0 ∙ ap (onto_first x) (lin
 pub no_end : (line : List ℕ) → HasNoFeed line → EndsWithFeed line → ⊥
 no_end line h w = ((every_right (λ b. b ≢ 10) w.0 (10 ∷ []) (subst HasNoFeed w.2 h)).0) refl
 
-module _ (bytes : List ℕ) (parts : List StreamPart) (held : List ℕ) (h : Keeps bytes parts held) where
-  -- what is held is followed by bytes
-  pub keeps_more : (more : List ℕ) → Keeps (bytes ++ more) parts (held ++ more)
-  keeps_more more = record {
-    covered = h.covered;
-    gap = h.gap;
-    whole = ap (λ l. l ++ more) h.whole ∙ append_assoc (joined h.covered) (joined h.gap ++ held) more ∙ ap (λ l. joined h.covered ++ l) (append_assoc (joined h.gap) held more);
-    ended = h.ended;
-    of_parts = h.of_parts;
-    fillers = h.fillers;
-  }
-
-  module _ (body : List Line) (whole : AllByRecursion EndsWithFeed body) (own : AreBlockLines body) where
-    all_ended : AllByRecursion EndsWithFeed (h.covered ++ (h.gap ++ body))
-    all_ended =
-        every_append EndsWithFeed h.covered (h.gap ++ body) (every_left EndsWithFeed h.covered h.gap h.ended)
-        (every_append EndsWithFeed h.gap body (every_right EndsWithFeed h.covered h.gap h.ended) whole)
-
-    -- the lines of all that was taken
-    pub lines_after : (current : List ℕ) → held ≡ joined body ++ current
-        → lines_of bytes ≡ h.covered ++ (h.gap ++ (body ++ lines_of current))
-    lines_after current e =
-        let grouped : joined (h.covered ++ (h.gap ++ body)) ++ current ≡ joined h.covered ++ (joined h.gap ++ (joined body ++ current)) =
-        ap (λ l. l ++ current) (joined-append h.covered (h.gap ++ body) ∙ ap (λ l. joined h.covered ++ l) (joined-append h.gap body)) ∙ simp append_assoc in
-        ap lines_of (h.whole ∙ ap (λ l. joined h.covered ++ (joined h.gap ++ l)) e ∙ sym grouped) ∙ lines_of-lines (h.covered ++ (h.gap ++ body)) current all_ended ∙ simp append_assoc
-
-    -- after the parts come the gap, the body and the lines of what follows it
-    pub goes_on_after : (current : List ℕ) → held ≡ joined body ++ current
-        → GoesOnAfter bytes parts h.gap body (lines_of current)
-    goes_on_after current e = record { covers = record { covered = h.covered; whole = lines_after current e; of_parts = h.of_parts }; fillers = h.fillers; own = own }
-
-    pub holds_current : (current : List ℕ) → held ≡ joined body ++ current → HasNoFeed current
-        → Holds bytes parts held
-    holds_current current e begun = record {
-      gap = h.gap;
-      body = body;
-      current = current;
-      stands = record { covers = record { covered = h.covered; whole = lines_after current e; of_parts = h.of_parts }; fillers = h.fillers; own = own };
-      ended = all_ended;
-      goes_on = begun;
-      held_are = e;
-    }
-
-    module _ (more : List ℕ) (line : Line) (e : held ++ more ≡ joined body ++ line) (ends : EndsWithFeed line) where
-      all_bytes : bytes ++ more ≡ joined h.covered ++ (joined h.gap ++ (joined body ++ line))
-      all_bytes =
-          ap (λ l. l ++ more) h.whole ∙ append_assoc (joined h.covered) (joined h.gap ++ held) more ∙ ap (λ l. joined h.covered ++ l) (append_assoc (joined h.gap) held more)
-          ∙ ap (λ l. joined h.covered ++ (joined h.gap ++ l)) e
-
-      as_lines : bytes ++ more ≡ joined (h.covered ++ (h.gap ++ (body ++ line ∷ [])))
-      as_lines =
-          all_bytes ∙ sym (joined-append h.covered (h.gap ++ (body ++ line ∷ [])) ∙ ap (λ l. joined h.covered ++ l) (joined-append h.gap (body ++ line ∷ [])
-          ∙ ap (λ l. joined h.gap ++ l) (joined-append body (line ∷ []) ∙ ap (λ l. joined body ++ l) (joined_one line))))
-
-      all_whole : AllByRecursion EndsWithFeed (h.covered ++ (h.gap ++ (body ++ line ∷ [])))
-      all_whole =
-          every_append EndsWithFeed h.covered (h.gap ++ (body ++ line ∷ [])) (every_left EndsWithFeed h.covered h.gap h.ended)
-          (every_append EndsWithFeed h.gap (body ++ line ∷ []) (every_right EndsWithFeed h.covered h.gap h.ended) (every_append EndsWithFeed body (line ∷ []) whole (ends, tt)))
-
-      -- a blank line or a comment where no block is open: it is dropped
-      pub keeps_filler : body ≡ [] → IsFiller line → Keeps (bytes ++ more) parts []
-      keeps_filler none fills = record {
-        covered = h.covered;
-        gap = h.gap ++ line ∷ [];
-        whole = all_bytes ∙ ap (λ b. joined h.covered ++ (joined h.gap ++ (joined b ++ line))) none
-            ∙ ap (λ l. joined h.covered ++ l) (sym (append-nil _ ∙ joined-append h.gap (line ∷ []) ∙ ap (λ l. joined h.gap ++ l) (joined_one line)));
-        ended = subst (AllByRecursion EndsWithFeed) (append_assoc h.covered h.gap (line ∷ [])) (every_append EndsWithFeed (h.covered ++ h.gap) (line ∷ []) h.ended (ends, tt));
-        of_parts = h.of_parts;
-        fillers = every_append IsFiller h.gap (line ∷ []) h.fillers (fills, tt);
-      }
-
-      module _ (part : StreamPart) (here : AreLinesOfPart (length (joined h.covered)) (h.gap ++ (body ++ line ∷ [])) part) where
-        pushed : AreLinesOf 0 (h.covered ++ (h.gap ++ (body ++ line ∷ []))) (parts ++ part ∷ [])
-        pushed =
-            AreLinesOf-push 0 h.covered (h.gap ++ (body ++ line ∷ [])) parts part h.of_parts
-            (subst (λ s. AreLinesOfPart s (h.gap ++ (body ++ line ∷ [])) part) (let z : length (joined h.covered) ≡ 0 + length (joined h.covered) = omega arith in z) here)
-
-        -- the line ends a part
-        pub ends_part : Covers (bytes ++ more) (parts ++ part ∷ []) []
-        ends_part = record {
-          covered = h.covered ++ (h.gap ++ (body ++ line ∷ []));
-          whole = ap lines_of (as_lines ∙ sym (append-nil _)) ∙ lines_of-lines (h.covered ++ (h.gap ++ (body ++ line ∷ []))) [] all_whole;
-          of_parts = pushed;
-        }
-
-        -- after which nothing is held
-        pub keeps_nothing : Keeps (bytes ++ more) (parts ++ part ∷ []) []
-        keeps_nothing = record {
-          covered = h.covered ++ (h.gap ++ (body ++ line ∷ []));
-          gap = [];
-          whole = as_lines ∙ sym (append-nil _);
-          ended = subst (AllByRecursion EndsWithFeed) (sym (append-nil _)) all_whole;
-          of_parts = pushed;
-          fillers = tt;
-        }
-
-      -- the line can't follow the open block, whatever bytes follow it
-      pub breaks : body ≢ [] → CannotFollow (joined body) (kind_of line) → (fault : StreamError)
-          → TellsOf (length (joined h.covered) + length (joined h.gap)) (joined body)
-          (Some (kind_of line)) fault
-          → (rest : List ℕ) → IsBrokenAfter (bytes ++ (more ++ rest)) parts fault
-      breaks begun cannot fault tells rest = record {
-        gap = h.gap;
-        body = body;
-        line = line;
-        rest = lines_of rest;
-        stands = record { covers = record { covered = h.covered; whole = lines; of_parts = h.of_parts }; fillers = h.fillers; own = own };
-        begun = begun;
-        ends = ends;
-        breaks = cannot;
-        tells = tells;
-      }
-        where
-          lines : lines_of (bytes ++ (more ++ rest))
-              ≡ h.covered ++ (h.gap ++ (body ++ (line ∷ lines_of rest)))
-          lines =
-              ap lines_of (sym (append_assoc bytes more rest) ∙ ap (λ l. l ++ rest) as_lines) ∙ lines_of-lines (h.covered ++ (h.gap ++ (body ++ line ∷ []))) rest all_whole
-              ∙ simp append_assoc
-
 -- what is held, without what it is
 pub keeps_held : (bytes : List ℕ) (parts : List StreamPart) (held : List ℕ) → Holds bytes parts held
     → Keeps bytes parts held
@@ -174,6 +54,94 @@ keeps_held bytes parts held h = record {
   ended = every_left EndsWithFeed (h.stands.covers.covered ++ h.gap) h.body (subst (AllByRecursion EndsWithFeed) (sym (append_assoc h.stands.covers.covered h.gap h.body)) h.ended);
   of_parts = h.stands.covers.of_parts;
   fillers = h.stands.fillers;
+}
+
+module _ (bytes : List ℕ) (parts : List StreamPart) (held : List ℕ) (h : Keeps bytes parts held) where
+  -- what is held is followed by bytes
+  abbrev pub keeps_more : (more : List ℕ) → Keeps (bytes ++ more) parts (held ++ more)
+  keeps_more more = record {
+    covered = h.covered;
+    gap = h.gap;
+    whole = ap (λ l. l ++ more) h.whole ∙ append_assoc (joined h.covered) (joined h.gap ++ held) more ∙ ap (λ l. joined h.covered ++ l) (append_assoc (joined h.gap) held more);
+    ended = h.ended;
+    of_parts = h.of_parts;
+    fillers = h.fillers;
+  }
+
+  -- where what is held begins
+  pub place : (before : ℕ) → before + length held ≡ length bytes
+      → before ≡ length (joined h.covered) + length (joined h.gap)
+  place before all = omega (arith, all, ap length h.whole, length-append (joined h.covered) (joined h.gap ++ held), length-append (joined h.gap) held)
+
+  module _ (body : List Line) (whole : AllByRecursion EndsWithFeed body) (own : AreBlockLines body) where
+    pub all_ended : AllByRecursion EndsWithFeed (h.covered ++ (h.gap ++ body))
+    all_ended =
+        every_append EndsWithFeed h.covered (h.gap ++ body) (every_left EndsWithFeed h.covered h.gap h.ended)
+        (every_append EndsWithFeed h.gap body (every_right EndsWithFeed h.covered h.gap h.ended) whole)
+
+    -- after the parts come the gap, the body and the lines of what follows it
+    abbrev pub goes_on_after : (current : List ℕ) (rest : List Line) → held ≡ joined body ++ current
+        → lines_of current ≡ rest → GoesOnAfter bytes parts h.gap body rest
+    goes_on_after current rest e lines =
+        let grouped : joined (h.covered ++ (h.gap ++ body)) ++ current ≡ joined h.covered ++ (joined h.gap ++ (joined body ++ current)) =
+        ap (λ l. l ++ current) (joined-append h.covered (h.gap ++ body) ∙ ap (λ l. joined h.covered ++ l) (joined-append h.gap body)) ∙ simp append_assoc in
+        record {
+          covers = record {
+            covered = h.covered;
+            whole =
+                ap lines_of (h.whole ∙ ap (λ l. joined h.covered ++ (joined h.gap ++ l)) e ∙ sym grouped) ∙ lines_of-lines (h.covered ++ (h.gap ++ body)) current all_ended
+                ∙ ap (λ l. (h.covered ++ (h.gap ++ body)) ++ l) lines ∙ simp append_assoc;
+            of_parts = h.of_parts;
+          };
+          fillers = h.fillers;
+          own = own;
+        }
+
+    pub holds_current : (current : List ℕ) → held ≡ joined body ++ current → HasNoFeed current
+        → Holds bytes parts held
+    holds_current current e begun = record {
+      gap = h.gap;
+      body = body;
+      current = current;
+      stands = goes_on_after current (lines_of current) e refl;
+      ended = all_ended;
+      goes_on = begun;
+      held_are = e;
+    }
+
+    module _ (line : Line) (e : held ≡ joined body ++ line) (ends : EndsWithFeed line) where
+      abbrev pub at_line : GoesOnAfter bytes parts h.gap body (line ∷ [])
+      at_line = goes_on_after line (line ∷ []) e (ap lines_of (sym (append-nil line)) ∙ lines_of-line line [] ends)
+
+      pub all_whole : AllByRecursion EndsWithFeed (h.covered ++ (h.gap ++ (body ++ line ∷ [])))
+      all_whole = subst (AllByRecursion EndsWithFeed) (simp append_assoc) (every_append EndsWithFeed (h.covered ++ (h.gap ++ body)) (line ∷ []) all_ended (ends, tt))
+
+      -- a blank line or a comment where no block is open: it is dropped
+      pub keeps_filler : body ≡ [] → IsFiller line → Keeps bytes parts []
+      keeps_filler none fills = keeps_held bytes parts [] (record {
+        gap = h.gap ++ line ∷ [];
+        body = [];
+        current = [];
+        stands = into_gap bytes parts h.gap body line [] at_line none fills;
+        ended = subst (AllByRecursion EndsWithFeed) (ap (λ b. h.covered ++ (h.gap ++ (b ++ line ∷ []))) none ∙ ap (λ l. h.covered ++ l) (sym (append-nil _))) all_whole;
+        goes_on = tt;
+        held_are = refl;
+      })
+
+-- the line can't follow the open block, whatever bytes follow it
+pub breaks : (bytes : List ℕ) (parts : List StreamPart) (held : List ℕ) (h : Keeps bytes parts held)
+    (body : List Line) → AllByRecursion EndsWithFeed body → AreBlockLines body → (line : Line)
+    → held ≡ joined body ++ line → EndsWithFeed line → (fault : StreamError)
+    → BreaksBlock (length (joined h.covered) + length (joined h.gap)) body line fault
+    → (rest : List ℕ) → IsBrokenAfter (bytes ++ rest) parts fault
+breaks bytes parts held h body whole own line e ends fault b rest = record {
+  gap = h.gap;
+  body = body;
+  rest = line ∷ lines_of rest;
+  stands = goes_on_after (bytes ++ rest) parts (held ++ rest) (keeps_more bytes parts held h rest) body whole own (line ++ rest) (line ∷ lines_of rest) (ap (λ l. l ++ rest) e ∙ append_assoc (joined body) line rest) (lines_of-line line rest ends);
+  begun = b.begun;
+  breaks = (ends, b.cannot);
+  tells = b.tells;
 }
 
 -- the first line of some bytes is whole, or has no LF
@@ -221,24 +189,13 @@ pub whole_joined : (current part : List ℕ) → HasNoFeed current → EndsWithF
     → EndsWithFeed (current ++ part)
 whole_joined current part n w = (current ++ w.0, every_append (λ b. b ≢ 10) current w.0 n w.1, ap (λ l. current ++ l) w.2 ∙ sym (append_assoc current w.0 (10 ∷ [])))
 
--- bytes that end with LF have none before their last
-no_feed_front : (front line : List ℕ) (n : ℕ) → HasNoFeed front → line ≡ front ++ 10 ∷ []
-    → n < length line → HasNoFeed (take n line)
-no_feed_front front [] n h e l = absurd (omega arith)
-no_feed_front front (x ∷ line) zero h e l = tt
-no_feed_front [] (x ∷ line) (suc n) h e l = absurd (let t : line ≡ [] = cc in omega (arith, l, ap length t))
-no_feed_front (y ∷ front) (x ∷ line) (suc n) h e l =
-    let s : x ≡ y = cc in
-    let t : line ≡ front ++ 10 ∷ [] = cc in
-    (subst (λ b. b ≢ 10) (sym s) h.0, no_feed_front front line n h.1 t (omega arith))
-
 no_feed_take : (line : List ℕ) (n : ℕ) → HasNoFeed line → HasNoFeed (take n line)
-no_feed_take line zero h = tt
-no_feed_take [] (suc n) h = tt
-no_feed_take (x ∷ line) (suc n) h = (h.0, no_feed_take line n h.1)
+no_feed_take line n h = every_left (λ b. b ≢ 10) (take n line) (drop n line) (subst HasNoFeed (sym (take-append-drop n line)) h)
 
 -- a line has no LF before its last byte
 pub no_feed_before : (line : Line) (n : ℕ) → EndsWithFeed line ⊎ HasNoFeed line → n < length line
     → HasNoFeed (take n line)
-no_feed_before line n (inl w) l = no_feed_front w.0 line n w.1 w.2 l
+no_feed_before line n (inl w) l =
+    let before : n ≤ length w.0 = omega (arith, l, ap length w.2, length-append w.0 (10 ∷ [])) in
+    subst HasNoFeed (sym (ap (take n) w.2 ∙ take-append-le n w.0 (10 ∷ []) before)) (no_feed_take w.0 n w.1)
 no_feed_before line n (inr h) l = no_feed_take line n h

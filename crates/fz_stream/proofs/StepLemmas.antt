@@ -1,89 +1,77 @@
--- What the kinds of a line and of a step say of each other.
-use Rattle.std.proofs.Common.{◌≡◌, ◌≢◌, ℕ, Option, Some, None, List, [], ◌∷◌, ◌++◌, length, refl, sym, ap, ◌∙◌, inl, inr, ◌⊎◌, Bool, eqb, cond, true, false, arith, length-append}
-use Rattle.std.proofs.lemmas.Bool.{ne_eqb, eq-eqb}
-use Rattle.std.specs.List.{AllByRecursion}
+-- What a line does to the open block, if one is open.
+use Rattle.std.proofs.Common.{◌≡◌, ◌≢◌, ℕ, ◌+◌, ◌<◌, Option, Some, None, List, [], ◌∷◌, ◌++◌, length, refl, sym, ap, subst, cond, arith}
+use Rattle.std.proofs.lemmas.Bool.{ne_eqb}
 use Rattle.fz_stream.specs.declared.line.ClaimKind.{ClaimKind}
 use Rattle.fz_stream.specs.declared.line.LineKind.{LineKind}
 use Rattle.fz_stream.specs.declared.line.LineKind.TheVariants.{Blank, Comment, Marker, Claim, Item as ItemLine}
+use Rattle.fz_stream.specs.declared.step.Step.{Step}
 use Rattle.fz_stream.specs.declared.step.Step.TheVariants.{GoesOn, EndsBlock, Claims, Breaks}
-use Rattle.fz_stream.specs.Lines.{Line, joined, EndsWithFeed, kind_of, IsFillerKind, IsInner, IsInnerKind}
+use Rattle.fz_stream.specs.Lines.{Line, joined, kind_of, IsFiller, IsFillerKind, IsInner, IsInnerKind}
 use Rattle.fz_stream.specs.Parts.{AreBlockLines}
 use Rattle.fz_stream.specs.Step.{step_of, begun_of}
 use Rattle.fz_stream.proofs.PartLemmas.{every_append}
 
-module _ (at : ℕ) where
-  pub goes_none : (k : LineKind) (next : Option ℕ) → step_of None at k ≡ GoesOn next
-      → (IsFillerKind k × (next ≡ None)) ⊎ ((k ≡ ItemLine) × (next ≡ Some at))
-  goes_none Blank next s = inl (tt, (let h : None ≡ next = cc in sym h))
-  goes_none Comment next s = inl (tt, (let h : None ≡ next = cc in sym h))
-  goes_none ItemLine next s = inr (refl, (let h : Some at ≡ next = cc in sym h))
-  goes_none Marker next s = absurd (let no : EndsBlock at ≡ GoesOn next = s in cc)
-  goes_none (Claim c) next s = absurd (let no : Claims c ≡ GoesOn next = s in cc)
+-- whether a block is open whose lines so far are body, and where its text begins
+abbrev pub Begins : List Line → ℕ → Option ℕ → Type 0
+Begins [] start begun = begun ≡ None
+Begins (line ∷ lines) start begun = begun ≡ Some start
 
-  pub goes_some : (n : ℕ) (k : LineKind) (next : Option ℕ) → step_of (Some n) at k ≡ GoesOn next
-      → IsInnerKind k × (next ≡ Some n)
-  goes_some n Blank next s = (tt, (let h : Some n ≡ next = cc in sym h))
-  goes_some n Comment next s = (tt, (let h : Some n ≡ next = cc in sym h))
-  goes_some n ItemLine next s = (tt, (let h : Some n ≡ next = cc in sym h))
-  goes_some n Marker next s = absurd (let no : EndsBlock n ≡ GoesOn next = s in cc)
-  goes_some n (Claim c) next s = absurd (let no : Breaks n ≡ GoesOn next = s in cc)
+pub none_open : (b : List Line) (start : ℕ) → Begins b start None → b ≡ []
+none_open [] start h = refl
+none_open (x ∷ b) start h = absurd (let no : None ≡ Some start = h in cc)
 
-  pub ends_marker : (k : LineKind) (o : Option ℕ) (start : ℕ) → step_of o at k ≡ EndsBlock start
-      → k ≡ Marker
-  ends_marker Marker o start s = refl
-  ends_marker Blank o start s = absurd (let h : GoesOn o ≡ EndsBlock start = s in cc)
-  ends_marker Comment o start s = absurd (let h : GoesOn o ≡ EndsBlock start = s in cc)
-  ends_marker ItemLine None start s = absurd (let h : GoesOn (Some at) ≡ EndsBlock start = s in cc)
-  ends_marker ItemLine (Some n) start s = absurd (let h : GoesOn (Some n) ≡ EndsBlock start = s in cc)
-  ends_marker (Claim c) None start s = absurd (let h : Claims c ≡ EndsBlock start = s in cc)
-  ends_marker (Claim c) (Some n) start s = absurd (let h : Breaks n ≡ EndsBlock start = s in cc)
+pub some_open : (b : List Line) (start n : ℕ) → Begins b start (Some n) → (b ≢ []) × (n ≡ start)
+some_open [] start n h = absurd (let no : Some n ≡ None = h in cc)
+some_open (x ∷ b) start n h = ((λ e. (let no : x ∷ b ≡ [] = e in cc)), (let same : n ≡ start = cc in same))
 
-  pub claims_claim : (k : LineKind) (o : Option ℕ) (c : ClaimKind) → step_of o at k ≡ Claims c
-      → (k ≡ Claim c) × (o ≡ None)
-  claims_claim Marker None c s = absurd (let h : EndsBlock at ≡ Claims c = s in cc)
-  claims_claim Marker (Some n) c s = absurd (let h : EndsBlock n ≡ Claims c = s in cc)
-  claims_claim Blank o c s = absurd (let h : GoesOn o ≡ Claims c = s in cc)
-  claims_claim Comment o c s = absurd (let h : GoesOn o ≡ Claims c = s in cc)
-  claims_claim ItemLine None c s = absurd (let h : GoesOn (Some at) ≡ Claims c = s in cc)
-  claims_claim ItemLine (Some n) c s = absurd (let h : GoesOn (Some n) ≡ Claims c = s in cc)
-  claims_claim (Claim d) None c s = ((let h : d ≡ c = cc in ap Claim h), refl)
-  claims_claim (Claim d) (Some n) c s = absurd (let h : Breaks n ≡ Claims c = s in cc)
+pub begins_more : (b : List Line) (line : Line) (start n : ℕ) → n ≡ start
+    → Begins (b ++ line ∷ []) start (Some n)
+begins_more [] line start n e = ap Some e
+begins_more (x ∷ b) line start n e = ap Some e
 
-  pub breaks_claim : (k : LineKind) (o : Option ℕ) (n : ℕ) → step_of o at k ≡ Breaks n
-      → ((c : ClaimKind) × (k ≡ Claim c)) × (o ≡ Some n)
-  breaks_claim Marker None n s = absurd (let h : EndsBlock at ≡ Breaks n = s in cc)
-  breaks_claim Marker (Some m) n s = absurd (let h : EndsBlock m ≡ Breaks n = s in cc)
-  breaks_claim Blank o n s = absurd (let h : GoesOn o ≡ Breaks n = s in cc)
-  breaks_claim Comment o n s = absurd (let h : GoesOn o ≡ Breaks n = s in cc)
-  breaks_claim ItemLine None n s = absurd (let h : GoesOn (Some at) ≡ Breaks n = s in cc)
-  breaks_claim ItemLine (Some m) n s = absurd (let h : GoesOn (Some m) ≡ Breaks n = s in cc)
-  breaks_claim (Claim d) None n s = absurd (let h : Claims d ≡ Breaks n = s in cc)
-  breaks_claim (Claim d) (Some m) n s = ((d, refl), (let h : m ≡ n = cc in ap Some h))
+pub filled : (l : Line) (lines : List Line) → AreBlockLines (l ∷ lines)
+    → 0 < length (joined (l ∷ lines))
+unfolding kind_of
+filled [] lines own = absurd (let no : Blank ≡ ItemLine = own.0 in cc)
+filled (x ∷ l) lines own = omega arith
 
 -- a block is open where it has lines
-pub begun_none : (body : List Line) (n before : ℕ) → AllByRecursion EndsWithFeed body
-    → n ≡ length (joined body) → begun_of n before ≡ None → body ≡ []
-begun_none [] n before w e h = refl
-begun_none (l ∷ body) n before w e h =
-    let some : n ≢ 0 = (λ z. absurd (omega (arith, sym e ∙ z, length-append l (joined body), ap length w.0.2, length-append w.0.0 (10 ∷ [])))) in
-    absurd (let no : Some before ≡ None = sym (ap (λ b. cond b None (Some before)) (ne_eqb n 0 some)) ∙ h in cc)
+pub begins_at : (body : List Line) (n before : ℕ) → n ≡ length (joined body) → AreBlockLines body
+    → Begins body before (begun_of n before)
+begins_at [] n before e own = ap (λ m. begun_of m before) e
+begins_at (l ∷ body) n before e own =
+    let some = filled l body own in
+    ap (λ b. cond b None (Some before)) (ne_eqb n 0 (λ z. omega (arith, z, e, some)))
 
-pub begun_some : (body : List Line) (n before s : ℕ) → n ≡ length (joined body)
-    → begun_of n before ≡ Some s → ((first : Line) × (more : List Line) × (body ≡ first ∷ more))
-    × (s ≡ before)
-begun_some [] n before s e h = absurd (let no : None ≡ Some s = sym (ap (λ b. cond b None (Some before)) (eq-eqb n 0 e)) ∙ h in cc)
-begun_some (l ∷ body) n before s e h = ((l, body, refl), by (eqb n 0) refl)
-  where
-    by : (b : Bool) → eqb n 0 ≡ b → s ≡ before
-    by true t = absurd (let no : None ≡ Some s = sym (ap (λ b. cond b None (Some before)) t) ∙ h in cc)
-    by false t = (let k : Some before ≡ Some s = sym (ap (λ b. cond b None (Some before)) t) ∙ h in let q : before ≡ s = cc in sym q)
-
-pub opens_body : (body : List Line) (line : Line) → body ≡ [] → kind_of line ≡ ItemLine
+joins_body : (body : List Line) (line : Line) → body ≢ [] → AreBlockLines body → IsInner line
     → AreBlockLines (body ++ line ∷ [])
-opens_body [] line e k = (k, tt)
-opens_body (l ∷ body) line e k = absurd (let no : l ∷ body ≡ [] = e in cc)
+joins_body [] line some own inner = absurd (some refl)
+joins_body (l ∷ body) line some own inner = (own.0, every_append IsInner body (line ∷ []) own.1 (inner, tt))
 
-pub joins_body : (body : List Line) (line first : Line) (more : List Line) → body ≡ first ∷ more
-    → AreBlockLines body → IsInner line → AreBlockLines (body ++ line ∷ [])
-joins_body [] line first more e own k = absurd (let no : [] ≡ first ∷ more = e in cc)
-joins_body (l ∷ body) line first more e own k = (own.0, every_append IsInner body (line ∷ []) own.1 (k, tt))
+-- what the step of a line says of it and of the body before it, which begins at the offset
+abbrev pub Does : Step → ℕ → List Line → Line → Type 0
+Does (GoesOn None) start body line = (body ≡ []) × IsFiller line
+Does (GoesOn (Some n)) start body line = AreBlockLines (body ++ line ∷ []) × (n ≡ start)
+Does (EndsBlock n) start body line = (kind_of line ≡ Marker) × (n ≡ start)
+Does (Claims kind) start body line = (kind_of line ≡ Claim kind) × (body ≡ [])
+Does (Breaks n) start body line =
+    ((kind : ClaimKind) × (kind_of line ≡ Claim kind)) × (body ≢ []) × (n ≡ start)
+
+module _ (at start : ℕ) (body : List Line) (line : Line) (own : AreBlockLines body) (place : at ≡ start + length (joined body)) where
+  first : body ≡ [] → at ≡ start
+  first e = omega (arith, place, ap (λ b. length (joined b)) e)
+
+  by_kind : (o : Option ℕ) (k : LineKind) → kind_of line ≡ k → Begins body start o
+      → Does (step_of o at k) start body line
+  by_kind None ItemLine e b = let none = none_open body start b in (subst (λ b. AreBlockLines (b ++ line ∷ [])) (sym none) (e, tt), first none)
+  by_kind None Marker e b = (e, first (none_open body start b))
+  by_kind None (Claim c) e b = (e, none_open body start b)
+  by_kind None Blank e b = (none_open body start b, subst IsFillerKind (sym e) tt)
+  by_kind None Comment e b = (none_open body start b, subst IsFillerKind (sym e) tt)
+  by_kind (Some n) Marker e b = (e, (some_open body start n b).1)
+  by_kind (Some n) (Claim c) e b = let w = some_open body start n b in ((c, e), w.0, w.1)
+  by_kind (Some n) _ e b = let w = some_open body start n b in (joins_body body line w.0 own (subst IsInnerKind (sym e) tt), w.1)
+
+  pub does : (o : Option ℕ) → Begins body start o → (s : Step) → step_of o at (kind_of line) ≡ s
+      → Does s start body line
+  does o b s e = subst (λ s. Does s start body line) e (by_kind o (kind_of line) refl b)

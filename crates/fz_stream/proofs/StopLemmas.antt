@@ -1,26 +1,19 @@
 -- Where a stream that is read line by line stops, and what the fault tells of it.
-use Rattle.std.proofs.lemmas.List.{length-take, length-drop}
-use Rattle.std.proofs.Common.{◌≤◌, ◌≡◌, ◌≢◌, ℕ, ◌+◌, ◌-◌, Option, Some, None, List, [], ◌∷◌, length, take, drop, refl, sym, ap, ◌∙◌, subst, arith}
+use Rattle.std.proofs.Common.{◌≡◌, ◌≢◌, ℕ, ◌+◌, Option, Some, List, [], ◌∷◌, length, sym, ap, ◌∙◌, subst, arith}
 use Rattle.fz_syntax.proofs.Parsed.{none_text}
 use Rattle.fz_syntax.specs.Span.{Span}
 use Rattle.fz_syntax.specs.Tree.{Printed}
 use Rattle.fz_stream.specs.declared.error.StreamError.{StreamError}
 use Rattle.fz_stream.specs.declared.error.StreamError.TheVariants.{Unfinished}
-use Rattle.fz_stream.specs.declared.line.LineKind.TheVariants.{Marker}
 use Rattle.fz_stream.specs.declared.step.Step.TheVariants.{EndsBlock, Breaks}
-use Rattle.fz_stream.specs.Lines.{Line, lines_of, joined, kind_of}
+use Rattle.fz_stream.specs.Lines.{Line, joined, kind_of}
 use Rattle.fz_stream.specs.Parts.{StreamPart, IsBlockText, HasDistinctNames}
-use Rattle.fz_stream.specs.Step.{step_of}
-use Rattle.fz_stream.specs.Broken.{CannotFollow, BreaksText, StopsAfter}
-use Rattle.fz_stream.specs.Telling.{TellsOf, TellsOfText, first_kind}
+use Rattle.fz_stream.specs.Broken.{CannotFollow, StopsAfter}
+use Rattle.fz_stream.specs.Keeping.{BreaksBlock}
+use Rattle.fz_stream.specs.Telling.{TellsOfText}
 use Rattle.fz_stream.proofs.FaultLemmas.{tells_before_marker}
-use Rattle.fz_stream.proofs.ReadingLemmas.{Reading, Begins, start_is, text_is}
-use Rattle.fz_stream.proofs.StepLemmas.{ends_marker, breaks_claim}
-
--- a block is open where its start is known, and it begins there
-begun_at : (b : List Line) (offset n : ℕ) → Begins b offset (Some n) → (b ≢ []) × (n ≡ offset)
-begun_at [] offset n h = absurd (let no : Some n ≡ None = h in cc)
-begun_at (x ∷ b) offset n h = ((λ e. (let no : x ∷ b ≡ [] = e in cc)), (let same : n ≡ offset = cc in same))
+use Rattle.fz_stream.proofs.ReadingLemmas.{Reading}
+use Rattle.fz_stream.proofs.StepLemmas.{Begins, some_open, Does}
 
 none_apart : HasDistinctNames []
 none_apart i j d l m e = omega (arith, m)
@@ -30,64 +23,40 @@ some_lines : (b : List Line) → ((items : List Printed) → IsBlockText (joined
 some_lines [] none e = none [] (none_text, none_apart)
 some_lines (x ∷ b) none e = (let no : x ∷ b ≡ [] = e in cc)
 
-module _ (bytes : List ℕ) (rest : List Line) (begun : Option ℕ) (place : ℕ) (parts : List StreamPart) (r : Reading (lines_of bytes) rest begun place parts) where
-  stops_at : r.body ≢ [] → BreaksText (joined r.body) rest → (fault : StreamError)
-      → TellsOf (length (joined r.covered) + length (joined r.gap)) (joined r.body)
-      (first_kind rest) fault → (ps : List StreamPart) × StopsAfter bytes ps fault
-  stops_at some breaks fault tells = (
-    parts,
-    record {
-      gap = r.gap;
-      body = r.body;
-      rest = rest;
-      stands = record { covers = record { covered = r.covered; whole = r.lines; of_parts = r.of_parts }; fillers = r.fillers; own = r.own };
-      begun = some;
-      breaks = breaks;
-      tells = tells;
-    },
-  )
+module _ (start n : ℕ) (body : List Line) (line : Line) where
+  -- the text before a marker is none of a block
+  pub breaks_block : Does (EndsBlock n) start body line → (text : List ℕ) → text ≡ joined body
+      → ((items : List Printed) → IsBlockText text items → ⊥) → (fault : StreamError)
+      → (offset : ℕ) → offset ≡ start → TellsOfText offset text fault
+      → BreaksBlock start body line fault
+  breaks_block d text is none fault offset at told =
+      let no_block : (items : List Printed) → IsBlockText (joined body) items → ⊥ = λ items t. none items (subst (λ x. IsBlockText x items) (sym is) t) in
+      record {
+        begun = some_lines body no_block;
+        cannot = subst (CannotFollow (joined body)) (sym d.0) no_block;
+        tells = tells_before_marker start (joined body) (Some (kind_of line)) fault (ap Some d.0) (subst (λ m. TellsOfText m (joined body) fault) at (subst (λ t. TellsOfText offset t fault) is told));
+      }
 
-  -- what is open begins there
-  opened : (n : ℕ) → begun ≡ Some n
-      → (r.body ≢ []) × (n ≡ length (joined r.covered) + length (joined r.gap))
-  opened n e = begun_at r.body _ n (subst (Begins r.body _) e r.begins)
+  -- a claim is inside an open block
+  pub breaks_claim : Does (Breaks n) start body line → (span : Span) → span.start ≡ n
+      → span.end ≡ start + length (joined body) → BreaksBlock start body line (Unfinished span)
+  breaks_claim d span from upto = record {
+    begun = d.1;
+    cannot = subst (CannotFollow (joined body)) (sym d.0.1) tt;
+    tells = (d.0, from ∙ d.2, upto);
+  }
 
--- the text before a marker is none of a block
-pub stops_at_marker : (bytes : List ℕ) (line : Line) (rest : List Line) (begun : Option ℕ)
-    (place : ℕ) (parts : List StreamPart) → Reading (lines_of bytes) (line ∷ rest) begun place parts
-    → joined (lines_of bytes) ≡ bytes → (start : ℕ) → step_of begun place (kind_of line) ≡ EndsBlock start
-    → ((items : List Printed) → IsBlockText (take (place - start) (drop start bytes)) items → ⊥)
-    → (fault : StreamError) → TellsOfText start (take (place - start) (drop start bytes)) fault → (ps : List StreamPart) × StopsAfter bytes ps fault
-stops_at_marker bytes line rest begun place parts r whole start s none fault told =
-    let marker : kind_of line ≡ Marker = ends_marker place (kind_of line) begun start s in
-    let at = start_is _ _ _ _ _ _ r r.body refl begun refl start (subst (λ k. step_of begun place k ≡ EndsBlock start) marker s) in
-    let text = text_is _ _ _ _ _ _ r bytes whole start at in
-    let no_block : (items : List Printed) → IsBlockText (joined r.body) items → ⊥ = λ items t. none items (subst (λ x. IsBlockText x items) (sym text) t) in
-    stops_at bytes (line ∷ rest) begun place parts r (some_lines r.body no_block) (subst (CannotFollow (joined r.body)) (sym marker) no_block) fault
-    (tells_before_marker _ (joined r.body) (Some (kind_of line)) fault (ap Some marker) (subst (λ n. TellsOfText n (joined r.body) fault) at (subst (λ x. TellsOfText start x fault) text told)))
-
--- the text before a marker ends at the marker's line
-pub text_within : (bytes : List ℕ) (line : Line) (rest : List Line) (begun : Option ℕ) (place : ℕ)
-    (parts : List StreamPart) → Reading (lines_of bytes) (line ∷ rest) begun place parts
-    → place ≤ length bytes → (start : ℕ) → step_of begun place (kind_of line) ≡ EndsBlock start → start + length (take (place - start) (drop start bytes)) ≤ length bytes
-text_within bytes line rest begun place parts r within start s =
-    let marker : kind_of line ≡ Marker = ends_marker place (kind_of line) begun start s in
-    let at = start_is _ _ _ _ _ _ r r.body refl begun refl start (subst (λ k. step_of begun place k ≡ EndsBlock start) marker s) in
-    omega (arith, at, r.place_is, within, length-take (place - start) (drop start bytes), length-drop start bytes)
-
--- a claim is inside an open block
-pub stops_at_claim : (bytes : List ℕ) (line : Line) (rest : List Line) (begun : Option ℕ)
-    (place : ℕ) (parts : List StreamPart) → Reading (lines_of bytes) (line ∷ rest) begun place parts
-    → (n : ℕ) → step_of begun place (kind_of line) ≡ Breaks n → (span : Span) → span.start ≡ n → span.end ≡ place → (ps : List StreamPart) × StopsAfter bytes ps (Unfinished span)
-stops_at_claim bytes line rest begun place parts r n s span from upto =
-    let k = breaks_claim place (kind_of line) begun n s in
-    let w = opened bytes (line ∷ rest) begun place parts r n k.1 in
-    stops_at bytes (line ∷ rest) begun place parts r w.0 (subst (CannotFollow (joined r.body)) (sym k.0.1) tt) (Unfinished span) (k.0, from ∙ w.1, omega (arith, upto, r.place_is))
+-- where a stream that was read so far stops
+pub stops_at : (bytes : List ℕ) (line : Line) (rest : List Line) (begun : Option ℕ) (place : ℕ)
+    (parts : List StreamPart) (r : Reading bytes (line ∷ rest) begun place parts)
+    (fault : StreamError)
+    → BreaksBlock (length (joined r.stands.covers.covered) + length (joined r.gap)) r.body line fault → StopsAfter bytes parts fault
+stops_at bytes line rest begun place parts r fault b = record { gap = r.gap; body = r.body; rest = line ∷ rest; stands = r.stands; begun = b.begun; breaks = b.cannot; tells = b.tells }
 
 -- the stream ends in an open block
 pub stops_at_end : (bytes : List ℕ) (begun : Option ℕ) (place : ℕ) (parts : List StreamPart)
-    → Reading (lines_of bytes) [] begun place parts
-    → (n : ℕ) → begun ≡ Some n → (span : Span) → span.start ≡ n → span.end ≡ place → (ps : List StreamPart) × StopsAfter bytes ps (Unfinished span)
+    → Reading bytes [] begun place parts → (n : ℕ) → begun ≡ Some n → (span : Span)
+    → span.start ≡ n → span.end ≡ place → StopsAfter bytes parts (Unfinished span)
 stops_at_end bytes begun place parts r n e span from upto =
-    let w = opened bytes [] begun place parts r n e in
-    stops_at bytes [] begun place parts r w.0 tt (Unfinished span) (tt, from ∙ w.1, omega (arith, upto, r.place_is))
+    let w = some_open r.body _ n (subst (Begins r.body _) e r.begins) in
+    record { gap = r.gap; body = r.body; rest = []; stands = r.stands; begun = w.0; breaks = tt; tells = (tt, from ∙ w.1, omega (arith, upto, r.place_is)) }

@@ -1,19 +1,18 @@
 -- The loop invariant of a splitter's `take_bytes`.
-use Rattle.std.proofs.Common.{◌≡◌, ◌≢◌, ℕ, ◌+◌, ◌-◌, ◌<◌, ◌≤◌, ◌^◌, Some, List, [], ◌∷◌, ◌++◌, length, take, drop, get_or, sym, ap, ◌∙◌, subst, ◌⊎◌, inl, inr, ⊎_elim, append_assoc, append-nil, length-append, length-take, length-drop, arith, take-append-drop}
+use Rattle.std.proofs.Common.{◌≡◌, ◌≢◌, ℕ, ◌+◌, ◌-◌, ◌<◌, ◌≤◌, ◌^◌, List, [], ◌∷◌, ◌++◌, length, take, drop, get_or, sym, ap, ◌∙◌, subst, ◌⊎◌, inl, inr, ⊎_elim, append_assoc, append-nil, length-append, length-take, length-drop, arith, take-append-drop}
 use Rattle.std.proofs.lemmas.Bool.{cases_lt}
 use Rattle.std.proofs.lemmas.List.{take_all, take-take}
 use Rattle.std.proofs.Math.Seq.{take-add}
 use Rattle.fz_stream.specs.declared.held.Ended.{Ended}
 use Rattle.fz_stream.specs.declared.held.Held.{Held}
 use Rattle.fz_stream.specs.declared.error.StreamError.{StreamError}
-use Rattle.fz_stream.specs.Lines.{lines_of, joined, kind_of, HasNoFeed, EndsWithFeed}
-use Rattle.fz_stream.specs.Parts.{StreamPart, Covers}
+use Rattle.fz_stream.specs.Lines.{lines_of, joined, HasNoFeed, EndsWithFeed}
+use Rattle.fz_stream.specs.Parts.{StreamPart}
 use Rattle.fz_stream.specs.Broken.{IsBrokenAfter}
 use Rattle.fz_stream.specs.Splitting.{Holds, HasRoomAt, HasRoomFor, PassesLimit}
-use Rattle.fz_stream.specs.Telling.{TellsOf}
 use Rattle.fz_stream.specs.Keeping.{Keeps, DropsLine, JoinsLine, HasLine, IsHeld, GoesOnHolding, EndsPart, BreaksBlock, KeepsAll, TakesPart}
-use Rattle.fz_stream.proofs.PartLemmas.{every_append, joined-append, joined_one}
-use Rattle.fz_stream.proofs.SplitLemmas.{keeps_more, keeps_filler, holds_current, ends_part, keeps_nothing, breaks, first_cut, whole_from_last, begun_from_last, whole_joined, no_feed_before}
+use Rattle.fz_stream.proofs.PartLemmas.{every_append, joined-append, joined_one, into_parts}
+use Rattle.fz_stream.proofs.SplitLemmas.{keeps_more, place, keeps_filler, holds_current, at_line, all_whole, breaks, first_cut, whole_from_last, begun_from_last, whole_joined, no_feed_before}
 
 pub record Taking (old now : Held) (piece : List ℕ) (at : ℕ) : Type 0 where
   pub within : at ≤ length piece
@@ -119,15 +118,18 @@ module _ (old now : Held) (piece : List ℕ) (at : ℕ) (t : Taking old now piec
     pub lines_mid : HasLine mid t.held.body (t.held.current ++ part)
     lines_mid = record { bytes = pushed ∙ bytes_mid; place = same_line ∙ t.held.lines.place; whole = t.held.lines.whole; own = t.held.lines.own }
 
-    joined_next : (bytes : List ℕ)
-        → (bytes ++ take at piece) ++ part ≡ bytes ++ take (at + length part) piece
-    joined_next bytes = append_assoc bytes (take at piece) part ∙ ap (λ l. bytes ++ l) (sym next)
-
     -- the bytes are held with the line's
     keeps_mid : (bytes : List ℕ) (parts : List StreamPart) → Keeps bytes parts old.buffer.items
         → Keeps (bytes ++ take (at + length part) piece) parts mid.buffer.items
     keeps_mid bytes parts k =
-        subst (λ b. Keeps b parts mid.buffer.items) (joined_next bytes) (subst (Keeps ((bytes ++ take at piece) ++ part) parts) (sym pushed) (keeps_more (bytes ++ take at piece) parts now.buffer.items (t.keeps bytes parts k) part))
+        subst (λ b. Keeps b parts mid.buffer.items) (append_assoc bytes (take at piece) part ∙ ap (λ l. bytes ++ l) (sym next))
+        (subst (Keeps ((bytes ++ take at piece) ++ part) parts) (sym pushed) (keeps_more (bytes ++ take at piece) parts now.buffer.items (t.keeps bytes parts k) part))
+
+    place_mid : (bytes : List ℕ) (parts : List StreamPart) (k : Keeps bytes parts old.buffer.items)
+        → old.before + length old.buffer.items ≡ length bytes
+        → mid.before ≡ length (joined (keeps_mid bytes parts k).covered) + length (joined (keeps_mid bytes parts k).gap)
+    place_mid bytes parts k size =
+        place _ parts mid.buffer.items (keeps_mid bytes parts k) mid.before (omega (arith, size, t.count, sizes, same_before, inside, length-append bytes (take (at + length part) piece), length-take (at + length part) piece))
 
     -- no line ended
     pub taking_begun : (get_or part (length part - 1) 0 ≡ 10 → ⊥)
@@ -188,9 +190,8 @@ module _ (old now : Held) (piece : List ℕ) (at : ℕ) (t : Taking old now piec
               (t.held.current ++ part) → Keeps
               (bytes ++ take (at + length part) piece) parts new.buffer.items
           dropped_keeps bytes parts k d =
-              subst (λ b. Keeps b parts new.buffer.items) (joined_next bytes)
-              (subst (Keeps ((bytes ++ take at piece) ++ part) parts) (sym d.empty)
-              (keeps_filler (bytes ++ take at piece) parts now.buffer.items (t.keeps bytes parts k) t.held.body t.held.lines.whole t.held.lines.own part (t.held.current ++ part) bytes_mid ends_whole d.none d.fills))
+              subst (Keeps (bytes ++ take (at + length part) piece) parts) (sym d.empty)
+              (keeps_filler _ parts mid.buffer.items (keeps_mid bytes parts k) t.held.body t.held.lines.whole t.held.lines.own (t.held.current ++ part) lines_mid.bytes ends_whole d.none d.fills)
 
       -- a part ended
       pub takes_part : (new : Held) (ended : Ended) → new.before + length new.buffer.items
@@ -198,31 +199,14 @@ module _ (old now : Held) (piece : List ℕ) (at : ℕ) (t : Taking old now piec
           → EndsPart new t.held.body (t.held.current ++ part) ended → (bytes : List ℕ) (parts : List StreamPart) → Keeps bytes parts old.buffer.items → old.before + length old.buffer.items ≡ length bytes
           → TakesPart new bytes (take (at + length part) piece) parts ended
       takes_part new ended count same e bytes parts k size =
-          let h = t.keeps bytes parts k in
-          let place : length (joined h.covered) + length (joined h.gap) ≡ new.before =
-          omega (
-            arith,
-            count,
-            ap length same,
-            t.count,
-            same_before,
-            size,
-            sizes,
-            ap length h.whole,
-            length-append bytes (take at piece),
-            length-take at piece,
-            t.within,
-            length-append (joined h.covered) (joined h.gap ++ now.buffer.items),
-            length-append (joined h.gap) now.buffer.items,
-          ) in
-          let here = e.lines (length (joined h.covered)) h.gap h.fillers place in
+          let h = keeps_mid bytes parts k in
+          let begins : length (joined h.covered) + length (joined h.gap) ≡ new.before = omega (arith, count, ap length same, place_mid bytes parts k size) in
+          let here = e.lines (length (joined h.covered)) h.gap h.fillers begins in
           record {
             part = e.part;
             is = e.is;
-            completes = subst (λ b. Covers b (parts ++ e.part ∷ []) []) (joined_next bytes)
-                (ends_part (bytes ++ take at piece) parts now.buffer.items h t.held.body t.held.lines.whole t.held.lines.own part (t.held.current ++ part) bytes_mid ends_whole e.part here);
-            keeps = subst (λ b. Keeps b (parts ++ e.part ∷ []) []) (joined_next bytes)
-                (keeps_nothing (bytes ++ take at piece) parts now.buffer.items h t.held.body t.held.lines.whole t.held.lines.own part (t.held.current ++ part) bytes_mid ends_whole e.part here);
+            completes = (into_parts _ parts h.gap t.held.body (t.held.current ++ part) [] (at_line _ parts mid.buffer.items h t.held.body t.held.lines.whole t.held.lines.own (t.held.current ++ part) lines_mid.bytes ends_whole) e.part here).covers;
+            are_whole = all_whole _ parts mid.buffer.items h t.held.body t.held.lines.whole t.held.lines.own (t.held.current ++ part) lines_mid.bytes ends_whole;
           }
 
       -- the line isn't allowed there
@@ -231,22 +215,7 @@ module _ (old now : Held) (piece : List ℕ) (at : ℕ) (t : Taking old now piec
           → Keeps bytes parts old.buffer.items
           → old.before + length old.buffer.items ≡ length bytes → IsBrokenAfter (bytes ++ piece) parts e
       takes_broken e b bytes parts k size =
-          let h = t.keeps bytes parts k in
-          let place : now.before ≡ length (joined h.covered) + length (joined h.gap) =
-          omega (
-            arith,
-            t.count,
-            size,
-            ap length h.whole,
-            length-append bytes (take at piece),
-            length-take at piece,
-            t.within,
-            length-append (joined h.covered) (joined h.gap ++ now.buffer.items),
-            length-append (joined h.gap) now.buffer.items,
-          ) in
-          let whole : (bytes ++ take at piece) ++ (part ++ drop (at + length part) piece) ≡ bytes ++ piece =
-          sym (append_assoc (bytes ++ take at piece) part (drop (at + length part) piece)) ∙ ap (λ l. l ++ drop (at + length part) piece) (joined_next bytes)
-          ∙ append_assoc bytes (take (at + length part) piece) (drop (at + length part) piece) ∙ ap (λ l. bytes ++ l) (take-append-drop (at + length part) piece) in
-          subst (λ l. IsBrokenAfter l parts e) whole
-          (breaks (bytes ++ take at piece) parts now.buffer.items h t.held.body t.held.lines.whole t.held.lines.own part (t.held.current ++ part) bytes_mid ends_whole b.begun b.cannot
-          e (subst (λ n. TellsOf n (joined t.held.body) (Some (kind_of (t.held.current ++ part))) e) place b.tells) (drop (at + length part) piece))
+          let h = keeps_mid bytes parts k in
+          subst (λ l. IsBrokenAfter l parts e) (append_assoc bytes (take (at + length part) piece) (drop (at + length part) piece) ∙ ap (λ l. bytes ++ l) (take-append-drop (at + length part) piece))
+          (breaks _ parts mid.buffer.items h t.held.body t.held.lines.whole t.held.lines.own (t.held.current ++ part) lines_mid.bytes ends_whole e
+          (subst (λ n. BreaksBlock n t.held.body (t.held.current ++ part) e) (sym same_before ∙ place_mid bytes parts k size) b) (drop (at + length part) piece))

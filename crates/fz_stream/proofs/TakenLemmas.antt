@@ -2,7 +2,7 @@
 use Rattle.std.proofs.Common.{◌≡◌, ℕ, ◌+◌, Option, Some, None, List, [], ◌∷◌, ◌++◌, length, IfSome, refl, sym, ap, ◌∙◌, subst}
 use Rattle.fz_stream.specs.Lines.{Line, joined}
 use Rattle.fz_stream.specs.Splitting.{SplitterState, WaitingPart, WaitingBlock, WaitingClaim, WaitsFor, WaitsForLast, WaitsForMore, Fits, EndsWith, Lends, IsPartOfItems, parts_of}
-use Rattle.fz_stream.proofs.ReadingLemmas.{three}
+use Rattle.fz_stream.proofs.OnePartLemmas.{three}
 use Rattle.fz_stream.specs.Parts.{StreamPart, BlockPart, ClaimPart, IsBlockText, AreLinesOf}
 
 abbrev HasText : StreamPart → Type 0

@@ -4,7 +4,7 @@ use Rattle.fz_syntax.specs.Places.{IsSpanWithin, IsPlacedWithin}
 use Rattle.fz_syntax.specs.SyntaxError.{SyntaxError}
 use Rattle.fz_syntax.specs.SyntaxError.TheVariants.{TooLong as TextTooLong, Memory as TextMemory}
 use Rattle.fz_stream.specs.declared.error.StreamError.{StreamError}
-use Rattle.fz_stream.specs.declared.error.StreamError.TheVariants.{TooLong, Item, DuplicateName, Unfinished, Memory, Failed}
+use Rattle.fz_stream.specs.declared.error.StreamError.TheVariants.{Item, DuplicateName, Unfinished, Failed}
 
 -- a fault of a block's text: neither out of memory, nor too many bytes, which no block has
 abbrev pub IsItemFault : SyntaxError → Type 0
@@ -12,19 +12,14 @@ IsItemFault e = (e ≢ TextMemory) × (e ≢ TextTooLong)
 
 -- the errors by which a stream may be refused, where no call has failed before
 abbrev pub IsStreamFault : StreamError → Type 0
-IsStreamFault TooLong = Unit {0}
 IsStreamFault (Item e) = IsItemFault e
-IsStreamFault (DuplicateName span) = Unit {0}
-IsStreamFault (Unfinished span) = Unit {0}
-IsStreamFault Memory = Unit {0}
 IsStreamFault Failed = ⊥
+IsStreamFault _ = Unit {0}
 
 -- the byte range that a refusal names, if it names one, is within the first bytes of the stream, as
 -- many as given
 abbrev pub IsFaultWithin : ℕ → StreamError → Type 0
-IsFaultWithin n TooLong = Unit {0}
 IsFaultWithin n (Item e) = IsPlacedWithin n e
 IsFaultWithin n (DuplicateName span) = IsSpanWithin n span
 IsFaultWithin n (Unfinished span) = IsSpanWithin n span
-IsFaultWithin n Memory = Unit {0}
-IsFaultWithin n Failed = Unit {0}
+IsFaultWithin n _ = Unit {0}

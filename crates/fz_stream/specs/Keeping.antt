@@ -56,9 +56,8 @@ GoesOnHolding old new body line = DropsLine new body line ⊎ JoinsLine old new 
 -- what a part that ended is; of a block, with this offset and text
 abbrev pub EndedAs : Ended → ℕ → List ℕ → StreamPart → Type 0
 EndedAs BlockEnded offset text (BlockPart block) = (block.offset ≡ offset) × (block.text ≡ text)
-EndedAs BlockEnded offset text (ClaimPart kind) = ⊥
-EndedAs (ClaimEnded kind) offset text (BlockPart block) = ⊥
 EndedAs (ClaimEnded kind) offset text (ClaimPart other) = kind ≡ other
+EndedAs _ offset text _ = ⊥
 
 -- The lines that are held are those of a part, with blank lines and comments before it.
 pub record EndsPart (h : Held) (body : List Line) (line : Line) (ended : Ended) : Type 0 where
@@ -83,9 +82,8 @@ pub record IsWaiting (text : List ℕ) (kept : Option KeptItems) : Type 0 where
 
 -- where a block waits, its items are stored or were released
 abbrev pub IsKept : Option Ended → Held → Type 0
-IsKept None h = Unit {0}
 IsKept (Some BlockEnded) h = IsWaiting (take h.line h.buffer.items) h.kept
-IsKept (Some (ClaimEnded kind)) h = Unit {0}
+IsKept _ h = Unit {0}
 
 -- All of the piece was taken, and no part ended.
 pub record KeepsAll (old new : Held) (piece : List ℕ) (n : ℕ) : Type 0 where
@@ -100,17 +98,23 @@ pub record TakesPart (new : Held) (bytes taken : List ℕ) (parts : List StreamP
   pub part : StreamPart
   pub is : EndedAs ended new.before (take new.line new.buffer.items) part
   pub completes : Covers (bytes ++ taken) (parts ++ part ∷ []) []
-  pub keeps : Keeps (bytes ++ taken) (parts ++ part ∷ []) []
+  pub are_whole : AllByRecursion EndsWithFeed completes.covered
+
+-- A block is open, and what is held is its lines, the body, of which the first begins at the
+-- offset.
+pub record IsLeftOpen (h : Held) (offset : ℕ) (body : List Line) : Type 0 where
+  pub line : h.line ≢ 0
+  pub some : body ≢ []
+  pub place : h.before ≡ offset
+  pub size : length h.buffer.items ≡ length (joined body)
 
 -- At the end of the stream a block is open whose lines are the body, or none is.
 pub record EndsOpen (h : Held) (bytes : List ℕ) (parts : List StreamPart) : Type 0 where
   pub gap : List Line
   pub body : List Line
   pub stands : GoesOnAfter bytes parts gap body []
-  pub none : h.line ≡ 0 → body ≡ []
-  pub some : h.line ≢ 0 → body ≢ []
-  pub place : h.line ≢ 0 → h.before ≡ length (joined stands.covers.covered) + length (joined gap)
-  pub size : h.line ≢ 0 → length h.buffer.items ≡ length (joined body)
+  pub left : ((h.line ≡ 0) × (body ≡ []))
+      ⊎ IsLeftOpen h (length (joined stands.covers.covered) + length (joined gap)) body
 
 -- At the end of the stream the bytes are a text of the parts, and of one more where one ended.
 abbrev pub EndsStream : Held → List ℕ → List StreamPart → Option Ended → Type 0

@@ -71,20 +71,16 @@ kind_of line = kind_of_trimmed (trimmed line)
 abbrev pub IsFillerKind : LineKind → Type 0
 IsFillerKind Blank = Unit {0}
 IsFillerKind Comment = Unit {0}
-IsFillerKind Marker = ⊥
-IsFillerKind (Claim kind) = ⊥
-IsFillerKind Item = ⊥
+IsFillerKind _ = ⊥
 
 -- a blank line or a comment
 abbrev pub IsFiller : Line → Type 0
 IsFiller line = IsFillerKind (kind_of line)
 
 abbrev pub IsInnerKind : LineKind → Type 0
-IsInnerKind Blank = Unit {0}
-IsInnerKind Comment = Unit {0}
 IsInnerKind Marker = ⊥
 IsInnerKind (Claim kind) = ⊥
-IsInnerKind Item = Unit {0}
+IsInnerKind _ = Unit {0}
 
 -- a line that is neither a marker nor a claim
 abbrev pub IsInner : Line → Type 0

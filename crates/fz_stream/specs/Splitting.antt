@@ -33,9 +33,8 @@ pub record SplitterState : Type 0 where
 abbrev pub WaitsFor : WaitingPart → StreamPart → Type 0
 WaitsFor (WaitingBlock offset text) (BlockPart block) =
     (offset ≡ block.offset) × (text ≡ block.text)
-WaitsFor (WaitingBlock offset text) (ClaimPart kind) = ⊥
-WaitsFor (WaitingClaim kind) (BlockPart block) = ⊥
 WaitsFor (WaitingClaim kind) (ClaimPart other) = kind ≡ other
+WaitsFor _ _ = ⊥
 
 -- the part that waits, if one does, is the last of the parts
 abbrev pub WaitsForLast : Option WaitingPart → List StreamPart → Type 0
@@ -48,9 +47,7 @@ WaitsForLast (Some waiting) parts =
 abbrev pub WaitsForMore : Option WaitingPart → List StreamPart → Type 0
 WaitsForMore None [] = Unit {0}
 WaitsForMore (Some waiting) (part ∷ []) = WaitsFor waiting part
-WaitsForMore None (part ∷ more) = ⊥
-WaitsForMore (Some waiting) [] = ⊥
-WaitsForMore (Some waiting) (part ∷ next ∷ more) = ⊥
+WaitsForMore _ _ = ⊥
 
 -- In the bytes these parts have ended. After the parts come blank lines and comments, then the
 -- whole lines of an open block, if one is open, then the current line, which has no LF yet. The
@@ -122,8 +119,7 @@ pub record EndsWith (s : SplitterState) (bytes : List ℕ)
 abbrev pub Lends : Option WaitingPart → Option StreamPart → Type 0
 Lends None None = Unit {0}
 Lends (Some waiting) (Some part) = WaitsFor waiting part
-Lends None (Some part) = ⊥
-Lends (Some waiting) None = ⊥
+Lends _ _ = ⊥
 
 -- a block's text is one of its items, and of no others
 abbrev pub IsPartOfItems : StreamPart → Type 0

@@ -4,10 +4,10 @@ use Rattle.std.specs.Prelude.{ℕ, Option, Some, None, if◌then◌else◌, ◌=
 use Rattle.fz_stream.specs.declared.line.LineKind.{LineKind}
 use Rattle.fz_stream.specs.declared.line.LineKind.TheVariants.{Blank, Comment, Marker, Claim, Item}
 use Rattle.fz_stream.specs.declared.error.StreamError.{StreamError}
-use Rattle.fz_stream.specs.declared.error.StreamError.TheVariants.{TooLong, Item as OfItem, DuplicateName, Unfinished, Memory, Failed}
+use Rattle.fz_stream.specs.declared.error.StreamError.TheVariants.{TooLong}
 use Rattle.fz_stream.specs.declared.step.Step.{Step}
 use Rattle.fz_stream.specs.declared.step.Step.TheVariants.{GoesOn, EndsBlock, Claims, Breaks}
-use Rattle.fz_stream.specs.Faults.{IsItemFault}
+use Rattle.fz_stream.specs.Faults.{IsStreamFault}
 
 -- `begun` is the byte offset of the open block's text, if one is open, and `at` that of the line
 abbrev pub step_of : Option ℕ → ℕ → LineKind → Step
@@ -20,23 +20,10 @@ step_of (Some start) at Marker = EndsBlock start
 step_of None at (Claim kind) = Claims kind
 step_of (Some start) at (Claim kind) = Breaks start
 
--- the errors of a block's text, and out of memory
-abbrev pub IsBlockFault : StreamError → Type 0
-IsBlockFault TooLong = ⊥
-IsBlockFault (OfItem e) = IsItemFault e
-IsBlockFault (DuplicateName span) = Unit {0}
-IsBlockFault (Unfinished span) = ⊥
-IsBlockFault Memory = Unit {0}
-IsBlockFault Failed = ⊥
-
 -- neither a limit nor an earlier failure
 abbrev pub IsLineFault : StreamError → Type 0
 IsLineFault TooLong = ⊥
-IsLineFault (OfItem e) = IsItemFault e
-IsLineFault (DuplicateName span) = Unit {0}
-IsLineFault (Unfinished span) = Unit {0}
-IsLineFault Memory = Unit {0}
-IsLineFault Failed = ⊥
+IsLineFault e = IsStreamFault e
 
 -- the offset where the open block begins, if one is open: its whole lines have the first length,
 -- and so many bytes come before it

@@ -9,7 +9,7 @@ use Rattle.fz_syntax.specs.Text.{IsTextOfItems, IsRefusalOf}
 use Rattle.fz_syntax.specs.Tree.{Printed as PlainPrinted}
 use Rattle.fz_syntax.specs.View.{bare_items}
 use Rattle.fz_stream.specs.declared.error.StreamError.{StreamError}
-use Rattle.fz_stream.specs.declared.error.StreamError.TheVariants.{TooLong, Item, DuplicateName, Unfinished, Memory, Failed}
+use Rattle.fz_stream.specs.declared.error.StreamError.TheVariants.{Item, DuplicateName, Unfinished, Memory}
 use Rattle.fz_stream.specs.declared.line.ClaimKind.{ClaimKind}
 use Rattle.fz_stream.specs.declared.line.LineKind.{LineKind}
 use Rattle.fz_stream.specs.declared.line.LineKind.TheVariants.{Marker, Claim}
@@ -50,10 +50,8 @@ abbrev pub TellsOfText : ℕ → List ℕ → StreamError → Type 0
 TellsOfText offset text (Item fault) =
     (own : SyntaxError) × IsFaultOfText text own × (Item fault ≡ item_fault offset own)
 TellsOfText offset text (DuplicateName span) = IsSecondPrinting offset text span
-TellsOfText offset text (Unfinished span) = ⊥
-TellsOfText offset text TooLong = ⊥
-TellsOfText offset text Failed = ⊥
 TellsOfText offset text Memory = Unit {0}
+TellsOfText offset text _ = ⊥
 
 -- the kind of the first line, where there is one
 abbrev pub first_kind : List Line → Option LineKind
@@ -75,6 +73,5 @@ TellsOf offset text behind (Item fault) =
     (behind ≡ Some Marker) × TellsOfText offset text (Item fault)
 TellsOf offset text behind (DuplicateName span) =
     (behind ≡ Some Marker) × TellsOfText offset text (DuplicateName span)
-TellsOf offset text behind TooLong = ⊥
-TellsOf offset text behind Failed = ⊥
 TellsOf offset text behind Memory = Unit {0}
+TellsOf offset text behind _ = ⊥

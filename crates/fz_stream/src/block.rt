@@ -6,7 +6,7 @@ ghost use Rattle.fz_syntax.specs.View.{bare_items};
 ghost use Rattle.fz_stream.specs.Faults.{IsFaultWithin};
 ghost use Rattle.fz_stream.specs.Found.{HasPlaces};
 ghost use Rattle.fz_stream.specs.Parts.{IsBlockText, HasDistinctNames};
-ghost use Rattle.fz_stream.specs.Step.{IsBlockFault};
+ghost use Rattle.fz_stream.specs.Step.{IsLineFault};
 ghost use Rattle.fz_stream.specs.Telling.{PrintsAgain, TellsOfText};
 
 use crate::error::{StreamError, item_fault, moved_span};
@@ -63,7 +63,7 @@ pub fn read_block<'a>(
     ensures places { IfOk result HasPlaces }
     ensures refused { IfErr result (λ e. e ≢ StreamError.Memory → (items : List PlainPrinted)
         → IsBlockText text.now items → ⊥) }
-    ensures fault { IfErr result IsBlockFault }
+    ensures fault { IfErr result IsLineFault }
     ensures place { IfErr result (IsFaultWithin (offset + length text.now)) }
     ensures tells { IfErr result (TellsOfText offset text.now) }
 {

@@ -172,39 +172,27 @@ pub fn take_bytes(
     Ok((at, None))
 }
 
-/// Ends the current line, where it isn't empty, as the last one.
-fn end_last_line(alloc: Global, held: &mut Held) -> Result<Option<Ended>, StreamError>
-    requires line { held.old.line ≤ length held.old.buffer.items }
-    requires most { length held.old.buffer.items ≤ most_held }
-    requires taken { held.old.before + length held.old.buffer.items ≤ most_taken }
-    requires held { IsHeld held.old }
-    ensures line_after { held.new.line ≤ length held.new.buffer.items }
-    ensures taken { held.new.before + length held.new.buffer.items
-        ≡ held.old.before + length held.old.buffer.items }
-    ensures shorter { length held.new.buffer.items ≤ length held.old.buffer.items }
-    ensures goes_on { IfOk result (λ r. r ≡ None → (bytes : List ℕ) (parts : List StreamPart)
-        → Keeps bytes parts held.old.buffer.items →
-        held.old.before + length held.old.buffer.items ≡ length bytes
-        → EndsOpen held.new bytes parts) }
-    ensures ends { IfOk result (λ r. (ended : Ended) → r ≡ Some ended
-        → (bytes : List ℕ) (parts : List StreamPart) → Keeps bytes parts held.old.buffer.items →
-        held.old.before + length held.old.buffer.items ≡ length bytes
-        → EndsStream held.new bytes parts (Some ended)) }
-    ensures kept { IfOk result (λ r. IsKept r held.new) }
-    ensures broken { IfErr result (λ e. e ≢ StreamError.Memory
-        → (bytes : List ℕ) (parts : List StreamPart) → Keeps bytes parts held.old.buffer.items →
-        held.old.before + length held.old.buffer.items ≡ length bytes
-        → IsBrokenAtEndAfter bytes parts e) }
+/// Ends a stream of which all lines have ended. An open block is a fault.
+fn end_open(held: &Held) -> Result<Option<Ended>, StreamError>
+    requires { held.now.before + length held.now.buffer.items ≤ most_taken }
+    ensures ends { IfOk result (λ r. (bytes : List ℕ) (parts : List StreamPart)
+        → EndsOpen held.now bytes parts → EndsStream held.now bytes parts r) }
+    ensures kept { IfOk result (λ r. IsKept r held.now) }
+    ensures broken { IfErr result (λ e. (bytes : List ℕ) (parts : List StreamPart)
+        → EndsOpen held.now bytes parts → IsBrokenAtEndAfter bytes parts e) }
     ensures fault { IfErr result IsLineFault }
-    ensures place { IfErr result (IsFaultWithin (held.old.before + length held.old.buffer.items)) }
+    ensures place { IfErr result (IsFaultWithin (held.now.before + length held.now.buffer.items)) }
 {
-    if held.line == held.buffer.len() {
-        return Ok(None);
+    if held.line > 0 {
+        let start = held.before;
+        let end = start + held.buffer.len();
+        return Err(StreamError::Unfinished(Span { start, end }));
     }
-    end_line(alloc, held)
+    Ok(None)
 }
 
-/// Ends the stream: with a last part, with none, or with a fault.
+/// Ends the stream: with a last part, with none, or with a fault. The current line, where it isn't
+/// empty, is the last one.
 pub fn end_stream(alloc: Global, held: &mut Held) -> Result<Option<Ended>, StreamError>
     requires line { held.old.line ≤ length held.old.buffer.items }
     requires most { length held.old.buffer.items ≤ most_held }
@@ -226,12 +214,11 @@ pub fn end_stream(alloc: Global, held: &mut Held) -> Result<Option<Ended>, Strea
     ensures fault { IfErr result IsLineFault }
     ensures place { IfErr result (IsFaultWithin (held.old.before + length held.old.buffer.items)) }
 {
-    let ended = end_last_line(alloc, held)?;
-    let is_open = held.line > 0;
-    if ended.is_none() && is_open {
-        let start = held.before;
-        let end = start + held.buffer.len();
-        return Err(StreamError::Unfinished(Span { start, end }));
+    if held.line == held.buffer.len() {
+        return end_open(held);
     }
-    Ok(ended)
+    if let Some(ended) = end_line(alloc, held)? {
+        return Ok(Some(ended));
+    }
+    end_open(held)
 }

@@ -11,7 +11,7 @@ ghost use Rattle.fz_stream.specs.Faults.{IsFaultWithin};
 ghost use Rattle.fz_stream.specs.Found.{HasPlaces};
 ghost use Rattle.fz_stream.specs.Kept.{kept_of, bare_kept, kept_spots, AreKept, AreKeptOf, IsTextOfBlock};
 ghost use Rattle.fz_stream.specs.Parts.{IsBlockText};
-ghost use Rattle.fz_stream.specs.Step.{IsBlockFault};
+ghost use Rattle.fz_stream.specs.Step.{IsLineFault};
 ghost use Rattle.fz_stream.specs.Telling.{TellsOfText};
 
 use crate::block::{Block, read_block};
@@ -54,7 +54,7 @@ pub fn read_kept(alloc: Global, offset: usize, text: &[u8]) -> Result<KeptItems,
     ensures kept { IfOk result (AreKeptOf text.now) }
     ensures refused { IfErr result (λ e. e ≢ StreamError.Memory → (items : List PlainPrinted)
         → IsBlockText text.now items → ⊥) }
-    ensures fault { IfErr result IsBlockFault }
+    ensures fault { IfErr result IsLineFault }
     ensures place { IfErr result (IsFaultWithin (offset + length text.now)) }
     ensures tells { IfErr result (TellsOfText offset text.now) }
 {

@@ -65,7 +65,7 @@ fn before_blanks(line: &[u8]) -> &[u8]
     rest
 }
 
-/// The kind of a line that begins with `-` or `=`, given without the blanks at its ends.
+/// The kind of a line that has words and is no comment.
 fn kind_by_words(words: &[u8]) -> LineKind
     ensures { result ≡ kind_of_words words.now }
 {
@@ -88,20 +88,18 @@ fn kind_by_words(words: &[u8]) -> LineKind
     }
 }
 
-/// The kind of a line. Most lines are items, and begin with a letter: their first byte decides.
+/// The kind of a line: its words are the line without the blanks at its ends.
 pub fn line_kind(line: &[u8]) -> LineKind
     ensures { result ≡ kind_of line.now }
 {
-    let text = after_blanks(line);
-    match text {
+    let words = before_blanks(after_blanks(line));
+    match words {
         [] => LineKind::Blank,
         [first, ..] => {
             if *first == b'%' {
                 LineKind::Comment
-            } else if *first == b'-' || *first == b'=' {
-                kind_by_words(before_blanks(text))
             } else {
-                LineKind::Item
+                kind_by_words(words)
             }
         }
     }

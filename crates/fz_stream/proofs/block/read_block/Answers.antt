@@ -2,15 +2,12 @@ use Rattle.std.proofs.Common.{◌≡◌, ◌+◌, length, Err, arith, sym, ap, �
 use Rattle.fz_syntax.specs.SyntaxError.TheVariants.{TooLong}
 use Rattle.fz_syntax.specs.Places.{IsSpanWithin}
 use Rattle.fz_stream.specs.Faults.{IsFaultWithin}
-use Rattle.fz_stream.specs.Step.{IsBlockFault}
+use Rattle.fz_stream.specs.Step.{IsLineFault}
 use Rattle.fz_stream.specs.Telling.{TellsOfText}
 use Rattle.fz_stream.specs.declared.error.StreamError.TheVariants.{Memory}
-use Rattle.fz_stream.proofs.FaultLemmas.{placed_more, placed_fault, block_fault, no_value, tells_text}
+use Rattle.fz_stream.proofs.FaultLemmas.{placed_fault, block_fault, no_value, tells_text}
 use Rattle.fz_stream.proofs.PlaceLemmas.{again_in, again_within, second_printing}
 use Rattle.fz_stream.proofs.block.read_block.Goals as goal
-
-pub item_fault-requires : goal.item_fault-requires
-item_fault-requires c = placed_more (length c.args.text.now) _ c.in-Err.e (omega (arith, c.requires.fits)) c.in-Err.ensures.placed
 
 pub returns-in-Err : goal.returns-in-Err
 returns-in-Err c =
@@ -22,7 +19,7 @@ returns-in-Err c =
       only = tt;
       places = tt;
       refused = λ known items t. no_value c.args.offset c.in-Err.e items (subst (λ f. f ≡ Memory → ⊥) c.item_fault.ensures known) (c.in-Err.ensures.only items t.0);
-      fault = subst IsBlockFault (sym c.item_fault.ensures) (block_fault c.args.offset c.in-Err.e short);
+      fault = subst IsLineFault (sym c.item_fault.ensures) (block_fault c.args.offset c.in-Err.e short);
       place = subst (IsFaultWithin (c.args.offset + length c.args.text.now)) (sym c.item_fault.ensures) (placed_fault c.args.offset (length c.args.text.now) c.in-Err.e c.in-Err.ensures.placed);
       tells = subst (TellsOfText c.args.offset c.args.text.now) (sym c.item_fault.ensures) (tells_text c.args.offset c.args.text.now c.in-Err.e short c.in-Err.ensures.only c.in-Err.ensures.order c.in-Err.ensures.placed);
     }

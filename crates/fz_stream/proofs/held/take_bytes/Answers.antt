@@ -5,12 +5,6 @@ use Rattle.fz_stream.proofs.TakeLemmas.{taking_begun, taking_line, takes_part, t
 use Rattle.fz_stream.proofs.held.take_bytes.Goals as goal
 use Rattle.fz_stream.proofs.held.take_bytes.Goals.{then-part-room-via-then-part-room, then-part-room-via-else-part-room+then-part-left}
 
-pub overflow_sub-room : goal.overflow_sub-room
-overflow_sub-room c = omega (arith, c.loop-at.invariant.most, c.loop-at.held.buffer.ok.0)
-
-pub overflow_sub-left : goal.overflow_sub-left
-overflow_sub-left c = omega (arith, c.loop-at.invariant.most_taken, c.loop-at.held.buffer.ok.0)
-
 pub loop-at-preserved : goal.loop-at-preserved
 loop-at-preserved c =
     let room : length c.loop-at.held.buffer.items + length c.first_line-part.result.now ≤ 2 ^ 24 = omega arith in

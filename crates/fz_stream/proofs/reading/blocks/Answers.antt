@@ -1,16 +1,22 @@
-use Rattle.std.proofs.Common.{refl, length, ◌≡◌, ℕ, sym, ap, ◌∙◌, subst, arith}
+use Rattle.std.proofs.Common.{refl, length, ◌≡◌, ◌≢◌, ℕ, List, Result, Ok, Err, IfErr, sym, ap, ◌∙◌, subst, arith}
 use Rattle.std.proofs.lemmas.List.{map_push, length-map, take_rest}
 use Rattle.std.proofs.lemmas.Result.{err_from_is_err_and}
 use Rattle.fz_syntax.specs.View.{bare_items}
 use Rattle.fz_stream.specs.Found.{block_of, HasPlaces, EndsWithin}
 use Rattle.fz_stream.proofs.PartLemmas.{every_append}
 use Rattle.fz_stream.proofs.FoundLemmas.{read_in_order, read_before_markers}
-use Rattle.fz_stream.proofs.SoFar.{start_so_far, so_far_goes_on, so_far_block, so_far_claim, so_far_no_block, so_far_no_claim, so_far_read_at, so_far_open_at, so_far_stops_at_marker, so_far_stops_at_claim, so_far_stops_at_end, so_far_text_within}
-use Rattle.fz_stream.specs.Parts.{IsBlockText}
+use Rattle.fz_stream.proofs.SoFar.{start_so_far, now, so_far_goes_on, so_far_block, so_far_claim, so_far_read, so_far_stops_at_end, so_far_text_within}
+use Rattle.fz_stream.proofs.OnePartLemmas.{stops_no_text}
+use Rattle.fz_stream.proofs.ReadingLemmas.{line_does, text_is}
+use Rattle.fz_stream.proofs.StopLemmas.{breaks_block, breaks_claim, stops_at}
+use Rattle.fz_stream.specs.Broken.{StopsAfter}
+use Rattle.fz_stream.specs.Parts.{StreamPart, IsBlockText, IsStreamText}
 use Rattle.fz_stream.specs.declared.line.ClaimKind.{ClaimKind}
 use Rattle.fz_stream.specs.declared.reading.Claim.{Claim}
-use Rattle.fz_stream.specs.Step.{step_of, IsBlockFault}
-use Rattle.fz_stream.specs.declared.error.StreamError.TheVariants.{TooLong}
+use Rattle.fz_stream.specs.Step.{step_of, IsLineFault}
+use Rattle.fz_stream.specs.declared.error.StreamError.{StreamError}
+use Rattle.fz_stream.specs.declared.error.StreamError.TheVariants.{TooLong, Memory}
+use Rattle.fz_stream.specs.declared.step.Step.TheVariants.{EndsBlock, Breaks}
 use Rattle.fz_stream.proofs.reading.blocks.Goals as goal
 use Rattle.fz_stream.proofs.reading.blocks.Goals.{in-GoesOn, in-EndsBlock+in_ok-block-in-EndsBlock+in_ok-push-in-EndsBlock, in-Claims+in_ok-push-in-Claims}
 
@@ -30,22 +36,9 @@ returns-in_err-block-in-EndsBlock-clause-too_long c =
     let p = err_from_is_err_and c.from_residual.result c.from_residual.ensures.1 in (
       λ h. (
           let same : p.0 ≡ TooLong = cc in
-          absurd (subst IsBlockFault (sym p.2 ∙ same) c.in_err-block-in-EndsBlock.ensures.fault)),
+          absurd (subst IsLineFault (sym p.2 ∙ same) c.in_err-block-in-EndsBlock.ensures.fault)),
       λ long. absurd (omega (arith, long)),
     )
-
-pub returns-in_err-block-in-EndsBlock-clause-refused :
-    goal.returns-in_err-block-in-EndsBlock-clause-refused
-returns-in_err-block-in-EndsBlock-clause-refused c =
-    let p = err_from_is_err_and c.from_residual.result c.from_residual.ensures.1 in
-    rw (p.1, p.2) (λ known _.
-    so_far_no_block _ _ _ _ _ c.loop-at.invariant.so_far _ (take_rest c.args.stream.now c.loop-at.at) c.first_line-line.result.now c.first_line-line.ensures.within c.first_line-line.ensures.cut c.in-EndsBlock.start
-    (ap (step_of _ _) (sym c.line_kind.ensures) ∙ sym c.in-EndsBlock.ensures) (c.in_err-block-in-EndsBlock.ensures.refused known))
-
-pub returns-in-Breaks-clause-refused : goal.returns-in-Breaks-clause-refused
-returns-in-Breaks-clause-refused c _ _ =
-    so_far_no_claim _ _ _ _ _ c.loop-at.invariant.so_far _ (take_rest c.args.stream.now c.loop-at.at) c.first_line-line.result.now c.first_line-line.ensures.within c.first_line-line.ensures.cut c.in-Breaks.start
-    (ap (step_of _ _) (sym c.line_kind.ensures) ∙ sym c.in-Breaks.ensures)
 
 pub loop-at-preserved : goal.loop-at-preserved
 loop-at-preserved c =
@@ -62,8 +55,7 @@ loop-at-preserved c =
             so_far_block _ _ _ _ _ c.loop-at.invariant.so_far _ (take_rest c.args.stream.now c.loop-at.at) c.first_line-line.result.now c.first_line-line.ensures.within c.first_line-line.ensures.cut w.in-EndsBlock.start
             (ap (step_of _ _) (sym c.line_kind.ensures) ∙ sym w.in-EndsBlock.ensures) (block_of w.in_ok-block-in-EndsBlock.block)
             w.in_ok-block-in-EndsBlock.ensures.offset w.in_ok-block-in-EndsBlock.ensures.text
-            (subst (λ t. IsBlockText t (bare_items w.in_ok-block-in-EndsBlock.block.items.items)) (sym w.in_ok-block-in-EndsBlock.ensures.text) w.in_ok-block-in-EndsBlock.ensures.items)
-            (λ others h. w.in_ok-block-in-EndsBlock.ensures.only others (subst (λ t. IsBlockText t others) w.in_ok-block-in-EndsBlock.ensures.text h)));
+            (subst (λ t. IsBlockText t (bare_items w.in_ok-block-in-EndsBlock.block.items.items)) (sym w.in_ok-block-in-EndsBlock.ensures.text) w.in_ok-block-in-EndsBlock.ensures.items));
         places = rw (w.blocks-is, w.in_ok-push-in-EndsBlock.ensures.items) (every_append HasPlaces _ _ c.loop-at.invariant.places (w.in_ok-block-in-EndsBlock.ensures.places, tt));
         within = rw (w.blocks-is, w.in_ok-push-in-EndsBlock.ensures.items) (
             every_append (EndsWithin (length c.args.stream.now)) _ _ c.loop-at.invariant.within (
@@ -82,36 +74,53 @@ loop-at-preserved c =
       }
     ]
 
-pub returns-in-Some-clause-refused : goal.returns-in-Some-clause-refused
-returns-in-Some-clause-refused c _ _ = so_far_open_at c.args.stream.now c.loop-at.at _ _ (omega (arith, c.loop-at-test.false)) c.loop-at.begun c.in-Some.start c.in-Some.is c.loop-at.invariant.so_far
-
 pub returns-clause-read : goal.returns-clause-read
-returns-clause-read c = so_far_read_at c.args.stream.now c.loop-at.at _ _ (omega (arith, c.loop-at-test.false)) c.loop-at.begun c.in-None.is c.loop-at.invariant.so_far
-
-pub returns-clause-places : goal.returns-clause-places
-returns-clause-places c = c.loop-at.invariant.places
+returns-clause-read c = so_far_read c.args.stream.now c.loop-at.at _ _ (omega (arith, c.loop-at-test.false)) c.loop-at.begun c.loop-at.invariant.so_far c.in-None.is
 
 pub returns-clause-before_markers : goal.returns-clause-before_markers
-returns-clause-before_markers c = read_before_markers _ _ _ (so_far_read_at c.args.stream.now c.loop-at.at _ _ (omega (arith, c.loop-at-test.false)) c.loop-at.begun c.in-None.is c.loop-at.invariant.so_far)
+returns-clause-before_markers c = read_before_markers _ _ _ (so_far_read c.args.stream.now c.loop-at.at _ _ (omega (arith, c.loop-at-test.false)) c.loop-at.begun c.loop-at.invariant.so_far c.in-None.is)
 
 pub returns-clause-claims_in_order : goal.returns-clause-claims_in_order
 returns-clause-claims_in_order c =
-    read_in_order _ _ _ _ (so_far_read_at c.args.stream.now c.loop-at.at _ _ (omega (arith, c.loop-at-test.false)) c.loop-at.begun c.in-None.is c.loop-at.invariant.so_far)
+    read_in_order _ _ _ _ (so_far_read c.args.stream.now c.loop-at.at _ _ (omega (arith, c.loop-at-test.false)) c.loop-at.begun c.loop-at.invariant.so_far c.in-None.is)
     (omega (arith, c.loop-at.blocks.ok.0, length-map c.loop-at.blocks.items block_of))
 
 pub returns-in_err-block-in-EndsBlock-clause-stops :
     goal.returns-in_err-block-in-EndsBlock-clause-stops
 returns-in_err-block-in-EndsBlock-clause-stops c =
     let p = err_from_is_err_and c.from_residual.result c.from_residual.ensures.1 in
-    rw (p.1, p.2) (λ known _.
-    so_far_stops_at_marker _ _ _ _ _ c.loop-at.invariant.so_far _ (take_rest c.args.stream.now c.loop-at.at) c.first_line-line.result.now c.first_line-line.ensures.within c.first_line-line.ensures.cut c.in-EndsBlock.start
-    (ap (step_of _ _) (sym c.line_kind.ensures) ∙ sym c.in-EndsBlock.ensures) (c.in_err-block-in-EndsBlock.ensures.refused known) _ c.in_err-block-in-EndsBlock.ensures.tells)
+    let s = c.loop-at.invariant.so_far in
+    let n = now _ _ _ _ _ s _ (take_rest c.args.stream.now c.loop-at.at) c.first_line-line.result.now c.first_line-line.ensures.within c.first_line-line.ensures.cut in
+    let d = line_does _ _ _ _ _ _ n (EndsBlock c.in-EndsBlock.start) (ap (step_of _ _) (sym c.line_kind.ensures) ∙ sym c.in-EndsBlock.ensures) in
+    rw (p.1, p.2) (λ known _. (
+      s.parts,
+      stops_at _ _ _ _ _ _ n _ (breaks_block _ c.in-EndsBlock.start n.body _ d _ (text_is _ _ _ _ _ _ n c.in-EndsBlock.start d.1) (c.in_err-block-in-EndsBlock.ensures.refused known) _ _ d.1 c.in_err-block-in-EndsBlock.ensures.tells),
+    ))
 
 pub returns-in-Breaks-clause-stops : goal.returns-in-Breaks-clause-stops
 returns-in-Breaks-clause-stops c _ _ =
-    so_far_stops_at_claim _ _ _ _ _ c.loop-at.invariant.so_far _ (take_rest c.args.stream.now c.loop-at.at) c.first_line-line.result.now c.first_line-line.ensures.within c.first_line-line.ensures.cut c.in-Breaks.start
-    (ap (step_of _ _) (sym c.line_kind.ensures) ∙ sym c.in-Breaks.ensures) _ refl refl
+    let s = c.loop-at.invariant.so_far in
+    let n = now _ _ _ _ _ s _ (take_rest c.args.stream.now c.loop-at.at) c.first_line-line.result.now c.first_line-line.ensures.within c.first_line-line.ensures.cut in
+    let d = line_does _ _ _ _ _ _ n (Breaks c.in-Breaks.start) (ap (step_of _ _) (sym c.line_kind.ensures) ∙ sym c.in-Breaks.ensures) in
+    (s.parts, stops_at _ _ _ _ _ _ n _ (breaks_claim _ c.in-Breaks.start n.body _ d _ refl n.place_is))
 
 pub returns-in-Some-clause-stops : goal.returns-in-Some-clause-stops
 returns-in-Some-clause-stops c _ _ =
-    so_far_stops_at_end c.args.stream.now c.loop-at.at _ _ (omega (arith, c.loop-at-test.false)) c.loop-at.begun c.in-Some.start c.in-Some.is c.loop-at.invariant.so_far _ refl refl
+    (_, so_far_stops_at_end c.args.stream.now c.loop-at.at _ _ (omega (arith, c.loop-at-test.false)) c.loop-at.begun c.loop-at.invariant.so_far c.in-Some.start c.in-Some.is _ refl refl)
+
+-- where it stops, no parts are there
+refused : {X : Type 0} (bytes : List ℕ) (r : Result X StreamError)
+    → IfErr r (λ e. e ≢ Memory → e ≢ TooLong → (parts : List StreamPart) × StopsAfter bytes parts e)
+    → IfErr r (λ e. e ≢ Memory → e ≢ TooLong → (parts : List StreamPart) → IsStreamText bytes parts → ⊥)
+refused bytes (Ok x) h = tt
+refused bytes (Err e) h = λ known long. (let s = h known long in stops_no_text bytes s.0 e s.1)
+
+pub returns-in_err-block-in-EndsBlock-clause-refused :
+    goal.returns-in_err-block-in-EndsBlock-clause-refused
+returns-in_err-block-in-EndsBlock-clause-refused c = refused _ c.from_residual.result (returns-in_err-block-in-EndsBlock-clause-stops c)
+
+pub returns-in-Breaks-clause-refused : goal.returns-in-Breaks-clause-refused
+returns-in-Breaks-clause-refused c known long = (let s = returns-in-Breaks-clause-stops c known long in stops_no_text _ s.0 _ s.1)
+
+pub returns-in-Some-clause-refused : goal.returns-in-Some-clause-refused
+returns-in-Some-clause-refused c known long = (let s = returns-in-Some-clause-stops c known long in stops_no_text _ s.0 _ s.1)
