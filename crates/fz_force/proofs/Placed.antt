@@ -64,26 +64,6 @@ module _ (c : ConstraintParts) where
   flat_arguments [] (a ∷ as') h = no h
   flat_arguments (s ∷ ss) (a ∷ as') h = (flat_argument s a (and_first (has_shape s (view a)) _ h), flat_arguments ss as' (and_second (has_shape s (view a)) _ h))
 
-  -- ---- what is found of it
-
-  pub ready : (K : Partial) (as' : List Argument) (r : Row) (n : ℕ) (s : Spot)
-      → have_shapes r.shapes (map view as') ≡ true → IsOnlyAt K (terms_of c) as' n s
-      → each_fits K r.shapes (map view as') ≡ true → IsReady K (map view as') r s
-  ready K as' r n s shaped only kinds = record {
-    shaped = shaped;
-    only_open = ap (open_terms K) (sym (of_arguments view as')) ∙ only.open_once ∙ ap (λ j. Var j ∷ []) (sym only.variable);
-    stands = ap (λ ts. slice_get ts s.place) (sym (at_argument view as' s.argument)) ∙ only.stands ∙ ap (λ j. Some (Var j)) (sym only.variable);
-    kinds = kinds;
-  }
-
-  pub not_only : (K : Partial) (as' : List Argument) (r : Row) (n : ℕ)
-      → IsOnlyOpen K (terms_of c) as' n None → IsOnlyValue K (map view as') r n None
-  not_only K as' r n none = λ within w f. none (ap (open_terms K) (of_arguments view as') ∙ f.only_open)
-
-pub has_value : (K : Partial) (xs : List meaning.Argument) (r : Row) (n : ℕ)
-    → is_some (value_at K n) ≡ true → IsOnlyValue K xs r n None
-has_value K xs r n some = λ within w f. no (ap is_some (sym (only_open_none K n (flat_map terms_in xs) f.only_open)) ∙ some)
-
 -- ---- the point
 
 no_some : {A : Type 0} (o : Option A) (x : A) → o ≡ None → o ≡ Some x → ⊥

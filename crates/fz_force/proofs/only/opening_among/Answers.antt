@@ -1,0 +1,86 @@
+use Rattle.std.proofs.Common.{◌≡◌, ◌+◌, ◌∷◌, [], ℕ, List, Some, IfSome, drop, flat_map, slice_get, refl, sym, ap, subst, ◌∙◌}
+use Rattle.std.specs.Option.{option_map_or}
+use Rattle.fz_meaning.specs.declared.term.Term.{Term}
+use Rattle.fz_meaning.specs.declared.term.Term.TheVariants.{Var}
+use Rattle.fz_meaning.specs.Meaning.{terms_at_argument, terms_in}
+use Rattle.fz_meaning.proofs.Lists.{at_place}
+use Rattle.fz_data.specs.Parts.{argument_view}
+use Rattle.fz_data.specs.declared.Argument.{Argument}
+use Rattle.fz_data.specs.declared.point.ConstraintParts.{ConstraintParts}
+use Rattle.fz_force.specs.declared.only.Spot.{Spot}
+use Rattle.fz_force.specs.Openings.{IsFlat, posted_with, terms_of}
+use Rattle.fz_force.proofs.Opens.{SoFar, ends, finds, finds_twice, front, goes_on, has_other, has_twice, never_there, never_twice, waits_for}
+use Rattle.fz_force.proofs.Scalars.{mapped_at}
+use Rattle.fz_force.proofs.only.opening_among.Goals as goal
+
+-- the scalars of a constraint with these arguments
+abbrev scalars : ConstraintParts → ℕ → List Argument → List Term
+scalars c n as' = flat_map terms_in (posted_with c as' n).arguments
+
+-- the variable stands at the spot
+abbrev Stands : ConstraintParts → ℕ → List Argument → Spot → Type 0
+Stands c n as' s = (s.variable ≡ n)
+    × (slice_get (terms_at_argument (posted_with c as' n).arguments s.argument) s.place ≡ Some (Var n))
+
+pub open_in-requires : goal.open_in-requires
+open_in-requires c = record { flat = at_place (IsFlat c.args.parts.now) c.args.arguments.now c.loop-number.number c.item_at.result.now c.requires.flat c.item_at.ensures }
+
+pub returns-in-Other : goal.returns-in-Other
+returns-in-Other c =
+    let p = c.args.parts.now in
+    let n = c.args.target in
+    waits_for c.args.partial.now (posted_with p c.args.arguments.now n) n refl c.in-Other.other
+    (has_other c.args.partial.now n (scalars p n) (terms_of p) (λ a as'. refl) c.args.arguments.now c.loop-number.number c.item_at.result.now c.item_at.ensures c.loop-number.found c.loop-number.invariant.seen c.in-Other.other c.in-Other.ensures)
+
+pub returns-in-Twice : goal.returns-in-Twice
+returns-in-Twice c =
+    let p = c.args.parts.now in
+    let n = c.args.target in
+    never_twice c.args.partial.now (posted_with p c.args.arguments.now n) n refl
+    (has_twice c.args.partial.now n (scalars p n) (terms_of p) (λ a as'. refl) c.args.arguments.now c.loop-number.number c.item_at.result.now c.item_at.ensures c.loop-number.found c.loop-number.invariant.seen c.in-Twice.ensures)
+
+pub returns-in-Some : goal.returns-in-Some
+returns-in-Some c =
+    let p = c.args.parts.now in
+    let n = c.args.target in
+    never_twice c.args.partial.now (posted_with p c.args.arguments.now n) n refl
+    (finds_twice c.args.partial.now n (scalars p n) (terms_of p) (λ a as'. refl) c.args.arguments.now c.loop-number.number c.item_at.result.now c.item_at.ensures c.loop-number.found c.loop-number.invariant.seen c.in-Some.field-0 c.in-Some.is c.in-Target.ensures.0)
+
+pub loop-number-preserved : goal.loop-number-preserved
+loop-number-preserved c =
+    let K = c.args.partial.now in
+    let p = c.args.parts.now in
+    let n = c.args.target in
+    let as' = c.args.arguments.now in
+    let i = c.loop-number.number in
+    let a = c.item_at.result.now in
+    elim c.match-open_in.branch [
+      | in-Nothing w ↦ record {
+        seen = subst (SoFar K n (scalars p n as') (scalars p n (drop (i + 1) as'))) (sym w.found-is) (goes_on K n (scalars p n) (terms_of p) (λ b bs. refl) as' i a c.item_at.ensures c.loop-number.found c.loop-number.invariant.seen w.in-Nothing.ensures);
+        stands = subst (λ o. IfSome o (Stands p n as')) (sym w.found-is) c.loop-number.invariant.stands;
+      }
+      | in-Target+in-None w ↦
+          let spot : Spot = record { variable = n; argument = i; place = w.in-Target.place } in
+          let here = ap (λ o. slice_get (option_map_or terms_in o []) w.in-Target.place) (sym (mapped_at (argument_view p.variables.now p.arrays.now p.store.now) as' i a c.item_at.ensures)) in
+          record {
+            seen = subst (SoFar K n (scalars p n as') (scalars p n (drop (i + 1) as'))) (sym w.found-is) (finds K n (scalars p n) (terms_of p) (λ b bs. refl) as' i a c.item_at.ensures c.loop-number.found c.loop-number.invariant.seen spot w.in-None.is w.in-Target.ensures.0);
+            stands = subst (λ o. IfSome o (Stands p n as')) (sym w.found-is) (refl, here ∙ w.in-Target.ensures.1);
+          }
+    ]
+
+pub returns-in-Some-2 : goal.returns-in-Some-2
+returns-in-Some-2 c =
+    let n = c.args.target in
+    let (is, stands) = subst (λ o. IfSome o (Stands c.args.parts.now n c.args.arguments.now)) c.in-Some-2.is c.loop-number.invariant.stands in
+    record {
+      target = ap Some (sym is);
+      only_open = ends c.args.partial.now n (scalars c.args.parts.now n) c.args.arguments.now c.loop-number.number c.loop-number.found refl c.loop-number-test.false c.loop-number.invariant.seen
+          ∙ ap (front n) c.in-Some-2.is ∙ ap (λ j. Var j ∷ []) (sym is);
+      stands = stands ∙ ap (λ j. Some (Var j)) (sym is);
+    }
+
+pub returns-in-None : goal.returns-in-None
+returns-in-None c =
+    let n = c.args.target in
+    never_there c.args.partial.now (posted_with c.args.parts.now c.args.arguments.now n) n refl
+    (ends c.args.partial.now n (scalars c.args.parts.now n) c.args.arguments.now c.loop-number.number c.loop-number.found refl c.loop-number-test.false c.loop-number.invariant.seen ∙ ap (front n) c.in-None.is)
