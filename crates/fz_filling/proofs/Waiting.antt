@@ -1,11 +1,10 @@
 -- As long as what a point waits for has no value the point gives nothing.
-use Rattle.std.proofs.Common.{◌≡◌, ℕ, false, cond, List, [], ◌∷◌, Option, Some, None, refl, sym, ap, subst, ◌∙◌, is_none}
+use Rattle.std.proofs.Common.{◌≡◌, ℕ, true, false, cond, List, [], ◌∷◌, Option, Some, None, refl, sym, ap, subst, ◌∙◌, is_none}
 use Rattle.std.specs.List.{AllByRecursion}
 use Rattle.fz_base.specs.declared.value.Value.{Value}
 use Rattle.fz_model.specs.declared.Term.{Term}
 use Rattle.fz_model.specs.declared.Term.TheVariants.{Var, Fixed}
-use Rattle.fz_model.specs.Meaning.{Model, Variable, Point, Partial, value, value_at}
-use Rattle.fz_model.specs.Meaning.Point.{DefinitionPoint}
+use Rattle.fz_model.specs.Meaning.{Model, Point, Partial, value, value_at}
 use Rattle.fz_model.specs.Steps.{open_terms, terms_of}
 use Rattle.fz_model.proofs.Lists.{all_map}
 use Rattle.fz_model.proofs.Opens.{all_this}
@@ -38,11 +37,16 @@ asks m K a p only = λ nothing. (
 
 -- ---- definitions
 
--- the variable of a scalar without a value
-here_open : (K : Partial) (t : Term) (j : ℕ) → open_variable K t ≡ Some j → t ≡ Var j
-here_open K (Fixed v) j e = cc
-here_open K (Var k) j e = by (is_none (value_at K k)) e
+-- the scalars without a value of a definition, by the value of its variable and by the other side
+abbrev side : Option ℕ → List Term
+side None = []
+side (Some j) = Var j ∷ []
+
+pub open_sides : (K : Partial) (k : ℕ) (e : Term) (o : Option Value) (s : Option ℕ)
+    → value_at K k ≡ o → open_variable K e ≡ s
+    → open_terms K (Var k ∷ e ∷ []) ≡ cond (is_none o) (Var k ∷ side s) (side s)
+open_sides K k e o s left right = λ i. cond (is_none (left i)) (Var k ∷ (of_side e ∙ ap side right) i) ((of_side e ∙ ap side right) i)
   where
-    by : (b : _) → cond b (Some k) None ≡ Some j → Var k ≡ Var j
-    by true e = let same : k ≡ j = cc in ap Var same
-    by false e = cc
+    of_side : (t : Term) → open_terms K (t ∷ []) ≡ side (open_variable K t)
+    of_side (Fixed v) = refl
+    of_side (Var j) = elim (is_none (value_at K j)) as (λ b. cond b (Var j ∷ []) [] ≡ side (cond b (Some j) None)) [ true ↦ refl | false ↦ refl ]
