@@ -7,7 +7,6 @@ use Rattle.fz_model.specs.declared.Term.TheVariants.{Var, Fixed}
 use Rattle.fz_model.specs.Meaning.{Model, Point, Partial, value, value_at}
 use Rattle.fz_model.specs.Steps.{open_terms, terms_of}
 use Rattle.fz_model.proofs.Lists.{all_map}
-use Rattle.fz_model.proofs.Opens.{all_this}
 use Rattle.fz_model.proofs.Steps.{is_none_true, only_open_none}
 use Rattle.fz_verdict.specs.Filling.{HasAllOf}
 use Rattle.fz_filling.specs.Outlooks.{Agree, IsOpen, IsOutlook, open_variable}
@@ -15,6 +14,16 @@ use Rattle.fz_filling.specs.declared.outlook.Outlook.TheVariants.{Asks}
 use Rattle.fz_filling.proofs.Agreeing.{agree_back, gives_agree}
 
 -- ---- the scalars have the same values later, as long as the only one without has none
+
+-- each that has no value is this one
+all_this : (K : Partial) (n : ℕ) (ts : List Term) → AllByRecursion (λ t. t ≡ Var n) (open_terms K ts)
+    → AllByRecursion (λ t. value K t ≡ None → t ≡ Var n) ts
+all_this K n [] h = tt
+all_this K n (t ∷ ts) h =
+    (elim (value K t) as (λ o. value K t ≡ o → AllByRecursion (λ u. u ≡ Var n) (cond (is_none o) (t ∷ open_terms K ts) (open_terms K ts)) → (value K t ≡ None → t ≡ Var n) × AllByRecursion (λ u. value K u ≡ None → u ≡ Var n) ts) [
+      | None ↦ λ _ h. ((λ _. h.0), all_this K n ts h.1)
+      | Some v ↦ λ e h. ((λ none. cc), all_this K n ts h)
+    ]) refl h
 
 agrees_later : (K L : Partial) (n : ℕ) → HasAllOf K L → IsOpen L n → (t : Term)
     → (value K t ≡ None → t ≡ Var n) → value K t ≡ value L t

@@ -24,13 +24,10 @@ use Rattle.fz_data.specs.declared.point.ConstraintParts.{ConstraintParts}
 use Rattle.fz_data.specs.Slots.{is_scalar, segment}
 use Rattle.fz_data.specs.Kinds.{PostedFits}
 use Rattle.fz_data.specs.Parts.{argument_view, place_view, array_view, no_array}
-use Rattle.fz_force.specs.declared.only.Spot.{Spot}
-use Rattle.fz_force.specs.Forced.{Fills, IsForced, IsOnlyValue, IsReady}
-use Rattle.fz_force.specs.Kinds.{each_fits}
-use Rattle.fz_force.specs.Only.{IsFlat, IsOnlyAt, IsOnlyOpen, terms_of}
+use Rattle.fz_force.specs.Forced.{Fills, IsForced, IsOnlyValue}
+use Rattle.fz_force.specs.Openings.{IsFlat}
 use Rattle.fz_meaning.proofs.Partials.{has_place}
 use Rattle.fz_force.proofs.KindsFit.{filled_kind, has_number}
-use Rattle.fz_force.proofs.Scalars.{at_argument, of_arguments}
 
 module _ (c : ConstraintParts) where
   abbrev view : Argument → meaning.Argument

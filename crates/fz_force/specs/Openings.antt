@@ -2,7 +2,7 @@
 -- `opening_of` cites `IsOpening`. What follows that is for private functions: the scalars of an
 -- argument, and which of them have no value.
 use Rattle.std.specs.Prelude.{◌≡◌, ℕ, true, List, [], ◌∷◌, None, Some, flat_map, map, slice_get, ⊤}
-use Rattle.std.specs.List.{Contains, list_all}
+use Rattle.std.specs.List.{list_all}
 use Rattle.fz_base.specs.declared.value.Value.{Value}
 use Rattle.fz_meaning.specs.declared.term.Term.{Term}
 use Rattle.fz_meaning.specs.declared.term.Term.TheVariants.{Var}
@@ -15,7 +15,7 @@ use Rattle.fz_data.specs.declared.point.ConstraintParts.{ConstraintParts}
 use Rattle.fz_data.specs.Parts.{argument_view}
 use Rattle.fz_data.specs.Slots.{is_scalar, segment}
 use Rattle.fz_force.specs.declared.only.Open.{Open}
-use Rattle.fz_force.specs.declared.only.Open.TheVariants.{Nothing, Target, Other, Twice}
+use Rattle.fz_force.specs.declared.only.Open.TheVariants.{Nothing, Target, Other}
 use Rattle.fz_force.specs.declared.only.Opening.{Opening}
 use Rattle.fz_force.specs.declared.only.Opening.TheVariants.{Never, Waits, At}
 use Rattle.fz_force.specs.declared.only.Spot.{Spot}
@@ -58,12 +58,17 @@ posted_with c as' n = record {
   target = Some n;
 }
 
--- ---- which of them have no value
+-- ---- which of them have no value, now and under any later values
 
--- none; the variable alone, once, at an index counted from 0; another one, maybe among more; or the
--- variable twice, maybe among more
+-- more than the variable alone
+abbrev pub IsMore : ℕ → List Term → Type 0
+IsMore n ts = (ts ≡ [] → ⊥) × (ts ≡ Var n ∷ [] → ⊥)
+
+-- none; the variable alone, once, at an index counted from 0; or more than that, as long as one of
+-- them, which has no value now, has none
 abbrev pub AreOpen : Partial → ℕ → List Term → Open → Type 0
-AreOpen K n ts Nothing = open_terms K ts ≡ []
-AreOpen K n ts (Target i) = (open_terms K ts ≡ Var n ∷ []) × (slice_get ts i ≡ Some (Var n))
-AreOpen K n ts (Other a) = (a ≡ n → ⊥) × Contains (open_terms K ts) (Var a)
-AreOpen K n ts Twice = (us : List Term) × (open_terms K ts ≡ Var n ∷ Var n ∷ us)
+AreOpen K n ts Nothing = (L : Partial) → HasEach K L → open_terms L ts ≡ []
+AreOpen K n ts (Target i) = (value_at K n ≡ None) × (slice_get ts i ≡ Some (Var n))
+    × ((L : Partial) → HasEach K L → open_terms L ts ≡ open_terms L (Var n ∷ []))
+AreOpen K n ts (Other a) = (value_at K a ≡ None)
+    × ((L : Partial) → HasEach K L → value_at L a ≡ None → IsMore n (open_terms L ts))

@@ -16,7 +16,8 @@ use fz_data::{Argument, ConstraintParts, Partial, Slot, item_at, part};
 pub enum Opening {
     /// it never gives one
     Never,
-    /// for a value of the variable of this number, another one
+    /// for a value of the variable of this number: another one, or its defined variable where that
+    /// is there twice
     Waits(usize),
     /// for nothing: the defined variable is its only scalar without a value
     At(Spot),
@@ -32,14 +33,12 @@ pub struct Spot {
 }
 
 /// Which scalars have no value: none; the defined variable alone, once, at an index counted from 0;
-/// another variable, of this number, maybe among more; the defined variable twice, maybe among
-/// more.
+/// or the variable of a number, beside which the defined variable isn't alone.
 #[derive(Clone, Copy)]
 pub(crate) enum Open {
     Nothing,
     Target(usize),
     Other(usize),
-    Twice,
 }
 
 /// Whether a variable has no value, and whether it is the defined variable then.
@@ -77,9 +76,8 @@ fn open_slots(slots: &[Slot], target: usize, partial: &Partial) -> Open
         match open_slot(item_at(slots, place), target, partial) {
             Open::Nothing => {}
             Open::Other(other) => return Open::Other(other),
-            Open::Twice => return Open::Twice,
             Open::Target(_) => match found {
-                Some(_) => return Open::Twice,
+                Some(_) => return Open::Other(target),
                 None => found = Some(place),
             },
         }
@@ -144,9 +142,8 @@ fn opening_among(
         match open_in(item_at(arguments, number), parts, target, partial) {
             Open::Nothing => {}
             Open::Other(other) => return Opening::Waits(other),
-            Open::Twice => return Opening::Never,
             Open::Target(place) => match found {
-                Some(_) => return Opening::Never,
+                Some(_) => return Opening::Waits(target),
                 None => {
                     found = Some(Spot {
                         variable: target,

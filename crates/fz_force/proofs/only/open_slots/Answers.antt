@@ -1,24 +1,29 @@
-use Rattle.std.proofs.Common.{◌≡◌, ◌+◌, ◌∷◌, [], None, Some, IfSome, drop, map, slice_get, refl, sym, ap, subst, ◌∙◌}
+use Rattle.std.proofs.Common.{◌≡◌, ℕ, ◌+◌, ◌∷◌, [], List, None, Some, IfSome, drop, map, slice_get, refl, sym, ap, subst, ◌∙◌}
+use Rattle.fz_base.specs.declared.value.Value.{Value}
 use Rattle.fz_meaning.specs.declared.term.Term.TheVariants.{Var}
+use Rattle.fz_meaning.specs.Meaning.{Partial, value_at}
+use Rattle.fz_meaning.specs.Steps.{open_terms}
+use Rattle.fz_data.specs.declared.Slot.{Slot}
 use Rattle.fz_data.specs.Slots.{slot_term}
-use Rattle.fz_force.proofs.Opens.{SoFar, alone, ends, finds, finds_twice, front, goes_on, has_other, has_twice}
+use Rattle.fz_force.proofs.Opens.{SoFar, alone, ends, finds, finds_twice, front, goes_on, has_other}
 use Rattle.fz_force.proofs.Scalars.{mapped_at}
 use Rattle.fz_force.proofs.only.open_slots.Goals as goal
+
+-- the variable has no value and stands at the index
+abbrev Stands : Partial → ℕ → List Slot → ℕ → Type 0
+Stands K n ss i = (value_at K n ≡ None)
+    × ((cs : List Value) → slice_get (map (slot_term cs) ss) i ≡ Some (Var n))
 
 pub returns-in-Other : goal.returns-in-Other
 returns-in-Other c = λ cs.
     has_other c.args.partial.now c.args.target (map (slot_term cs)) (λ s. slot_term cs s ∷ []) (λ s ss. refl) c.args.slots.now c.loop-place.place c.item_at.result.now c.item_at.ensures c.loop-place.found (c.loop-place.invariant.seen cs)
     c.in-Other.other (c.in-Other.ensures cs)
 
-pub returns-in-Twice : goal.returns-in-Twice
-returns-in-Twice c = λ cs.
-    has_twice c.args.partial.now c.args.target (map (slot_term cs)) (λ s. slot_term cs s ∷ []) (λ s ss. refl) c.args.slots.now c.loop-place.place c.item_at.result.now c.item_at.ensures c.loop-place.found (c.loop-place.invariant.seen cs)
-    (c.in-Twice.ensures cs)
-
 pub returns-in-Some : goal.returns-in-Some
 returns-in-Some c = λ cs.
+    let (unset, _, one) = c.in-Target.ensures cs in
     finds_twice c.args.partial.now c.args.target (map (slot_term cs)) (λ s. slot_term cs s ∷ []) (λ s ss. refl) c.args.slots.now c.loop-place.place c.item_at.result.now c.item_at.ensures c.loop-place.found (c.loop-place.invariant.seen cs)
-    c.in-Some.field-0 c.in-Some.is (c.in-Target.ensures cs).0
+    one c.in-Some.field-0 c.in-Some.is unset
 
 pub loop-place-preserved : goal.loop-place-preserved
 loop-place-preserved c =
@@ -30,19 +35,21 @@ loop-place-preserved c =
     elim c.match-open_slot.branch [
       | in-Nothing w ↦ record {
         seen = λ cs. subst (SoFar K n (map (slot_term cs) ss) (map (slot_term cs) (drop (i + 1) ss))) (sym w.found-is) (goes_on K n (map (slot_term cs)) (λ z. slot_term cs z ∷ []) (λ z zs. refl) ss i s c.item_at.ensures c.loop-place.found (c.loop-place.invariant.seen cs) (w.in-Nothing.ensures cs));
-        stands = subst (λ o. IfSome o (λ j. (cs : _) → slice_get (map (slot_term cs) ss) j ≡ Some (Var n))) (sym w.found-is) c.loop-place.invariant.stands;
+        stands = subst (λ o. IfSome o (Stands K n ss)) (sym w.found-is) c.loop-place.invariant.stands;
       }
       | in-Target+in-None w ↦ record {
-        seen = λ cs. subst (SoFar K n (map (slot_term cs) ss) (map (slot_term cs) (drop (i + 1) ss))) (sym w.found-is) (finds K n (map (slot_term cs)) (λ z. slot_term cs z ∷ []) (λ z zs. refl) ss i s c.item_at.ensures c.loop-place.found (c.loop-place.invariant.seen cs) i w.in-None.is (w.in-Target.ensures cs).0);
-        stands = subst (λ o. IfSome o (λ j. (cs : _) → slice_get (map (slot_term cs) ss) j ≡ Some (Var n))) (sym w.found-is) (λ cs. sym (mapped_at (slot_term cs) ss i s c.item_at.ensures) ∙ ap Some (alone (slot_term cs s) (Var n) w.in-Target.field-0 (w.in-Target.ensures cs).1));
+        seen = λ cs. subst (SoFar K n (map (slot_term cs) ss) (map (slot_term cs) (drop (i + 1) ss))) (sym w.found-is) (finds K n (map (slot_term cs)) (λ z. slot_term cs z ∷ []) (λ z zs. refl) ss i s c.item_at.ensures c.loop-place.found (c.loop-place.invariant.seen cs) (w.in-Target.ensures cs).1.1 i w.in-None.is);
+        stands = subst (λ o. IfSome o (Stands K n ss)) (sym w.found-is) ((w.in-Target.ensures []).0, λ cs. sym (mapped_at (slot_term cs) ss i s c.item_at.ensures) ∙ ap Some (alone (slot_term cs s) (Var n) w.in-Target.field-0 (w.in-Target.ensures cs).1.0));
       }
     ]
 
 pub returns-in-Some-2 : goal.returns-in-Some-2
-returns-in-Some-2 c = λ cs. (
-  ends c.args.partial.now c.args.target (map (slot_term cs)) c.args.slots.now c.loop-place.place c.loop-place.found refl c.loop-place-test.false (c.loop-place.invariant.seen cs) ∙ ap (front c.args.target) c.in-Some-2.is,
-  (subst (λ o. IfSome o (λ j. (ds : _) → slice_get (map (slot_term ds) c.args.slots.now) j ≡ Some (Var c.args.target))) c.in-Some-2.is c.loop-place.invariant.stands) cs,
-)
+returns-in-Some-2 c = λ cs.
+    let one = ends c.args.partial.now c.args.target (map (slot_term cs)) c.args.slots.now c.loop-place.place c.loop-place.found refl c.loop-place-test.false (c.loop-place.invariant.seen cs) in
+    let (unset, stands) = subst (λ o. IfSome o (Stands c.args.partial.now c.args.target c.args.slots.now)) c.in-Some-2.is c.loop-place.invariant.stands in
+    (unset, stands cs, λ L later. one L later ∙ (λ j. open_terms L (front c.args.target (c.in-Some-2.is j))))
 
 pub returns-in-None : goal.returns-in-None
-returns-in-None c = λ cs. ends c.args.partial.now c.args.target (map (slot_term cs)) c.args.slots.now c.loop-place.place c.loop-place.found refl c.loop-place-test.false (c.loop-place.invariant.seen cs) ∙ ap (front c.args.target) c.in-None.is
+returns-in-None c = λ cs L later.
+    ends c.args.partial.now c.args.target (map (slot_term cs)) c.args.slots.now c.loop-place.place c.loop-place.found refl c.loop-place-test.false (c.loop-place.invariant.seen cs) L later
+    ∙ (λ j. open_terms L (front c.args.target (c.in-None.is j)))
