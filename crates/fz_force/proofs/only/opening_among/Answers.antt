@@ -13,6 +13,7 @@ use Rattle.fz_force.specs.Openings.{IsFlat, posted_with, terms_of}
 use Rattle.fz_force.proofs.Opens.{SoFar, ends, finds, finds_twice, front, goes_on, has_other, never_there, waits_for}
 use Rattle.fz_force.proofs.Scalars.{mapped_at}
 use Rattle.fz_force.proofs.only.opening_among.Goals as goal
+use Rattle.fz_force.proofs.only.opening_among.Goals.{in-Nothing, in-Target+in-None}
 
 -- the scalars of a constraint with these arguments
 abbrev scalars : ConstraintParts → ℕ → List Argument → List Term
@@ -38,7 +39,7 @@ returns-in-Some c =
     let p = c.args.parts.now in
     let n = c.args.target in
     waits_for c.args.partial.now (posted_with p c.args.arguments.now n) n refl n
-    (finds_twice c.args.partial.now n (scalars p n) (terms_of p) (λ a as'. refl) c.args.arguments.now c.loop-number.number c.item_at.result.now c.item_at.ensures c.loop-number.found c.loop-number.invariant.seen c.in-Target.ensures.1.1 c.in-Some.field-0 c.in-Some.is c.in-Target.ensures.0)
+    (finds_twice c.args.partial.now n (scalars p n) (terms_of p) (λ a as'. refl) c.args.arguments.now c.loop-number.number c.item_at.result.now c.item_at.ensures c.loop-number.found c.loop-number.invariant.seen c.in-Target.ensures.2 c.in-Some.field-0 c.in-Some.is c.in-Target.ensures.0)
 
 pub loop-number-preserved : goal.loop-number-preserved
 loop-number-preserved c =
@@ -57,26 +58,26 @@ loop-number-preserved c =
           let spot : Spot = record { variable = n; argument = i; place = w.in-Target.place } in
           let here = ap (λ o. slice_get (option_map_or terms_in o []) w.in-Target.place) (sym (mapped_at (argument_view p.variables.now p.arrays.now p.store.now) as' i a c.item_at.ensures)) in
           record {
-            seen = subst (SoFar K n (scalars p n as') (scalars p n (drop (i + 1) as'))) (sym w.found-is) (finds K n (scalars p n) (terms_of p) (λ b bs. refl) as' i a c.item_at.ensures c.loop-number.found c.loop-number.invariant.seen w.in-Target.ensures.1.1 spot w.in-None.is);
-            stands = subst (λ o. IfSome o (Stands K p n as')) (sym w.found-is) (w.in-Target.ensures.0, refl, here ∙ w.in-Target.ensures.1.0);
+            seen = subst (SoFar K n (scalars p n as') (scalars p n (drop (i + 1) as'))) (sym w.found-is) (finds K n (scalars p n) (terms_of p) (λ b bs. refl) as' i a c.item_at.ensures c.loop-number.found c.loop-number.invariant.seen w.in-Target.ensures.2 spot w.in-None.is);
+            stands = subst (λ o. IfSome o (Stands K p n as')) (sym w.found-is) (w.in-Target.ensures.0, refl, here ∙ w.in-Target.ensures.1);
           }
     ]
 
-pub returns-in-Some-2 : goal.returns-in-Some-2
-returns-in-Some-2 c =
+pub returns-in-Some-found : goal.returns-in-Some-found
+returns-in-Some-found c =
     let K = c.args.partial.now in
     let n = c.args.target in
     let as' = c.args.arguments.now in
-    let (unset, is, stands) = subst (λ o. IfSome o (Stands K c.args.parts.now n as')) c.in-Some-2.is c.loop-number.invariant.stands in
+    let (unset, is, stands) = subst (λ o. IfSome o (Stands K c.args.parts.now n as')) c.in-Some-found.is c.loop-number.invariant.stands in
     let one = ends K n (scalars c.args.parts.now n) as' c.loop-number.number c.loop-number.found refl c.loop-number-test.false c.loop-number.invariant.seen K (λ k v e. e) in
     record {
       target = ap Some (sym is);
-      only_open = one ∙ (λ j. open_terms K (front n (c.in-Some-2.is j))) ∙ ap (λ o. cond (is_none o) (Var n ∷ []) []) unset ∙ ap (λ j. Var j ∷ []) (sym is);
+      only_open = one ∙ (λ j. open_terms K (front n (c.in-Some-found.is j))) ∙ ap (λ o. cond (is_none o) (Var n ∷ []) []) unset ∙ ap (λ j. Var j ∷ []) (sym is);
       stands = stands ∙ ap (λ j. Some (Var j)) (sym is);
     }
 
-pub returns-in-None : goal.returns-in-None
-returns-in-None c =
+pub returns-in-None-found : goal.returns-in-None-found
+returns-in-None-found c =
     let n = c.args.target in
     let none = ends c.args.partial.now n (scalars c.args.parts.now n) c.args.arguments.now c.loop-number.number c.loop-number.found refl c.loop-number-test.false c.loop-number.invariant.seen in
-    never_there c.args.partial.now (posted_with c.args.parts.now c.args.arguments.now n) n refl (λ L later. none L later ∙ (λ j. open_terms L (front n (c.in-None.is j))))
+    never_there c.args.partial.now (posted_with c.args.parts.now c.args.arguments.now n) n refl (λ L later. none L later ∙ (λ j. open_terms L (front n (c.in-None-found.is j))))
