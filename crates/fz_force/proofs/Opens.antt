@@ -1,14 +1,17 @@
 -- Which scalars have no value, as more of them come; and what that says of a constraint.
-use Rattle.std.proofs.Common.{◌≡◌, ℕ, zero, suc, ◌+◌, ◌≤◌, true, cond, List, [], ◌∷◌, ◌++◌, drop, flat_map, length, Option, Some, None, is_none, is_some, slice_get, refl, sym, ap, subst, ◌∙◌}
+use Rattle.std.proofs.Common.{◌≡◌, ℕ, zero, suc, ◌+◌, ◌≤◌, true, cond, List, [], ◌∷◌, ◌++◌, drop, flat_map, length, map, Option, Some, None, is_none, is_some, slice_get, refl, sym, ap, subst, ◌∙◌}
 use Rattle.std.proofs.lemmas.List.{append-nil as nothing_more, drop_all, drop_more}
 use Rattle.std.proofs.lemmas.Option.{get_or_from_slice_get, slice_get_within}
 use Rattle.fz_base.specs.declared.value.Value.{Value}
 use Rattle.fz_meaning.specs.declared.term.Term.{Term}
 use Rattle.fz_meaning.specs.declared.term.Term.TheVariants.{Var}
-use Rattle.fz_meaning.specs.Meaning.{Model, Partial, Posted, terms_in, value_at}
+use Rattle.fz_meaning.specs.Meaning.{Model, Partial, Posted, terms_at_argument, terms_in, value_at}
 use Rattle.fz_meaning.specs.Meaning.Point.{ConstraintPoint}
 use Rattle.fz_meaning.specs.Steps.{Gives, open_terms}
 use Rattle.fz_meaning.proofs.Steps.{filter-append, is_open, only_open_none}
+use Rattle.fz_data.specs.declared.Slot.{Slot}
+use Rattle.fz_data.specs.Slots.{slot_term}
+use Rattle.fz_force.specs.declared.only.Spot.{Spot}
 use Rattle.fz_force.specs.declared.only.Open.TheVariants.{Nothing, Other}
 use Rattle.fz_force.specs.declared.only.Opening.TheVariants.{Never, Waits}
 use Rattle.fz_force.specs.Openings.{AreOpen, HasEach, IsMore, IsOpening}
@@ -78,28 +81,38 @@ pub ends : {A X : Type 0} (K : Partial) (n : ℕ) (view : List X → List Term) 
 ends K n view xs i found nil past seen L later =
     seen L later ∙ ap (λ us. open_terms L (front n found) ++ us) (ap (λ ys. open_terms L (view ys)) (drop_all i xs past) ∙ ap (open_terms L) nil) ∙ nothing_more (open_terms L (front n found))
 
+-- ---- where the variable is, which has no value
+
+abbrev pub StandsAmong : Partial → ℕ → List Slot → ℕ → Type 0
+StandsAmong K n ss i = (value_at K n ≡ None)
+    × ((cs : List Value) → slice_get (map (slot_term cs) ss) i ≡ Some (Var n))
+
+abbrev pub StandsIn : Partial → ℕ → Posted → Spot → Type 0
+StandsIn K n p s = (value_at K n ≡ None) × (s.variable ≡ n)
+    × (slice_get (terms_at_argument p.arguments s.argument) s.place ≡ Some (Var n))
+
 -- ---- of a constraint
 
-module _ (K : Partial) (p : Posted) (n : ℕ) (target : p.target ≡ Some n) where
-  abbrev scalars : List Term
-  scalars = flat_map terms_in p.arguments
+abbrev pub scalars : Posted → List Term
+scalars p = flat_map terms_in p.arguments
 
+module _ (K : Partial) (p : Posted) (n : ℕ) (target : p.target ≡ Some n) where
   only_target : (m : Model) (k : ℕ) (L : Partial) (j : ℕ) (v : Value)
-      → Gives m L (ConstraintPoint k p) j v → open_terms L scalars ≡ Var n ∷ []
-  only_target m k L j v g = let both : Some j ≡ Some n = sym g.target.0 ∙ target in let same : j ≡ n = cc in subst (λ i. open_terms L scalars ≡ Var i ∷ []) same g.only_open
+      → Gives m L (ConstraintPoint k p) j v → open_terms L (scalars p) ≡ Var n ∷ []
+  only_target m k L j v g = let both : Some j ≡ Some n = sym g.target.0 ∙ target in let same : j ≡ n = cc in subst (λ i. open_terms L (scalars p) ≡ Var i ∷ []) same g.only_open
 
   pub never_set : is_some (value_at K n) ≡ true → IsOpening K p Never
   never_set some = λ m k L later j v g.
-      let none = only_open_none L n scalars (only_target m k L j v g) in
+      let none = only_open_none L n (scalars p) (only_target m k L j v g) in
       (elim (value_at K n) as (λ o. value_at K n ≡ o → is_some o ≡ true → ⊥) [
         | None ↦ λ _ e. cc
         | Some w ↦ λ e _. let set : value_at L n ≡ Some w = later n w e in cc
       ]) refl some
 
-  pub never_there : AreOpen K n scalars Nothing → IsOpening K p Never
+  pub never_there : AreOpen K n (scalars p) Nothing → IsOpening K p Never
   never_there closed = λ m k L later j v g.
       let none : Var n ∷ [] ≡ [] = sym (only_target m k L j v g) ∙ closed L later in
       cc
 
-  pub waits_for : (a : ℕ) → AreOpen K n scalars (Other a) → IsOpening K p (Waits a)
+  pub waits_for : (a : ℕ) → AreOpen K n (scalars p) (Other a) → IsOpening K p (Waits a)
   waits_for a (unset, more) = (unset, λ m k L later none j v g. (more L later none).1 (only_target m k L j v g))

@@ -63,17 +63,6 @@ module _ (c : ConstraintParts) where
 
 -- ---- the point
 
-no_some : {A : Type 0} (o : Option A) (x : A) → o ≡ None → o ≡ Some x → ⊥
-no_some o x e f = cc
-
-pub without_row : (m : Model) (K : Partial) (k : ℕ) (p : Posted) → row_of p ≡ None
-    → IsForced m K (ConstraintPoint k p) None
-without_row m K k p e = λ n v g. let (r, is, _) = some_of (λ r. IsResult K p.arguments n r.result) (row_of p) g.target.1 in no_some (row_of p) r e is
-
-pub without_target : (m : Model) (K : Partial) (k : ℕ) (p : Posted) → p.target ≡ None
-    → IsForced m K (ConstraintPoint k p) None
-without_target m K k p e = λ n v g. no_some p.target n e g.target.0
-
 module _ (m : Model) (K : Partial) (fits : IsPartial m K) (k : ℕ) (p : Posted) (r : Row) (row : row_of p ≡ Some r) (n : ℕ) (target : p.target ≡ Some n) where
   fills : (w : Value) → Gives m K (ConstraintPoint k p) n w → Fills K p.arguments r n w
   fills w g = record {

@@ -1,19 +1,11 @@
-use Rattle.std.proofs.Common.{◌≡◌, ℕ, ◌+◌, ◌∷◌, [], List, None, Some, IfSome, drop, map, slice_get, refl, sym, ap, subst, ◌∙◌}
-use Rattle.fz_base.specs.declared.value.Value.{Value}
+use Rattle.std.proofs.Common.{◌+◌, ◌∷◌, [], Some, IfSome, drop, map, refl, sym, ap, subst, ◌∙◌}
 use Rattle.fz_meaning.specs.declared.term.Term.TheVariants.{Var}
-use Rattle.fz_meaning.specs.Meaning.{Partial, value_at}
 use Rattle.fz_meaning.specs.Steps.{open_terms}
-use Rattle.fz_data.specs.declared.Slot.{Slot}
 use Rattle.fz_data.specs.Slots.{slot_term}
-use Rattle.fz_force.proofs.Opens.{SoFar, alone, ends, finds, finds_twice, front, goes_on, has_other}
+use Rattle.fz_force.proofs.Opens.{SoFar, StandsAmong, alone, ends, finds, finds_twice, front, goes_on, has_other}
 use Rattle.fz_force.proofs.Scalars.{mapped_at}
 use Rattle.fz_force.proofs.only.open_slots.Goals as goal
 use Rattle.fz_force.proofs.only.open_slots.Goals.{in-Nothing, in-Target+in-None}
-
--- the variable has no value and stands at the index
-abbrev Stands : Partial → ℕ → List Slot → ℕ → Type 0
-Stands K n ss i = (value_at K n ≡ None)
-    × ((cs : List Value) → slice_get (map (slot_term cs) ss) i ≡ Some (Var n))
 
 pub returns-in-Other : goal.returns-in-Other
 returns-in-Other c = λ cs.
@@ -36,18 +28,18 @@ loop-place-preserved c =
     elim c.match-open_slot.branch [
       | in-Nothing w ↦ record {
         seen = λ cs. subst (SoFar K n (map (slot_term cs) ss) (map (slot_term cs) (drop (i + 1) ss))) (sym w.found-is) (goes_on K n (map (slot_term cs)) (λ z. slot_term cs z ∷ []) (λ z zs. refl) ss i s c.item_at.ensures c.loop-place.found (c.loop-place.invariant.seen cs) (w.in-Nothing.ensures cs));
-        stands = subst (λ o. IfSome o (Stands K n ss)) (sym w.found-is) c.loop-place.invariant.stands;
+        stands = subst (λ o. IfSome o (StandsAmong K n ss)) (sym w.found-is) c.loop-place.invariant.stands;
       }
       | in-Target+in-None w ↦ record {
         seen = λ cs. subst (SoFar K n (map (slot_term cs) ss) (map (slot_term cs) (drop (i + 1) ss))) (sym w.found-is) (finds K n (map (slot_term cs)) (λ z. slot_term cs z ∷ []) (λ z zs. refl) ss i s c.item_at.ensures c.loop-place.found (c.loop-place.invariant.seen cs) (w.in-Target.ensures cs).2 i w.in-None.is);
-        stands = subst (λ o. IfSome o (Stands K n ss)) (sym w.found-is) ((w.in-Target.ensures []).0, λ cs. sym (mapped_at (slot_term cs) ss i s c.item_at.ensures) ∙ ap Some (alone (slot_term cs s) (Var n) w.in-Target.field-0 (w.in-Target.ensures cs).1));
+        stands = subst (λ o. IfSome o (StandsAmong K n ss)) (sym w.found-is) ((w.in-Target.ensures []).0, λ cs. sym (mapped_at (slot_term cs) ss i s c.item_at.ensures) ∙ ap Some (alone (slot_term cs s) (Var n) w.in-Target.field-0 (w.in-Target.ensures cs).1));
       }
     ]
 
 pub returns-in-Some-found : goal.returns-in-Some-found
 returns-in-Some-found c = λ cs.
     let one = ends c.args.partial.now c.args.target (map (slot_term cs)) c.args.slots.now c.loop-place.place c.loop-place.found refl c.loop-place-test.false (c.loop-place.invariant.seen cs) in
-    let (unset, stands) = subst (λ o. IfSome o (Stands c.args.partial.now c.args.target c.args.slots.now)) c.in-Some-found.is c.loop-place.invariant.stands in
+    let (unset, stands) = subst (λ o. IfSome o (StandsAmong c.args.partial.now c.args.target c.args.slots.now)) c.in-Some-found.is c.loop-place.invariant.stands in
     (unset, stands cs, λ L later. one L later ∙ (λ j. open_terms L (front c.args.target (c.in-Some-found.is j))))
 
 pub returns-in-None-found : goal.returns-in-None-found

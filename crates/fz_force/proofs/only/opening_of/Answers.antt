@@ -6,14 +6,8 @@ use Rattle.fz_data.specs.Slots.{segment}
 use Rattle.fz_eval.proofs.States.{row_fits}
 use Rattle.fz_force.specs.Openings.{IsFlat, IsOpening}
 use Rattle.fz_force.proofs.Opens.{never_set}
-use Rattle.fz_force.proofs.Placed.{flat_arguments, without_row, without_target}
+use Rattle.fz_force.proofs.Placed.{flat_arguments}
 use Rattle.fz_force.proofs.only.opening_of.Goals as goal
-
-pub returns-in_default : goal.returns-in_default
-returns-in_default c = λ m k L later. without_target m L k (constraint_view c.args.parts.now) c.in_default.is
-
-pub returns-in_default-2 : goal.returns-in_default-2
-returns-in_default-2 c = λ m k L later. without_row m L k (constraint_view c.args.parts.now) (sym c.requires.known ∙ ap (option_map known_row) c.in_default-2.is)
 
 pub returns-then-has : goal.returns-then-has
 returns-then-has c = never_set c.args.partial.now (constraint_view c.args.parts.now) c.in-Some.target c.in-Some.is (sym c.has.ensures.given ∙ c.if-has.true)
@@ -21,8 +15,8 @@ returns-then-has c = never_set c.args.partial.now (constraint_view c.args.parts.
 pub opening_among-requires : goal.opening_among-requires
 opening_among-requires c =
     let p = c.args.parts.now in
-    let shaped = row_fits (constraint_view p) (known_row c.in-Some-2.field-0) (sym c.requires.known ∙ ap (option_map known_row) c.in-Some-2.is) in
-    record { flat = subst (AllByRecursion (IsFlat p)) (sym c.arguments.ensures.all) (flat_arguments p (known_row c.in-Some-2.field-0).shapes (segment p.store.now.arguments.items p.posted.now.arguments) shaped) }
+    let shaped = row_fits (constraint_view p) (known_row c.in-Some-known.field-0) (sym c.requires.known ∙ ap (option_map known_row) c.in-Some-known.is) in
+    record { flat = subst (AllByRecursion (IsFlat p)) (sym c.arguments.ensures.all) (flat_arguments p (known_row c.in-Some-known.field-0).shapes (segment p.store.now.arguments.items p.posted.now.arguments) shaped) }
 
 pub returns : goal.returns
 returns c =
