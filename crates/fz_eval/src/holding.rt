@@ -118,7 +118,7 @@ pub fn all_hold(
 {
     let count = model.points();
     let declared = count - model.constraints().posted.len();
-    let inside = lie_inside(&overview.bounds, model.variables(), partial.values());
+    let inside = lie_inside(model.variables(), partial.values());
     if !declared_hold(alloc, model, overview, declared, partial, inside)? {
         return Ok(false);
     }

@@ -1,5 +1,6 @@
 -- Names that have their printed values as these are taken have them under all later values.
 use Rattle.std.proofs.Common.{◌≡◌, ℕ, suc, zero, ◌<◌, Bool, true, false, not, cond, ◌&&◌, ◌==◌, List, [], ◌∷◌, ◌++◌, length, Option, Some, None, is_none, refl, sym, ap, ◌∙◌, subst, arith, eqb-true}
+use Rattle.std.proofs.Math.Bool.{and_assoc}
 use Rattle.std.specs.List.{AllByRecursion}
 use Rattle.std.specs.Option.{option_map_or, option_or}
 use Rattle.fz_base.specs.declared.value.Value.{Value}
@@ -24,10 +25,6 @@ use Rattle.fz_verdict.proofs.Accepted.{or_none}
 use Rattle.fz_verdict.proofs.Chain.{Agrees, value_under}
 use Rattle.fz_judge.specs.Working.{agree_all, has_value, item_scalars, with_all, with_first}
 use Rattle.fz_judge.proofs.Starting.{scalars_more, start_more, starts_with_nothing}
-
-pub and_true : (a : Bool) → (a && true) ≡ a
-and_true true = refl
-and_true false = refl
 
 -- ---- taking a value takes none away
 
@@ -76,11 +73,7 @@ given_agrees K n v h = ap (λ o. option_map_or (λ w. same_value w v) o false) (
 pub agree_append : (K : Partial) (qs rs : List (Term × Value))
     → agree_all K (qs ++ rs) ≡ (agree_all K qs && agree_all (with_all K qs) rs)
 agree_append K [] rs = refl
-agree_append K (q ∷ qs) rs = ap (λ b. has_value (with_first K q) q && b) (agree_append (with_first K q) qs rs) ∙ assoc (has_value (with_first K q) q) (agree_all (with_first K q) qs) (agree_all (with_all (with_first K q) qs) rs)
-  where
-    assoc : (a b c : Bool) → (a && (b && c)) ≡ ((a && b) && c)
-    assoc true b c = refl
-    assoc false b c = refl
+agree_append K (q ∷ qs) rs = ap (λ b. has_value (with_first K q) q && b) (agree_append (with_first K q) qs rs) ∙ and_assoc (has_value (with_first K q) q) (agree_all (with_first K q) qs) (agree_all (with_all (with_first K q) qs) rs)
 
 -- the values so far are those of the items so far
 taken : (m : Model) (qs : List (Term × Value))

@@ -4,6 +4,7 @@ use Rattle.std.specs.List.{AllByRecursion}
 use Rattle.std.specs.Option.{option_or}
 use Rattle.fz_model.specs.Meaning.{first_some}
 use Rattle.fz_model.proofs.ScanSteps.{first_append, whole_at}
+use Rattle.fz_verdict.proofs.Accepted.{or_none}
 
 -- at the end of the shorter one, a function that is the same for each empty list is at its end
 pub both_end : {A B R : Type 0} (h : List A → List B → R) (r : R) → ((ys : List B) → h [] ys ≡ r)
@@ -28,10 +29,6 @@ mapped_at P f (y ∷ xs) (suc k) x h e all = mapped_at P f xs k x (omega arith) 
 pub not_some : {A : Type 0} (o : Option A) → is_some o ≡ false → o ≡ None
 not_some None e = refl
 not_some (Some x) e = cc
-
-pub map_none : {A B : Type 0} (f : A → B) (o : Option A) → option_map f o ≡ None → o ≡ None
-map_none f None e = refl
-map_none f (Some x) e = cc
 
 pub map_is_some : {A B : Type 0} (f : A → B) (o : Option A) → is_some (option_map f o) ≡ is_some o
 map_is_some f None = refl
@@ -65,10 +62,6 @@ none_at f g xs i x h e none =
     let parts : option_or (first_some f (map g (take i xs))) (option_or (f (g x)) (first_some f (map g (drop (i + 1) xs)))) ≡ None =
     sym (ap (first_some f) (whole_at g xs i x h e) ∙ first_append f (map g (take i xs)) (g x ∷ map g (drop (i + 1) xs))) ∙ none in
     (or_none (f (g x)) (first_some f (map g (drop (i + 1) xs))) (or_none (first_some f (map g (take i xs))) (option_or (f (g x)) (first_some f (map g (drop (i + 1) xs)))) parts).1).0
-  where
-    or_none : {D : Type 0} (o p : Option D) → option_or o p ≡ None → (o ≡ None) × (p ≡ None)
-    or_none None p e = (refl, e)
-    or_none (Some y) p e = cc
 
 -- ---- what follows from what is said of a result
 

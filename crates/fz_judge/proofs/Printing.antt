@@ -1,5 +1,6 @@
 -- Printed values beside scalars: whether each scalar has its value.
 use Rattle.std.proofs.Common.{◌≡◌, ◌≢◌, suc, Bool, true, false, ◌&&◌, ◌↔◌, IsTrue, List, [], ◌∷◌, map, length, Option, Some, None, refl, sym, ap, ◌∙◌, subst}
+use Rattle.std.proofs.Math.Bool.{and-false}
 use Rattle.std.specs.Option.{option_map_or}
 use Rattle.fz_base.specs.declared.value.Value.{Value}
 use Rattle.fz_base.specs.declared.value.Value.TheVariants.{Set}
@@ -29,16 +30,12 @@ sets_same b s t h = tests_same b (Set s) (Set t) (λ e. ap Set (h.0 e), λ e. h.
     inside : ◌≡◌ {A = Value} (Set s) (Set t) → s ≡ t
     inside e = cc
 
-pub and_false : (a : Bool) → (a && false) ≡ false
-and_false true = refl
-and_false false = refl
-
 pub not_as_many : (K : Partial) (ts : List Term) (vs : List Value) → length ts ≢ length vs
     → false ≡ have_values K ts vs
 not_as_many K [] [] h = absurd (h refl)
 not_as_many K [] (v ∷ vs) h = refl
 not_as_many K (t ∷ ts) [] h = refl
-not_as_many K (t ∷ ts) (v ∷ vs) h = sym (and_false (has_value K (t, v))) ∙ ap (λ b. has_value K (t, v) && b) (not_as_many K ts vs (λ e. h (ap suc e)))
+not_as_many K (t ∷ ts) (v ∷ vs) h = sym (and-false (has_value K (t, v))) ∙ ap (λ b. has_value K (t, v) && b) (not_as_many K ts vs (λ e. h (ap suc e)))
 
 -- the scalars have the values exactly where their values are the same
 pub are_same : (K : Partial) (ts : List Term) (vs : List Value)
@@ -59,7 +56,7 @@ are_same K (t ∷ ts) (v ∷ vs) = ap (λ b. has_value K (t, v) && b) (are_same 
         (λ us. same_values us vs) os false)
         ≡ option_map_or (λ us. same_values us (v ∷ vs)) (option_cons o os) false
     one_more None os = refl
-    one_more (Some u) None = and_false (same_value u v)
+    one_more (Some u) None = and-false (same_value u v)
     one_more (Some u) (Some us) = refl
 
 pub located_length : (ls : List the_literal.Literal)

@@ -24,6 +24,7 @@ use Rattle.fz_judge.specs.declared.error.BlockError.TheVariants as errors
 use Rattle.fz_judge.specs.Judged.{TellsFault, TellsKind}
 use Rattle.fz_judge.specs.Working.{IsPlacedWithin, moved_error}
 use Rattle.fz_model.proofs.ScanSteps.{whole_at, first_append}
+use Rattle.fz_stream.proofs.PlaceLemmas.{stand_before, stand_behind}
 
 -- ---- what an error tells
 
@@ -48,19 +49,10 @@ tells_stop f g xs i x e lt at none h = tells_further e (f (g x)) (first_some f (
 -- ---- the fault's place
 
 module _ (source : List ℕ) (upto : ℕ) where
-  stand_before : (from : ℕ) (spots : List Spot) → Stand source from upto spots → from ≤ upto
-  stand_before from [] h = h
-  stand_before from (s ∷ spots) h = let more = stand_before s.end spots h.3 in omega (arith, h.0, h.1, more)
-
-  stand_behind : (from : ℕ) (xs ys : List Spot) → Stand source from upto (xs ++ ys)
-      → (next : ℕ) × Stand source next upto ys
-  stand_behind from [] ys h = (from, h)
-  stand_behind from (x ∷ xs) ys h = stand_behind x.end xs ys h.3
-
   -- the first of the spots lies within
   spot_within : (from : ℕ) (s : Spot) (spots : List Spot) → Stand source from upto (s ∷ spots)
       → (s.start ≤ s.end) × (s.end ≤ upto)
-  spot_within from s spots h = (omega (arith, h.1), stand_before s.end spots h.3)
+  spot_within from s spots h = (omega (arith, h.1), stand_before source upto s.end spots h.3)
 
   literal_within : (k : Kind) (l : the_literal.Literal) (f : BlockFault) (from : ℕ)
       (spots : List Spot) → literal_fault k (located_literal l) ≡ Some f
@@ -91,7 +83,7 @@ module _ (source : List ℕ) (upto : ℕ) where
   value_within x (Scalar k t) (printed.Array is ls) f from spots n e h = name_fault_within x.span WrongKind f n e
   value_within x (Array y k ts) (printed.One l) f from spots n e h = name_fault_within x.span WrongKind f n e
   value_within x (Array y k ts) (printed.Array is ls) f from spots n e h =
-      let w = stand_behind from (flat_map literal_spots is.items) (flat_map literal_spots ls.items ++ spots) (subst (Stand source from upto) (append_assoc (flat_map literal_spots is.items) (flat_map literal_spots ls.items) spots) h) in
+      let w = stand_behind source upto from (flat_map literal_spots is.items) (flat_map literal_spots ls.items ++ spots) (subst (Stand source from upto) (append_assoc (flat_map literal_spots is.items) (flat_map literal_spots ls.items) spots) h) in
       (elim (not (length (map located_literal ls.items) == length ts)) as (λ b. option_or (fault_if b WrongLength x.span) (first_some (literal_fault k) (map located_literal ls.items)) ≡ Some f → IsSpanWithin upto f.at) [
         | true ↦ λ e. name_fault_within x.span WrongLength f n e
         | false ↦ λ e. literals_within k ls.items f w.0 spots e w.1
@@ -113,7 +105,7 @@ module _ (source : List ℕ) (upto : ℕ) where
   items_within m [] f from e h = cc
   items_within m (p ∷ items) f from e h =
       (elim (printed_fault m (located_printed p)) as (λ o. printed_fault m (located_printed p) ≡ o → option_or o (items_fault m (located_items items)) ≡ Some f → IsSpanWithin upto f.at) [
-        | None ↦ λ _ e. let w = stand_behind from (printed_spots p) (item_spots items) h in items_within m items f w.0 e w.1
+        | None ↦ λ _ e. let w = stand_behind source upto from (printed_spots p) (item_spots items) h in items_within m items f w.0 e w.1
         | Some g ↦ λ here e. let same : g ≡ f = cc in item_within m p f from (item_spots items) (here ∙ ap Some same) h
       ]) refl e
 

@@ -1,5 +1,5 @@
 -- The start of a filling: printed values taken one after another.
-use Rattle.std.proofs.Common.{◌≡◌, ℕ, zero, suc, ◌+◌, ◌<◌, true, false, not, cond, ◌==◌, List, [], ◌∷◌, ◌++◌, map, length, Option, Some, None, is_none, refl, sym, ap, subst, ◌∙◌, arith, add-zero, zero-add, append_assoc, eqb-true}
+use Rattle.std.proofs.Common.{◌≡◌, ℕ, zero, suc, ◌+◌, ◌<◌, true, false, not, cond, ◌==◌, List, [], ◌∷◌, ◌++◌, map, length, Option, Some, None, is_none, refl, sym, ap, subst, ◌∙◌, arith, add-zero, zero-add, append_assoc, append-nil, eqb-true}
 use Rattle.std.proofs.lemmas.Bool.{eqb-false}
 use Rattle.std.specs.Prelude.{Bool}
 use Rattle.std.specs.List.{AllByRecursion}
@@ -21,30 +21,21 @@ use Rattle.fz_model.specs.Meaning.Place.{Scalar, Array}
 use Rattle.fz_model.specs.Values.{kind_of, same_kind}
 use Rattle.fz_model.proofs.Lists.{all_map}
 use Rattle.fz_model.proofs.Partials.{fits_length, give_fits, has_place}
-use Rattle.fz_model.proofs.ScanSteps.{or_nothing}
+use Rattle.fz_model.proofs.ScanSteps.{or_assoc, or_nothing}
 use Rattle.fz_model.proofs.Scope.{same_kind_is}
 use Rattle.fz_verdict.specs.Blocks.{Printed, PrintedValue, printed_values, literal_fault, fault_if, value_fault}
 use Rattle.fz_verdict.specs.Blocks.PrintedValue.{OneValue, ArrayOf}
 use Rattle.fz_verdict.specs.Blocks.BlockFaultKind.{WrongKind, WrongLength}
 use Rattle.fz_verdict.specs.Filling.{pairs, pairs_at, printed_scalars, if_var, first_printed, start_from}
-use Rattle.fz_verdict.proofs.Accepted.{or_none, first_none}
+use Rattle.fz_verdict.proofs.Start.{PairFits}
 use Rattle.fz_judge.specs.Working.{HasRoom, IsWithin, terms_of_what, with_first, with_all, item_scalars}
 
 -- ---- one more value
 
 printed_more : (qs : List (Term × Value)) (q : Term × Value) (n : ℕ)
     → first_printed (qs ++ q ∷ []) n ≡ option_or (first_printed qs n) (if_var n q)
-printed_more [] q n = nothing (if_var n q)
-  where
-    nothing : {A : Type 0} (o : Option A) → option_or o None ≡ o
-    nothing None = refl
-    nothing (Some x) = refl
-printed_more (p ∷ qs) q n = ap (option_or (if_var n p)) (printed_more qs q n) ∙ assoc (if_var n p) (first_printed qs n) (if_var n q)
-  where
-    assoc : {A : Type 0} (o p q : Option A)
-        → option_or o (option_or p q) ≡ option_or (option_or o p) q
-    assoc None p q = refl
-    assoc (Some x) p q = refl
+printed_more [] q n = or_nothing (if_var n q)
+printed_more (p ∷ qs) q n = ap (option_or (if_var n p)) (printed_more qs q n) ∙ sym (or_assoc (if_var n p) (first_printed qs n) (if_var n q))
 
 other_number : (k n : ℕ) (v : Value) → (k ≡ n → ⊥) → if_var n (Var k, v) ≡ None
 other_number k n v h = (elim (k == n) as (λ b. (k == n) ≡ b → cond b (Some v) None ≡ None) [ true ↦ λ e. absurd (h (eqb-true k n e)) | false ↦ λ _. refl ]) refl
@@ -107,11 +98,7 @@ start_one_more qs (Var k, v) xs =
 -- several
 pub start_more : (qs rs : List (Term × Value)) (xs : List Variable)
     → start_from (qs ++ rs) 0 xs ≡ with_all (start_from qs 0 xs) rs
-start_more qs [] xs = ap (λ ps. start_from ps 0 xs) (append_nil qs)
-  where
-    append_nil : {A : Type 0} (ys : List A) → ys ++ [] ≡ ys
-    append_nil [] = refl
-    append_nil (y ∷ ys) = ap (λ zs. y ∷ zs) (append_nil ys)
+start_more qs [] xs = ap (λ ps. start_from ps 0 xs) (append-nil qs)
 start_more qs (r ∷ rs) xs =
     ap (λ ps. start_from ps 0 xs) (sym (append_assoc qs (r ∷ []) rs)) ∙ start_more (qs ++ r ∷ []) rs xs ∙ ap (λ K. with_all K rs) (start_one_more qs r xs)
 
@@ -137,10 +124,6 @@ cleared_is_nothing m K room = same_nothing K (variables_of m) room
 pub has_room : (m : Model) (K : Partial) → IsPartial m K → HasRoom m K
 has_room m K fits = fits_length (variables_of m) K fits
 
--- a variable has the kind of the value that is printed for it
-abbrev pub PairFits : Model → (Term × Value) → Type 0
-PairFits m q = TermFits m (kind_of q.1) q.0
-
 first_fits : (m : Model) (K : Partial) (q : Term × Value) → IsPartial m K → PairFits m q
     → IsPartial m (with_first K q)
 first_fits m K (Fixed w, v) h fits = h
@@ -154,25 +137,6 @@ pub all_fit : (m : Model) (K : Partial) (qs : List (Term × Value)) → IsPartia
     → AllByRecursion (PairFits m) qs → IsPartial m (with_all K qs)
 all_fit m K [] h fits = h
 all_fit m K (q ∷ qs) h fits = all_fit m (with_first K q) qs (first_fits m K q h fits.0) fits.1
-
-literal_kind : (k : Kind) (l : Literal) → literal_fault k l ≡ None
-    → kind_of (literal_value l.what) ≡ k
-literal_kind k l e = same_kind_is (kind_of (literal_value l.what)) k ((elim (same_kind (kind_of (literal_value l.what)) k) as (λ b. fault_if (not b) WrongKind l.span ≡ None → b ≡ true) [ true ↦ λ _. refl | false ↦ λ e. cc ]) e)
-
-pairs_fit : (m : Model) (k : Kind) (ts : List Term) (ls : List Literal)
-    → AllByRecursion (TermFits m k) ts → AllByRecursion (λ l. literal_fault k l ≡ None) ls
-    → AllByRecursion (PairFits m) (pairs ts (printed_values ls))
-pairs_fit m k [] ls h e = tt
-pairs_fit m k (t ∷ ts) [] h e = tt
-pairs_fit m k (t ∷ ts) (l ∷ ls) h e = (subst (λ j. TermFits m j t) (sym (literal_kind k l e.0)) h.0, pairs_fit m k ts ls h.1 e.1)
-
-pub place_pairs_fit : (m : Model) (x : Name) (p : Place) (v : PrintedValue) → PlaceFits m p
-    → value_fault x p v ≡ None → AllByRecursion (PairFits m) (pairs_at p v)
-place_pairs_fit m x (Scalar k t) (OneValue l) h e = (subst (λ j. TermFits m j t) (sym (literal_kind k l e)) h, tt)
-place_pairs_fit m x (Scalar k t) (ArrayOf is ls) h e = cc
-place_pairs_fit m x (Array y k ts) (OneValue l) h e = cc
-place_pairs_fit m x (Array y k ts) (ArrayOf is ls) h e =
-    pairs_fit m k ts ls h (first_none (literal_fault k) ls (or_none (fault_if (not (length ls == length ts)) WrongLength x.span) (first_some (literal_fault k) ls) e).1)
 
 -- ---- numbers
 
@@ -200,11 +164,7 @@ starts_with_nothing m = none_printed 0 (variables_of m)
 
 pub scalars_more : (m : Model) (xs : List Printed) (i : Printed)
     → printed_scalars m (xs ++ i ∷ []) ≡ printed_scalars m xs ++ item_scalars m i
-scalars_more m xs i = scalars_append m xs (i ∷ []) ∙ ap (λ qs. printed_scalars m xs ++ qs) (append_nil (item_scalars m i))
-  where
-    append_nil : {A : Type 0} (ys : List A) → ys ++ [] ≡ ys
-    append_nil [] = refl
-    append_nil (y ∷ ys) = ap (λ zs. y ∷ zs) (append_nil ys)
+scalars_more m xs i = scalars_append m xs (i ∷ []) ∙ ap (λ qs. printed_scalars m xs ++ qs) (append-nil (item_scalars m i))
 
 -- one more item
 pub start_item_more : (m : Model) (xs : List Printed) (i : Printed) (K L : Partial)

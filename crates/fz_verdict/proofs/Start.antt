@@ -29,7 +29,7 @@ use Rattle.fz_verdict.proofs.Violated.{chain_grows}
 -- ---- what is printed has the kind
 
 -- a variable has the kind of the value that is printed for it
-abbrev PairFits : Model → (Term × Value) → Type 0
+abbrev pub PairFits : Model → (Term × Value) → Type 0
 PairFits m q = TermFits m (kind_of q.1) q.0
 
 literal_kind : (k : Kind) (l : Literal) → literal_fault k l ≡ None
@@ -43,7 +43,7 @@ pairs_fit m k [] ls h e = tt
 pairs_fit m k (t ∷ ts) [] h e = tt
 pairs_fit m k (t ∷ ts) (l ∷ ls) h e = (subst (λ j. TermFits m j t) (sym (literal_kind k l e.0)) h.0, pairs_fit m k ts ls h.1 e.1)
 
-place_pairs_fit : (m : Model) (x : Name) (p : Place) (v : PrintedValue) → PlaceFits m p
+pub place_pairs_fit : (m : Model) (x : Name) (p : Place) (v : PrintedValue) → PlaceFits m p
     → value_fault x p v ≡ None → AllByRecursion (PairFits m) (pairs_at p v)
 place_pairs_fit m x (Scalar k t) (OneValue l) h e = (subst (λ j. TermFits m j t) (sym (literal_kind k l e)) h, tt)
 place_pairs_fit m x (Scalar k t) (ArrayOf is ls) h e = cc
@@ -94,7 +94,7 @@ start_fits qs n (x ∷ xs) h = (
     fits_here None e = tt
     fits_here (Some v) e = h zero x v refl (ap (first_printed qs) (add-zero n) ∙ e)
 
-map_none : {A B : Type 0} (f : A → B) (o : Option A) → option_map f o ≡ None → o ≡ None
+pub map_none : {A B : Type 0} (f : A → B) (o : Option A) → option_map f o ≡ None → o ≡ None
 map_none f None e = refl
 map_none f (Some x) e = cc
 

@@ -1,14 +1,11 @@
 //! The command `check`.
 
 use crate::MOST_BYTES;
-use crate::explain::source_behind;
-use crate::files::read_up_to;
-use crate::progress::Progress;
-use crate::recent::{NOTHING, Recent};
-use crate::refuse::{refuse, refuse_at, refuse_file};
-use crate::verdict::{Case, case_explanation};
-use crate::words::CheckOptions;
-use fz_check::{CheckError, MOST_READS, check_stream_up_to, status};
+use crate::refuse::{refuse, refuse_at, refuse_file, unread};
+use fz_check::{CheckError, Completion, MOST_READS, check_stream_up_to, status};
+use fz_command::CheckOptions;
+use fz_explanation::{Case, case_explanation, source_behind};
+use fz_files::{NOTHING, Progress, Recent, read_up_to};
 use std::cell::Cell;
 use std::io::Read;
 use std::os::fd::AsFd;
@@ -75,7 +72,7 @@ fn check_readers<M: Read + Drop, S: Read + Drop>(
     let mut model = Recent::new(rt.alloc(), model, false, &nothing);
     match read_up_to(rt.alloc(), &mut model, MOST_BYTES) {
         Ok(bytes) => check_stream(rt, task, &bytes, stream),
-        Err(error) => refuse_file(rt, &error, task.model, model.failure()),
+        Err(error) => refuse_file(rt, &unread(error), task.model, model.failure()),
     }
 }
 
@@ -84,7 +81,7 @@ fn check_stream<S: Read + Drop>(rt: &HostRuntime, task: &Task<'_>, model: &[u8],
     let wanted = Cell::new(0);
     let mut stream = Recent::new(rt.alloc(), stream, explains, &wanted);
     let mut out = Progress::new(rt, rt.stdout(), explains, &wanted);
-    let completion = task.options.completion;
+    let completion = completion_of(task.options);
     let outcome = check_stream_up_to(
         rt.alloc(),
         model,
@@ -100,6 +97,14 @@ fn check_stream<S: Read + Drop>(rt: &HostRuntime, task: &Task<'_>, model: &[u8],
             status(&Ok(answer))
         }
         Err(error) => refuse_check(rt, task, model, &stream, &error),
+    }
+}
+
+fn completion_of(options: CheckOptions) -> Completion {
+    if options.completes {
+        Completion::On
+    } else {
+        Completion::Off
     }
 }
 

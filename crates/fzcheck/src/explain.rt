@@ -1,20 +1,11 @@
 //! Where the fault of a refusal is, as a message: the file, the line and column, what is wrong, and
 //! the line with the fault marked.
 
-use crate::recent::{Passed, count_blocks};
 use fz_check::{BlockError, CheckError, ModelError, StreamError, SyntaxError, refusal_place};
-use fz_message::{Source, message_at, message_text};
+use fz_explanation::source_behind;
+use fz_files::{Passed, count_blocks};
+use fz_message::{message_at, message_text};
 use std::alloc::{AllocError, Global};
-
-/// A source of which only the bytes behind what has passed are given.
-pub fn source_behind<'a>(name: &'a str, bytes: &'a [u8], passed: Passed) -> Source<'a> {
-    Source {
-        name,
-        bytes,
-        bytes_before: passed.bytes,
-        lines_before: passed.lines,
-    }
-}
 
 /// The message of a refusal in a source that has this name and, behind what has passed, these
 /// bytes. There is none where the refusal has no byte range.

@@ -1,4 +1,4 @@
-//! The program `fzcheck`: its command line, files, messages and exit status. All judging is done by
+//! The program `fzcheck`: what its commands do, its refusals and exit status. All judging is done by
 //! `fz_check`.
 //!
 //! Tests are in `tests/program.sh` and `tests/explained`.
@@ -6,23 +6,16 @@
 
 mod check;
 mod explain;
-mod files;
-mod pages;
-mod progress;
-mod recent;
 mod refuse;
 mod show;
-mod verdict;
-mod words;
 
 use check::check_files;
 use fz_check::CheckError;
-use pages::{HELP, VERSION};
+use fz_command::{HELP, Refused, Request, VERSION, read_words};
 use refuse::{refuse, refuse_usage, refuse_wrong};
 use show::show_file;
 use std::process::ExitCode;
 use std::{env, io};
-use words::{Refused, Request, read_words};
 
 /// The status where a model or the version was shown.
 const SHOWN: u8 = 0;

@@ -1,10 +1,9 @@
 //! What the program writes to standard error where it refuses, and the exit status then.
 
 use crate::explain::explanation;
-use crate::pages::USAGE;
-use crate::recent::Passed;
-use clap::Error;
 use fz_check::{CheckError, refusal_text, status};
+use fz_command::USAGE;
+use fz_files::{Passed, ReadError};
 use std::io;
 use std::io::Write;
 
@@ -17,15 +16,18 @@ pub fn refuse_usage(rt: &HostRuntime) -> u8 {
     WRONG_WORDS
 }
 
-/// Writes which words are wrong: the first paragraph of the message of `clap`, since its own usage
-/// follows there.
-pub fn refuse_wrong(rt: &HostRuntime, error: &Error) -> u8 {
-    let Ok(text) = format!(in rt.alloc(); "{error}") else {
-        return refuse(rt, &CheckError::Memory);
-    };
-    let told = before(&text, "\n\n");
+/// Writes the usage line, and which words are wrong.
+pub fn refuse_wrong(rt: &HostRuntime, told: &str) -> u8 {
     let _ = eprintln!(rt; "{USAGE}\n{told}");
     WRONG_WORDS
+}
+
+/// Why a file that can't be read refuses the command.
+pub fn unread(error: ReadError) -> CheckError {
+    match error {
+        ReadError::Failed => CheckError::Read,
+        ReadError::Memory => CheckError::Memory,
+    }
 }
 
 /// Writes the line of a refusal, and gives its status.

@@ -1,11 +1,10 @@
 //! The command `show`.
 
-use crate::files::read_up_to;
-use crate::recent::Recent;
-use crate::refuse::{refuse, refuse_file};
-use crate::words::Printing;
+use crate::refuse::{refuse, refuse_file, unread};
 use crate::{MOST_BYTES, SHOWN};
 use fz_check::{CheckError, show, show_printing_all};
+use fz_command::Printing;
+use fz_files::{Recent, read_up_to};
 use std::cell::Cell;
 use std::io::Write;
 use std::{fs, io};
@@ -20,7 +19,7 @@ pub fn show_file(rt: &HostRuntime, name: &str, printing: Printing) -> u8 {
     let mut reader = Recent::new(rt.alloc(), file, false, &nothing);
     match read_up_to(rt.alloc(), &mut reader, MOST_BYTES) {
         Ok(model) => show_bytes(rt, &model, printing),
-        Err(error) => refuse_file(rt, &error, name, reader.failure()),
+        Err(error) => refuse_file(rt, &unread(error), name, reader.failure()),
     }
 }
 

@@ -1,15 +1,9 @@
 use Rattle.std.proofs.Common.{◌<◌, length, arith}
-use Rattle.fz_eval.proofs.Asked.{bounds_at}
 use Rattle.fz_eval.proofs.Valued.{not_as_many, inside_not, inside_more, inside_all}
 use Rattle.fz_eval.proofs.whole.lie_inside.Goals as goal
 
 pub returns-then-variables-values : goal.returns-then-variables-values
 returns-then-variables-values c = not_as_many c.args.variables.now c.args.values.now c.if-variables-values.true
-
-pub lies_inside-requires : goal.lies_inside-requires
-lies_inside-requires c =
-    let lt : c.loop-number.number < length c.args.variables.now = omega (arith, c.loop-number-test.true, c.if-variables-values.false) in
-    record { bounds = bounds_at c.args.bounds.now c.args.variables.now c.loop-number.number _ c.index-variables-number.result c.requires.bounds lt c.index-variables-number.is }
 
 pub returns-then-not-lies_inside : goal.returns-then-not-lies_inside
 returns-then-not-lies_inside c =

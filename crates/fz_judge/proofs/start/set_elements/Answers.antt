@@ -9,7 +9,7 @@ use Rattle.fz_syntax.specs.declared.Literal.{Literal}
 use Rattle.fz_verdict.specs.Blocks.{printed_values}
 use Rattle.fz_verdict.specs.Filling.{pairs}
 use Rattle.fz_judge.specs.Working.{IsWithin, agree_all, with_all}
-use Rattle.fz_judge.proofs.Agreeing.{and_true}
+use Rattle.std.proofs.Math.Bool.{and-true}
 use Rattle.fz_judge.proofs.Lists.{both_end, mapped_at}
 use Rattle.fz_judge.proofs.start.set_elements.Goals as goal
 
@@ -37,5 +37,5 @@ returns c =
           ∙ both_end (λ (xs : List Slot) (ls : List Literal). with_all c.loop-slot.partial (pairs (map (slot_term c.args.list.constants.now) xs) (printed_values (map located_literal ls)))) c.loop-slot.partial (λ ls. refl) (λ xs. no_literals c.loop-slot.partial (map (slot_term c.args.list.constants.now) xs)) c.args.list.slots.now c.args.literals.now (length c.loop-slot.yielded) e);
       agrees = sym (c.loop-slot.invariant.agree
           ∙ ap (λ b. c.loop-slot.agrees && b) (both_end (λ (xs : List Slot) (ls : List Literal). agree_all c.loop-slot.partial (pairs (map (slot_term c.args.list.constants.now) xs) (printed_values (map located_literal ls)))) true (λ ls. refl) (λ xs. none_disagrees c.loop-slot.partial (map (slot_term c.args.list.constants.now) xs)) c.args.list.slots.now c.args.literals.now (length c.loop-slot.yielded) e)
-          ∙ and_true c.loop-slot.agrees);
+          ∙ and-true c.loop-slot.agrees);
     }

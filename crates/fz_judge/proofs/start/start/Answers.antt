@@ -7,9 +7,9 @@ use Rattle.fz_verdict.specs.Filling.{printed_scalars, start_from}
 use Rattle.fz_verdict.specs.View.{located_items, located_printed}
 use Rattle.fz_judge.specs.declared.start.Proposed.{Proposed}
 use Rattle.fz_judge.specs.Working.{agree_all, item_scalars}
-use Rattle.fz_judge.proofs.Agreeing.{agree_item_more, and_true}
+use Rattle.fz_judge.proofs.Agreeing.{agree_item_more}
 use Rattle.fz_model.proofs.ScanSteps.{first_more, take_one_more}
-use Rattle.fz_judge.proofs.Printing.{and_false}
+use Rattle.std.proofs.Math.Bool.{and-false, and-true}
 use Rattle.fz_judge.proofs.Refusing.{tells_stop}
 use Rattle.fz_model.proofs.Partials.{nothing_fits}
 use Rattle.fz_judge.proofs.Starting.{start_item_more, starts_with_nothing}
@@ -43,8 +43,8 @@ loop-number-preserved c =
           ∙ ap (λ xs. start_from (printed_scalars m xs) 0 (variables_of m)) (sym more);
       kinds = subst (IsPartial m) (sym partial_is) c.in_ok-set_item.ensures.kinds;
       agree = elim c.if-not-branch.branch [
-        | then-not-branch w ↦ ap (λ (p : Proposed). p.agrees) w.proposed-is ∙ sym (both ∙ ap (λ b. c.loop-number.proposed.agrees && b) w.if-not-branch.true ∙ and_false c.loop-number.proposed.agrees)
-        | else-not-branch w ↦ ap (λ (p : Proposed). p.agrees) w.proposed-is ∙ sym (both ∙ ap (λ b. c.loop-number.proposed.agrees && b) w.if-not-branch.false ∙ and_true c.loop-number.proposed.agrees)
+        | then-not-branch w ↦ ap (λ (p : Proposed). p.agrees) w.proposed-is ∙ sym (both ∙ ap (λ b. c.loop-number.proposed.agrees && b) w.if-not-branch.true ∙ and-false c.loop-number.proposed.agrees)
+        | else-not-branch w ↦ ap (λ (p : Proposed). p.agrees) w.proposed-is ∙ sym (both ∙ ap (λ b. c.loop-number.proposed.agrees && b) w.if-not-branch.false ∙ and-true c.loop-number.proposed.agrees)
       ];
       clean = first_more (printed_fault m) located_printed c.args.items.now c.loop-number.number c.index-items-number.result c.loop-number-test.true c.index-items-number.is c.loop-number.invariant.clean c.in_ok-set_item.ensures.clean;
     }

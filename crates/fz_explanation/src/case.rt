@@ -4,19 +4,28 @@
 ghost use Rattle.std.specs.Prelude.{◌≡◌, ◌<◌, length};
 ghost use Rattle.fz_model.specs.Meaning.{IsPartial, points};
 
-use crate::explain::source_behind;
-use crate::recent::Told;
 use fz_base::Span;
-use fz_check::fill;
 use fz_explain::{
     Loaded, Sought, bounds_note, explain, first_point, notes_of, point_place, too_large_at,
     variables_of,
 };
+use fz_files::{Passed, Told};
+use fz_judge::fill;
 use fz_message::{Help, Message, Note, Source, message_at, message_text, shown_text};
 use fz_model::{Goal, Model, Partial, Scalar, Term, What, load, scalar_at};
 use fz_stream::{Block, blocks};
 use fz_syntax::{Ast, Basic, Goal as GoalItem, Printed, parse};
 use std::alloc::{AllocError, Global};
+
+/// A source of which only the bytes behind what has passed are given.
+pub fn source_behind<'a>(name: &'a str, bytes: &'a [u8], passed: Passed) -> Source<'a> {
+    Source {
+        name,
+        bytes,
+        bytes_before: passed.bytes,
+        lines_before: passed.lines,
+    }
+}
 
 /// A verdict to be explained: what the report says of the block, behind the block's number, and the
 /// sources.

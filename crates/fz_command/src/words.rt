@@ -3,7 +3,6 @@
 use crate::pages::VERSION;
 use clap::error::ErrorKind;
 use clap::{Arg, ArgAction, ArgMatches, Command, Error};
-use fz_check::Completion;
 use std::alloc::{AllocError, Global};
 
 /// A command, as the command line asks for it.
@@ -33,7 +32,7 @@ pub enum Printing {
 #[derive(Clone, Copy)]
 pub struct CheckOptions {
     /// Whether values that the solver left out are searched for.
-    pub completion: Completion,
+    pub completes: bool,
     /// Whether refusals and verdicts are explained.
     pub explains: bool,
 }
@@ -45,8 +44,8 @@ pub enum Refused {
     Help,
     /// The words ask for the version.
     Version,
-    /// The words are wrong, and this is how.
-    Wrong(Error),
+    /// The words are wrong, and this says how.
+    Wrong(String),
     /// Memory ran out while they were read.
     Memory,
 }
@@ -57,23 +56,36 @@ impl From<AllocError> for Refused {
     }
 }
 
-impl From<Error> for Refused {
-    fn from(error: Error) -> Refused {
-        match error.kind() {
-            ErrorKind::OutOfMemory => Refused::Memory,
-            ErrorKind::DisplayHelp => Refused::Help,
-            ErrorKind::DisplayVersion => Refused::Version,
-            _ => Refused::Wrong(error),
-        }
-    }
-}
-
 /// What the words ask for; the first word is the program's own name. It isn't inlined, so that its
 /// large stack frame is gone once the words are read.
 #[inline(never)]
 pub fn read_words<'a>(alloc: Global, words: &'a [String]) -> Result<Request<'a>, Refused> {
-    let matches = command(alloc)?.try_get_matches_from(words)?;
-    request_of(&matches)
+    match command(alloc)?.try_get_matches_from(words) {
+        Ok(matches) => request_of(&matches),
+        Err(error) => Err(refusal_of(alloc, &error)),
+    }
+}
+
+/// What an error of `clap` says of the words.
+fn refusal_of(alloc: Global, error: &Error) -> Refused {
+    match error.kind() {
+        ErrorKind::OutOfMemory => Refused::Memory,
+        ErrorKind::DisplayHelp => Refused::Help,
+        ErrorKind::DisplayVersion => Refused::Version,
+        _ => match first_paragraph(alloc, error) {
+            Ok(text) => Refused::Wrong(text),
+            Err(_) => Refused::Memory,
+        },
+    }
+}
+
+/// The first paragraph of the message of an error, since the usage of `clap` follows there.
+fn first_paragraph(alloc: Global, error: &Error) -> Result<String, AllocError> {
+    let text = format!(in alloc; "{error}")?;
+    match text.split_once("\n\n") {
+        Some((front, _)) => String::from_str(alloc, front),
+        None => Ok(text),
+    }
 }
 
 /// The command of the words that `clap` read.
@@ -87,7 +99,7 @@ fn request_of<'a>(matches: &ArgMatches<'a>) -> Result<Request<'a>, Refused> {
             model: model_of(given)?,
             stream: given.get_str("STREAM"),
             options: CheckOptions {
-                completion: completion_of(given),
+                completes: given.get_flag("complete"),
                 explains: given.get_flag("explain"),
             },
         }),
@@ -105,14 +117,6 @@ fn printing_of(given: &ArgMatches<'_>) -> Printing {
         Printing::All
     } else {
         Printing::AsWritten
-    }
-}
-
-fn completion_of(given: &ArgMatches<'_>) -> Completion {
-    if given.get_flag("complete") {
-        Completion::On
-    } else {
-        Completion::Off
     }
 }
 

@@ -1,9 +1,9 @@
 use Rattle.std.proofs.Common.{suc, take, subst, arith}
 use Rattle.std.proofs.lemmas.List.{length-take}
 use Rattle.std.specs.Io.KnownBytes.{Consumes}
-use Rattle.fzcheck.proofs.Reading.{given_up_to, given_to_end, given_none}
-use Rattle.fzcheck.proofs.files.read_up_to.Goals as goal
-use Rattle.fzcheck.proofs.files.read_up_to.Goals.{else-loop-piece-test, then-loop-piece-test+in-Ok+then-count-eq0}
+use Rattle.fz_files.proofs.Reading.{given_up_to, given_to_end, given_none}
+use Rattle.fz_files.proofs.files.read_up_to.Goals as goal
+use Rattle.fz_files.proofs.files.read_up_to.Goals.{else-loop-piece-test, then-loop-piece-test+in-Ok+then-count-eq0}
 
 pub returns-clause-bytes : goal.returns-clause-bytes
 returns-clause-bytes g c =

@@ -1,0 +1,11 @@
+//! The command line of the program: what its words ask for (`read_words`), the usage line, the help
+//! page and the version.
+//!
+//! Tests are in `tests/program.sh`.
+#![tactic(auto)]
+
+mod pages;
+mod words;
+
+pub use pages::{HELP, USAGE, VERSION};
+pub use words::{CheckOptions, Printing, Refused, Request, read_words};
