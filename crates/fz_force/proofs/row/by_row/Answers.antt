@@ -1,4 +1,4 @@
-use Rattle.std.proofs.Common.{◌≡◌, true, IfSome, Some, option_map, sym, ap, subst, subst₂, ◌∙◌}
+use Rattle.std.proofs.Common.{◌≡◌, true, IfSome, None, Some, option_map, sym, ap, subst, subst₂, ◌∙◌}
 use Rattle.fz_meaning.specs.Known.{known_row}
 use Rattle.fz_meaning.specs.Meaning.{row_of}
 use Rattle.fz_data.specs.Parts.{constraint_view}
@@ -22,7 +22,7 @@ value_at-requires c =
     let r = known_row c.in-Some.known in
     let row : row_of p ≡ Some r = sym c.requires.known ∙ ap (option_map known_row) c.in-Some.is in
     let alone = c.in-At.ensures in
-    let found = record {
+    let found : IsReady K p.arguments r c.in-At.spot = record {
       shaped = row_fits p r row;
       only_open = alone.only_open;
       stands = alone.stands;
@@ -37,7 +37,7 @@ pub returns-in-Some-2 : goal.returns-in-Some-2
 returns-in-Some-2 c =
     let p = constraint_view c.args.parts in
     let r = known_row c.in-Some.known in
-    let only = subst₂ (λ L ys. IsOnlyValue L ys r c.in-At.spot.variable (Some c.in-Some-2.value)) c.new.ensures.assigned c.new.ensures.arguments (rw c.in-Some-2.is at c.in_ok-value_at.ensures) in
+    let only = subst₂ (λ L ys. IsOnlyValue L ys r c.in-At.spot.variable (Some c.in-Some-2.value)) c.new.ensures.assigned c.new.ensures.arguments (rw c.in-Some-2.is at c.in_ok-value-in-At.ensures) in
     record {
       forced = λ m fits kinds. forces_value m c.args.partial.now fits c.args.parts.number p r (sym c.requires.known ∙ ap (option_map known_row) c.in-Some.is) c.in-At.spot.variable c.in-At.ensures.target kinds c.in-Some-2.value only;
     }
@@ -46,7 +46,7 @@ pub returns-in-None : goal.returns-in-None
 returns-in-None c =
     let p = constraint_view c.args.parts in
     let r = known_row c.in-Some.known in
-    let only = subst₂ (λ L ys. IsOnlyValue L ys r c.in-At.spot.variable None) c.new.ensures.assigned c.new.ensures.arguments (rw c.in-None.is at c.in_ok-value_at.ensures) in
+    let only = subst₂ (λ L ys. IsOnlyValue L ys r c.in-At.spot.variable None) c.new.ensures.assigned c.new.ensures.arguments (rw c.in-None.is at c.in_ok-value-in-At.ensures) in
     record {
       forced = λ m fits kinds. forces_nothing m c.args.partial.now fits c.args.parts.number p r (sym c.requires.known ∙ ap (option_map known_row) c.in-Some.is) c.in-At.spot.variable c.in-At.ensures.target only;
     }
