@@ -1,16 +1,10 @@
 -- What a point gives later, and the scalars without a value that it waits for. Only private
 -- functions use these.
-use Rattle.std.specs.Prelude.{◌≡◌, ℕ, cond, ◌==◌, is_none, List, length, Option, None, Some, flat_map}
+use Rattle.std.specs.Prelude.{◌≡◌, ℕ, cond, is_none, List, length, Option, None, Some}
 use Rattle.std.specs.List.{AllByRecursion}
 use Rattle.fz_model.specs.declared.Term.{Term}
 use Rattle.fz_model.specs.declared.Term.TheVariants.{Var, Fixed}
-use Rattle.fz_model.specs.declared.ConstraintParts.{ConstraintParts}
-use Rattle.fz_model.specs.declared.Slot.{Slot}
-use Rattle.fz_model.specs.declared.Argument.{Argument}
-use Rattle.fz_model.specs.declared.Argument.TheVariants as arguments
-use Rattle.fz_model.specs.Meaning.{Model, Partial, Point, value, value_at, first_some, terms_at}
-use Rattle.fz_model.specs.Parts.{place_view}
-use Rattle.fz_model.specs.Slots.{segment}
+use Rattle.fz_model.specs.Meaning.{Model, Partial, Point, value, value_at}
 use Rattle.fz_model.specs.Steps.{GivesNothing}
 use Rattle.fz_verdict.specs.Filling.{HasAllOf}
 use Rattle.fz_filling.specs.declared.outlook.Outlook.{Outlook}
@@ -27,23 +21,6 @@ IsOpen K n = value_at K n ≡ None
 abbrev pub open_variable : Partial → Term → Option ℕ
 open_variable K (Var k) = cond (is_none (value_at K k)) (Some k) None
 open_variable K (Fixed v) = None
-
--- the same, where it is another one than this
-abbrev pub open_other : Partial → ℕ → Term → Option ℕ
-open_other K n (Var k) = cond (k == n) None (open_variable K (Var k))
-open_other K n (Fixed v) = None
-
--- the first of them
-abbrev pub first_other : Partial → ℕ → List Term → Option ℕ
-first_other K n ts = first_some (open_other K n) ts
-
--- the scalars of a constraint's argument: those of a slot, or of each slot of a list
-abbrev pub slot_terms : ConstraintParts → Slot → List Term
-slot_terms c s = terms_at (place_view c.variables.now c.arrays.now c.store.now.constants.items s)
-
-abbrev pub terms_given : ConstraintParts → Argument → List Term
-terms_given c (arguments.One s) = slot_terms c s
-terms_given c (arguments.List g) = flat_map (slot_terms c) (segment c.store.now.slots.items g)
 
 -- ---- later values
 

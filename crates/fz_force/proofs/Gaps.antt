@@ -45,7 +45,3 @@ pub gone : {A : Type 0} (o : Option (Bor A)) (p : Option A) → false ≡ is_som
     → option_map (λ x. x.now) o ≡ p → p ≡ None
 gone None p none e = sym e
 gone (Some x) p none e = no none
-
-pub nothing_there : {A : Type 0} (o : Option A) → false ≡ is_some o → o ≡ None
-nothing_there None e = refl
-nothing_there (Some x) e = no e

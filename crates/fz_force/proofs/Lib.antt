@@ -5,7 +5,6 @@ pub mod Reified
 pub mod RowKinds
 pub mod CountRows
 pub mod Opens
-pub mod Spots
 pub mod Gaps
 pub mod Sides
 pub mod Fits

@@ -1,110 +1,118 @@
--- The scalars of an argument by their indices, and which of them are open as more of them come.
-use Rattle.std.proofs.Common.{◌≡◌, ℕ, zero, suc, ◌+◌, ◌<◌, List, [], ◌∷◌, ◌++◌, length, take, drop, Some, slice_get, refl, sym, ap, subst, ◌∙◌, ◌⊎◌, inl, inr, arith}
-use Rattle.std.proofs.lemmas.List.{append-nil as nothing_more, length-take-le, take-append-drop, take_more}
+-- Which scalars have no value, as more of them come; and what that says of a constraint.
+use Rattle.std.proofs.Common.{◌≡◌, ℕ, zero, suc, ◌+◌, ◌≤◌, true, cond, List, [], ◌∷◌, ◌++◌, drop, flat_map, length, map, Option, Some, None, is_none, is_some, slice_get, refl, sym, ap, subst, ◌∙◌}
+use Rattle.std.proofs.lemmas.List.{append-nil as nothing_more, drop_all, drop_more}
 use Rattle.std.proofs.lemmas.Option.{get_or_from_slice_get, slice_get_within}
+use Rattle.fz_base.specs.declared.value.Value.{Value}
 use Rattle.fz_meaning.specs.declared.term.Term.{Term}
 use Rattle.fz_meaning.specs.declared.term.Term.TheVariants.{Var}
-use Rattle.fz_meaning.specs.Meaning.{Partial}
-use Rattle.fz_meaning.specs.Steps.{open_terms}
-use Rattle.fz_meaning.proofs.Steps.{append-nil as neither, filter-append, is_open}
-use Rattle.fz_force.specs.declared.only.Open.{Open}
-use Rattle.fz_force.specs.declared.only.Open.TheVariants.{Nothing, Target, More}
-use Rattle.fz_force.specs.Only.{AreOpen}
+use Rattle.fz_meaning.specs.Meaning.{Model, Partial, Posted, terms_at_argument, terms_in, value_at}
+use Rattle.fz_meaning.specs.Meaning.Point.{ConstraintPoint}
+use Rattle.fz_meaning.specs.Steps.{Gives, open_terms}
+use Rattle.fz_meaning.proofs.Steps.{filter-append, is_open, only_open_none}
+use Rattle.fz_data.specs.declared.Slot.{Slot}
+use Rattle.fz_data.specs.Slots.{slot_term}
+use Rattle.fz_force.specs.declared.only.Spot.{Spot}
+use Rattle.fz_force.specs.declared.only.Open.TheVariants.{Nothing, Other}
+use Rattle.fz_force.specs.declared.only.Opening.TheVariants.{Never, Waits}
+use Rattle.fz_force.specs.Openings.{AreOpen, HasEach, IsMore, IsOpening}
+
+-- ---- lists
 
 -- the only one of a list
 pub alone : {A : Type 0} (t u : A) (j : ℕ) → slice_get (t ∷ []) j ≡ Some u → t ≡ u
 alone t u zero e = cc
 alone t u (suc j) e = cc
 
--- ---- which are open, as more come
+-- those in the middle are more than the variable alone
+more_around : (n : ℕ) (xs ys zs : List Term) → IsMore n ys → IsMore n (xs ++ (ys ++ zs))
+more_around n [] [] zs more = absurd (more.0 refl)
+more_around n [] (y ∷ []) zs more =
+    ((λ e. cc), (λ e. let same : y ≡ Var n = cc in more.1 (ap (λ t. t ∷ []) same)))
+more_around n [] (y ∷ t ∷ ys) zs more = ((λ e. cc), (λ e. cc))
+more_around n (x ∷ xs) ys zs more = (
+  (λ e. cc),
+  (λ e. let rest : xs ++ (ys ++ zs) ≡ [] = cc in (more_around n xs ys zs more).0 rest),
+)
 
-module _ (K : Partial) where
-  pub open_append : (ts us : List Term)
-      → open_terms K (ts ++ us) ≡ open_terms K ts ++ open_terms K us
-  open_append ts us = filter-append (is_open K) ts us
+-- ---- as more of them come: those of a list are what was found and those of the rest
 
-  one_of : {A : Type 0} (xs ys : List A) (y : A) → xs ++ ys ≡ y ∷ []
-      → ((xs ≡ []) × (ys ≡ y ∷ [])) ⊎ ((xs ≡ y ∷ []) × (ys ≡ []))
-  one_of [] ys y e = inl (refl, e)
-  one_of (x ∷ xs) ys y e =
-      let rest : xs ++ ys ≡ [] = cc in
-      let head : x ≡ y = cc in
-      let nil : xs ≡ [] = (neither xs ys rest).0 in
-      inr ((λ i. head i ∷ nil i), (neither xs ys rest).1)
+abbrev pub front : {A : Type 0} → ℕ → Option A → List Term
+front n None = []
+front n (Some x) = Var n ∷ []
 
-  -- in more scalars after these
-  at_in_front : {A : Type 0} (ts us : List A) (i : ℕ) (t : A) → slice_get ts i ≡ Some t
-      → slice_get (ts ++ us) i ≡ Some t
-  at_in_front [] us i t e = cc
-  at_in_front (x ∷ ts) us zero t e = e
-  at_in_front (x ∷ ts) us (suc i) t e = at_in_front ts us i t e
+abbrev pub SoFar : {A : Type 0} → Partial → ℕ → List Term → List Term → Option A → Type 0
+SoFar K n whole rest found = (L : Partial) → HasEach K L
+    → open_terms L whole ≡ open_terms L (front n found) ++ open_terms L rest
 
-  module _ (n : ℕ) where
-    -- closed scalars change nothing
-    pub and_closed : (ts us : List Term) (o : Open) → AreOpen K n ts o → AreOpen K n us Nothing
-        → AreOpen K n (ts ++ us) o
-    and_closed ts us Nothing h g = open_append ts us ∙ (λ i. h i ++ g i)
-    and_closed ts us (Target i) h g = (open_append ts us ∙ (λ j. h.0 j ++ g j), at_in_front ts us i (Var n) h.1)
-    and_closed ts us More h g =
-        let same : open_terms K (ts ++ us) ≡ open_terms K ts = open_append ts us ∙ ap (λ zs. open_terms K ts ++ zs) g ∙ nothing_more (open_terms K ts) in
-        ((λ e. h.0 (sym same ∙ e)), (λ e. h.1 (sym same ∙ e)))
+-- view gives the scalars of a list of parts, here those of one part, the next one
+module _ {A X : Type 0} (K : Partial) (n : ℕ) (view : List X → List Term) (here : X → List Term) (splits : (x : X) (xs : List X) → view (x ∷ xs) ≡ here x ++ view xs) (xs : List X) (i : ℕ) (x : X) (at : slice_get xs i ≡ Some x) (found : Option A) (seen : SoFar K n (view xs) (view (drop i xs)) found) where
+  abbrev rest : List Term
+  rest = view (drop (i + 1) xs)
 
-    -- others stay others
-    pub others_first : (ts us : List Term) → AreOpen K n ts More → AreOpen K n (ts ++ us) More
-    others_first ts us h = (
-      (λ e. h.0 (neither (open_terms K ts) (open_terms K us) (sym (open_append ts us) ∙ e)).0),
-      (λ e. elim (one_of (open_terms K ts) (open_terms K us) (Var n) (sym (open_append ts us) ∙ e)) [ inl a ↦ h.0 a.0 | inr a ↦ h.1 a.0 ]),
+  parts : (L : Partial) → HasEach K L → open_terms L (view xs)
+      ≡ open_terms L (front n found) ++ (open_terms L (here x) ++ open_terms L rest)
+  parts L later =
+      let first : drop i xs ≡ x ∷ drop (i + 1) xs = drop_more xs i x (slice_get_within xs i x at) ∙ ap (λ z. z ∷ drop (i + 1) xs) (get_or_from_slice_get xs i x x at) in
+      seen L later ∙ ap (λ us. open_terms L (front n found) ++ us) (ap (λ ys. open_terms L (view ys)) first ∙ ap (open_terms L) (splits x (drop (i + 1) xs)) ∙ filter-append (is_open L) (here x) rest)
+
+  pub goes_on : AreOpen K n (here x) Nothing → SoFar K n (view xs) rest found
+  goes_on closed = λ L later. parts L later ∙ ap (λ us. open_terms L (front n found) ++ (us ++ open_terms L rest)) (closed L later)
+
+  module _ (one : (L : Partial) → HasEach K L → open_terms L (here x) ≡ open_terms L (Var n ∷ [])) where
+    pub finds : (y : A) → found ≡ None → SoFar K n (view xs) rest (Some y)
+    finds y none = λ L later. parts L later ∙ (λ j. open_terms L (front n (none j)) ++ (one L later j ++ open_terms L rest))
+
+    pub finds_twice : (y : A) → found ≡ Some y → value_at K n ≡ None
+        → AreOpen K n (view xs) (Other n)
+    finds_twice y some unset = (
+      unset,
+      λ L later none.
+          let two : open_terms L (view xs) ≡ Var n ∷ Var n ∷ open_terms L rest = parts L later ∙ (λ j. open_terms L (front n (some j)) ++ (one L later j ++ open_terms L rest)) ∙ (λ j. cond (is_none (none j)) (Var n ∷ []) [] ++ (cond (is_none (none j)) (Var n ∷ []) [] ++ open_terms L rest)) in
+          ((λ e. cc), (λ e. cc)),
     )
 
-    pub others_then : (ts us : List Term) → AreOpen K n us More → AreOpen K n (ts ++ us) More
-    others_then ts us h = (
-      (λ e. h.0 (neither (open_terms K ts) (open_terms K us) (sym (open_append ts us) ∙ e)).1),
-      (λ e. elim (one_of (open_terms K ts) (open_terms K us) (Var n) (sym (open_append ts us) ∙ e)) [ inl a ↦ h.1 a.1 | inr a ↦ h.0 a.1 ]),
-    )
+  pub has_other : (a : ℕ) → AreOpen K n (here x) (Other a) → AreOpen K n (view xs) (Other a)
+  has_other a (unset, more) = (unset, λ L later none. subst (IsMore n) (sym (parts L later)) (more_around n (open_terms L (front n found)) (open_terms L (here x)) (open_terms L rest) (more L later none)))
 
-    -- the variable a second time
-    pub twice : (ts us : List Term) (i : ℕ) (o : Open) → (o ≡ Nothing → ⊥) → AreOpen K n ts o
-        → AreOpen K n us (Target i) → AreOpen K n (ts ++ us) More
-    twice ts us i Nothing some h g = absurd (some refl)
-    twice ts us i More some h g = others_first ts us h
-    twice ts us i (Target j) some h g =
-        let both : open_terms K (ts ++ us) ≡ Var n ∷ Var n ∷ [] = open_append ts us ∙ (λ k. h.0 k ++ g.0 k) in
-        ((λ e. cc), (λ e. cc))
+-- at the end
+pub ends : {A X : Type 0} (K : Partial) (n : ℕ) (view : List X → List Term) (xs : List X) (i : ℕ)
+    (found : Option A) → view [] ≡ [] → length xs ≤ i → SoFar K n (view xs) (view (drop i xs)) found
+    → (L : Partial) → HasEach K L → open_terms L (view xs) ≡ open_terms L (front n found)
+ends K n view xs i found nil past seen L later =
+    seen L later ∙ ap (λ us. open_terms L (front n found) ++ us) (ap (λ ys. open_terms L (view ys)) (drop_all i xs past) ∙ ap (open_terms L) nil) ∙ nothing_more (open_terms L (front n found))
 
-    pub at_end : {A : Type 0} (ts : List A) (t : A) (k : ℕ) → length ts ≡ k
-        → slice_get (ts ++ t ∷ []) k ≡ Some t
-    at_end [] t k e = ap (λ j. slice_get (t ∷ []) j) (sym e)
-    at_end (x ∷ ts) t k e = ap (λ j. slice_get (x ∷ ts ++ t ∷ []) j) (sym e) ∙ at_end ts t (length ts) refl
+-- ---- where the variable is, which has no value
 
-    pub then_target : (ts : List Term) (t : Term) (k i : ℕ) → length ts ≡ k → AreOpen K n ts Nothing
-        → AreOpen K n (t ∷ []) (Target i) → AreOpen K n (ts ++ t ∷ []) (Target k)
-    then_target ts t k i e h g = (open_append ts (t ∷ []) ∙ (λ j. h j ++ g.0 j), at_end ts t k e ∙ ap Some (alone t (Var n) i g.1))
+abbrev pub StandsAmong : Partial → ℕ → List Slot → ℕ → Type 0
+StandsAmong K n ss i = (value_at K n ≡ None)
+    × ((cs : List Value) → slice_get (map (slot_term cs) ss) i ≡ Some (Var n))
 
--- ---- indices within a list
+abbrev pub StandsIn : Partial → ℕ → Posted → Spot → Type 0
+StandsIn K n p s = (value_at K n ≡ None) × (s.variable ≡ n)
+    × (slice_get (terms_at_argument p.arguments s.argument) s.place ≡ Some (Var n))
 
--- one more of a list
-pub take_one : {A : Type 0} (ts : List A) (k : ℕ) (t : A) → Some t ≡ slice_get ts k
-    → take (k + 1) ts ≡ take k ts ++ t ∷ []
-take_one ts k t e =
-    take_more ts k t (slice_get_within ts k t (sym e)) ∙ ap (λ z. take k ts ++ z ∷ []) (get_or_from_slice_get ts k t t (sym e))
+-- ---- of a constraint
 
--- ---- one more scalar
+abbrev pub scalars : Posted → List Term
+scalars p = flat_map terms_in p.arguments
 
-module _ (K : Partial) (n : ℕ) (ts : List Term) (k : ℕ) (t : Term) (at : Some t ≡ slice_get ts k) where
-  pub goes_on : (o : Open) → AreOpen K n (take k ts) o → AreOpen K n (t ∷ []) Nothing
-      → AreOpen K n (take (k + 1) ts) o
-  goes_on o h g = subst (λ us. AreOpen K n us o) (sym (take_one ts k t at)) (and_closed K n (take k ts) (t ∷ []) o h g)
+module _ (K : Partial) (p : Posted) (n : ℕ) (target : p.target ≡ Some n) where
+  only_target : (m : Model) (k : ℕ) (L : Partial) (j : ℕ) (v : Value)
+      → Gives m L (ConstraintPoint k p) j v → open_terms L (scalars p) ≡ Var n ∷ []
+  only_target m k L j v g = let both : Some j ≡ Some n = sym g.target.0 ∙ target in let same : j ≡ n = cc in subst (λ i. open_terms L (scalars p) ≡ Var i ∷ []) same g.only_open
 
-  pub finds : (i : ℕ) → k < length ts → AreOpen K n (take k ts) Nothing
-      → AreOpen K n (t ∷ []) (Target i) → AreOpen K n (take (k + 1) ts) (Target k)
-  finds i within h g = subst (λ us. AreOpen K n us (Target k)) (sym (take_one ts k t at)) (then_target K n (take k ts) t k i (length-take-le k ts (omega arith)) h g)
+  pub never_set : is_some (value_at K n) ≡ true → IsOpening K p Never
+  never_set some = λ m k L later j v g.
+      let none = only_open_none L n (scalars p) (only_target m k L j v g) in
+      (elim (value_at K n) as (λ o. value_at K n ≡ o → is_some o ≡ true → ⊥) [
+        | None ↦ λ _ e. cc
+        | Some w ↦ λ e _. let set : value_at L n ≡ Some w = later n w e in cc
+      ]) refl some
 
-  stops : AreOpen K n (take (k + 1) ts) More → AreOpen K n ts More
-  stops h = subst (λ us. AreOpen K n us More) (take-append-drop (k + 1) ts) (others_first K n (take (k + 1) ts) (drop (k + 1) ts) h)
+  pub never_there : AreOpen K n (scalars p) Nothing → IsOpening K p Never
+  never_there closed = λ m k L later j v g.
+      let none : Var n ∷ [] ≡ [] = sym (only_target m k L j v g) ∙ closed L later in
+      cc
 
-  pub stops_here : AreOpen K n (t ∷ []) More → AreOpen K n ts More
-  stops_here h = stops (subst (λ us. AreOpen K n us More) (sym (take_one ts k t at)) (others_then K n (take k ts) (t ∷ []) h))
-
-  pub stops_twice : (i : ℕ) (o : Open) → (o ≡ Nothing → ⊥) → AreOpen K n (take k ts) o
-      → AreOpen K n (t ∷ []) (Target i) → AreOpen K n ts More
-  stops_twice i o some h g = stops (subst (λ us. AreOpen K n us More) (sym (take_one ts k t at)) (twice K n (take k ts) (t ∷ []) i o some h g))
+  pub waits_for : (a : ℕ) → AreOpen K n (scalars p) (Other a) → IsOpening K p (Waits a)
+  waits_for a (unset, more) = (unset, λ m k L later none j v g. (more L later none).1 (only_target m k L j v g))

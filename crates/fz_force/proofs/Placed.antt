@@ -24,13 +24,10 @@ use Rattle.fz_data.specs.declared.point.ConstraintParts.{ConstraintParts}
 use Rattle.fz_data.specs.Slots.{is_scalar, segment}
 use Rattle.fz_data.specs.Kinds.{PostedFits}
 use Rattle.fz_data.specs.Parts.{argument_view, place_view, array_view, no_array}
-use Rattle.fz_force.specs.declared.only.Spot.{Spot}
-use Rattle.fz_force.specs.Forced.{Fills, IsForced, IsOnlyValue, IsReady}
-use Rattle.fz_force.specs.Kinds.{each_fits}
-use Rattle.fz_force.specs.Only.{IsFlat, IsOnlyAt, IsOnlyOpen, terms_of}
+use Rattle.fz_force.specs.Forced.{Fills, IsForced, IsOnlyValue}
+use Rattle.fz_force.specs.Openings.{IsFlat}
 use Rattle.fz_meaning.proofs.Partials.{has_place}
 use Rattle.fz_force.proofs.KindsFit.{filled_kind, has_number}
-use Rattle.fz_force.proofs.Scalars.{at_argument, of_arguments}
 
 module _ (c : ConstraintParts) where
   abbrev view : Argument → meaning.Argument
@@ -64,38 +61,7 @@ module _ (c : ConstraintParts) where
   flat_arguments [] (a ∷ as') h = no h
   flat_arguments (s ∷ ss) (a ∷ as') h = (flat_argument s a (and_first (has_shape s (view a)) _ h), flat_arguments ss as' (and_second (has_shape s (view a)) _ h))
 
-  -- ---- what is found of it
-
-  pub ready : (K : Partial) (as' : List Argument) (r : Row) (n : ℕ) (s : Spot)
-      → have_shapes r.shapes (map view as') ≡ true → IsOnlyAt K (terms_of c) as' n s
-      → each_fits K r.shapes (map view as') ≡ true → IsReady K (map view as') r s
-  ready K as' r n s shaped only kinds = record {
-    shaped = shaped;
-    only_open = ap (open_terms K) (sym (of_arguments view as')) ∙ only.open_once ∙ ap (λ j. Var j ∷ []) (sym only.variable);
-    stands = ap (λ ts. slice_get ts s.place) (sym (at_argument view as' s.argument)) ∙ only.stands ∙ ap (λ j. Some (Var j)) (sym only.variable);
-    kinds = kinds;
-  }
-
-  pub not_only : (K : Partial) (as' : List Argument) (r : Row) (n : ℕ)
-      → IsOnlyOpen K (terms_of c) as' n None → IsOnlyValue K (map view as') r n None
-  not_only K as' r n none = λ within w f. none (ap (open_terms K) (of_arguments view as') ∙ f.only_open)
-
-pub has_value : (K : Partial) (xs : List meaning.Argument) (r : Row) (n : ℕ)
-    → is_some (value_at K n) ≡ true → IsOnlyValue K xs r n None
-has_value K xs r n some = λ within w f. no (ap is_some (sym (only_open_none K n (flat_map terms_in xs) f.only_open)) ∙ some)
-
 -- ---- the point
-
-no_some : {A : Type 0} (o : Option A) (x : A) → o ≡ None → o ≡ Some x → ⊥
-no_some o x e f = cc
-
-pub without_row : (m : Model) (K : Partial) (k : ℕ) (p : Posted) → row_of p ≡ None
-    → IsForced m K (ConstraintPoint k p) None
-without_row m K k p e = λ n v g. let (r, is, _) = some_of (λ r. IsResult K p.arguments n r.result) (row_of p) g.target.1 in no_some (row_of p) r e is
-
-pub without_target : (m : Model) (K : Partial) (k : ℕ) (p : Posted) → p.target ≡ None
-    → IsForced m K (ConstraintPoint k p) None
-without_target m K k p e = λ n v g. no_some p.target n e g.target.0
 
 module _ (m : Model) (K : Partial) (fits : IsPartial m K) (k : ℕ) (p : Posted) (r : Row) (row : row_of p ≡ Some r) (n : ℕ) (target : p.target ≡ Some n) where
   fills : (w : Value) → Gives m K (ConstraintPoint k p) n w → Fills K p.arguments r n w

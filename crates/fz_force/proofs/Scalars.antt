@@ -31,16 +31,3 @@ flat_terms vs xs cs (slots.Number i ∷ ss) h = ap (λ ts. slot_term cs (slots.N
 flat_terms vs xs cs (slots.Truth b ∷ ss) h = ap (λ ts. slot_term cs (slots.Truth b) ∷ ts) (flat_terms vs xs cs ss h)
 flat_terms vs xs cs (slots.Constant k ∷ ss) h = ap (λ ts. slot_term cs (slots.Constant k) ∷ ts) (flat_terms vs xs cs ss h)
 flat_terms vs xs cs (slots.Array i ∷ ss) h = absurd (false≢true h)
-
--- ---- the scalars of all arguments
-
-module _ {A : Type 0} (view : A → Argument) where
-  pub of_arguments : (as' : List A)
-      → flat_map (λ a. terms_in (view a)) as' ≡ flat_map terms_in (map view as')
-  of_arguments as' = sym (flat_map-map terms_in view as')
-
-  pub at_argument : (as' : List A) (i : ℕ) → option_map_or (λ a. terms_in (view a))
-      (slice_get as' i) [] ≡ option_map_or terms_in (slice_get (map view as') i) []
-  at_argument [] i = refl
-  at_argument (a ∷ as') zero = refl
-  at_argument (a ∷ as') (suc i) = at_argument as' i

@@ -13,7 +13,7 @@ ghost use Rattle.fz_force.specs.Left.{HasUnit, IsPlaceOf};
 ghost use Rattle.fz_force.specs.Forced.{IsForced, IsOnlyValue, IsReady, IsRow};
 ghost use Rattle.fz_force.specs.Kinds.{each_fits};
 
-use crate::only::{Spot, only_open};
+use crate::only::{Opening, Spot, opening_of};
 use crate::unit::unit_value;
 use crate::value::left_value;
 use fz_base::Value;
@@ -38,41 +38,19 @@ pub(crate) fn by_row(
         (λ o. IsForced m partial.now (ConstraintPoint parts.entry.number
         (constraint_view parts.entry)) o) }
 {
-    let Some(target) = parts.posted.target else {
-        return Ok(None);
-    };
     let Some(known) = parts.posted.known else {
         return Ok(None);
     };
-    match only_value(alloc, known, target, parts, partial)? {
-        Some(value) => Ok(Some((target, value))),
-        None => Ok(None),
+    match opening_of(&parts, partial) {
+        Opening::Never => Ok(None),
+        Opening::Waits(_) => Ok(None),
+        Opening::At(spot) => {
+            match value_at(alloc, known, spot, &ArgumentView::new(parts, partial))? {
+                Some(value) => Ok(Some((spot.variable, value))),
+                None => Ok(None),
+            }
+        }
     }
-}
-
-// The value of the defined variable with which the constraint holds, where it is the only scalar
-// without one and is in an argument that may be filled.
-#[inline(always)]
-fn only_value(
-    alloc: Global,
-    known: Known,
-    target: usize,
-    parts: ConstraintParts<'_, '_>,
-    partial: &Partial,
-) -> Result<Option<Value>, AllocError>
-    requires row { row_of (constraint_view parts) ≡ Some (known_row known) }
-    requires kinds { each_fits partial.now (known_row known).shapes
-        (constraint_view parts).arguments ≡ true }
-    ensures { IfOk result (λ o. IsOnlyValue partial.now (constraint_view parts.entry).arguments
-        (known_row known) target o) }
-{
-    if partial.has(target) {
-        return Ok(None);
-    }
-    let Some(spot) = only_open(parts.arguments(), &parts, target, partial) else {
-        return Ok(None);
-    };
-    value_at(alloc, known, spot, &ArgumentView::new(parts, partial))
 }
 
 // The value of the variable there with which the row holds.

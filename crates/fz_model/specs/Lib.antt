@@ -14,3 +14,4 @@ pub use Rattle.fz_force.specs.of_data.Kinds
 pub use Rattle.fz_force.specs.of_data.Texts
 pub use Rattle.fz_force.specs.of_eval.Holding
 pub use Rattle.fz_force.specs.of_eval.Overviews
+pub use Rattle.fz_force.specs.Openings

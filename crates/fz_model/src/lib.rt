@@ -15,7 +15,7 @@ pub use fz_force::fz_data::{
     kind_of, literal_kind, literal_value, load, load_text, part, same_kind, scalar_at,
 };
 pub use fz_force::fz_eval::{Overview, all_hold, state};
-pub use fz_force::{forced, only_number};
+pub use fz_force::{Opening, Spot, forced, only_number, opening_of};
 pub use fz_meaning::{
     Builtin, Domain, Filled, Form, Kind, Known, ModelError, Shape, State, Term, located_is_bare,
     numbers_agree, sources_are_in_reading_order, steps_are_forced, unknown_is_not_known,

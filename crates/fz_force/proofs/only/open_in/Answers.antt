@@ -1,6 +1,6 @@
 use Rattle.std.proofs.Common.{map, sym, ap, subst, ◌∙◌}
 use Rattle.fz_data.specs.Slots.{segment, slot_term}
-use Rattle.fz_force.specs.Only.{AreOpen, IsFlat, terms_of}
+use Rattle.fz_force.specs.Openings.{AreOpen, IsFlat, terms_of}
 use Rattle.fz_force.proofs.Scalars.{flat_terms}
 use Rattle.fz_force.proofs.only.open_in.Goals as goal
 

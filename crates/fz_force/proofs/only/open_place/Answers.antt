@@ -5,7 +5,7 @@ use Rattle.fz_meaning.specs.Meaning.{terms_at}
 use Rattle.fz_data.specs.Parts.{array_view, no_array, place_view}
 use Rattle.fz_data.specs.Slots.{slot_term}
 use Rattle.fz_force.specs.declared.only.Open.TheVariants.{Nothing}
-use Rattle.fz_force.specs.Only.{AreOpen}
+use Rattle.fz_force.specs.Openings.{AreOpen}
 use Rattle.fz_force.proofs.only.open_place.Goals as goal
 
 pub returns-in-Some : goal.returns-in-Some
@@ -25,4 +25,4 @@ returns-in-None c =
     let p = c.args.parts.now in
     let none : slice_get p.arrays.now c.in-Array.number ≡ None = slice_get_past p.arrays.now c.in-Array.number c.in-None.ensures.lookup.3 in
     subst (λ s. AreOpen c.args.partial.now c.args.target (terms_at (place_view p.variables.now p.arrays.now p.store.now.constants.items s)) Nothing) (sym c.in-Array.is)
-    (subst (λ o. AreOpen c.args.partial.now c.args.target (terms_at (option_map_or array_view o no_array)) Nothing) (sym none) refl)
+    (subst (λ o. AreOpen c.args.partial.now c.args.target (terms_at (option_map_or array_view o no_array)) Nothing) (sym none) (λ L later. refl))
