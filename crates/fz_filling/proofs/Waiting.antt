@@ -7,9 +7,9 @@ use Rattle.fz_model.specs.declared.Term.TheVariants.{Var, Fixed}
 use Rattle.fz_model.specs.Meaning.{Model, Point, Partial, value, value_at}
 use Rattle.fz_model.specs.Steps.{open_terms, terms_of}
 use Rattle.fz_model.proofs.Lists.{all_map}
-use Rattle.fz_model.proofs.Steps.{is_none_true, only_open_none}
+use Rattle.fz_model.proofs.Steps.{only_open_none}
 use Rattle.fz_verdict.specs.Filling.{HasAllOf}
-use Rattle.fz_filling.specs.Outlooks.{Agree, IsOpen, IsOutlook, open_variable}
+use Rattle.fz_filling.specs.Outlooks.{IsOpen, IsOutlook, open_variable}
 use Rattle.fz_filling.specs.declared.outlook.Outlook.TheVariants.{Asks}
 use Rattle.fz_filling.proofs.Agreeing.{agree_back, gives_agree}
 

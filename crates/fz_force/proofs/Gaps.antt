@@ -1,10 +1,8 @@
 -- One more value in a partial assignment, and what is forced of a point.
-use Rattle.std.proofs.Common.{◌≡◌, ℕ, zero, suc, ◌<◌, false, Bor, is_some, List, [], ◌∷◌, length, map, Option, Some, None, option_map, Result, Ok, Err, IfOk, IfSome, IsNone, slice_get, refl, sym, subst, arith}
+use Rattle.std.proofs.Common.{◌≡◌, ℕ, zero, suc, ◌<◌, false, Bor, is_some, List, [], ◌∷◌, length, Option, Some, None, option_map, Result, Ok, Err, IfOk, IfSome, IsNone, slice_get, refl, sym, subst, arith}
 use Rattle.fz_base.specs.declared.value.Value.{Value}
-use Rattle.fz_meaning.specs.declared.kind.Kind.{Kind}
-use Rattle.fz_meaning.specs.Meaning.{Variable, Model, Point, Partial, FitVariables, IsPartial, variables_of, value_at, give}
-use Rattle.fz_meaning.specs.Steps.{Gives, GivesNothing, kind_at}
-use Rattle.fz_data.specs.Partial.{nothing_for}
+use Rattle.fz_meaning.specs.Meaning.{Model, Point, Partial, value_at, give}
+use Rattle.fz_meaning.specs.Steps.{Gives, GivesNothing}
 use Rattle.fz_meaning.proofs.Values.{no, no'}
 use Rattle.fz_force.specs.Forced.{IsForced}
 

@@ -1,20 +1,18 @@
 -- From a stored constraint to what its row leaves, and from there to what its point forces.
-use Rattle.std.proofs.Common.{◌≡◌, ℕ, true, false, List, [], ◌∷◌, map, flat_map, Option, Some, None, IsSomeAnd, IfSome, IsFalse, IsTrue, slice_get, is_some, refl, sym, ap, subst, ◌∙◌}
+use Rattle.std.proofs.Common.{◌≡◌, ℕ, true, false, List, [], ◌∷◌, map, Option, Some, None, IsSomeAnd, IfSome, IsFalse, IsTrue, slice_get, refl, sym, subst, ◌∙◌}
 use Rattle.std.specs.List.{AllByRecursion, list_all}
 use Rattle.std.specs.Option.{option_map_or}
 use Rattle.fz_base.specs.declared.value.Value.{Value}
 use Rattle.fz_meaning.specs.Values.{kind_of}
 use Rattle.fz_meaning.specs.declared.kind.Kind.{Kind}
-use Rattle.fz_meaning.specs.declared.term.Term.TheVariants.{Var}
 use Rattle.fz_meaning.specs.Builtins.{Shape, Row}
 use Rattle.fz_meaning.specs.Builtins.Shape.{ScalarOf, ArrayOf}
 use Rattle.fz_meaning.specs.Meaning as meaning
 use Rattle.fz_meaning.specs.Meaning.{Model, Partial, Posted, IsPartial, argument_values, give, value_at, has_shape, have_shapes, is_term_of, row_holds, row_of, sums_leave, terms_in}
 use Rattle.fz_meaning.specs.Meaning.Point.{ConstraintPoint}
-use Rattle.fz_meaning.specs.Steps.{Gives, IsResult, kind_at, open_terms}
+use Rattle.fz_meaning.specs.Steps.{Gives, IsResult, kind_at}
 use Rattle.fz_meaning.proofs.Values.{no, and_first, and_second}
 use Rattle.fz_meaning.proofs.States.{intro}
-use Rattle.fz_meaning.proofs.Steps.{only_open_none, some_of}
 use Rattle.fz_data.specs.declared.parts.Array.{Array}
 use Rattle.fz_data.specs.declared.Slot.{Slot}
 use Rattle.fz_data.specs.declared.Slot.TheVariants as slots

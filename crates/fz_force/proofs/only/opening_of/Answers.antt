@@ -1,4 +1,4 @@
-use Rattle.std.proofs.Common.{Some, None, map, option_map, sym, ap, subst, ◌∙◌}
+use Rattle.std.proofs.Common.{map, option_map, sym, ap, subst, ◌∙◌}
 use Rattle.std.specs.List.{AllByRecursion}
 use Rattle.fz_meaning.specs.Known.{known_row}
 use Rattle.fz_data.specs.Parts.{argument_view, constraint_view}

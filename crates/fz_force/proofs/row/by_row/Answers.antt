@@ -2,7 +2,6 @@ use Rattle.std.proofs.Common.{◌≡◌, true, IfSome, None, Some, option_map, s
 use Rattle.fz_meaning.specs.Known.{known_row}
 use Rattle.fz_meaning.specs.Meaning.{row_of}
 use Rattle.fz_data.specs.Parts.{constraint_view}
-use Rattle.fz_eval.specs.of_view.Views.{arguments_of, assigned}
 use Rattle.fz_eval.proofs.States.{row_fits}
 use Rattle.fz_force.specs.Forced.{IsOnlyValue, IsReady}
 use Rattle.fz_force.specs.Kinds.{each_fits}
