@@ -73,7 +73,7 @@ given_agrees K n v h = ap (λ o. option_map_or (λ w. same_value w v) o false) (
 pub agree_append : (K : Partial) (qs rs : List (Term × Value))
     → agree_all K (qs ++ rs) ≡ (agree_all K qs && agree_all (with_all K qs) rs)
 agree_append K [] rs = refl
-agree_append K (q ∷ qs) rs = ap (λ b. has_value (with_first K q) q && b) (agree_append (with_first K q) qs rs) ∙ and_assoc (has_value (with_first K q) q) (agree_all (with_first K q) qs) (agree_all (with_all (with_first K q) qs) rs)
+agree_append K (q ∷ qs) rs = ap (λ b. has_value (with_first K q) q && b) (agree_append (with_first K q) qs rs) ∙ sym (and_assoc (has_value (with_first K q) q) (agree_all (with_first K q) qs) (agree_all (with_all (with_first K q) qs) rs))
 
 -- the values so far are those of the items so far
 taken : (m : Model) (qs : List (Term × Value))

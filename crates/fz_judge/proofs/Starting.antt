@@ -27,7 +27,7 @@ use Rattle.fz_verdict.specs.Blocks.{Printed, PrintedValue, printed_values, liter
 use Rattle.fz_verdict.specs.Blocks.PrintedValue.{OneValue, ArrayOf}
 use Rattle.fz_verdict.specs.Blocks.BlockFaultKind.{WrongKind, WrongLength}
 use Rattle.fz_verdict.specs.Filling.{pairs, pairs_at, printed_scalars, if_var, first_printed, start_from}
-use Rattle.fz_verdict.proofs.Start.{PairFits}
+use Rattle.fz_verdict.proofs.Accepted.{or_none, first_none}
 use Rattle.fz_judge.specs.Working.{HasRoom, IsWithin, terms_of_what, with_first, with_all, item_scalars}
 
 -- ---- one more value
@@ -124,6 +124,10 @@ cleared_is_nothing m K room = same_nothing K (variables_of m) room
 pub has_room : (m : Model) (K : Partial) → IsPartial m K → HasRoom m K
 has_room m K fits = fits_length (variables_of m) K fits
 
+-- a variable has the kind of the value that is printed for it
+abbrev pub PairFits : Model → (Term × Value) → Type 0
+PairFits m q = TermFits m (kind_of q.1) q.0
+
 first_fits : (m : Model) (K : Partial) (q : Term × Value) → IsPartial m K → PairFits m q
     → IsPartial m (with_first K q)
 first_fits m K (Fixed w, v) h fits = h
@@ -137,6 +141,25 @@ pub all_fit : (m : Model) (K : Partial) (qs : List (Term × Value)) → IsPartia
     → AllByRecursion (PairFits m) qs → IsPartial m (with_all K qs)
 all_fit m K [] h fits = h
 all_fit m K (q ∷ qs) h fits = all_fit m (with_first K q) qs (first_fits m K q h fits.0) fits.1
+
+literal_kind : (k : Kind) (l : Literal) → literal_fault k l ≡ None
+    → kind_of (literal_value l.what) ≡ k
+literal_kind k l e = same_kind_is (kind_of (literal_value l.what)) k ((elim (same_kind (kind_of (literal_value l.what)) k) as (λ b. fault_if (not b) WrongKind l.span ≡ None → b ≡ true) [ true ↦ λ _. refl | false ↦ λ e. cc ]) e)
+
+pairs_fit : (m : Model) (k : Kind) (ts : List Term) (ls : List Literal)
+    → AllByRecursion (TermFits m k) ts → AllByRecursion (λ l. literal_fault k l ≡ None) ls
+    → AllByRecursion (PairFits m) (pairs ts (printed_values ls))
+pairs_fit m k [] ls h e = tt
+pairs_fit m k (t ∷ ts) [] h e = tt
+pairs_fit m k (t ∷ ts) (l ∷ ls) h e = (subst (λ j. TermFits m j t) (sym (literal_kind k l e.0)) h.0, pairs_fit m k ts ls h.1 e.1)
+
+pub place_pairs_fit : (m : Model) (x : Name) (p : Place) (v : PrintedValue) → PlaceFits m p
+    → value_fault x p v ≡ None → AllByRecursion (PairFits m) (pairs_at p v)
+place_pairs_fit m x (Scalar k t) (OneValue l) h e = (subst (λ j. TermFits m j t) (sym (literal_kind k l e)) h, tt)
+place_pairs_fit m x (Scalar k t) (ArrayOf is ls) h e = cc
+place_pairs_fit m x (Array y k ts) (OneValue l) h e = cc
+place_pairs_fit m x (Array y k ts) (ArrayOf is ls) h e =
+    pairs_fit m k ts ls h (first_none (literal_fault k) ls (or_none (fault_if (not (length ls == length ts)) WrongLength x.span) (first_some (literal_fault k) ls) e).1)
 
 -- ---- numbers
 

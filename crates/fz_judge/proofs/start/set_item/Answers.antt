@@ -5,8 +5,8 @@ use Rattle.fz_model.specs.View.{located_name}
 use Rattle.fz_verdict.specs.Blocks.{value_fault}
 use Rattle.fz_verdict.specs.View.{located_printed_value}
 use Rattle.fz_judge.specs.Judged.{refusal}
-use Rattle.fz_verdict.proofs.Start.{map_none, place_pairs_fit}
-use Rattle.fz_judge.proofs.Starting.{all_fit, what_within}
+use Rattle.fz_verdict.proofs.Start.{map_none}
+use Rattle.fz_judge.proofs.Starting.{all_fit, place_pairs_fit, what_within}
 use Rattle.fz_judge.proofs.start.set_item.Goals as goal
 
 pub set_value-requires : goal.set_value-requires
