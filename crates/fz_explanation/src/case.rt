@@ -52,28 +52,58 @@ struct Reading<'s, 'a> {
 ///
 /// Out of memory.
 pub fn case_explanation(alloc: Global, case: &Case<'_>) -> Result<Option<String>, AllocError> {
-    let (Ok(ast), Ok(stream)) = (
-        parse(alloc, case.model.bytes),
-        blocks(alloc, &case.told.bytes),
-    ) else {
+    match parse(alloc, case.model.bytes) {
+        Ok(ast) => tree_explanation(alloc, case, &ast),
+        Err(_) => Ok(None),
+    }
+}
+
+/// The same, where the model is read. Each of these functions holds one thing that it has read
+/// again: one that held them all would have to drop them all on each of its ways out.
+fn tree_explanation<'s, 'a>(
+    alloc: Global,
+    case: &'s Case<'a>,
+    ast: &'s Ast<'a>,
+) -> Result<Option<String>, AllocError> {
+    match load(alloc, ast) {
+        Ok(model) => model_explanation(alloc, case, ast, &model),
+        Err(_) => Ok(None),
+    }
+}
+
+/// The same, where it is loaded.
+fn model_explanation<'s, 'a>(
+    alloc: Global,
+    case: &'s Case<'a>,
+    ast: &'s Ast<'a>,
+    model: &'s Model<'a>,
+) -> Result<Option<String>, AllocError> {
+    let Ok(stream) = blocks(alloc, &case.told.bytes) else {
         return Ok(None);
     };
-    let Ok(model) = load(alloc, &ast) else {
+    match stream.blocks.first() {
+        Some(block) => block_explanation(
+            alloc,
+            &Reading {
+                case,
+                model,
+                ast,
+                block,
+            },
+        ),
+        None => Ok(None),
+    }
+}
+
+/// The same, where the block is read.
+fn block_explanation(
+    alloc: Global,
+    reading: &Reading<'_, '_>,
+) -> Result<Option<String>, AllocError> {
+    let Ok(mut filling) = fill(alloc, reading.model, reading.block) else {
         return Ok(None);
     };
-    let Some(block) = stream.blocks.first() else {
-        return Ok(None);
-    };
-    let Ok(mut filling) = fill(alloc, &model, block) else {
-        return Ok(None);
-    };
-    let reading = Reading {
-        case,
-        model: &model,
-        ast: &ast,
-        block,
-    };
-    match verdict_message(alloc, &reading, &mut filling)? {
+    match verdict_message(alloc, reading, &mut filling)? {
         Some(message) => Ok(Some(message_text(alloc, &message)?)),
         None => Ok(None),
     }
