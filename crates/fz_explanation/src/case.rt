@@ -2,19 +2,18 @@
 //! values and where these come from.
 
 ghost use Rattle.std.specs.Prelude.{◌≡◌, ◌<◌, length};
-ghost use Rattle.fz_model.specs.Meaning.{IsPartial, points};
+ghost use Rattle.fz_judge.specs.of_model.Meaning.{IsPartial, points};
 
-use fz_base::Span;
 use fz_explain::{
     Loaded, Sought, bounds_note, explain, first_point, notes_of, point_place, too_large_at,
     variables_of,
 };
 use fz_files::{Passed, Told};
 use fz_judge::fill;
+use fz_judge::fz_model::{Goal, Model, Partial, Scalar, Term, What, load, scalar_at};
 use fz_message::{Help, Message, Note, Source, message_at, message_text, shown_text};
-use fz_model::{Goal, Model, Partial, Scalar, Term, What, load, scalar_at};
 use fz_stream::{Block, blocks};
-use fz_syntax::{Ast, Basic, Goal as GoalItem, Printed, parse};
+use fz_syntax::{Ast, Basic, Goal as GoalItem, Printed, Span, parse};
 use std::alloc::{AllocError, Global};
 
 /// A source of which only the bytes behind what has passed are given.

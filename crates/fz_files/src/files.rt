@@ -27,6 +27,10 @@ impl From<AllocError> for ReadError {
 /// The bytes of a reader up to its end, or `most + 1` of them where there are more than `most`. A
 /// read that fails is not repeated, whatever the error: `read_to_end` isn't used, since it repeats
 /// a read that a signal interrupts.
+///
+/// # Errors
+///
+/// `Failed` where a read fails, `Memory` where memory runs out.
 pub fn read_up_to<R: Read>(alloc: Global, reader: &mut R, most: u32) -> Result<Vec<u8>, ReadError>
     ensures bytes { IfOk result (λ bytes. IfSome (R.remaining reader.old)
         (λ xs. bytes.items ≡ take (suc most) xs)) }
