@@ -6,7 +6,9 @@
 Each model of tests/minizinc names the rows that have to be kept. Where `fzn-gecode` is there too, it
 solves what the standard library makes of the model, by decompositions: its solutions must be accepted
 against both, and a solution with a value turned must not be satisfied against the one and violated
-against the other. Where MiniZinc isn't installed it says so, and nothing is tried."""
+against the other. Then the commands of docs/MINIZINC.md, and those of the README that begin with
+MiniZinc's, are run as they are, on the model below. Where MiniZinc isn't installed it says so, and
+nothing is tried."""
 import glob
 import os
 import random
@@ -22,6 +24,18 @@ STANDARD = ("-G", "std")
 MARKER = "----------\n"
 SOLUTIONS, TURNED = 200, 400
 VALUE = re.compile(r"\b(?:\d+|true|false)\b(?![.(])")
+PAGES = ("README.md", "docs/MINIZINC.md")
+FILES = {
+    "data.dzn": "n = 6;\n",
+    "model.mzn": """include "alldifferent.mzn";
+int: n;
+array [1..n] of var 1..n: column;
+constraint alldifferent(column);
+constraint alldifferent(i in 1..n)(column[i] + i);
+constraint alldifferent(i in 1..n)(column[i] - i);
+solve minimize column[1];
+""",
+}
 
 
 def run(*words):
@@ -104,17 +118,49 @@ def faults_of_streams(program, ours, standard, folder):
             yield f"{verdicts[0]} against ours, {verdicts[1]} against the standard library's:\n{block}"
 
 
+def commands(page):
+    """The lines of a page's indented blocks; of the README, of those that call MiniZinc."""
+    with open(os.path.join(ROOT, page)) as f:
+        blocks = re.findall(r"^\n((?:    .*\n)+)", f.read(), re.M)
+    blocks = [block for block in blocks if page != "README.md" or "    minizinc " in block]
+    return [line.strip() for block in blocks for line in block.splitlines()]
+
+
+def faults_of_page(program, page, folder):
+    """What goes wrong with a page's commands, in a folder that has what they name."""
+    os.mkdir(os.path.join(folder, "bin"))
+    os.symlink(program, os.path.join(folder, "bin", "fzcheck"))
+    os.symlink(os.path.join(ROOT, "minizinc"), os.path.join(folder, "minizinc"))
+    for name, text in FILES.items():
+        with open(os.path.join(folder, name), "w") as f:
+            f.write(text)
+    path = os.path.join(folder, "bin") + os.pathsep + os.environ["PATH"]
+    told = ""
+    for command in commands(page):
+        ran = subprocess.run(command, shell=True, cwd=folder, env={**os.environ, "PATH": path},
+                             capture_output=True, text=True)
+        told = ran.stdout
+        if ran.returncode != 0:
+            yield f"{command}: status {ran.returncode}: {ran.stdout}{ran.stderr}"
+    if "\naccepted: " not in told:
+        yield f"the last command's answer isn't accepted: {told}"
+
+
 def main():
     program = os.path.abspath(sys.argv[1])
     if not shutil.which("minizinc"):
         print("minizinc isn't installed: minizinc/ isn't tried")
         return 0
     passed = failed = 0
-    for model in sorted(glob.glob(os.path.join(ROOT, "tests", "minizinc", "*.mzn"))):
+    models = sorted(glob.glob(os.path.join(ROOT, "tests", "minizinc", "*.mzn")))
+    tried = [(faults, model) for model in models]
+    if shutil.which("fzn-gecode"):
+        tried += [(faults_of_page, page) for page in PAGES]
+    for faults_of, name in tried:
         with tempfile.TemporaryDirectory() as folder:
-            found = list(faults(program, model, folder))
+            found = list(faults_of(program, name, folder))
         for fault in found:
-            print(f"failed: {os.path.basename(model)}: {fault}")
+            print(f"failed: {os.path.basename(name)}: {fault}")
         passed, failed = passed + (not found), failed + len(found)
     print(f"{passed} passed, {failed} failed")
     return 1 if failed else 0

@@ -11,5 +11,6 @@ mod slots;
 mod view;
 
 pub use elements::Elements;
+pub use fz_data;
 pub use reading::Readiness;
 pub use view::ArgumentView;

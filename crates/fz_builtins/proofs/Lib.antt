@@ -1,3 +1,4 @@
 pub mod Rows
 pub mod ElementReadings
-pub use Rattle.fz_kernel.proofs.of_view
+pub use Rattle.fz_globals.proofs.of_view
+pub use Rattle.fz_globals.proofs.of_data

@@ -10,9 +10,9 @@ use Rattle.fz_meaning.specs.Builtins.{row_at, Row, Shape, Test, passes, read}
 use Rattle.fz_meaning.specs.Builtins.Shape.{ScalarOf, ArrayOf}
 use Rattle.fz_meaning.specs.Meaning.{Argument, Partial, row_holds}
 use Rattle.fz_meaning.proofs.TableRows.{plain_ints, plain_bools, plain_sets}
-use Rattle.fz_kernel.specs.of_view.Given.{given, given_from, given_values, ints_at, bools_at, sets_at, read_leave}
-use Rattle.fz_kernel.specs.of_view.Views.{arguments_of, assigned}
-use Rattle.fz_kernel.specs.of_view.declared.view.ArgumentView.{ArgumentView}
+use Rattle.fz_globals.specs.of_view.Given.{given, given_from, given_values, ints_at, bools_at, sets_at, read_leave}
+use Rattle.fz_globals.specs.of_view.Views.{arguments_of, assigned}
+use Rattle.fz_globals.specs.of_view.declared.view.ArgumentView.{ArgumentView}
 use Rattle.fz_builtins.specs.Outcomes.{argument_at, row_outcome, sum_outcome, test_from}
 
 pub reads : (K : Partial) (xs : List Argument) (i : ℕ) (s : Shape)

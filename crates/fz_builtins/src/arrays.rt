@@ -6,11 +6,11 @@ ghost use Rattle.fz_meaning.specs.Values.{◌=ℤ◌, ◌=ᴮ◌, ◌=ˢ◌};
 ghost use Rattle.fz_meaning.specs.Builtins.{all_different, is_among, is_element, is_odd, total, where_true};
 ghost use Rattle.fz_builtins.specs.Readings.{int, ints, numbers, sets_of, truth, truths};
 
-use fz_kernel::arrays::{
+use fz_globals::fz_kernel::arrays::{
     all_elements_different, all_true, any_true, clause_holds, is_bool_element, is_int_element,
     is_maximum, is_minimum, is_set_element, odd_number_true, sum_where_true,
 };
-use fz_kernel::fz_arguments::ArgumentView;
+use fz_globals::fz_kernel::fz_arguments::ArgumentView;
 use std::alloc::{AllocError, Global};
 
 /// Whether the element at the index is the third argument.

@@ -2,14 +2,14 @@
 
 ghost use Rattle.std.specs.Prelude.{◌≡◌, IfOk};
 ghost use Rattle.fz_meaning.specs.Builtins.{row_at};
-ghost use Rattle.fz_kernel.specs.of_view.Views.{arguments_of, assigned};
+ghost use Rattle.fz_globals.specs.of_view.Views.{arguments_of, assigned};
 ghost use Rattle.fz_builtins.specs.Outcomes.{row_outcome};
 
 use crate::outcome::Outcome;
 use crate::{
     arrays, counting, covers, flags, numbers, ordering, places, scheduling, sets, sums, truths,
 };
-use fz_kernel::fz_arguments::ArgumentView;
+use fz_globals::fz_kernel::fz_arguments::ArgumentView;
 use fz_meaning::Builtin;
 use std::alloc::{AllocError, Global};
 

@@ -9,7 +9,7 @@ ghost use Rattle.fz_builtins.specs.Readings.{int, ints, numbers, truth, truths};
 
 use fz_globals::counts;
 use fz_globals::counts::{count_in, count_of, is_listed, is_truth_listed, nonzero_are_different};
-use fz_kernel::fz_arguments::ArgumentView;
+use fz_globals::fz_kernel::fz_arguments::ArgumentView;
 use std::alloc::{AllocError, Global};
 
 /// Whether the third argument is how often the second is an element of the first.

@@ -5,7 +5,7 @@ ghost use Rattle.fz_meaning.specs.Globals.{counts_are, counts_lie, is_closed};
 ghost use Rattle.fz_builtins.specs.Readings.{ints};
 
 use fz_globals::cover::{counts_are, counts_lie, is_closed};
-use fz_kernel::fz_arguments::ArgumentView;
+use fz_globals::fz_kernel::fz_arguments::ArgumentView;
 use std::alloc::{AllocError, Global};
 
 /// Whether each value of the cover is an element as often as its number says.

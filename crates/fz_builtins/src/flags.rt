@@ -6,8 +6,8 @@ ghost use Rattle.fz_builtins.specs.Readings.{int, ints, numbers, sets_of, truths
 
 use fz_globals::channels::are_channelled;
 use fz_globals::flags::is_flagged;
+use fz_globals::fz_kernel::fz_arguments::ArgumentView;
 use fz_globals::partition::{are_disjoint, is_partition};
-use fz_kernel::fz_arguments::ArgumentView;
 use std::alloc::{AllocError, Global};
 
 /// Whether the set is that of the indices whose Booleans are true.

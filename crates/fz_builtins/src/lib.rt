@@ -22,7 +22,7 @@ mod truths;
 
 pub use builtins::of_builtin;
 pub use fz_globals;
-pub use fz_kernel;
-pub use fz_kernel::fz_arguments;
+pub use fz_globals::fz_kernel;
+pub use fz_globals::fz_kernel::{fz_arguments, fz_data};
 pub use outcome::Outcome;
 pub use sums::products_leave;

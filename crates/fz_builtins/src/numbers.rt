@@ -5,8 +5,8 @@ ghost use Rattle.std.specs.Int.{int_min, int_max};
 ghost use Rattle.fz_meaning.specs.Values.{◌=ℤ◌};
 ghost use Rattle.fz_builtins.specs.Readings.{int};
 
-use fz_kernel::fz_arguments::ArgumentView;
-use fz_kernel::numbers::{
+use fz_globals::fz_kernel::fz_arguments::ArgumentView;
+use fz_globals::fz_kernel::numbers::{
     is_absolute, is_greatest, is_least, is_product, is_quotient, is_remainder, is_sum,
 };
 

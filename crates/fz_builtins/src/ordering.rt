@@ -5,12 +5,12 @@ ghost use Rattle.fz_meaning.specs.Values.{◌=ℤ◌, ◌=ᴮ◌};
 ghost use Rattle.fz_meaning.specs.Globals.{all_neighbours, is_sorted_form, is_before, precedes, rises_by_one};
 ghost use Rattle.fz_builtins.specs.Readings.{int, ints, truths};
 
+use fz_globals::fz_kernel::fz_arguments::ArgumentView;
 use fz_globals::order::{
     all_equal, is_decreasing, is_increasing, is_sorted_form, is_strictly_increasing,
     truths_decrease, truths_increase,
 };
 use fz_globals::precedence::{precede_in_chain, precedes, rises_by_one};
-use fz_kernel::fz_arguments::ArgumentView;
 use fz_scheduling::lexical::{
     bools_are_before, bools_are_not_behind, ints_are_before, ints_are_not_behind,
 };

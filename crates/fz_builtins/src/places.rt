@@ -6,9 +6,9 @@ ghost use Rattle.fz_meaning.specs.Globals.{as_places, is_circuit, is_subcircuit,
 ghost use Rattle.fz_builtins.specs.Readings.{int, ints, numbers, truths};
 
 use fz_globals::best_index::{is_index_of_maximum, is_index_of_minimum};
+use fz_globals::fz_kernel::fz_arguments::ArgumentView;
 use fz_globals::tables::{is_bool_row, is_int_row};
 use fz_globals::tours::{are_inverse, is_circuit, is_subcircuit};
-use fz_kernel::fz_arguments::ArgumentView;
 use fz_scheduling::words::is_word;
 use std::alloc::{AllocError, Global};
 

@@ -6,8 +6,8 @@ ghost use Rattle.fz_base.specs.Sets.{symmetric_difference};
 ghost use Rattle.fz_meaning.specs.Values.{◌=ℤ◌, ◌=ˢ◌};
 ghost use Rattle.fz_builtins.specs.Readings.{int, numbers};
 
-use fz_kernel::fz_arguments::ArgumentView;
-use fz_kernel::sets::{
+use fz_globals::fz_kernel::fz_arguments::ArgumentView;
+use fz_globals::fz_kernel::sets::{
     has_cardinality, is_difference, is_intersection, is_symmetric_difference, is_union, same_set,
 };
 

@@ -8,8 +8,8 @@ ghost use Rattle.fz_builtins.specs.Outcomes.{sum_outcome};
 ghost use Rattle.fz_builtins.specs.Readings.{int, ints};
 
 use crate::outcome::Outcome;
-use fz_kernel::arrays::sum_of_products;
-use fz_kernel::fz_arguments::ArgumentView;
+use fz_globals::fz_kernel::arrays::sum_of_products;
+use fz_globals::fz_kernel::fz_arguments::ArgumentView;
 use fz_scheduling::packed::is_knapsack;
 
 /// Whether the sum of products is the third argument.

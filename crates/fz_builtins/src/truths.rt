@@ -5,8 +5,8 @@ ghost use Rattle.fz_meaning.specs.Values.{◌=ℤ◌, ◌=ᴮ◌};
 ghost use Rattle.fz_meaning.specs.Builtins.{as_number};
 ghost use Rattle.fz_builtins.specs.Readings.{int, truth};
 
-use fz_kernel::fz_arguments::ArgumentView;
-use fz_kernel::numbers::number_of_truth;
+use fz_globals::fz_kernel::fz_arguments::ArgumentView;
+use fz_globals::fz_kernel::numbers::number_of_truth;
 
 /// Whether the Booleans are equal.
 pub(crate) fn bool_eq(view: &ArgumentView<'_, '_>) -> bool

@@ -2,20 +2,20 @@
 -- has none.
 use Rattle.std.proofs.Common.{◌≡◌, ℕ, List, length, map, sym, ap, ◌∙◌, subst}
 use Rattle.std.proofs.lemmas.List.{length-map}
-use Rattle.fz_stream.specs.declared.block.Block as the_block
-use Rattle.fz_stream.specs.declared.reading.Claim.{Claim}
-use Rattle.fz_stream.specs.Found.{IsReadAs, AreInOrder, block_of}
-use Rattle.fz_model.specs.Meaning.{Model}
-use Rattle.fz_model.specs.Names.{model_of}
-use Rattle.fz_model.specs.Texts.{IsLoadedFrom}
-use Rattle.fz_model.proofs.Scope.{sound_aims}
-use Rattle.fz_verdict.specs.declared.completion.Completion.{Completion}
-use Rattle.fz_verdict.specs.Completed.{AreVerdicts}
-use Rattle.fz_verdict.specs.Verdict.{answer_of}
-use Rattle.fz_verdict.specs.View.{located_block}
-use Rattle.fz_verdict.proofs.Accepted.{accepted_solves}
-use Rattle.fz_verdict.proofs.Completing.{accepted_judged, told_lengths}
-use Rattle.fz_verdict.proofs.Places.{blocks_are_bare}
+use Rattle.fz_streaming.specs.of_stream.declared.block.Block as the_block
+use Rattle.fz_streaming.specs.of_stream.declared.reading.Claim.{Claim}
+use Rattle.fz_streaming.specs.of_stream.Found.{IsReadAs, AreInOrder, block_of}
+use Rattle.fz_streaming.specs.of_model.Meaning.{Model}
+use Rattle.fz_streaming.specs.of_model.Names.{model_of}
+use Rattle.fz_streaming.specs.of_model.Texts.{IsLoadedFrom}
+use Rattle.fz_streaming.proofs.of_model.Scope.{sound_aims}
+use Rattle.fz_streaming.specs.of_verdict.declared.completion.Completion.{Completion}
+use Rattle.fz_streaming.specs.of_verdict.Completed.{AreVerdicts}
+use Rattle.fz_streaming.specs.of_verdict.Verdict.{answer_of}
+use Rattle.fz_streaming.specs.of_verdict.View.{located_block}
+use Rattle.fz_streaming.proofs.of_verdict.Accepted.{accepted_solves}
+use Rattle.fz_streaming.proofs.of_verdict.Completing.{accepted_judged, told_lengths}
+use Rattle.fz_streaming.proofs.of_verdict.Places.{blocks_are_bare}
 use Rattle.fz_streaming.specs.of_judge.declared.verdict.Verdict as the_verdict
 use Rattle.fz_streaming.specs.of_judge.View.{verdict_view}
 use Rattle.fz_streaming.specs.declared.line.Answer as the_answer

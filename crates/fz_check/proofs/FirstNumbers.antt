@@ -1,7 +1,7 @@
 -- The number of the first verdict of a kind, as a loop finds it.
 use Rattle.std.proofs.Common.{◌≡◌, ℕ, suc, ◌+◌, ◌<◌, Bool, true, false, cond, List, [], ◌∷◌, ◌++◌, length, map, take, drop, get_or, Some, None, sym, ap, ◌∙◌, arith}
 use Rattle.std.proofs.lemmas.List.{take_more, drop_more, take-append-drop, map-append, length-map, length-take}
-use Rattle.fz_verdict.specs.Verdict.{Verdict, first_number}
+use Rattle.fz_streaming.specs.of_verdict.Verdict.{Verdict, first_number}
 use Rattle.fz_streaming.specs.of_judge.declared.verdict.Verdict as the_verdict
 use Rattle.fz_streaming.specs.of_judge.View.{verdict_view}
 

@@ -2,14 +2,14 @@
 use Rattle.std.proofs.Common.{◌≡◌, ℕ, suc, zero, ◌+◌, ◌≤◌, ◌<◌, List, [], ◌∷◌, ◌++◌, length, map, take, drop, get_or, None, sym, ap, ◌∙◌, subst, subst₂, arith}
 use Rattle.std.specs.List.{AllByRecursion}
 use Rattle.std.proofs.lemmas.List.{take_more, take_all, drop_more, take-append-drop, map-append, length-take}
-use Rattle.fz_model.specs.Meaning.{Model, objective}
-use Rattle.fz_model.proofs.Lists.{all_append}
-use Rattle.fz_stream.specs.declared.block.Block as the_block
-use Rattle.fz_verdict.specs.Blocks.{block_fault}
-use Rattle.fz_verdict.specs.declared.completion.Completion.TheVariants.{Off}
-use Rattle.fz_verdict.specs.Completed.{AreVerdicts}
-use Rattle.fz_verdict.specs.View.{located_block}
-use Rattle.fz_verdict.proofs.Loops.{GoesOn, goes_on_at_first, goes_on_after, goes_on_judged}
+use Rattle.fz_streaming.specs.of_model.Meaning.{Model, objective}
+use Rattle.fz_streaming.proofs.of_model.Lists.{all_append}
+use Rattle.fz_streaming.specs.of_stream.declared.block.Block as the_block
+use Rattle.fz_streaming.specs.of_verdict.Blocks.{block_fault}
+use Rattle.fz_streaming.specs.of_verdict.declared.completion.Completion.TheVariants.{Off}
+use Rattle.fz_streaming.specs.of_verdict.Completed.{AreVerdicts}
+use Rattle.fz_streaming.specs.of_verdict.View.{located_block}
+use Rattle.fz_streaming.proofs.of_verdict.Loops.{GoesOn, goes_on_at_first, goes_on_after, goes_on_judged}
 use Rattle.fz_streaming.proofs.TellingLemmas.{IsJudgedAs, judged_as}
 use Rattle.fz_streaming.specs.of_judge.Judged.{JudgeState, IsJudged, IsBlockRefusal}
 use Rattle.fz_streaming.specs.of_judge.View.{verdict_view}

@@ -1,19 +1,19 @@
 -- What follows of a check over a reader and a writer: an accepted stream has solutions, the report
 -- is the one as defined, and what is refused is refused against the model of the text.
 use Rattle.std.proofs.Common.{◌≡◌, ℕ, List, map, Option, refl, sym, ap, ◌∙◌, subst}
-use Rattle.fz_syntax.specs.SyntaxError.{SyntaxError}
-use Rattle.fz_stream.specs.declared.error.StreamError.{StreamError}
-use Rattle.fz_model.specs.Meaning.{Model}
-use Rattle.fz_model.specs.Names.{model_of}
-use Rattle.fz_model.specs.Texts.{IsLoadedFrom}
-use Rattle.fz_model.specs.declared.ModelError.{ModelError}
-use Rattle.fz_model.proofs.Scope.{sound_aims}
-use Rattle.fz_verdict.specs.declared.completion.Completion.{Completion}
-use Rattle.fz_verdict.specs.Completed.{AreVerdicts}
-use Rattle.fz_verdict.specs.Report.{IsReport}
-use Rattle.fz_verdict.specs.View.{located_block}
-use Rattle.fz_verdict.proofs.Accepted.{accepted_solves}
-use Rattle.fz_verdict.proofs.Completing.{accepted_judged}
+use Rattle.fz_streaming.specs.of_syntax.SyntaxError.{SyntaxError}
+use Rattle.fz_streaming.specs.of_stream.declared.error.StreamError.{StreamError}
+use Rattle.fz_streaming.specs.of_model.Meaning.{Model}
+use Rattle.fz_streaming.specs.of_model.Names.{model_of}
+use Rattle.fz_streaming.specs.of_model.Texts.{IsLoadedFrom}
+use Rattle.fz_streaming.specs.of_model.declared.ModelError.{ModelError}
+use Rattle.fz_streaming.proofs.of_model.Scope.{sound_aims}
+use Rattle.fz_streaming.specs.of_verdict.declared.completion.Completion.{Completion}
+use Rattle.fz_streaming.specs.of_verdict.Completed.{AreVerdicts}
+use Rattle.fz_streaming.specs.of_verdict.Report.{IsReport}
+use Rattle.fz_streaming.specs.of_verdict.View.{located_block}
+use Rattle.fz_streaming.proofs.of_verdict.Accepted.{accepted_solves}
+use Rattle.fz_streaming.proofs.of_verdict.Completing.{accepted_judged}
 use Rattle.fz_streaming.specs.of_judge.declared.error.BlockError.{BlockError}
 use Rattle.fz_streaming.specs.declared.error.StreamingError.{StreamingError}
 use Rattle.fz_streaming.specs.declared.error.StreamingError.TheVariants as streaming

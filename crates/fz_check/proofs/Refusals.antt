@@ -3,30 +3,30 @@ use Rattle.std.proofs.Common.{◌≡◌, ◌≢◌, ◌∙◌, ℕ, ◌≤◌, �
 use Rattle.std.proofs.lemmas.Bool.{cases_lt}
 use Rattle.std.specs.List.{AllByRecursion}
 use Rattle.std.specs.Result.{IsErrAnd}
-use Rattle.fz_syntax.specs.SyntaxError.{SyntaxError}
-use Rattle.fz_syntax.specs.SyntaxError.TheVariants as syntax
-use Rattle.fz_model.specs.declared.ModelError.{ModelError}
-use Rattle.fz_model.specs.declared.ModelError.TheVariants as names
-use Rattle.fz_syntax.specs.Limits.{most_bytes}
-use Rattle.fz_syntax.specs.Offering.{IsRefused, IsTextOfAll, items_of_tree}
-use Rattle.fz_syntax.specs.Places.{IsPlacedWithin}
-use Rattle.fz_syntax.specs.Text.{IsTextOfTree, IsRefusalOf, IsValue}
-use Rattle.fz_syntax.specs.Tree.{Tree}
-use Rattle.fz_syntax.specs.View.{bare}
-use Rattle.fz_syntax.specs.declared.Ast as the_ast
-use Rattle.fz_stream.specs.declared.block.Block as the_block
-use Rattle.fz_stream.specs.declared.error.StreamError.{StreamError}
-use Rattle.fz_stream.specs.declared.error.StreamError.TheVariants as stream
-use Rattle.fz_stream.specs.declared.reading.Claim.{Claim}
-use Rattle.fz_stream.specs.Faults.{IsStreamFault}
-use Rattle.fz_stream.specs.Found.{EndsWithin, HasPlaces, IsReadAs, block_of}
-use Rattle.fz_stream.specs.Parts.{StreamPart, IsStreamText}
-use Rattle.fz_stream.specs.Broken.{StopsAfter}
-use Rattle.fz_model.specs.Meaning.{Model}
-use Rattle.fz_model.specs.Names.{IsInReadingOrder}
-use Rattle.fz_model.specs.Texts.{IsLoadedFrom}
-use Rattle.fz_model.specs.View.{TellsFirstFault, located}
-use Rattle.fz_model.proofs.Reading.{in_reading_order}
+use Rattle.fz_streaming.specs.of_syntax.SyntaxError.{SyntaxError}
+use Rattle.fz_streaming.specs.of_syntax.SyntaxError.TheVariants as syntax
+use Rattle.fz_streaming.specs.of_model.declared.ModelError.{ModelError}
+use Rattle.fz_streaming.specs.of_model.declared.ModelError.TheVariants as names
+use Rattle.fz_streaming.specs.of_syntax.Limits.{most_bytes}
+use Rattle.fz_streaming.specs.of_syntax.Offering.{IsRefused, IsTextOfAll, items_of_tree}
+use Rattle.fz_streaming.specs.of_syntax.Places.{IsPlacedWithin}
+use Rattle.fz_streaming.specs.of_syntax.Text.{IsTextOfTree, IsRefusalOf, IsValue}
+use Rattle.fz_streaming.specs.of_syntax.Tree.{Tree}
+use Rattle.fz_streaming.specs.of_syntax.View.{bare}
+use Rattle.fz_streaming.specs.of_syntax.declared.Ast as the_ast
+use Rattle.fz_streaming.specs.of_stream.declared.block.Block as the_block
+use Rattle.fz_streaming.specs.of_stream.declared.error.StreamError.{StreamError}
+use Rattle.fz_streaming.specs.of_stream.declared.error.StreamError.TheVariants as stream
+use Rattle.fz_streaming.specs.of_stream.declared.reading.Claim.{Claim}
+use Rattle.fz_streaming.specs.of_stream.Faults.{IsStreamFault}
+use Rattle.fz_streaming.specs.of_stream.Found.{EndsWithin, HasPlaces, IsReadAs, block_of}
+use Rattle.fz_streaming.specs.of_stream.Parts.{StreamPart, IsStreamText}
+use Rattle.fz_streaming.specs.of_stream.Broken.{StopsAfter}
+use Rattle.fz_streaming.specs.of_model.Meaning.{Model}
+use Rattle.fz_streaming.specs.of_model.Names.{IsInReadingOrder}
+use Rattle.fz_streaming.specs.of_model.Texts.{IsLoadedFrom}
+use Rattle.fz_streaming.specs.of_model.View.{TellsFirstFault, located}
+use Rattle.fz_streaming.proofs.of_model.Reading.{in_reading_order}
 use Rattle.fz_streaming.specs.of_judge.declared.error.BlockError.{BlockError}
 use Rattle.fz_check.proofs.Reporting.{checked}
 use Rattle.fz_check.specs.Refused.{HasBlockFault, HasNameFault, HasStreamFault, HasTextFault, IsBroken, IsFirstFault}

@@ -3,10 +3,10 @@ use Rattle.std.proofs.Common.{◌≡◌, ℕ, suc, ◌≤◌, ◌<◌, ◌+◌, 
 use Rattle.std.specs.List.{AllByRecursion, filter}
 use Rattle.std.proofs.lemmas.List.{take_more, length-map, length-take, map-append}
 use Rattle.std.proofs.lemmas.Grind.{flat_map-append}
-use Rattle.fz_stream.specs.declared.reading.Claim.{Claim}
-use Rattle.fz_stream.specs.Found.{AreInOrder}
-use Rattle.fz_verdict.specs.Report.{block_line, claim_line, claim_lines, lines_from, text_of_lines}
-use Rattle.fz_verdict.specs.Verdict.{Verdict}
+use Rattle.fz_streaming.specs.of_stream.declared.reading.Claim.{Claim}
+use Rattle.fz_streaming.specs.of_stream.Found.{AreInOrder}
+use Rattle.fz_streaming.specs.of_verdict.Report.{block_line, claim_line, claim_lines, lines_from, text_of_lines}
+use Rattle.fz_streaming.specs.of_verdict.Verdict.{Verdict}
 use Rattle.fz_streaming.specs.of_judge.declared.verdict.Verdict as the_verdict
 use Rattle.fz_streaming.specs.of_judge.View.{verdict_view}
 use Rattle.fz_check.specs.Lines.{BeginsElsewhere, IsPushing, IsPushed, IsWritten}

@@ -1,21 +1,21 @@
 -- What the report of a stream is, and that its verdicts are borne out.
 use Rattle.std.proofs.Common.{◌≡◌, ℕ, List, map, Some, ap, ◌∙◌, subst}
 use Rattle.std.specs.List.{AllByRecursion}
-use Rattle.fz_stream.specs.declared.block.Block as the_block
-use Rattle.fz_stream.specs.declared.reading.Claim.{Claim}
-use Rattle.fz_stream.specs.Found.{HasPlaces, IsReadAs, block_of}
-use Rattle.fz_model.specs.Located.{LocatedTree}
-use Rattle.fz_model.specs.Meaning.{Model}
-use Rattle.fz_model.specs.Names.{HasNoFault, model_of}
-use Rattle.fz_model.specs.Texts.{IsLoadedFrom}
-use Rattle.fz_verdict.specs.Blocks.{Block}
-use Rattle.fz_verdict.specs.declared.completion.Completion.{Completion}
-use Rattle.fz_verdict.specs.Completed.{AreVerdicts}
-use Rattle.fz_verdict.specs.Verdict.{Verdict, answer_of}
-use Rattle.fz_verdict.specs.Verdict.Verdict.{Violated}
-use Rattle.fz_verdict.specs.View.{located_block}
-use Rattle.fz_verdict.proofs.Each.{each_satisfied, each_violated, each_not_better}
-use Rattle.fz_verdict.proofs.Places.{blocks_are_bare}
+use Rattle.fz_streaming.specs.of_stream.declared.block.Block as the_block
+use Rattle.fz_streaming.specs.of_stream.declared.reading.Claim.{Claim}
+use Rattle.fz_streaming.specs.of_stream.Found.{HasPlaces, IsReadAs, block_of}
+use Rattle.fz_streaming.specs.of_model.Located.{LocatedTree}
+use Rattle.fz_streaming.specs.of_model.Meaning.{Model}
+use Rattle.fz_streaming.specs.of_model.Names.{HasNoFault, model_of}
+use Rattle.fz_streaming.specs.of_model.Texts.{IsLoadedFrom}
+use Rattle.fz_streaming.specs.of_verdict.Blocks.{Block}
+use Rattle.fz_streaming.specs.of_verdict.declared.completion.Completion.{Completion}
+use Rattle.fz_streaming.specs.of_verdict.Completed.{AreVerdicts}
+use Rattle.fz_streaming.specs.of_verdict.Verdict.{Verdict, answer_of}
+use Rattle.fz_streaming.specs.of_verdict.Verdict.Verdict.{Violated}
+use Rattle.fz_streaming.specs.of_verdict.View.{located_block}
+use Rattle.fz_streaming.proofs.of_verdict.Each.{each_satisfied, each_violated, each_not_better}
+use Rattle.fz_streaming.proofs.of_verdict.Places.{blocks_are_bare}
 use Rattle.fz_streaming.specs.of_judge.declared.verdict.Verdict as the_verdict
 use Rattle.fz_streaming.specs.of_judge.View.{verdict_view}
 use Rattle.fz_streaming.specs.declared.line.Answer as the_answer

@@ -1,12 +1,12 @@
 -- What an accepted stream has (this project's profile).
 use Rattle.std.specs.Prelude.{◌≡◌, ℕ, ◌≤◌, List, length, map}
-use Rattle.fz_syntax.specs.Text.{IsTextOfTree}
-use Rattle.fz_stream.specs.Parts.{StreamPart, IsStreamText}
-use Rattle.fz_stream.specs.Found.{blocks_in}
-use Rattle.fz_model.specs.Located.{LocatedTree, bare_of}
-use Rattle.fz_model.specs.Names.{HasNoFault}
-use Rattle.fz_verdict.specs.Blocks.{Block, bare_of_block}
-use Rattle.fz_verdict.specs.Headline.{HaveSolutions}
+use Rattle.fz_streaming.specs.of_syntax.Text.{IsTextOfTree}
+use Rattle.fz_streaming.specs.of_stream.Parts.{StreamPart, IsStreamText}
+use Rattle.fz_streaming.specs.of_stream.Found.{blocks_in}
+use Rattle.fz_streaming.specs.of_model.Located.{LocatedTree, bare_of}
+use Rattle.fz_streaming.specs.of_model.Names.{HasNoFault}
+use Rattle.fz_streaming.specs.of_verdict.Blocks.{Block, bare_of_block}
+use Rattle.fz_streaming.specs.of_verdict.Headline.{HaveSolutions}
 
 -- The model's bytes are a text of a tree without faults; the stream's bytes are a text of parts, of
 -- which `count` are blocks, at least one; and for these blocks there are assignments, one per

@@ -2,10 +2,10 @@
 -- alone cite this file, and a reader need not believe it.
 use Rattle.std.specs.Prelude.{◌≡◌, ℕ, suc, ◌<◌, ◌≢◌, List, [], ◌∷◌, ◌++◌, length, map, ⊤}
 use Rattle.std.specs.List.{AllByRecursion}
-use Rattle.fz_stream.specs.declared.reading.Claim.{Claim}
-use Rattle.fz_verdict.specs.Report.{claim_line, claim_lines, lines_from, text_of_lines}
-use Rattle.fz_verdict.specs.Verdict.{Verdict}
-use Rattle.fz_stream.specs.Found.{AreInOrder}
+use Rattle.fz_streaming.specs.of_stream.declared.reading.Claim.{Claim}
+use Rattle.fz_streaming.specs.of_verdict.Report.{claim_line, claim_lines, lines_from, text_of_lines}
+use Rattle.fz_streaming.specs.of_verdict.Verdict.{Verdict}
+use Rattle.fz_streaming.specs.of_stream.Found.{AreInOrder}
 
 -- there are no claims, or the first one comes after another number of blocks
 abbrev pub BeginsElsewhere : ℕ → List Claim → Type 0

@@ -1,11 +1,11 @@
 -- What the steps of a check answer (this project's profile).
 use Rattle.std.specs.Prelude.{⊤, ℕ}
-use Rattle.fz_syntax.specs.SyntaxError.{SyntaxError}
-use Rattle.fz_syntax.specs.SyntaxError.TheVariants as syntax
-use Rattle.fz_model.specs.declared.ModelError.{ModelError}
-use Rattle.fz_model.specs.declared.ModelError.TheVariants as names
-use Rattle.fz_stream.specs.declared.error.StreamError.{StreamError}
-use Rattle.fz_stream.specs.declared.error.StreamError.TheVariants as stream
+use Rattle.fz_streaming.specs.of_syntax.SyntaxError.{SyntaxError}
+use Rattle.fz_streaming.specs.of_syntax.SyntaxError.TheVariants as syntax
+use Rattle.fz_streaming.specs.of_model.declared.ModelError.{ModelError}
+use Rattle.fz_streaming.specs.of_model.declared.ModelError.TheVariants as names
+use Rattle.fz_streaming.specs.of_stream.declared.error.StreamError.{StreamError}
+use Rattle.fz_streaming.specs.of_stream.declared.error.StreamError.TheVariants as stream
 use Rattle.fz_streaming.specs.of_judge.declared.error.BlockError.{BlockError}
 use Rattle.fz_streaming.specs.of_judge.declared.error.BlockError.TheVariants as block
 use Rattle.fz_streaming.specs.declared.error.StreamingError.{StreamingError}

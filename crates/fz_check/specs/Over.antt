@@ -3,13 +3,13 @@
 -- said of them.
 use Rattle.std.specs.Prelude.{◌≡◌, ℕ, List, ⊤, Option}
 use Rattle.std.specs.Io.KnownBytes.{Appends, Consumes, IsAtEnd}
-use Rattle.fz_syntax.specs.Text.{IsTextOfTree}
-use Rattle.fz_model.specs.Located.{LocatedTree, bare_of}
-use Rattle.fz_model.specs.Meaning.{Model}
-use Rattle.fz_model.specs.Names.{HasNoFault, model_of}
-use Rattle.fz_verdict.specs.Report.{Report, report_bytes}
-use Rattle.fz_verdict.specs.declared.completion.Completion.{Completion}
-use Rattle.fz_verdict.specs.Verdict.{Answer}
+use Rattle.fz_streaming.specs.of_syntax.Text.{IsTextOfTree}
+use Rattle.fz_streaming.specs.of_model.Located.{LocatedTree, bare_of}
+use Rattle.fz_streaming.specs.of_model.Meaning.{Model}
+use Rattle.fz_streaming.specs.of_model.Names.{HasNoFault, model_of}
+use Rattle.fz_streaming.specs.of_verdict.Report.{Report, report_bytes}
+use Rattle.fz_streaming.specs.of_verdict.declared.completion.Completion.{Completion}
+use Rattle.fz_streaming.specs.of_verdict.Verdict.{Answer}
 use Rattle.fz_check.specs.declared.error.CheckError.{CheckError}
 use Rattle.fz_check.specs.declared.error.CheckError.TheVariants as errors
 use Rattle.fz_check.specs.Reported.{HasReport}

@@ -1,12 +1,12 @@
 -- The line and the byte range of a refusal, and the program's exit status (this project's profile).
 use Rattle.std.specs.Prelude.{ℕ, List, ◌++◌, Option, Some, None, Result, Ok, Err, codes, decimal}
 use Rattle.fz_base.specs.declared.span.Span.{Span}
-use Rattle.fz_syntax.specs.SyntaxError.{SyntaxError}
-use Rattle.fz_syntax.specs.SyntaxError.TheVariants as syntax
-use Rattle.fz_model.specs.declared.ModelError.{ModelError}
-use Rattle.fz_model.specs.declared.ModelError.TheVariants as model
-use Rattle.fz_stream.specs.declared.error.StreamError.{StreamError}
-use Rattle.fz_stream.specs.declared.error.StreamError.TheVariants as stream
+use Rattle.fz_streaming.specs.of_syntax.SyntaxError.{SyntaxError}
+use Rattle.fz_streaming.specs.of_syntax.SyntaxError.TheVariants as syntax
+use Rattle.fz_streaming.specs.of_model.declared.ModelError.{ModelError}
+use Rattle.fz_streaming.specs.of_model.declared.ModelError.TheVariants as model
+use Rattle.fz_streaming.specs.of_stream.declared.error.StreamError.{StreamError}
+use Rattle.fz_streaming.specs.of_stream.declared.error.StreamError.TheVariants as stream
 use Rattle.fz_streaming.specs.of_judge.declared.error.BlockError.{BlockError}
 use Rattle.fz_streaming.specs.of_judge.declared.error.BlockError.TheVariants as block
 use Rattle.fz_check.specs.declared.error.CheckError.{CheckError}

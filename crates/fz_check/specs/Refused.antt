@@ -1,25 +1,25 @@
 -- What holds where a check is refused (this project's profile).
 use Rattle.std.specs.Prelude.{◌≡◌, ◌≢◌, ◌↔◌, ℕ, ◌+◌, ◌<◌, ◌≤◌, List, ◌∷◌, ◌++◌, length, None}
 use Rattle.std.specs.List.{AllByRecursion}
-use Rattle.fz_syntax.specs.Limits.{most_bytes}
-use Rattle.fz_syntax.specs.Places.{IsPlacedWithin}
-use Rattle.fz_syntax.specs.SyntaxError.{SyntaxError}
-use Rattle.fz_syntax.specs.SyntaxError.TheVariants.{TooLong as TextTooLong, Memory as TextMemory}
-use Rattle.fz_syntax.specs.Text.{IsTextOfTree, IsRefusalOf}
-use Rattle.fz_syntax.specs.Tree.{Tree}
-use Rattle.fz_stream.specs.Broken.{StopsAfter}
-use Rattle.fz_stream.specs.Faults.{IsStreamFault}
-use Rattle.fz_stream.specs.Parts.{StreamPart, IsStreamText}
-use Rattle.fz_stream.specs.declared.block.Block as the_block
-use Rattle.fz_stream.specs.declared.error.StreamError.{StreamError}
-use Rattle.fz_stream.specs.declared.error.StreamError.TheVariants as stream
-use Rattle.fz_model.specs.Meaning.{Model}
-use Rattle.fz_model.specs.Names.{model_of}
-use Rattle.fz_model.specs.Texts.{IsNameFault}
-use Rattle.fz_model.specs.declared.ModelError.{ModelError}
-use Rattle.fz_model.specs.declared.ModelError.TheVariants.{Memory as NameMemory}
-use Rattle.fz_verdict.specs.Blocks.{block_fault}
-use Rattle.fz_verdict.specs.View.{located_block}
+use Rattle.fz_streaming.specs.of_syntax.Limits.{most_bytes}
+use Rattle.fz_streaming.specs.of_syntax.Places.{IsPlacedWithin}
+use Rattle.fz_streaming.specs.of_syntax.SyntaxError.{SyntaxError}
+use Rattle.fz_streaming.specs.of_syntax.SyntaxError.TheVariants.{TooLong as TextTooLong, Memory as TextMemory}
+use Rattle.fz_streaming.specs.of_syntax.Text.{IsTextOfTree, IsRefusalOf}
+use Rattle.fz_streaming.specs.of_syntax.Tree.{Tree}
+use Rattle.fz_streaming.specs.of_stream.Broken.{StopsAfter}
+use Rattle.fz_streaming.specs.of_stream.Faults.{IsStreamFault}
+use Rattle.fz_streaming.specs.of_stream.Parts.{StreamPart, IsStreamText}
+use Rattle.fz_streaming.specs.of_stream.declared.block.Block as the_block
+use Rattle.fz_streaming.specs.of_stream.declared.error.StreamError.{StreamError}
+use Rattle.fz_streaming.specs.of_stream.declared.error.StreamError.TheVariants as stream
+use Rattle.fz_streaming.specs.of_model.Meaning.{Model}
+use Rattle.fz_streaming.specs.of_model.Names.{model_of}
+use Rattle.fz_streaming.specs.of_model.Texts.{IsNameFault}
+use Rattle.fz_streaming.specs.of_model.declared.ModelError.{ModelError}
+use Rattle.fz_streaming.specs.of_model.declared.ModelError.TheVariants.{Memory as NameMemory}
+use Rattle.fz_streaming.specs.of_verdict.Blocks.{block_fault}
+use Rattle.fz_streaming.specs.of_verdict.View.{located_block}
 use Rattle.fz_streaming.specs.of_judge.Judged.{IsBlockRefusal}
 use Rattle.fz_streaming.specs.of_judge.declared.error.BlockError.{BlockError}
 use Rattle.fz_streaming.specs.of_judge.declared.error.BlockError.TheVariants.{Memory as BlockMemory}

@@ -1,21 +1,21 @@
 -- What holds of a report (this project's profile).
 use Rattle.std.specs.Prelude.{◌≡◌, ℕ, suc, ℤ, List, map, Some}
 use Rattle.std.specs.List.{AllByRecursion, slice_get}
-use Rattle.fz_syntax.specs.Text.{IsTextOfTree}
-use Rattle.fz_stream.specs.Parts.{StreamPart, IsStreamText}
-use Rattle.fz_stream.specs.Found.{HasPlaces, block_of, blocks_in}
-use Rattle.fz_stream.specs.declared.block.Block as the_block
-use Rattle.fz_model.specs.Located.{LocatedTree, bare_of}
-use Rattle.fz_model.specs.Meaning.{Model, Assignment, IsSolution, IsKnownSolution}
-use Rattle.fz_model.specs.Names.{HasNoFault, model_of}
-use Rattle.fz_verdict.specs.declared.completion.Completion.{Completion}
-use Rattle.fz_verdict.specs.Blocks.{Block, Extends}
-use Rattle.fz_verdict.specs.Headline.{Improves}
-use Rattle.fz_verdict.specs.Report.{Report, IsReport}
-use Rattle.fz_verdict.specs.Verdict.{Verdict, Fault}
-use Rattle.fz_verdict.specs.View.{located_block}
-use Rattle.fz_verdict.specs.Verdict.Verdict.{Satisfied, Violated}
-use Rattle.fz_verdict.specs.Verdict.Fault.{NotBetter}
+use Rattle.fz_streaming.specs.of_syntax.Text.{IsTextOfTree}
+use Rattle.fz_streaming.specs.of_stream.Parts.{StreamPart, IsStreamText}
+use Rattle.fz_streaming.specs.of_stream.Found.{HasPlaces, block_of, blocks_in}
+use Rattle.fz_streaming.specs.of_stream.declared.block.Block as the_block
+use Rattle.fz_streaming.specs.of_model.Located.{LocatedTree, bare_of}
+use Rattle.fz_streaming.specs.of_model.Meaning.{Model, Assignment, IsSolution, IsKnownSolution}
+use Rattle.fz_streaming.specs.of_model.Names.{HasNoFault, model_of}
+use Rattle.fz_streaming.specs.of_verdict.declared.completion.Completion.{Completion}
+use Rattle.fz_streaming.specs.of_verdict.Blocks.{Block, Extends}
+use Rattle.fz_streaming.specs.of_verdict.Headline.{Improves}
+use Rattle.fz_streaming.specs.of_verdict.Report.{Report, IsReport}
+use Rattle.fz_streaming.specs.of_verdict.Verdict.{Verdict, Fault}
+use Rattle.fz_streaming.specs.of_verdict.View.{located_block}
+use Rattle.fz_streaming.specs.of_verdict.Verdict.Verdict.{Satisfied, Violated}
+use Rattle.fz_streaming.specs.of_verdict.Verdict.Fault.{NotBetter}
 
 -- What is checked against what: the model's bytes are a text of a tree without faults, and the
 -- stream's bytes are a text of parts, of which these are the blocks, with the byte ranges of their

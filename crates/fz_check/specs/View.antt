@@ -1,6 +1,6 @@
 -- The report, as defined, that a `Report` of the code stands for.
 use Rattle.std.specs.Prelude.{map}
-use Rattle.fz_verdict.specs.Report as report
+use Rattle.fz_streaming.specs.of_verdict.Report as report
 use Rattle.fz_streaming.specs.of_judge.View.{verdict_view}
 use Rattle.fz_check.specs.declared.report.Report.{Report}
 use Rattle.fz_streaming.specs.View.{answer_view}

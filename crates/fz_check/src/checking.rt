@@ -2,18 +2,18 @@
 
 ghost use Rattle.std.specs.Prelude.{◌≡◌, ◌≢◌, ◌≤◌, ℕ, length, map, vec_len, IfOk, IfErr, Err};
 ghost use Rattle.std.specs.List.{AllByRecursion};
-ghost use Rattle.fz_syntax.specs.SyntaxError.{SyntaxError as SyntaxFault};
-ghost use Rattle.fz_syntax.specs.Offering.{IsTextOfAll, items_of_tree};
-ghost use Rattle.fz_syntax.specs.Limits.{most_bytes};
-ghost use Rattle.fz_model.specs.declared.ModelError.{ModelError as NameFault};
-ghost use Rattle.fz_model.specs.declared.ModelError.TheVariants.{Memory as NameMemory};
-ghost use Rattle.fz_model.specs.Names.{HasNoFault, IsInReadingOrder, model_of};
-ghost use Rattle.fz_model.specs.Texts.{IsLoadedFrom};
-ghost use Rattle.fz_model.specs.View.{TellsFirstFault, located};
-ghost use Rattle.fz_stream.specs.declared.error.StreamError.{StreamError as StreamFault};
-ghost use Rattle.fz_stream.specs.Found.{AreInOrder, EndsWithin, HasPlaces, IsReadAs, block_of};
-ghost use Rattle.fz_verdict.specs.Completed.{AreVerdicts};
-ghost use Rattle.fz_verdict.specs.View.{located_block};
+ghost use Rattle.fz_streaming.specs.of_syntax.SyntaxError.{SyntaxError as SyntaxFault};
+ghost use Rattle.fz_streaming.specs.of_syntax.Offering.{IsTextOfAll, items_of_tree};
+ghost use Rattle.fz_streaming.specs.of_syntax.Limits.{most_bytes};
+ghost use Rattle.fz_streaming.specs.of_model.declared.ModelError.{ModelError as NameFault};
+ghost use Rattle.fz_streaming.specs.of_model.declared.ModelError.TheVariants.{Memory as NameMemory};
+ghost use Rattle.fz_streaming.specs.of_model.Names.{HasNoFault, IsInReadingOrder, model_of};
+ghost use Rattle.fz_streaming.specs.of_model.Texts.{IsLoadedFrom};
+ghost use Rattle.fz_streaming.specs.of_model.View.{TellsFirstFault, located};
+ghost use Rattle.fz_streaming.specs.of_stream.declared.error.StreamError.{StreamError as StreamFault};
+ghost use Rattle.fz_streaming.specs.of_stream.Found.{AreInOrder, EndsWithin, HasPlaces, IsReadAs, block_of};
+ghost use Rattle.fz_streaming.specs.of_verdict.Completed.{AreVerdicts};
+ghost use Rattle.fz_streaming.specs.of_verdict.View.{located_block};
 ghost use Rattle.fz_streaming.specs.of_judge.declared.error.BlockError.{BlockError as BlockFault};
 ghost use Rattle.fz_streaming.specs.of_judge.View.{verdict_view};
 ghost use Rattle.fz_check.specs.Headline.{HasSolutions};
@@ -37,13 +37,13 @@ ghost use Rattle.fz_check.specs.View.{report_view};
 
 use crate::error::CheckError;
 use crate::report::{Report, answer_to};
-use fz_model::{LoadError, Model, ModelError, load, load_text};
 use fz_outputs::print_all;
-use fz_stream::{Block, Stream, StreamError, blocks};
 use fz_streaming::Answer;
-use fz_streaming::fz_judge::fz_verdict::Completion;
 use fz_streaming::fz_judge::{BlockError, Judge, Verdict};
-use fz_syntax::{Ast, SyntaxError, parse, to_text};
+use fz_streaming::fz_model::{LoadError, Model, ModelError, load, load_text};
+use fz_streaming::fz_stream::{Block, Stream, StreamError, blocks};
+use fz_streaming::fz_syntax::{Ast, SyntaxError, parse, to_text};
+use fz_streaming::fz_verdict::Completion;
 use std::alloc::Global;
 
 /// The error of a check for an error in the text of its model.

@@ -1,9 +1,9 @@
 //! The errors of a check.
 
-use fz_model::ModelError;
-use fz_stream::StreamError;
 use fz_streaming::fz_judge::BlockError;
-use fz_syntax::SyntaxError;
+use fz_streaming::fz_model::ModelError;
+use fz_streaming::fz_stream::StreamError;
+use fz_streaming::fz_syntax::SyntaxError;
 use std::alloc::{AllocError, AllocFailed};
 use thiserror::Error;
 

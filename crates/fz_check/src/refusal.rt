@@ -6,11 +6,11 @@ ghost use Rattle.fz_check.specs.Telling.{named};
 
 use crate::error::CheckError;
 use fz_base::Span;
-use fz_model::ModelError;
-use fz_stream::StreamError;
 use fz_streaming::fz_judge::BlockError;
+use fz_streaming::fz_model::ModelError;
+use fz_streaming::fz_stream::StreamError;
+use fz_streaming::fz_syntax::SyntaxError;
 use fz_streaming::{Answer, push_bytes, push_count};
-use fz_syntax::SyntaxError;
 use std::alloc::{AllocError, Global};
 
 /// The name of a fault, and its byte range where it has one.

@@ -1,17 +1,17 @@
 //! The report on a stream, and its text.
 
 ghost use Rattle.std.specs.Prelude.{◌≡◌, ◌++◌, ◌∷◌, [], IfOk, OnOk, map, decimal, vec_len};
-ghost use Rattle.fz_verdict.specs.Report.{report_bytes};
-ghost use Rattle.fz_verdict.specs.Verdict.{answer_of, first_number};
+ghost use Rattle.fz_streaming.specs.of_verdict.Report.{report_bytes};
+ghost use Rattle.fz_streaming.specs.of_verdict.Verdict.{answer_of, first_number};
 ghost use Rattle.fz_streaming.specs.of_judge.View.{verdict_view};
 ghost use Rattle.fz_check.specs.Sought.{is_sought};
 ghost use Rattle.fz_streaming.specs.View.{answer_view};
 ghost use Rattle.fz_check.specs.View.{report_view};
-ghost use Rattle.fz_stream.specs.Found.{AreInOrder};
+ghost use Rattle.fz_streaming.specs.of_stream.Found.{AreInOrder};
 ghost use Rattle.fz_check.specs.Lines.{IsPushed};
 
-use fz_stream::Claim;
 use fz_streaming::fz_judge::Verdict;
+use fz_streaming::fz_stream::Claim;
 use fz_streaming::{Answer, push_answer, push_block, push_claim};
 use std::alloc::{AllocError, Global};
 

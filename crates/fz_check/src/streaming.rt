@@ -1,12 +1,12 @@
 //! The check of a stream over a reader and a writer.
 
 ghost use Rattle.std.specs.Prelude.{◌≡◌, ◌≢◌, ℕ, List, ◌⊎◌, Err, IfOk, IfErr};
-ghost use Rattle.fz_syntax.specs.SyntaxError.{SyntaxError as SyntaxFault};
-ghost use Rattle.fz_model.specs.declared.ModelError.{ModelError as NameFault};
-ghost use Rattle.fz_stream.specs.declared.error.StreamError.{StreamError as StreamFault};
-ghost use Rattle.fz_stream.specs.declared.error.StreamError.TheVariants.{Memory as OfMemory};
-ghost use Rattle.fz_stream.specs.Faults.{IsStreamFault};
-ghost use Rattle.fz_stream.specs.Parts.{StreamPart};
+ghost use Rattle.fz_streaming.specs.of_syntax.SyntaxError.{SyntaxError as SyntaxFault};
+ghost use Rattle.fz_streaming.specs.of_model.declared.ModelError.{ModelError as NameFault};
+ghost use Rattle.fz_streaming.specs.of_stream.declared.error.StreamError.{StreamError as StreamFault};
+ghost use Rattle.fz_streaming.specs.of_stream.declared.error.StreamError.TheVariants.{Memory as OfMemory};
+ghost use Rattle.fz_streaming.specs.of_stream.Faults.{IsStreamFault};
+ghost use Rattle.fz_streaming.specs.of_stream.Parts.{StreamPart};
 ghost use Rattle.fz_streaming.specs.of_judge.declared.error.BlockError.{BlockError as BlockFault};
 ghost use Rattle.fz_streaming.specs.Streaming.{BlockIsRefused, StopsAfterLines, WritesFrontOfLines};
 ghost use Rattle.fz_streaming.specs.Reading.{HasNoMore, IsRefusedAfter, SpendsReads};
@@ -18,7 +18,7 @@ ghost use Rattle.fz_check.specs.Refused.{HasNameFault, HasTextFault};
 
 use crate::checking::read_model;
 use crate::error::CheckError;
-use fz_streaming::fz_judge::fz_verdict::Completion;
+use fz_streaming::fz_verdict::Completion;
 use fz_streaming::{Answer, StreamingError, check_parts};
 use std::alloc::Global;
 use std::io::{Read, Write};

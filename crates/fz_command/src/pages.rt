@@ -4,8 +4,8 @@
 pub const USAGE: &str = "\
 usage: fzcheck show [--print-all] MODEL | check [--complete] [--explain] MODEL [STREAM]";
 
-/// The answer to `--version`: the program, its version, and the toolchain that proved it.
-pub const VERSION: &str = "fzcheck 0.4.0 (rattle-kit-13f logic dac8208d650f15bf)";
+/// The answer to `--version`: the program and its version.
+pub const VERSION: &str = "fzcheck 0.4.0";
 
 /// The answer to a request for help.
 pub const HELP: &str = "\

@@ -20,11 +20,11 @@ use Rattle.fz_meaning.specs.Meaning.Place.{Scalar, Array}
 use Rattle.fz_meaning.specs.Names.{parts, kind_of_base, is_scalar, named_as, declares, declaration, number_of, scalar_variable_number, literal_of, scalar_term, term_of, place_of, place_of_declared, definition_of, differs_in_length, argument_of, defined_by, posted_of, aim_of}
 use Rattle.fz_meaning.specs.Names.FaultKind.{DuplicateName, WrongKind, WrongLength}
 use Rattle.fz_meaning.proofs.Values.{and_first}
-use Rattle.fz_syntax.specs.Tree.{Note, NoteBasic}
-use Rattle.fz_syntax.specs.Tree.Note.{Called}
-use Rattle.fz_syntax.specs.Tree.NoteArgs.{NoMoreArgs, MoreArgs}
-use Rattle.fz_syntax.specs.Tree.NoteArg.{OneBasic, ListOf}
-use Rattle.fz_syntax.specs.Tree.NoteBasic.{NoteLiteral, NoteFloat, NoteString, Inner}
+use Rattle.fz_meaning.specs.of_syntax.Tree.{Note, NoteBasic}
+use Rattle.fz_meaning.specs.of_syntax.Tree.Note.{Called}
+use Rattle.fz_meaning.specs.of_syntax.Tree.NoteArgs.{NoMoreArgs, MoreArgs}
+use Rattle.fz_meaning.specs.of_syntax.Tree.NoteArg.{OneBasic, ListOf}
+use Rattle.fz_meaning.specs.of_syntax.Tree.NoteBasic.{NoteLiteral, NoteFloat, NoteString, Inner}
 use Rattle.fz_meaning.specs.FirstFault.{named_fault, part_fault, parts_fault, decl_fault, constraint_fault, goal_fault}
 use Rattle.fz_meaning.proofs.KnownNames.{clean_name, found_stays, term_found}
 use Rattle.fz_meaning.proofs.Names.{AreNew, variable_number, number_by_name}
@@ -34,9 +34,14 @@ use Rattle.fz_data.specs.declared.scope.Scope.{Scope}
 use Rattle.fz_data.specs.Declarations.{declared_place}
 use Rattle.fz_names.specs.Naming.{has_text}
 use Rattle.fz_data.specs.Scope.{place_in, place_fault, fault_in, faults_in, term_at, term_in, place_at, place_of_part, argument_fault, argument_in, is_declared, decl_fault_in, definition_in, constraint_fault_in, variable_by_place, defined_in, posted_in, aim_in}
-use Rattle.fz_data.proofs.Shows.{same_map}
 use Rattle.fz_data.proofs.Finds.{by_name, first_entry, first_some-same, or_else}
 use Rattle.fz_data.specs.Stands.{Stands, entry_place, declared_pair}
+
+-- f of each element is g of it
+same_map : {A B : Type 0} (f g : A → B) → ((x : A) → f x ≡ g x) → (xs : List A)
+    → map f xs ≡ map g xs
+same_map f g same [] = refl
+same_map f g same (x ∷ xs) = λ i. same x i ∷ same_map f g same xs i
 
 -- ---- names
 

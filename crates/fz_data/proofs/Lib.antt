@@ -1,4 +1,3 @@
-pub mod Shows
 pub mod Finds
 pub mod Points
 pub mod FindsKinds

@@ -8,9 +8,9 @@ use Rattle.fz_meaning.specs.Meaning.{first_some}
 use Rattle.fz_meaning.proofs.Lists.{all_append}
 use Rattle.fz_meaning.proofs.ScanSteps.{first_stops, take_one_more}
 use Rattle.fz_names.specs.Naming.{has_text}
-use Rattle.fz_syntax.specs.Tree as tree
-use Rattle.fz_syntax.specs.View.{arg_list, bare_arg}
-use Rattle.fz_syntax.specs.declared.NoteArg.{NoteArg}
+use Rattle.fz_meaning.specs.of_syntax.Tree as tree
+use Rattle.fz_meaning.specs.of_syntax.View.{arg_list, bare_arg}
+use Rattle.fz_meaning.specs.of_syntax.declared.NoteArg.{NoteArg}
 use Rattle.fz_data.specs.Scope.{only_arg}
 
 -- one more is found: what it stands for, and what holds of it

@@ -1,10 +1,10 @@
 -- What was offered so far is the front of a text, and a fault there is the first of the whole.
 use Rattle.std.proofs.Common.{◌≡◌, ℕ, true, false, List, [], ◌∷◌, ◌++◌, map, length, Option, Some, None, is_some, Result, Ok, Err, refl, sym, ap, subst, ◌∙◌, append_assoc}
 use Rattle.std.proofs.lemmas.List.{append-nil, map-append}
-use Rattle.fz_syntax.specs.SyntaxError.{SyntaxError}
-use Rattle.fz_syntax.specs.Offering.{TreeItems, Offers, IsAllOf}
-use Rattle.fz_syntax.specs.declared.Decl.{Decl}
-use Rattle.fz_syntax.specs.declared.Constraint.{Constraint}
+use Rattle.fz_meaning.specs.of_syntax.SyntaxError.{SyntaxError}
+use Rattle.fz_meaning.specs.of_syntax.Offering.{TreeItems, Offers, IsAllOf}
+use Rattle.fz_meaning.specs.of_syntax.declared.Decl.{Decl}
+use Rattle.fz_meaning.specs.of_syntax.declared.Constraint.{Constraint}
 use Rattle.fz_meaning.specs.FirstFault.{Fault, decl_fault, decls_fault, first_fault}
 use Rattle.fz_meaning.specs.Meaning.{first_some}
 use Rattle.fz_meaning.specs.View.{located_all, located_constraint, located_decl}

@@ -13,11 +13,11 @@ use Rattle.fz_meaning.specs.declared.term.Term.TheVariants.{Var, Fixed}
 use Rattle.fz_meaning.specs.Values.{kind_of, same_kind}
 use Rattle.fz_meaning.specs.Located.{Basic, Expr, Decl, Constraint, Goal}
 use Rattle.fz_meaning.specs.Located.Goal.{Satisfy, Minimize, Maximize}
-use Rattle.fz_syntax.specs.Tree.{Note, NoteArg, NoteArgs}
-use Rattle.fz_syntax.specs.Tree.Note.{Called}
-use Rattle.fz_syntax.specs.Tree.NoteArgs.{NoMoreArgs, MoreArgs}
-use Rattle.fz_syntax.specs.Tree.NoteArg.{OneBasic}
-use Rattle.fz_syntax.specs.Tree.NoteBasic.{Inner}
+use Rattle.fz_meaning.specs.of_syntax.Tree.{Note, NoteArg, NoteArgs}
+use Rattle.fz_meaning.specs.of_syntax.Tree.Note.{Called}
+use Rattle.fz_meaning.specs.of_syntax.Tree.NoteArgs.{NoMoreArgs, MoreArgs}
+use Rattle.fz_meaning.specs.of_syntax.Tree.NoteArg.{OneBasic}
+use Rattle.fz_meaning.specs.of_syntax.Tree.NoteBasic.{Inner}
 use Rattle.fz_data.specs.Fitting.{kinds_among}
 use Rattle.fz_meaning.specs.Located.Basic.{Lit, Named}
 use Rattle.fz_meaning.specs.Located.Expr.{One, Several}

@@ -1,6 +1,6 @@
--- What a caller is shown of a model: points by their names, constraints with arrays by theirs, and
--- what a name stands for (this project's profile).
-use Rattle.std.specs.Prelude.{ℕ, List, [], map, slice_get, ⊤}
+-- What a caller is shown of a model: points by their names, and what a name stands for (this
+-- project's profile).
+use Rattle.std.specs.Prelude.{ℕ, List, map, slice_get, ⊤}
 use Rattle.std.specs.Option.{option_map_or}
 use Rattle.fz_meaning.specs.Values.{kind_of}
 use Rattle.fz_meaning.specs.declared.kind.Kind.{Kind}
@@ -8,16 +8,8 @@ use Rattle.fz_meaning.specs.declared.kind.Kind.TheVariants.{Int as IntKind}
 use Rattle.fz_meaning.specs.declared.term.Term.{Term}
 use Rattle.fz_meaning.specs.declared.term.Term.TheVariants.{Var, Fixed}
 use Rattle.fz_meaning.specs.Meaning as meaning
-use Rattle.fz_base.specs.declared.value.Value.{Value}
-use Rattle.fz_store.specs.Slots.{scalar_term, slot_term, segment}
+use Rattle.fz_store.specs.Slots.{scalar_term, slot_term}
 use Rattle.fz_data.specs.Parts.{variable_view, constraint_view}
-use Rattle.fz_store.specs.declared.store.Slot.{Slot}
-use Rattle.fz_store.specs.declared.store.Slot.TheVariants as slots
-use Rattle.fz_store.specs.declared.store.Argument.{Argument}
-use Rattle.fz_store.specs.declared.store.Argument.TheVariants as arguments
-use Rattle.fz_store.specs.declared.store.Store.{Store}
-use Rattle.fz_data.specs.declared.parts.Array.{Array}
-use Rattle.fz_data.specs.declared.parts.Posted.{Posted}
 use Rattle.fz_data.specs.declared.point.Point.{Point}
 use Rattle.fz_data.specs.declared.point.Point.TheVariants as points
 use Rattle.fz_data.specs.declared.point.ConstraintParts.{ConstraintParts}
@@ -54,29 +46,6 @@ IfConstraint (parts.Constraint c) P = P c
 IfConstraint (parts.Domain x n) P = ⊤
 IfConstraint (parts.Definition x n e) P = ⊤
 IfConstraint (parts.Elements x d ts) P = ⊤
-
--- ---- constraints: an array is shown by its name
-
-abbrev pub shown_place : List Array → List Value → Slot → meaning.ShownPlace
-shown_place xs cs (slots.Variable n) = meaning.ShownScalar (slot_term cs (slots.Variable n))
-shown_place xs cs (slots.Number i) = meaning.ShownScalar (slot_term cs (slots.Number i))
-shown_place xs cs (slots.Truth b) = meaning.ShownScalar (slot_term cs (slots.Truth b))
-shown_place xs cs (slots.Constant k) = meaning.ShownScalar (slot_term cs (slots.Constant k))
-shown_place xs cs (slots.Array i) =
-    meaning.ShownArray (option_map_or (λ x. x.name.now) (slice_get xs i) [])
-
-abbrev pub shown_argument : List Array → Store → Argument → meaning.ShownArgument
-shown_argument xs st (arguments.One s) = meaning.ShownOne (shown_place xs st.constants.items s)
-shown_argument xs st (arguments.List g) =
-    meaning.ShownList (map (shown_place xs st.constants.items) (segment st.slots.items g))
-
-abbrev pub shown_posted : List Array → Store → Posted → meaning.ShownPosted
-shown_posted xs st p = record {
-  name = p.name.now;
-  arguments = map (shown_argument xs st)
-      (segment st.arguments.items p.arguments);
-  target = p.target;
-}
 
 -- ---- names
 

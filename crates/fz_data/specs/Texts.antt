@@ -1,11 +1,11 @@
 -- What is said of the text of a model that is loaded item by item.
 use Rattle.std.specs.Prelude.{◌≡◌, ◌++◌, ⊤, ℕ, List, [], map, Result, Ok, Err}
-use Rattle.fz_syntax.specs.Offering.{TreeItems, IsTextOfAll, IsRefused, AtDecls, AtConstraints, AtSolve}
-use Rattle.fz_syntax.specs.Text.{IsTextOfTree}
-use Rattle.fz_syntax.specs.declared.reader.Items.{Items}
-use Rattle.fz_syntax.specs.declared.Predicate.{Predicate}
-use Rattle.fz_syntax.specs.declared.Decl.{Decl}
-use Rattle.fz_syntax.specs.declared.Constraint.{Constraint}
+use Rattle.fz_meaning.specs.of_syntax.Offering.{TreeItems, IsTextOfAll, IsRefused, AtDecls, AtConstraints, AtSolve}
+use Rattle.fz_meaning.specs.of_syntax.Text.{IsTextOfTree}
+use Rattle.fz_meaning.specs.of_syntax.declared.reader.Items.{Items}
+use Rattle.fz_meaning.specs.of_syntax.declared.Predicate.{Predicate}
+use Rattle.fz_meaning.specs.of_syntax.declared.Decl.{Decl}
+use Rattle.fz_meaning.specs.of_syntax.declared.Constraint.{Constraint}
 use Rattle.fz_meaning.specs.FirstFault.{first_fault}
 use Rattle.fz_meaning.specs.Located.{LocatedTree, bare_of}
 use Rattle.fz_meaning.specs.Meaning.{Model}

@@ -12,9 +12,9 @@ ghost use Rattle.fz_data.specs.declared.scope.Scope.{Scope};
 use crate::parts::{Array, Variable};
 use crate::scope::{Item, Scope, scalars_of, term_of};
 use fz_base::Value;
+use fz_meaning::fz_syntax::{Basic, Decl, Expr};
 use fz_meaning::{Kind, ModelError, Term};
 use fz_store::{base_kind, domain_of, literal_kind, literal_value, same_kind};
-use fz_syntax::{Basic, Decl, Expr};
 use std::alloc::Global;
 use std::slice;
 

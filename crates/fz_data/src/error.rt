@@ -4,7 +4,7 @@ ghost use Rattle.std.specs.Prelude.{◌≡◌};
 ghost use Rattle.fz_data.specs.declared.error.LoadError.TheVariants.{Names, Text};
 
 use fz_meaning::ModelError;
-use fz_syntax::SyntaxError;
+use fz_meaning::fz_syntax::SyntaxError;
 
 /// Why the text of a model isn't loaded: it is a text of no tree, or the tree's names have a fault.
 #[derive(Clone, Copy, Debug)]

@@ -21,6 +21,7 @@ mod text;
 
 pub use error::LoadError;
 pub use found::{Found, Scalars, What};
+pub use fz_names::{Hint, NO_HINT};
 pub use fz_store::{
     Argument, Scalar, Segment, Slot, Store, item_at, kind_of, literal_kind, literal_value, part,
     same_kind, scalar_at,

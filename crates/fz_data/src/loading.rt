@@ -15,9 +15,9 @@ use crate::model::Model;
 use crate::posting::{all_posted, goal_of};
 use crate::scope::{Scope, add};
 use fz_meaning::ModelError;
+use fz_meaning::fz_syntax::{Ast, Decl};
 use fz_names::Names;
 use fz_store::Store;
-use fz_syntax::{Ast, Decl};
 use std::alloc::Global;
 
 /// A scope in which nothing is declared yet, with room for this many names.

@@ -1,17 +1,17 @@
 //! The loaded model.
 
 ghost use Rattle.std.specs.Prelude.{◌≡◌, ◌<◌, IfSome, Some, length, map, option_map, slice_get};
-ghost use Rattle.fz_meaning.specs.Meaning.{constraint_points, find_name, points, row_of, shown_point, shown_posted as shown, variables_of};
+ghost use Rattle.fz_meaning.specs.Meaning.{constraint_points, find_name, points, row_of, shown_point, variables_of};
 ghost use Rattle.fz_meaning.specs.Known.{known_row};
 ghost use Rattle.fz_data.specs.Kinds.{PlaceFits, PostedFits};
-ghost use Rattle.fz_data.specs.Parts.{constraint_view, elements_of, goal_view, variable_view};
-ghost use Rattle.fz_data.specs.Shown.{IfConstraint, found_place, point_name, point_view, scalar_terms, shown_posted};
+ghost use Rattle.fz_data.specs.Parts.{constraint_view, elements_of, goal_view, kept_row, posted_view, variable_view};
+ghost use Rattle.fz_data.specs.Shown.{IfConstraint, found_place, point_name, point_view, scalar_terms};
 
 use crate::found::{Found, Scalars, What};
 use crate::parts::{Array, DeclaredPoint, Goal, Posted, Variable};
 use crate::point::{ConstraintParts, Constraints, Point, PointParts};
 use crate::scope::Scope;
-use fz_names::{Names, Standing};
+use fz_names::{Hint, NO_HINT, Names, Standing};
 use fz_store::{Scalar, Store, read_term};
 
 /// A model with its names looked up. A contract sees it as the model of the tree that it was loaded
@@ -54,13 +54,15 @@ impl<'a> Model<'a> {
         &self.variables
     }
 
-    /// The constraints, in source order. It takes no memory.
+    /// The constraints, in source order, each with the row that it fits. It takes no memory.
     pub fn constraints(&self) -> Constraints<'_, 'a>
-        ensures all { map (shown_posted result.arrays.now result.store.now) result.posted.now
-            ≡ map shown self.now.constraints }
+        ensures all { map (posted_view result.variables.now result.arrays.now result.store.now)
+            result.posted.now ≡ self.now.constraints }
+        ensures rows { map kept_row result.posted.now ≡ map row_of self.now.constraints }
     {
         Constraints {
             posted: &self.constraints,
+            variables: &self.variables,
             arrays: &self.arrays,
             store: &self.store,
         }
@@ -81,23 +83,21 @@ impl<'a> Model<'a> {
         ensures kinds { IfSome result (λ f. PlaceFits self.now
             (found_place (variables_of self.now) f)) }
     {
-        // No name has the greatest index, so the name is looked up.
-        let (found, _) = self.find_at(name, usize::MAX)?;
+        let (found, _) = self.find_at(name, NO_HINT)?;
         Some(found)
     }
 
-    /// What a name stands for, where it is declared, and its index among the names. The caller may
-    /// guess that index: where the guess is right, nothing is looked up, so a caller that stores
-    /// the index of a name finds the name again at once. A wrong guess does no harm. It takes no
+    /// What a name stands for, where it is declared, and a hint: a caller that stores the hint of a
+    /// name finds the name again at once, and that of another name does no harm. It takes no
     /// memory.
-    pub fn find_at(&self, name: &[u8], place: usize) -> Option<(Found<'_, 'a>, usize)>
+    pub fn find_at(&self, name: &[u8], hint: Hint) -> Option<(Found<'_, 'a>, Hint)>
         ensures place { option_map (λ f. found_place (variables_of self.now) f.0) result
             ≡ find_name self.now name.now }
         ensures text { IfSome result (λ f. f.0.name.now ≡ name.now) }
         ensures kinds { IfSome result (λ f. PlaceFits self.now
             (found_place (variables_of self.now) f.0)) }
     {
-        let (text, standing, stands_at) = self.names.find_at(name, place)?;
+        let (text, standing, stands_at) = self.names.find_at(name, hint)?;
         let what = match standing {
             Standing::Variable(number) => What::Scalar(Scalar::Variable(number)),
             Standing::Parameter(term) => What::Scalar(read_term(term)),

@@ -22,9 +22,9 @@ pub struct Variable<'a> {
 #[derive(Debug, Drop)]
 pub struct Array<'a> {
     pub name: &'a [u8],
-    pub is_variable: bool,
+    pub(crate) is_variable: bool,
     pub kind: Kind,
-    pub domain: Domain,
+    pub(crate) domain: Domain,
     pub elements: ScalarList,
 }
 

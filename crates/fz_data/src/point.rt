@@ -39,11 +39,12 @@ impl<'m, 'a> ConstraintParts<'m, 'a> {
     }
 }
 
-/// A model's constraints, in source order, with the arrays that they cite by number and the store
-/// of their arguments.
+/// A model's constraints, in source order, with the variables and arrays that they cite by number
+/// and the store of their arguments.
 #[derive(Clone, Copy)]
 pub struct Constraints<'m, 'a> {
     pub posted: &'m [Posted<'a>],
+    pub variables: &'m [Variable<'a>],
     pub arrays: &'m [Array<'a>],
     pub store: &'m Store,
 }

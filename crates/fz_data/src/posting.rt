@@ -7,8 +7,8 @@ ghost use Rattle.fz_meaning.specs.Located.Basic.{Named};
 ghost use Rattle.fz_meaning.specs.Meaning.{first_some, row_of};
 ghost use Rattle.fz_meaning.specs.Names.{goal_parts};
 ghost use Rattle.fz_meaning.specs.View.{located_basic, located_constraint, located_expr, located_goal, located_name};
-ghost use Rattle.fz_syntax.specs.View.{arg_list, bare_arg, bare_basic, bare_note, bare_notes};
-ghost use Rattle.fz_syntax.specs.Tree.NoteArg.{OneBasic};
+ghost use Rattle.fz_meaning.specs.of_syntax.View.{arg_list, bare_arg, bare_basic, bare_note, bare_notes};
+ghost use Rattle.fz_meaning.specs.of_syntax.Tree.NoteArg.{OneBasic};
 ghost use Rattle.fz_data.specs.Parts.{goal_view, kept_row, posted_view};
 ghost use Rattle.fz_data.specs.Posting.{AreArgumentsOf, ArePlacesOf, IsArgumentOf, IsLonger, IsPlaceOf, IsPostedOf, Posts};
 ghost use Rattle.fz_data.specs.Scope.{HasKinds, Tells, aim_in, argument_fault, argument_in, constraint_fault_in, defined_in, bare_name_of, fault_in, faults_in, inner_of, only_arg, place_in, place_of_part, posted_in, variable_at_term, variable_by_place};
@@ -18,12 +18,14 @@ use crate::parts::{Goal, Posted};
 use crate::rows::row_of;
 use crate::scope::{Scope, term_of};
 use fz_base::Value;
+use fz_meaning::fz_syntax::{
+    Basic, Constraint, Expr, Goal as TreeGoal, Name, Note, NoteArg, NoteBasic,
+};
 use fz_meaning::{Kind, ModelError, Term, same_text};
 use fz_names::Standing;
 use fz_store::{
     Argument, Segment, Slot, Store, copied, literal_value, narrow, part, slot_of, value_slot,
 };
-use fz_syntax::{Basic, Constraint, Expr, Goal as TreeGoal, Name, Note, NoteArg, NoteBasic};
 use std::alloc::Global;
 
 /// What a name stands for.

@@ -6,7 +6,7 @@ ghost use Rattle.fz_meaning.specs.declared.term.Term.TheVariants.{Fixed, Var};
 ghost use Rattle.fz_meaning.specs.FirstFault.{literal_fault};
 ghost use Rattle.fz_meaning.specs.Names.{literal_value};
 ghost use Rattle.fz_meaning.specs.Values.{kind_of};
-ghost use Rattle.fz_syntax.specs.View.{bare_literal_kind};
+ghost use Rattle.fz_meaning.specs.of_syntax.View.{bare_literal_kind};
 ghost use Rattle.fz_data.specs.Parts.{kind_of_term, terms_of};
 ghost use Rattle.fz_data.specs.declared.scope.Item.TheVariants.{Parameter, Variable as item_variable, Array as item_array};
 ghost use Rattle.fz_meaning.specs.declared.error.ModelError.TheVariants.{Memory};
@@ -15,10 +15,10 @@ ghost use Rattle.fz_data.specs.Scope.{HasKinds, IsAdded, Tells, fault_in, faults
 use crate::parts::{Array, DeclaredPoint, ScalarList, Variable};
 use crate::rows::{Cited, term_kind, variable_kind};
 use fz_base::Value;
+use fz_meaning::fz_syntax::{Basic, Literal, Name};
 use fz_meaning::{Domain, Kind, ModelError, Term};
 use fz_names::{Names, Standing};
 use fz_store::{copied, literal_kind, literal_value, same_kind, slot_of};
-use fz_syntax::{Basic, Literal, Name};
 use std::alloc::{AllocError, Global};
 
 /// What was declared so far: the names in source order, the variables and arrays by their numbers,

@@ -2,13 +2,13 @@
 
 ghost use Rattle.std.specs.Prelude.{◌≡◌, ◌≢◌, ◌<◌, ◌↔◌, Err, ◌++◌, ◌∷◌, [], IfErr, IfOk, List, None, OnOk, length, map};
 ghost use Rattle.fz_meaning.specs.Located.{Constraint as LocatedConstraint, Decl as LocatedDecl};
-ghost use Rattle.fz_syntax.specs.Offering.{AtConstraints, AtDecls, AtPredicates, AtSolve, IsAllOf, IsRefused};
-ghost use Rattle.fz_syntax.specs.Limits.{most_bytes};
-ghost use Rattle.fz_syntax.specs.SyntaxError.{SyntaxError as SyntaxFault};
-ghost use Rattle.fz_syntax.specs.SyntaxError.TheVariants.{TooLong};
-ghost use Rattle.fz_syntax.specs.declared.Constraint as the_constraint;
-ghost use Rattle.fz_syntax.specs.declared.Decl as the_decl;
-ghost use Rattle.fz_syntax.specs.declared.Predicate as the_predicate;
+ghost use Rattle.fz_meaning.specs.of_syntax.Offering.{AtConstraints, AtDecls, AtPredicates, AtSolve, IsAllOf, IsRefused};
+ghost use Rattle.fz_meaning.specs.of_syntax.Limits.{most_bytes};
+ghost use Rattle.fz_meaning.specs.of_syntax.SyntaxError.{SyntaxError as SyntaxFault};
+ghost use Rattle.fz_meaning.specs.of_syntax.SyntaxError.TheVariants.{TooLong};
+ghost use Rattle.fz_meaning.specs.of_syntax.declared.Constraint as the_constraint;
+ghost use Rattle.fz_meaning.specs.of_syntax.declared.Decl as the_decl;
+ghost use Rattle.fz_meaning.specs.of_syntax.declared.Predicate as the_predicate;
 ghost use Rattle.fz_meaning.specs.FirstFault.{decl_fault, decls_fault};
 ghost use Rattle.fz_meaning.specs.Meaning.{first_some};
 ghost use Rattle.fz_meaning.specs.View.{located_constraint, located_decl};
@@ -27,8 +27,8 @@ use crate::parts::Posted;
 use crate::posting::{goal_of, post};
 use crate::scope::Scope;
 use fz_meaning::ModelError;
+use fz_meaning::fz_syntax::{Constraint, Decl, Items, SyntaxError};
 use fz_store::Store;
-use fz_syntax::{Constraint, Decl, Items, SyntaxError};
 use std::alloc::Global;
 
 /// The items after the predicates. A predicate adds nothing to a model.

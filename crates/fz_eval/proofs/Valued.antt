@@ -24,12 +24,12 @@ use Rattle.fz_meaning.specs.Meaning.Argument.{One, ListOf}
 use Rattle.fz_meaning.proofs.Lists.{all_append}
 use Rattle.fz_meaning.proofs.Scope.{same_kind_is}
 use Rattle.fz_meaning.proofs.Values.{no, and_first, and_second}
-use Rattle.fz_data.specs.declared.parts.Variable.{Variable}
-use Rattle.fz_data.specs.Kinds.{TermFits, PlaceFits, ArgumentFits, PostedFits}
-use Rattle.fz_data.specs.declared.point.PointParts.{PointParts}
-use Rattle.fz_data.specs.declared.point.PointParts.TheVariants as parts
-use Rattle.fz_data.specs.Parts.{constraint_view, variable_view}
-use Rattle.fz_data.specs.Shown.{IfConstraint}
+use Rattle.fz_builtins.specs.of_data.declared.parts.Variable.{Variable}
+use Rattle.fz_builtins.specs.of_data.Kinds.{TermFits, PlaceFits, ArgumentFits, PostedFits}
+use Rattle.fz_builtins.specs.of_data.declared.point.PointParts.{PointParts}
+use Rattle.fz_builtins.specs.of_data.declared.point.PointParts.TheVariants as parts
+use Rattle.fz_builtins.specs.of_data.Parts.{constraint_view, variable_view}
+use Rattle.fz_builtins.specs.of_data.Shown.{IfConstraint}
 use Rattle.fz_builtins.specs.of_view.Given.{is_read, argument_is_read, are_read}
 use Rattle.fz_builtins.proofs.of_view.Ready.{slots_are_terms}
 use Rattle.fz_eval.specs.Holding.{is_held, point_holds}

@@ -1,6 +1,9 @@
 pub mod Holding
 pub mod Whole
 pub mod Overviews
-pub use Rattle.fz_builtins.specs.Readings
-pub use Rattle.fz_builtins.specs.Outcomes
-pub use Rattle.fz_builtins.specs.of_view
+pub mod Left
+pub mod Counted
+pub mod Forced
+pub mod Kinds
+pub mod Openings
+pub use Rattle.fz_builtins.specs.of_data

@@ -5,7 +5,7 @@ ghost use Rattle.std.specs.List.{list_any};
 ghost use Rattle.fz_meaning.specs.Meaning.{have_shapes, row_of, state_of_row};
 ghost use Rattle.fz_meaning.specs.Builtins.{row_at};
 ghost use Rattle.fz_meaning.specs.Known.{HasTruth, known_row};
-ghost use Rattle.fz_data.specs.Parts.{constraint_view};
+ghost use Rattle.fz_builtins.specs.of_data.Parts.{constraint_view};
 ghost use Rattle.fz_builtins.specs.of_view.Given.{are_read, read_leave};
 ghost use Rattle.fz_builtins.specs.of_view.Views.{arguments_of, assigned};
 ghost use Rattle.fz_builtins.specs.Outcomes.{row_outcome};
@@ -13,8 +13,8 @@ ghost use Rattle.fz_builtins.specs.Readings.{truth};
 ghost use Rattle.fz_eval.specs.Whole.{IsReady};
 
 use fz_builtins::fz_arguments::{ArgumentView, Readiness};
+use fz_builtins::fz_data::{ConstraintParts, Partial};
 use fz_builtins::{Outcome, of_builtin, products_leave};
-use fz_data::{ConstraintParts, Partial};
 use fz_meaning::{Form, Known, State};
 use std::alloc::{AllocError, Global};
 

@@ -6,12 +6,12 @@ ghost use Rattle.std.specs.FinSet as sets;
 ghost use Rattle.fz_meaning.specs.declared.state.State.TheVariants.{Fails};
 ghost use Rattle.fz_meaning.specs.Values.{same_value};
 ghost use Rattle.fz_meaning.specs.Meaning.{admits, both, inside, is_outside, judged, judged_by, values};
-ghost use Rattle.fz_data.specs.Shown.{scalar_terms};
-ghost use Rattle.fz_data.specs.Slots.{scalar_term, slot_term};
+ghost use Rattle.fz_builtins.specs.of_data.Shown.{scalar_terms};
+ghost use Rattle.fz_builtins.specs.of_data.Slots.{scalar_term, slot_term};
 ghost use Rattle.fz_builtins.specs.of_view.Given.{has_value};
 
 use fz_base::{IntSet, Value};
-use fz_data::{Partial, Scalar, Scalars, scalar_at};
+use fz_builtins::fz_data::{Partial, Scalar, Scalars, scalar_at};
 use fz_meaning::{Domain, State};
 
 fn judged(holds: bool) -> State

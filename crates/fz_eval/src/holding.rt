@@ -10,7 +10,7 @@ ghost use Rattle.fz_eval.specs.Whole.{lie_inside};
 use crate::overview::Overview;
 use crate::points::{of_point, state};
 use crate::whole::lie_inside;
-use fz_data::{Model, Partial};
+use fz_builtins::fz_data::{Model, Partial};
 use fz_meaning::State;
 use std::alloc::{AllocError, Global};
 
@@ -105,8 +105,8 @@ fn rest_holds(
     Ok(true)
 }
 
-/// Whether all points hold under a partial assignment. It takes memory for long lists of
-/// `fzn_all_different_int` alone, and refuses only where there is none.
+/// Whether all points hold under a partial assignment. It takes memory where `state` does, and
+/// refuses only where there is none.
 pub fn all_hold(
     alloc: Global,
     model: &Model<'_>,

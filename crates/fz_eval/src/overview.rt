@@ -3,11 +3,11 @@
 
 ghost use Rattle.std.specs.Prelude.{◌≡◌, ◌≤◌, IfOk, length, take};
 ghost use Rattle.fz_meaning.specs.Meaning.{points};
-ghost use Rattle.fz_data.specs.Shown.{point_view};
+ghost use Rattle.fz_builtins.specs.of_data.Shown.{point_view};
 ghost use Rattle.fz_eval.specs.Overviews.{IsOverview, others_from};
 ghost use Rattle.fz_eval.specs.Whole.{is_domain};
 
-use fz_data::{Model, PointParts};
+use fz_builtins::fz_data::{Model, PointParts};
 use std::alloc::{AllocError, Global};
 
 /// A model's declarations, prepared for `all_hold`.

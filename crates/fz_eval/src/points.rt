@@ -3,13 +3,13 @@
 ghost use Rattle.std.specs.Prelude.{◌≡◌, ◌<◌, IfOk, IsTrue, Some, length, option_map, slice_get};
 ghost use Rattle.fz_meaning.specs.Known.{known_row};
 ghost use Rattle.fz_meaning.specs.Meaning.{Point, points, row_of, state};
-ghost use Rattle.fz_data.specs.Parts.{constraint_view};
-ghost use Rattle.fz_data.specs.Shown.{IfConstraint, point_view};
+ghost use Rattle.fz_builtins.specs.of_data.Parts.{constraint_view};
+ghost use Rattle.fz_builtins.specs.of_data.Shown.{IfConstraint, point_view};
 ghost use Rattle.fz_eval.specs.Whole.{IsReady};
 
 use crate::constraints::of_constraint;
 use crate::domains::{of_definition, of_domain, of_elements};
-use fz_data::{Model, Partial, PointParts};
+use fz_builtins::fz_data::{Model, Partial, PointParts};
 use fz_meaning::State;
 use std::alloc::{AllocError, Global};
 
@@ -38,8 +38,9 @@ pub(crate) fn of_point(
     }
 }
 
-/// The state of the point of a number, from 0, under a partial assignment. It takes memory for long
-/// lists of `fzn_all_different_int` alone, and refuses only where there is none.
+/// The state of the point of a number, from 0, under a partial assignment. Rows that compare or
+/// sort many values take memory (all different, counts of values, cardinality, sorting, chains of
+/// precedence, subcircuits, partitions); it refuses only where there is none.
 #[inline]
 pub fn state(
     alloc: Global,

@@ -1,9 +1,9 @@
 -- Notes that are made one after another.
 use Rattle.std.proofs.Common.{◌≡◌, ◌<◌, ◌+◌, ◌-◌, ℕ, List, [], ◌∷◌, ◌++◌, take, drop, length, min, slice_index_or, sym, ap, subst, ◌∙◌, arith}
 use Rattle.std.proofs.lemmas.List.{append_assoc, drop_min, length-drop, take_all, take_min, take_more}
-use Rattle.fz_syntax.specs.declared.Ast.{Ast}
+use Rattle.fz_filling.specs.of_syntax.declared.Ast.{Ast}
 use Rattle.fz_message.specs.declared.note.Note.{Note}
-use Rattle.fz_model.specs.Meaning.{Model}
+use Rattle.fz_filling.specs.of_model.Meaning.{Model}
 use Rattle.fz_explain.specs.Notes.{AreNotesOf, IsVariableNote}
 use Rattle.fz_explain.specs.declared.explained.Explained.{Explained}
 

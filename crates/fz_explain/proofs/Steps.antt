@@ -2,13 +2,13 @@
 -- value is taken and given back.
 use Rattle.std.proofs.Common.{◌≡◌, ◌<◌, ℕ, zero, suc, List, [], ◌∷◌, Some, None, length, slice_get, subst, sym, ap, arith, refl}
 use Rattle.fz_base.specs.declared.value.Value.{Value}
-use Rattle.fz_model.specs.declared.Term.TheVariants.{Var}
-use Rattle.fz_model.specs.Meaning.{Model, Partial, Point, give, points, value_at}
-use Rattle.fz_model.specs.Partial.{without}
-use Rattle.fz_model.specs.Steps.{Gives}
-use Rattle.fz_model.proofs.Lists.{at_place}
-use Rattle.fz_model.proofs.Points.{points_fit}
-use Rattle.fz_model.proofs.Steps.{PointFits}
+use Rattle.fz_filling.specs.of_model.declared.Term.TheVariants.{Var}
+use Rattle.fz_filling.specs.of_model.Meaning.{Model, Partial, Point, give, points, value_at}
+use Rattle.fz_filling.specs.of_model.Partial.{without}
+use Rattle.fz_filling.specs.of_model.Steps.{Gives}
+use Rattle.fz_filling.proofs.of_model.Lists.{at_place}
+use Rattle.fz_filling.proofs.of_model.Points.{points_fit}
+use Rattle.fz_filling.proofs.of_model.Steps.{PointFits}
 use Rattle.fz_filling.proofs.Reordering.{step_value}
 
 pub record SameStep (n j : ℕ) (v u : Value) : Type 0 where

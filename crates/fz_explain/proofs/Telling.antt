@@ -2,9 +2,9 @@
 use Rattle.std.proofs.Common.{◌≡◌, ◌<◌, ◌+◌, ℕ, List, [], ◌∷◌, ◌++◌, map, length, take, slice_index_or, sym, ap, subst, subst₂, ◌∙◌}
 use Rattle.std.specs.List.{AllByRecursion}
 use Rattle.std.proofs.lemmas.List.{map-append, take_more}
-use Rattle.fz_model.specs.Meaning.{Model, Partial}
-use Rattle.fz_model.proofs.Lists.{all_append}
-use Rattle.fz_verdict.specs.Blocks.{Printed}
+use Rattle.fz_filling.specs.of_model.Meaning.{Model, Partial}
+use Rattle.fz_filling.proofs.of_model.Lists.{all_append}
+use Rattle.fz_filling.specs.of_verdict.Blocks.{Printed}
 use Rattle.fz_explain.specs.Explained.{IsTold}
 use Rattle.fz_explain.specs.declared.explained.Explained.{Explained}
 

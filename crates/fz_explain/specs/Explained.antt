@@ -1,7 +1,7 @@
 -- What an explanation says of variables (this project's profile).
 use Rattle.std.specs.Prelude.{◌≡◌, ◌-◌, ℕ, List, ◌++◌, length, take, drop, cond, nat_le}
-use Rattle.fz_model.specs.Meaning.{Model, Partial, value_at}
-use Rattle.fz_verdict.specs.Blocks.{Printed}
+use Rattle.fz_filling.specs.of_model.Meaning.{Model, Partial, value_at}
+use Rattle.fz_filling.specs.of_verdict.Blocks.{Printed}
 use Rattle.fz_explain.specs.Sources.{IsSourceOf}
 use Rattle.fz_explain.specs.declared.explained.Explained.{Explained}
 

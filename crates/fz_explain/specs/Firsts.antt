@@ -1,8 +1,8 @@
 -- The first point of a model, in the model's order, with a property (this project's profile).
 use Rattle.std.specs.Prelude.{◌≡◌, ◌<◌, ℕ, Some, slice_get}
 use Rattle.fz_base.specs.declared.value.Value.{Value}
-use Rattle.fz_model.specs.Meaning.{Model, Partial, Point, points}
-use Rattle.fz_model.specs.Steps.{Gives}
+use Rattle.fz_filling.specs.of_model.Meaning.{Model, Partial, Point, points}
+use Rattle.fz_filling.specs.of_model.Steps.{Gives}
 
 -- no point with a number below this one has the property
 abbrev pub NoneBefore : Model → (Point → Type 0) → ℕ → Type 0

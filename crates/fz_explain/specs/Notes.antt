@@ -2,8 +2,8 @@
 use Rattle.std.specs.Prelude.{◌≡◌, ℕ, zero, suc, List, [], ◌∷◌, ◌++◌, Option, Some, None, drop, encode_utf8_all, option_map, slice_get, string_bytes, take}
 use Rattle.std.specs.Option.{MatchOption, option_map_or}
 use Rattle.fz_base.specs.declared.value.Value.{Value}
-use Rattle.fz_places.specs.Lines.{line_ends}
-use Rattle.fz_syntax.specs.declared.Ast.{Ast}
+use Rattle.fz_message.specs.of_places.Lines.{line_ends}
+use Rattle.fz_filling.specs.of_syntax.declared.Ast.{Ast}
 use Rattle.fz_message.specs.Columns.{shown}
 use Rattle.fz_message.specs.Values.{IsShownSet, IsShownValue}
 use Rattle.fz_message.specs.declared.note.Note.{Note}
@@ -11,13 +11,13 @@ use Rattle.fz_message.specs.declared.note.Note.TheVariants as notes
 use Rattle.fz_message.specs.declared.note.Origin.{Origin}
 use Rattle.fz_message.specs.declared.note.Origin.TheVariants as origins
 use Rattle.fz_message.specs.declared.values.ShownValue.{ShownValue}
-use Rattle.fz_model.specs.Meaning.{Model, Point, points, shown_point, variables_of}
-use Rattle.fz_model.specs.Meaning.Point.{DomainPoint, DefinitionPoint, ArrayPoint, ConstraintPoint}
-use Rattle.fz_model.specs.Shown.{point_name}
-use Rattle.fz_model.specs.declared.Domain.{Domain}
-use Rattle.fz_model.specs.declared.Domain.TheVariants.{All, Within, Among}
-use Rattle.fz_model.specs.declared.Point as told
-use Rattle.fz_model.specs.declared.Point.TheVariants as told_points
+use Rattle.fz_filling.specs.of_model.Meaning.{Model, Point, points, shown_point, variables_of}
+use Rattle.fz_filling.specs.of_model.Meaning.Point.{DomainPoint, DefinitionPoint, ArrayPoint, ConstraintPoint}
+use Rattle.fz_filling.specs.of_model.Shown.{point_name}
+use Rattle.fz_filling.specs.of_model.declared.Domain.{Domain}
+use Rattle.fz_filling.specs.of_model.declared.Domain.TheVariants.{All, Within, Among}
+use Rattle.fz_filling.specs.of_model.declared.Point as told
+use Rattle.fz_filling.specs.of_model.declared.Point.TheVariants as told_points
 use Rattle.fz_explain.specs.Spots.{point_place}
 use Rattle.fz_explain.specs.declared.explained.Explained.{Explained}
 use Rattle.fz_explain.specs.declared.explained.Explanation.{Explanation}

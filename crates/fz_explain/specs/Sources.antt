@@ -3,12 +3,12 @@ use Rattle.std.specs.Prelude.{◌≡◌, ℕ, Bool, false, true, cond, List, [],
 use Rattle.std.specs.List.{list_any}
 use Rattle.std.specs.Option.{option_map_or}
 use Rattle.fz_base.specs.declared.value.Value.{Value}
-use Rattle.fz_model.specs.Meaning.{Model, Partial, Point, find_name, terms_at, value_at}
-use Rattle.fz_model.specs.Partial.{without}
-use Rattle.fz_model.specs.Steps.{terms_of}
-use Rattle.fz_model.specs.declared.Term.{Term}
-use Rattle.fz_model.specs.declared.Term.TheVariants.{Var, Fixed}
-use Rattle.fz_verdict.specs.Blocks.{Printed}
+use Rattle.fz_filling.specs.of_model.Meaning.{Model, Partial, Point, find_name, terms_at, value_at}
+use Rattle.fz_filling.specs.of_model.Partial.{without}
+use Rattle.fz_filling.specs.of_model.Steps.{terms_of}
+use Rattle.fz_filling.specs.of_model.declared.Term.{Term}
+use Rattle.fz_filling.specs.of_model.declared.Term.TheVariants.{Var, Fixed}
+use Rattle.fz_filling.specs.of_verdict.Blocks.{Printed}
 use Rattle.fz_explain.specs.Firsts.{GivesIt, IsFirst, NoPoint}
 use Rattle.fz_explain.specs.declared.source.Source.{Source}
 use Rattle.fz_explain.specs.declared.source.Source.TheVariants as sources

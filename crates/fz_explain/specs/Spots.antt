@@ -2,11 +2,11 @@
 -- project's profile).
 use Rattle.std.specs.Prelude.{ℕ, ◌-◌, Option, map, option_map, slice_get}
 use Rattle.fz_base.specs.declared.span.Span.{Span}
-use Rattle.fz_syntax.specs.declared.Ast.{Ast}
-use Rattle.fz_model.specs.Names.{declaration}
-use Rattle.fz_model.specs.View.{located_decl}
-use Rattle.fz_model.specs.declared.Point.{Point}
-use Rattle.fz_model.specs.declared.Point.TheVariants as points
+use Rattle.fz_filling.specs.of_syntax.declared.Ast.{Ast}
+use Rattle.fz_filling.specs.of_model.Names.{declaration}
+use Rattle.fz_filling.specs.of_model.View.{located_decl}
+use Rattle.fz_filling.specs.of_model.declared.Point.{Point}
+use Rattle.fz_filling.specs.of_model.declared.Point.TheVariants as points
 
 abbrev pub point_place : Ast → Point → Option Span
 point_place a (points.Domain x) =

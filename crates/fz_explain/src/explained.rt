@@ -2,14 +2,14 @@
 
 ghost use Rattle.std.specs.Prelude.{◌≡◌, ◌-◌, IfOk, length, map};
 ghost use Rattle.std.specs.List.{AllByRecursion};
-ghost use Rattle.fz_model.specs.Meaning.{IsPartial};
-ghost use Rattle.fz_verdict.specs.View.{located_items};
+ghost use Rattle.fz_filling.specs.of_model.Meaning.{IsPartial};
+ghost use Rattle.fz_filling.specs.of_verdict.View.{located_items};
 ghost use Rattle.fz_explain.specs.Explained.{IsTold, shortened};
 
 use crate::source::{Source, source_of};
 use fz_base::Value;
-use fz_model::{Model, Partial};
-use fz_syntax::Printed;
+use fz_filling::fz_model::{Model, Partial};
+use fz_filling::fz_syntax::Printed;
 use std::alloc::{AllocError, Global};
 
 /// The most variables of an explanation.

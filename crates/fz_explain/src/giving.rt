@@ -2,13 +2,13 @@
 
 ghost use Rattle.std.specs.Prelude.{◌≡◌, ◌<◌, ◌↔◌, IfOk, IfSome, IsFalse, IsNone, IsTrue, Some, length, slice_get};
 ghost use Rattle.fz_base.specs.declared.value.Value.{Value};
-ghost use Rattle.fz_model.specs.Meaning.{IsPartial, Point, points, value_at};
-ghost use Rattle.fz_model.specs.Partial.{without};
-ghost use Rattle.fz_model.specs.Steps.{Gives};
+ghost use Rattle.fz_filling.specs.of_model.Meaning.{IsPartial, Point, points, value_at};
+ghost use Rattle.fz_filling.specs.of_model.Partial.{without};
+ghost use Rattle.fz_filling.specs.of_model.Steps.{Gives};
 ghost use Rattle.fz_explain.specs.Firsts.{GivesIt, IsFirst, NoPoint};
 
 use fz_base::Value;
-use fz_model::{Model, Partial, forced};
+use fz_filling::fz_model::{Model, Partial, forced};
 use std::alloc::{AllocError, Global};
 
 /// The number of the first point that gives a variable this value.

@@ -1,17 +1,17 @@
 //! An explanation of variables as notes of a message.
 
 ghost use Rattle.std.specs.Prelude.{◌≡◌, ◌<◌, ◌++◌, List, IfOk, OnOk, length, slice_get};
-ghost use Rattle.fz_model.specs.Meaning.{Point as ModelPoint, points};
+ghost use Rattle.fz_filling.specs.of_model.Meaning.{Point as ModelPoint, points};
 ghost use Rattle.fz_message.specs.declared.note.Note.{Note};
 ghost use Rattle.fz_explain.specs.Notes.{AreNotesOf, AreNotesOfAll, IsBoundsNote, IsDomainNote, IsOriginAt, IsOriginOf, IsVariableNote, left_out_notes, line_of, name_at};
 
 use crate::explained::{Explained, Explanation, FIRST_VARIABLES};
 use crate::place::point_place;
 use crate::source::Source;
+use fz_filling::fz_model::{Domain, Model, Point, PointParts};
+use fz_filling::fz_syntax::Ast;
+use fz_message::fz_places::spot_of;
 use fz_message::{Note, Origin, shown_set, shown_text, shown_value};
-use fz_model::{Domain, Model, Point, PointParts};
-use fz_places::spot_of;
-use fz_syntax::Ast;
 use std::alloc::{AllocError, Global};
 
 /// A model with the tree and the text that it was loaded from.

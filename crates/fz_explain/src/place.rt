@@ -1,13 +1,13 @@
 //! The byte range of a point's name.
 
 ghost use Rattle.std.specs.Prelude.{◌≡◌, ◌-◌, map, option_map, slice_get};
-ghost use Rattle.fz_model.specs.Names.{declaration};
-ghost use Rattle.fz_model.specs.View.{located_decl};
+ghost use Rattle.fz_filling.specs.of_model.Names.{declaration};
+ghost use Rattle.fz_filling.specs.of_model.View.{located_decl};
 ghost use Rattle.fz_explain.specs.Spots.{point_place};
 
 use fz_base::Span;
-use fz_model::Point;
-use fz_syntax::Ast;
+use fz_filling::fz_model::Point;
+use fz_filling::fz_syntax::Ast;
 
 /// The byte range of the predicate of the constraint with this number, from 1.
 fn constraint_place(ast: &Ast<'_>, number: usize) -> Option<Span>

@@ -3,14 +3,14 @@
 ghost use Rattle.std.specs.Prelude.{◌≡◌, false};
 ghost use Rattle.std.specs.List.{list_any};
 ghost use Rattle.std.specs.Option.{option_map_or};
-ghost use Rattle.fz_model.specs.Meaning.{find_name, terms_at};
-ghost use Rattle.fz_model.specs.Shown.{scalar_terms};
-ghost use Rattle.fz_model.specs.Slots.{scalar_term};
-ghost use Rattle.fz_verdict.specs.View.{located_items};
+ghost use Rattle.fz_filling.specs.of_model.Meaning.{find_name, terms_at};
+ghost use Rattle.fz_filling.specs.of_model.Shown.{scalar_terms};
+ghost use Rattle.fz_filling.specs.of_model.Slots.{scalar_term};
+ghost use Rattle.fz_filling.specs.of_verdict.View.{located_items};
 ghost use Rattle.fz_explain.specs.Sources.{is_variable, prints};
 
-use fz_model::{Model, Scalar, Scalars, What, scalar_at};
-use fz_syntax::Printed;
+use fz_filling::fz_model::{Model, Scalar, Scalars, What, scalar_at};
+use fz_filling::fz_syntax::Printed;
 
 /// Whether a scalar is this variable.
 fn is_variable(scalar: Scalar<'_>, variable: usize) -> bool

@@ -1,14 +1,14 @@
 //! Where the value of a variable comes from.
 
 ghost use Rattle.std.specs.Prelude.{◌≡◌, IfOk};
-ghost use Rattle.fz_model.specs.Meaning.{IsPartial};
-ghost use Rattle.fz_verdict.specs.View.{located_items};
+ghost use Rattle.fz_filling.specs.of_model.Meaning.{IsPartial};
+ghost use Rattle.fz_filling.specs.of_verdict.View.{located_items};
 ghost use Rattle.fz_explain.specs.Sources.{IsSourceOf};
 
 use crate::giving::giver;
 use crate::printing::is_printed;
-use fz_model::{Model, Partial};
-use fz_syntax::Printed;
+use fz_filling::fz_model::{Model, Partial};
+use fz_filling::fz_syntax::Printed;
 use std::alloc::{AllocError, Global};
 
 /// Where the value of a variable comes from.

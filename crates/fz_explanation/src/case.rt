@@ -26,11 +26,12 @@ pub fn source_behind<'a>(name: &'a str, bytes: &'a [u8], passed: Passed) -> Sour
     }
 }
 
-/// A verdict to be explained: what the report says of the block, behind the block's number, and the
-/// sources.
+/// A verdict to be explained: what the report says of the block, behind the block's number, whether
+/// missing values were looked for, and the sources.
 #[derive(Clone, Copy)]
 pub struct Case<'a> {
     pub said: &'a [u8],
+    pub completes: bool,
     pub model: Source<'a>,
     pub stream: &'a str,
     pub told: &'a Told,
@@ -178,9 +179,7 @@ fn point_explanation(
     if let Some(place) = too_large_at(alloc, reading.model, filling, point)? {
         message.notes.push(Note::LeavesAt(place))?;
     }
-    if let Some(help) = help_for(case.said) {
-        message.notes.push(Note::Help(help))?;
-    }
+    push_help(alloc, reading, &mut message.notes)?;
     Ok(Some(message))
 }
 
@@ -217,16 +216,50 @@ fn variables_message(
     Ok(Some(message))
 }
 
-/// What to do about a block that is undecided.
-fn help_for(said: &[u8]) -> Option<Help> {
+/// Adds what to do about a block that is undecided.
+fn push_help(
+    alloc: Global,
+    reading: &Reading<'_, '_>,
+    notes: &mut Vec<Note>,
+) -> Result<(), AllocError> {
+    let said = reading.case.said;
     if said.starts_with(b"undecided: no value for ") {
-        return Some(Help::PrintAll);
+        return push_help_on_value(alloc, reading, notes);
     }
     if said.ends_with(b" not known") {
-        return Some(Help::UseLibrary);
+        notes.push(Note::Help(Help::UseLibrary))?;
     }
     if said.ends_with(b" too large") {
-        return Some(Help::TightenDomains);
+        notes.push(Note::Help(Help::TightenDomains))?;
+    }
+    Ok(())
+}
+
+/// The same, of a block that lacks a value. A constraint that isn't known is mostly the cause, so
+/// the first one of the model is named.
+fn push_help_on_value(
+    alloc: Global,
+    reading: &Reading<'_, '_>,
+    notes: &mut Vec<Note>,
+) -> Result<(), AllocError> {
+    if let Some((number, name)) = first_unknown(reading.model) {
+        notes.push(Note::NotKnown(number, shown_text(alloc, name)?))?;
+        notes.push(Note::Help(Help::UseLibrary))?;
+    }
+    let help = if reading.case.completes {
+        Help::PrintAll
+    } else {
+        Help::LookForIt
+    };
+    Ok(notes.push(Note::Help(help))?)
+}
+
+/// The number, from 1, and the name of the first constraint that isn't known.
+fn first_unknown<'a>(model: &Model<'a>) -> Option<(usize, &'a [u8])> {
+    for (index, posted) in model.constraints().posted.iter().enumerate() {
+        if posted.known.is_none() {
+            return Some((index + 1, posted.name));
+        }
     }
     None
 }

@@ -3,17 +3,17 @@ use Rattle.std.proofs.Common.{◌≡◌, ◌||◌, ℕ, suc, zero, pos, negsuc, 
 use Rattle.std.specs.List.{AllByRecursion, list_any}
 use Rattle.fz_base.specs.declared.value.Value.{Value}
 use Rattle.fz_base.specs.declared.value.Value.TheVariants.{Int}
-use Rattle.fz_model.specs.Builtins.{Row, Result, leaves_128}
-use Rattle.fz_model.specs.Builtins.ArgValue.{OneValue, ManyValues}
-use Rattle.fz_model.specs.Builtins.Result.{NoResult, Places, UnitTerm}
-use Rattle.fz_model.specs.declared.Term.{Term}
-use Rattle.fz_model.specs.declared.Term.TheVariants.{Var, Fixed}
-use Rattle.fz_model.specs.Meaning.{Argument, Model, Point, Partial, value, values, value_at, give, option_cons, terms_in, argument_value, argument_values, row_of, row_holds, HoldsUnder, inside, as_int, product_before, known_products, products_leave, sums_leave, terms_at_argument}
-use Rattle.fz_model.specs.Meaning.Place.{Scalar, Array}
-use Rattle.fz_model.specs.Meaning.Argument.{One, ListOf}
-use Rattle.fz_model.specs.Meaning.Point.{DomainPoint, DefinitionPoint, ArrayPoint, ConstraintPoint}
-use Rattle.fz_model.proofs.Lists.{all_left, all_right}
-use Rattle.fz_model.specs.Steps.{Gives, IsResult, IsTarget, SumsFit, HasUnitCoefficient, terms_of, open_terms}
+use Rattle.fz_verdict.specs.of_model.Builtins.{Row, Result, leaves_128}
+use Rattle.fz_verdict.specs.of_model.Builtins.ArgValue.{OneValue, ManyValues}
+use Rattle.fz_verdict.specs.of_model.Builtins.Result.{NoResult, Places, UnitTerm}
+use Rattle.fz_verdict.specs.of_model.declared.Term.{Term}
+use Rattle.fz_verdict.specs.of_model.declared.Term.TheVariants.{Var, Fixed}
+use Rattle.fz_verdict.specs.of_model.Meaning.{Argument, Model, Point, Partial, value, values, value_at, give, option_cons, terms_in, argument_value, argument_values, row_of, row_holds, HoldsUnder, inside, as_int, product_before, known_products, products_leave, sums_leave, terms_at_argument}
+use Rattle.fz_verdict.specs.of_model.Meaning.Place.{Scalar, Array}
+use Rattle.fz_verdict.specs.of_model.Meaning.Argument.{One, ListOf}
+use Rattle.fz_verdict.specs.of_model.Meaning.Point.{DomainPoint, DefinitionPoint, ArrayPoint, ConstraintPoint}
+use Rattle.fz_verdict.proofs.of_model.Lists.{all_left, all_right}
+use Rattle.fz_verdict.specs.of_model.Steps.{Gives, IsResult, IsTarget, SumsFit, HasUnitCoefficient, terms_of, open_terms}
 use Rattle.fz_filling.specs.Outlooks.{Agree}
 
 -- ---- values

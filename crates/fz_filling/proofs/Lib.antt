@@ -6,3 +6,7 @@ pub mod Posting
 pub mod Reordering
 pub mod Runs
 pub mod Noting
+pub use Rattle.fz_verdict.proofs as of_verdict
+pub use Rattle.fz_verdict.proofs.of_model
+pub use Rattle.fz_verdict.proofs.of_stream
+pub use Rattle.fz_verdict.proofs.of_syntax

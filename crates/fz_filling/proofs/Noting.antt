@@ -3,8 +3,8 @@
 use Rattle.std.proofs.Common.{◌≡◌, ◌<◌, ◌+◌, ℕ, suc, List, Some, length, slice_get, sym, subst, ◌∙◌}
 use borrow.Author.Count.{below_more}
 use Rattle.std.proofs.lemmas.Option.{slice_get_within}
-use Rattle.fz_model.specs.Meaning.{Model, Point, points}
-use Rattle.fz_model.specs.Steps.{IsTarget}
+use Rattle.fz_verdict.specs.of_model.Meaning.{Model, Point, points}
+use Rattle.fz_verdict.specs.of_model.Steps.{IsTarget}
 use Rattle.fz_filling.specs.Courses.{AreKept, IsNoted}
 use Rattle.fz_filling.specs.Runs.{AreLone}
 

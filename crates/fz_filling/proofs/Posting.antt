@@ -1,16 +1,17 @@
 -- The constraints of a model by the numbers of their points, and a constraint without an open
 -- target.
 use Rattle.std.proofs.Common.{◌≡◌, ℕ, zero, suc, ◌+◌, ◌-◌, ◌≤◌, true, false, List, [], ◌∷◌, ◌++◌, map, flat_map, length, Option, Some, None, is_some, slice_get, refl, sym, ap, subst, ◌∙◌, arith}
-use Rattle.std.proofs.lemmas.List.{length-append}
-use Rattle.fz_model.specs.declared.Array.{Array}
-use Rattle.fz_model.specs.declared.Posted.{Posted}
-use Rattle.fz_model.specs.declared.Store.{Store}
-use Rattle.fz_model.specs.Meaning as meaning
-use Rattle.fz_model.specs.Meaning.{Model, Partial, Point, constraint_points, declared_points, numbered, points, shown_posted as shown, value_at}
-use Rattle.fz_model.specs.Meaning.Point.{ConstraintPoint}
-use Rattle.fz_model.specs.Shown.{shown_posted}
-use Rattle.fz_model.specs.Steps.{GivesNothing, terms_of}
-use Rattle.fz_model.proofs.Steps.{only_open_none}
+use Rattle.std.proofs.lemmas.List.{length-append, length-map}
+use Rattle.fz_verdict.specs.of_model.declared.Array.{Array}
+use Rattle.fz_verdict.specs.of_model.declared.Posted.{Posted}
+use Rattle.fz_verdict.specs.of_model.declared.Store.{Store}
+use Rattle.fz_verdict.specs.of_model.declared.Variable.{Variable}
+use Rattle.fz_verdict.specs.of_model.Meaning as meaning
+use Rattle.fz_verdict.specs.of_model.Meaning.{Model, Partial, Point, constraint_points, declared_points, numbered, points, value_at}
+use Rattle.fz_verdict.specs.of_model.Meaning.Point.{ConstraintPoint}
+use Rattle.fz_verdict.specs.of_model.Parts.{posted_view}
+use Rattle.fz_verdict.specs.of_model.Steps.{GivesNothing, terms_of}
+use Rattle.fz_verdict.proofs.of_model.Steps.{only_open_none}
 use Rattle.fz_filling.specs.Stepping.{HasTarget, StandBehind, is_shut}
 
 -- ---- their points
@@ -19,36 +20,28 @@ as_many_points : (i : ℕ) (ps : List meaning.Posted) → length (constraint_poi
 as_many_points i [] = refl
 as_many_points i (p ∷ ps) = ap suc (as_many_points (suc i) ps)
 
-as_many_shown : (xs : List Array) (st : Store) (qs : List Posted) (ps : List meaning.Posted)
-    → map (shown_posted xs st) qs ≡ map shown ps → length qs ≡ length ps
-as_many_shown xs st [] [] e = refl
-as_many_shown xs st [] (p ∷ ps) e = cc
-as_many_shown xs st (q ∷ qs) [] e = cc
-as_many_shown xs st (q ∷ qs) (p ∷ ps) e = let rest : map (shown_posted xs st) qs ≡ map shown ps = cc in ap suc (as_many_shown xs st qs ps rest)
-
 behind : {A : Type 0} (xs ys : List A) (k : ℕ) → length xs ≤ k
     → slice_get (xs ++ ys) k ≡ slice_get ys (k - length xs)
 behind [] ys k h = let same : k ≡ k - 0 = omega arith in ap (λ j. slice_get ys j) same
 behind (x ∷ xs) ys zero h = absurd (omega arith)
 behind (x ∷ xs) ys (suc k) h = let same : k - length xs ≡ suc k - suc (length xs) = omega arith in behind xs ys k (omega arith) ∙ ap (λ j. slice_get ys j) same
 
-at_post : (xs : List Array) (st : Store) (i k : ℕ) (qs : List Posted) (ps : List meaning.Posted)
-    (p : Point) (q : Posted) → map (shown_posted xs st) qs ≡ map shown ps
-    → slice_get (constraint_points i ps) k ≡ Some p → slice_get qs k ≡ Some q → HasTarget p q.target
-at_post xs st i k [] ps p q e at stands = cc
-at_post xs st i k (r ∷ qs) [] p q e at stands = cc
-at_post xs st i zero (r ∷ qs) (s ∷ ps) p q e at stands =
-    let first : shown_posted xs st r ≡ shown s = cc in
-    let here : ConstraintPoint i s ≡ p = cc in
+at_post : (view : Posted → meaning.Posted) → ((r : Posted) → (view r).target ≡ r.target)
+    → (i k : ℕ) (qs : List Posted) (p : Point) (q : Posted)
+    → slice_get (constraint_points i (map view qs)) k ≡ Some p → slice_get qs k ≡ Some q
+    → HasTarget p q.target
+at_post view same_target i k [] p q at stands = cc
+at_post view same_target i zero (r ∷ qs) p q at stands =
+    let here : ConstraintPoint i (view r) ≡ p = cc in
     let same : r ≡ q = cc in
-    (i, s, sym here, sym (ap (λ z. z.target) first) ∙ ap (λ z. z.target) same)
-at_post xs st i (suc k) (r ∷ qs) (s ∷ ps) p q e at stands = let rest : map (shown_posted xs st) qs ≡ map shown ps = cc in at_post xs st (suc i) k qs ps p q rest at stands
+    (i, view r, sym here, same_target r ∙ ap (λ z. z.target) same)
+at_post view same_target i (suc k) (r ∷ qs) p q at stands = at_post view same_target (suc i) k qs p q at stands
 
-module _ (m : Model) (xs : List Array) (st : Store) (qs : List Posted) (shows : map (shown_posted xs st) qs ≡ map shown m.constraints) where
+module _ (m : Model) (vs : List Variable) (xs : List Array) (st : Store) (qs : List Posted) (are : map (posted_view vs xs st) qs ≡ m.constraints) where
   in_front : length (points m) ≡ length (flat_map declared_points (numbered m)) + length qs
   in_front =
       let many : length (points m) ≡ length (flat_map declared_points (numbered m)) + length (constraint_points 1 m.constraints) = length-append (flat_map declared_points (numbered m)) (constraint_points 1 m.constraints) in
-      many ∙ ap (λ n. length (flat_map declared_points (numbered m)) + n) (as_many_points 1 m.constraints ∙ sym (as_many_shown xs st qs m.constraints shows))
+      many ∙ ap (λ n. length (flat_map declared_points (numbered m)) + n) (as_many_points 1 m.constraints ∙ ap length (sym are) ∙ length-map qs (posted_view vs xs st))
 
   pub no_more_posts : length qs ≤ length (points m)
   no_more_posts = let all = in_front in omega arith
@@ -57,8 +50,8 @@ module _ (m : Model) (xs : List Array) (st : Store) (qs : List Posted) (shows : 
   stand_behind before count k p q above at stands =
       let all : length (points m) ≡ length (flat_map declared_points (numbered m)) + length qs = in_front in
       let same : length (flat_map declared_points (numbered m)) ≡ before = omega arith in
-      at_post xs st 1 (k - before) qs m.constraints p q shows
-      (ap (λ n. slice_get (constraint_points 1 m.constraints) (k - n)) (sym same) ∙ sym (behind (flat_map declared_points (numbered m)) (constraint_points 1 m.constraints) k (omega arith)) ∙ at) stands
+      at_post (posted_view vs xs st) (λ r. refl) 1 (k - before) qs p q
+      (ap (λ ps. slice_get (constraint_points 1 ps) (k - before)) are ∙ ap (λ n. slice_get (constraint_points 1 m.constraints) (k - n)) (sym same) ∙ sym (behind (flat_map declared_points (numbered m)) (constraint_points 1 m.constraints) k (omega arith)) ∙ at) stands
 
 -- ---- no open target
 

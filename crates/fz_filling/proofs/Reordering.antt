@@ -2,12 +2,12 @@
 -- points can change places.
 use Rattle.std.proofs.Common.{◌≡◌, ℕ, suc, zero, true, false, cond, List, [], ◌∷◌, Option, Some, None, refl, sym, ap, subst, ◌∙◌, is_none}
 use Rattle.fz_base.specs.declared.value.Value.{Value}
-use Rattle.fz_model.specs.declared.Term.{Term}
-use Rattle.fz_model.specs.declared.Term.TheVariants.{Var}
-use Rattle.fz_model.specs.Values.{kind_of}
-use Rattle.fz_model.specs.Meaning.{Model, Point, Partial, value, value_at, give}
-use Rattle.fz_model.specs.Steps.{Gives, open_terms, terms_of}
-use Rattle.fz_model.proofs.Steps.{PointFits, only_value, only_open_none, value_at_other, filter-none, is_open}
+use Rattle.fz_verdict.specs.of_model.declared.Term.{Term}
+use Rattle.fz_verdict.specs.of_model.declared.Term.TheVariants.{Var}
+use Rattle.fz_verdict.specs.of_model.Values.{kind_of}
+use Rattle.fz_verdict.specs.of_model.Meaning.{Model, Point, Partial, value, value_at, give}
+use Rattle.fz_verdict.specs.of_model.Steps.{Gives, open_terms, terms_of}
+use Rattle.fz_verdict.proofs.of_model.Steps.{PointFits, only_value, only_open_none, value_at_other, filter-none, is_open}
 use Rattle.fz_verdict.specs.Filling.{HasAllOf}
 use Rattle.fz_verdict.proofs.Chain.{value_under}
 use Rattle.fz_filling.specs.Outlooks.{Agree, IsLater, IsOpen}

@@ -3,13 +3,13 @@ use Rattle.std.proofs.Common.{◌≡◌, ℕ, suc, zero, ◌+◌, ◌-◌, ◌�
 use Rattle.std.specs.List.{AllByRecursion, enumerate_from}
 use Rattle.std.proofs.lemmas.Bool.{cases_eq}
 use Rattle.fz_base.specs.declared.value.Value.{Value}
-use Rattle.fz_model.specs.declared.Term.{Term}
-use Rattle.fz_model.specs.declared.Term.TheVariants.{Var, Fixed}
-use Rattle.fz_model.specs.Meaning.{Model, Point, Partial, value_at, give, points}
-use Rattle.fz_model.specs.Steps.{Gives, GivesNothing, open_terms, terms_of}
-use Rattle.fz_model.proofs.Lists.{all_append, all_right, all_drop, all_take, at_place}
-use Rattle.fz_model.proofs.Points.{points_fit}
-use Rattle.fz_model.proofs.Steps.{PointFits, only_open_none}
+use Rattle.fz_verdict.specs.of_model.declared.Term.{Term}
+use Rattle.fz_verdict.specs.of_model.declared.Term.TheVariants.{Var, Fixed}
+use Rattle.fz_verdict.specs.of_model.Meaning.{Model, Point, Partial, value_at, give, points}
+use Rattle.fz_verdict.specs.of_model.Steps.{Gives, GivesNothing, open_terms, terms_of}
+use Rattle.fz_verdict.proofs.of_model.Lists.{all_append, all_right, all_drop, all_take, at_place}
+use Rattle.fz_verdict.proofs.of_model.Points.{points_fit}
+use Rattle.fz_verdict.proofs.of_model.Steps.{PointFits, only_open_none}
 use Rattle.fz_verdict.specs.Filling.{IsFirstStep, Chain, counted_from}
 use Rattle.fz_verdict.specs.Filling.Chain.{Ends, Step}
 use Rattle.fz_filling.specs.Outlooks.{IsLater, IsOpen}
@@ -17,7 +17,7 @@ use Rattle.fz_filling.specs.Stepping.{NoneGives, IsStepAhead}
 use Rattle.fz_filling.specs.Runs.{Run, AreLone}
 use Rattle.fz_filling.specs.Runs.Run.{Stays, Goes}
 use Rattle.fz_filling.proofs.Keeping.{same_later, none_and_one}
-use Rattle.fz_model.proofs.Lists.{there_is}
+use Rattle.fz_verdict.proofs.of_model.Lists.{there_is}
 use Rattle.fz_filling.proofs.Stepping.{ahead_is_first, wrapped_is_first, no_first}
 use Rattle.fz_filling.proofs.Reordering.{then_later, given_later, still_open, swapped, later_gives, gives_before, gives_after, step_value}
 

@@ -4,13 +4,13 @@ use Rattle.std.specs.List.{AllByRecursion}
 use Rattle.std.proofs.lemmas.Bool.{cases_lt}
 use Rattle.std.proofs.lemmas.Option.{slice_get_within}
 use Rattle.fz_base.specs.declared.value.Value.{Value}
-use Rattle.fz_model.specs.Meaning.{Model, Point, Partial, give, value_at, variables_of, points, IsPartial}
-use Rattle.fz_model.specs.Partial.{unset_count}
-use Rattle.fz_model.specs.Steps.{Gives, GivesNothing, terms_of}
-use Rattle.fz_model.specs.Values.{kind_of}
-use Rattle.fz_model.proofs.Lists.{there_is}
-use Rattle.fz_model.proofs.Partials.{give_fits, has_place}
-use Rattle.fz_model.proofs.Steps.{only_open_none}
+use Rattle.fz_verdict.specs.of_model.Meaning.{Model, Point, Partial, give, value_at, variables_of, points, IsPartial}
+use Rattle.fz_verdict.specs.of_model.Partial.{unset_count}
+use Rattle.fz_verdict.specs.of_model.Steps.{Gives, GivesNothing, terms_of}
+use Rattle.fz_verdict.specs.of_model.Values.{kind_of}
+use Rattle.fz_verdict.proofs.of_model.Lists.{there_is}
+use Rattle.fz_verdict.proofs.of_model.Partials.{give_fits, has_place}
+use Rattle.fz_verdict.proofs.of_model.Steps.{only_open_none}
 use Rattle.fz_verdict.specs.Filling.{IsFirstStep, Chain}
 use Rattle.fz_verdict.specs.Filling.Chain.{Ends, Step}
 use Rattle.fz_verdict.proofs.Loops.{first_ahead, first_wrapped, none_gives}

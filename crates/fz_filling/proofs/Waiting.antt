@@ -2,12 +2,12 @@
 use Rattle.std.proofs.Common.{◌≡◌, ℕ, true, false, cond, List, [], ◌∷◌, Option, Some, None, refl, sym, ap, subst, ◌∙◌, is_none}
 use Rattle.std.specs.List.{AllByRecursion}
 use Rattle.fz_base.specs.declared.value.Value.{Value}
-use Rattle.fz_model.specs.declared.Term.{Term}
-use Rattle.fz_model.specs.declared.Term.TheVariants.{Var, Fixed}
-use Rattle.fz_model.specs.Meaning.{Model, Point, Partial, value, value_at}
-use Rattle.fz_model.specs.Steps.{open_terms, terms_of}
-use Rattle.fz_model.proofs.Lists.{all_map}
-use Rattle.fz_model.proofs.Steps.{only_open_none}
+use Rattle.fz_verdict.specs.of_model.declared.Term.{Term}
+use Rattle.fz_verdict.specs.of_model.declared.Term.TheVariants.{Var, Fixed}
+use Rattle.fz_verdict.specs.of_model.Meaning.{Model, Point, Partial, value, value_at}
+use Rattle.fz_verdict.specs.of_model.Steps.{open_terms, terms_of}
+use Rattle.fz_verdict.proofs.of_model.Lists.{all_map}
+use Rattle.fz_verdict.proofs.of_model.Steps.{only_open_none}
 use Rattle.fz_verdict.specs.Filling.{HasAllOf}
 use Rattle.fz_filling.specs.Outlooks.{IsOpen, IsOutlook, open_variable}
 use Rattle.fz_filling.specs.declared.outlook.Outlook.TheVariants.{Asks}

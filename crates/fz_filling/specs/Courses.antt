@@ -1,8 +1,8 @@
 -- What one filling of a model leaves to the next, which the contract of `fill_in` cites, and which
 -- point can give a variable a value, which only private functions cite.
 use Rattle.std.specs.Prelude.{◌≡◌, ℕ, suc, List, Some, IsTrue, slice_get}
-use Rattle.fz_model.specs.Meaning.{Model, Partial, Point}
-use Rattle.fz_model.specs.Steps.{IsTarget}
+use Rattle.fz_verdict.specs.of_model.Meaning.{Model, Partial, Point}
+use Rattle.fz_verdict.specs.of_model.Steps.{IsTarget}
 use Rattle.fz_filling.specs.Runs.{AreLone}
 use Rattle.fz_filling.specs.declared.course.Course.{Course}
 

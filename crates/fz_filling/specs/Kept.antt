@@ -4,8 +4,8 @@ use Rattle.std.specs.Prelude.{◌≡◌, ℕ, ◌<◌, ◌≤◌, ◌*◌, ◌/�
 use Rattle.std.specs.List.{Contains}
 use Rattle.std.specs.Option.{option_map_or}
 use Rattle.std.specs.declared.alloc.Global.{Global}
-use Rattle.fz_model.specs.Meaning.{Model, Partial, Point, points}
-use Rattle.fz_model.specs.Steps.{GivesNothing}
+use Rattle.fz_verdict.specs.of_model.Meaning.{Model, Partial, Point, points}
+use Rattle.fz_verdict.specs.of_model.Steps.{GivesNothing}
 use Rattle.fz_filling.specs.Outlooks.{IsLater, IsOpen}
 use Rattle.fz_filling.specs.declared.outlook.Waiting.{Waiting}
 use Rattle.fz_filling.specs.declared.outlook.Waiting.TheVariants.{Forever, For, ForEither}

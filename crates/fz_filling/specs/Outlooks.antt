@@ -2,10 +2,10 @@
 -- functions use these.
 use Rattle.std.specs.Prelude.{◌≡◌, ℕ, cond, is_none, List, length, Option, None, Some}
 use Rattle.std.specs.List.{AllByRecursion}
-use Rattle.fz_model.specs.declared.Term.{Term}
-use Rattle.fz_model.specs.declared.Term.TheVariants.{Var, Fixed}
-use Rattle.fz_model.specs.Meaning.{Model, Partial, Point, value, value_at}
-use Rattle.fz_model.specs.Steps.{GivesNothing}
+use Rattle.fz_verdict.specs.of_model.declared.Term.{Term}
+use Rattle.fz_verdict.specs.of_model.declared.Term.TheVariants.{Var, Fixed}
+use Rattle.fz_verdict.specs.of_model.Meaning.{Model, Partial, Point, value, value_at}
+use Rattle.fz_verdict.specs.of_model.Steps.{GivesNothing}
 use Rattle.fz_verdict.specs.Filling.{HasAllOf}
 use Rattle.fz_filling.specs.declared.outlook.Outlook.{Outlook}
 use Rattle.fz_filling.specs.declared.outlook.Outlook.TheVariants.{Waits, Asks}

@@ -1,11 +1,11 @@
 -- Steps by the numbers of points. Only private functions use these.
 use Rattle.std.specs.Prelude.{◌≡◌, ℕ, ◌<◌, ◌≤◌, ◌-◌, Bool, true, List, Option, None, Some, is_some, slice_get}
 use Rattle.fz_base.specs.declared.value.Value.{Value}
-use Rattle.fz_model.specs.declared.Posted.{Posted}
-use Rattle.fz_model.specs.Meaning as meaning
-use Rattle.fz_model.specs.Meaning.{Model, Partial, Point, points, value_at}
-use Rattle.fz_model.specs.Meaning.Point.{ConstraintPoint}
-use Rattle.fz_model.specs.Steps.{Gives, GivesNothing}
+use Rattle.fz_verdict.specs.of_model.declared.Posted.{Posted}
+use Rattle.fz_verdict.specs.of_model.Meaning as meaning
+use Rattle.fz_verdict.specs.of_model.Meaning.{Model, Partial, Point, points, value_at}
+use Rattle.fz_verdict.specs.of_model.Meaning.Point.{ConstraintPoint}
+use Rattle.fz_verdict.specs.of_model.Steps.{Gives, GivesNothing}
 
 -- the points with these numbers give nothing
 abbrev pub NoneGives : Model → Partial → ℕ → ℕ → Type 0

@@ -1,11 +1,11 @@
 //! What one filling of a model leaves to the next.
 
 ghost use Rattle.std.specs.Prelude.{◌≡◌, IfOk};
-ghost use Rattle.fz_model.specs.Meaning.{Model as Meaning};
+ghost use Rattle.fz_verdict.specs.of_model.Meaning.{Model as Meaning};
 ghost use Rattle.fz_filling.specs.Courses.{IsCourse};
 
 use crate::lone::are_lone;
-use fz_model::Model;
+use fz_verdict::fz_model::Model;
 use std::alloc::{AllocError, Global};
 
 /// The points that gave steps, in the order in which they gave them.

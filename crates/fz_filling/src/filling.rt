@@ -1,14 +1,14 @@
 //! The chain of a filling: forced steps until no point gives one.
 
 ghost use Rattle.std.specs.Prelude.{IfSome, OnOk};
-ghost use Rattle.fz_model.specs.Meaning.{IsPartial};
+ghost use Rattle.fz_verdict.specs.of_model.Meaning.{IsPartial};
 ghost use Rattle.fz_verdict.specs.Filling.{Chain};
 ghost use Rattle.fz_filling.specs.Courses.{IsCourse};
 
 use crate::course::Course;
 use crate::retrace::retrace;
 use crate::steps::fill_on;
-use fz_model::{Model, Partial};
+use fz_verdict::fz_model::{Model, Partial};
 use std::alloc::{AllocError, Global};
 
 /// Takes the steps of the filling before again, and then those that are left.

@@ -15,3 +15,4 @@ mod watch;
 
 pub use course::Course;
 pub use filling::fill_in;
+pub use fz_verdict::{self, fz_model, fz_stream, fz_syntax};

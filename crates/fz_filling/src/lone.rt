@@ -1,11 +1,11 @@
 //! Whether no two points of a model can give the same variable a value.
 
 ghost use Rattle.std.specs.Prelude.{◌≡◌, ◌<◌, ℕ, IfOk, IsTrue, Some, slice_get, suc};
-ghost use Rattle.fz_model.specs.Shown.{point_view};
+ghost use Rattle.fz_verdict.specs.of_model.Shown.{point_view};
 ghost use Rattle.fz_filling.specs.Courses.{AreKept, IsNoted};
 ghost use Rattle.fz_filling.specs.Runs.{AreLone};
 
-use fz_model::{Model, PointParts, Term, only_number};
+use fz_verdict::fz_model::{Model, PointParts, Term, only_number};
 use std::alloc::{AllocError, Global};
 
 /// Stores that a point can give a variable a value; `true` where it is the only one so far. The

@@ -1,13 +1,13 @@
 //! What a point can give now and later. It takes no memory.
 
 ghost use Rattle.std.specs.Prelude.{◌≡◌};
-ghost use Rattle.fz_model.specs.Meaning.{Model, Variable as Declared, row_of};
-ghost use Rattle.fz_model.specs.Meaning.Point.{ConstraintPoint, DefinitionPoint, DomainPoint};
-ghost use Rattle.fz_model.specs.Parts.{constraint_view, kept_row};
-ghost use Rattle.fz_model.specs.Shown.{IfConstraint, point_view};
+ghost use Rattle.fz_verdict.specs.of_model.Meaning.{Model, Variable as Declared, row_of};
+ghost use Rattle.fz_verdict.specs.of_model.Meaning.Point.{ConstraintPoint, DefinitionPoint, DomainPoint};
+ghost use Rattle.fz_verdict.specs.of_model.Parts.{constraint_view, kept_row};
+ghost use Rattle.fz_verdict.specs.of_model.Shown.{IfConstraint, point_view};
 ghost use Rattle.fz_filling.specs.Outlooks.{IsOutlook, open_variable};
 
-use fz_model::{ConstraintParts, Opening, Partial, PointParts, Term, opening_of};
+use fz_verdict::fz_model::{ConstraintParts, Opening, Partial, PointParts, Term, opening_of};
 
 /// What a point that gives nothing waits for.
 #[derive(Clone, Copy)]

@@ -1,11 +1,11 @@
 //! The steps of a filling once more, for another block.
 
 ghost use Rattle.std.specs.Prelude.{OnOk};
-ghost use Rattle.fz_model.specs.Meaning.{IsPartial};
+ghost use Rattle.fz_verdict.specs.of_model.Meaning.{IsPartial};
 ghost use Rattle.fz_filling.specs.Runs.{Run};
 
 use crate::course::Trail;
-use fz_model::{Model, Partial, forced};
+use fz_verdict::fz_model::{Model, Partial, forced};
 use std::alloc::{AllocError, Global};
 
 /// Takes the step that the point of a number gives, if there is one.

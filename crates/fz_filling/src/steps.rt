@@ -5,8 +5,8 @@
 
 ghost use Rattle.std.specs.Prelude.{◌≡◌, ◌≤◌, ◌<◌, IfOk, IfSome, IsNone, OnOk, Some, length, slice_get, true};
 ghost use Rattle.std.specs.List.{AllByRecursion};
-ghost use Rattle.fz_model.specs.Meaning.{IsPartial, Model as Meaning, Point, give, points};
-ghost use Rattle.fz_model.specs.Steps.{Gives, GivesNothing};
+ghost use Rattle.fz_verdict.specs.of_model.Meaning.{IsPartial, Model as Meaning, Point, give, points};
+ghost use Rattle.fz_verdict.specs.of_model.Steps.{Gives, GivesNothing};
 ghost use Rattle.fz_verdict.specs.Filling.{Chain, IsFirstStep};
 ghost use Rattle.fz_filling.specs.Kept.{IsKept};
 ghost use Rattle.fz_filling.specs.Stepping.{IsStepAhead, NoneGives, StandBehind, is_shut};
@@ -15,7 +15,7 @@ use crate::course::Trail;
 use crate::outlook::{Outlook, Waiting, outlook_of};
 use crate::watch::Watch;
 use fz_base::Value;
-use fz_model::{Model, Partial, Posted, forced};
+use fz_verdict::fz_model::{Model, Partial, Posted, forced};
 use std::alloc::{AllocError, Global};
 
 /// A forced step: the number of the point that gives it, the variable's number, and the value.

@@ -15,3 +15,5 @@ pub mod Preceding
 pub mod Tested
 pub mod Valued
 pub mod Walked
+pub use Rattle.fz_kernel.proofs.of_data
+pub use Rattle.fz_kernel.proofs.of_view

@@ -4,25 +4,25 @@ use Rattle.std.proofs.Math.Bool.{and_assoc}
 use Rattle.std.specs.List.{AllByRecursion}
 use Rattle.std.specs.Option.{option_map_or, option_or}
 use Rattle.fz_base.specs.declared.value.Value.{Value}
-use Rattle.fz_model.specs.declared.Term.{Term}
-use Rattle.fz_model.specs.declared.Term.TheVariants.{Var, Fixed}
-use Rattle.fz_model.specs.Located.{Name, Literal}
-use Rattle.fz_model.specs.Names.{literal_value}
-use Rattle.fz_model.specs.Partial.{nothing_for}
-use Rattle.fz_model.specs.Values.{same_value, same_values}
-use Rattle.fz_model.specs.Meaning.{Place, Model, Partial, find_name, first_some, give, option_cons, value, value_at, values, variables_of}
-use Rattle.fz_model.specs.Meaning.Place.{Scalar, Array}
-use Rattle.fz_model.proofs.Lists.{all_left, all_map, all_right}
-use Rattle.fz_model.proofs.Steps.{value_at_other}
-use Rattle.fz_model.proofs.Values.{and_first, and_second, no, same_value_is, value_itself, values_itself}
-use Rattle.fz_verdict.specs.Blocks.{BlockFault, Printed, PrintedValue, fault_if, items_fault, literal_fault, printed_fault, printed_values, value_fault}
-use Rattle.fz_verdict.specs.Blocks.BlockFaultKind.{UnknownName, WrongLength}
-use Rattle.fz_verdict.specs.Blocks.PrintedValue.{OneValue, ArrayOf}
-use Rattle.fz_verdict.specs.Filling.{HasAllOf, pairs, pairs_at, printed_scalars, start_from}
-use Rattle.fz_verdict.specs.Verdict.{has_printed, printed_fails}
-use Rattle.fz_verdict.specs.Verdict.Fault.{PrintedFault}
-use Rattle.fz_verdict.proofs.Accepted.{or_none}
-use Rattle.fz_verdict.proofs.Chain.{Agrees, value_under}
+use Rattle.fz_filling.specs.of_model.declared.Term.{Term}
+use Rattle.fz_filling.specs.of_model.declared.Term.TheVariants.{Var, Fixed}
+use Rattle.fz_filling.specs.of_model.Located.{Name, Literal}
+use Rattle.fz_filling.specs.of_model.Names.{literal_value}
+use Rattle.fz_filling.specs.of_model.Partial.{nothing_for}
+use Rattle.fz_filling.specs.of_model.Values.{same_value, same_values}
+use Rattle.fz_filling.specs.of_model.Meaning.{Place, Model, Partial, find_name, first_some, give, option_cons, value, value_at, values, variables_of}
+use Rattle.fz_filling.specs.of_model.Meaning.Place.{Scalar, Array}
+use Rattle.fz_filling.proofs.of_model.Lists.{all_left, all_map, all_right}
+use Rattle.fz_filling.proofs.of_model.Steps.{value_at_other}
+use Rattle.fz_filling.proofs.of_model.Values.{and_first, and_second, no, same_value_is, value_itself, values_itself}
+use Rattle.fz_filling.specs.of_verdict.Blocks.{BlockFault, Printed, PrintedValue, fault_if, items_fault, literal_fault, printed_fault, printed_values, value_fault}
+use Rattle.fz_filling.specs.of_verdict.Blocks.BlockFaultKind.{UnknownName, WrongLength}
+use Rattle.fz_filling.specs.of_verdict.Blocks.PrintedValue.{OneValue, ArrayOf}
+use Rattle.fz_filling.specs.of_verdict.Filling.{HasAllOf, pairs, pairs_at, printed_scalars, start_from}
+use Rattle.fz_filling.specs.of_verdict.Verdict.{has_printed, printed_fails}
+use Rattle.fz_filling.specs.of_verdict.Verdict.Fault.{PrintedFault}
+use Rattle.fz_filling.proofs.of_verdict.Accepted.{or_none}
+use Rattle.fz_filling.proofs.of_verdict.Chain.{Agrees, value_under}
 use Rattle.fz_judge.specs.Working.{agree_all, has_value, item_scalars, with_all, with_first}
 use Rattle.fz_judge.proofs.Starting.{scalars_more, start_more, starts_with_nothing}
 

@@ -4,4 +4,7 @@ pub mod Starting
 pub mod Agreeing
 pub mod Verdicts
 pub mod Refusing
-pub use Rattle.fz_verdict.proofs as of_verdict
+pub use Rattle.fz_filling.proofs.of_verdict
+pub use Rattle.fz_filling.proofs.of_model
+pub use Rattle.fz_filling.proofs.of_stream
+pub use Rattle.fz_filling.proofs.of_syntax

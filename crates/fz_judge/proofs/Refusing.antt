@@ -3,28 +3,31 @@
 use Rattle.std.proofs.Common.{◌≡◌, ℕ, ◌+◌, ◌≤◌, ◌<◌, true, false, not, ◌==◌, List, [], ◌∷◌, ◌++◌, map, flat_map, length, get_or, take, drop, Option, Some, None, IsSomeAnd, option_map, refl, sym, ap, subst, ◌∙◌, arith, append_assoc}
 use Rattle.std.specs.Option.{option_or}
 use Rattle.fz_base.specs.declared.span.Span.{Span}
-use Rattle.fz_model.specs.declared.Kind.{Kind}
-use Rattle.fz_model.specs.Located.{Name}
-use Rattle.fz_model.specs.Meaning.{Place, Model, find_name, first_some}
-use Rattle.fz_model.specs.Meaning.Place.{Scalar, Array}
-use Rattle.fz_model.specs.View.{located_literal, located_name}
-use Rattle.fz_model.specs.Names.{literal_value}
-use Rattle.fz_model.specs.Values.{kind_of, same_kind}
-use Rattle.fz_syntax.specs.declared.Literal as the_literal
-use Rattle.fz_syntax.specs.declared.Printed as the_printed
-use Rattle.fz_syntax.specs.declared.PrintedValue as the_value
-use Rattle.fz_syntax.specs.declared.PrintedValue.TheVariants as printed
-use Rattle.fz_syntax.specs.Places.{IsSpanWithin}
-use Rattle.fz_syntax.specs.Spots.{Spot, Stand, name_spot, literal_spot, literal_spots, printed_value_spots, printed_spots, item_spots}
-use Rattle.fz_verdict.specs.Blocks.{Printed, BlockFault, BlockFaultKind, Block, fault_if, literal_fault, value_fault, printed_fault, items_fault, block_fault, moved}
-use Rattle.fz_verdict.specs.Blocks.BlockFaultKind.{UnknownName, WrongKind, WrongLength}
-use Rattle.fz_verdict.specs.View.{located_printed_value, located_printed, located_items}
+use Rattle.fz_filling.specs.of_model.declared.Kind.{Kind}
+use Rattle.fz_filling.specs.of_model.Located.{Name}
+use Rattle.fz_filling.specs.of_model.Meaning.{Place, Model, find_name, first_some}
+use Rattle.fz_filling.specs.of_model.Meaning.Place.{Scalar, Array}
+use Rattle.fz_filling.specs.of_model.View.{located_literal, located_name}
+use Rattle.fz_filling.specs.of_model.Names.{literal_value}
+use Rattle.fz_filling.specs.of_model.Values.{kind_of, same_kind}
+use Rattle.fz_filling.specs.of_syntax.declared.Literal as the_literal
+use Rattle.fz_filling.specs.of_syntax.declared.Printed as the_printed
+use Rattle.fz_filling.specs.of_syntax.declared.PrintedValue as the_value
+use Rattle.fz_filling.specs.of_syntax.declared.PrintedValue.TheVariants as printed
+use Rattle.fz_filling.proofs.of_syntax.Fits.{stands_of}
+use Rattle.fz_filling.proofs.of_syntax.PlacedLaws.{fits_items}
+use Rattle.fz_filling.specs.of_syntax.Placed.{ArePlacedIn, placed_items}
+use Rattle.fz_filling.specs.of_syntax.Places.{IsSpanWithin}
+use Rattle.fz_filling.specs.of_syntax.Spots.{Spot, Stand, name_spot, literal_spot, literal_spots, printed_value_spots, printed_spots, item_spots}
+use Rattle.fz_filling.specs.of_verdict.Blocks.{Printed, BlockFault, BlockFaultKind, Block, fault_if, literal_fault, value_fault, printed_fault, items_fault, block_fault, moved}
+use Rattle.fz_filling.specs.of_verdict.Blocks.BlockFaultKind.{UnknownName, WrongKind, WrongLength}
+use Rattle.fz_filling.specs.of_verdict.View.{located_printed_value, located_printed, located_items}
 use Rattle.fz_judge.specs.declared.error.BlockError.{BlockError}
 use Rattle.fz_judge.specs.declared.error.BlockError.TheVariants as errors
 use Rattle.fz_judge.specs.Judged.{TellsFault, TellsKind}
 use Rattle.fz_judge.specs.Working.{IsPlacedWithin, moved_error}
-use Rattle.fz_model.proofs.ScanSteps.{whole_at, first_append}
-use Rattle.fz_stream.proofs.PlaceLemmas.{stand_before, stand_behind}
+use Rattle.fz_filling.proofs.of_model.ScanSteps.{whole_at, first_append}
+use Rattle.fz_filling.proofs.of_stream.PlaceLemmas.{stand_before, stand_behind}
 
 -- ---- what an error tells
 
@@ -135,9 +138,9 @@ span_within n upto s le h = (h.0, omega (arith, h.1, le))
 
 -- and lies where it can be moved
 pub told_within : (m : Model) (text : List ℕ) (items : List the_printed.Printed) (n : ℕ)
-    (e : BlockError) → length text ≤ n → Stand text 0 (length text) (item_spots items)
+    (e : BlockError) → length text ≤ n → ArePlacedIn text (placed_items items)
     → TellsFault e (items_fault m (located_items items)) → IsPlacedWithin n e
-told_within m text items n (errors.UnknownName at) le h told = span_within n (length text) at le (items_within text (length text) m items _ 0 told h)
-told_within m text items n (errors.Kind at) le h told = span_within n (length text) at le (items_within text (length text) m items _ 0 told h)
-told_within m text items n (errors.Length at) le h told = span_within n (length text) at le (items_within text (length text) m items _ 0 told h)
+told_within m text items n (errors.UnknownName at) le h told = span_within n (length text) at le (items_within text (length text) m items _ 0 told (stands_of text (fits_items items) h))
+told_within m text items n (errors.Kind at) le h told = span_within n (length text) at le (items_within text (length text) m items _ 0 told (stands_of text (fits_items items) h))
+told_within m text items n (errors.Length at) le h told = span_within n (length text) at le (items_within text (length text) m items _ 0 told (stands_of text (fits_items items) h))
 told_within m text items n errors.Memory le h told = tt

@@ -1,5 +1,7 @@
 pub mod View
 pub mod Judged
 pub mod Working
-pub use Rattle.fz_model.specs as of_model
-pub use Rattle.fz_verdict.specs as of_verdict
+pub use Rattle.fz_filling.specs.of_verdict
+pub use Rattle.fz_filling.specs.of_model
+pub use Rattle.fz_filling.specs.of_stream
+pub use Rattle.fz_filling.specs.of_syntax

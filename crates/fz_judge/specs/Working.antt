@@ -3,25 +3,25 @@
 use Rattle.std.specs.Prelude.{◌≡◌, ℕ, ℤ, ◌<◌, Bool, false, true, cond, ◌&&◌, is_none, List, [], ◌∷◌, length, Option, None, Some, ⊤}
 use Rattle.std.specs.Option.{option_map_or}
 use Rattle.fz_base.specs.declared.value.Value.{Value}
-use Rattle.fz_model.specs.declared.State.{State}
-use Rattle.fz_model.specs.declared.State.TheVariants.{Holds, Fails, NoValue, Unknown, TooLarge}
-use Rattle.fz_model.specs.declared.Term.{Term}
-use Rattle.fz_model.specs.declared.Term.TheVariants.{Var, Fixed}
-use Rattle.fz_model.specs.declared.What.{What}
-use Rattle.fz_model.specs.declared.What.TheVariants as whats
-use Rattle.fz_model.specs.Names.{literal_value}
-use Rattle.fz_model.specs.Values.{same_value}
-use Rattle.fz_model.specs.Shown.{scalar_terms}
-use Rattle.fz_model.specs.Slots.{scalar_term}
-use Rattle.fz_model.specs.Meaning.{Model, Partial, PointName, IsPartial, give, objective, value, value_at, variables_of, find_name}
-use Rattle.fz_syntax.specs.Places.{IsSpanWithin}
-use Rattle.fz_verdict.specs.Blocks.{Block, Printed, PrintedValue, printed_values, moved}
-use Rattle.fz_verdict.specs.Blocks.PrintedValue.{OneValue, ArrayOf}
-use Rattle.fz_verdict.specs.Filling.{pairs, pairs_at}
-use Rattle.fz_verdict.specs.Completed.{name_of_aim}
-use Rattle.fz_verdict.specs.Verdict.{Fault, Reason, Verdict, verdict, not_known_at, too_large_at, verdict_by}
-use Rattle.fz_verdict.specs.Verdict.Verdict.{Satisfied, Violated, Undecided}
-use Rattle.fz_verdict.specs.Verdict.Reason.{NoValueFor}
+use Rattle.fz_filling.specs.of_model.declared.State.{State}
+use Rattle.fz_filling.specs.of_model.declared.State.TheVariants.{Holds, Fails, NoValue, Unknown, TooLarge}
+use Rattle.fz_filling.specs.of_model.declared.Term.{Term}
+use Rattle.fz_filling.specs.of_model.declared.Term.TheVariants.{Var, Fixed}
+use Rattle.fz_filling.specs.of_model.declared.What.{What}
+use Rattle.fz_filling.specs.of_model.declared.What.TheVariants as whats
+use Rattle.fz_filling.specs.of_model.Names.{literal_value}
+use Rattle.fz_filling.specs.of_model.Values.{same_value}
+use Rattle.fz_filling.specs.of_model.Shown.{scalar_terms}
+use Rattle.fz_filling.specs.of_model.Slots.{scalar_term}
+use Rattle.fz_filling.specs.of_model.Meaning.{Model, Partial, PointName, IsPartial, give, objective, value, value_at, variables_of, find_name}
+use Rattle.fz_filling.specs.of_syntax.Places.{IsSpanWithin}
+use Rattle.fz_filling.specs.of_verdict.Blocks.{Block, Printed, PrintedValue, printed_values, moved}
+use Rattle.fz_filling.specs.of_verdict.Blocks.PrintedValue.{OneValue, ArrayOf}
+use Rattle.fz_filling.specs.of_verdict.Filling.{pairs, pairs_at}
+use Rattle.fz_filling.specs.of_verdict.Completed.{name_of_aim}
+use Rattle.fz_filling.specs.of_verdict.Verdict.{Fault, Reason, Verdict, verdict, not_known_at, too_large_at, verdict_by}
+use Rattle.fz_filling.specs.of_verdict.Verdict.Verdict.{Satisfied, Violated, Undecided}
+use Rattle.fz_filling.specs.of_verdict.Verdict.Reason.{NoValueFor}
 use Rattle.fz_judge.specs.declared.error.BlockError.{BlockError}
 use Rattle.fz_judge.specs.declared.error.BlockError.TheVariants as errors
 

@@ -2,21 +2,21 @@
 
 ghost use Rattle.std.specs.Prelude.{◌≡◌, ◌-◌, IfErr, IfOk, IfSome, IsTrue, None};
 ghost use Rattle.fz_filling.specs.Courses.{IsCourse};
-ghost use Rattle.fz_model.specs.Meaning.{IsPartial, first_some};
-ghost use Rattle.fz_stream.specs.Found.{EndsWithin, HasPlaces};
-ghost use Rattle.fz_syntax.specs.Places.{IsSpanWithin};
-ghost use Rattle.fz_verdict.specs.Blocks.{block_fault, moved};
-ghost use Rattle.fz_verdict.specs.Verdict.{IsFilled, printed_fails};
-ghost use Rattle.fz_verdict.specs.View.{located_block, located_items};
+ghost use Rattle.fz_filling.specs.of_model.Meaning.{IsPartial, first_some};
+ghost use Rattle.fz_filling.specs.of_stream.Found.{EndsWithin, HasPlaces};
+ghost use Rattle.fz_filling.specs.of_syntax.Places.{IsSpanWithin};
+ghost use Rattle.fz_filling.specs.of_verdict.Blocks.{block_fault, moved};
+ghost use Rattle.fz_filling.specs.of_verdict.Verdict.{IsFilled, printed_fails};
+ghost use Rattle.fz_filling.specs.of_verdict.View.{located_block, located_items};
 ghost use Rattle.fz_judge.specs.Judged.{IsBlockRefusal, TellsKind, kind_told};
 ghost use Rattle.fz_judge.specs.Working.{HasRoom, IsPlacedWithin, moved_error};
 
 use crate::error::BlockError;
 use crate::start::{Proposed, nothing_proposed, start};
 use fz_base::Span;
+use fz_filling::fz_model::{Model, Partial};
+use fz_filling::fz_stream::Block;
 use fz_filling::{Course, fill_in};
-use fz_model::{Model, Partial};
-use fz_stream::Block;
 use std::alloc::Global;
 
 /// The byte range in the stream of one in a block's text.

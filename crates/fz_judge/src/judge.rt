@@ -1,14 +1,14 @@
 //! A judge: blocks, one after another, against a model.
 
 ghost use Rattle.std.specs.Prelude.{◌≡◌, IfErr, IfOk, IfSome, IsTrue, None, option_map};
-ghost use Rattle.fz_model.specs.Meaning.{IsPartial, first_some, objective};
-ghost use Rattle.fz_model.specs.Overviews.{IsOverview};
-ghost use Rattle.fz_stream.specs.Found.{EndsWithin, HasPlaces};
-ghost use Rattle.fz_verdict.specs.Blocks.{block_fault, items_fault};
-ghost use Rattle.fz_verdict.specs.Completed.{IsCompleted, name_of_aim, name_of_term};
-ghost use Rattle.fz_verdict.specs.Verdict.{objective_fails, printed_fails, verdict, verdict_by};
-ghost use Rattle.fz_verdict.specs.Verdict.Verdict.{Undecided};
-ghost use Rattle.fz_verdict.specs.View.{located_block, located_items};
+ghost use Rattle.fz_filling.specs.of_model.Meaning.{IsPartial, first_some, objective};
+ghost use Rattle.fz_filling.specs.of_model.Overviews.{IsOverview};
+ghost use Rattle.fz_filling.specs.of_stream.Found.{EndsWithin, HasPlaces};
+ghost use Rattle.fz_filling.specs.of_verdict.Blocks.{block_fault, items_fault};
+ghost use Rattle.fz_filling.specs.of_verdict.Completed.{IsCompleted, name_of_aim, name_of_term};
+ghost use Rattle.fz_filling.specs.of_verdict.Verdict.{objective_fails, printed_fails, verdict, verdict_by};
+ghost use Rattle.fz_filling.specs.of_verdict.Verdict.Verdict.{Undecided};
+ghost use Rattle.fz_filling.specs.of_verdict.View.{located_block, located_items};
 ghost use Rattle.fz_judge.specs.Judged.{IsBlockRefusal, IsJudged, TellsKind};
 ghost use Rattle.fz_judge.specs.View.{fault_view, reason_view, verdict_view};
 ghost use Rattle.fz_judge.specs.Working.{IsFound, compared, with_objective};
@@ -20,10 +20,10 @@ use crate::printed::printed_fails;
 use crate::start::Proposed;
 use crate::verdict::{Fault, Reason, Verdict};
 use fz_filling::Course;
-use fz_model::{Goal, Model, Overview, Partial, Term};
+use fz_filling::fz_model::{Goal, Model, Overview, Partial, Term};
+use fz_filling::fz_stream::Block;
+use fz_filling::fz_verdict::Completion;
 use fz_search::{Search, propose};
-use fz_stream::Block;
-use fz_verdict::Completion;
 use std::alloc::{AllocError, Global};
 
 /// The verdict where the printed names and the points have this one, and the objective may fail.
@@ -163,7 +163,7 @@ impl<'m, 'a> std::marker::Model for Judge<'m, 'a> {
 
     ghost use Rattle.std.specs.Prelude.{IfSome};
     ghost use Rattle.fz_filling.specs.Courses.{IsCourse};
-    ghost use Rattle.fz_model.specs.Overviews.{IsOverview};
+    ghost use Rattle.fz_filling.specs.of_model.Overviews.{IsOverview};
     ghost use Rattle.fz_judge.specs.Working.{HasRoom};
 
     ghost view = { λ j. record {

@@ -16,7 +16,6 @@ mod verdict;
 
 pub use error::BlockError;
 pub use filling::fill;
-pub use fz_model;
-pub use fz_verdict;
+pub use fz_filling::{fz_model, fz_stream, fz_syntax, fz_verdict};
 pub use judge::Judge;
 pub use verdict::{Fault, Reason, Verdict};

@@ -1,24 +1,24 @@
 //! Whether the printed names have their printed values.
 
 ghost use Rattle.std.specs.Prelude.{◌≡◌, ℕ, IfOk, IsTrue, List, None, map, option_map};
-ghost use Rattle.fz_model.specs.Meaning.{Place, Variable as DeclaredVariable, first_some};
-ghost use Rattle.fz_model.specs.declared.Kind.{Kind as KindOf};
-ghost use Rattle.fz_model.specs.Names.{literal_value};
-ghost use Rattle.fz_model.specs.declared.Term.TheVariants.{Var};
-ghost use Rattle.fz_model.specs.Shown.{scalar_terms, what_place};
-ghost use Rattle.fz_model.specs.Slots.{scalar_term};
-ghost use Rattle.fz_model.specs.View.{located_literal};
-ghost use Rattle.fz_syntax.specs.View.{bare_literal};
-ghost use Rattle.fz_verdict.specs.Blocks.{items_fault, printed_fault, printed_values};
-ghost use Rattle.fz_verdict.specs.Verdict.{has_printed, printed_fails};
-ghost use Rattle.fz_verdict.specs.View.{located_items, located_printed, located_printed_value};
+ghost use Rattle.fz_filling.specs.of_model.Meaning.{Place, Variable as DeclaredVariable, first_some};
+ghost use Rattle.fz_filling.specs.of_model.declared.Kind.{Kind as KindOf};
+ghost use Rattle.fz_filling.specs.of_model.Names.{literal_value};
+ghost use Rattle.fz_filling.specs.of_model.declared.Term.TheVariants.{Var};
+ghost use Rattle.fz_filling.specs.of_model.Shown.{scalar_terms, what_place};
+ghost use Rattle.fz_filling.specs.of_model.Slots.{scalar_term};
+ghost use Rattle.fz_filling.specs.of_model.View.{located_literal};
+ghost use Rattle.fz_filling.specs.of_syntax.View.{bare_literal};
+ghost use Rattle.fz_filling.specs.of_verdict.Blocks.{items_fault, printed_fault, printed_values};
+ghost use Rattle.fz_filling.specs.of_verdict.Verdict.{has_printed, printed_fails};
+ghost use Rattle.fz_filling.specs.of_verdict.View.{located_items, located_printed, located_printed_value};
 ghost use Rattle.fz_judge.specs.View.{fault_view};
 ghost use Rattle.fz_judge.specs.Working.{has_value, have_values};
 
 use crate::values::{is_number, is_of_literal, is_set, is_truth};
 use crate::verdict::Fault;
-use fz_model::{Model, Partial, Scalar, Scalars, What, scalar_at};
-use fz_syntax::{Literal, Printed, PrintedValue};
+use fz_filling::fz_model::{Model, Partial, Scalar, Scalars, What, scalar_at};
+use fz_filling::fz_syntax::{Literal, Printed, PrintedValue};
 use std::alloc::{AllocError, Global};
 
 /// Whether the variable of a number has the value of the literal.

@@ -2,17 +2,17 @@
 
 ghost use Rattle.std.specs.Prelude.{◌≡◌, ◌<◌, ℕ, List, None, IfErr, IfOk, IfSome, IsTrue, OnOk, cond, is_none, length, map};
 ghost use Rattle.std.specs.List.{AllByRecursion};
-ghost use Rattle.fz_model.specs.declared.Term.TheVariants.{Var};
-ghost use Rattle.fz_model.specs.Meaning.{IsPartial, Variable as DeclaredVariable, give, value_at, variables_of};
-ghost use Rattle.fz_model.specs.Names.{literal_value};
-ghost use Rattle.fz_model.specs.Partial.{nothing_for};
-ghost use Rattle.fz_model.specs.Shown.{scalar_terms, what_place};
-ghost use Rattle.fz_model.specs.Slots.{scalar_term};
-ghost use Rattle.fz_model.specs.View.{located_literal};
-ghost use Rattle.fz_syntax.specs.View.{bare_literal, bare_literal_kind};
-ghost use Rattle.fz_verdict.specs.Blocks.{items_fault, printed_fault, printed_values};
-ghost use Rattle.fz_verdict.specs.Filling.{pairs, pairs_at, printed_scalars, start_from};
-ghost use Rattle.fz_verdict.specs.View.{located_items, located_printed, located_printed_value};
+ghost use Rattle.fz_filling.specs.of_model.declared.Term.TheVariants.{Var};
+ghost use Rattle.fz_filling.specs.of_model.Meaning.{IsPartial, Variable as DeclaredVariable, give, value_at, variables_of};
+ghost use Rattle.fz_filling.specs.of_model.Names.{literal_value};
+ghost use Rattle.fz_filling.specs.of_model.Partial.{nothing_for};
+ghost use Rattle.fz_filling.specs.of_model.Shown.{scalar_terms, what_place};
+ghost use Rattle.fz_filling.specs.of_model.Slots.{scalar_term};
+ghost use Rattle.fz_filling.specs.of_model.View.{located_literal};
+ghost use Rattle.fz_filling.specs.of_syntax.View.{bare_literal, bare_literal_kind};
+ghost use Rattle.fz_filling.specs.of_verdict.Blocks.{items_fault, printed_fault, printed_values};
+ghost use Rattle.fz_filling.specs.of_verdict.Filling.{pairs, pairs_at, printed_scalars, start_from};
+ghost use Rattle.fz_filling.specs.of_verdict.View.{located_items, located_printed, located_printed_value};
 ghost use Rattle.fz_judge.specs.Judged.{TellsFault};
 ghost use Rattle.fz_judge.specs.Working.{HasRoom, IsWithin, agree_all, element_pairs, has_value, item_scalars, one_pair, terms_of_what, with_all, with_first};
 
@@ -20,8 +20,10 @@ use crate::error::BlockError;
 use crate::faults::value_fault;
 use crate::values::{is_number, is_of_literal, is_set, is_truth};
 use fz_base::Value;
-use fz_model::{Model, Partial, Scalar, Scalars, What, literal_value, scalar_at};
-use fz_syntax::{Literal, LiteralKind, Printed, PrintedValue};
+use fz_filling::fz_model::{
+    Hint, Model, NO_HINT, Partial, Scalar, Scalars, What, literal_value, scalar_at,
+};
+use fz_filling::fz_syntax::{Literal, LiteralKind, Printed, PrintedValue};
 use std::alloc::{AllocError, Global};
 
 /// The values of a block, and whether each name that it prints has its printed value under them.
@@ -29,9 +31,8 @@ use std::alloc::{AllocError, Global};
 pub(crate) struct Proposed {
     pub(crate) partial: Partial,
     pub(crate) agrees: bool,
-    /// for each item, by its number, the index of its name among the model's: the next block mostly
-    /// prints the same names
-    pub(crate) places: Vec<usize>,
+    /// for each item, by its number, the hint of its name: the next block mostly prints the same names
+    pub(crate) hints: Vec<Hint>,
 }
 
 /// Gives a variable without a value that of a literal. A number or a Boolean is set with no copy on
@@ -208,14 +209,14 @@ fn set_array(
 }
 
 /// Gives what an item names its printed value, where the item has no fault; `true` where the name
-/// has its printed value then. The name is compared with that of the index `place` first, which is
-/// its own index afterwards. A fault's byte range counts from the block's text.
+/// has its printed value then. The name is looked for by the hint first, which is its own
+/// afterwards. A fault's byte range counts from the block's text.
 fn set_item(
     alloc: Global,
     model: &Model<'_>,
     partial: &mut Partial,
     item: &Printed<'_>,
-    place: &mut usize,
+    hint: &mut Hint,
 ) -> Result<bool, BlockError>
     requires fits { IsPartial model.now partial.old }
     ensures given { OnOk result (partial.new
@@ -227,10 +228,10 @@ fn set_item(
     ensures told { IfErr result (λ e. TellsFault e
         (printed_fault model.now (located_printed item.now))) }
 {
-    let Some((found, stands_at)) = model.find_at(item.name.text, *place) else {
+    let Some((found, own)) = model.find_at(item.name.text, *hint) else {
         return Err(BlockError::UnknownName(item.name.span));
     };
-    *place = stands_at;
+    *hint = own;
     if let Some(fault) = value_fault(model.variables(), &item.name, found.what, &item.value) {
         return Err(fault);
     }
@@ -238,7 +239,7 @@ fn set_item(
 }
 
 /// What is proposed before the first item: no variable has a value. It takes the memory of a spare
-/// proposal where there is one, and the indices of its names; else new memory.
+/// proposal where there is one, and the hints of its names; else new memory.
 pub(crate) fn nothing_proposed(
     alloc: Global,
     model: &Model<'_>,
@@ -258,21 +259,21 @@ pub(crate) fn nothing_proposed(
             let proposed = Proposed {
                 partial: Partial::new(alloc, model)?,
                 agrees: true,
-                places: Vec::new(alloc),
+                hints: Vec::new(alloc),
             };
             Ok(Box::new(alloc, proposed)?)
         }
     }
 }
 
-/// Stores the index of the name of an item.
-fn note(places: &mut Vec<usize>, number: usize, place: usize) -> Result<(), AllocError> {
-    match places.get_mut(number) {
+/// Stores the hint of the name of an item.
+fn note(hints: &mut Vec<Hint>, number: usize, hint: Hint) -> Result<(), AllocError> {
+    match hints.get_mut(number) {
         Some(noted) => {
-            *noted = place;
+            *noted = hint;
             Ok(())
         }
-        None => Ok(places.push(place)?),
+        None => Ok(hints.push(hint)?),
     }
 }
 
@@ -297,12 +298,11 @@ pub(crate) fn start(
         (items_fault model.now (located_items items.now))) }
 {
     for (number, item) in items.iter().enumerate() {
-        // Where no index is stored yet, this is the index of no name.
-        let mut place = proposed.places.get(number).copied().unwrap_or(usize::MAX);
-        if !set_item(alloc, model, &mut proposed.partial, item, &mut place)? {
+        let mut hint = proposed.hints.get(number).copied().unwrap_or(NO_HINT);
+        if !set_item(alloc, model, &mut proposed.partial, item, &mut hint)? {
             proposed.agrees = false;
         }
-        note(&mut proposed.places, number, place)?;
+        note(&mut proposed.hints, number, hint)?;
     }
     Ok(())
 }

@@ -2,13 +2,13 @@
 //! made.
 
 ghost use Rattle.std.specs.Prelude.{◌≡◌, IfOk};
-ghost use Rattle.fz_model.specs.Names.{literal_value};
-ghost use Rattle.fz_model.specs.Values.{same_value};
-ghost use Rattle.fz_syntax.specs.View.{bare_literal_kind};
+ghost use Rattle.fz_filling.specs.of_model.Names.{literal_value};
+ghost use Rattle.fz_filling.specs.of_model.Values.{same_value};
+ghost use Rattle.fz_filling.specs.of_syntax.View.{bare_literal_kind};
 
 use fz_base::{IntSet, Value};
-use fz_model::literal_value;
-use fz_syntax::LiteralKind;
+use fz_filling::fz_model::literal_value;
+use fz_filling::fz_syntax::LiteralKind;
 use std::alloc::{AllocError, Global};
 
 /// Whether a number is the literal's value.

@@ -6,3 +6,4 @@ pub mod Best
 pub mod Passed
 pub mod Read
 pub use Rattle.fz_arguments.proofs as of_view
+pub use Rattle.fz_arguments.proofs.of_data

@@ -1,7 +1,7 @@
 //! The relations of FlatZinc's builtins, each exactly as THE TABLE (`fz_meaning`'s `Builtins`) has
 //! it: over numbers and sets, and over the elements of arrays under a partial assignment. An
 //! internal crate of `fz_model`: `fz_builtins` decides with these relations whether a row holds,
-//! and `fz_force` which value it leaves.
+//! and `fz_eval` which value it leaves.
 //!
 //! Numbers go in as 64 bits and are computed with exactly: nothing wraps, and only a sum of
 //! products can leave 128 bits, which the result says. Some relations of sets take memory, and so
@@ -16,3 +16,4 @@ pub mod numbers;
 pub mod sets;
 
 pub use fz_arguments;
+pub use fz_arguments::fz_data;

@@ -12,3 +12,4 @@ pub mod Known
 pub mod TableData
 pub mod FirstFault
 pub mod ReadingOrder
+pub use Rattle.fz_syntax.specs as of_syntax

@@ -401,32 +401,3 @@ shown_point (DomainPoint x n) = DomainOf x.name
 shown_point (DefinitionPoint x n e) = DefinitionOf x.name
 shown_point (ArrayPoint name d ts) = DomainOf name
 shown_point (ConstraintPoint k p) = ConstraintOf k p.name
-
--- a scalar is shown as it is, and an array by its name, whose elements `find_name` has
-pub data ShownPlace : Type 0 where
-  ShownScalar : Term → ShownPlace
-  ShownArray : List ℕ → ShownPlace
-
-abbrev pub shown_place : Place → ShownPlace
-shown_place (Scalar k t) = ShownScalar t
-shown_place (Array x k ts) = ShownArray x
-
-pub data ShownArgument : Type 0 where
-  ShownOne : ShownPlace → ShownArgument
-  ShownList : List ShownPlace → ShownArgument
-
-abbrev pub shown_argument : Argument → ShownArgument
-shown_argument (One p) = ShownOne (shown_place p)
-shown_argument (ListOf ps) = ShownList (map shown_place ps)
-
-pub record ShownPosted : Type 0 where
-  pub name : List ℕ
-  pub arguments : List ShownArgument
-  pub target : Option ℕ
-
-abbrev pub shown_posted : Posted → ShownPosted
-shown_posted p = record {
-  name = p.name;
-  arguments = map shown_argument p.arguments;
-  target = p.target;
-}

@@ -25,6 +25,7 @@ ghost use Rattle.fz_meaning.specs.ReadingOrder.{SourcesAreInReadingOrder};
 
 pub use builtin::Builtin;
 pub use error::ModelError;
+pub use fz_syntax;
 pub use kind::Kind;
 pub use known::{Form, Known};
 pub use row::{Filled, Shape};

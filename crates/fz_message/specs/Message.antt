@@ -8,7 +8,7 @@ use Rattle.fz_message.specs.Columns.{columns}
 use Rattle.fz_message.specs.declared.excerpt.Excerpt.{Excerpt}
 use Rattle.fz_message.specs.declared.message.Message.{Message}
 use Rattle.fz_message.specs.declared.note.Help.{Help}
-use Rattle.fz_message.specs.declared.note.Help.TheVariants.{PrintAll, UseLibrary, TightenDomains}
+use Rattle.fz_message.specs.declared.note.Help.TheVariants.{LookForIt, PrintAll, UseLibrary, TightenDomains}
 use Rattle.fz_message.specs.declared.note.Note.{Note}
 use Rattle.fz_message.specs.declared.note.Note.TheVariants as notes
 use Rattle.fz_message.specs.declared.note.Origin.{Origin}
@@ -62,8 +62,9 @@ origin_text origins.Filled = codes "filled in"
 origin_text origins.Nothing = codes "no rule gives it one; print it"
 
 abbrev pub help_text : Help → List ℕ
-help_text PrintAll =
-    codes "let the solver run `fzcheck show --print-all`, or look for it by --complete"
+help_text LookForIt =
+    codes "look for it by --complete, or let the solver run `fzcheck show --print-all`"
+help_text PrintAll = codes "let the solver run `fzcheck show --print-all`"
 help_text UseLibrary = codes "compile with the library in minizinc/, or with the standard one"
 help_text TightenDomains = codes "tighten the domains, so that no sum leaves 128 bits"
 
@@ -79,6 +80,8 @@ note_text (notes.Bounds lo hi) =
 note_text (notes.Among s) = codes "the domain is " ++ set_text s
 note_text (notes.OtherBlock n) = codes "the other value is that of block " ++ decimal n
 note_text (notes.LeavesAt n) = codes "the sum leaves 128 bits at element " ++ decimal n
+note_text (notes.NotKnown k x) = codes "constraint " ++ decimal k ++ codes " " ++ string_bytes x
+    ++ codes " isn't known, which may be why"
 note_text (notes.Help h) = help_text h
 
 -- ---- the message

@@ -14,6 +14,7 @@ mod values;
 
 pub use columns::shown_text;
 pub use excerpt::Excerpt;
+pub use fz_places;
 pub use message::{Message, message_text};
 pub use note::{Help, Note, Origin};
 pub use place::{Source, message_at};

@@ -27,7 +27,9 @@ pub enum Origin {
 /// Advice on what the user can do.
 #[derive(Clone, Copy, Debug, PartialEq, Eq)]
 pub enum Help {
-    /// A variable has no value.
+    /// A variable has no value, and none was looked for.
+    LookForIt,
+    /// A variable has no value, and none was found.
     PrintAll,
     /// A constraint isn't known.
     UseLibrary,
@@ -50,6 +52,8 @@ pub enum Note {
     OtherBlock(usize),
     /// The element of the lists, from 1, at which a sum of products leaves 128 bits.
     LeavesAt(usize),
+    /// The number, from 1, and the predicate of a constraint that isn't known.
+    NotKnown(usize, String),
     Help(Help),
 }
 
@@ -131,9 +135,10 @@ impl Help {
         ensures { result.now ≡ help_text self }
     {
         match self {
-            Help::PrintAll => {
-                "let the solver run `fzcheck show --print-all`, or look for it by --complete"
+            Help::LookForIt => {
+                "look for it by --complete, or let the solver run `fzcheck show --print-all`"
             }
+            Help::PrintAll => "let the solver run `fzcheck show --print-all`",
             Help::UseLibrary => "compile with the library in minizinc/, or with the standard one",
             Help::TightenDomains => "tighten the domains, so that no sum leaves 128 bits",
         }
@@ -175,6 +180,9 @@ pub(crate) fn push_note(text: &mut String, note: &Note) -> Result<(), AllocError
         }
         Note::OtherBlock(number) => write!(text, "the other value is that of block {number}"),
         Note::LeavesAt(place) => write!(text, "the sum leaves 128 bits at element {place}"),
+        Note::NotKnown(number, name) => {
+            write!(text, "constraint {number} {name} isn't known, which may be why")
+        }
         Note::Help(help) => text.push_str(help.text()),
     }
 }

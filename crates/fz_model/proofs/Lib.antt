@@ -12,4 +12,4 @@ pub use Rattle.fz_meaning.proofs.Places
 pub use Rattle.fz_meaning.proofs.NamedKinds
 pub use Rattle.fz_meaning.proofs.Writing
 pub use Rattle.fz_meaning.proofs.Reading
-pub use Rattle.fz_force.proofs.of_data.Tabled
+pub use Rattle.fz_eval.proofs.of_data.Tabled

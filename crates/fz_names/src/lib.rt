@@ -5,4 +5,4 @@ mod hashing;
 mod names;
 mod numbered;
 
-pub use names::{Names, Standing};
+pub use names::{Hint, NO_HINT, Names, Standing};

@@ -54,6 +54,14 @@ impl Hash for Text<'_> {
     }
 }
 
+/// Where a name may be found at once: the index in the list that an earlier look-up came to. It
+/// says nothing of what is declared, so only speed depends on it.
+#[derive(Clone, Copy)]
+pub struct Hint(usize);
+
+/// The hint of no name.
+pub const NO_HINT: Hint = Hint(usize::MAX);
+
 /// What a declared name cites: a variable, a parameter or an array, by its number. An entry has two
 /// words, so that a look-up seldom waits for memory.
 #[derive(Clone, Copy)]
@@ -279,23 +287,23 @@ impl<'a> Names<'a> {
         Some((kept.bytes, standing_of(&self.parameters, kept.entry)))
     }
 
-    /// What a name stands for, where it is declared, with its text in the source and its index in
-    /// the list. The caller may guess that index: where the guess is right, nothing is looked up. A
-    /// wrong one does no harm.
+    /// What a name stands for, where it is declared, with its text in the source and a hint for the
+    /// next look-up of it. Where the hint is that of the name, nothing is looked up. Another one
+    /// does no harm.
     #[inline]
-    pub fn find_at(&self, name: &[u8], place: usize) -> Option<(&'a [u8], Standing<'_>, usize)>
+    pub fn find_at(&self, name: &[u8], hint: Hint) -> Option<(&'a [u8], Standing<'_>, Hint)>
         ensures stands { option_map (λ f. standing_view f.1) result
             ≡ lookup (has_text name.now) self.now }
         ensures text { IfSome result (λ f. f.0.now ≡ name.now) }
     {
-        if let Some((text, standing)) = self.at(name, place) {
-            return Some((text, standing, place));
+        if let Some((text, standing)) = self.at(name, hint.0) {
+            return Some((text, standing, hint));
         }
         let kept = found(&self.listed, &self.others, &self.numbered, name)?;
         Some((
             kept.bytes,
             standing_of(&self.parameters, kept.entry),
-            kept.seat,
+            Hint(kept.seat),
         ))
     }
 

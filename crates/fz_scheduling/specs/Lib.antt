@@ -1,2 +1,1 @@
 pub mod Places
-pub use Rattle.fz_kernel.specs.of_view

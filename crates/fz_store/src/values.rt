@@ -3,11 +3,11 @@
 ghost use Rattle.std.specs.Prelude.{◌≡◌, IfOk, Some};
 ghost use Rattle.fz_meaning.specs.Names.{domain_of, domain_of_literal, kind_of_base, literal_value};
 ghost use Rattle.fz_meaning.specs.Values.{kind_of, same_kind};
-ghost use Rattle.fz_syntax.specs.View.{bare_base, bare_bounds, bare_literal_kind};
+ghost use Rattle.fz_meaning.specs.of_syntax.View.{bare_base, bare_bounds, bare_literal_kind};
 
 use fz_base::{IntSet, Value};
+use fz_meaning::fz_syntax::{Base, Literal, LiteralKind};
 use fz_meaning::{Domain, Kind, Term};
-use fz_syntax::{Base, Literal, LiteralKind};
 use std::alloc::{AllocError, Global};
 
 /// The kind of a value. It takes no memory.

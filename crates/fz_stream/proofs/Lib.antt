@@ -17,3 +17,4 @@ pub mod FaultLemmas
 pub mod PlaceLemmas
 pub mod KeptLemmas
 pub mod Rows
+pub use Rattle.fz_syntax.proofs as of_syntax

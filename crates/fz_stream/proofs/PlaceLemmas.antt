@@ -2,6 +2,7 @@
 use Rattle.std.proofs.Common.{◌≡◌, ℕ, ◌<◌, ◌≤◌, List, [], ◌∷◌, ◌++◌, length, Option, Some, IfSome, sym, ap, ◌∙◌, subst, arith}
 use Rattle.std.proofs.lemmas.Grind.{flat_map-append}
 use Rattle.fz_syntax.specs.declared.Printed.{Printed}
+use Rattle.fz_syntax.specs.Placed.{ArePlacedIn, placed_items}
 use Rattle.fz_syntax.specs.Places.{IsSpanWithin}
 use Rattle.fz_syntax.specs.Span.{Span}
 use Rattle.fz_syntax.specs.Spots.{Spot, Stand, name_spot, printed_value_spots, printed_spots, item_spots}
@@ -50,13 +51,13 @@ again_within text items span w h = subst (IsSpanWithin (length text)) (sym w.2) 
 -- and it is the second printing
 pub second_printing : (offset : ℕ) (text : List ℕ) (items : List Printed) (span moved : Span)
     → AgainAt items span → IsTextOfItems text (bare_items items)
-    → Stand text 0 (length text) (item_spots items)
+    → ArePlacedIn text (placed_items items)
     → moved ≡ moved_span offset span → IsSecondPrinting offset text moved
 second_printing offset text items span moved w t h e = record {
   items = items;
   again = w.0;
   text_of = t;
-  stand = h;
+  placed = h;
   prints = w.1;
   span_is = e ∙ ap (moved_span offset) w.2;
 }

@@ -1,7 +1,7 @@
 -- The blocks and claims of the code as the plain data that the definitions speak of, and what they
 -- say about the stream that was read.
 use Rattle.std.specs.Prelude.{◌≡◌, ◌≤◌, ℕ, ◌+◌, List, [], ◌∷◌, ◌++◌, length}
-use Rattle.fz_syntax.specs.Spots.{Stand, item_spots}
+use Rattle.fz_syntax.specs.Placed.{ArePlacedIn, placed_items}
 use Rattle.fz_syntax.specs.View.{bare_items}
 use Rattle.fz_stream.specs.declared.block.Block.{Block}
 use Rattle.fz_stream.specs.declared.line.LineKind.TheVariants.{Marker}
@@ -13,10 +13,10 @@ use Rattle.fz_stream.specs.Parts.{SolutionBlock, StreamPart, BlockPart, ClaimPar
 abbrev pub block_of : Block → SolutionBlock
 block_of b = record { offset = b.offset; text = b.text.now; items = bare_items b.items.items }
 
--- the names and literals of the block's items are in its text, one after another, and each name is
--- a slice of it
+-- the block's text is cut into the tokens of its items, and each name and literal has the byte range
+-- of its own tokens
 abbrev pub HasPlaces : Block → Type 0
-HasPlaces b = Stand b.text.now 0 (length b.text.now) (item_spots b.items.items)
+HasPlaces b = ArePlacedIn b.text.now (placed_items b.items.items)
 
 -- the block's text ends within the first bytes of the stream, as many as given
 abbrev pub EndsWithin : ℕ → Block → Type 0

@@ -14,3 +14,4 @@ pub mod Releasing
 pub mod Keeping
 pub mod Inside
 pub mod Laws
+pub use Rattle.fz_syntax.specs as of_syntax

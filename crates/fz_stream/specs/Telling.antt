@@ -1,9 +1,9 @@
 -- What a refusal says about the open block at which a stream stops (this project's profile).
 use Rattle.std.specs.Prelude.{◌≡◌, ℕ, ◌+◌, List, [], ◌∷◌, ◌++◌, length, Any, Option, Some, None}
 use Rattle.fz_syntax.specs.declared.Printed.{Printed}
+use Rattle.fz_syntax.specs.Placed.{ArePlacedIn, placed_items}
 use Rattle.fz_syntax.specs.Places.{IsPlacedWithin}
 use Rattle.fz_syntax.specs.Span.{Span}
-use Rattle.fz_syntax.specs.Spots.{Stand, item_spots}
 use Rattle.fz_syntax.specs.SyntaxError.{SyntaxError}
 use Rattle.fz_syntax.specs.Text.{IsTextOfItems, IsRefusalOf}
 use Rattle.fz_syntax.specs.Tree.{Printed as PlainPrinted}
@@ -33,7 +33,7 @@ pub record IsSecondPrinting (offset : ℕ) (text : List ℕ) (span : Span) : Typ
   pub items : List Printed
   pub again : Printed
   pub text_of : IsTextOfItems text (bare_items items)
-  pub stand : Stand text 0 (length text) (item_spots items)
+  pub placed : ArePlacedIn text (placed_items items)
   pub prints : PrintsAgain items again
   pub span_is : span ≡ moved_span offset again.name.span
 

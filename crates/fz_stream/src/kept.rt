@@ -3,13 +3,14 @@
 ghost use Rattle.std.specs.Prelude.{◌≡◌, ◌≢◌, ◌+◌, ◌≤◌, List, length, map, slice_range, IfOk, IfErr, IfSome};
 ghost use Rattle.std.specs.List.{flat_map};
 ghost use Rattle.fz_syntax.specs.Limits.{most_bytes};
+ghost use Rattle.fz_syntax.specs.Placed.{placed_items};
 ghost use Rattle.fz_syntax.specs.Places.{IsSpanWithin};
-ghost use Rattle.fz_syntax.specs.Spots.{Stand, item_spots};
+ghost use Rattle.fz_syntax.specs.Spots.{Stand};
 ghost use Rattle.fz_syntax.specs.Tree.{Printed as PlainPrinted};
 ghost use Rattle.fz_syntax.specs.View.{bare_items};
 ghost use Rattle.fz_stream.specs.Faults.{IsFaultWithin};
 ghost use Rattle.fz_stream.specs.Found.{HasPlaces};
-ghost use Rattle.fz_stream.specs.Kept.{kept_of, bare_kept, kept_spots, AreKept, AreKeptOf, IsTextOfBlock};
+ghost use Rattle.fz_stream.specs.Kept.{kept_of, bare_kept, kept_spots, placed_kept, AreKept, AreKeptOf, IsTextOfBlock};
 ghost use Rattle.fz_stream.specs.Parts.{IsBlockText};
 ghost use Rattle.fz_stream.specs.Step.{IsLineFault};
 ghost use Rattle.fz_stream.specs.Telling.{TellsOfText};
@@ -84,8 +85,8 @@ fn moved_items<'a>(
     requires { Stand text.now 0 (length text.now) (flat_map (kept_spots text.now) kept.items) }
     ensures bare { IfOk result (λ items. bare_items items.items
         ≡ map (bare_kept text.now) kept.items) }
-    ensures places { IfOk result (λ items. item_spots items.items
-        ≡ flat_map (kept_spots text.now) kept.items) }
+    ensures places { IfOk result (λ items. placed_items items.items
+        ≡ flat_map (placed_kept text.now) kept.items) }
 {
     let mut items = Vec::with_capacity(alloc, kept.len())?;
     for item in kept {

@@ -19,6 +19,7 @@ mod step;
 
 pub use block::Block;
 pub use error::{StreamError, moved_span};
+pub use fz_syntax;
 pub use kept::KeptItems;
 pub use line::ClaimKind;
 pub use reading::{Claim, Stream, blocks};

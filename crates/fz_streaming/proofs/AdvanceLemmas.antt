@@ -3,13 +3,13 @@ use Rattle.std.proofs.Common.{◌≡◌, ◌≢◌, ℕ, ◌+◌, ◌*◌, ◌<�
 use Rattle.std.specs.Prelude.{⊤}
 use Rattle.std.proofs.KnownBytes.{Consumes-nil, Consumes-trans}
 use Rattle.std.specs.Io.KnownBytes.{Consumes, IsAtEnd}
-use Rattle.fz_stream.specs.declared.error.StreamError.{StreamError}
-use Rattle.fz_stream.specs.declared.error.StreamError.TheVariants.{TooLong, Item, DuplicateName, Unfinished, Memory, Failed}
-use Rattle.fz_stream.specs.declared.splitter.Stage.TheVariants.{Running, Finished, Failed as FailedStage}
-use Rattle.fz_stream.specs.Broken.{IsBrokenAtEndAfter}
-use Rattle.fz_stream.specs.Faults.{IsStreamFault}
-use Rattle.fz_stream.specs.Parts.{StreamPart, IsStreamText}
-use Rattle.fz_stream.specs.Splitting.{SplitterState, Holds, Fits, EndsWith, parts_of}
+use Rattle.fz_judge.specs.of_stream.declared.error.StreamError.{StreamError}
+use Rattle.fz_judge.specs.of_stream.declared.error.StreamError.TheVariants.{TooLong, Item, DuplicateName, Unfinished, Memory, Failed}
+use Rattle.fz_judge.specs.of_stream.declared.splitter.Stage.TheVariants.{Running, Finished, Failed as FailedStage}
+use Rattle.fz_judge.specs.of_stream.Broken.{IsBrokenAtEndAfter}
+use Rattle.fz_judge.specs.of_stream.Faults.{IsStreamFault}
+use Rattle.fz_judge.specs.of_stream.Parts.{StreamPart, IsStreamText}
+use Rattle.fz_judge.specs.of_stream.Splitting.{SplitterState, Holds, Fits, EndsWith, parts_of}
 use Rattle.fz_streaming.specs.declared.error.PartError.TheVariants.{Stream}
 use Rattle.fz_streaming.specs.Reading.{ReaderState, HasRead, HasEnded, StandsAt, ReadsOn, HasOneMore, HasNoMore, IsRefusedInside, IsRefusedAfter, SpendsReads, piece_size, steps_left, without_bytes}
 use Rattle.fz_streaming.specs.Refusing.{part_refusal}

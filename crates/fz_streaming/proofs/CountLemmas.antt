@@ -1,10 +1,10 @@
 -- A stream has no more parts than bytes.
 use Rattle.std.proofs.Common.{◌≡◌, ℕ, suc, ◌+◌, ◌<◌, ◌≤◌, Bool, true, false, cond, eqb, List, [], ◌∷◌, ◌++◌, length, refl, ap, arith, length-append, Option, ⊎_elim}
 use Rattle.std.specs.Io.KnownBytes.{IsAtEnd}
-use Rattle.fz_stream.specs.Lines.{Line, lines_of, onto_first, joined}
-use Rattle.fz_stream.specs.Found.{blocks_in}
-use Rattle.fz_stream.specs.Parts.{StreamPart, BlockPart, ClaimPart, AreLinesOfPart, AreLinesOf, Covers}
-use Rattle.fz_stream.specs.Splitting.{most_taken}
+use Rattle.fz_judge.specs.of_stream.Lines.{Line, lines_of, onto_first, joined}
+use Rattle.fz_judge.specs.of_stream.Found.{blocks_in}
+use Rattle.fz_judge.specs.of_stream.Parts.{StreamPart, BlockPart, ClaimPart, AreLinesOfPart, AreLinesOf, Covers}
+use Rattle.fz_judge.specs.of_stream.Splitting.{most_taken}
 use Rattle.fz_streaming.specs.Reading.{ReaderState, HasRead, HasEnded, StandsAt}
 
 onto_few : (x : ℕ) (ls : List Line) (n : ℕ) → length ls ≤ n → length (onto_first x ls) ≤ suc n

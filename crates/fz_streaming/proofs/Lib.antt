@@ -7,3 +7,6 @@ pub mod TellingLemmas
 pub mod CountLemmas
 pub mod StreamingLemmas
 pub mod SpendingLemmas
+pub use Rattle.fz_judge.proofs.of_verdict
+pub use Rattle.fz_judge.proofs.of_model
+pub use Rattle.fz_judge.proofs.of_syntax

@@ -2,11 +2,11 @@
 -- have ended.
 use Rattle.std.proofs.Common.{◌≡◌, ℕ, zero, suc, ◌+◌, ◌<◌, List, [], ◌∷◌, ◌++◌, length, refl, sym, ap, ◌∙◌, subst, append_assoc, append-nil, arith}
 use Rattle.std.specs.List.{AllByRecursion}
-use Rattle.fz_stream.specs.Lines.{Line, lines_of, joined, kind_of, HasNoFeed, EndsWithFeed, IsInner}
-use Rattle.fz_stream.specs.Parts.{StreamPart, BlockPart, ClaimPart, AreLinesOfPart, AreLinesOf}
-use Rattle.fz_stream.specs.Splitting.{SplitterState, Holds, Fits, CompletesPart}
-use Rattle.fz_stream.proofs.PartLemmas.{every_append, inner_from_filler, inner_body, marker_closes, claim_closes, split_once, none_closes}
-use Rattle.fz_stream.proofs.SplitLemmas.{lines_of-begun, no_end}
+use Rattle.fz_judge.specs.of_stream.Lines.{Line, lines_of, joined, kind_of, HasNoFeed, EndsWithFeed, IsInner}
+use Rattle.fz_judge.specs.of_stream.Parts.{StreamPart, BlockPart, ClaimPart, AreLinesOfPart, AreLinesOf}
+use Rattle.fz_judge.specs.of_stream.Splitting.{SplitterState, Holds, Fits, CompletesPart}
+use Rattle.fz_judge.proofs.of_stream.PartLemmas.{every_append, inner_from_filler, inner_body, marker_closes, claim_closes, split_once, none_closes}
+use Rattle.fz_judge.proofs.of_stream.SplitLemmas.{lines_of-begun, no_end}
 
 -- no line ends with LF
 abbrev HasNoEnd : List Line → Type 0

@@ -1,12 +1,12 @@
 -- What a reader of parts knows after each of its steps.
 use Rattle.std.proofs.Common.{◌≡◌, ◌≢◌, ℕ, ◌+◌, ◌-◌, ◌<◌, ◌≤◌, List, [], ◌∷◌, ◌++◌, length, take, drop, Option, Some, None, IsSome, true, false, ⊎_elim, refl, sym, ap, ◌∙◌, subst, append_assoc, append-nil, arith, length-take, length-drop, length-append, take-append-drop}
 use Rattle.std.proofs.lemmas.List.{drop_all, drop-take, drop-drop}
-use Rattle.fz_stream.specs.declared.error.StreamError.{StreamError}
-use Rattle.fz_stream.specs.declared.splitter.Stage.{Stage}
-use Rattle.fz_stream.specs.declared.splitter.Stage.TheVariants.{Running, Finished, Failed}
-use Rattle.fz_stream.specs.Broken.{IsBrokenAtEndAfter}
-use Rattle.fz_stream.specs.Parts.{StreamPart, IsStreamText}
-use Rattle.fz_stream.specs.Splitting.{SplitterState, Fits, Fed, TakesAll, CompletesPart, EndsWith, WaitingPart, WaitsForMore, most_taken}
+use Rattle.fz_judge.specs.of_stream.declared.error.StreamError.{StreamError}
+use Rattle.fz_judge.specs.of_stream.declared.splitter.Stage.{Stage}
+use Rattle.fz_judge.specs.of_stream.declared.splitter.Stage.TheVariants.{Running, Finished, Failed}
+use Rattle.fz_judge.specs.of_stream.Broken.{IsBrokenAtEndAfter}
+use Rattle.fz_judge.specs.of_stream.Parts.{StreamPart, IsStreamText}
+use Rattle.fz_judge.specs.of_stream.Splitting.{SplitterState, Fits, Fed, TakesAll, CompletesPart, EndsWith, WaitingPart, WaitsForMore, most_taken}
 use Rattle.fz_streaming.specs.Reading.{ReaderState, HasRead, HasEnded}
 use Rattle.fz_streaming.proofs.MovingLemmas.{part_takes_bytes}
 

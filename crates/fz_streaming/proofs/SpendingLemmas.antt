@@ -1,8 +1,8 @@
 -- How many reads were made, and what they may have brought.
 use Rattle.std.proofs.Common.{◌≡◌, ◌≢◌, ℕ, ◌+◌, ◌≤◌, List, [], ◌++◌, Option, refl, sym, ap, subst, length-append, arith}
 use Rattle.std.proofs.KnownBytes.{Consumes-nil, Consumes-trans}
-use Rattle.fz_stream.specs.declared.splitter.Stage.{Stage}
-use Rattle.fz_stream.specs.declared.splitter.Stage.TheVariants.{Running, Finished, Failed}
+use Rattle.fz_judge.specs.of_stream.declared.splitter.Stage.{Stage}
+use Rattle.fz_judge.specs.of_stream.declared.splitter.Stage.TheVariants.{Running, Finished, Failed}
 use Rattle.fz_streaming.specs.Reading.{ReaderState, SpendsReads, reads_without, without_bytes}
 
 -- while the stream goes on, only reads that may still be made bring nothing

@@ -4,10 +4,10 @@ use Rattle.std.specs.Prelude.{⊤, Bool, IfOk, OnErr, Result, Ok, Err}
 use Rattle.std.proofs.KnownBytes.{Appends-nil, Consumes-nil, Consumes-trans}
 use Rattle.std.specs.Io.KnownBytes.{Appends, Consumes, IsAtEnd}
 use Rattle.fz_judge.specs.of_model.Meaning.{Model}
-use Rattle.fz_stream.specs.declared.splitter.Stage.TheVariants.{Finished}
-use Rattle.fz_stream.specs.Found.{claims_in}
-use Rattle.fz_stream.specs.Parts.{StreamPart, IsStreamText}
-use Rattle.fz_stream.specs.Splitting.{most_taken}
+use Rattle.fz_judge.specs.of_stream.declared.splitter.Stage.TheVariants.{Finished}
+use Rattle.fz_judge.specs.of_stream.Found.{claims_in}
+use Rattle.fz_judge.specs.of_stream.Parts.{StreamPart, IsStreamText}
+use Rattle.fz_judge.specs.of_stream.Splitting.{most_taken}
 use Rattle.fz_judge.specs.of_verdict.Report.{answer_line, part_lines, text_of_lines}
 use Rattle.fz_judge.specs.of_verdict.declared.completion.Completion.{Completion}
 use Rattle.fz_judge.specs.of_verdict.Completed.{AreTold}
@@ -18,7 +18,7 @@ use Rattle.fz_judge.proofs.of_verdict.Places.{blocks_are_bare}
 use Rattle.fz_judge.specs.of_verdict.View.{located_block}
 use Rattle.fz_judge.specs.declared.error.BlockError.{BlockError}
 use Rattle.fz_judge.specs.Judged.{JudgeState}
-use Rattle.fz_stream.specs.declared.error.StreamError.{StreamError}
+use Rattle.fz_judge.specs.of_stream.declared.error.StreamError.{StreamError}
 use Rattle.fz_streaming.specs.declared.error.PartError.{PartError}
 use Rattle.fz_streaming.specs.declared.error.PartError.TheVariants as errors
 use Rattle.fz_streaming.specs.declared.error.StreamingError.{StreamingError}

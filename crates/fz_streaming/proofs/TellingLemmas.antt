@@ -2,11 +2,11 @@
 use Rattle.std.proofs.Common.{◌≡◌, ◌≢◌, ℕ, suc, ◌+◌, List, [], ◌∷◌, ◌++◌, length, map, Some, None, cond, refl, sym, ap, ◌∙◌, subst, subst₂, Result, Ok, Err, OnOk, append_assoc, arith, length-append}
 use Rattle.std.specs.Option.{option_or}
 use Rattle.fz_judge.specs.of_model.Meaning.{Model, Partial, objective}
-use Rattle.fz_stream.specs.declared.block.Block as the_block
-use Rattle.fz_stream.specs.declared.line.ClaimKind.{ClaimKind}
-use Rattle.fz_stream.specs.Found.{HasPlaces, block_of, blocks_in}
-use Rattle.fz_stream.proofs.PartLemmas.{every_append}
-use Rattle.fz_stream.specs.Parts.{StreamPart, BlockPart, ClaimPart}
+use Rattle.fz_judge.specs.of_stream.declared.block.Block as the_block
+use Rattle.fz_judge.specs.of_stream.declared.line.ClaimKind.{ClaimKind}
+use Rattle.fz_judge.specs.of_stream.Found.{HasPlaces, block_of, blocks_in}
+use Rattle.fz_judge.proofs.of_stream.PartLemmas.{every_append}
+use Rattle.fz_judge.specs.of_stream.Parts.{StreamPart, BlockPart, ClaimPart}
 use Rattle.fz_judge.specs.of_verdict.View.{located_block}
 use Rattle.fz_judge.specs.of_verdict.Report.{block_line, claim_line, part_lines, text_of_lines}
 use Rattle.fz_judge.specs.of_verdict.Blocks.{Block}

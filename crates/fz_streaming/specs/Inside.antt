@@ -1,9 +1,9 @@
 -- What contracts see of what is read, `pieces_of`, and of a reader of parts, `state_of`. The
 -- invariants serve private functions alone: a reader of the public contracts need not believe them.
 use Rattle.std.specs.Prelude.{◌≡◌, ℕ, ◌-◌, ◌≤◌, List, take, drop, None, true, ◌↔◌}
-use Rattle.fz_stream.specs.declared.splitter.Stage.TheVariants.{Running, Finished, Failed}
-use Rattle.fz_stream.specs.Parts.{StreamPart}
-use Rattle.fz_stream.specs.Splitting.{Fits}
+use Rattle.fz_judge.specs.of_stream.declared.splitter.Stage.TheVariants.{Running, Finished, Failed}
+use Rattle.fz_judge.specs.of_stream.Parts.{StreamPart}
+use Rattle.fz_judge.specs.of_stream.Splitting.{Fits}
 use Rattle.fz_streaming.specs.declared.pieces.Pieces.TheInside as the_pieces
 use Rattle.fz_streaming.specs.declared.reader.PartReader.TheInside.{Inside}
 use Rattle.fz_streaming.specs.Reading.{PiecesState, ReaderState, piece_size}

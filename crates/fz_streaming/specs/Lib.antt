@@ -6,3 +6,7 @@ pub mod View
 pub mod Streaming
 pub mod Telling
 pub use Rattle.fz_judge.specs as of_judge
+pub use Rattle.fz_judge.specs.of_verdict
+pub use Rattle.fz_judge.specs.of_model
+pub use Rattle.fz_judge.specs.of_stream
+pub use Rattle.fz_judge.specs.of_syntax

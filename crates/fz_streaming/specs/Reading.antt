@@ -3,13 +3,13 @@
 -- nothing is known, such as a file, they say nothing.
 use Rattle.std.specs.Prelude.{◌≡◌, ℕ, suc, ◌+◌, ◌*◌, ◌≤◌, List, [], ◌∷◌, ◌++◌, length, Option, ◌⊎◌}
 use Rattle.std.specs.Io.KnownBytes.{Consumes, IsAtEnd}
-use Rattle.fz_stream.specs.declared.error.StreamError.{StreamError}
-use Rattle.fz_stream.specs.declared.error.StreamError.TheVariants.{TooLong}
-use Rattle.fz_stream.specs.declared.splitter.Stage.{Stage}
-use Rattle.fz_stream.specs.declared.splitter.Stage.TheVariants.{Running, Finished, Failed}
-use Rattle.fz_stream.specs.Broken.{IsBrokenAfter, IsBrokenAtEndAfter}
-use Rattle.fz_stream.specs.Parts.{StreamPart}
-use Rattle.fz_stream.specs.Splitting.{SplitterState, Holds, Fits, EndsWith, PassesLimit, most_taken}
+use Rattle.fz_judge.specs.of_stream.declared.error.StreamError.{StreamError}
+use Rattle.fz_judge.specs.of_stream.declared.error.StreamError.TheVariants.{TooLong}
+use Rattle.fz_judge.specs.of_stream.declared.splitter.Stage.{Stage}
+use Rattle.fz_judge.specs.of_stream.declared.splitter.Stage.TheVariants.{Running, Finished, Failed}
+use Rattle.fz_judge.specs.of_stream.Broken.{IsBrokenAfter, IsBrokenAtEndAfter}
+use Rattle.fz_judge.specs.of_stream.Parts.{StreamPart}
+use Rattle.fz_judge.specs.of_stream.Splitting.{SplitterState, Holds, Fits, EndsWith, PassesLimit, most_taken}
 
 -- What was read and not taken yet, and how many more reads may be made.
 pub record PiecesState : Type 0 where

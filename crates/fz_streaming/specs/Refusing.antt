@@ -1,7 +1,7 @@
 -- What is answered where a splitter refuses a stream's bytes, or the next part is not known (this
 -- project's profile).
-use Rattle.fz_stream.specs.declared.error.StreamError.{StreamError}
-use Rattle.fz_stream.specs.declared.error.StreamError.TheVariants as faults
+use Rattle.fz_judge.specs.of_stream.declared.error.StreamError.{StreamError}
+use Rattle.fz_judge.specs.of_stream.declared.error.StreamError.TheVariants as faults
 use Rattle.fz_streaming.specs.declared.error.PartError.{PartError}
 use Rattle.fz_streaming.specs.declared.error.PartError.TheVariants as errors
 use Rattle.fz_streaming.specs.declared.error.StreamingError.{StreamingError}

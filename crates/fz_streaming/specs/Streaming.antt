@@ -5,9 +5,9 @@ use Rattle.std.specs.Prelude.{◌≡◌, ◌≢◌, ℕ, suc, List, [], ◌∷�
 use Rattle.std.specs.List.{AllByRecursion}
 use Rattle.std.specs.Io.KnownBytes.{Appends, Consumes, IsAtEnd}
 use Rattle.fz_judge.specs.of_model.Meaning.{Model}
-use Rattle.fz_stream.specs.declared.block.Block as the_block
-use Rattle.fz_stream.specs.Found.{HasPlaces, block_of, blocks_in}
-use Rattle.fz_stream.specs.Parts.{StreamPart, BlockPart, IsStreamText}
+use Rattle.fz_judge.specs.of_stream.declared.block.Block as the_block
+use Rattle.fz_judge.specs.of_stream.Found.{HasPlaces, block_of, blocks_in}
+use Rattle.fz_judge.specs.of_stream.Parts.{StreamPart, BlockPart, IsStreamText}
 use Rattle.fz_judge.specs.of_verdict.View.{located_block}
 use Rattle.fz_judge.specs.of_verdict.Report.{Report, IsReport, answer_line, part_lines, report_bytes, text_of_lines}
 use Rattle.fz_judge.specs.of_verdict.declared.completion.Completion.{Completion}

@@ -4,9 +4,9 @@ use Rattle.std.specs.Prelude.{◌≡◌, ◌≢◌, ℕ, suc, ◌+◌, cond, Lis
 use Rattle.std.specs.List.{AllByRecursion}
 use Rattle.std.specs.Option.{option_or}
 use Rattle.fz_judge.specs.of_model.Meaning.{Model}
-use Rattle.fz_stream.specs.declared.block.Block as the_block
-use Rattle.fz_stream.specs.Found.{HasPlaces, block_of, blocks_in}
-use Rattle.fz_stream.specs.Parts.{StreamPart, BlockPart}
+use Rattle.fz_judge.specs.of_stream.declared.block.Block as the_block
+use Rattle.fz_judge.specs.of_stream.Found.{HasPlaces, block_of, blocks_in}
+use Rattle.fz_judge.specs.of_stream.Parts.{StreamPart, BlockPart}
 use Rattle.fz_judge.specs.of_verdict.Blocks.{Block}
 use Rattle.fz_judge.specs.of_verdict.View.{located_block}
 use Rattle.fz_judge.specs.of_verdict.declared.completion.Completion.{Completion}

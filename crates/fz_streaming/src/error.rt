@@ -2,7 +2,7 @@ ghost use Rattle.std.specs.Prelude.{◌≡◌};
 ghost use Rattle.fz_streaming.specs.Refusing.{streaming_refusal, part_refusal};
 
 use fz_judge::BlockError;
-use fz_stream::StreamError;
+use fz_judge::fz_stream::StreamError;
 use thiserror::Error;
 
 /// Why the next part of a stream is not known.

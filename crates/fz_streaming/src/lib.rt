@@ -17,7 +17,7 @@ mod text;
 mod writing;
 
 pub use error::{PartError, StreamingError};
-pub use fz_judge;
+pub use fz_judge::{self, fz_model, fz_stream, fz_syntax, fz_verdict};
 pub use line::{Answer, push_answer, push_block, push_claim};
 pub use reader::PartReader;
 pub use streaming::check_parts;

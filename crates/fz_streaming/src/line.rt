@@ -7,7 +7,7 @@ ghost use Rattle.fz_streaming.specs.View.{answer_view};
 
 use crate::text::{push_bytes, push_count, push_fault, push_reason};
 use fz_judge::Verdict;
-use fz_stream::ClaimKind;
+use fz_judge::fz_stream::ClaimKind;
 use std::alloc::AllocError;
 
 /// The answer on a whole stream.

@@ -1,17 +1,17 @@
 ghost use Rattle.std.specs.Prelude.{◌≡◌, ◌≢◌, ⊤, ℕ, Option, ◌+◌, ◌<◌, ◌≤◌, List, [], ◌∷◌, ◌++◌, ◌↔◌, length, Ok, Err, Some, None, IfOk, IfSome, OnOk, OnErr, IfErr, IsTrue, IsSome, true, false};
 ghost use Rattle.std.specs.Io.KnownBytes.{Consumes, IsAtEnd, Keeps};
-ghost use Rattle.fz_stream.specs.Broken.{IsBrokenAtEndAfter};
-ghost use Rattle.fz_stream.specs.Faults.{IsStreamFault};
-ghost use Rattle.fz_stream.specs.Parts.{StreamPart, IsStreamText};
-ghost use Rattle.fz_stream.specs.Releasing.{AreOfWaiting};
-ghost use Rattle.fz_stream.specs.Splitting.{Fits, Lends, IsPartOfItems, most_taken};
+ghost use Rattle.fz_judge.specs.of_stream.Broken.{IsBrokenAtEndAfter};
+ghost use Rattle.fz_judge.specs.of_stream.Faults.{IsStreamFault};
+ghost use Rattle.fz_judge.specs.of_stream.Parts.{StreamPart, IsStreamText};
+ghost use Rattle.fz_judge.specs.of_stream.Releasing.{AreOfWaiting};
+ghost use Rattle.fz_judge.specs.of_stream.Splitting.{Fits, Lends, IsPartOfItems, most_taken};
 ghost use Rattle.fz_streaming.specs.Writing.{WritesFront, Wrote};
 ghost use Rattle.fz_streaming.specs.Reading.{StandsAt, HasRead, HasEnded, ReadsOn, HasOneMore, HasNoMore, IsRefusedInside, IsRefusedAfter, SpendsReads, piece_size, steps_left, without_bytes};
 
 use crate::error::{PartError, part_refusal};
 use crate::pieces::{Pieces, ReadFailed};
 use crate::writing::{WriteFailed, write_lines};
-use fz_stream::{KeptItems, Part, Splitter, StreamError};
+use fz_judge::fz_stream::{KeptItems, Part, Splitter, StreamError};
 use std::alloc::Global;
 use std::io::{Read, Write};
 use std::marker::Model;
@@ -38,8 +38,8 @@ impl Model for PartReader {
 }
 
 impl PartReader {
-    ghost use Rattle.fz_stream.specs.declared.splitter.Stage.TheVariants.{Running, Finished, Failed as FailedStage};
-    ghost use Rattle.fz_stream.specs.Lending.{part_of, HasPlacesOfItems, PartEndsWithin};
+    ghost use Rattle.fz_judge.specs.of_stream.declared.splitter.Stage.TheVariants.{Running, Finished, Failed as FailedStage};
+    ghost use Rattle.fz_judge.specs.of_stream.Lending.{part_of, HasPlacesOfItems, PartEndsWithin};
 
     /// Nothing is read yet, and at most so many reads will be made.
     pub fn new(alloc: Global, reads: u64) -> PartReader

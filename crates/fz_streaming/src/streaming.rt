@@ -1,9 +1,9 @@
 //! The check of a stream over a reader and a writer.
 
 ghost use Rattle.std.specs.Prelude.{◌≡◌, ◌≢◌, ℕ, List, [], Option, Err, IfOk, OnErr};
-ghost use Rattle.fz_stream.specs.declared.error.StreamError.{StreamError};
-ghost use Rattle.fz_stream.specs.Faults.{IsStreamFault};
-ghost use Rattle.fz_stream.specs.Parts.{StreamPart};
+ghost use Rattle.fz_judge.specs.of_stream.declared.error.StreamError.{StreamError};
+ghost use Rattle.fz_judge.specs.of_stream.Faults.{IsStreamFault};
+ghost use Rattle.fz_judge.specs.of_stream.Parts.{StreamPart};
 ghost use Rattle.fz_judge.specs.declared.error.BlockError.{BlockError};
 ghost use Rattle.fz_streaming.specs.Streaming.{BlockIsRefused, IsAnswered, StopsAfterLines, WritesFrontOfLines};
 ghost use Rattle.fz_streaming.specs.Reading.{HasNoMore, IsRefusedAfter, SpendsReads};

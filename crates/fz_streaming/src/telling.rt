@@ -1,10 +1,10 @@
 ghost use Rattle.std.specs.Prelude.{◌≡◌, ◌≢◌, ℕ, suc, ◌<◌, ◌+◌, List, [], ◌∷◌, ◌++◌, Option, Err, IfErr, OnOk, OnErr, IsSome, cond, Some, None};
 ghost use Rattle.std.specs.Option.{option_or};
 ghost use Rattle.fz_judge.specs.of_model.Meaning.{Model};
-ghost use Rattle.fz_stream.specs.Found.{EndsWithin, HasPlaces};
-ghost use Rattle.fz_stream.specs.Parts.{StreamPart};
-ghost use Rattle.fz_stream.specs.Splitting.{most_taken};
-ghost use Rattle.fz_stream.specs.Lending.{part_of, HasPlacesOfItems, PartEndsWithin};
+ghost use Rattle.fz_judge.specs.of_stream.Found.{EndsWithin, HasPlaces};
+ghost use Rattle.fz_judge.specs.of_stream.Parts.{StreamPart};
+ghost use Rattle.fz_judge.specs.of_stream.Splitting.{most_taken};
+ghost use Rattle.fz_judge.specs.of_stream.Lending.{part_of, HasPlacesOfItems, PartEndsWithin};
 ghost use Rattle.fz_judge.specs.of_verdict.Report.{answer_line, block_line, text_of_lines};
 ghost use Rattle.fz_judge.specs.of_verdict.Verdict.{Verdict as PlainVerdict};
 ghost use Rattle.fz_judge.specs.of_verdict.declared.completion.Completion.{Completion};
@@ -20,8 +20,8 @@ use crate::line::{Answer, push_answer, push_block, push_claim};
 use crate::reader::PartReader;
 use crate::tally::Tally;
 use crate::writing::{WriteFailed, write_lines};
+use fz_judge::fz_stream::{Block, Part};
 use fz_judge::{BlockError, Judge};
-use fz_stream::{Block, Part};
 use std::alloc::Global;
 use std::io::Write;
 

@@ -25,3 +25,4 @@ pub mod Folds
 pub mod Fits
 pub mod PlacedNotes
 pub mod PlacedLaws
+pub use Rattle.fz_tree.proofs.PrintBack

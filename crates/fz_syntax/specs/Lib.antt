@@ -22,4 +22,4 @@ pub use Rattle.fz_tree.specs.View
 pub use Rattle.fz_tree.specs.Tokens
 pub use Rattle.fz_tree.specs.Shape
 pub use Rattle.fz_tree.specs.Text
-pub use Rattle.fz_printer.specs.Print
+pub use Rattle.fz_tree.specs.Print

@@ -1,7 +1,7 @@
 //! The syntax of FlatZinc: `parse` gives the tree of a model, `Items` its items one by one without
 //! a tree, `read_items` the items of a block of solver output, and `to_text` the canonical text of
-//! a tree. A facade: it also passes on the lexer and the errors of `fz_lex`, the tree of `fz_tree`
-//! and the printer of `fz_printer`.
+//! a tree. A facade: it also passes on the lexer and the errors of `fz_lex`, and the tree and the
+//! printer of `fz_tree`.
 //! Its worked cases are in `fz_text_cases`.
 #![tactic(auto)]
 
@@ -12,10 +12,9 @@ ghost use Rattle.fz_tree.specs.Text.{TextHasOneTree, TextHasOneListOfItems};
 
 pub use fz_lex::fz_base::Span;
 pub use fz_lex::{Mark, SyntaxError, Token, TokenKind, lex};
-pub use fz_printer::to_text;
 pub use fz_tree::{
     Ast, Base, Basic, Constraint, Decl, Expr, Goal, Literal, LiteralKind, Name, Note, NoteArg,
-    NoteBasic, Param, Predicate, Printed, PrintedValue, Solve,
+    NoteBasic, Param, Predicate, Printed, PrintedValue, Solve, to_text,
 };
 pub use parser::{parse, read_items};
 pub use reader::Items;

@@ -3,3 +3,4 @@ pub mod View
 pub mod Tokens
 pub mod Shape
 pub mod Text
+pub mod Print

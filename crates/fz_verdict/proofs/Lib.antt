@@ -9,3 +9,6 @@ pub mod Completing
 pub mod Each
 pub mod Start
 pub mod Loops
+pub use Rattle.fz_model.proofs as of_model
+pub use Rattle.fz_stream.proofs as of_stream
+pub use Rattle.fz_stream.proofs.of_syntax

@@ -1,11 +1,11 @@
 -- The blocks and items with byte ranges, once the ranges are left out, are the plain ones.
 use Rattle.std.proofs.Common.{◌≡◌, List, [], ◌∷◌, map, refl, ap}
-use Rattle.fz_syntax.specs.View as plain
-use Rattle.fz_syntax.specs.Tree as tree
-use Rattle.fz_syntax.specs.declared.Literal as the_literal
-use Rattle.fz_syntax.specs.declared.Printed as the_printed
-use Rattle.fz_syntax.specs.declared.PrintedValue as the_value
-use Rattle.fz_syntax.specs.declared.PrintedValue.TheVariants as printed
+use Rattle.fz_stream.specs.of_syntax.View as plain
+use Rattle.fz_stream.specs.of_syntax.Tree as tree
+use Rattle.fz_stream.specs.of_syntax.declared.Literal as the_literal
+use Rattle.fz_stream.specs.of_syntax.declared.Printed as the_printed
+use Rattle.fz_stream.specs.of_syntax.declared.PrintedValue as the_value
+use Rattle.fz_stream.specs.of_syntax.declared.PrintedValue.TheVariants as printed
 use Rattle.fz_model.specs.View.{located_literal}
 use Rattle.fz_stream.specs.Found.{block_of}
 use Rattle.fz_stream.specs.declared.block.Block as the_block

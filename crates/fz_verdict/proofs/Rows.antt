@@ -2,8 +2,8 @@
 use Rattle.std.proofs.Common.{◌≡◌, ℕ, ℤ, pos, negsuc, true, ◌&&◌, List, [], ◌∷◌, Option, Some, None, codes, refl, IsTrue, ◌↔◌, int_le, subst, sym, le-leb, le_refl, lit<}
 use Rattle.fz_base.specs.declared.value.Value.TheVariants.{Int}
 use Rattle.fz_model.specs.declared.Kind.TheVariants.{Int as IntKind}
-use Rattle.fz_syntax.specs.Tree.Literal.{Number, Truth as TruthWord}
-use Rattle.fz_syntax.specs.Tree.Base.{IntBase}
+use Rattle.fz_stream.specs.of_syntax.Tree.Literal.{Number, Truth as TruthWord}
+use Rattle.fz_stream.specs.of_syntax.Tree.Base.{IntBase}
 use Rattle.fz_model.specs.Builtins.{builtins, row_at, rows}
 use Rattle.fz_model.specs.Located.{LocatedTree, Literal}
 use Rattle.fz_model.specs.Located.Expr.{One, Several}

@@ -8,7 +8,7 @@ use Rattle.fz_base.specs.declared.value.Value.{Value}
 use Rattle.fz_stream.specs.Parts.{SolutionBlock}
 use Rattle.fz_model.specs.declared.Kind.{Kind}
 use Rattle.fz_model.specs.Values.{kind_of, same_kind}
-use Rattle.fz_syntax.specs.Tree as tree
+use Rattle.fz_stream.specs.of_syntax.Tree as tree
 use Rattle.fz_model.specs.Located.{Name, Literal}
 use Rattle.fz_model.specs.Names.{literal_value}
 use Rattle.fz_model.specs.Meaning.{Place, Model, Partial, Assignment, value, values, whole, find_name, first_some}

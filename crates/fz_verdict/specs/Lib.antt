@@ -6,3 +6,6 @@ pub mod Completed
 pub mod Report
 pub mod Headline
 pub mod Laws
+pub use Rattle.fz_model.specs as of_model
+pub use Rattle.fz_stream.specs as of_stream
+pub use Rattle.fz_stream.specs.of_syntax

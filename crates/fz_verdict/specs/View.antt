@@ -1,9 +1,9 @@
 -- The printed items and the blocks that are read, as plain items and blocks with their byte ranges
 -- (this project's profile).
 use Rattle.std.specs.Prelude.{List, map}
-use Rattle.fz_syntax.specs.declared.Printed as the_printed
-use Rattle.fz_syntax.specs.declared.PrintedValue as the_value
-use Rattle.fz_syntax.specs.declared.PrintedValue.TheVariants as printed
+use Rattle.fz_stream.specs.of_syntax.declared.Printed as the_printed
+use Rattle.fz_stream.specs.of_syntax.declared.PrintedValue as the_value
+use Rattle.fz_stream.specs.of_syntax.declared.PrintedValue.TheVariants as printed
 use Rattle.fz_model.specs.View.{located_literal, located_name}
 use Rattle.fz_stream.specs.declared.block.Block as the_block
 use Rattle.fz_verdict.specs.Blocks.{Printed, PrintedValue, Block}

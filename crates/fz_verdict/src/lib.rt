@@ -26,6 +26,8 @@ ghost use Rattle.fz_verdict.specs.Laws.{
 mod completion;
 
 pub use completion::Completion;
+pub use fz_model;
+pub use fz_stream::{self, fz_syntax};
 
 /// A satisfied block has a solution: the partial assignment under which it was judged.
 pub fn satisfied_is_solved()

@@ -121,6 +121,7 @@ fn explain_verdict<S: Read + Drop>(
     };
     let case = Case {
         said,
+        completes: task.options.completes,
         model: source_behind(task.model, model, NOTHING),
         stream: task.stream,
         told,

@@ -1,8 +1,8 @@
 use Rattle.std.proofs.Common.{map, subst, ap, ◌∙◌, vec_len, Err}
-use Rattle.fz_verdict.specs.declared.completion.Completion.TheVariants.{Off}
-use Rattle.fz_verdict.specs.Completed.{AreVerdicts}
-use Rattle.fz_verdict.specs.Verdict.{answer_of}
-use Rattle.fz_verdict.specs.View.{located_block}
+use Rattle.fz_streaming.specs.of_verdict.declared.completion.Completion.TheVariants.{Off}
+use Rattle.fz_streaming.specs.of_verdict.Completed.{AreVerdicts}
+use Rattle.fz_streaming.specs.of_verdict.Verdict.{answer_of}
+use Rattle.fz_streaming.specs.of_verdict.View.{located_block}
 use Rattle.fz_streaming.specs.of_judge.View.{verdict_view}
 use Rattle.fz_check.specs.declared.error.CheckError.TheVariants as errors
 use Rattle.fz_check.proofs.Accepting.{accepted_solved, in_order}

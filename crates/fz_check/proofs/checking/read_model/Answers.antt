@@ -1,6 +1,6 @@
 use Rattle.std.proofs.Common.{◌≡◌, ◌∙◌, Err, ap, sym}
-use Rattle.fz_model.specs.declared.LoadError.TheVariants as loads
-use Rattle.fz_syntax.specs.SyntaxError.TheVariants as syntax
+use Rattle.fz_streaming.specs.of_model.declared.LoadError.TheVariants as loads
+use Rattle.fz_streaming.specs.of_syntax.SyntaxError.TheVariants as syntax
 use Rattle.fz_check.specs.declared.error.CheckError.TheVariants as errors
 use Rattle.fz_check.proofs.Refusals.{text_fault_on}
 use Rattle.fz_check.proofs.checking.read_model.Goals as goal

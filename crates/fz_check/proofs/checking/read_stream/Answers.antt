@@ -1,5 +1,5 @@
 use Rattle.std.proofs.Common.{◌≡◌, ◌∙◌, length, Err, sym}
-use Rattle.fz_stream.specs.declared.error.StreamError.TheVariants as stream
+use Rattle.fz_streaming.specs.of_stream.declared.error.StreamError.TheVariants as stream
 use Rattle.fz_check.specs.declared.error.CheckError.TheVariants as errors
 use Rattle.fz_check.proofs.Refusals.{short_read, stream_fault_on}
 use Rattle.fz_check.proofs.checking.read_stream.Goals as goal

@@ -1,5 +1,5 @@
 use Rattle.std.proofs.Common.{◌≡◌, ◌∙◌, Err, sym}
-use Rattle.fz_syntax.specs.SyntaxError.TheVariants as syntax
+use Rattle.fz_streaming.specs.of_syntax.SyntaxError.TheVariants as syntax
 use Rattle.fz_check.specs.declared.error.CheckError.TheVariants as errors
 use Rattle.fz_check.proofs.Refusals.{refused_as, text_fault_on}
 use Rattle.fz_check.proofs.checking.read_tree.Goals as goal

@@ -1,5 +1,5 @@
 use Rattle.std.proofs.Common.{◌≡◌, map, take, None}
-use Rattle.fz_verdict.specs.Verdict.{first_number}
+use Rattle.fz_streaming.specs.of_verdict.Verdict.{first_number}
 use Rattle.fz_streaming.specs.of_judge.View.{verdict_view}
 use Rattle.fz_check.specs.Sought.{is_sought}
 use Rattle.fz_check.proofs.report.first_number.Given as goal

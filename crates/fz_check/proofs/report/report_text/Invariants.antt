@@ -1,5 +1,5 @@
 use Rattle.std.proofs.Common.{map, take, vec_len}
-use Rattle.fz_stream.specs.Found.{AreInOrder}
+use Rattle.fz_streaming.specs.of_stream.Found.{AreInOrder}
 use Rattle.fz_streaming.specs.of_judge.View.{verdict_view}
 use Rattle.fz_check.specs.Lines.{IsWritten}
 use Rattle.fz_check.proofs.report.report_text.Given as goal

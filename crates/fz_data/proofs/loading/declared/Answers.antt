@@ -1,7 +1,7 @@
 use Rattle.std.proofs.Common.{List, sym, subst, map}
 use Rattle.std.proofs.lemmas.List.{take_all}
 use Rattle.std.proofs.lemmas.Result.{err_from_is_err_and}
-use Rattle.fz_syntax.specs.declared.Decl.{Decl as TreeDecl}
+use Rattle.fz_meaning.specs.of_syntax.declared.Decl.{Decl as TreeDecl}
 use Rattle.fz_meaning.specs.Located.{Decl}
 use Rattle.fz_meaning.specs.View.{located_decl}
 use Rattle.fz_meaning.proofs.ScanSteps.{take_one_more, decls_stops}

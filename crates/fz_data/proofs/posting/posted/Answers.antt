@@ -1,7 +1,7 @@
 use Rattle.std.proofs.Common.{map, ap, ◌∙◌}
 use Rattle.fz_meaning.specs.Meaning.{row_of, first_some}
 use Rattle.fz_meaning.specs.View.{located_expr}
-use Rattle.fz_syntax.specs.View.{bare_notes}
+use Rattle.fz_meaning.specs.of_syntax.View.{bare_notes}
 use Rattle.fz_data.specs.Parts.{argument_view}
 use Rattle.fz_data.specs.Scope.{argument_in, defined_in}
 use Rattle.fz_store.specs.Slots.{segment}

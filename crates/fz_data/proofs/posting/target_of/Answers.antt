@@ -1,5 +1,5 @@
 use Rattle.std.proofs.Common.{sym, ◌∙◌}
-use Rattle.fz_syntax.specs.View.{bare_note}
+use Rattle.fz_meaning.specs.of_syntax.View.{bare_note}
 use Rattle.fz_meaning.proofs.ScanSteps.{first_more}
 use Rattle.fz_data.specs.Scope.{defined_in}
 use Rattle.fz_data.proofs.Loops.{no_answer, answer_found}

@@ -1,8 +1,8 @@
 use Rattle.std.proofs.Common.{List, [], ◌∷◌, ◌++◌, refl, sym, subst, ◌∙◌, append_assoc}
 use Rattle.std.proofs.lemmas.List.{append-nil}
 use Rattle.std.proofs.lemmas.Result.{err_from_is_err_and}
-use Rattle.fz_syntax.specs.Offering.{AtConstraints}
-use Rattle.fz_syntax.specs.declared.Constraint.{Constraint}
+use Rattle.fz_meaning.specs.of_syntax.Offering.{AtConstraints}
+use Rattle.fz_meaning.specs.of_syntax.declared.Constraint.{Constraint}
 use Rattle.fz_data.proofs.RestOfText.{offered_more, offered_done}
 use Rattle.fz_data.proofs.text.behind_constraints.Goals as goal
 

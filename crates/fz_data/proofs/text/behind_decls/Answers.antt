@@ -1,8 +1,8 @@
 use Rattle.std.proofs.Common.{List, [], ◌∷◌, ◌++◌, refl, sym, subst, ◌∙◌, append_assoc}
 use Rattle.std.proofs.lemmas.List.{append-nil}
 use Rattle.std.proofs.lemmas.Result.{err_from_is_err_and}
-use Rattle.fz_syntax.specs.Offering.{AtDecls}
-use Rattle.fz_syntax.specs.declared.Decl.{Decl}
+use Rattle.fz_meaning.specs.of_syntax.Offering.{AtDecls}
+use Rattle.fz_meaning.specs.of_syntax.declared.Decl.{Decl}
 use Rattle.fz_data.proofs.RestOfText.{all_of, offered_more, offered_done}
 use Rattle.fz_data.proofs.text.behind_decls.Goals as goal
 

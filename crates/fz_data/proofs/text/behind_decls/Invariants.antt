@@ -1,7 +1,7 @@
 use Rattle.std.proofs.Common.{◌≡◌, ◌++◌, List}
-use Rattle.fz_syntax.specs.Offering.{AtDecls, left_of}
-use Rattle.fz_syntax.specs.declared.Decl.{Decl}
-use Rattle.fz_syntax.specs.declared.Predicate.{Predicate}
+use Rattle.fz_meaning.specs.of_syntax.Offering.{AtDecls, left_of}
+use Rattle.fz_meaning.specs.of_syntax.declared.Decl.{Decl}
+use Rattle.fz_meaning.specs.of_syntax.declared.Predicate.{Predicate}
 use Rattle.fz_data.proofs.text.behind_decls.Given as goal
 
 abbrev pub invariant-loop-items : goal.invariant-loop-items

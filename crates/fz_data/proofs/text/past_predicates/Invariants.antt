@@ -1,6 +1,6 @@
 use Rattle.std.proofs.Common.{◌≡◌, List, []}
-use Rattle.fz_syntax.specs.Offering.{AtPredicates, left_of}
-use Rattle.fz_syntax.specs.declared.Predicate.{Predicate}
+use Rattle.fz_meaning.specs.of_syntax.Offering.{AtPredicates, left_of}
+use Rattle.fz_meaning.specs.of_syntax.declared.Predicate.{Predicate}
 use Rattle.fz_data.proofs.text.past_predicates.Given as goal
 
 abbrev pub invariant-loop-items : goal.invariant-loop-items

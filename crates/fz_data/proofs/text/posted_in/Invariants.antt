@@ -1,8 +1,8 @@
 use Rattle.std.proofs.Common.{◌≡◌, List, [], map}
-use Rattle.fz_syntax.specs.Offering.{AtConstraints, left_of}
-use Rattle.fz_syntax.specs.declared.Constraint.{Constraint}
-use Rattle.fz_syntax.specs.declared.Decl.{Decl}
-use Rattle.fz_syntax.specs.declared.Predicate.{Predicate}
+use Rattle.fz_meaning.specs.of_syntax.Offering.{AtConstraints, left_of}
+use Rattle.fz_meaning.specs.of_syntax.declared.Constraint.{Constraint}
+use Rattle.fz_meaning.specs.of_syntax.declared.Decl.{Decl}
+use Rattle.fz_meaning.specs.of_syntax.declared.Predicate.{Predicate}
 use Rattle.fz_meaning.specs.View.{located_constraint}
 use Rattle.fz_data.specs.Posting.{Posts}
 use Rattle.fz_data.proofs.text.posted_in.Given as goal

@@ -1,7 +1,7 @@
 use Rattle.std.proofs.Common.{◌∙◌, sym, subst}
 use Rattle.std.proofs.lemmas.Result.{err_from_is_err_and}
-use Rattle.fz_syntax.specs.Offering.{IsTextOfAll, TreeItems}
-use Rattle.fz_syntax.specs.Text.{IsTextOfTree}
+use Rattle.fz_meaning.specs.of_syntax.Offering.{IsTextOfAll, TreeItems}
+use Rattle.fz_meaning.specs.of_syntax.Text.{IsTextOfTree}
 use Rattle.fz_meaning.specs.View.{located_all}
 use Rattle.fz_meaning.proofs.FoundFaults.{no_fault}
 use Rattle.fz_meaning.proofs.Places.{all_are_bare}

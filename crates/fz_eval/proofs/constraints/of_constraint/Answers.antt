@@ -2,7 +2,7 @@ use Rattle.std.proofs.Common.{◌≡◌, Some, option_map, sym, ap, ◌∙◌, s
 use Rattle.std.specs.Prelude.{IfOk}
 use Rattle.fz_meaning.specs.Meaning.{have_shapes, row_of}
 use Rattle.fz_meaning.specs.Known.{known_row}
-use Rattle.fz_data.specs.Parts.{constraint_view}
+use Rattle.fz_builtins.specs.of_data.Parts.{constraint_view}
 use Rattle.fz_builtins.specs.of_view.Given.{are_read}
 use Rattle.fz_builtins.specs.of_view.Views.{arguments_of, assigned}
 use Rattle.fz_eval.proofs.States.{row_fits, same_state}

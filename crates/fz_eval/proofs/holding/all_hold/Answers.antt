@@ -1,8 +1,8 @@
 use Rattle.std.proofs.Common.{◌-◌, length, take, sym, ap, ◌∙◌, arith}
 use Rattle.std.specs.List.{list_all}
 use Rattle.std.proofs.lemmas.List.{take_all}
-use Rattle.fz_meaning.specs.Meaning.{points, shown_posted as shown}
-use Rattle.fz_data.specs.Shown.{shown_posted}
+use Rattle.fz_meaning.specs.Meaning.{points, row_of}
+use Rattle.fz_builtins.specs.of_data.Parts.{kept_row}
 use Rattle.fz_eval.specs.Holding.{point_holds}
 use Rattle.fz_eval.proofs.Together.{enough, first_fail, same_length}
 use Rattle.fz_eval.proofs.Valued.{seen_inside}
@@ -12,7 +12,7 @@ pub overflow_sub-declared : goal.overflow_sub-declared
 overflow_sub-declared c =
     let m = c.args.model.now in
     let all = c.constraints.result in
-    omega (arith, same_length (shown_posted all.arrays.now all.store.now) shown all.posted.now m.constraints c.constraints.ensures.all, enough m c.args.partial.now, c.points-count.ensures.counted)
+    omega (arith, same_length kept_row row_of all.posted.now m.constraints c.constraints.ensures.rows, enough m c.args.partial.now, c.points-count.ensures.counted)
 
 pub declared_hold-requires-clause-inside : goal.declared_hold-requires-clause-inside
 declared_hold-requires-clause-inside c = λ inside.
@@ -22,7 +22,7 @@ pub declared_hold-requires-clause-counted : goal.declared_hold-requires-clause-c
 declared_hold-requires-clause-counted c =
     let m = c.args.model.now in
     let all = c.constraints.result in
-    omega (arith, same_length (shown_posted all.arrays.now all.store.now) shown all.posted.now m.constraints c.constraints.ensures.all, enough m c.args.partial.now, c.points-count.ensures.counted)
+    omega (arith, same_length kept_row row_of all.posted.now m.constraints c.constraints.ensures.rows, enough m c.args.partial.now, c.points-count.ensures.counted)
 
 pub returns-then-not-branch : goal.returns-then-not-branch
 returns-then-not-branch c = record {

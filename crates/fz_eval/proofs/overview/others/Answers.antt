@@ -1,6 +1,6 @@
 use Rattle.std.proofs.Common.{sym, ◌∙◌, arith}
 use Rattle.fz_meaning.specs.Meaning.{points}
-use Rattle.fz_data.specs.Shown.{point_view}
+use Rattle.fz_builtins.specs.of_data.Shown.{point_view}
 use Rattle.fz_eval.proofs.Others.{passed_domain, noted_other}
 use Rattle.fz_eval.proofs.overview.others.Goals as goal
 

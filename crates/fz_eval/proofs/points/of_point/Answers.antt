@@ -1,6 +1,6 @@
 use Rattle.std.proofs.Common.{sym, ap, ◌∙◌}
 use Rattle.fz_meaning.specs.Meaning.{state}
-use Rattle.fz_data.specs.Shown.{point_view}
+use Rattle.fz_builtins.specs.of_data.Shown.{point_view}
 use Rattle.fz_eval.proofs.points.of_point.Goals as goal
 
 pub returns-in-Elements : goal.returns-in-Elements

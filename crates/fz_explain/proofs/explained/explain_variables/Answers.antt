@@ -1,4 +1,4 @@
-use Rattle.fz_verdict.specs.View.{located_items}
+use Rattle.fz_filling.specs.of_verdict.View.{located_items}
 use Rattle.fz_explain.proofs.Telling.{told_next}
 use Rattle.fz_explain.proofs.explained.explain_variables.Goals as goal
 

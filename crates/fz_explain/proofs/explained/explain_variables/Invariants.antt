@@ -1,5 +1,5 @@
 use Rattle.std.proofs.Common.{take}
-use Rattle.fz_verdict.specs.View.{located_items}
+use Rattle.fz_filling.specs.of_verdict.View.{located_items}
 use Rattle.fz_explain.proofs.Telling.{Telling}
 use Rattle.fz_explain.proofs.explained.explain_variables.Given as goal
 

@@ -1,6 +1,6 @@
 use Rattle.std.proofs.Common.{◌<◌, ◌∙◌, length, subst, sym, ap}
-use Rattle.fz_model.specs.Meaning.{IsPartial, give, value_at, variables_of}
-use Rattle.fz_model.proofs.Partials.{less_fits}
+use Rattle.fz_filling.specs.of_model.Meaning.{IsPartial, give, value_at, variables_of}
+use Rattle.fz_filling.proofs.of_model.Partials.{less_fits}
 use Rattle.fz_explain.proofs.Steps.{given_back, none_there, still_long}
 use Rattle.fz_explain.proofs.giving.giver.Goals as goal
 

@@ -1,5 +1,5 @@
 use Rattle.std.proofs.Common.{subst₂}
-use Rattle.fz_model.specs.Steps.{Gives}
+use Rattle.fz_filling.specs.of_model.Steps.{Gives}
 use Rattle.fz_explain.proofs.Steps.{one_step}
 use Rattle.fz_explain.proofs.giving.gives.Goals as goal
 

@@ -1,6 +1,6 @@
 use Rattle.std.proofs.Common.{◌≡◌, drop, map}
-use Rattle.fz_model.specs.Names.{declaration}
-use Rattle.fz_model.specs.View.{located_decl}
+use Rattle.fz_filling.specs.of_model.Names.{declaration}
+use Rattle.fz_filling.specs.of_model.View.{located_decl}
 use Rattle.fz_explain.proofs.place.declared_place.Given as goal
 
 abbrev pub invariant-loop-decl : goal.invariant-loop-decl

@@ -1,7 +1,7 @@
 use Rattle.std.proofs.Common.{◌≡◌, map, drop}
 use Rattle.std.specs.List.{list_any}
-use Rattle.fz_model.specs.Shown.{scalar_terms}
-use Rattle.fz_model.specs.Slots.{slot_term}
+use Rattle.fz_filling.specs.of_model.Shown.{scalar_terms}
+use Rattle.fz_filling.specs.of_model.Slots.{slot_term}
 use Rattle.fz_explain.specs.Sources.{is_variable}
 use Rattle.fz_explain.proofs.printing.is_among.Given as goal
 

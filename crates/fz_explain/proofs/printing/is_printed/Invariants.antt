@@ -1,5 +1,5 @@
 use Rattle.std.proofs.Common.{◌≡◌, drop}
-use Rattle.fz_verdict.specs.View.{located_items}
+use Rattle.fz_filling.specs.of_verdict.View.{located_items}
 use Rattle.fz_explain.specs.Sources.{prints}
 use Rattle.fz_explain.proofs.printing.is_printed.Given as goal
 

@@ -1,8 +1,8 @@
 use Rattle.std.proofs.Common.{◌∙◌, sym, ap, false}
 use Rattle.std.specs.List.{list_any}
 use Rattle.std.specs.Option.{option_map_or}
-use Rattle.fz_model.specs.Meaning.{terms_at, variables_of}
-use Rattle.fz_model.specs.Shown.{what_place}
+use Rattle.fz_filling.specs.of_model.Meaning.{terms_at, variables_of}
+use Rattle.fz_filling.specs.of_model.Shown.{what_place}
 use Rattle.fz_explain.specs.Sources.{is_variable}
 use Rattle.fz_explain.proofs.printing.stands_for.Goals as goal
 

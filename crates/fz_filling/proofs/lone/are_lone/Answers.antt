@@ -1,6 +1,6 @@
 use Rattle.std.proofs.Common.{◌≡◌, length, arith}
-use Rattle.fz_model.specs.Meaning.{points}
-use Rattle.fz_model.specs.Shown.{point_view}
+use Rattle.fz_verdict.specs.of_model.Meaning.{points}
+use Rattle.fz_verdict.specs.of_model.Shown.{point_view}
 use Rattle.fz_filling.proofs.Noting.{lone_at_end, one_more}
 use Rattle.fz_filling.proofs.lone.are_lone.Goals as goal
 

@@ -1,5 +1,5 @@
-use Rattle.fz_model.specs.Meaning.Point.{ConstraintPoint}
-use Rattle.fz_model.specs.Parts.{constraint_view}
+use Rattle.fz_verdict.specs.of_model.Meaning.Point.{ConstraintPoint}
+use Rattle.fz_verdict.specs.of_model.Parts.{constraint_view}
 use Rattle.fz_filling.proofs.Waiting.{asks}
 use Rattle.fz_filling.proofs.outlook.of_constraint.Goals as goal
 

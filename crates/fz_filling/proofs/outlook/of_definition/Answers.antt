@@ -1,5 +1,5 @@
 use Rattle.std.proofs.Common.{None, Some, sym}
-use Rattle.fz_model.specs.Meaning.Point.{DefinitionPoint}
+use Rattle.fz_verdict.specs.of_model.Meaning.Point.{DefinitionPoint}
 use Rattle.fz_filling.proofs.Waiting.{asks, open_sides}
 use Rattle.fz_filling.proofs.outlook.of_definition.Goals as goal
 

@@ -1,6 +1,6 @@
 use Rattle.std.proofs.Common.{◌∷◌, [], cond, is_none, sym, ap}
-use Rattle.fz_model.specs.declared.Term.TheVariants.{Var}
-use Rattle.fz_model.specs.Meaning.Point.{DomainPoint}
+use Rattle.fz_verdict.specs.of_model.declared.Term.TheVariants.{Var}
+use Rattle.fz_verdict.specs.of_model.Meaning.Point.{DomainPoint}
 use Rattle.fz_filling.proofs.Waiting.{asks}
 use Rattle.fz_filling.proofs.outlook.of_domain.Goals as goal
 

@@ -1,6 +1,6 @@
 use Rattle.std.proofs.Common.{sym, subst}
-use Rattle.fz_model.specs.Parts.{variable_view}
-use Rattle.fz_model.specs.Shown.{point_view}
+use Rattle.fz_verdict.specs.of_model.Parts.{variable_view}
+use Rattle.fz_verdict.specs.of_model.Shown.{point_view}
 use Rattle.fz_filling.specs.Outlooks.{IsOutlook}
 use Rattle.fz_filling.proofs.outlook.outlook_of.Goals as goal
 

@@ -1,4 +1,4 @@
-use Rattle.fz_model.specs.Meaning.{IsPartial}
+use Rattle.fz_verdict.specs.of_model.Meaning.{IsPartial}
 use Rattle.fz_filling.specs.Runs.{Run}
 use Rattle.fz_filling.proofs.retrace.retrace.Given as goal
 

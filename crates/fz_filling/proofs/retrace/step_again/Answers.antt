@@ -1,11 +1,11 @@
 use Rattle.std.proofs.Common.{sym, subst}
-use Rattle.fz_model.specs.Meaning.{IsPartial, variables_of}
-use Rattle.fz_model.specs.Steps.{terms_of}
-use Rattle.fz_model.specs.Values.{kind_of}
-use Rattle.fz_model.proofs.Steps.{only_open_none}
+use Rattle.fz_verdict.specs.of_model.Meaning.{IsPartial, variables_of}
+use Rattle.fz_verdict.specs.of_model.Steps.{terms_of}
+use Rattle.fz_verdict.specs.of_model.Values.{kind_of}
+use Rattle.fz_verdict.proofs.of_model.Steps.{only_open_none}
 use Rattle.fz_filling.specs.Runs.{Run}
 use Rattle.fz_filling.specs.Runs.Run.{Goes, Stays}
-use Rattle.fz_model.proofs.Partials.{give_fits, has_place}
+use Rattle.fz_verdict.proofs.of_model.Partials.{give_fits, has_place}
 use Rattle.fz_filling.proofs.Stepping.{point_gives}
 use Rattle.fz_filling.proofs.retrace.step_again.Goals as goal
 

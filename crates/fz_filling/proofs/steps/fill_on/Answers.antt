@@ -1,7 +1,7 @@
 use Rattle.std.proofs.Common.{◌≡◌, suc, is_some, sym, ap, subst, arith}
-use Rattle.fz_model.specs.Meaning.{IsPartial, give}
-use Rattle.fz_model.specs.Partial.{unset_count}
-use Rattle.fz_model.proofs.Tabled.{one_unset_less}
+use Rattle.fz_verdict.specs.of_model.Meaning.{IsPartial, give}
+use Rattle.fz_verdict.specs.of_model.Partial.{unset_count}
+use Rattle.fz_verdict.proofs.of_model.Tabled.{one_unset_less}
 use Rattle.fz_filling.proofs.Stepping.{Reaches, at_some, nothing_left, reaches_after, reaches_end, step_fits, step_unset, step_within}
 use Rattle.fz_filling.proofs.steps.fill_on.Goals as goal
 

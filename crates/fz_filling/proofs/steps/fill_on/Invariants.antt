@@ -1,6 +1,6 @@
 use Rattle.std.proofs.Common.{◌≤◌, length, IfSome}
-use Rattle.fz_model.specs.Meaning.{IsPartial, points}
-use Rattle.fz_model.specs.Partial.{unset_count}
+use Rattle.fz_verdict.specs.of_model.Meaning.{IsPartial, points}
+use Rattle.fz_verdict.specs.of_model.Partial.{unset_count}
 use Rattle.fz_filling.specs.Kept.{IsKept}
 use Rattle.fz_filling.proofs.Stepping.{Reaches}
 use Rattle.fz_filling.proofs.steps.fill_on.Given as goal

@@ -1,6 +1,6 @@
 use Rattle.std.proofs.Common.{sym, subst, ◌∙◌, ◌≡◌, Some}
-use Rattle.fz_model.specs.Steps.{GivesNothing}
-use Rattle.fz_model.specs.Shown.{point_view}
+use Rattle.fz_verdict.specs.of_model.Steps.{GivesNothing}
+use Rattle.fz_verdict.specs.of_model.Shown.{point_view}
 use Rattle.fz_filling.specs.declared.outlook.Waiting.TheVariants.{For}
 use Rattle.fz_filling.specs.Kept.{IsKept}
 use Rattle.fz_filling.proofs.Keeping.{kept_settled, waits_now}

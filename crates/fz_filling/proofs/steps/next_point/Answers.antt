@@ -1,5 +1,5 @@
 use Rattle.std.proofs.Common.{◌≤◌, ◌-◌, length, arith}
-use Rattle.fz_model.specs.Meaning.{points}
+use Rattle.fz_verdict.specs.of_model.Meaning.{points}
 use Rattle.fz_filling.specs.Kept.{IsKept}
 use Rattle.fz_filling.proofs.Keeping.{kept_searched, none_and_one, none_between}
 use Rattle.fz_filling.proofs.Posting.{no_more_posts, stand_behind}
@@ -19,14 +19,14 @@ returns-in-Some-clause-kept c =
 pub overflow_sub-before : goal.overflow_sub-before
 overflow_sub-before c =
     let all = c.constraints.result in
-    let few : length all.posted.now ≤ length (points c.args.model.now) = no_more_posts c.args.model.now all.arrays.now all.store.now all.posted.now c.constraints.ensures.all in
+    let few : length all.posted.now ≤ length (points c.args.model.now) = no_more_posts c.args.model.now all.variables.now all.arrays.now all.store.now all.posted.now c.constraints.ensures.all in
     omega (arith, few, c.points.ensures.counted)
 
 pub idle-preserved : goal.idle-preserved
 idle-preserved c =
     let all = c.constraints.result in
-    let few : length all.posted.now ≤ length (points c.args.model.now) = no_more_posts c.args.model.now all.arrays.now all.store.now all.posted.now c.constraints.ensures.all in
-    let stand = stand_behind c.args.model.now all.arrays.now all.store.now all.posted.now c.constraints.ensures.all (c.points.result - length all.posted.now) (omega (arith, few, c.points.ensures.counted)) in
+    let few : length all.posted.now ≤ length (points c.args.model.now) = no_more_posts c.args.model.now all.variables.now all.arrays.now all.store.now all.posted.now c.constraints.ensures.all in
+    let stand = stand_behind c.args.model.now all.variables.now all.arrays.now all.store.now all.posted.now c.constraints.ensures.all (c.points.result - length all.posted.now) (omega (arith, few, c.points.ensures.counted)) in
     record {
       ahead = omega arith;
       below = omega arith;

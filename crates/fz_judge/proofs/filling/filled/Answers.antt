@@ -1,9 +1,9 @@
 use Rattle.std.proofs.Common.{◌≡◌, None, IfSome, IsSomeAnd, sym, ap, subst, arith, ◌∙◌}
-use Rattle.fz_model.specs.Meaning.{first_some}
-use Rattle.fz_verdict.specs.Blocks.{block_fault, items_fault}
-use Rattle.fz_verdict.specs.Verdict.{printed_fails}
-use Rattle.fz_verdict.specs.View.{located_block, located_items}
-use Rattle.fz_verdict.proofs.Violated.{chain_grows}
+use Rattle.fz_filling.specs.of_model.Meaning.{first_some}
+use Rattle.fz_filling.specs.of_verdict.Blocks.{block_fault, items_fault}
+use Rattle.fz_filling.specs.of_verdict.Verdict.{printed_fails}
+use Rattle.fz_filling.specs.of_verdict.View.{located_block, located_items}
+use Rattle.fz_filling.proofs.of_verdict.Violated.{chain_grows}
 use Rattle.fz_judge.specs.declared.start.Proposed.{Proposed}
 use Rattle.fz_judge.specs.Judged.{TellsFault}
 use Rattle.fz_judge.proofs.Agreeing.{none_fails}

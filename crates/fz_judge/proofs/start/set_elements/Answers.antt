@@ -1,13 +1,13 @@
 use Rattle.std.proofs.Common.{◌≡◌, true, ◌&&◌, List, [], ◌∷◌, length, map, refl, sym, ap, subst, ◌∙◌}
 use Rattle.std.proofs.lemmas.Slice.Zip.{zip_turn, zip_end}
-use Rattle.fz_model.specs.declared.Slot.{Slot}
-use Rattle.fz_model.specs.declared.Term.{Term}
-use Rattle.fz_model.specs.Slots.{slot_term}
-use Rattle.fz_model.specs.Meaning.{Partial}
-use Rattle.fz_model.specs.View.{located_literal}
-use Rattle.fz_syntax.specs.declared.Literal.{Literal}
-use Rattle.fz_verdict.specs.Blocks.{printed_values}
-use Rattle.fz_verdict.specs.Filling.{pairs}
+use Rattle.fz_filling.specs.of_model.declared.Slot.{Slot}
+use Rattle.fz_filling.specs.of_model.declared.Term.{Term}
+use Rattle.fz_filling.specs.of_model.Slots.{slot_term}
+use Rattle.fz_filling.specs.of_model.Meaning.{Partial}
+use Rattle.fz_filling.specs.of_model.View.{located_literal}
+use Rattle.fz_filling.specs.of_syntax.declared.Literal.{Literal}
+use Rattle.fz_filling.specs.of_verdict.Blocks.{printed_values}
+use Rattle.fz_filling.specs.of_verdict.Filling.{pairs}
 use Rattle.fz_judge.specs.Working.{IsWithin, agree_all, with_all}
 use Rattle.std.proofs.Math.Bool.{and-true}
 use Rattle.fz_judge.proofs.Lists.{both_end, mapped_at}

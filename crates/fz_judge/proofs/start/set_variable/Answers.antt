@@ -1,7 +1,7 @@
 use Rattle.std.proofs.Common.{sym, ap, ◌∙◌}
-use Rattle.fz_model.specs.declared.Term.TheVariants.{Var}
-use Rattle.fz_model.specs.Names.{literal_value}
-use Rattle.fz_syntax.specs.View.{bare_literal_kind}
+use Rattle.fz_filling.specs.of_model.declared.Term.TheVariants.{Var}
+use Rattle.fz_filling.specs.of_model.Names.{literal_value}
+use Rattle.fz_filling.specs.of_syntax.View.{bare_literal_kind}
 use Rattle.fz_judge.specs.Working.{has_value}
 use Rattle.fz_judge.proofs.Agreeing.{given_agrees}
 use Rattle.fz_judge.proofs.start.set_variable.Goals as goal

@@ -1,17 +1,17 @@
 use Rattle.std.proofs.Common.{◌≡◌, ◌+◌, ◌&&◌, refl, sym, ap, subst, take, ◌∙◌}
 use Rattle.std.proofs.lemmas.Result.{err_from_is_err_and}
-use Rattle.fz_model.specs.Meaning.{IsPartial, variables_of}
-use Rattle.fz_model.specs.Partial.{nothing_for}
-use Rattle.fz_verdict.specs.Blocks.{printed_fault}
-use Rattle.fz_verdict.specs.Filling.{printed_scalars, start_from}
-use Rattle.fz_verdict.specs.View.{located_items, located_printed}
+use Rattle.fz_filling.specs.of_model.Meaning.{IsPartial, variables_of}
+use Rattle.fz_filling.specs.of_model.Partial.{nothing_for}
+use Rattle.fz_filling.specs.of_verdict.Blocks.{printed_fault}
+use Rattle.fz_filling.specs.of_verdict.Filling.{printed_scalars, start_from}
+use Rattle.fz_filling.specs.of_verdict.View.{located_items, located_printed}
 use Rattle.fz_judge.specs.declared.start.Proposed.{Proposed}
 use Rattle.fz_judge.specs.Working.{agree_all, item_scalars}
 use Rattle.fz_judge.proofs.Agreeing.{agree_item_more}
-use Rattle.fz_model.proofs.ScanSteps.{first_more, take_one_more}
+use Rattle.fz_filling.proofs.of_model.ScanSteps.{first_more, take_one_more}
 use Rattle.std.proofs.Math.Bool.{and-false, and-true}
 use Rattle.fz_judge.proofs.Refusing.{tells_stop}
-use Rattle.fz_model.proofs.Partials.{nothing_fits}
+use Rattle.fz_filling.proofs.of_model.Partials.{nothing_fits}
 use Rattle.fz_judge.proofs.Starting.{start_item_more, starts_with_nothing}
 use Rattle.fz_judge.proofs.start.start.Goals.{then-not-branch, else-not-branch}
 use Rattle.fz_judge.proofs.start.start.Goals as goal

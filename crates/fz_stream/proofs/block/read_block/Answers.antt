@@ -37,4 +37,4 @@ returns-in-Some-clause-place c =
 pub returns-in-Some-clause-tells : goal.returns-in-Some-clause-tells
 returns-in-Some-clause-tells c =
     second_printing c.args.offset c.args.text.now _ c.in-Some.span _ (again_in _ _ _ c.in-Some.span c.in-Some.is c.deref.ensures.value c.in_ok-span.ensures.place)
-    c.in-Ok.ensures.found c.in-Ok.ensures.stands c.moved_span.ensures
+    c.in-Ok.ensures.found c.in-Ok.ensures.in_place c.moved_span.ensures

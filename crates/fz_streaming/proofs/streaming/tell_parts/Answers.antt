@@ -1,6 +1,6 @@
 use Rattle.fz_streaming.proofs.AdvanceLemmas.{stands_unfailed}
 use Rattle.std.proofs.Common.{◌≡◌, ◌≢◌, ◌∙◌, ◌++◌, sym, ap, subst, true, false, Ok, Err, arith}
-use Rattle.fz_stream.specs.declared.splitter.Stage.TheVariants.{Running, Finished}
+use Rattle.fz_judge.specs.of_stream.declared.splitter.Stage.TheVariants.{Running, Finished}
 use Rattle.fz_streaming.specs.declared.error.StreamingError.TheVariants as streaming
 use Rattle.fz_streaming.specs.declared.error.PartError.TheVariants as errors
 use Rattle.fz_streaming.specs.View.{answer_view}

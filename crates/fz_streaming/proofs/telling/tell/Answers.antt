@@ -1,7 +1,7 @@
 use Rattle.std.proofs.Common.{sym, subst, arith}
-use Rattle.fz_stream.specs.Found.{EndsWithin}
-use Rattle.fz_stream.specs.Lending.{part_of, HasPlacesOfItems, PartEndsWithin}
-use Rattle.fz_stream.specs.Splitting.{most_taken}
+use Rattle.fz_judge.specs.of_stream.Found.{EndsWithin}
+use Rattle.fz_judge.specs.of_stream.Lending.{part_of, HasPlacesOfItems, PartEndsWithin}
+use Rattle.fz_judge.specs.of_stream.Splitting.{most_taken}
 use Rattle.fz_streaming.specs.Telling.{RefusesPart, TellsOneMore}
 use Rattle.fz_streaming.proofs.TellingLemmas.{on_ok, told_claim, told_block, refused_block}
 use Rattle.fz_streaming.proofs.telling.tell.Goals as goal

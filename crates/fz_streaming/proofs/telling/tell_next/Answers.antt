@@ -1,5 +1,5 @@
 use Rattle.std.proofs.Common.{◌++◌, ◌∷◌, [], sym, subst}
-use Rattle.fz_stream.specs.Lending.{part_of}
+use Rattle.fz_judge.specs.of_stream.Lending.{part_of}
 use Rattle.fz_streaming.specs.Reading.{ReaderState, StandsAt}
 use Rattle.fz_streaming.specs.Telling.{RefusesPart, TellsOneMore}
 use Rattle.fz_streaming.proofs.CountLemmas.{last_same}

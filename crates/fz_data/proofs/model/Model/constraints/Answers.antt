@@ -1,12 +1,12 @@
 use Rattle.std.proofs.Common.{map, ap, ◌∙◌}
 use Rattle.fz_meaning.specs.Meaning as meaning
-use Rattle.fz_data.specs.Shown.{shown_posted}
-use Rattle.fz_data.proofs.Shows.{all_are_shown}
+use Rattle.fz_data.specs.Parts.{kept_row, posted_view}
 use Rattle.fz_data.proofs.model.Model.constraints.Goals as goal
 
 pub returns : goal.returns
 returns c = record {
-  all = (λ i. map (shown_posted (c.deref-2.ensures.value i) c.self.inside.store) (c.deref.ensures.value i))
-      ∙ all_are_shown c.self.inside.variables.items c.self.inside.arrays.items c.self.inside.store c.self.inside.constraints.items
-      ∙ ap (λ (m : meaning.Model). map meaning.shown_posted m.constraints) c.self.view_is;
+  all = (λ i. map (posted_view (c.deref-2.ensures.value i) (c.deref-3.ensures.value i) c.self.inside.store) (c.deref.ensures.value i))
+      ∙ ap (λ (m : meaning.Model). m.constraints) c.self.view_is;
+  rows = (λ i. map kept_row (c.deref.ensures.value i)) ∙ c.self.invariant.rows
+      ∙ ap (λ (m : meaning.Model). map meaning.row_of m.constraints) c.self.view_is;
 }

@@ -1,12 +1,12 @@
 use Rattle.std.proofs.Common.{◌≡◌, ℤ, Option, None, Some, IfOk, refl, sym, ap, subst, ◌∙◌}
-use Rattle.fz_model.specs.Meaning.{Model, Partial, IsPartial, objective}
-use Rattle.fz_verdict.specs.Blocks.{Block}
-use Rattle.fz_verdict.specs.Completed.{IsCompleted}
-use Rattle.fz_verdict.specs.Completed.IsCompleted.{Found, AsFilled, NotShownBetter}
-use Rattle.fz_verdict.specs.Verdict.{Fault, Verdict, objective_fails, verdict}
-use Rattle.fz_verdict.specs.Verdict.Verdict.{Satisfied, Undecided, Violated}
-use Rattle.fz_verdict.specs.View.{located_block}
-use Rattle.fz_verdict.proofs.Accepted.{satisfied_after}
+use Rattle.fz_filling.specs.of_model.Meaning.{Model, Partial, IsPartial, objective}
+use Rattle.fz_filling.specs.of_verdict.Blocks.{Block}
+use Rattle.fz_filling.specs.of_verdict.Completed.{IsCompleted}
+use Rattle.fz_filling.specs.of_verdict.Completed.IsCompleted.{Found, AsFilled, NotShownBetter}
+use Rattle.fz_filling.specs.of_verdict.Verdict.{Fault, Verdict, objective_fails, verdict}
+use Rattle.fz_filling.specs.of_verdict.Verdict.Verdict.{Satisfied, Undecided, Violated}
+use Rattle.fz_filling.specs.of_verdict.View.{located_block}
+use Rattle.fz_filling.proofs.of_verdict.Accepted.{satisfied_after}
 use Rattle.fz_judge.specs.Judged.{JudgeState}
 use Rattle.fz_judge.specs.View.{fault_view, reason_view, verdict_view}
 use Rattle.fz_judge.specs.Working.{compared}

@@ -1,6 +1,6 @@
 use Rattle.std.proofs.Common.{◌≡◌, ◌∙◌, sym, ap, subst, rules}
-use Rattle.fz_verdict.specs.Verdict.{IsFilled}
-use Rattle.fz_verdict.specs.View.{located_block}
+use Rattle.fz_filling.specs.of_verdict.Verdict.{IsFilled}
+use Rattle.fz_filling.specs.of_verdict.View.{located_block}
 use Rattle.fz_judge.specs.declared.start.Proposed.{Proposed}
 use Rattle.fz_judge.specs.Judged.{JudgeState}
 use Rattle.fz_judge.specs.Working.{HasRoom}

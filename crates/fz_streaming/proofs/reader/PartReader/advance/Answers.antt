@@ -1,4 +1,4 @@
-use Rattle.fz_stream.specs.declared.splitter.Stage.TheVariants.{Running, Finished, Failed as FailedStage}
+use Rattle.fz_judge.specs.of_stream.declared.splitter.Stage.TheVariants.{Running, Finished, Failed as FailedStage}
 use Rattle.std.proofs.Common.{Err, ◌≡◌, ◌≢◌, [], ap, sym, ◌∙◌, refl, true, false, Ok, arith}
 use Rattle.std.proofs.KnownBytes.{Consumes-nil}
 use Rattle.std.specs.Prelude.{⊤}

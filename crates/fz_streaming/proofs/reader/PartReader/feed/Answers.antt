@@ -1,8 +1,8 @@
 use Rattle.std.proofs.Common.{◌≡◌, ◌≢◌, ◌∙◌, ap, sym, subst, true, false, List, ℕ, IsSome, Ok, Err, drop}
-use Rattle.fz_stream.specs.declared.splitter.Stage.TheVariants.{Running, Finished, Failed}
-use Rattle.fz_stream.specs.declared.error.StreamError.TheVariants as errors
-use Rattle.fz_stream.specs.Parts.{StreamPart}
-use Rattle.fz_stream.specs.Splitting.{Fits}
+use Rattle.fz_judge.specs.of_stream.declared.splitter.Stage.TheVariants.{Running, Finished, Failed}
+use Rattle.fz_judge.specs.of_stream.declared.error.StreamError.TheVariants as errors
+use Rattle.fz_judge.specs.of_stream.Parts.{StreamPart}
+use Rattle.fz_judge.specs.of_stream.Splitting.{Fits}
 use Rattle.fz_streaming.specs.Reading.{ReaderState}
 use Rattle.fz_streaming.proofs.ReaderLemmas.{fed_more, fed_fewer, fed_all, fed_none, still_fits, is_running}
 use Rattle.fz_streaming.proofs.reader.PartReader.feed.Goals as goal

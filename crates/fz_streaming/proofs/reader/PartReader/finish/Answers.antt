@@ -1,6 +1,6 @@
 use Rattle.std.proofs.Common.{◌≡◌, ◌≢◌, ◌∙◌, [], ap, sym, true, false, Err}
-use Rattle.fz_stream.specs.declared.error.StreamError.TheVariants as errors
-use Rattle.fz_stream.specs.declared.splitter.Stage.TheVariants.{Running, Failed as FailedStage}
+use Rattle.fz_judge.specs.of_stream.declared.error.StreamError.TheVariants as errors
+use Rattle.fz_judge.specs.of_stream.declared.splitter.Stage.TheVariants.{Running, Failed as FailedStage}
 use Rattle.fz_streaming.specs.Reading.{ReaderState}
 use Rattle.fz_streaming.proofs.ReaderLemmas.{ended_more, ended_none, ended_broken}
 use Rattle.fz_streaming.proofs.reader.PartReader.finish.Goals as goal

@@ -1,5 +1,5 @@
 use Rattle.std.proofs.Common.{sym, ap, option_map, is_some}
-use Rattle.fz_stream.specs.Lending.{part_of}
+use Rattle.fz_judge.specs.of_stream.Lending.{part_of}
 use Rattle.fz_streaming.specs.Reading.{ReaderState}
 use Rattle.fz_streaming.proofs.AdvanceLemmas.{lent_last}
 use Rattle.fz_streaming.proofs.reader.PartReader.lend.Goals as goal

@@ -1,0 +1,39 @@
+-- The canonical text of a tree lexes to the tree's tokens, so it is a text of the tree where it is
+-- short enough.
+use Rattle.std.proofs.Common.{◌≡◌, ◌≤◌, ℕ, List, [], ◌∷◌, length, sym, subst}
+use Rattle.std.specs.List.{AllByRecursion}
+use Rattle.fz_lex.specs.Token.{TokenValue, IsTokenText}
+use Rattle.fz_lex.specs.Limits.{most_bytes, IsTokenWithinLimit, LexesWithNumbersInLimit}
+use Rattle.fz_lex.proofs.Joined.{joined_lexes}
+use Rattle.fz_lex.proofs.Texts.{lexed_texts, text_lexes, text_of_tokens}
+use Rattle.fz_tree.specs.Tree.{Tree}
+use Rattle.fz_tree.specs.Tokens.{toks}
+use Rattle.fz_tree.specs.Text.{IsTextOfTree}
+use Rattle.fz_tree.specs.Shape.{IsTree, the_limits}
+use Rattle.fz_tree.specs.Print.{tree_text, CanBeWritten}
+use Rattle.fz_tree.proofs.PrintLaws.{IsPrintable, tree_joins}
+
+all_printable : (tokens : List TokenValue) → AllByRecursion IsTokenText tokens
+    → AllByRecursion IsTokenWithinLimit tokens → AllByRecursion IsPrintable tokens
+all_printable [] h k = tt
+all_printable (t ∷ tokens) h k = ((h.0, k.0), all_printable tokens h.1 k.1)
+
+pub printed_lexes : (t : Tree) (text : List ℕ) → text ≡ tree_text t → CanBeWritten t
+    → LexesWithNumbersInLimit text (toks t)
+printed_lexes t text e w =
+    subst (λ bytes. LexesWithNumbersInLimit bytes (toks t)) (sym e) (record { lexes = joined_lexes (tree_text t) (toks t) (tree_joins t (all_printable (toks t) w.texts w.numbers)); numbers = w.numbers })
+
+-- a tree that was read can be written
+pub read_can_be_written : (source : List ℕ) (t : Tree) → IsTextOfTree source t → CanBeWritten t
+read_can_be_written source t h =
+    let l = text_lexes source (toks t) h.lexes in
+    record { texts = lexed_texts source (toks t) l.lexes; numbers = l.numbers }
+
+-- what lexes to the tokens of a tree is a text of it, where it isn't too long
+pub printed_is_text : (t : Tree) (text : List ℕ) → LexesWithNumbersInLimit text (toks t)
+    → IsTree the_limits t → length text ≤ most_bytes → IsTextOfTree text t
+printed_is_text t text l is short = record { lexes = text_of_tokens text (toks t) short l; of_grammar = is }
+
+pub printed_again : (t : Tree) (text : List ℕ) → text ≡ tree_text t → (source : List ℕ)
+    → IsTextOfTree source t → length text ≤ most_bytes → IsTextOfTree text t
+printed_again t text e source h short = printed_is_text t text (printed_lexes t text e (read_can_be_written source t h)) h.of_grammar short

@@ -1,0 +1,59 @@
+#!/usr/bin/env python3
+"""Compares the table of docs/THEOREM.md, "What each crate promises", with the contracts in crates/.
+
+Each clause that a row names must stand at one of the row's calls, and each call must have one of
+them; where a row names none, each call must have an `ensures`. A call is looked for in the crates of
+the heading above it and in those that they stand on. In the table of premises, which has two columns,
+each call must have a `requires`. What a clause says isn't compared."""
+import os
+import pathlib
+import re
+import sys
+
+ROOT = pathlib.Path(os.path.abspath(__file__)).parent.parent
+CALL = re.compile(r"^(?:impl(?:<.*?>)? (\w+)|( *)pub (?:const )?fn (\w+)\b(.*?)^\2\{)", re.M | re.S)
+NAMES = re.compile(r"`([\w:]+)`")
+BELOW = dict(re.findall(r"^(fz\w+):(.*)$", (ROOT / "crates.txt").read_text(), re.M))
+
+
+def with_all_below(crate):
+    return {crate}.union(*(with_all_below(name) for name in BELOW[crate].split() if name in BELOW))
+
+
+def contracts(crates):
+    """The clauses of each public call, under its name and, of a method, also under TYPE::NAME."""
+    for path in (path for crate in crates for path in ROOT.glob(f"crates/{crate}/src/**/*.rt")):
+        owner = ""
+        for kind, indent, name, contract in CALL.findall(path.read_text()):
+            owner = kind or owner
+            for key in () if kind else (name, f"{owner}::{name}") if indent else (name,):
+                clauses = re.findall(r"^ *(requires|ensures)\b(?: (\w+))?", contract, re.M)
+                yield key, {name if word == "ensures" else word for word, name in clauses}
+
+
+def rows():
+    """Of each row the crates to look in, the calls, and the clauses that it names."""
+    text = (ROOT / "docs" / "THEOREM.md").read_text().split("\n## What each crate promises\n")[1]
+    for line in text.split("\n## ")[0].splitlines():
+        first, *others = line.strip("|").split(" |")
+        owner, _, calls = first.rpartition(": ")
+        calls = NAMES.findall(others[1] if first == " law" else calls)
+        calls = ["::".join(NAMES.findall(owner) + [call]) for call in calls]
+        if first.startswith(" **"):
+            crates = set().union(*map(with_all_below, NAMES.findall(first)))
+        elif calls and len(others) == 2:
+            yield crates, calls, set(NAMES.findall(others[0]))
+        elif calls and len(others) == 1:
+            yield set(BELOW), calls, {"requires"}
+
+
+def is_so(crates, calls, clauses):
+    stated = [set().union(*(c for key, c in contracts(crates) if key == call)) for call in calls]
+    return all(found & clauses if clauses else found for found in stated) and clauses <= set().union(*stated)
+
+
+wrong = [row for row in rows() if not is_so(*row)]
+for _, calls, clauses in wrong:
+    print(f"failed: {calls}: not with the clauses {sorted(clauses)}")
+print(f"{len(list(rows())) - len(wrong)} passed, {len(wrong)} failed")
+sys.exit(bool(wrong))
