@@ -1,12 +1,14 @@
-# make             proves the program with all that it stands on, builds it: build/fzcheck
+# make             proves the program with all that it stands on, builds it: build/fzcheck. It goes
+#                  on where it was stopped, and uses JOBS processors (all)
 # make test        the gate: every proof from nothing, the must-fail edits, the tests, the program
 # make corpus      runs the built program over tests/corpus and examples, beside the second checker
 #                  (tests/corpus/slow.py) on random models, and with minizinc/ where MiniZinc is
 #                  installed
 # make fuzz        runs it on random broken texts beside that checker, for SECONDS (600), by SEED
 # make bench       measures the built program beside the plain program in plain/ (some minutes)
-# make quick       judges examples/first.fzn with NO proof, or MODEL=FILE [STREAM=FILE]; with a
-#                  MODEL and no STREAM it reads standard input; it tells the program's status
+# make quick       judges examples/first.fzn with NO proof, or MODEL=FILE [STREAM=FILE], with the
+#                  program's OPTIONS='--complete --explain'; with a MODEL and no STREAM it reads
+#                  standard input; it tells the program's status
 # make install     puts the program and its manual page in place, below PREFIX (/usr/local)
 # make fmt         lays out the sources
 # make clean       drops what was built
@@ -17,21 +19,22 @@ PREFIX ?= /usr/local
 JOBS ?= $(shell nproc)
 SECONDS ?= 600
 SEED ?= $(shell date +%s)
+NEEDS_RT = command -v rt >/dev/null || { echo "This needs the Rattle toolchain:" \
+  "put its folder bin, which has rt, on the PATH." >&2; exit 1; }
 
 .PHONY: all test corpus fuzz bench quick install fmt clean
 
 all: build/fzcheck
 
-# The program is run once, on no words, which is how the toolchain builds it: status 5 is what that
-# gives.
 build/fzcheck: $(SOURCES)
+	@$(NEEDS_RT)
 	@mkdir -p build
-	cd crates/fzcheck && rt run --jobs $(JOBS) -- >/dev/null 2>../../build/log </dev/null; \
-	  status=$$?; if [ $$status -ne 5 ]; then cat ../../build/log >&2; exit 1; fi
+	tools/prove.py fzcheck build/log $(JOBS)
 	cp crates/fzcheck/out/fzcheck build/fzcheck
 
 # The gate proves and builds the program too, so nothing is proved twice here.
 test:
+	@$(NEEDS_RT)
 	rt ci
 	@mkdir -p build
 	cp crates/fzcheck/out/fzcheck build/fzcheck
@@ -62,7 +65,8 @@ quick: STREAM := examples/first.out
 endif
 
 quick:
-	@tests/quick.sh "$(MODEL)" "$(STREAM)"
+	@$(NEEDS_RT)
+	@tests/quick.sh "$(MODEL)" "$(STREAM)" $(OPTIONS)
 
 install: build/fzcheck
 	install -D build/fzcheck $(DESTDIR)$(PREFIX)/bin/fzcheck

@@ -278,11 +278,11 @@ pub fn show_printing_all(alloc: Global, model: &[u8]) -> Result<Vec<u8>, CheckEr
     ensures names { (e : NameFault) → result ≡ Err (CheckError.Names e) → HasNameFault model.now e }
     ensures kinds { IfErr result IsModelRefusal }
 {
-    let mut ast = match read_sound_tree(alloc, model) {
+    let ast = match read_sound_tree(alloc, model) {
         Ok(ast) => ast,
         Err(error) => return Err(error),
     };
-    print_all(alloc, &mut ast)?;
-    let text = to_text(alloc, &ast)?;
+    let printed = print_all(alloc, ast)?;
+    let text = to_text(alloc, &printed)?;
     Ok(text)
 }

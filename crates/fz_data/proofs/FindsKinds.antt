@@ -11,8 +11,8 @@ pub fits_found : (m : Inside) → IsLaidOut m → (model : Model) → model_view
     → (x : List ℕ) (p : Place) → Some p ≡ find_name model x → PlaceFits model p
 fits_found m laid model view x p e = subst (λ k. find_name k x ≡ Some p → PlaceFits k p) view (laid.kinds x p) (sym e)
 
-pub fits_if_found : (m : Inside) → IsLaidOut m → (model : Model) → model_view m ≡ model
-    → (x : List ℕ) (o : Option (Found × ℕ)) → option_map
+pub fits_if_found : {H : Type 0} → (m : Inside) → IsLaidOut m → (model : Model) → model_view m ≡ model
+    → (x : List ℕ) (o : Option (Found × H)) → option_map
     (λ f. found_place (variables_of model) f.0) o ≡ find_name model x
     → IfSome o (λ f. PlaceFits model (found_place (variables_of model) f.0))
 fits_if_found m laid model view x None e = tt

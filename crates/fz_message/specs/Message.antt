@@ -80,8 +80,8 @@ note_text (notes.Bounds lo hi) =
 note_text (notes.Among s) = codes "the domain is " ++ set_text s
 note_text (notes.OtherBlock n) = codes "the other value is that of block " ++ decimal n
 note_text (notes.LeavesAt n) = codes "the sum leaves 128 bits at element " ++ decimal n
-note_text (notes.NotKnown k x) = codes "constraint " ++ decimal k ++ codes " " ++ string_bytes x
-    ++ codes " isn't known, which may be why"
+note_text (notes.NotKnown k x) = codes "constraint " ++ (decimal k ++ (codes " "
+    ++ (string_bytes x ++ codes " isn't known, which may be why")))
 note_text (notes.Help h) = help_text h
 
 -- ---- the message

@@ -181,7 +181,10 @@ pub(crate) fn push_note(text: &mut String, note: &Note) -> Result<(), AllocError
         Note::OtherBlock(number) => write!(text, "the other value is that of block {number}"),
         Note::LeavesAt(place) => write!(text, "the sum leaves 128 bits at element {place}"),
         Note::NotKnown(number, name) => {
-            write!(text, "constraint {number} {name} isn't known, which may be why")
+            write!(
+                text,
+                "constraint {number} {name} isn't known, which may be why"
+            )
         }
         Note::Help(help) => text.push_str(help.text()),
     }

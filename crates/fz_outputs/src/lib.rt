@@ -4,7 +4,7 @@
 //! Its worked cases are in `fz_check_cases`.
 #![tactic(auto)]
 
-ghost use Rattle.std.specs.Prelude.{◌≡◌, OnOk, map};
+ghost use Rattle.std.specs.Prelude.{◌≡◌, IfOk, OnOk, map};
 ghost use Rattle.std.specs.List.{list_any};
 ghost use Rattle.fz_syntax.specs.View.{bare_note, bare_notes};
 ghost use Rattle.fz_meaning.specs.Names.{is_scalar_variable};
@@ -76,13 +76,14 @@ fn print_decls(alloc: Global, decls: &mut [Decl<'_>]) -> Result<(), AllocError>
     Ok(())
 }
 
-/// Adds `:: output_var` to each scalar variable that lacks it. The rest of the tree is unchanged.
+/// The tree with `:: output_var` at each scalar variable that lacks it, and no other change.
 ///
 /// # Errors
 ///
 /// Out of memory.
-pub fn print_all(alloc: Global, ast: &mut Ast<'_>) -> Result<(), AllocError>
-    ensures { OnOk result (located ast.new ≡ with_all_printed (located ast.old)) }
+pub fn print_all<'a>(alloc: Global, mut ast: Ast<'a>) -> Result<Ast<'a>, AllocError>
+    ensures { IfOk result (λ printed. located printed ≡ with_all_printed (located ast.entry)) }
 {
-    print_decls(alloc, &mut ast.decls)
+    print_decls(alloc, &mut ast.decls)?;
+    Ok(ast)
 }

@@ -11,4 +11,4 @@ returns-in-Err-clause-names c = λ e same. (let told : c.in-Err.error ≡ errors
 
 pub returns-clause-shown : goal.returns-clause-shown
 returns-clause-shown c =
-    shown_printing_all c.args.model.now c.in_ok-text.text.items c.in-Ok.ast c.print_all.new.ast c.in-Ok.ensures.text.text c.in-Ok.ensures.no_fault c.in_ok-print_all.ensures c.in_ok-text.ensures.layout c.in_ok-text.ensures.reads_back
+    shown_printing_all c.args.model.now c.in_ok-text.text.items c.in-Ok.ast c.in_ok-printed.printed c.in-Ok.ensures.text.text c.in-Ok.ensures.no_fault c.in_ok-printed.ensures c.in_ok-text.ensures.layout c.in_ok-text.ensures.reads_back
