@@ -1,129 +1,180 @@
 #!/usr/bin/env python3
-"""Proves a program and the crates that it stands on, and builds it: prove.py PROGRAM LOG JOBS
+"""Proves a program and the crates that it stands on, side by side, and builds it:
 
-A crate is proved by the toolchain's own code for `rt lib`, which keeps what it has proved. The
-command itself locks the crates below its own, so that no two that share one run side by side."""
-import copy
-import io
+    tools/prove.py PROGRAM LOG JOBS
+
+A run of `rt` locks its crate and those below it, so that no two of them could work side by side in
+crates/. So each crate is proved in a tree of its own below build/prove, of links to files."""
+import ctypes
 import os
 import re
 import shutil
 import signal
+import subprocess
 import sys
 import time
-import types
-from concurrent.futures import FIRST_COMPLETED, ThreadPoolExecutor, wait
-from subprocess import DEVNULL, PIPE
-
-sys.dont_write_bytecode = True  # beside the toolchain's files
-sys.path.append(os.path.dirname(os.path.realpath(shutil.which("rt"))))
-import rtlib
 
 ROOT = os.path.dirname(os.path.dirname(os.path.abspath(__file__)))
+ROOM = f"{ROOT}/build/prove"
 MEMORY = 5_000_000  # kilobytes for each crate at a time
+USAGE_STATUS = 5  # `rt run` runs the program, here on no words: this is what it answers
+PARTS = ("src", "specs", "proofs")
 
 
-def stamp(crate, stamp_of=rtlib.Crate.stamp):
-    """The toolchain's sum of a crate's sources, which takes minutes where it follows each path
-    through crates.txt."""
-    stamps = {}
-    for it in [*crate.below(), crate]:
-        alone = copy.copy(it)
-        alone.deps = [types.SimpleNamespace(stamp=lambda s=stamps[dep]: s) for dep in it.deps]
-        stamps[it] = stamp_of(alone)
-    return stamps[crate]
+def text_of(path):
+    with open(path, encoding="utf-8", errors="replace") as file:
+        return file.read()
 
 
-def build(crate, jobs):
-    """Proves a crate, and returns 0 where that succeeds."""
-    flags = ["--jobs", str(jobs)]
-    if not crate.is_program:
-        return crate.build_rlib(flags, anew=False)
-    # The toolchain builds a program to run it: on no words, this one ends with status 5.
-    crate.said = {**crate.said, "status": 5}
-    return crate.run(flags, [], input=b"", stdout=PIPE, stderr=DEVNULL, timeout=60)
+def link(source, target):
+    """Links a folder's files. A proof replaces its files and never writes into old ones."""
+    if os.path.isdir(source):
+        shutil.copytree(source, target, copy_function=os.link)
+
+
+def die_with_parent():
+    ctypes.CDLL(None).prctl(1, signal.SIGKILL)
+
+
+class Crate:
+    """A crate, the line of crates.txt that names it, and the crates that it stands on."""
+
+    def __init__(self, name, line, deps):
+        self.name, self.line, self.deps = name, line, deps
+        self.below = [*dict.fromkeys(it for dep in deps for it in (*dep.below, dep))]
+        self.folder = f"{ROOT}/crates/{name}"
+        self.tree = f"{ROOM}/{name}"
+        self.room = f"{self.tree}/crates/{name}"
+        files = [f"{at}/{file}" for part in PARTS for at, _, found in os.walk(f"{self.folder}/{part}")
+                 for file in found]
+        self.functions = sum(len(re.findall(r"\bfn \w", text_of(it))) for it in files
+                             if it.endswith(".rt"))
+        self.is_program = f"{self.folder}/src/main.rt" in files
+
+    def start(self, jobs):
+        """Starts the proof. What earlier runs kept of the crate is moved into its tree."""
+        shutil.rmtree(self.tree, ignore_errors=True)
+        for it in (*self.below, self):
+            for part in (*PARTS, *(["out/rlib"] if it is not self else [])):
+                link(f"{it.folder}/{part}", f"{self.tree}/crates/{it.name}/{part}")
+        with open(f"{self.tree}/crates.txt", "w", encoding="utf-8") as file:
+            file.writelines(f"{it.line}\n" for it in (*self.below, self))
+        os.makedirs(f"{self.tree}/.git")  # where the repository of this tree ends
+        os.makedirs(f"{self.folder}/out", exist_ok=True)
+        os.rename(f"{self.folder}/out", f"{self.room}/out")
+        self.began, self.log = time.monotonic(), f"{self.tree}/log"
+        words = ["rt", "run" if self.is_program else "lib", "--jobs", str(jobs)]
+        with open(self.log, "w", encoding="utf-8") as log:
+            self.process = subprocess.Popen(
+                words, cwd=self.room, stdin=subprocess.DEVNULL, stdout=log,
+                stderr=subprocess.STDOUT, preexec_fn=die_with_parent)
+
+    def put_back(self):
+        if os.path.isdir(f"{self.room}/out"):
+            shutil.rmtree(f"{self.folder}/out", ignore_errors=True)
+            os.rename(f"{self.room}/out", f"{self.folder}/out")
+
+    def is_proved(self):
+        return self.process.returncode == (USAGE_STATUS if self.is_program else 0)
+
+    def checked(self):
+        """About how many functions are checked so far, as the prover tells."""
+        told = re.findall(r"so far: (\d+) of (\d+) functions", text_of(self.log))
+        checked, among = map(int, told[-1] if told else (0, 1))
+        return self.functions * checked // max(among, 1)
+
+
+def crates_of(program):
+    """The program with all that it stands on, the lowest first."""
+    lines = dict(re.findall(r"^((\w+):.*)$", text_of(f"{ROOT}/crates.txt"), re.M))
+    lines = {name: line for line, name in lines.items()}
+    made = {}
+
+    def make(name):
+        if name not in made:
+            words = lines[name].split(":")[1].split()
+            made[name] = Crate(name, lines[name], [make(it) for it in words if it in lines])
+        return made[name]
+
+    return [*make(program).below, make(program)]
 
 
 class Build:
-    """The proof of crates, which are listed from the lowest on."""
-
     def __init__(self, crates, jobs):
-        self.crates, self.jobs, self.running, self.began = crates, jobs, {}, time.monotonic()
-        self.proved = [it for it in crates if not it.is_program and it.is_built()]
-        self.functions = {it: it.count(rb"\bfn \w") for it in crates}
-        self.behind = {}  # the lines of the longest chain of crates that begins with a crate
+        self.crates, self.jobs = crates, jobs
+        self.running, self.proved, self.began = [], [], time.monotonic()
+        self.behind = {}  # the functions of the longest chain of crates that begins with a crate
         for it in reversed(crates):
-            own = sum(rtlib.text_of(file).count("\n") for file in rtlib.files_of(it.folder))
             above = (self.behind[other] for other in self.behind if it in other.deps)
-            self.behind[it] = own + max(above, default=0)
+            self.behind[it] = it.functions + max(above, default=0)
 
-    def start(self, pool, lanes):
+    def start(self, lanes):
         """Starts what is ready. Most of the proof is one chain of crates, so the crate with the
         most behind it gets all the processes, and one beside it gets one."""
-        left = {*self.crates} - {*self.proved, *self.running.values()}
-        ready = [it for it in left if {*it.below()} <= {*self.proved}]
+        waiting = [it for it in self.crates if it not in (*self.proved, *self.running)]
+        ready = [it for it in waiting if {*it.deps} <= {*self.proved}]
         ready.sort(key=self.behind.get, reverse=True)
         for crate in ready[: lanes - len(self.running)]:
-            most = max(map(self.behind.get, self.running.values()), default=0)
-            crate.began, jobs = time.monotonic(), self.jobs if self.behind[crate] > most else 1
-            self.running[pool.submit(build, crate, jobs)] = crate
+            most = max(map(self.behind.get, self.running), default=0)
+            crate.start(self.jobs if self.behind[crate] > most else 1)
+            self.running.append(crate)
 
-    def end(self, ended, log):
-        """Goes on where a crate is proved, and stops all else where it isn't."""
-        crate = self.running.pop(ended)
-        print(crate.out.getvalue(), end="", file=log, flush=True)
-        if ended.exception() or ended.result():
-            why = ended.exception() or f"status {ended.result()}"
-            print(f"\n{crate.out.getvalue()}{crate.name} isn't proved: {why}", file=sys.stderr)
-            os._exit(1)
+    def end(self, crate, log):
+        self.running.remove(crate)
+        crate.put_back()
+        said = text_of(crate.log)
+        print(f"== {crate.name}\n{said}", end="", file=log, flush=True)
+        if not crate.is_proved():
+            sys.exit(f"\n{said}{crate.name} isn't proved")
+        shutil.rmtree(crate.tree)
         self.proved.append(crate)
         if not sys.stderr.isatty():
-            told = f"{self.functions[crate]} functions, {time.monotonic() - crate.began:.0f} s"
-            print(f"{crate.name} proved ({told}): {self.crates_told()}", flush=True)
+            told = f"{crate.functions} functions, {time.monotonic() - crate.began:.0f} s"
+            print(f"{crate.name} proved ({told}): {self.count()}", flush=True)
 
-    def crates_told(self):
+    def stop(self):
+        for crate in self.running:
+            crate.process.kill()
+            crate.process.wait()
+            crate.put_back()
+
+    def count(self):
         return f"{len(self.proved)} of {len(self.crates)} crates"
 
     def show(self, what, ending=""):
-        """Rewrites the terminal's line. Of some crates the prover tells how far it is."""
-        count = sum(self.functions[it] for it in self.proved)
-        for it in self.running.values():
-            told = re.findall(r"so far: (\d+) of (\d+) functions", it.out.getvalue())
-            checked, among = map(int, told[-1] if told else (0, 1))
-            count += self.functions[it] * checked // among
-        line = f"{what}: {self.crates_told()}, {count:,} of {sum(self.functions.values()):,} "
-        line += f"functions, {(time.monotonic() - self.began) / 60:.0f} min"
-        columns = shutil.get_terminal_size().columns - 1
-        print(f"\r{line[:columns]}\x1b[K", end=ending, file=sys.stderr, flush=True)
+        """Rewrites the terminal's line."""
+        if sys.stderr.isatty():
+            checked = sum(it.functions for it in self.proved) + sum(it.checked() for it in self.running)
+            line = f"{what}: {self.count()}, {checked:,} of {sum(it.functions for it in self.crates):,} "
+            line += f"functions, {(time.monotonic() - self.began) / 60:.0f} min"
+            columns = shutil.get_terminal_size().columns - 1
+            print(f"\r{line[:columns]}\x1b[K", end=ending, file=sys.stderr, flush=True)
 
     def run(self, log):
-        memory = rtlib.number_in("/proc/meminfo", r"MemAvailable:\s+(\d+)")
-        lanes = max(min(self.jobs, memory // MEMORY), 1)
-        with ThreadPoolExecutor(lanes) as pool:
-            while len(self.proved) < len(self.crates):
-                self.start(pool, lanes)
-                if sys.stderr.isatty():
-                    self.show("proving " + ", ".join(it.name for it in self.running.values()))
-                for ended in wait(self.running, 1, FIRST_COMPLETED).done:
-                    self.end(ended, log)
-        if sys.stderr.isatty():
-            self.show("proved", "\n")
+        memory = re.search(r"MemAvailable: +(\d+)", text_of("/proc/meminfo"))
+        lanes = max(min(self.jobs, int(memory[1]) // MEMORY), 1)
+        while len(self.proved) < len(self.crates):
+            self.start(lanes)
+            self.show("proving " + ", ".join(it.name for it in self.running))
+            time.sleep(0.2)
+            for crate in [it for it in self.running if it.process.poll() is not None]:
+                self.end(crate, log)
+        self.show("proved", "\n")
 
 
-def main(name, log, jobs):
-    # At Ctrl-C Python would wait for its threads. What they started ends with this process.
-    signal.signal(signal.SIGINT, signal.SIG_DFL)
-    rtlib.guarded()
-    rtlib.Crate.stamp = stamp
-    program = rtlib.Crate(f"{ROOT}/crates/{name}", ROOT, {})
-    crates = [*program.below(), program]
-    program.held = rtlib.lock(crates)
+def main(program, log, jobs):
+    crates = crates_of(program)
     for it in crates:
-        rtlib.stop_on_links(it.folder)
-        os.makedirs(f"{it.folder}/out", exist_ok=True)
-        it.out = io.StringIO()
-    with open(log, "w", encoding="utf-8") as log:
-        Build(crates, int(jobs)).run(log)
+        it.put_back()  # where the last run was stopped at once
+    build = Build(crates, int(jobs))
+    signal.signal(signal.SIGTERM, lambda *_: sys.exit(1))
+    try:
+        with open(log, "w", encoding="utf-8") as file:
+            build.run(file)
+    except KeyboardInterrupt:
+        sys.exit(1)
+    finally:
+        build.stop()
 
 
 main(*sys.argv[1:])
