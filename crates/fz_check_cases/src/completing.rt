@@ -115,13 +115,18 @@ var 0..9: x; var 0..9: z; constraint int_lin_eq([1,-1],[z,x],0); solve minimize 
 > x = 5; / z = 5; / ---------- / x = 6; / z = 6; / ----------
 = block 1: satisfied / block 2: violated: objective 6 not better than 5 / rejected: block 2
 > x = 5; / ---------- / x = 6; / z = 6; / ----------
-= block 1: satisfied / block 2: undecided: no value for z / undecided: block 2
+= block 1: satisfied / block 2: undecided: objective 6 not shown better than 5
+= undecided: block 2
 > x = 5; / ---------- / x = 4; / z = 4; / ---------- / x = 4; / z = 4; / ----------
 = block 1: satisfied / block 2: satisfied
 = block 3: violated: objective 4 not better than 4 / rejected: block 3
 
 var 0..9: x; var 0..9: z; solve maximize z;
 > x = 5; / ---------- / x = 3; / ----------
+= block 1: satisfied / block 2: satisfied / accepted: blocks 2
+
+var 1..9: y; var 1..9: z; constraint int_abs(y,z); solve minimize z;
+> ---------- / y = 3; / z = 3; / ----------
 = block 1: satisfied / block 2: satisfied / accepted: blocks 2
 ";
 

@@ -121,7 +121,7 @@ fn verdict_message(
     if let Some(name) = said.strip_prefix(b"violated: printed ") {
         return printed_explanation(alloc, reading, filling, name);
     }
-    if said.starts_with(b"violated: objective ") {
+    if said.starts_with(b"violated: objective ") || said.starts_with(b"undecided: objective ") {
         return objective_explanation(alloc, reading, filling);
     }
     let sought = if said.starts_with(b"violated: ") {
@@ -226,6 +226,9 @@ fn push_help(
     if said.starts_with(b"undecided: no value for ") {
         return push_help_on_value(alloc, reading, notes);
     }
+    if said.starts_with(b"undecided: objective ") {
+        notes.push(Note::Help(Help::PrintAll))?;
+    }
     if said.ends_with(b" not known") {
         notes.push(Note::Help(Help::UseLibrary))?;
     }
@@ -291,6 +294,7 @@ fn objective_explanation(
     let told = case.told;
     let before = told.number.saturating_sub(1);
     message.notes.push(Note::OtherBlock(before))?;
+    push_help(alloc, reading, &mut message.notes)?;
     Ok(Some(message))
 }
 

@@ -18,6 +18,7 @@ abbrev pub reason_view : Reason → plain.Reason
 reason_view (reasons.NoValue name) = plain.Reason.NoValueFor name.now
 reason_view (reasons.Unknown k name) = plain.Reason.NotKnown k name.now
 reason_view (reasons.TooLarge k) = plain.Reason.SumTooLarge k
+reason_view (reasons.NotShownBetter now found) = plain.Reason.NotShownBetter now found
 
 abbrev pub verdict_view : Verdict → plain.Verdict
 verdict_view verdicts.Satisfied = plain.Verdict.Satisfied

@@ -18,10 +18,10 @@ use Rattle.fz_filling.specs.of_syntax.Places.{IsSpanWithin}
 use Rattle.fz_filling.specs.of_verdict.Blocks.{Block, Printed, PrintedValue, printed_values, moved}
 use Rattle.fz_filling.specs.of_verdict.Blocks.PrintedValue.{OneValue, ArrayOf}
 use Rattle.fz_filling.specs.of_verdict.Filling.{pairs, pairs_at}
-use Rattle.fz_filling.specs.of_verdict.Completed.{name_of_aim}
 use Rattle.fz_filling.specs.of_verdict.Verdict.{Fault, Reason, Verdict, verdict, not_known_at, too_large_at, verdict_by}
 use Rattle.fz_filling.specs.of_verdict.Verdict.Verdict.{Satisfied, Violated, Undecided}
-use Rattle.fz_filling.specs.of_verdict.Verdict.Reason.{NoValueFor}
+use Rattle.fz_filling.specs.of_verdict.Verdict.Fault.{NotBetter}
+use Rattle.fz_filling.specs.of_verdict.Verdict.Reason.{NoValueFor, NotShownBetter}
 use Rattle.fz_judge.specs.declared.error.BlockError.{BlockError}
 use Rattle.fz_judge.specs.declared.error.BlockError.TheVariants as errors
 
@@ -109,9 +109,13 @@ with_objective Satisfied o = verdict_by o None
 
 -- the verdict on a block that is satisfied, where its objective may not be better than one that a
 -- search found
-abbrev pub compared : Model → Option Fault → Verdict
-compared m None = Satisfied
-compared m (Some f) = Undecided (NoValueFor (name_of_aim m m.aim))
+abbrev pub not_shown_better : Fault → Verdict
+not_shown_better (NotBetter now found) = Undecided (NotShownBetter now found)
+not_shown_better _ = Satisfied
+
+abbrev pub compared : Option Fault → Verdict
+compared None = Satisfied
+compared (Some f) = not_shown_better f
 
 -- the block is satisfied under some values, which have this objective
 abbrev pub IsFound : Model → Block → Option ℤ → Option ℤ → Type 0

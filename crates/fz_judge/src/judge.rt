@@ -5,13 +5,13 @@ ghost use Rattle.fz_filling.specs.of_model.Meaning.{IsPartial, first_some, objec
 ghost use Rattle.fz_filling.specs.of_model.Overviews.{IsOverview};
 ghost use Rattle.fz_filling.specs.of_stream.Found.{EndsWithin, HasPlaces};
 ghost use Rattle.fz_filling.specs.of_verdict.Blocks.{block_fault, items_fault};
-ghost use Rattle.fz_filling.specs.of_verdict.Completed.{IsCompleted, name_of_aim, name_of_term};
+ghost use Rattle.fz_filling.specs.of_verdict.Completed.{IsCompleted};
 ghost use Rattle.fz_filling.specs.of_verdict.Verdict.{objective_fails, printed_fails, verdict, verdict_by};
 ghost use Rattle.fz_filling.specs.of_verdict.Verdict.Verdict.{Undecided};
 ghost use Rattle.fz_filling.specs.of_verdict.View.{located_block, located_items};
 ghost use Rattle.fz_judge.specs.Judged.{IsBlockRefusal, IsJudged, TellsKind};
 ghost use Rattle.fz_judge.specs.View.{fault_view, reason_view, verdict_view};
-ghost use Rattle.fz_judge.specs.Working.{IsFound, compared, with_objective};
+ghost use Rattle.fz_judge.specs.Working.{IsFound, compared, not_shown_better, with_objective};
 
 use crate::error::BlockError;
 use crate::filling::filled;
@@ -20,7 +20,7 @@ use crate::printed::printed_fails;
 use crate::start::Proposed;
 use crate::verdict::{Fault, Reason, Verdict};
 use fz_filling::Course;
-use fz_filling::fz_model::{Goal, Model, Overview, Partial, Term};
+use fz_filling::fz_model::{Model, Overview, Partial};
 use fz_filling::fz_stream::Block;
 use fz_filling::fz_verdict::Completion;
 use fz_search::{Search, propose};
@@ -99,38 +99,27 @@ fn verdict_over<'a>(
     verdict_under(alloc, model, overview, partial, agrees, block, before)
 }
 
-/// The name of the variable that a scalar is; empty where it is no variable.
-fn name_of_term<'a>(model: &Model<'a>, term: &Term) -> &'a [u8]
-    ensures { result.now ≡ name_of_term model.now term.now }
+/// The verdict on a block that is satisfied under its filling, where its objective isn't better than
+/// one that was found for the block before.
+fn not_shown_better(fault: Fault<'_>) -> Verdict<'_>
+    ensures { verdict_view result ≡ not_shown_better (fault_view fault.entry) }
 {
-    match term {
-        Term::Var(number) => match model.variables().get(*number) {
-            Some(variable) => variable.name,
-            None => &[],
-        },
-        Term::Fixed(_) => &[],
-    }
-}
-
-/// The name of the variable that is minimized or maximized.
-fn objective_name<'a>(model: &Model<'a>) -> &'a [u8]
-    ensures { result.now ≡ name_of_aim model.now model.now.aim }
-{
-    match model.goal() {
-        Goal::Satisfy => &[],
-        Goal::Minimize(term) => name_of_term(model, term),
-        Goal::Maximize(term) => name_of_term(model, term),
+    match fault {
+        Fault::NotBetter(now, found) => Verdict::Undecided(Reason::NotShownBetter(now, found)),
+        Fault::Printed(_) | Fault::Domain(_) | Fault::Definition(_) | Fault::Constraint(_, _) => {
+            Verdict::Satisfied
+        }
     }
 }
 
 /// The verdict on a block that is satisfied under its filling with the objective `now`, where the
 /// objective before was found by a search.
 fn compared<'a>(model: &Model<'a>, before: Option<i64>, now: Option<i64>) -> Verdict<'a>
-    ensures { verdict_view result ≡ compared model.now (objective_fails model.now.aim before now) }
+    ensures { verdict_view result ≡ compared (objective_fails model.now.aim before now) }
 {
     match objective_fails(model.goal(), before, now) {
         None => Verdict::Satisfied,
-        Some(_) => Verdict::Undecided(Reason::NoValue(objective_name(model))),
+        Some(fault) => not_shown_better(fault),
     }
 }
 
@@ -251,7 +240,9 @@ impl<'m, 'a> Judge<'m, 'a> {
                 Some(found) => Ok((Verdict::Satisfied, found)),
                 None => Ok((Verdict::Undecided(reason), now)),
             },
-            Reason::Unknown(_, _) | Reason::TooLarge(_) => Ok((Verdict::Undecided(reason), now)),
+            Reason::Unknown(_, _) | Reason::TooLarge(_) | Reason::NotShownBetter(_, _) => {
+                Ok((Verdict::Undecided(reason), now))
+            }
         }
     }
 

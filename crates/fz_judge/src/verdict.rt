@@ -22,6 +22,9 @@ pub enum Reason<'a> {
     Unknown(usize, &'a [u8]),
     /// A partial sum of a constraint leaves 128 bits.
     TooLarge(usize),
+    /// This block's objective is not better than the one that was found for the block before, where
+    /// values that the solver left out were looked for.
+    NotShownBetter(i64, i64),
 }
 
 /// The verdict on one block.

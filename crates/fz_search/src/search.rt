@@ -27,6 +27,14 @@ fn objective_of(goal: &Goal) -> Option<Objective> {
     }
 }
 
+impl Objective {
+    fn variable(self) -> usize {
+        match self {
+            Objective::Least(number) | Objective::Greatest(number) => number,
+        }
+    }
+}
+
 /// From which end of its bounds a variable gets its value. An objective gets the worst value that
 /// it can have, which leaves later blocks the most room.
 fn end_for(objective: Option<Objective>, variable: usize) -> End {
@@ -77,18 +85,32 @@ impl<'k, 'm, 'a> Work<'k, 'm, 'a> {
         Err(Stop::NothingFound)
     }
 
-    /// Gives each variable a value.
-    fn complete(&mut self, objective: Option<Objective>, before: Option<i64>) -> Result<(), Stop> {
+    /// Gives a variable a value, where it has none.
+    fn fill(&mut self, variable: usize, objective: Option<Objective>) -> Result<(), Stop> {
+        if self.proposal.has(variable) {
+            return Ok(());
+        }
+        self.guess(variable, end_for(objective, variable))?;
+        self.settle()
+    }
+
+    /// Gives each variable a value, the one that is to come first before all others.
+    fn complete(
+        &mut self,
+        objective: Option<Objective>,
+        before: Option<i64>,
+        first: Option<usize>,
+    ) -> Result<(), Stop> {
         for point in 0..self.proposal.model().points() {
             self.wake(point)?;
         }
         self.improve(objective, before)?;
         self.settle()?;
+        if let Some(variable) = first {
+            self.fill(variable, objective)?;
+        }
         for variable in 0..self.proposal.model().variables().len() {
-            if !self.proposal.has(variable) {
-                self.guess(variable, end_for(objective, variable))?;
-                self.settle()?;
-            }
+            self.fill(variable, objective)?;
         }
         Ok(())
     }
@@ -109,10 +131,41 @@ fn known_of<'k>(
     }
 }
 
-/// Proposes values for the variables that have none. It never goes back: where it meets a
-/// contradiction or its budget is spent, it proposes nothing. The values are of their variables'
-/// kinds, and no more is promised of them, since the caller judges them. It refuses only where
-/// memory runs out.
+/// The values that one way through the variables comes to, if it comes to its end.
+fn attempt(
+    alloc: Global,
+    known: &Search,
+    model: &Model<'_>,
+    filling: &Partial,
+    before: Option<i64>,
+    first: Option<usize>,
+) -> Result<Option<Partial>, AllocError>
+    requires fits { IsPartial model.now filling.now }
+    ensures kinds { IfOk result (λ o. IfSome o (IsPartial model.now)) }
+{
+    let mut work = Work::new(alloc, known, model, filling)?;
+    match work.complete(objective_of(model.goal()), before, first) {
+        Ok(()) => Ok(Some(copied(alloc, model, work.proposal.values())?)),
+        Err(Stop::NothingFound) => Ok(None),
+        Err(Stop::Memory) => Err(AllocError),
+    }
+}
+
+/// The variable of the objective, where it has no value.
+fn open_objective(model: &Model<'_>, filling: &Partial) -> Option<usize> {
+    let variable = objective_of(model.goal())?.variable();
+    match filling.get(variable) {
+        Some(_) => None,
+        None => Some(variable),
+    }
+}
+
+/// Proposes values for the variables that have none. An objective that the block leaves open gets
+/// its worst value first, since the next block is compared with what is found; where nothing is
+/// found so, the variables get their values in their order. No guess is taken back: where a
+/// contradiction is met or the budget is spent, nothing is proposed. The values are of their
+/// variables' kinds, and no more is promised of them, since the caller judges them. It refuses only
+/// where memory runs out.
 pub fn propose(
     alloc: Global,
     model: &Model<'_>,
@@ -124,10 +177,11 @@ pub fn propose(
     ensures kinds { IfOk result (λ o. IfSome o (IsPartial model.now)) }
 {
     let known = known_of(alloc, model, known)?;
-    let mut work = Work::new(alloc, known, model, filling)?;
-    match work.complete(objective_of(model.goal()), before) {
-        Ok(()) => Ok(Some(copied(alloc, model, work.proposal.values())?)),
-        Err(Stop::NothingFound) => Ok(None),
-        Err(Stop::Memory) => Err(AllocError),
+    if let Some(objective) = open_objective(model, filling) {
+        let found = attempt(alloc, known, model, filling, before, Some(objective))?;
+        if found.is_some() {
+            return Ok(found);
+        }
     }
+    attempt(alloc, known, model, filling, before, None)
 }

@@ -94,5 +94,12 @@ pub(crate) fn push_reason(text: &mut Vec<u8>, reason: &Reason<'_>) -> Result<(),
             push_bytes(text, b" too large")?;
             Ok(())
         }
+        Reason::NotShownBetter(now, found) => {
+            push_bytes(text, b"objective ")?;
+            push_number(text, now)?;
+            push_bytes(text, b" not shown better than ")?;
+            push_number(text, found)?;
+            Ok(())
+        }
     }
 }

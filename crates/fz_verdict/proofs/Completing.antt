@@ -9,7 +9,7 @@ use Rattle.fz_verdict.specs.declared.completion.Completion.{Completion}
 use Rattle.fz_verdict.specs.declared.completion.Completion.TheVariants.{Off, On}
 use Rattle.fz_verdict.specs.Blocks.{Block, Extends}
 use Rattle.fz_verdict.specs.Completed.{AreTold, AreVerdicts, IsCompleted, IsToldBy, LacksValuesAtMost}
-use Rattle.fz_verdict.specs.Completed.IsCompleted.{Found, AsFilled, NotShownBetter}
+use Rattle.fz_verdict.specs.Completed.IsCompleted.{Found, AsFilled, NotBetterThanFound}
 use Rattle.fz_verdict.specs.Completed.AreTold.{NoneLeft as NoneTold, OneMore as OneTold}
 use Rattle.fz_verdict.specs.Verdict.{Verdict, Fault, verdict, AreJudged, IsFilled, answer_of}
 use Rattle.fz_verdict.specs.Verdict.Answer.{Accepted}
@@ -26,13 +26,13 @@ violated_told : (c : Completion) (m : Model) (block : Block) (before : Option �
 violated_told Off m block before F w v kept f is e = sym is ∙ e
 violated_told On m block before F w v kept f (Found K lacks partial satisfied) e = absurd cc
 violated_told On m block before F w v kept f (AsFilled other) e = e
-violated_told On m block before F w v kept f (NotShownBetter fails) e = absurd cc
+violated_told On m block before F w v kept f (NotBetterThanFound fails) e = absurd cc
 
 keeps_told : (m : Model) (block : Block) (before : Option ℤ) (F : Partial) (w v : Verdict)
     (kept : Option ℤ) → IsCompleted m block before F w v kept → (LacksValuesAtMost w → ⊥) → v ≡ w
 keeps_told m block before F w v kept (Found K lacks partial satisfied) h = absurd (h lacks)
 keeps_told m block before F w v kept (AsFilled other) h = refl
-keeps_told m block before F w v kept (NotShownBetter fails) h = absurd (h tt)
+keeps_told m block before F w v kept (NotBetterThanFound fails) h = absurd (h tt)
 
 -- the objective that a block is compared with where it is told satisfied
 abbrev pub compared : Completion → Option ℤ → Option ℤ → Option ℤ
@@ -53,7 +53,7 @@ satisfied_under : (c : Completion) (m : Model) (block : Block) (F : Partial)
 satisfied_under Off m block F filled found kept w v partial under is e = record { values = F; partial = partial; satisfied = sym under ∙ sym is ∙ e; kept_is = refl }
 satisfied_under On m block F filled found kept w v partial under (Found K lacks fits satisfied) e = record { values = K; partial = fits; satisfied = satisfied; kept_is = refl }
 satisfied_under On m block F filled found kept w v partial under (AsFilled other) e = absurd (other e)
-satisfied_under On m block F filled found kept w v partial under (NotShownBetter fails) e = absurd cc
+satisfied_under On m block F filled found kept w v partial under (NotBetterThanFound fails) e = absurd cc
 
 -- ---- all blocks
 

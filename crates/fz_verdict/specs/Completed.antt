@@ -1,27 +1,14 @@
 -- The verdicts of a report, where values that a solver left out are looked for, and where they
 -- aren't (this project's profile).
-use Rattle.std.specs.Prelude.{◌≡◌, ℕ, ℤ, List, [], ◌∷◌, Option, Some, None, ⊤, slice_get}
-use Rattle.std.specs.Option.{option_map_or}
-use Rattle.fz_model.specs.declared.Term.{Term}
-use Rattle.fz_model.specs.declared.Term.TheVariants.{Var, Fixed}
-use Rattle.fz_model.specs.Meaning.{Aim, Model, Partial, objective, variables_of, IsPartial}
-use Rattle.fz_model.specs.Meaning.Aim.{Satisfy, Minimize, Maximize}
+use Rattle.std.specs.Prelude.{◌≡◌, ℤ, List, [], ◌∷◌, Option, Some, None, ⊤}
+use Rattle.fz_model.specs.Meaning.{Model, Partial, objective, IsPartial}
 use Rattle.fz_verdict.specs.declared.completion.Completion.{Completion}
 use Rattle.fz_verdict.specs.declared.completion.Completion.TheVariants.{Off, On}
 use Rattle.fz_verdict.specs.Blocks.{Block}
 use Rattle.fz_verdict.specs.Verdict.{Verdict, verdict, objective_fails, IsFilled}
-use Rattle.fz_verdict.specs.Verdict.Reason.{NoValueFor}
+use Rattle.fz_verdict.specs.Verdict.Fault.{NotBetter}
+use Rattle.fz_verdict.specs.Verdict.Reason.{NoValueFor, NotShownBetter}
 use Rattle.fz_verdict.specs.Verdict.Verdict.{Satisfied, Undecided}
-
--- the name of the variable that is minimized or maximized
-abbrev pub name_of_term : Model → Term → List ℕ
-name_of_term m (Var n) = option_map_or (λ x. x.name) (slice_get (variables_of m) n) []
-name_of_term m (Fixed v) = []
-
-abbrev pub name_of_aim : Model → Aim → List ℕ
-name_of_aim m Satisfy = []
-name_of_aim m (Minimize t) = name_of_term m t
-name_of_aim m (Maximize t) = name_of_term m t
 
 -- the verdict is one for which values may be looked for: the block is satisfied under its filling,
 -- or undecided because a variable has no value
@@ -43,9 +30,9 @@ pub data IsCompleted (m : Model) (block : Block) (before : Option ℤ) (F : Part
   AsFilled : {v : Verdict} → (v ≡ Satisfied → ⊥) → IsCompleted m block before F v v (objective m F)
   -- the block is satisfied under its filling, but its objective isn't better than `before`; since
   -- the values of the block before may have been looked for, that is no fault of the block
-  NotShownBetter : {f : _} → objective_fails m.aim before (objective m F) ≡ Some f
-      → IsCompleted m block before F Satisfied (Undecided (NoValueFor (name_of_aim m m.aim)))
-      (objective m F)
+  NotBetterThanFound : {now found : ℤ}
+      → objective_fails m.aim before (objective m F) ≡ Some (NotBetter now found)
+      → IsCompleted m block before F Satisfied (Undecided (NotShownBetter now found)) (objective m F)
 
 -- the verdict that is reported of a block with a filling and a verdict under it: that same verdict,
 -- where no values are looked for

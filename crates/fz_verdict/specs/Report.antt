@@ -13,7 +13,7 @@ use Rattle.fz_verdict.specs.declared.completion.Completion.{Completion}
 use Rattle.fz_verdict.specs.Completed.{AreVerdicts}
 use Rattle.fz_verdict.specs.Verdict.{Fault, Reason, Verdict, Answer, answer_of}
 use Rattle.fz_verdict.specs.Verdict.Fault.{PrintedFault, DomainFault, DefinitionFault, ConstraintFault, NotBetter}
-use Rattle.fz_verdict.specs.Verdict.Reason.{NoValueFor, NotKnown, SumTooLarge}
+use Rattle.fz_verdict.specs.Verdict.Reason.{NoValueFor, NotKnown, NotShownBetter, SumTooLarge}
 use Rattle.fz_verdict.specs.Verdict.Verdict.{Satisfied, Violated, Undecided}
 use Rattle.fz_verdict.specs.Verdict.Answer.{Accepted, Rejected, UndecidedAt, NoBlocks}
 
@@ -53,6 +53,8 @@ reason_text (NoValueFor name) = codes "no value for " ++ name
 reason_text (NotKnown k name) =
     codes "constraint " ++ decimal k ++ codes " " ++ name ++ codes " not known"
 reason_text (SumTooLarge k) = codes "constraint " ++ decimal k ++ codes " too large"
+reason_text (NotShownBetter now found) = codes "objective " ++ signed_decimal now
+    ++ codes " not shown better than " ++ signed_decimal found
 
 abbrev pub verdict_text : Verdict → List ℕ
 verdict_text Satisfied = codes "satisfied"

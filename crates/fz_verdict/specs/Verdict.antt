@@ -30,6 +30,8 @@ pub data Reason : Type 0 where
   NoValueFor : List ℕ → Reason
   NotKnown : ℕ → List ℕ → Reason
   SumTooLarge : ℕ → Reason
+  -- this block's objective, and the one that was found for the block before
+  NotShownBetter : ℤ → ℤ → Reason
 
 pub data Verdict : Type 0 where
   Satisfied : Verdict
