@@ -16,6 +16,7 @@ use Rattle.fz_streaming.specs.of_verdict.Verdict.{Verdict, Fault}
 use Rattle.fz_streaming.specs.of_verdict.View.{located_block}
 use Rattle.fz_streaming.specs.of_verdict.Verdict.Verdict.{Satisfied, Violated}
 use Rattle.fz_streaming.specs.of_verdict.Verdict.Fault.{NotBetter}
+use Rattle.fz_streaming.specs.Streaming.{HaveVerdicts}
 
 -- What is checked against what: the model's bytes are a text of a tree without faults, and the
 -- stream's bytes are a text of parts, of which these are the blocks, with the byte ranges of their
@@ -69,3 +70,10 @@ pub record HasReport (c : Completion) (model stream : List ℕ) (r : Report) : T
   pub is_report : IsReport c (model_of checked.tree)
       (map located_block checked.blocks) checked.parts r
   pub borne_out : AreBorneOut (model_of checked.tree) (map located_block checked.blocks) r.verdicts
+
+-- The verdicts of lines that were written are borne out, also where the stream is refused behind
+-- them.
+abbrev pub WrittenLinesAreBorneOut : Type 0
+WrittenLinesAreBorneOut = (c : Completion) (t : LocatedTree) (parts : List StreamPart)
+    (verdicts : List Verdict) → HasNoFault t → (h : HaveVerdicts c (model_of t) parts verdicts)
+    → AreBorneOut (model_of t) (map located_block h.blocks) verdicts

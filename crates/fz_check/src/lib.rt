@@ -10,6 +10,8 @@ mod refusal;
 mod report;
 mod streaming;
 
+ghost use Rattle.fz_check.specs.Reported.{WrittenLinesAreBorneOut};
+
 pub use checking::{check, show, show_printing_all};
 pub use error::CheckError;
 pub use fz_base::Span;
@@ -22,3 +24,8 @@ pub use fz_streaming::fz_verdict::Completion;
 pub use refusal::{refusal_place, refusal_text, status};
 pub use report::{Report, report_text};
 pub use streaming::{MOST_READS, check_stream, check_stream_up_to};
+
+/// What the lines say that were written before a refusal is so, as it is of a report.
+pub fn written_lines_are_borne_out()
+    ensures { WrittenLinesAreBorneOut }
+{}

@@ -20,7 +20,7 @@ use Rattle.fz_builtins.specs.of_view.Given.{given, given_from, given_values, rea
 use Rattle.fz_builtins.specs.Outcomes.{row_outcome, sum_outcome}
 use Rattle.fz_eval.proofs.Known.{all_read}
 use Rattle.fz_builtins.proofs.Rows.{outcome_is}
-use Rattle.fz_eval.specs.declared.Outcome.TheVariants.{Truth as TruthOutcome, TooLarge}
+use Rattle.fz_builtins.specs.declared.outcome.Outcome.TheVariants.{Truth as TruthOutcome, TooLarge}
 use Rattle.fz_eval.specs.Left.{IsLeft, IsOfKind, IsPlaceOf, holds_with, is_too_large}
 use Rattle.fz_eval.proofs.RowLemmas.{only_place}
 use Rattle.fz_eval.proofs.RowKinds.{adds_nothing}
