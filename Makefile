@@ -38,6 +38,7 @@ test:
 	rt ci
 	@mkdir -p build
 	cp crates/fzcheck/out/fzcheck build/fzcheck
+	tests/documents.py
 	tests/program.sh build/fzcheck
 	tests/broken/run.py build/fzcheck
 	tests/corpus/run.py build/fzcheck tests/corpus examples

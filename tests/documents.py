@@ -1,5 +1,7 @@
 #!/usr/bin/env python3
-"""Compares the table of docs/THEOREM.md, "What each crate promises", with the contracts in crates/.
+"""Compares what documents say of the sources with these: the table of docs/THEOREM.md, "What each
+crate promises", with the contracts in crates/, and the number of paths in docs/ARCHITECTURE.md with
+crates.txt.
 
 Each clause that a row names must stand at one of the row's calls, and each call must have one of
 them; where a row names none, each call must have an `ensures`. A call is looked for in the crates of
@@ -52,8 +54,22 @@ def is_so(crates, calls, clauses):
     return all(found & clauses if clauses else found for found in stated) and clauses <= set().union(*stated)
 
 
-wrong = [row for row in rows() if not is_so(*row)]
-for _, calls, clauses in wrong:
-    print(f"failed: {calls}: not with the clauses {sorted(clauses)}")
-print(f"{len(list(rows())) - len(wrong)} passed, {len(wrong)} failed")
-sys.exit(bool(wrong))
+def paths(crate):
+    """The ways from a crate to those below it, which some kits follow before each command."""
+    return 1 + sum(paths(name) for name in BELOW[crate].split() if name in BELOW)
+
+
+def wrong():
+    for crates, calls, clauses in rows():
+        if not is_so(crates, calls, clauses):
+            yield f"{calls}: not with the clauses {sorted(clauses)}"
+    told = re.search(r"there\s+are\s+(\d+)\s+paths", (ROOT / "docs" / "ARCHITECTURE.md").read_text())
+    if not paths("fzcheck") == int(told[1]) <= 1000:
+        yield f"there are {paths('fzcheck')} paths below fzcheck"
+
+
+faults = list(wrong())
+for fault in faults:
+    print(f"failed: {fault}")
+print(f"{len(list(rows())) + 1 - len(faults)} passed, {len(faults)} failed")
+sys.exit(bool(faults))
