@@ -6,6 +6,7 @@
 A run of `rt` locks its crate and those below it, so that no two of them could work side by side in
 crates/. So each crate is proved in a tree of its own below build/prove, of links to files."""
 import ctypes
+import glob
 import os
 import re
 import shutil
@@ -45,11 +46,9 @@ class Crate:
         self.folder = f"{ROOT}/crates/{name}"
         self.tree = f"{ROOM}/{name}"
         self.room = f"{self.tree}/crates/{name}"
-        files = [f"{at}/{file}" for part in PARTS for at, _, found in os.walk(f"{self.folder}/{part}")
-                 for file in found]
-        self.functions = sum(len(re.findall(r"\bfn \w", text_of(it))) for it in files
-                             if it.endswith(".rt"))
-        self.is_program = f"{self.folder}/src/main.rt" in files
+        self.is_program = os.path.exists(f"{self.folder}/src/main.rt")
+        files = glob.glob(f"{self.folder}/src/**/*.rt", recursive=True)
+        self.functions = sum(len(re.findall(r"\bfn \w", text_of(it))) for it in files)
 
     def start(self, jobs):
         """Starts the proof. What earlier runs kept of the crate is moved into its tree."""
@@ -144,9 +143,11 @@ class Build:
     def show(self, what, ending=""):
         """Rewrites the terminal's line."""
         if sys.stderr.isatty():
-            checked = sum(it.functions for it in self.proved) + sum(it.checked() for it in self.running)
-            line = f"{what}: {self.count()}, {checked:,} of {sum(it.functions for it in self.crates):,} "
-            line += f"functions, {(time.monotonic() - self.began) / 60:.0f} min"
+            checked = sum(it.functions for it in self.proved)
+            checked += sum(it.checked() for it in self.running)
+            among = sum(it.functions for it in self.crates)
+            minutes = (time.monotonic() - self.began) / 60
+            line = f"{what}: {self.count()}, {checked:,} of {among:,} functions, {minutes:.0f} min"
             columns = shutil.get_terminal_size().columns - 1
             print(f"\r{line[:columns]}\x1b[K", end=ending, file=sys.stderr, flush=True)
 
