@@ -35,6 +35,7 @@ build/fzcheck: $(SOURCES)
 # The gate proves and builds the program too, so nothing is proved twice here.
 test:
 	@$(NEEDS_RT)
+	@rm -rf build/prove
 	rt ci
 	@mkdir -p build
 	cp crates/fzcheck/out/fzcheck build/fzcheck

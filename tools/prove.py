@@ -136,6 +136,7 @@ class Build:
             crate.process.kill()
             crate.process.wait()
             crate.put_back()
+        shutil.rmtree(ROOM, ignore_errors=True)  # `rt ci` wants no other sources in the repository
 
     def count(self):
         return f"{len(self.proved)} of {len(self.crates)} crates"
