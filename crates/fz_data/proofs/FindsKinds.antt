@@ -1,5 +1,6 @@
 -- What is found under a name has its kind.
 use Rattle.std.proofs.Common.{◌≡◌, ℕ, List, Option, Some, None, sym, subst, option_map, IfSome}
+use Rattle.fz_names.specs.declared.names.Hint.{Hint}
 use Rattle.fz_meaning.specs.Meaning.{Model, Place, find_name, variables_of}
 use Rattle.fz_data.specs.Kinds.{PlaceFits}
 use Rattle.fz_data.specs.Layout.{IsLaidOut, model_view}
@@ -12,7 +13,7 @@ pub fits_found : (m : Inside) → IsLaidOut m → (model : Model) → model_view
 fits_found m laid model view x p e = subst (λ k. find_name k x ≡ Some p → PlaceFits k p) view (laid.kinds x p) (sym e)
 
 pub fits_if_found : (m : Inside) → IsLaidOut m → (model : Model) → model_view m ≡ model
-    → (x : List ℕ) (o : Option (Found × ℕ)) → option_map
+    → (x : List ℕ) (o : Option (Found × Hint)) → option_map
     (λ f. found_place (variables_of model) f.0) o ≡ find_name model x
     → IfSome o (λ f. PlaceFits model (found_place (variables_of model) f.0))
 fits_if_found m laid model view x None e = tt
