@@ -1,5 +1,5 @@
 """Global constraints in the plainest way, for slow.py: the kinds of their arguments, whether they
-hold, and the places of the arrays that have to be of equal lengths.
+hold, the places of the arrays that have to be of equal lengths, and which have to have whole rows.
 
 They follow docs/BUILTINS.md. Lists that lead to places are walked, cumulative looks at each start,
 and nothing is sorted but to compare."""
@@ -73,7 +73,7 @@ def knapsack(w, p, x, weight, profit):
 
 
 def windows(low, high, k, x):
-    if k < 1:
+    if k < 0:
         return False
     return all(low <= sum(x[i : i + k]) <= high for i in range(len(x) - k + 1))
 
@@ -96,7 +96,7 @@ def circuit(o, x):
 
 def subcircuit(o, x):
     x = [v - o for v in x]
-    if any(not 0 <= v < len(x) for v in x) or not all_different(x):
+    if not x or any(not 0 <= v < len(x) for v in x) or not all_different(x):
         return False
     moved = [i for i, v in enumerate(x) if v != i]
     return not moved or len(cycle(x, moved[0])) == len(moved)
@@ -113,12 +113,21 @@ def inverse(f, fo, g, go):
 
 def is_row(x, t):
     n = len(x)
-    return n > 0 and len(t) % n == 0 and any(t[i : i + n] == x for i in range(0, len(t), n))
+    return any(t[i : i + n] == x for i in range(0, len(t), n))
+
+
+def has_rows(x, t):
+    """So many whole rows, each as long as x, which has an element. Each argument is its term, or
+    the list of its terms."""
+    return len(x) > 0 and len(t) % len(x) == 0
+
+
+def has_transitions(x, states, symbols, d, q, final):
+    """One for each state and symbol, whose numbers are fixed."""
+    return states[0] == symbols[0] == "fixed" and states[1] * symbols[1] == len(d)
 
 
 def regular(x, states, symbols, d, q, final):
-    if len(d) != states * symbols:
-        return False
     for v in x:
         if not (1 <= q <= states and 1 <= v <= symbols):
             return False
@@ -250,4 +259,12 @@ RESULTS = {
     "fzn_nvalue": ("I [I]", 0, lambda x: len(set(x))),
     "gecode_maximum_arg_int_offset": (C, 2, lambda x, o: o + x.index(max(x)) if x else None),
     "gecode_minimum_arg_int_offset": (C, 2, lambda x, o: o + x.index(min(x)) if x else None),
+}
+WHOLE_ROWS = {
+    "fzn_table_int": has_rows,
+    "gecode_table_int": has_rows,
+    "geas_table_int": has_rows,
+    "fzn_table_bool": has_rows,
+    "fzn_regular": has_transitions,
+    "gecode_regular": has_transitions,
 }

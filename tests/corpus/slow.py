@@ -395,6 +395,7 @@ class Row:
         lin = "01" if base.startswith(("int_lin", "bool_lin")) else ""
         together = constraints.TESTS[name][2] if name in constraints.TESTS else lin
         self.together = [int(place) for place in together]
+        self.has_whole_rows = constraints.WHOLE_ROWS.get(name)
         self.element_is_result = name == "int_lin_eq"
         self.either = EITHER.get(name)
         if self.either:
@@ -498,6 +499,8 @@ class Model:
         )
         if fits:
             fits = len({len(found[place][1]) for place in row.together}) < 2
+        if fits and row.has_whole_rows:
+            fits = row.has_whole_rows(*(terms for _, terms in found))
         target = None
         for note, note_args in notes:
             if note == "defines_var" and len(note_args) == 1 and isinstance(note_args[0], tuple):

@@ -70,7 +70,9 @@ const TASKS: &str = "
     fzn_knapsack                ([],[],[],0,0)           ([1],[1],[-1],-1,-1)
     fzn_knapsack                ([-1],[2],[0],0,0)       ([2,3],[4,5],[1,x],12,19)
     fzn_sliding_sum             (3,4,2,[x,1,2,1])        (3,3,2,[x,1,2,1])
-    fzn_sliding_sum             (0,0,9,[1])              (0,9,0,[1])
+    fzn_sliding_sum             (0,0,9,[1])              (0,9,-1,[1])
+    fzn_sliding_sum             (0,9,0,[1])              (1,9,0,[1])
+    fzn_sliding_sum             (-1,0,0,[])              (-9,-1,0,[])
     fzn_sliding_sum             (5,5,9,[])               (5,5,1,[1])
 ";
 
@@ -81,19 +83,20 @@ const PLACES: &str = "
     fzcheck_circuit             (1,[])                   (-9223372036854775808,[9223372036854775807])
     fzcheck_subcircuit          (1,[1,x,2])              (1,[2,1,4,3])
     fzcheck_subcircuit          (1,[1,2])                (1,[1,1])
+    fzcheck_subcircuit          (1,[1])                  (1,[])
     inverse_offsets             ([2,x,1],1,[3,1,2],1)    ([2,x,1],1,[2,3,1],1)
     gecode_inverse_offsets      ([1,0],0,[6,5],5)        ([1,0],0,[5,6],5)
     gecode_inverse_offsets      ([],1,[],1)              ([1],1,[],1)
     fzn_table_int               ([x,1],[1,2,3,1])        ([x,1],[1,3,1,2])
-    fzn_table_int               ([5],[4,5])              ([],[])
-    gecode_table_int            ([1,2],[1,2,1,2])        ([1,2],[1,2,1])
+    fzn_table_int               ([5],[4,5])              ([5],[])
+    gecode_table_int            ([1,2],[1,2,1,2])        ([1,2],[2,1])
     geas_table_int              ([1,2],[1,2])            ([1,2],[])
     fzn_table_bool              ([b,false],[false,true,true,false])  ([b,false],[false,true])
     fzn_regular                 ([2,1,2],2,2,[1,2,2,1],1,{1})  ([2,1,2],2,2,[1,2,2,1],1,{2})
     fzn_regular                 ([1],2,2,[1,2,2,1],1,s)  ([x],2,2,[1,2,2,1],1,1..2)
     fzn_regular                 ([],2,2,[1,2,2,1],1,{1})  ([],2,2,[1,2,2,1],3,{3})
     gecode_regular              ([1],1,2,[1,0],1,0..1)   ([2],1,2,[1,0],1,0..1)
-    gecode_regular              ([1],1,1,[1],1,{1})      ([1],1,1,[1,1],1,{1})
+    gecode_regular              ([1],1,1,[1],1,{1})      ([],0,1,[],1,{1})
 ";
 
 const ORDER: &str = "
@@ -161,7 +164,8 @@ const IMPLIED: &str = "
     set_superset_imp   (1..3,s,b)         (s,1..3,b)
 ";
 
-/// Arrays that should be of one length and aren't, and names that are left unknown on purpose.
+/// Arrays that aren't of the lengths that they should have, and names that are left unknown on
+/// purpose.
 const FITTING_NO_ROW: &str = "
     fzn_cumulative              ([0],[1,2],[1],3)
     fzn_cumulative              ([0],[1],[1,2],3)
@@ -173,6 +177,14 @@ const FITTING_NO_ROW: &str = "
     fzn_bin_packing             (1,[1],[])
     fzn_knapsack                ([1],[1],[1,1],1,1)
     fzn_table_int               ([1],[true])
+    fzn_table_int               ([],[])
+    fzn_table_bool              ([],[true])
+    gecode_table_int            ([1,2],[1,2,1])
+    geas_table_int              ([1,2],[1])
+    fzn_regular                 ([1],2,2,[1,2,2],1,{1})
+    fzn_regular                 ([1],x,1,[1,2,3],1,{1})
+    gecode_regular              ([1],1,x,[1,1,1],1,{1})
+    gecode_regular              ([1],1,1,[1,1],1,{1})
     count_reif                  ([1],1,1,b)
     int_plus_imp                (1,2,3,b)
     int_le_imp_imp              (1,2,b,b)

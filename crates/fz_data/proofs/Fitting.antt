@@ -5,13 +5,15 @@ use Rattle.std.specs.List.{list_all}
 use Rattle.std.proofs.lemmas.Bool.{false≢true}
 use Rattle.std.proofs.lemmas.List.{at_drop_more, at_drop_all, length-map}
 use Rattle.std.proofs.lemmas.List.Folds.{list_all-map}
-use Rattle.fz_meaning.specs.Builtins.{Shape as Kinds}
+use Rattle.fz_meaning.specs.Builtins.{Row, Shape as Kinds}
 use Rattle.fz_meaning.specs.Builtins.Shape.{ScalarOf, ArrayOf}
 use Rattle.fz_meaning.specs.Values.{same_kind}
 use Rattle.fz_meaning.specs.Meaning as meaning
 use Rattle.fz_meaning.specs.declared.kind.Kind.{Kind}
 use Rattle.fz_meaning.specs.declared.kind.Kind.TheVariants.{Int as IntKind}
 use Rattle.fz_meaning.specs.declared.row.Shape.{Shape}
+use Rattle.fz_meaning.specs.declared.row.Matrix.{Matrix}
+use Rattle.fz_meaning.specs.declared.row.Matrix.TheVariants.{Absent, RowsLike, RowsBy}
 use Rattle.fz_meaning.specs.Known.{shape_of}
 use Rattle.fz_data.specs.declared.parts.Variable.{Variable}
 use Rattle.fz_data.specs.declared.parts.Array.{Array}
@@ -22,7 +24,7 @@ use Rattle.fz_store.specs.declared.store.Argument.TheVariants as arguments
 use Rattle.fz_store.specs.declared.store.Store.{Store}
 use Rattle.fz_store.specs.Slots.{slot_term, segment}
 use Rattle.fz_data.specs.Parts.{argument_view, place_view, array_view, no_array}
-use Rattle.fz_data.specs.Fitting.{is_of_kind, is_scalar_of, is_array_slot, is_array_of, slot_length, length_of, length_at, are_equally_long}
+use Rattle.fz_data.specs.Fitting.{is_of_kind, is_scalar_of, is_array_slot, is_array_of, slot_length, length_of, length_at, are_equally_long, number_of, number_at, stands_in_rows, have_lengths}
 
 list_all-same : {A : Type 0} (f g : A → Bool) → ((x : A) → f x ≡ g x) → (xs : List A)
     → list_all f xs ≡ list_all g xs
@@ -128,12 +130,50 @@ module _ (vs : List Variable) (xs : List Array) (st : Store) where
   length_there (s ∷ ss) (a ∷ as') zero h = length_is s a (and_left (meaning.has_shape s (argument_view vs xs st a)) _ h)
   length_there (s ∷ ss) (a ∷ as') (suc i) h = length_there ss as' i (and_right (meaning.has_shape s (argument_view vs xs st a)) h)
 
-  -- what has the row's shapes fits it where the arrays that belong together are equally long
-  pub equally_long_are : (ss : List Kinds) (is : List ℕ) (as' : List Argument)
+  equally_long_are : (ss : List Kinds) (is : List ℕ) (as' : List Argument)
       → meaning.have_shapes ss (map (argument_view vs xs st) as') ≡ true
       → are_equally_long xs st.slots.items is as' ≡ meaning.equally_long is (map (argument_view vs xs st) as')
   equally_long_are ss [] as' h = refl
   equally_long_are ss (i ∷ is) as' h = λ k. list_all (λ j. length_there ss as' j h k == length_there ss as' i h k) is
+
+  -- ---- fixed numbers, and arrays that were matrices
+
+  array_is_no_number : (o : Option Array)
+      → None ≡ meaning.fixed_number (meaning.Argument.One (option_map_or array_view o no_array))
+  array_is_no_number None = refl
+  array_is_no_number (Some a) = refl
+
+  number_is : (a : Argument)
+      → number_of st.constants.items a ≡ meaning.fixed_number (argument_view vs xs st a)
+  number_is (arguments.One (slots.Variable n)) = refl
+  number_is (arguments.One (slots.Number i)) = refl
+  number_is (arguments.One (slots.Truth b)) = refl
+  number_is (arguments.One (slots.Constant c)) = refl
+  number_is (arguments.One (slots.Array i)) = array_is_no_number (slice_get xs i)
+  number_is (arguments.List g) = refl
+
+  number_there : (as' : List Argument) (i : ℕ) → number_at st.constants.items as' i
+      ≡ meaning.fixed_number_at (map (argument_view vs xs st) as') i
+  number_there [] i = refl
+  number_there (a ∷ as') zero = number_is a
+  number_there (a ∷ as') (suc i) = number_there as' i
+
+  whole_rows_are : (ss : List Kinds) (m : Matrix) (as' : List Argument)
+      → meaning.have_shapes ss (map (argument_view vs xs st) as') ≡ true
+      → stands_in_rows xs st m as' ≡ meaning.has_whole_rows m (map (argument_view vs xs st) as')
+  whole_rows_are ss Absent as' h = refl
+  whole_rows_are ss (RowsLike x t) as' h = λ k. meaning.are_whole_rows (length_there ss as' x h k) (length_there ss as' t h k)
+  whole_rows_are ss (RowsBy q s d) as' h = λ k. meaning.are_rows_of (number_there as' q k) (number_there as' s k) (length_there ss as' d h k)
+
+  -- ---- what has the row's shapes fits it by its lengths
+
+  module _ (r : Row) (as' : List Argument)
+      (shaped : meaning.have_shapes r.shapes (map (argument_view vs xs st) as') ≡ true) where
+    pub fits_by_lengths : have_lengths xs st r as'
+        ≡ meaning.fits r (map (argument_view vs xs st) as')
+    fits_by_lengths =
+        (λ k. equally_long_are r.shapes r.together as' shaped k && whole_rows_are r.shapes r.matrix as' shaped k)
+        ∙ sym (ap (λ b. b && (meaning.equally_long r.together (map (argument_view vs xs st) as') && meaning.has_whole_rows r.matrix (map (argument_view vs xs st) as'))) shaped)
 
   -- ---- the shapes of several arguments
 

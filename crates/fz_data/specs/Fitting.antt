@@ -1,8 +1,13 @@
--- The kinds and the lengths of arguments as the code tests them (private functions only).
-use Rattle.std.specs.Prelude.{ℕ, Bool, false, true, List, [], ◌∷◌, length, map, ◌==◌, slice_get}
+-- The kinds, the lengths and the fixed numbers of arguments as the code tests them (private
+-- functions only).
+use Rattle.std.specs.Prelude.{ℕ, ℤ, Bool, false, true, ◌&&◌, List, [], ◌∷◌, length, map, ◌==◌, Option, Some, None, option_and_then, slice_get}
 use Rattle.std.specs.List.{list_all}
 use Rattle.std.specs.Option.{option_map_or}
+use Rattle.fz_meaning.specs.Builtins.{Row}
 use Rattle.fz_meaning.specs.Values.{same_kind}
+use Rattle.fz_meaning.specs.Meaning.{are_rows_of, are_whole_rows, as_int}
+use Rattle.fz_meaning.specs.declared.row.Matrix.{Matrix}
+use Rattle.fz_meaning.specs.declared.row.Matrix.TheVariants.{Absent, RowsLike, RowsBy}
 use Rattle.fz_meaning.specs.declared.kind.Kind.{Kind}
 use Rattle.fz_meaning.specs.declared.kind.Kind.TheVariants.{Int as IntKind}
 use Rattle.fz_data.specs.declared.parts.Variable.{Variable}
@@ -12,7 +17,8 @@ use Rattle.fz_store.specs.declared.store.Slot.{Slot}
 use Rattle.fz_store.specs.declared.store.Slot.TheVariants as slots
 use Rattle.fz_store.specs.declared.store.Argument.{Argument}
 use Rattle.fz_store.specs.declared.store.Argument.TheVariants as arguments
-use Rattle.fz_store.specs.Slots.{slot_term, segment}
+use Rattle.fz_store.specs.declared.store.Store.{Store}
+use Rattle.fz_store.specs.Slots.{constant_at, slot_term, segment}
 use Rattle.fz_data.specs.Parts.{kind_of_term}
 
 -- ---- kinds
@@ -76,3 +82,33 @@ abbrev pub are_equally_long : List Array → List Slot → List ℕ → List Arg
 are_equally_long xs ss [] as' = true
 are_equally_long xs ss (i ∷ is) as' =
     list_all (λ j. length_at xs ss as' j == length_at xs ss as' i) is
+
+-- ---- fixed numbers
+
+abbrev pub slot_number : List Value → Slot → Option ℤ
+slot_number cs (slots.Number i) = Some i
+slot_number cs (slots.Constant c) = as_int (constant_at cs c)
+slot_number cs (slots.Variable n) = None
+slot_number cs (slots.Truth b) = None
+slot_number cs (slots.Array i) = None
+
+abbrev pub number_of : List Value → Argument → Option ℤ
+number_of cs (arguments.One s) = slot_number cs s
+number_of cs (arguments.List g) = None
+
+abbrev pub number_at : List Value → List Argument → ℕ → Option ℤ
+number_at cs as' i = option_and_then (number_of cs) (slice_get as' i)
+
+-- the array that was a matrix has whole rows
+abbrev pub stands_in_rows : List Array → Store → Matrix → List Argument → Bool
+stands_in_rows xs st Absent as' = true
+stands_in_rows xs st (RowsLike x t) as' =
+    are_whole_rows (length_at xs st.slots.items as' x) (length_at xs st.slots.items as' t)
+stands_in_rows xs st (RowsBy q s d) as' =
+    are_rows_of (number_at st.constants.items as' q) (number_at st.constants.items as' s)
+    (length_at xs st.slots.items as' d)
+
+-- what a row asks of lengths
+abbrev pub have_lengths : List Array → Store → Row → List Argument → Bool
+have_lengths xs st r as' =
+    are_equally_long xs st.slots.items r.together as' && stands_in_rows xs st r.matrix as'

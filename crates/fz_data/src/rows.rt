@@ -3,16 +3,16 @@
 ghost use Rattle.std.specs.Prelude.{◌≡◌, ◌==◌, ℕ, Option, map, option_map};
 ghost use Rattle.std.specs.List.{list_all};
 ghost use Rattle.fz_meaning.specs.declared.term.Term.TheVariants.{Var};
-ghost use Rattle.fz_meaning.specs.Meaning.{fits, has_shape, have_shapes, row_of};
+ghost use Rattle.fz_meaning.specs.Meaning.{are_rows_of, are_whole_rows, as_int, fits, has_shape, have_shapes, row_of};
 ghost use Rattle.fz_meaning.specs.Known.{known_row, shape_of};
 ghost use Rattle.fz_meaning.specs.Values.{kind_of};
 ghost use Rattle.fz_data.specs.Parts.{argument_view, kind_of_term};
-ghost use Rattle.fz_data.specs.Fitting.{are_equally_long, array_kind, is_array_of, is_array_slot, is_of_kind, is_scalar_of, kinds_among, length_at, length_of, slot_length};
+ghost use Rattle.fz_data.specs.Fitting.{are_equally_long, array_kind, have_lengths, is_array_of, is_array_slot, is_of_kind, is_scalar_of, kinds_among, length_at, length_of, number_at, number_of, slot_length, slot_number, stands_in_rows};
 ghost use Rattle.fz_store.specs.Slots.{constant_at};
 
 use crate::parts::{Array, Variable};
 use fz_base::Value;
-use fz_meaning::{Kind, Known, Shape, Term};
+use fz_meaning::{Kind, Known, Matrix, Shape, Term};
 use fz_store::{Argument, Slot, Store, kind_of, part, same_kind};
 
 /// What constraints cite: the variables, their kinds, and the arrays. The kinds have a list of
@@ -26,7 +26,8 @@ pub(crate) struct Cited<'m, 'a> {
 }
 
 /// The row of the table that a constraint fits, by its name, the kinds of its arguments, and the
-/// lengths of the arrays that belong together. It goes over each argument once and takes no memory.
+/// lengths of arrays that belong together or were matrices. It goes over each argument once and
+/// takes no memory.
 pub(crate) fn row_of(
     name: &[u8],
     arguments: &[Argument],
@@ -54,7 +55,15 @@ fn fits(known: Known, arguments: &[Argument], cited: &Cited<'_, '_>, store: &Sto
         (map (argument_view cited.now.variables.now cited.now.arrays.now store.now) arguments.now) }
 {
     have_shapes(known.shapes(), arguments, cited, store)
-        && equally_long(known.together(), arguments, cited.arrays, &store.slots)
+        && have_lengths(known, arguments, cited.arrays, store)
+}
+
+// Whether arrays are as long as the row asks, where all arguments are of the kinds asked for.
+fn have_lengths(known: Known, arguments: &[Argument], arrays: &[Array<'_>], store: &Store) -> bool
+    ensures { result ≡ have_lengths arrays.now store.now (known_row known) arguments.now }
+{
+    equally_long(known.together(), arguments, arrays, &store.slots)
+        && stands_in_rows(known.matrix(), arguments, arrays, store)
 }
 
 fn have_shapes(
@@ -176,6 +185,92 @@ fn all_so_long(
         places.now }
 {
     places.iter().all(|place| length_at(*place, arguments, arrays, slots) == length)
+}
+
+// Whether the array that was a matrix has whole rows, where all arguments are of the kinds asked
+// for.
+fn stands_in_rows(
+    matrix: Matrix,
+    arguments: &[Argument],
+    arrays: &[Array<'_>],
+    store: &Store,
+) -> bool
+    ensures { result ≡ stands_in_rows arrays.now store.now matrix arguments.now }
+{
+    match matrix {
+        Matrix::Absent => true,
+        Matrix::RowsLike(row, table) => are_whole_rows(
+            length_at(row, arguments, arrays, &store.slots),
+            length_at(table, arguments, arrays, &store.slots),
+        ),
+        Matrix::RowsBy(height, width, table) => are_rows_of(
+            number_at(height, arguments, &store.constants),
+            number_at(width, arguments, &store.constants),
+            length_at(table, arguments, arrays, &store.slots),
+        ),
+    }
+}
+
+fn are_whole_rows(width: usize, count: usize) -> bool
+    ensures { result ≡ are_whole_rows width count }
+{
+    width != 0 && count % width == 0
+}
+
+fn are_rows_of(height: Option<i64>, width: Option<i64>, count: usize) -> bool
+    ensures { result ≡ are_rows_of height width count }
+{
+    match (height, width) {
+        (Some(height), Some(width)) => count as i128 == i128::from(height) * i128::from(width),
+        _ => false,
+    }
+}
+
+fn number_at(place: usize, arguments: &[Argument], constants: &[Value]) -> Option<i64>
+    ensures { result ≡ number_at constants.now arguments.now place }
+{
+    match arguments.get(place) {
+        Some(argument) => number_of(argument, constants),
+        None => None,
+    }
+}
+
+// The number that is an argument, where it is fixed.
+fn number_of(argument: &Argument, constants: &[Value]) -> Option<i64>
+    ensures { result ≡ number_of constants.now argument.now }
+{
+    match argument {
+        Argument::One(slot) => slot_number(slot, constants),
+        Argument::List(_) => None,
+    }
+}
+
+fn slot_number(slot: &Slot, constants: &[Value]) -> Option<i64>
+    ensures { result ≡ slot_number constants.now slot.now }
+{
+    match slot {
+        Slot::Number(number) => Some(i64::from(*number)),
+        Slot::Constant(place) => constant_number(constants, *place as usize),
+        Slot::Variable(_) | Slot::Truth(_) | Slot::Array(_) => None,
+    }
+}
+
+fn constant_number(constants: &[Value], place: usize) -> Option<i64>
+    ensures { result ≡ as_int (constant_at constants.now place) }
+{
+    match constants.get(place) {
+        Some(value) => int_of(value),
+        None => Some(0),
+    }
+}
+
+fn int_of(value: &Value) -> Option<i64>
+    ensures { result ≡ as_int value.now }
+{
+    match value {
+        Value::Int(number) => Some(*number),
+        Value::Bool(_) | Value::Set(_) => None,
+    }
 }
 
 fn length_at(place: usize, arguments: &[Argument], arrays: &[Array<'_>], slots: &[Slot]) -> usize

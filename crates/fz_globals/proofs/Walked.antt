@@ -224,12 +224,21 @@ tour_from f (m ∷ ms) p at = ap (λ q. all_different (tour f (length (m ∷ ms)
 
 module _ (f : List ℤ) where
   pub no_places' : are_places (length f) f ≡ false → false ≡ is_subcircuit f
-  no_places' e = sym (ap (λ b. b && all_different f && is_one_tour f (moved_from (pos 1) f)) e)
+  no_places' e = sym (ap (λ b. b && all_different f && is_one_tour f (moved_from (pos 1) f) && not (nat_eq (length f) 0)) e)
 
   pub no_permutation : are_places (length f) f ≡ true → all_different f ≡ false
       → false ≡ is_subcircuit f
-  no_permutation places same = sym (λ k. places k && same k && is_one_tour f (moved_from (pos 1) f))
+  no_permutation places same = sym (λ k. places k && same k && is_one_tour f (moved_from (pos 1) f) && not (nat_eq (length f) 0))
 
   pub permutation : are_places (length f) f ≡ true → all_different f ≡ true
-      → is_one_tour f (moved_from (pos 1) f) ≡ is_subcircuit f
-  permutation places apart = sym (λ k. places k && apart k && is_one_tour f (moved_from (pos 1) f))
+      → nat_eq (length f) 0 ≡ false → is_one_tour f (moved_from (pos 1) f) ≡ is_subcircuit f
+  permutation places apart some =
+      sym ((λ k. places k && apart k && is_one_tour f (moved_from (pos 1) f) && not (some k)) ∙ and_true (is_one_tour f (moved_from (pos 1) f)))
+    where
+      and_true : (b : Bool) → (b && true) ≡ b
+      and_true true = refl
+      and_true false = refl
+
+pub no_positions : (f : List ℤ) → length f ≡ 0 → false ≡ is_subcircuit f
+no_positions [] none = refl
+no_positions (x ∷ f) none = absurd (omega arith)

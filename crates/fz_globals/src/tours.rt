@@ -36,11 +36,14 @@ pub fn is_circuit(first: i64, next: &Elements) -> bool
     }
 }
 
-/// Whether the successors, whose indices begin with `first`, are a permutation whose moved
-/// positions make one cycle.
+/// Whether the successors, whose indices begin with `first`, are a permutation, of one position at
+/// least, whose moved positions make one cycle.
 pub fn is_subcircuit(alloc: Global, first: i64, next: &Elements) -> Result<bool, AllocError>
     ensures exact { IfOk result (λ r. r ≡ is_subcircuit (as_places first (ints next.now))) }
 {
+    if next.len() == 0 {
+        return Ok(false);
+    }
     if !are_indices(first, next) {
         return Ok(false);
     }

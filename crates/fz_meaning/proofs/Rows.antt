@@ -169,6 +169,78 @@ different_reified : state_of (codes "fzn_all_different_int_reif") (is (pos 1 ∷
 unfolding rows row_at builtins
 different_reified = refl
 
+-- ---- arrays that were matrices
+
+-- how many rows of no element there were is lost
+table_no_columns : state_of (codes "fzn_table_int") (is [] ∷ is [] ∷ []) ≡ Unknown
+unfolding rows row_at builtins
+table_no_columns = refl
+
+table_part_of_row : state_of (codes "gecode_table_int")
+    (is (pos 1 ∷ pos 2 ∷ []) ∷ is (pos 1 ∷ pos 2 ∷ pos 1 ∷ []) ∷ []) ≡ Unknown
+unfolding rows row_at builtins
+table_part_of_row = refl
+
+table_no_rows : state_of (codes "geas_table_int") (is (pos 1 ∷ pos 2 ∷ []) ∷ is [] ∷ []) ≡ Fails
+unfolding rows row_at builtins
+table_no_rows = refl
+
+table_second_row : state_of (codes "fzn_table_bool")
+    (ts (true ∷ false ∷ []) ∷ ts (false ∷ true ∷ true ∷ false ∷ []) ∷ []) ≡ Holds
+unfolding rows row_at builtins
+table_second_row = refl
+
+-- var int: x; constraint fzn_regular(word,height,2,d,1,{1});
+abbrev regular : List ℤ → Expr → List ℤ → LocatedTree
+regular word height d = model_tree (int_var x ∷ []) (posts (codes "fzn_regular") (is word ∷ height ∷ i (pos 2) ∷ is d ∷ i (pos 1) ∷ s (pos 1 ∷ []) ∷ []) [] ∷ []) Satisfy
+
+word_leads_nowhere : state_at (Some (Int (pos 2)) ∷ []) 1
+    (regular (pos 2 ∷ pos 1 ∷ []) (i (pos 2)) (pos 1 ∷ pos 2 ∷ pos 0 ∷ pos 1 ∷ [])) ≡ Fails
+unfolding rows row_at builtins
+word_leads_nowhere = refl
+
+transitions_left_out : state_at (Some (Int (pos 2)) ∷ []) 1
+    (regular (pos 2 ∷ []) (i (pos 2)) (pos 1 ∷ pos 2 ∷ pos 2 ∷ [])) ≡ Unknown
+unfolding rows row_at builtins
+transitions_left_out = refl
+
+-- a variable says no number of states, also where it has the right value
+states_by_variable : state_at (Some (Int (pos 2)) ∷ []) 1
+    (regular (pos 2 ∷ []) (One (v x)) (pos 1 ∷ pos 2 ∷ pos 2 ∷ pos 1 ∷ [])) ≡ Unknown
+unfolding rows row_at builtins
+states_by_variable = refl
+
+-- ---- runs of no element, and no position
+
+runs_of_none : state_of (codes "fzn_sliding_sum")
+    (i (negsuc 0) ∷ i (pos 0) ∷ i (pos 0) ∷ is (pos 7 ∷ []) ∷ []) ≡ Holds
+unfolding rows row_at builtins
+runs_of_none = refl
+
+runs_of_none_fail : state_of (codes "fzn_sliding_sum")
+    (i (pos 1) ∷ i (pos 9) ∷ i (pos 0) ∷ is (pos 7 ∷ []) ∷ []) ≡ Fails
+unfolding rows row_at builtins
+runs_of_none_fail = refl
+
+runs_of_none_in_none : state_of (codes "fzn_sliding_sum")
+    (i (pos 1) ∷ i (pos 9) ∷ i (pos 0) ∷ is [] ∷ []) ≡ Fails
+unfolding rows row_at builtins
+runs_of_none_in_none = refl
+
+runs_of_fewer : state_of (codes "fzn_sliding_sum")
+    (i (pos 0) ∷ i (pos 0) ∷ i (negsuc 0) ∷ is [] ∷ []) ≡ Fails
+unfolding rows row_at builtins
+runs_of_fewer = refl
+
+subcircuit_of_none : state_of (codes "fzcheck_subcircuit") (i (pos 1) ∷ is [] ∷ []) ≡ Fails
+unfolding rows row_at builtins
+subcircuit_of_none = refl
+
+subcircuit_of_loops : state_of (codes "fzcheck_subcircuit")
+    (i (pos 1) ∷ is (pos 1 ∷ pos 2 ∷ []) ∷ []) ≡ Holds
+unfolding rows row_at builtins
+subcircuit_of_loops = refl
+
 -- ---- sums that leave 128 bits
 
 -- var int: x; constraint int_lin_le([MIN,MIN],[x,x],0);

@@ -17,6 +17,8 @@ use Rattle.fz_meaning.specs.declared.builtin.Builtin.{Builtin}
 use Rattle.fz_meaning.specs.declared.builtin.Builtin.TheVariants as builtin
 use Rattle.fz_meaning.specs.declared.kind.Kind.{Kind}
 use Rattle.fz_meaning.specs.declared.kind.Kind.TheVariants.{Int as IntKind, Bool as BoolKind, Set as SetKind}
+use Rattle.fz_meaning.specs.declared.row.Matrix.{Matrix}
+use Rattle.fz_meaning.specs.declared.row.Matrix.TheVariants.{Absent, RowsLike, RowsBy}
 
 -- ---- the kinds of arguments
 
@@ -74,6 +76,8 @@ pub record Row : Type 0 where
   pub shapes : List Shape
   -- the indices, counted from 0, of the arrays that have to be of equal lengths
   pub together : List ℕ
+  -- the array that was a matrix, whose length has to be that of whole rows
+  pub matrix : Matrix
   -- the indices of the arrays whose products are added in signed 128 bits
   pub sums : List (ℕ × ℕ)
   pub holds : Test shapes
@@ -87,6 +91,7 @@ row name shapes holds result = record {
   name = name;
   shapes = shapes;
   together = [];
+  matrix = Absent;
   sums = [];
   holds = holds;
   result = result;
@@ -99,6 +104,15 @@ forms r = record r { has_forms = true }
 -- one whose arrays at these indices have equal lengths
 abbrev pub equal : List ℕ → Row → Row
 equal places r = record r { together = places }
+
+-- one whose second array is a table: its rows are as long as the first array, which isn't empty
+abbrev pub table : Row → Row
+table r = record r { matrix = RowsLike 0 1 }
+
+-- one whose fourth argument has the transitions of an automaton: as many rows as the second says,
+-- which is one for each state, and each as long as the third says
+abbrev pub automaton : Row → Row
+automaton r = record r { matrix = RowsBy 1 2 3 }
 
 -- the rows of sums, whose first two arguments have equal lengths
 abbrev pub lin : Row → Row
@@ -125,8 +139,9 @@ abbrev pub a_or_b : Result
 a_or_b = Places (0 ∷ 1 ∷ [])
 
 -- Name, kinds, holds when, result. `forms` has the reified forms, `lin` and `int_lin` want the
--- first two arrays equally long, `equal` those at its indices. The table is opaque, so that no goal
--- about code writes it out: a proof that reads it says `unfolding row_at`.
+-- first two arrays equally long, `equal` those at its indices; `table` and `automaton` want an
+-- array of whole rows. The table is opaque, so that no goal about code writes it out: a proof that
+-- reads it says `unfolding row_at`.
 unfoldable pub row_at : Builtin → Row
 row_at builtin.IntEq = forms (row (codes "int_eq") (I ∷ I ∷ []) (λ a b. a =ℤ b) a_or_b)
 row_at builtin.IntNe = forms (row (codes "int_ne") (I ∷ I ∷ []) (λ a b. not (a =ℤ b)) NoResult)
@@ -292,19 +307,19 @@ row_at builtin.GecodeInverseOffsets =
     row (codes "gecode_inverse_offsets") ([I] ∷ I ∷ [I] ∷ I ∷ [])
     (λ a b c d. are_inverse (as_places b a) (as_places d c)) NoResult
 row_at builtin.FznTableInt =
-    row (codes "fzn_table_int") ([I] ∷ [I] ∷ []) (λ a b. is_row_of ◌=ℤ◌ a b) NoResult
+    table (row (codes "fzn_table_int") ([I] ∷ [I] ∷ []) (λ a b. is_row_of ◌=ℤ◌ a b) NoResult)
 row_at builtin.GecodeTableInt =
-    row (codes "gecode_table_int") ([I] ∷ [I] ∷ []) (λ a b. is_row_of ◌=ℤ◌ a b) NoResult
+    table (row (codes "gecode_table_int") ([I] ∷ [I] ∷ []) (λ a b. is_row_of ◌=ℤ◌ a b) NoResult)
 row_at builtin.GeasTableInt =
-    row (codes "geas_table_int") ([I] ∷ [I] ∷ []) (λ a b. is_row_of ◌=ℤ◌ a b) NoResult
+    table (row (codes "geas_table_int") ([I] ∷ [I] ∷ []) (λ a b. is_row_of ◌=ℤ◌ a b) NoResult)
 row_at builtin.FznTableBool =
-    row (codes "fzn_table_bool") ([B] ∷ [B] ∷ []) (λ a b. is_row_of ◌=ᴮ◌ a b) NoResult
+    table (row (codes "fzn_table_bool") ([B] ∷ [B] ∷ []) (λ a b. is_row_of ◌=ᴮ◌ a b) NoResult)
 row_at builtin.FznRegular =
-    row (codes "fzn_regular") ([I] ∷ I ∷ I ∷ [I] ∷ I ∷ S ∷ [])
-    (λ a b c d e f. is_word a b c d e f) NoResult
+    automaton (row (codes "fzn_regular") ([I] ∷ I ∷ I ∷ [I] ∷ I ∷ S ∷ [])
+    (λ a b c d e f. is_word a b c d e f) NoResult)
 row_at builtin.GecodeRegular =
-    row (codes "gecode_regular") ([I] ∷ I ∷ I ∷ [I] ∷ I ∷ S ∷ [])
-    (λ a b c d e f. is_word a b c d e f) NoResult
+    automaton (row (codes "gecode_regular") ([I] ∷ I ∷ I ∷ [I] ∷ I ∷ S ∷ [])
+    (λ a b c d e f. is_word a b c d e f) NoResult)
 row_at builtin.FznBinPacking =
     equal (1 ∷ 2 ∷ []) (row (codes "fzn_bin_packing") (I ∷ [I] ∷ [I] ∷ [])
     (λ a b c. list_all (λ v. int_le (load_of b c v) a) b) NoResult)
@@ -446,6 +461,7 @@ form_of suffix says result r = record {
   name = r.name ++ suffix;
   shapes = with_bool r.shapes;
   together = r.together;
+  matrix = r.matrix;
   sums = r.sums;
   holds = with_truth says r.shapes r.holds;
   result = result;

@@ -53,9 +53,9 @@ is_row_of same [] t = false
 is_row_of same (x ∷ xs) t = nat_eq (length t % length (x ∷ xs)) 0
     && list_any (is_same_list same (x ∷ xs)) (rows_of (length (x ∷ xs)) t)
 
--- the runs of so many neighbours
+-- the runs of so many neighbours: of none there is one before each element, and one at the end
 abbrev pub windows : {A : Type 0} → ℕ → List A → List (List A)
-windows k [] = []
+windows k [] = if nat_eq k 0 then [] ∷ [] else []
 windows k (x ∷ xs) =
     if nat_eq (length (take k (x ∷ xs))) k then take k (x ∷ xs) ∷ windows k xs else []
 
@@ -206,10 +206,10 @@ abbrev pub is_one_tour : List ℤ → List ℤ → Bool
 is_one_tour next [] = true
 is_one_tour next (p ∷ ps) = all_different (tour next (length (p ∷ ps)) p)
 
--- a permutation whose moved positions make one cycle
+-- a permutation, of one position at least, whose moved positions make one cycle
 abbrev pub is_subcircuit : List ℤ → Bool
 is_subcircuit next = are_places (length next) next && all_different next
-    && is_one_tour next (moved_from (pos 1) next)
+    && is_one_tour next (moved_from (pos 1) next) && not (nat_eq (length next) 0)
 
 -- from this position on, the second list has each position at the index that the first has there
 abbrev pub leads_back : ℤ → List ℤ → List ℤ → Bool
@@ -235,8 +235,7 @@ run states symbols d q (x ∷ xs) =
 -- from the first state the word leads to one of the last
 abbrev pub is_word : List ℤ → ℤ → ℤ → List ℤ → ℤ → NumberSet → Bool
 is_word xs states symbols d first last =
-    (pos (length d) =ℤ (states *ℤ symbols))
-    && option_map_or (λ q. lies_between (pos 1) states q && sets.contains last q)
+    option_map_or (λ q. lies_between (pos 1) states q && sets.contains last q)
     (run states symbols d first xs) false
 
 -- ---- order
@@ -276,7 +275,7 @@ is_knapsack weights profits xs weight profit =
     && (total (products weights xs) =ℤ weight) && (total (products profits xs) =ℤ profit)
 
 abbrev pub slides_between : ℤ → ℤ → ℤ → List ℤ → Bool
-slides_between low high k xs = int_le (pos 1) k
+slides_between low high k xs = is_natural k
     && list_all (λ w. lies_between low high (total w)) (windows (unsigned_abs k) xs)
 
 -- ---- sets

@@ -2,7 +2,7 @@
 -- domains, the points, solutions, and the state of a point (MiniZinc Handbook, FlatZinc, "variable
 -- declarations" and "constraint items"; the points, their order and the states are this project's
 -- profile).
-use Rattle.std.specs.Prelude.{◌≡◌, ℕ, suc, ℤ, ◌*ℤ◌, Bool, true, false, not, cond, ◌&&◌, List, [], ◌∷◌, ◌++◌, length, map, ◌==◌, int_le, Option, Some, None, bytes_eq, option_map, option_and_then, slice_get, slice_set, IsTrue, IsSomeAnd, IfSome, ⊤, ◌⊎◌, flat_map, find}
+use Rattle.std.specs.Prelude.{◌≡◌, ℕ, zero, suc, ◌%◌, nat_eq, ℤ, pos, ◌*ℤ◌, Bool, true, false, not, cond, ◌&&◌, List, [], ◌∷◌, ◌++◌, length, map, ◌==◌, int_le, Option, Some, None, bytes_eq, option_map, option_and_then, slice_get, slice_set, IsTrue, IsSomeAnd, IfSome, ⊤, ◌⊎◌, flat_map, find}
 use Rattle.std.specs.List.{list_all, list_any, AllByRecursion}
 use Rattle.std.specs.Option.{option_map_or, option_flatten, option_or}
 use Rattle.std.specs.FinSet as sets
@@ -15,7 +15,9 @@ use Rattle.fz_meaning.specs.declared.term.Term.TheVariants.{Var, Fixed}
 use Rattle.fz_meaning.specs.declared.term.Domain.{Domain}
 use Rattle.fz_meaning.specs.declared.term.Domain.TheVariants.{All, Within, Among}
 use Rattle.fz_meaning.specs.declared.state.State.TheVariants.{Holds, Fails, NoValue, Unknown, TooLarge}
-use Rattle.fz_meaning.specs.Values.{kind_of, same_kind, same_value}
+use Rattle.fz_meaning.specs.declared.row.Matrix.{Matrix}
+use Rattle.fz_meaning.specs.declared.row.Matrix.TheVariants.{Absent, RowsLike, RowsBy}
+use Rattle.fz_meaning.specs.Values.{◌=ℤ◌, kind_of, same_kind, same_value}
 use Rattle.fz_meaning.specs.Builtins.{Shape, Row, rows, ArgValue, passes, leaves_128}
 use Rattle.fz_meaning.specs.Builtins.Shape.{ScalarOf, ArrayOf}
 use Rattle.fz_meaning.specs.Builtins.ArgValue.{OneValue, ManyValues}
@@ -182,6 +184,10 @@ inside d (Truth b) = admits_all d
 
 -- ---- constraints
 
+abbrev pub as_int : Value → Option ℤ
+as_int (Int n) = Some n
+as_int _ = None
+
 abbrev pub terms_at : Place → List Term
 terms_at (Scalar k t) = t ∷ []
 terms_at (Array x k ts) = ts
@@ -229,8 +235,35 @@ abbrev pub equally_long : List ℕ → List Argument → Bool
 equally_long [] xs = true
 equally_long (i ∷ is) xs = list_all (λ j. length_at xs j == length_at xs i) is
 
+-- the number of the argument at an index, where it is fixed: no variable's
+abbrev pub fixed_number : Argument → Option ℤ
+fixed_number (One (Scalar k (Fixed v))) = as_int v
+fixed_number _ = None
+
+abbrev pub fixed_number_at : List Argument → ℕ → Option ℤ
+fixed_number_at xs i = option_and_then fixed_number (slice_get xs i)
+
+-- so many elements are whole rows of this width; where the width is 0, their number is lost
+abbrev pub are_whole_rows : ℕ → ℕ → Bool
+are_whole_rows zero count = false
+are_whole_rows (suc width) count = nat_eq (count % suc width) 0
+
+-- so many elements are so many rows of this width
+abbrev pub are_rows_of : Option ℤ → Option ℤ → ℕ → Bool
+are_rows_of (Some height) (Some width) count = pos count =ℤ (height *ℤ width)
+are_rows_of _ _ count = false
+
+-- The array that was a matrix, and is written row by row, has whole rows: each as long as another
+-- array, or as many and as long as two fixed numbers say.
+abbrev pub has_whole_rows : Matrix → List Argument → Bool
+has_whole_rows Absent xs = true
+has_whole_rows (RowsLike x t) xs = are_whole_rows (length_at xs x) (length_at xs t)
+has_whole_rows (RowsBy q s d) xs =
+    are_rows_of (fixed_number_at xs q) (fixed_number_at xs s) (length_at xs d)
+
 abbrev pub fits : Row → List Argument → Bool
-fits r xs = have_shapes r.shapes xs && equally_long r.together xs
+fits r xs =
+    have_shapes r.shapes xs && (equally_long r.together xs && has_whole_rows r.matrix xs)
 
 -- the row that a constraint fits; a constraint is known where there is one
 abbrev pub row_of : Posted → Option Row
@@ -239,10 +272,6 @@ row_of p = find (λ r. bytes_eq r.name p.name && fits r p.arguments) rows
 -- the row's relation holds of the values
 abbrev pub row_holds : Row → List ArgValue → Bool
 row_holds r vs = passes r.shapes r.holds vs
-
-abbrev pub as_int : Value → Option ℤ
-as_int (Int n) = Some n
-as_int _ = None
 
 abbrev pub number_at : Partial → Term → Option ℤ
 number_at K t = option_and_then as_int (value K t)

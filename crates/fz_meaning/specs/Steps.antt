@@ -1,9 +1,8 @@
 -- The forced step of a point: the one value that a check point leaves to a variable (this project's
 -- profile).
-use Rattle.std.specs.Prelude.{◌≡◌, ℕ, ℤ, pos, negsuc, List, [], ◌∷◌, Option, Some, option_map, IsTrue, IsFalse, IsSomeAnd, IfSome, ⊤, ◌⊎◌, ◌↔◌, ◌&&◌, flat_map, slice_get, Contains, is_none, FitsSigned}
+use Rattle.std.specs.Prelude.{◌≡◌, ℕ, ℤ, pos, negsuc, List, [], ◌∷◌, Option, Some, option_map, IsTrue, IsFalse, IsSomeAnd, IfSome, ⊤, ◌⊎◌, ◌↔◌, flat_map, slice_get, Contains, is_none, FitsSigned}
 use Rattle.std.specs.Int.{w64}
 use Rattle.std.specs.List.{filter}
-use Rattle.std.specs.Option.{option_map_or}
 use Rattle.fz_base.specs.declared.value.Value.{Value}
 use Rattle.fz_base.specs.declared.value.Value.TheVariants.{Int, Bool as Truth, Set}
 use Rattle.fz_meaning.specs.declared.kind.Kind.{Kind}

@@ -3,21 +3,29 @@ use Rattle.std.specs.Prelude.{◌≡◌, ℕ, List, [], ◌∷◌, map}
 use Rattle.fz_meaning.specs.Builtins.{Row, with_bool}
 use Rattle.fz_meaning.specs.declared.row.BaseRow.{BaseRow}
 use Rattle.fz_meaning.specs.declared.row.Lengths.{Lengths}
-use Rattle.fz_meaning.specs.declared.row.Lengths.TheVariants.{Free, Equal, Summed, Packed}
+use Rattle.fz_meaning.specs.declared.row.Lengths.TheVariants.{Free, Equal, Summed, Packed, Shaped}
+use Rattle.fz_meaning.specs.declared.row.Matrix.{Matrix}
+use Rattle.fz_meaning.specs.declared.row.Matrix.TheVariants.{Absent}
 use Rattle.fz_meaning.specs.Known.{result_of, shape_of}
 
--- the arrays of equal lengths, and those whose products are added in 128 bits
+-- the arrays of equal lengths, those whose products are added in 128 bits, and the matrix
 abbrev pub together_in : Lengths → List ℕ
 together_in Free = []
 together_in (Equal places) = places.now
 together_in Summed = 0 ∷ 1 ∷ []
 together_in Packed = 0 ∷ 1 ∷ 2 ∷ []
+together_in (Shaped matrix) = []
 
 abbrev pub sums_in : Lengths → List (ℕ × ℕ)
 sums_in Free = []
 sums_in (Equal places) = []
 sums_in Summed = (0, 1) ∷ []
 sums_in Packed = (0, 2) ∷ (1, 2) ∷ []
+sums_in (Shaped matrix) = []
+
+abbrev pub matrix_in : Lengths → Matrix
+matrix_in (Shaped matrix) = matrix
+matrix_in _ = Absent
 
 -- the kinds with the Boolean of the reified forms last, and the row's other fields
 pub record IsData (kept : BaseRow) (r : Row) : Type 0 where
@@ -25,4 +33,5 @@ pub record IsData (kept : BaseRow) (r : Row) : Type 0 where
   pub filled : result_of kept.1 ≡ r.result
   pub together : together_in kept.2 ≡ r.together
   pub sums : sums_in kept.2 ≡ r.sums
+  pub matrix : matrix_in kept.2 ≡ r.matrix
   pub has_forms : kept.3 ≡ r.has_forms

@@ -4,7 +4,7 @@ ghost use Rattle.std.specs.Prelude.{◌≡◌, ◌++◌, IfNone, IfSome, List, M
 ghost use Rattle.fz_meaning.specs.Known.{HasTruth, known_row, result_of, row_named, shape_of, suffix_of};
 
 use crate::builtin::Builtin;
-use crate::row::{BaseRow, Filled, Lengths, Shape};
+use crate::row::{BaseRow, Filled, Lengths, Matrix, Shape};
 use crate::text::same_text;
 
 /// What a constraint says of a base row.
@@ -96,10 +96,21 @@ impl Known {
     {
         let BaseRow(_, _, lengths, _) = self.builtin.base_row();
         match lengths {
-            Lengths::Free => &[],
+            Lengths::Free | Lengths::Shaped(_) => &[],
             Lengths::Equal(places) => places,
             Lengths::Summed => &[0, 1],
             Lengths::Packed => &[0, 1, 2],
+        }
+    }
+
+    /// The array argument that was a matrix, which has to have whole rows.
+    pub fn matrix(self) -> Matrix
+        ensures { result ≡ (known_row self).matrix }
+    {
+        let BaseRow(_, _, lengths, _) = self.builtin.base_row();
+        match lengths {
+            Lengths::Shaped(matrix) => matrix,
+            Lengths::Free | Lengths::Equal(_) | Lengths::Summed | Lengths::Packed => Matrix::Absent,
         }
     }
 
@@ -110,7 +121,7 @@ impl Known {
     {
         let BaseRow(_, _, lengths, _) = self.builtin.base_row();
         match lengths {
-            Lengths::Free | Lengths::Equal(_) => &[],
+            Lengths::Free | Lengths::Equal(_) | Lengths::Shaped(_) => &[],
             Lengths::Summed => &[(0, 1)],
             Lengths::Packed => &[(0, 2), (1, 2)],
         }

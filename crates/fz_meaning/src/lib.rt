@@ -3,8 +3,9 @@
 //!
 //! The table of builtins is data here too. [`Known::find`] says what a constraint's name means: a
 //! [`Builtin`], or a reified [`Form`] of it. A [`Known`] tells what its row asks: the kinds of its
-//! arguments, which arrays have to be of equal lengths, which sums are added in 128 bits, and which
-//! arguments may be filled. When a row holds is in the definitions alone (`specs/Builtins.antt`).
+//! arguments, which arrays have to be of equal lengths, which one has to have whole rows, which
+//! sums are added in 128 bits, and which arguments may be filled. When a row holds is in the
+//! definitions alone (`specs/Builtins.antt`).
 //!
 //! Its definitions are computed on worked rows in `proofs/Rows.antt`; the worked cases of the table
 //! are in `fz_check_cases`.
@@ -28,7 +29,7 @@ pub use error::ModelError;
 pub use fz_syntax;
 pub use kind::Kind;
 pub use known::{Form, Known};
-pub use row::{Filled, Shape};
+pub use row::{Filled, Matrix, Shape};
 pub use state::State;
 pub use term::{Domain, Term};
 pub use text::same_text;

@@ -25,19 +25,33 @@ pub enum Filled {
     UnitTerm,
 }
 
-// Which arrays have to be of equal lengths: none; those at some argument indices, counted from 0;
-// the first two, whose products are added in signed 128 bits; or the first three, where the
-// products of each of the first two with the third are added so.
+/// An array that was a matrix, and is written row by row: how long its rows are. Arguments are told
+/// by their indices, counted from 0.
+#[derive(Clone, Copy, Debug, PartialEq, Eq)]
+pub enum Matrix {
+    /// No array was one.
+    Absent,
+    /// The rows of the second are as long as the first, an array that isn't empty.
+    RowsLike(usize, usize),
+    /// The third has as many rows as the first says, and each is as long as the second says; both
+    /// are fixed numbers.
+    RowsBy(usize, usize, usize),
+}
+
+// Which arrays have to be of certain lengths: none; those at some argument indices, counted from 0,
+// of equal ones; the first two, whose products are added in signed 128 bits; the first three, where
+// the products of each of the first two with the third are added so; or one that was a matrix.
 #[derive(Clone, Copy)]
 pub(crate) enum Lengths {
     Free,
     Equal(&'static [usize]),
     Summed,
     Packed,
+    Shaped(Matrix),
 }
 
 // The kinds of a base row's arguments followed by the Boolean of its reified forms, what may be
-// filled, which lengths are equal, and whether there are reified forms.
+// filled, what is asked of lengths, and whether there are reified forms.
 #[derive(Clone, Copy)]
 pub(crate) struct BaseRow(
     pub(crate) &'static [Shape],
@@ -85,6 +99,10 @@ const ALL_FOUR: Lengths = Lengths::Equal(&[0, 1, 2, 3]);
 const SUMMED: Lengths = Lengths::Summed;
 
 const PACKED: Lengths = Lengths::Packed;
+
+const TABLE: Lengths = Lengths::Shaped(Matrix::RowsLike(0, 1));
+
+const AUTOMATON: Lengths = Lengths::Shaped(Matrix::RowsBy(1, 2, 3));
 
 const FORMS: bool = true;
 
@@ -225,20 +243,20 @@ impl Builtin {
                 FREE,
                 ALONE,
             ),
-            Builtin::FznTableInt => BaseRow(&[INTS, INTS, BOOL], NONE, FREE, ALONE),
-            Builtin::GecodeTableInt => BaseRow(&[INTS, INTS, BOOL], NONE, FREE, ALONE),
-            Builtin::GeasTableInt => BaseRow(&[INTS, INTS, BOOL], NONE, FREE, ALONE),
-            Builtin::FznTableBool => BaseRow(&[BOOLS, BOOLS, BOOL], NONE, FREE, ALONE),
+            Builtin::FznTableInt => BaseRow(&[INTS, INTS, BOOL], NONE, TABLE, ALONE),
+            Builtin::GecodeTableInt => BaseRow(&[INTS, INTS, BOOL], NONE, TABLE, ALONE),
+            Builtin::GeasTableInt => BaseRow(&[INTS, INTS, BOOL], NONE, TABLE, ALONE),
+            Builtin::FznTableBool => BaseRow(&[BOOLS, BOOLS, BOOL], NONE, TABLE, ALONE),
             Builtin::FznRegular => BaseRow(
                 &[INTS, INT, INT, INTS, INT, SET, BOOL],
                 NONE,
-                FREE,
+                AUTOMATON,
                 ALONE,
             ),
             Builtin::GecodeRegular => BaseRow(
                 &[INTS, INT, INT, INTS, INT, SET, BOOL],
                 NONE,
-                FREE,
+                AUTOMATON,
                 ALONE,
             ),
             Builtin::FznBinPacking => BaseRow(

@@ -75,7 +75,7 @@ full k x zs fits =
     ap (λ b. if b then take k (x ∷ zs) ∷ windows k zs else []) (eq-eqb (length (take k (x ∷ zs))) k whole)
 
 pub too_short : (k : ℕ) (zs : List ℤ) → length zs < k → windows k zs ≡ []
-too_short k [] short = refl
+too_short k [] short = ap (λ b. if b then [] ∷ [] else []) (ne_eqb k 0 (λ same. omega arith))
 too_short k (x ∷ zs) short =
     let part : length (take k (x ∷ zs)) ≡ min k (length (x ∷ zs)) = length-take k (x ∷ zs) in
     ap (λ b. if b then take k (x ∷ zs) ∷ windows k zs else []) (ne_eqb (length (take k (x ∷ zs))) k (λ same. omega arith))
@@ -88,6 +88,19 @@ one_window k xs s some fits =
     ap (windows k) here ∙ full k (number_at xs s) (drop (s + 1) xs) long ∙ ap (λ l. take k l ∷ windows k (drop (s + 1) xs)) (sym here)
 
 -- ---- whether each sum lies in a range
+
+-- the sum of each run of none is 0
+pub runs_of_none : (low high : ℤ) (xs : List ℤ) → lies_between low high (pos 0)
+    ≡ list_all (λ w. lies_between low high (total w)) (windows 0 xs)
+runs_of_none low high xs = among xs (lies_between low high (pos 0)) refl
+  where
+    among : (xs : List ℤ) (b : Bool) → lies_between low high (pos 0) ≡ b
+        → lies_between low high (pos 0)
+        ≡ list_all (λ w. lies_between low high (total w)) (windows 0 xs)
+    among [] true e = e ∙ sym (ap (λ b. b && true) e)
+    among [] false e = e ∙ sym (ap (λ b. b && true) e)
+    among (x ∷ xs) true e = among xs true e ∙ sym (ap (λ b. b && list_all (λ w. lies_between low high (total w)) (windows 0 xs)) e)
+    among (x ∷ xs) false e = e ∙ sym (ap (λ b. b && list_all (λ w. lies_between low high (total w)) (windows 0 xs)) e)
 
 -- the same is so of all runs as of those from index i on; s is the sum of the run that begins there
 pub record Slides (low high : ℤ) (k : ℕ) (xs : List ℤ) (i : ℕ) (s : ℤ) : Type 0 where

@@ -9,11 +9,14 @@ use crate::reading::{number_at, number_count};
 use fz_kernel::fz_arguments::Elements;
 
 /// Whether the sum of each run of `width` neighbours lies from `low` to `high`; false where the
-/// width is below 1.
+/// width is negative. There are runs of none in any list, and their sum is 0.
 pub fn slides_between(low: i64, high: i64, width: i64, xs: &Elements) -> bool
     ensures exact { result ≡ slides_between low high width (ints xs.now) }
 {
-    1 <= width && all_lie_between(low, high, width as usize, xs)
+    if width == 0 {
+        return is_between(low, high, 0);
+    }
+    0 < width && all_lie_between(low, high, width as usize, xs)
 }
 
 fn all_lie_between(low: i64, high: i64, width: usize, xs: &Elements) -> bool

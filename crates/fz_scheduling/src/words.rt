@@ -22,9 +22,6 @@ pub fn is_word(
     ensures exact { result ≡ is_word (ints xs.now) states symbols
         (ints transitions.now) first last.now }
 {
-    if number_count(transitions) as i128 != product(states, symbols) {
-        return false;
-    }
     match end_of_run(states, symbols, transitions, first, xs) {
         Some(state) => lies_from_one(states, state) && last.contains(state),
         None => false,

@@ -1,9 +1,8 @@
-use Rattle.std.proofs.Common.{◌≡◌, ◌&&◌, true, map, sym, ap, ◌∙◌}
+use Rattle.std.proofs.Common.{◌≡◌, true, map, sym, ap, ◌∙◌}
 use Rattle.fz_meaning.specs.Meaning as meaning
 use Rattle.fz_meaning.specs.Known.{known_row}
 use Rattle.fz_data.specs.Parts.{argument_view}
-use Rattle.fz_data.specs.Fitting.{are_equally_long}
-use Rattle.fz_data.proofs.Fitting.{equally_long_are}
+use Rattle.fz_data.proofs.Fitting.{fits_by_lengths}
 use Rattle.fz_data.proofs.rows.fits.Goals as goal
 
 pub returns-then-have_shapes : goal.returns-then-have_shapes
@@ -14,6 +13,4 @@ returns-then-have_shapes c =
     let r = known_row c.args.known in
     let seen = map (argument_view vs xs st) c.args.arguments.now in
     let shaped : meaning.have_shapes r.shapes seen ≡ true = ap (λ ss. meaning.have_shapes ss seen) (sym c.shapes.ensures) ∙ sym c.have_shapes.ensures ∙ c.if-have_shapes.true in
-    c.equally_long.ensures ∙ ap (λ ss. are_equally_long xs ss c.together.result.now c.args.arguments.now) c.deref.ensures.value
-    ∙ ap (λ is. are_equally_long xs st.slots.items is c.args.arguments.now) c.together.ensures
-    ∙ equally_long_are vs xs st r.shapes r.together c.args.arguments.now shaped ∙ sym (ap (λ b. b && meaning.equally_long r.together seen) shaped)
+    c.have_lengths.ensures ∙ fits_by_lengths vs xs st r c.args.arguments.now shaped
