@@ -1,42 +1,26 @@
 -- Where the value of a variable comes from, and the variables of a point (this project's profile).
-use Rattle.std.specs.Prelude.{◌≡◌, ℕ, Bool, false, true, cond, List, [], ◌∷◌, ◌++◌, ◌==◌, None, Some}
+use Rattle.std.specs.Prelude.{ℕ, Bool, cond, List, [], ◌∷◌, ◌++◌, ◌==◌, Option, None, Some}
 use Rattle.std.specs.List.{list_any}
 use Rattle.std.specs.Option.{option_map_or}
-use Rattle.fz_base.specs.declared.value.Value.{Value}
-use Rattle.fz_filling.specs.of_model.Meaning.{Model, Partial, Point, find_name, terms_at, value_at}
-use Rattle.fz_filling.specs.of_model.Partial.{without}
+use Rattle.fz_filling.specs.of_model.Meaning.{Partial, Point, value_at}
 use Rattle.fz_filling.specs.of_model.Steps.{terms_of}
 use Rattle.fz_filling.specs.of_model.declared.Term.{Term}
 use Rattle.fz_filling.specs.of_model.declared.Term.TheVariants.{Var, Fixed}
-use Rattle.fz_filling.specs.of_verdict.Blocks.{Printed}
-use Rattle.fz_explain.specs.Firsts.{GivesIt, IsFirst, NoPoint}
 use Rattle.fz_explain.specs.declared.source.Source.{Source}
 use Rattle.fz_explain.specs.declared.source.Source.TheVariants as sources
 
-abbrev pub is_variable : ℕ → Term → Bool
-is_variable n (Var k) = k == n
-is_variable n (Fixed v) = false
+-- the number of the point that gave the variable its value, of steps as `givers` has them: each a
+-- variable and a point
+abbrev pub giver_of : List (ℕ × ℕ) → ℕ → Option ℕ
+giver_of [] n = None
+giver_of (s ∷ steps) n = cond (s.0 == n) (Some s.1) (giver_of steps n)
 
--- a printed name stands for the variable, alone or as an array's element
-abbrev pub prints : Model → List Printed → ℕ → Bool
-prints m items n = list_any (λ i. option_map_or (λ p. list_any (is_variable n) (terms_at p))
-    (find_name m i.name.text) false) items
-
--- where the value of a variable comes from, under a filling of these items
-abbrev pub IsSourceOf : Model → List Printed → Partial → ℕ → Source → Type 0
--- it is printed
-IsSourceOf m items F n sources.Printed =
-    (v : Value) × (value_at F n ≡ Some v) × (prints m items n ≡ true)
--- it isn't, and the point with this number is the first that gives it from the values of the others
-IsSourceOf m items F n (sources.Given k) =
-    (v : Value) × (value_at F n ≡ Some v) × (prints m items n ≡ false)
-    × IsFirst m (GivesIt m (without F n) n v) k
--- it isn't, and no point gives it from those
-IsSourceOf m items F n sources.Filled =
-    (v : Value) × (value_at F n ≡ Some v) × (prints m items n ≡ false)
-    × NoPoint m (GivesIt m (without F n) n v)
--- there is none
-IsSourceOf m items F n sources.Nothing = value_at F n ≡ None
+-- where the value of a variable comes from, under a filling that took these steps: from the step
+-- that gave it, or else it is printed
+abbrev pub source_of : Partial → List (ℕ × ℕ) → ℕ → Source
+source_of F steps n = option_map_or
+    (λ v. option_map_or (λ k. sources.Given k) (giver_of steps n) sources.Printed)
+    (value_at F n) sources.Nothing
 
 -- ---- the variables of a point
 
