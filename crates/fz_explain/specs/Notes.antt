@@ -1,5 +1,5 @@
 -- An explanation of variables as notes of a message (this project's profile).
-use Rattle.std.specs.Prelude.{◌≡◌, ℕ, zero, suc, List, [], ◌∷◌, ◌++◌, Option, Some, None, drop, encode_utf8_all, option_map, slice_get, string_bytes, take}
+use Rattle.std.specs.Prelude.{◌≡◌, ℕ, zero, suc, List, [], ◌∷◌, ◌++◌, Option, Some, None, drop, encode_utf8_all, slice_get, string_bytes, take}
 use Rattle.std.specs.Option.{MatchOption, option_map_or}
 use Rattle.fz_base.specs.declared.value.Value.{Value}
 use Rattle.fz_message.specs.of_places.Lines.{line_ends}

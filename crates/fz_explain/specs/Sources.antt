@@ -1,9 +1,11 @@
 -- Where the value of a variable comes from, and the variables of a point (this project's profile).
-use Rattle.std.specs.Prelude.{ℕ, Bool, cond, List, [], ◌∷◌, ◌++◌, ◌==◌, Option, None, Some}
+use Rattle.std.specs.Prelude.{◌≡◌, ℕ, Bool, cond, List, [], ◌∷◌, ◌++◌, ◌==◌, Option, None, Some, slice_get}
 use Rattle.std.specs.List.{list_any}
 use Rattle.std.specs.Option.{option_map_or}
-use Rattle.fz_filling.specs.of_model.Meaning.{Partial, Point, value_at}
-use Rattle.fz_filling.specs.of_model.Steps.{terms_of}
+use Rattle.fz_base.specs.declared.value.Value.{Value}
+use Rattle.fz_filling.specs.of_model.Meaning.{Model, Partial, Point, points, value_at}
+use Rattle.fz_filling.specs.of_model.Steps.{Gives, terms_of}
+use Rattle.fz_filling.specs.of_verdict.Filling.{Chain, givers}
 use Rattle.fz_filling.specs.of_model.declared.Term.{Term}
 use Rattle.fz_filling.specs.of_model.declared.Term.TheVariants.{Var, Fixed}
 use Rattle.fz_explain.specs.declared.source.Source.{Source}
@@ -21,6 +23,34 @@ abbrev pub source_of : Partial → List (ℕ × ℕ) → ℕ → Source
 source_of F steps n = option_map_or
     (λ v. option_map_or (λ k. sources.Given k) (giver_of steps n) sources.Printed)
     (value_at F n) sources.Nothing
+
+-- ---- what that means, where the steps are those of a chain
+
+-- The point of the number gave the variable the value, from the values before the step. These stay
+-- in the filling, and each is printed or was given by a step before this one.
+pub record IsGivenBefore (m : Model) (F : Partial) (steps : List (ℕ × ℕ)) (n k : ℕ)
+    (v : Value) : Type 0 where
+  pub before : List (ℕ × ℕ)
+  pub after : List (ℕ × ℕ)
+  pub order : steps ≡ before ++ (n, k) ∷ after
+  pub point : Point
+  pub at : slice_get (points m) k ≡ Some point
+  pub values : Partial
+  pub gives : Gives m values point n v
+  pub earlier : (j : ℕ) (w : Value) → value_at values j ≡ Some w
+      → (value_at F j ≡ Some w) × (source_of F steps j ≡ source_of values before j)
+
+-- what is told of a value is true, where a chain goes from the printed values to the filling
+abbrev pub IsTrueSource : Model → Partial → Partial → List (ℕ × ℕ) → ℕ → Value → Source → Type 0
+IsTrueSource m K F steps n v sources.Printed = value_at K n ≡ Some v
+IsTrueSource m K F steps n v (sources.Given k) = IsGivenBefore m F steps n k v
+IsTrueSource m K F steps n v sources.Nothing = ⊥
+
+-- the contract of `sources_are_earlier`: who goes from a value to those that it was given from, and
+-- on from these, ends at printed ones
+abbrev pub SourcesAreEarlier : Type 0
+SourcesAreEarlier = (m : Model) (K F : Partial) (c : Chain m K 0 F) (n : ℕ) (v : Value)
+    → value_at F n ≡ Some v → IsTrueSource m K F (givers c) n v (source_of F (givers c) n)
 
 -- ---- the variables of a point
 

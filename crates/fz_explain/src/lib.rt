@@ -18,6 +18,6 @@ pub use failing::{Sought, first_point};
 pub use fz_filling::Giver;
 pub use notes::{Loaded, bounds_note, notes_of};
 pub use place::point_place;
-pub use source::Source;
+pub use source::{Source, sources_are_earlier};
 pub use sums::too_large_at;
 pub use variables::variables_of;

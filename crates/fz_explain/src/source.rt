@@ -2,7 +2,7 @@
 
 ghost use Rattle.std.specs.Prelude.{◌≡◌, map};
 ghost use Rattle.fz_filling.specs.Givers.{giver_view};
-ghost use Rattle.fz_explain.specs.Sources.{giver_of, source_of};
+ghost use Rattle.fz_explain.specs.Sources.{SourcesAreEarlier, giver_of, source_of};
 
 use fz_filling::Giver;
 use fz_filling::fz_model::Partial;
@@ -42,3 +42,9 @@ pub(crate) fn source_of(filling: &Partial, steps: &[Giver], variable: usize) -> 
         None => Source::Printed,
     }
 }
+
+/// Where the steps are those of a chain from the printed values on, a value that is told as given
+/// was given from values that are printed or that steps before gave.
+pub fn sources_are_earlier()
+    ensures { SourcesAreEarlier }
+{}
