@@ -1,12 +1,12 @@
 //! What is behind a verdict: the point, the variables in it, and where their values come from.
 
-ghost use Rattle.std.specs.Prelude.{◌≡◌, ◌<◌, length};
-ghost use Rattle.fz_model.specs.Meaning.{IsPartial, points};
+ghost use Rattle.std.specs.Prelude.{◌<◌, length};
+ghost use Rattle.fz_model.specs.Meaning.{points};
 
 use crate::points::{push_point, push_value};
 use crate::table::{Call, look_at};
-use fz_check::{CheckError, fill};
-use fz_explain::{Explained, Sought, Source, explain, first_point, point_place, variables_of};
+use fz_check::{CheckError, fill_with_steps};
+use fz_explain::{Explained, Giver, Sought, Source, explain, first_point, point_place, variables_of};
 use fz_model::{Model, Partial, load};
 use fz_stream::{Block, blocks};
 use fz_syntax::{Ast, parse};
@@ -20,7 +20,7 @@ fn push_source(text: &mut Vec<u8>, model: &Model<'_>, source: Source) -> Result<
             text.extend_from_slice(b", by ")?;
             push_point(text, model.point(point))
         }
-        Source::Given(_) | Source::Filled => text.extend_from_slice(b", filled in"),
+        Source::Given(_) => text.extend_from_slice(b", by no point"),
         Source::Nothing => text.extend_from_slice(b": nothing"),
     }
 }
@@ -47,13 +47,11 @@ fn push_explained(
     text: &mut Vec<u8>,
     ast: &Ast<'_>,
     model: &Model<'_>,
-    block: &Block<'_>,
-    filling: &mut Partial,
+    filling: &Partial,
+    steps: &[Giver],
     point: usize,
 ) -> Result<(), AllocError>
     requires in_range { point < length (points model.now) }
-    requires fits { IsPartial model.now filling.old }
-    ensures same { filling.new ≡ filling.old }
 {
     let name = model.point(point);
     push_point(text, name)?;
@@ -62,7 +60,7 @@ fn push_explained(
         text.extend_from_slice(place.as_bytes())?;
     }
     let variables = variables_of(alloc, model, point)?;
-    let told = explain(alloc, model, &block.items, filling, &variables)?;
+    let told = explain(alloc, filling, steps, &variables)?;
     for explained in &told.variables {
         push_variable(text, model, explained)?;
     }
@@ -75,15 +73,12 @@ fn push_sought(
     text: &mut Vec<u8>,
     ast: &Ast<'_>,
     model: &Model<'_>,
-    block: &Block<'_>,
-    filling: &mut Partial,
+    filling: &Partial,
+    steps: &[Giver],
     sought: Sought,
-) -> Result<(), AllocError>
-    requires fits { IsPartial model.now filling.old }
-    ensures same { filling.new ≡ filling.old }
-{
+) -> Result<(), AllocError> {
     match first_point(alloc, model, filling, sought)? {
-        Some(point) => push_explained(alloc, text, ast, model, block, filling, point),
+        Some(point) => push_explained(alloc, text, ast, model, filling, steps, point),
         None => Ok(()),
     }
 }
@@ -96,28 +91,13 @@ fn push_block(
     model: &Model<'_>,
     block: &Block<'_>,
 ) -> Result<(), CheckError> {
-    let mut filling = match fill(alloc, model, block) {
-        Ok(filling) => filling,
+    let (filling, steps) = match fill_with_steps(alloc, model, block) {
+        Ok(filled) => filled,
         Err(error) => return Err(CheckError::Block(1, error)),
     };
-    push_sought(
-        alloc,
-        text,
-        ast,
-        model,
-        block,
-        &mut filling,
-        Sought::Failing,
-    )?;
-    push_sought(
-        alloc,
-        text,
-        ast,
-        model,
-        block,
-        &mut filling,
-        Sought::Undecided,
-    )?;
+    for sought in [Sought::Failing, Sought::Undecided] {
+        push_sought(alloc, text, ast, model, &filling, &steps, sought)?;
+    }
     Ok(())
 }
 
@@ -144,7 +124,8 @@ pub(crate) fn explained(alloc: Global, model: &[u8], stream: &[u8]) -> Result<Ve
 }
 
 // Values that are printed, alone and in an array, or given by a constraint, a definition or a
-// domain. Of two constraints that give a value, the first is named. Each variable is listed once.
+// domain. Of two constraints that could give a value, the one that the filling came to first is
+// named. Each variable is listed once.
 const EXPLAINED: &str = "
 var 0..9: x;
 var 0..9: y;

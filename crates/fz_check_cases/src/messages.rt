@@ -1,11 +1,11 @@
 //! Messages on the first point that fails or is undecided, and the text of each.
 
-ghost use Rattle.std.specs.Prelude.{◌≡◌, ◌<◌, length};
-ghost use Rattle.fz_model.specs.Meaning.{IsPartial, points};
+ghost use Rattle.std.specs.Prelude.{◌<◌, length};
+ghost use Rattle.fz_model.specs.Meaning.{points};
 
-use fz_check::fill;
+use fz_check::fill_with_steps;
 use fz_explain::{
-    Loaded, Sought, bounds_note, explain, first_point, notes_of, point_place, too_large_at,
+    Giver, Loaded, Sought, bounds_note, explain, first_point, notes_of, point_place, too_large_at,
     variables_of,
 };
 use fz_message::{Help, Message, Note, Source, message_at, message_text, shown_text};
@@ -58,15 +58,14 @@ fn add_notes(
 fn all_notes(
     alloc: Global,
     loaded: Loaded<'_, '_>,
-    block: &Block<'_>,
-    filling: &mut Partial,
+    filling: &Partial,
+    steps: &[Giver],
     point: usize,
 ) -> Result<Vec<Note>, AllocError>
     requires in_range { point < length (points loaded.model.now) }
-    requires fits { IsPartial loaded.model.now filling.old }
 {
     let variables = variables_of(alloc, loaded.model, point)?;
-    let told = explain(alloc, loaded.model, &block.items, filling, &variables)?;
+    let told = explain(alloc, filling, steps, &variables)?;
     let mut notes = notes_of(alloc, loaded, &told)?;
     add_notes(alloc, loaded, filling, point, &mut notes)?;
     Ok(notes)
@@ -76,17 +75,16 @@ fn all_notes(
 fn point_text(
     alloc: Global,
     loaded: Loaded<'_, '_>,
-    block: &Block<'_>,
-    filling: &mut Partial,
+    filling: &Partial,
+    steps: &[Giver],
     point: usize,
 ) -> Result<String, AllocError>
     requires in_range { point < length (points loaded.model.now) }
-    requires fits { IsPartial loaded.model.now filling.old }
 {
     let Some(mut message) = bare_message(alloc, loaded, point)? else {
         return Ok(String::new(alloc));
     };
-    message.notes = all_notes(alloc, loaded, block, filling, point)?;
+    message.notes = all_notes(alloc, loaded, filling, steps, point)?;
     message_text(alloc, &message)
 }
 
@@ -98,11 +96,11 @@ fn block_text(
     block: &Block<'_>,
     sought: Sought,
 ) -> Result<String, AllocError> {
-    let Ok(mut filling) = fill(alloc, loaded.model, block) else {
+    let Ok((filling, steps)) = fill_with_steps(alloc, loaded.model, block) else {
         return Ok(String::new(alloc));
     };
     match first_point(alloc, loaded.model, &filling, sought)? {
-        Some(point) => point_text(alloc, loaded, block, &mut filling, point),
+        Some(point) => point_text(alloc, loaded, &filling, &steps, point),
         None => Ok(String::new(alloc)),
     }
 }

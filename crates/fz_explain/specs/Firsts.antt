@@ -1,8 +1,6 @@
 -- The first point of a model, in the model's order, with a property (this project's profile).
 use Rattle.std.specs.Prelude.{◌≡◌, ◌<◌, ℕ, Some, slice_get}
-use Rattle.fz_base.specs.declared.value.Value.{Value}
-use Rattle.fz_filling.specs.of_model.Meaning.{Model, Partial, Point, points}
-use Rattle.fz_filling.specs.of_model.Steps.{Gives}
+use Rattle.fz_filling.specs.of_model.Meaning.{Model, Point, points}
 
 -- no point with a number below this one has the property
 abbrev pub NoneBefore : Model → (Point → Type 0) → ℕ → Type 0
@@ -18,7 +16,3 @@ pub record IsFirst (m : Model) (Is : Point → Type 0) (k : ℕ) : Type 0 where
   pub at : slice_get (points m) k ≡ Some point
   pub is : Is point
   pub first : NoneBefore m Is k
-
--- the point gives the variable the value
-abbrev pub GivesIt : Model → Partial → ℕ → Value → Point → Type 0
-GivesIt m K n v p = Gives m K p n v

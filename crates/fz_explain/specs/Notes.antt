@@ -1,5 +1,5 @@
 -- An explanation of variables as notes of a message (this project's profile).
-use Rattle.std.specs.Prelude.{◌≡◌, ℕ, zero, suc, List, [], ◌∷◌, ◌++◌, Option, Some, None, drop, encode_utf8_all, option_map, slice_get, string_bytes, take}
+use Rattle.std.specs.Prelude.{◌≡◌, ℕ, zero, suc, List, [], ◌∷◌, ◌++◌, Option, Some, None, drop, encode_utf8_all, slice_get, string_bytes, take}
 use Rattle.std.specs.Option.{MatchOption, option_map_or}
 use Rattle.fz_base.specs.declared.value.Value.{Value}
 use Rattle.fz_message.specs.of_places.Lines.{line_ends}
@@ -43,13 +43,12 @@ IsOriginAt a text (told_points.Constraint k x) (origins.Constraint j y line) =
     × (line ≡ line_of a text (told_points.Constraint k x))
 IsOriginAt a text p o = ⊥
 
--- where a value comes from, in the words of a message; a number that is no point's is Filled
+-- where a value comes from, in the words of a message; a number that is no point's is Nothing
 abbrev pub IsOriginOf : Model → Ast → List ℕ → Source → Origin → Type 0
 IsOriginOf m a text sources.Printed o = o ≡ origins.Printed
 IsOriginOf m a text (sources.Given k) o =
-    MatchOption (slice_get (points m) k) (o ≡ origins.Filled)
+    MatchOption (slice_get (points m) k) (o ≡ origins.Nothing)
     (λ q. (p : told.Point) × (shown_point q ≡ point_name p) × IsOriginAt a text p o)
-IsOriginOf m a text sources.Filled o = o ≡ origins.Filled
 IsOriginOf m a text sources.Nothing o = o ≡ origins.Nothing
 
 abbrev pub name_at : Model → ℕ → List ℕ

@@ -1,42 +1,56 @@
 -- Where the value of a variable comes from, and the variables of a point (this project's profile).
-use Rattle.std.specs.Prelude.{◌≡◌, ℕ, Bool, false, true, cond, List, [], ◌∷◌, ◌++◌, ◌==◌, None, Some}
+use Rattle.std.specs.Prelude.{◌≡◌, ℕ, Bool, cond, List, [], ◌∷◌, ◌++◌, ◌==◌, Option, None, Some, slice_get}
 use Rattle.std.specs.List.{list_any}
 use Rattle.std.specs.Option.{option_map_or}
 use Rattle.fz_base.specs.declared.value.Value.{Value}
-use Rattle.fz_filling.specs.of_model.Meaning.{Model, Partial, Point, find_name, terms_at, value_at}
-use Rattle.fz_filling.specs.of_model.Partial.{without}
-use Rattle.fz_filling.specs.of_model.Steps.{terms_of}
+use Rattle.fz_filling.specs.of_model.Meaning.{Model, Partial, Point, points, value_at}
+use Rattle.fz_filling.specs.of_model.Steps.{Gives, terms_of}
+use Rattle.fz_filling.specs.of_verdict.Filling.{Chain, givers}
 use Rattle.fz_filling.specs.of_model.declared.Term.{Term}
 use Rattle.fz_filling.specs.of_model.declared.Term.TheVariants.{Var, Fixed}
-use Rattle.fz_filling.specs.of_verdict.Blocks.{Printed}
-use Rattle.fz_explain.specs.Firsts.{GivesIt, IsFirst, NoPoint}
 use Rattle.fz_explain.specs.declared.source.Source.{Source}
 use Rattle.fz_explain.specs.declared.source.Source.TheVariants as sources
 
-abbrev pub is_variable : ℕ → Term → Bool
-is_variable n (Var k) = k == n
-is_variable n (Fixed v) = false
+-- the number of the point that gave the variable its value, of steps as `givers` has them: each a
+-- variable and a point
+abbrev pub giver_of : List (ℕ × ℕ) → ℕ → Option ℕ
+giver_of [] n = None
+giver_of (s ∷ steps) n = cond (s.0 == n) (Some s.1) (giver_of steps n)
 
--- a printed name stands for the variable, alone or as an array's element
-abbrev pub prints : Model → List Printed → ℕ → Bool
-prints m items n = list_any (λ i. option_map_or (λ p. list_any (is_variable n) (terms_at p))
-    (find_name m i.name.text) false) items
+-- where the value of a variable comes from, under a filling that took these steps: from the step
+-- that gave it, or else it is printed
+abbrev pub source_of : Partial → List (ℕ × ℕ) → ℕ → Source
+source_of F steps n = option_map_or
+    (λ v. option_map_or (λ k. sources.Given k) (giver_of steps n) sources.Printed)
+    (value_at F n) sources.Nothing
 
--- where the value of a variable comes from, under a filling of these items
-abbrev pub IsSourceOf : Model → List Printed → Partial → ℕ → Source → Type 0
--- it is printed
-IsSourceOf m items F n sources.Printed =
-    (v : Value) × (value_at F n ≡ Some v) × (prints m items n ≡ true)
--- it isn't, and the point with this number is the first that gives it from the values of the others
-IsSourceOf m items F n (sources.Given k) =
-    (v : Value) × (value_at F n ≡ Some v) × (prints m items n ≡ false)
-    × IsFirst m (GivesIt m (without F n) n v) k
--- it isn't, and no point gives it from those
-IsSourceOf m items F n sources.Filled =
-    (v : Value) × (value_at F n ≡ Some v) × (prints m items n ≡ false)
-    × NoPoint m (GivesIt m (without F n) n v)
--- there is none
-IsSourceOf m items F n sources.Nothing = value_at F n ≡ None
+-- ---- what that means, where the steps are those of a chain
+
+-- The point of the number gave the variable the value, from the values before the step. These stay
+-- in the filling, and each is printed or was given by a step before this one.
+pub record IsGivenBefore (m : Model) (F : Partial) (steps : List (ℕ × ℕ)) (n k : ℕ)
+    (v : Value) : Type 0 where
+  pub before : List (ℕ × ℕ)
+  pub after : List (ℕ × ℕ)
+  pub order : steps ≡ before ++ (n, k) ∷ after
+  pub point : Point
+  pub at : slice_get (points m) k ≡ Some point
+  pub values : Partial
+  pub gives : Gives m values point n v
+  pub earlier : (j : ℕ) (w : Value) → value_at values j ≡ Some w
+      → (value_at F j ≡ Some w) × (source_of F steps j ≡ source_of values before j)
+
+-- what is told of a value is true, where a chain goes from the printed values to the filling
+abbrev pub IsTrueSource : Model → Partial → Partial → List (ℕ × ℕ) → ℕ → Value → Source → Type 0
+IsTrueSource m K F steps n v sources.Printed = value_at K n ≡ Some v
+IsTrueSource m K F steps n v (sources.Given k) = IsGivenBefore m F steps n k v
+IsTrueSource m K F steps n v sources.Nothing = ⊥
+
+-- the contract of `sources_are_earlier`: who goes from a value to those that it was given from, and
+-- on from these, ends at printed ones
+abbrev pub SourcesAreEarlier : Type 0
+SourcesAreEarlier = (m : Model) (K F : Partial) (c : Chain m K 0 F) (n : ℕ) (v : Value)
+    → value_at F n ≡ Some v → IsTrueSource m K F (givers c) n v (source_of F (givers c) n)
 
 -- ---- the variables of a point
 

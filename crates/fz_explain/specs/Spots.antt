@@ -1,6 +1,6 @@
 -- The byte range of a point's name: of a constraint's predicate, or of a declared name (this
 -- project's profile).
-use Rattle.std.specs.Prelude.{ℕ, ◌-◌, Option, map, option_map, slice_get}
+use Rattle.std.specs.Prelude.{◌-◌, Option, map, option_map, slice_get}
 use Rattle.fz_base.specs.declared.span.Span.{Span}
 use Rattle.fz_filling.specs.of_syntax.declared.Ast.{Ast}
 use Rattle.fz_filling.specs.of_model.Names.{declaration}

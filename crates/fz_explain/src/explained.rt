@@ -2,14 +2,13 @@
 
 ghost use Rattle.std.specs.Prelude.{◌≡◌, ◌-◌, IfOk, length, map};
 ghost use Rattle.std.specs.List.{AllByRecursion};
-ghost use Rattle.fz_filling.specs.of_model.Meaning.{IsPartial};
-ghost use Rattle.fz_filling.specs.of_verdict.View.{located_items};
+ghost use Rattle.fz_filling.specs.Givers.{giver_view};
 ghost use Rattle.fz_explain.specs.Explained.{IsTold, shortened};
 
 use crate::source::{Source, source_of};
 use fz_base::Value;
-use fz_filling::fz_model::{Model, Partial};
-use fz_filling::fz_syntax::Printed;
+use fz_filling::Giver;
+use fz_filling::fz_model::Partial;
 use std::alloc::{AllocError, Global};
 
 /// The most variables of an explanation.
@@ -46,20 +45,15 @@ fn shorten(alloc: Global, variables: &[usize]) -> Result<Vec<usize>, AllocError>
     Ok(shown)
 }
 
-/// A variable with its value under the filling, and where that comes from. The filling is
-/// unchanged.
+/// A variable with its value under a filling that took these steps, and where that comes from.
 fn explain_variable(
     alloc: Global,
-    model: &Model<'_>,
-    items: &[Printed<'_>],
-    filling: &mut Partial,
+    filling: &Partial,
+    steps: &[Giver],
     variable: usize,
 ) -> Result<Explained, AllocError>
-    requires fits { IsPartial model.now filling.old }
-    ensures told { IfOk result (IsTold model.now (located_items items.now) filling.old variable) }
-    ensures same { filling.new ≡ filling.old }
+    ensures { IfOk result (IsTold filling.now (map giver_view steps.now) variable) }
 {
-    let source = source_of(alloc, model, items, filling, variable)?;
     let value = match filling.get(variable) {
         Some(value) => Some(value.copy(alloc)?),
         None => None,
@@ -67,57 +61,50 @@ fn explain_variable(
     Ok(Explained {
         variable,
         value,
-        source,
+        source: source_of(filling, steps, variable),
     })
 }
 
-/// Each of these variables with its value under the filling, and where that comes from. The filling
-/// is unchanged.
+/// Each of these variables with its value, and where that comes from.
 fn explain_variables(
     alloc: Global,
-    model: &Model<'_>,
-    items: &[Printed<'_>],
-    filling: &mut Partial,
+    filling: &Partial,
+    steps: &[Giver],
     variables: &[usize],
 ) -> Result<Vec<Explained>, AllocError>
-    requires fits { IsPartial model.now filling.old }
     ensures variables { IfOk result (λ v. map (λ e. e.variable) v.items ≡ variables.now) }
     ensures told { IfOk result (λ v. AllByRecursion
-        (λ e. IsTold model.now (located_items items.now) filling.old e.variable e) v.items) }
-    ensures same { filling.new ≡ filling.old }
+        (λ e. IsTold filling.now (map giver_view steps.now) e.variable e) v.items) }
 {
     let mut told = Vec::new(alloc);
     for variable in variables {
-        told.push(explain_variable(alloc, model, items, filling, *variable)?)?;
+        told.push(explain_variable(alloc, filling, steps, *variable)?)?;
     }
     Ok(told)
 }
 
-/// Explains variables under the filling of a block with these items: all of them where they are at
-/// most twelve, or else the first eight and the last four. The filling is unchanged.
+/// Explains variables under a filling that took these steps: all of them where they are at most
+/// twelve, or else the first eight and the last four.
 ///
 /// # Errors
 ///
 /// Out of memory.
 pub fn explain(
     alloc: Global,
-    model: &Model<'_>,
-    items: &[Printed<'_>],
-    filling: &mut Partial,
+    filling: &Partial,
+    steps: &[Giver],
     variables: &[usize],
 ) -> Result<Explanation, AllocError>
-    requires fits { IsPartial model.now filling.old }
     ensures variables { IfOk result
         (λ x. map (λ e. e.variable) x.variables.items ≡ shortened variables.now) }
     // Each has its value under the filling, and where that comes from.
-    ensures told { IfOk result (λ x. AllByRecursion (λ e. IsTold model.now
-        (located_items items.now) filling.old e.variable e) x.variables.items) }
+    ensures told { IfOk result (λ x. AllByRecursion
+        (λ e. IsTold filling.now (map giver_view steps.now) e.variable e) x.variables.items) }
     ensures left_out { IfOk result
         (λ x. x.left_out ≡ length variables.now - length x.variables.items) }
-    ensures same { filling.new ≡ filling.old }
 {
     let shown = shorten(alloc, variables)?;
-    let told = explain_variables(alloc, model, items, filling, &shown)?;
+    let told = explain_variables(alloc, filling, steps, &shown)?;
     let left_out = variables.len().saturating_sub(told.len());
     Ok(Explanation {
         variables: told,

@@ -6,10 +6,8 @@
 
 mod explained;
 mod failing;
-mod giving;
 mod notes;
 mod place;
-mod printing;
 mod scalars;
 mod source;
 mod sums;
@@ -17,8 +15,9 @@ mod variables;
 
 pub use explained::{Explained, Explanation, explain};
 pub use failing::{Sought, first_point};
+pub use fz_filling::Giver;
 pub use notes::{Loaded, bounds_note, notes_of};
 pub use place::point_place;
-pub use source::Source;
+pub use source::{Source, sources_are_earlier};
 pub use sums::too_large_at;
 pub use variables::variables_of;

@@ -62,10 +62,9 @@ fn origin_of(alloc: Global, loaded: Loaded<'_, '_>, source: Source) -> Result<Or
             if point < loaded.model.points() {
                 point_origin(alloc, loaded, &loaded.model.point(point))
             } else {
-                Ok(Origin::Filled)
+                Ok(Origin::Nothing)
             }
         }
-        Source::Filled => Ok(Origin::Filled),
         Source::Nothing => Ok(Origin::Nothing),
     }
 }

@@ -1,56 +1,50 @@
 //! Where the value of a variable comes from.
 
-ghost use Rattle.std.specs.Prelude.{◌≡◌, IfOk};
-ghost use Rattle.fz_filling.specs.of_model.Meaning.{IsPartial};
-ghost use Rattle.fz_filling.specs.of_verdict.View.{located_items};
-ghost use Rattle.fz_explain.specs.Sources.{IsSourceOf};
+ghost use Rattle.std.specs.Prelude.{◌≡◌, map};
+ghost use Rattle.fz_filling.specs.Givers.{giver_view};
+ghost use Rattle.fz_explain.specs.Sources.{SourcesAreEarlier, giver_of, source_of};
 
-use crate::giving::giver;
-use crate::printing::is_printed;
-use fz_filling::fz_model::{Model, Partial};
-use fz_filling::fz_syntax::Printed;
-use std::alloc::{AllocError, Global};
+use fz_filling::Giver;
+use fz_filling::fz_model::Partial;
 
 /// Where the value of a variable comes from.
 #[derive(Clone, Copy, Debug, PartialEq, Eq)]
 pub enum Source {
-    /// A printed name stands for the variable.
+    /// It is printed.
     Printed,
-    /// The point with this number, from 0, is the first that gives it, from the values of the other
-    /// variables.
+    /// A step of the filling: the point with this number, from 0, gave it.
     Given(usize),
-    /// No single point gives it from the values of the other variables.
-    Filled,
     /// There is no value.
     Nothing,
 }
 
-/// Where the value of a variable comes from, under the filling of a block with these items. The
-/// filling is unchanged.
-///
-/// # Errors
-///
-/// Out of memory.
-pub(crate) fn source_of(
-    alloc: Global,
-    model: &Model<'_>,
-    items: &[Printed<'_>],
-    filling: &mut Partial,
-    variable: usize,
-) -> Result<Source, AllocError>
-    requires fits { IsPartial model.now filling.old }
-    ensures source { IfOk result (IsSourceOf model.now
-        (located_items items.now) filling.old variable) }
-    ensures same { filling.new ≡ filling.old }
+/// The number of the point whose step gave the variable its value, where one did.
+fn giver_of(steps: &[Giver], variable: usize) -> Option<usize>
+    ensures { result ≡ giver_of (map giver_view steps.now) variable }
 {
-    if filling.get(variable).is_none() {
-        return Ok(Source::Nothing);
+    for step in steps {
+        if step.variable == variable {
+            return Some(step.point);
+        }
     }
-    if is_printed(model, items, variable) {
-        return Ok(Source::Printed);
+    None
+}
+
+/// Where the value of a variable comes from, under a filling that took these steps.
+pub(crate) fn source_of(filling: &Partial, steps: &[Giver], variable: usize) -> Source
+    ensures { result ≡ source_of filling.now (map giver_view steps.now) variable }
+{
+    if !filling.has(variable) {
+        return Source::Nothing;
     }
-    match giver(alloc, model, filling, variable)? {
-        Some(point) => Ok(Source::Given(point)),
-        None => Ok(Source::Filled),
+    match giver_of(steps, variable) {
+        Some(point) => Source::Given(point),
+        None => Source::Printed,
     }
 }
+
+/// Where the steps are those of a chain from the printed values on, a value that is told as given
+/// was given from values that are printed or that steps before gave.
+pub fn sources_are_earlier()
+    ensures { SourcesAreEarlier }
+{}

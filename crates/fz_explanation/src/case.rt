@@ -1,15 +1,15 @@
 //! The explanation of the verdict that the answer names: the point, the variables in it, their
 //! values and where these come from.
 
-ghost use Rattle.std.specs.Prelude.{◌≡◌, ◌<◌, length};
-ghost use Rattle.fz_judge.specs.of_model.Meaning.{IsPartial, points};
+ghost use Rattle.std.specs.Prelude.{◌<◌, length};
+ghost use Rattle.fz_judge.specs.of_model.Meaning.{points};
 
 use fz_explain::{
-    Loaded, Sought, bounds_note, explain, first_point, notes_of, point_place, too_large_at,
+    Giver, Loaded, Sought, bounds_note, explain, first_point, notes_of, point_place, too_large_at,
     variables_of,
 };
 use fz_files::{Passed, Told};
-use fz_judge::fill;
+use fz_judge::fill_with_steps;
 use fz_judge::fz_model::{Goal, Model, Partial, Scalar, Term, What, load, scalar_at};
 use fz_message::{Help, Message, Note, Source, message_at, message_text, shown_text};
 use fz_stream::{Block, blocks};
@@ -37,13 +37,15 @@ pub struct Case<'a> {
     pub told: &'a Told,
 }
 
-/// What was read again of the sources of a case.
+/// What was read again of the sources of a case, and the block's filling with its steps.
 #[derive(Clone, Copy)]
 struct Reading<'s, 'a> {
     case: &'s Case<'a>,
     model: &'s Model<'a>,
     ast: &'s Ast<'a>,
     block: &'s Block<'a>,
+    filling: &'s Partial,
+    steps: &'s [Giver],
 }
 
 /// The explanation of a case; there is none where one of its sources can't be read again.
@@ -82,28 +84,31 @@ fn model_explanation<'s, 'a>(
         return Ok(None);
     };
     match stream.blocks.first() {
-        Some(block) => block_explanation(
-            alloc,
-            &Reading {
-                case,
-                model,
-                ast,
-                block,
-            },
-        ),
+        Some(block) => block_explanation(alloc, case, ast, model, block),
         None => Ok(None),
     }
 }
 
 /// The same, where the block is read.
-fn block_explanation(
+fn block_explanation<'s, 'a>(
     alloc: Global,
-    reading: &Reading<'_, '_>,
+    case: &'s Case<'a>,
+    ast: &'s Ast<'a>,
+    model: &'s Model<'a>,
+    block: &'s Block<'a>,
 ) -> Result<Option<String>, AllocError> {
-    let Ok(mut filling) = fill(alloc, reading.model, reading.block) else {
+    let Ok((filling, steps)) = fill_with_steps(alloc, model, block) else {
         return Ok(None);
     };
-    match verdict_message(alloc, reading, &mut filling)? {
+    let reading = Reading {
+        case,
+        model,
+        ast,
+        block,
+        filling: &filling,
+        steps: &steps,
+    };
+    match verdict_message(alloc, &reading)? {
         Some(message) => Ok(Some(message_text(alloc, &message)?)),
         None => Ok(None),
     }
@@ -112,26 +117,23 @@ fn block_explanation(
 fn verdict_message(
     alloc: Global,
     reading: &Reading<'_, '_>,
-    filling: &mut Partial,
-) -> Result<Option<Message>, AllocError>
-    requires fits { IsPartial reading.now.model.now filling.old }
-{
+) -> Result<Option<Message>, AllocError> {
     let case = reading.case;
     let said = case.said;
     if let Some(name) = said.strip_prefix(b"violated: printed ") {
-        return printed_explanation(alloc, reading, filling, name);
+        return printed_explanation(alloc, reading, name);
     }
     if said.starts_with(b"violated: objective ") || said.starts_with(b"undecided: objective ") {
-        return objective_explanation(alloc, reading, filling);
+        return objective_explanation(alloc, reading);
     }
     let sought = if said.starts_with(b"violated: ") {
         Sought::Failing
     } else {
         Sought::Undecided
     };
-    match first_point(alloc, reading.model, filling, sought)? {
+    match first_point(alloc, reading.model, reading.filling, sought)? {
         Some(point) if point < reading.model.points() => {
-            point_explanation(alloc, reading, filling, point)
+            point_explanation(alloc, reading, point)
         }
         _ => Ok(None),
     }
@@ -157,11 +159,9 @@ fn sentence(alloc: Global, case: &Case<'_>) -> Result<String, AllocError> {
 fn point_explanation(
     alloc: Global,
     reading: &Reading<'_, '_>,
-    filling: &mut Partial,
     point: usize,
 ) -> Result<Option<Message>, AllocError>
     requires in_range { point < length (points reading.now.model.now) }
-    requires fits { IsPartial reading.now.model.now filling.old }
 {
     let Some(place) = point_place(reading.ast, &reading.model.point(point)) else {
         return Ok(None);
@@ -169,14 +169,14 @@ fn point_explanation(
     let case = reading.case;
     let variables = variables_of(alloc, reading.model, point)?;
     let source = case.model;
-    let Some(mut message) = variables_message(alloc, reading, filling, source, place, &variables)?
+    let Some(mut message) = variables_message(alloc, reading, source, place, &variables)?
     else {
         return Ok(None);
     };
     if let Some(note) = bounds_note(alloc, reading.model, point)? {
         message.notes.push(note)?;
     }
-    if let Some(place) = too_large_at(alloc, reading.model, filling, point)? {
+    if let Some(place) = too_large_at(alloc, reading.model, reading.filling, point)? {
         message.notes.push(Note::LeavesAt(place))?;
     }
     push_help(alloc, reading, &mut message.notes)?;
@@ -188,25 +188,16 @@ fn point_explanation(
 fn variables_message(
     alloc: Global,
     reading: &Reading<'_, '_>,
-    filling: &mut Partial,
     source: Source<'_>,
     place: Span,
     variables: &[usize],
-) -> Result<Option<Message>, AllocError>
-    requires fits { IsPartial reading.now.model.now filling.old }
-{
+) -> Result<Option<Message>, AllocError> {
     let case = reading.case;
     let said = sentence(alloc, case)?;
     let Some(mut message) = message_at(alloc, &source, place, said)? else {
         return Ok(None);
     };
-    let told = explain(
-        alloc,
-        reading.model,
-        &reading.block.items,
-        filling,
-        variables,
-    )?;
+    let told = explain(alloc, reading.filling, reading.steps, variables)?;
     let loaded = Loaded {
         model: reading.model,
         ast: reading.ast,
@@ -270,10 +261,7 @@ fn first_unknown<'a>(model: &Model<'a>) -> Option<(usize, &'a [u8])> {
 fn objective_explanation(
     alloc: Global,
     reading: &Reading<'_, '_>,
-    filling: &mut Partial,
-) -> Result<Option<Message>, AllocError>
-    requires fits { IsPartial reading.now.model.now filling.old }
-{
+) -> Result<Option<Message>, AllocError> {
     let place = match &reading.ast.solve.goal {
         GoalItem::Minimize(basic) | GoalItem::Maximize(basic) => basic_place(basic),
         GoalItem::Satisfy => return Ok(None),
@@ -287,7 +275,7 @@ fn objective_explanation(
     }
     let case = reading.case;
     let source = case.model;
-    let Some(mut message) = variables_message(alloc, reading, filling, source, place, &variables)?
+    let Some(mut message) = variables_message(alloc, reading, source, place, &variables)?
     else {
         return Ok(None);
     };
@@ -308,11 +296,8 @@ fn basic_place(basic: &Basic<'_>) -> Span {
 fn printed_explanation(
     alloc: Global,
     reading: &Reading<'_, '_>,
-    filling: &mut Partial,
     name: &[u8],
-) -> Result<Option<Message>, AllocError>
-    requires fits { IsPartial reading.now.model.now filling.old }
-{
+) -> Result<Option<Message>, AllocError> {
     let Some(place) = printed_place(&reading.block.items, name) else {
         return Ok(None);
     };
@@ -325,7 +310,7 @@ fn printed_explanation(
     };
     let source = source_behind(case.stream, &told.bytes, told.passed);
     let variables = variables_named(alloc, reading.model, name)?;
-    variables_message(alloc, reading, filling, source, place, &variables)
+    variables_message(alloc, reading, source, place, &variables)
 }
 
 /// The byte range, within its block, of a name that is printed.

@@ -41,7 +41,7 @@ numbers_are P i (x ∷ xs) h =
 abbrev IsNumbered : Model → (ℕ × Point) → Type 0
 IsNumbered m q = slice_get (points m) q.0 ≡ Some q.1
 
-stands : (m : Model) (K : Partial) (from k n : ℕ) (v : Value) (s : IsFirstStep m K from k n v)
+pub stands : (m : Model) (K : Partial) (from k n : ℕ) (v : Value) (s : IsFirstStep m K from k n v)
     → slice_get (points m) k ≡ Some s.point
 stands m K from k n v s =
     let whole : List (ℕ × Point) = enumerate_from 0 (points m) in

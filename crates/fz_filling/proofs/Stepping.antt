@@ -1,7 +1,8 @@
 -- The chain of the filling: the first step, and the end where each variable has a value.
-use Rattle.std.proofs.Common.{◌≡◌, ℕ, zero, suc, ◌<◌, ◌≤◌, ◌⊎◌, inl, inr, List, [], ◌∷◌, length, Option, Some, None, slice_get, IfSome, sym, subst, arith}
+use Rattle.std.proofs.Common.{◌≡◌, ℕ, zero, suc, ◌<◌, ◌≤◌, ◌⊎◌, inl, inr, List, [], ◌∷◌, ◌++◌, append-nil, length, Option, Some, None, slice_get, IfSome, refl, sym, ap, subst, ◌∙◌, arith}
 use Rattle.std.specs.List.{AllByRecursion}
 use Rattle.std.proofs.lemmas.Bool.{cases_lt}
+use Rattle.std.proofs.lemmas.List.{append_assoc}
 use Rattle.std.proofs.lemmas.Option.{slice_get_within}
 use Rattle.fz_base.specs.declared.value.Value.{Value}
 use Rattle.fz_verdict.specs.of_model.Meaning.{Model, Point, Partial, give, value_at, variables_of, points, IsPartial}
@@ -11,10 +12,13 @@ use Rattle.fz_verdict.specs.of_model.Values.{kind_of}
 use Rattle.fz_verdict.proofs.of_model.Lists.{there_is}
 use Rattle.fz_verdict.proofs.of_model.Partials.{give_fits, has_place}
 use Rattle.fz_verdict.proofs.of_model.Steps.{only_open_none}
-use Rattle.fz_verdict.specs.Filling.{IsFirstStep, Chain}
+use Rattle.fz_verdict.proofs.of_model.Tabled.{one_unset_less}
+use Rattle.fz_verdict.specs.Filling.{IsFirstStep, Chain, givers}
 use Rattle.fz_verdict.specs.Filling.Chain.{Ends, Step}
 use Rattle.fz_verdict.proofs.Loops.{first_ahead, first_wrapped, none_gives}
-use Rattle.fz_filling.specs.Stepping.{NoneGives, IsStepAhead}
+use Rattle.fz_filling.specs.Givers.{giver_view}
+use Rattle.fz_filling.specs.Stepping.{IsAdvanced, IsStepAhead, NoneGives}
+use Rattle.fz_filling.specs.declared.steps.Giver.{Giver}
 
 -- ---- the points from a number up to another
 
@@ -83,18 +87,50 @@ nothing_left m K fits none = each (points m)
 pub at_some : {A : Type 0} (P : A → Type 0) (o : Option A) (x : A) → o ≡ Some x → IfSome o P → P x
 at_some P o x e h = subst (λ p. IfSome p P) e h
 
--- ---- what the chain reaches from here it reaches from the start
+-- ---- what the chain reaches from here it reaches from the start, by the steps so far and its own
 
-abbrev pub Reaches : Model → Partial → ℕ → Partial → ℕ → Type 0
-Reaches m S start K from = (F : Partial) → Chain m K from F → Chain m S start F
+abbrev pub ReachesBy : Model → Partial → Partial → ℕ → List (ℕ × ℕ) → Type 0
+ReachesBy m S K from steps = (F : Partial) (c : Chain m K from F) → (whole : Chain m S 0 F) × (givers whole ≡ steps ++ givers c)
 
-pub reaches_after : (m : Model) (S : Partial) (start : ℕ) (K : Partial) (from k n : ℕ) (v : Value)
-    → Reaches m S start K from → IsFirstStep m K from k n v → Reaches m S start (give K n v) k
-reaches_after m S start K from k n v reaches first = λ F chain. reaches F (Step first chain)
+-- of whatever steps
+abbrev pub Reaches : Model → Partial → Partial → ℕ → Type 0
+Reaches m S K from = (steps : List (ℕ × ℕ)) × ReachesBy m S K from steps
 
-pub reaches_end : (m : Model) (S : Partial) (start : ℕ) (K : Partial) (from : ℕ)
-    → Reaches m S start K from → AllByRecursion (GivesNothing m K) (points m) → Chain m S start K
-reaches_end m S start K from reaches none = reaches K (Ends none)
+module _ (m : Model) (S K L : Partial) (from on : ℕ) (o : Option Giver) (moved : IsAdvanced m K L from on o) where
+  pub reaches_after : (steps : List (ℕ × ℕ)) (g : Giver) → o ≡ Some g → ReachesBy m S K from steps
+      → ReachesBy m S L on (steps ++ giver_view g ∷ [])
+  reaches_after steps g is reaches = (elim o as (λ o. IsAdvanced m K L from on o → o ≡ Some g → ReachesBy m S L on (steps ++ giver_view g ∷ [])) [
+    | None ↦ λ _ e. cc
+    | Some h ↦ λ moved e.
+        let same : h ≡ g = cc in
+        let (v, first, given, at) = subst (λ h. IsAdvanced m K L from on (Some h)) same moved in
+        subst (λ (x : Partial × ℕ). ReachesBy m S x.0 x.1 (steps ++ giver_view g ∷ [])) (λ i. (sym given i, sym at i))
+        (λ F c. let (whole, are) = reaches F (Step first c) in (whole, are ∙ sym (append_assoc steps (giver_view g ∷ []) (givers c))))
+  ]) moved is
+
+  pub reaches_end : (steps : List (ℕ × ℕ)) → o ≡ None → ReachesBy m S K from steps
+      → (c : Chain m S 0 L) × (steps ≡ givers c)
+  reaches_end steps is reaches = (elim o as (λ o. IsAdvanced m K L from on o → o ≡ None → (c : Chain m S 0 L) × (steps ≡ givers c)) [
+    | None ↦ λ moved _.
+        let (whole, are) = reaches K (Ends moved.1) in
+        subst (λ L. (c : Chain m S 0 L) × (steps ≡ givers c)) (sym moved.0) (whole, sym (are ∙ append-nil steps))
+    | Some h ↦ λ _ e. cc
+  ]) moved is
+
+  pub fewer_unset : (g : Giver) → o ≡ Some g → IsPartial m K → unset_count L < unset_count K
+  fewer_unset g is fits = (elim o as (λ o. IsAdvanced m K L from on o → o ≡ Some g → unset_count L < unset_count K) [
+    | None ↦ λ _ e. cc
+    | Some h ↦ λ moved _.
+        let (v, first, given, at) = moved in
+        let within = step_within m K from h.point h.variable v fits first in
+        let unset = step_unset m K from h.point h.variable v first in
+        let less : unset_count K ≡ suc (unset_count (give K h.variable v)) = one_unset_less K h.variable v within unset in
+        let same : unset_count L ≡ unset_count (give K h.variable v) = ap unset_count given in
+        omega (arith, less, same)
+  ]) moved is
+
+pub no_steps : (m : Model) (S : Partial) → ReachesBy m S S 0 []
+no_steps m S = λ F c. (c, refl)
 
 -- the point of a number, and what it gives
 pub point_gives : (m : Model) (K : Partial) (k n : ℕ) (v : Value) (o : Option (ℕ × Value))

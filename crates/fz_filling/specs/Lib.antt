@@ -3,6 +3,7 @@ pub mod Kept
 pub mod Stepping
 pub mod Runs
 pub mod Courses
+pub mod Givers
 pub use Rattle.fz_verdict.specs as of_verdict
 pub use Rattle.fz_verdict.specs.of_model
 pub use Rattle.fz_verdict.specs.of_stream

@@ -1,11 +1,16 @@
 -- Steps by the numbers of points. Only private functions use these.
-use Rattle.std.specs.Prelude.{◌≡◌, ℕ, ◌<◌, ◌≤◌, ◌-◌, Bool, true, List, Option, None, Some, is_some, slice_get}
+use Rattle.std.specs.Prelude.{◌≡◌, ℕ, ◌<◌, ◌≤◌, ◌-◌, Bool, true, IfSome, List, Option, None, Some, is_some, length, slice_get}
+use Rattle.std.specs.List.{AllByRecursion}
 use Rattle.fz_base.specs.declared.value.Value.{Value}
 use Rattle.fz_verdict.specs.of_model.declared.Posted.{Posted}
 use Rattle.fz_verdict.specs.of_model.Meaning as meaning
-use Rattle.fz_verdict.specs.of_model.Meaning.{Model, Partial, Point, points, value_at}
+use Rattle.fz_verdict.specs.of_model.Meaning.{IsPartial, Model, Partial, Point, give, points, value_at}
 use Rattle.fz_verdict.specs.of_model.Meaning.Point.{ConstraintPoint}
 use Rattle.fz_verdict.specs.of_model.Steps.{Gives, GivesNothing}
+use Rattle.fz_verdict.specs.Filling.{IsFirstStep}
+use Rattle.fz_filling.specs.Kept.{IsKept}
+use Rattle.fz_filling.specs.declared.steps.Giver.{Giver}
+use Rattle.fz_filling.specs.declared.watch.Watch.{Watch}
 
 -- the points with these numbers give nothing
 abbrev pub NoneGives : Model → Partial → ℕ → ℕ → Type 0
@@ -19,6 +24,21 @@ pub record IsStepAhead (m : Model) (K : Partial) (from to k n : ℕ) (v : Value)
   pub below : k < to
   pub none_before : NoneGives m K from k
   pub gives : (p : Point) → slice_get (points m) k ≡ Some p → Gives m K p n v
+
+-- ---- the state between two steps
+
+-- The partial assignment fits the model, the watch lists are right, where there are any, and the
+-- search goes on from a point's number.
+pub record IsUnderWay (m : Model) (K : Partial) (w : Option Watch) (from : ℕ) : Type 0 where
+  pub fits : IsPartial m K
+  pub kept : IfSome w (IsKept m K)
+  pub in_range : from ≤ length (points m)
+
+-- no step was left; or the first one was taken, and the search goes on from its point
+abbrev pub IsAdvanced : Model → Partial → Partial → ℕ → ℕ → Option Giver → Type 0
+IsAdvanced m K L from on None = (L ≡ K) × AllByRecursion (GivesNothing m K) (points m)
+IsAdvanced m K L from on (Some g) = (v : Value) × IsFirstStep m K from g.point g.variable v
+    × (L ≡ give K g.variable v) × (on ≡ g.point)
 
 -- ---- the constraints, by the numbers of their points
 

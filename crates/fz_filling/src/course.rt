@@ -1,7 +1,6 @@
 //! What one filling of a model leaves to the next.
 
-ghost use Rattle.std.specs.Prelude.{◌≡◌, IfOk};
-ghost use Rattle.fz_verdict.specs.of_model.Meaning.{Model as Meaning};
+ghost use Rattle.std.specs.Prelude.{IfOk};
 ghost use Rattle.fz_filling.specs.Courses.{IsCourse};
 
 use crate::lone::are_lone;
@@ -48,16 +47,5 @@ impl Course {
             lone,
             trail: Trail { points, most },
         })
-    }
-
-    /// A course that knows nothing and stores nothing, for one block alone. It takes no memory.
-    pub fn unknown(alloc: Global) -> Course
-        ensures { (m : Meaning) → IsCourse m result }
-    {
-        let points = Vec::new(alloc);
-        Course {
-            lone: false,
-            trail: Trail { points, most: 0 },
-        }
     }
 }

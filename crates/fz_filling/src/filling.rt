@@ -1,13 +1,14 @@
 //! The chain of a filling: forced steps until no point gives one.
 
-ghost use Rattle.std.specs.Prelude.{IfSome, OnOk};
+ghost use Rattle.std.specs.Prelude.{IfOk, IfSome, OnOk};
 ghost use Rattle.fz_verdict.specs.of_model.Meaning.{IsPartial};
 ghost use Rattle.fz_verdict.specs.Filling.{Chain};
 ghost use Rattle.fz_filling.specs.Courses.{IsCourse};
+ghost use Rattle.fz_filling.specs.Givers.{AreGivers};
 
 use crate::course::Course;
 use crate::retrace::retrace;
-use crate::steps::fill_on;
+use crate::steps::{Giver, advance, fill_on};
 use fz_verdict::fz_model::{Model, Partial};
 use std::alloc::{AllocError, Global};
 
@@ -50,4 +51,24 @@ pub fn fill_in(
     }
     let course = known.insert(Course::new(alloc, model)?);
     fill_along(alloc, model, partial, course)
+}
+
+/// Fills in what follows for one block alone, and tells the steps in their order. It refuses only
+/// where memory runs out.
+pub fn fill_in_steps(
+    alloc: Global,
+    model: &Model<'_>,
+    partial: &mut Partial,
+) -> Result<Vec<Giver>, AllocError>
+    requires fits { IsPartial model.now partial.old }
+    ensures filled { IfOk result (λ v. AreGivers model.now partial.old partial.new v.items) }
+    ensures kinds { OnOk result (IsPartial model.now partial.new) }
+{
+    let mut givers = Vec::new(alloc);
+    let mut watch = None;
+    let mut from = 0;
+    while let Some(giver) = advance(alloc, model, partial, &mut watch, &mut from)? {
+        givers.push(giver)?;
+    }
+    Ok(givers)
 }

@@ -14,5 +14,6 @@ mod steps;
 mod watch;
 
 pub use course::Course;
-pub use filling::fill_in;
+pub use filling::{fill_in, fill_in_steps};
 pub use fz_verdict::{self, fz_model, fz_stream, fz_syntax};
+pub use steps::Giver;

@@ -9,7 +9,7 @@ ghost use Rattle.fz_verdict.specs.of_model.Meaning.{IsPartial, Model as Meaning,
 ghost use Rattle.fz_verdict.specs.of_model.Steps.{Gives, GivesNothing};
 ghost use Rattle.fz_verdict.specs.Filling.{Chain, IsFirstStep};
 ghost use Rattle.fz_filling.specs.Kept.{IsKept};
-ghost use Rattle.fz_filling.specs.Stepping.{IsStepAhead, NoneGives, StandBehind, is_shut};
+ghost use Rattle.fz_filling.specs.Stepping.{IsAdvanced, IsStepAhead, IsUnderWay, NoneGives, StandBehind, is_shut};
 
 use crate::course::Trail;
 use crate::outlook::{Outlook, Waiting, outlook_of};
@@ -24,6 +24,14 @@ struct Step {
     point: usize,
     variable: usize,
     value: Value,
+}
+
+/// A step that was taken: the numbers, from 0, of the variable that got a value and of the point
+/// that gave it.
+#[derive(Clone, Copy, Debug, PartialEq, Eq)]
+pub struct Giver {
+    pub variable: usize,
+    pub point: usize,
 }
 
 /// Whether there is nothing to give to a constraint's defined variable: it has none, or that has a
@@ -204,6 +212,34 @@ fn take(
     Ok(())
 }
 
+/// Takes the next step, where one is left. Once each variable has a value there is none.
+pub(crate) fn advance(
+    alloc: Global,
+    model: &Model<'_>,
+    partial: &mut Partial,
+    watch: &mut Option<Watch>,
+    from: &mut usize,
+) -> Result<Option<Giver>, AllocError>
+    requires { IsUnderWay model.now partial.old watch.old from.old }
+    ensures advanced { IfOk result
+        (IsAdvanced model.now partial.old partial.new from.old from.new) }
+    ensures under_way { OnOk result (IsUnderWay model.now partial.new watch.new from.new) }
+{
+    if partial.unset() == 0 {
+        return Ok(None);
+    }
+    let Some(step) = next_step(alloc, model, partial, watch, *from)? else {
+        return Ok(None);
+    };
+    let giver = Giver {
+        variable: step.variable,
+        point: step.point,
+    };
+    take(alloc, model, partial, watch, *from, step)?;
+    *from = giver.point;
+    Ok(Some(giver))
+}
+
 /// Fills in one step after another until none is left.
 pub(crate) fn fill_on(
     alloc: Global,
@@ -217,14 +253,8 @@ pub(crate) fn fill_on(
 {
     let mut watch = None;
     let mut from = 0;
-    'steps: while partial.unset() > 0 {
-        let Some(step) = next_step(alloc, model, partial, &mut watch, from)? else {
-            return Ok(());
-        };
-        let point = step.point;
-        trail.note(point)?;
-        take(alloc, model, partial, &mut watch, from, step)?;
-        from = point;
+    while let Some(giver) = advance(alloc, model, partial, &mut watch, &mut from)? {
+        trail.note(giver.point)?;
     }
     Ok(())
 }

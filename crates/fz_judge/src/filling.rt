@@ -1,22 +1,25 @@
 //! The filling of a block.
 
-ghost use Rattle.std.specs.Prelude.{◌≡◌, ◌-◌, IfErr, IfOk, IfSome, IsTrue, None};
+ghost use Rattle.std.specs.Prelude.{◌≡◌, ◌-◌, IfErr, IfOk, IfSome, IsTrue, None, OnOk};
 ghost use Rattle.fz_filling.specs.Courses.{IsCourse};
+ghost use Rattle.fz_filling.specs.Givers.{AreGivers};
 ghost use Rattle.fz_filling.specs.of_model.Meaning.{IsPartial, first_some};
+ghost use Rattle.fz_filling.specs.of_model.Partial.{nothing_for};
 ghost use Rattle.fz_filling.specs.of_stream.Found.{EndsWithin, HasPlaces};
 ghost use Rattle.fz_filling.specs.of_syntax.Places.{IsSpanWithin};
-ghost use Rattle.fz_filling.specs.of_verdict.Blocks.{block_fault, moved};
+ghost use Rattle.fz_filling.specs.of_verdict.Blocks.{block_fault, items_fault, moved};
+ghost use Rattle.fz_filling.specs.of_verdict.Filling.{printed_scalars, start};
 ghost use Rattle.fz_filling.specs.of_verdict.Verdict.{IsFilled, printed_fails};
 ghost use Rattle.fz_filling.specs.of_verdict.View.{located_block, located_items};
 ghost use Rattle.fz_judge.specs.Judged.{IsBlockRefusal, TellsKind, kind_told};
-ghost use Rattle.fz_judge.specs.Working.{HasRoom, IsPlacedWithin, moved_error};
+ghost use Rattle.fz_judge.specs.Working.{HasRoom, IsPlacedWithin, agree_all, moved_error};
 
 use crate::error::BlockError;
 use crate::start::{Proposed, nothing_proposed, start};
 use fz_base::Span;
 use fz_filling::fz_model::{Model, Partial};
 use fz_filling::fz_stream::Block;
-use fz_filling::{Course, fill_in};
+use fz_filling::{Course, Giver, fill_in, fill_in_steps};
 use std::alloc::Global;
 
 /// The byte range in the stream of one in a block's text.
@@ -43,6 +46,33 @@ fn moved_error(error: BlockError, offset: usize) -> BlockError
     }
 }
 
+/// The values that a block prints, in the memory of a spare proposal where there is one.
+fn started(
+    alloc: Global,
+    model: &Model<'_>,
+    block: &Block<'_>,
+    spare: Option<Box<Proposed>>,
+) -> Result<Box<Proposed>, BlockError>
+    requires room { IfSome spare (λ s. HasRoom model.now s.value.partial) }
+    ensures started { IfOk result (λ s. s.value.partial
+        ≡ start model.now (located_block block.now)) }
+    ensures clean { OnOk result (items_fault model.now
+        (located_items block.now.items.items) ≡ None) }
+    ensures kinds { IfOk result (λ s. IsPartial model.now s.value.partial) }
+    ensures agrees { IfOk result (λ s. s.value.agrees ≡ agree_all (nothing_for model.now)
+        (printed_scalars model.now (located_items block.now.items.items))) }
+    ensures only { IfErr result (λ e. TellsKind e
+        (block_fault model.now (located_block block.now))) }
+    ensures refused { IfErr result (λ e. HasPlaces block.now → EndsWithin usize.MAX block.now
+        → IsBlockRefusal model.now (located_block block.now) e) }
+{
+    let mut proposed = nothing_proposed(alloc, model, spare)?;
+    match start(alloc, model, &block.items, &mut proposed) {
+        Ok(()) => Ok(proposed),
+        Err(error) => Err(moved_error(error, block.offset)),
+    }
+}
+
 /// The filling of a block, with the propagation order of those before it, in the memory of a spare
 /// proposal where there is one. Where each name has its printed value as it is taken, each has it
 /// under the filling: no value changes any more.
@@ -66,13 +96,33 @@ pub(crate) fn filled(
         → IsBlockRefusal model.now (located_block block.now) e) }
     ensures course { IfSome course.new (IsCourse model.now) }
 {
-    let mut proposed = nothing_proposed(alloc, model, spare)?;
-    match start(alloc, model, &block.items, &mut proposed) {
-        Ok(()) => {}
-        Err(error) => return Err(moved_error(error, block.offset)),
-    }
+    let mut proposed = started(alloc, model, block, spare)?;
     fill_in(alloc, model, &mut proposed.partial, course)?;
     Ok(proposed)
+}
+
+/// The filling of a block, as `fill` gives it, and the steps that gave its values, in their order.
+///
+/// # Errors
+///
+/// The same as those of `fill`.
+pub fn fill_with_steps(
+    alloc: Global,
+    model: &Model<'_>,
+    block: &Block<'_>,
+) -> Result<(Partial, Vec<Giver>), BlockError>
+    ensures filled { IfOk result (λ f. IsFilled model.now (located_block block.now) f.0) }
+    ensures kinds { IfOk result (λ f. IsPartial model.now f.0) }
+    ensures steps { IfOk result (λ f. AreGivers model.now
+        (start model.now (located_block block.now)) f.0 f.1.items) }
+    ensures only { IfErr result (λ e. TellsKind e
+        (block_fault model.now (located_block block.now))) }
+    ensures refused { IfErr result (λ e. HasPlaces block.now → EndsWithin usize.MAX block.now
+        → IsBlockRefusal model.now (located_block block.now) e) }
+{
+    let mut proposed = started(alloc, model, block, None)?;
+    let steps = fill_in_steps(alloc, model, &mut proposed.partial)?;
+    Ok((Box::into_inner(proposed).partial, steps))
 }
 
 /// The values that follow from the printed ones by forced steps. It goes over the printed items
@@ -94,7 +144,6 @@ pub fn fill(alloc: Global, model: &Model<'_>, block: &Block<'_>) -> Result<Parti
     ensures refused { IfErr result (λ e. HasPlaces block.now → EndsWithin usize.MAX block.now
         → IsBlockRefusal model.now (located_block block.now) e) }
 {
-    let mut course = Some(Course::unknown(alloc));
-    let filling = filled(alloc, model, block, &mut course, None)?;
-    Ok(Box::into_inner(filling).partial)
+    let (filling, _) = fill_with_steps(alloc, model, block)?;
+    Ok(filling)
 }

@@ -15,7 +15,7 @@ mod values;
 mod verdict;
 
 pub use error::BlockError;
-pub use filling::fill;
+pub use filling::{fill, fill_with_steps};
 pub use fz_filling::{fz_model, fz_stream, fz_syntax, fz_verdict};
 pub use judge::Judge;
 pub use verdict::{Fault, Reason, Verdict};

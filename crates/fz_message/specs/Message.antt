@@ -58,7 +58,6 @@ origin_text (origins.Definition x line) =
     codes "by definition of " ++ string_bytes x ++ line_text line
 origin_text (origins.Constraint k x line) =
     codes "by constraint " ++ decimal k ++ codes " " ++ string_bytes x ++ line_text line
-origin_text origins.Filled = codes "filled in"
 origin_text origins.Nothing = codes "no rule gives it one; print it"
 
 abbrev pub help_text : Help → List ℕ

@@ -18,8 +18,6 @@ pub enum Origin {
     Definition(String, usize),
     /// The constraint of this number, from 1, and predicate, which is in this line.
     Constraint(usize, String, usize),
-    /// It was filled in, but no point gives it from the values of the other variables.
-    Filled,
     /// There is no value.
     Nothing,
 }
@@ -125,7 +123,6 @@ fn push_origin(text: &mut String, origin: &Origin) -> Result<(), AllocError>
             write!(text, "by constraint {number} {name}")?;
             push_line(text, *line)
         }
-        Origin::Filled => text.push_str("filled in"),
         Origin::Nothing => text.push_str("no rule gives it one; print it"),
     }
 }

@@ -73,6 +73,12 @@ pub data Chain (m : Model) : Partial → ℕ → Partial → Type 0 where
   Step : {K F : Partial} {from k n : ℕ} {v : Value} → IsFirstStep m K from k n v
       → Chain m (give K n v) k F → Chain m K from F
 
+-- the steps of a chain in order: the variable that gets a value, and the number of the point that
+-- gives it
+abbrev pub givers : {m : Model} {K F : Partial} {from : ℕ} → Chain m K from F → List (ℕ × ℕ)
+givers (Ends none) = []
+givers (Step {k = k} {n = n} first rest) = (n, k) ∷ givers rest
+
 -- the partial assignment is the filling of the block
 abbrev pub IsFilling : Model → Block → Partial → Type 0
 IsFilling m block F = Chain m (start m block) 0 F

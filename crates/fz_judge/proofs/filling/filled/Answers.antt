@@ -1,33 +1,11 @@
-use Rattle.std.proofs.Common.{◌≡◌, None, IfSome, IsSomeAnd, sym, ap, subst, arith, ◌∙◌}
-use Rattle.fz_filling.specs.of_model.Meaning.{first_some}
-use Rattle.fz_filling.specs.of_verdict.Blocks.{block_fault, items_fault}
-use Rattle.fz_filling.specs.of_verdict.Verdict.{printed_fails}
-use Rattle.fz_filling.specs.of_verdict.View.{located_block, located_items}
+use Rattle.std.proofs.Common.{ap, sym, ◌∙◌}
+use Rattle.fz_filling.specs.of_verdict.View.{located_items}
 use Rattle.fz_filling.proofs.of_verdict.Violated.{chain_grows}
 use Rattle.fz_judge.specs.declared.start.Proposed.{Proposed}
-use Rattle.fz_judge.specs.Judged.{TellsFault}
 use Rattle.fz_judge.proofs.Agreeing.{none_fails}
-use Rattle.fz_judge.proofs.Refusing.{kind_tells, moved_tells, told_within}
 use Rattle.fz_judge.proofs.filling.filled.Goals as goal
-
-pub returns-in-Err-clause-refused : goal.returns-in-Err-clause-refused
-returns-in-Err-clause-refused c places ends =
-    let m = c.args.model.now in
-    let b = c.args.block.now in
-    let told = subst (λ xs. TellsFault c.in-Err.error (items_fault m (located_items xs))) c.deref.ensures.value c.in-Err.ensures.told in
-    let is = c.moved_error.ensures.moved (told_within m b.text.now b.items.items _ c.in-Err.error (omega (arith, ends)) places told) in
-    subst (λ e. TellsFault e (block_fault m (located_block b))) (sym is) (moved_tells m (located_block b) c.in-Err.error told)
-
-pub returns-in-Err-clause-only : goal.returns-in-Err-clause-only
-returns-in-Err-clause-only c =
-    let m = c.args.model.now in
-    let b = c.args.block.now in
-    let told = subst (λ xs. TellsFault c.in-Err.error (items_fault m (located_items xs))) c.deref.ensures.value c.in-Err.ensures.told in
-    subst (λ k. IfSome k (λ j. IsSomeAnd (block_fault m (located_block b)) (λ x. x.kind ≡ j))) (sym c.moved_error.ensures.kind) (kind_tells m (located_block b) c.in-Err.error told)
 
 pub returns-clause-agrees : goal.returns-clause-agrees
 returns-clause-agrees c agrees =
-    let m = c.args.model.now in
-    let F = c.fill_in.new.partial in
-    subst (λ xs. first_some (printed_fails m F) (located_items xs) ≡ None) c.deref.ensures.value
-    (none_fails m c.deref_mut-2.result.now.partial F (located_items c.deref.result.now) c.in-Ok.ensures.clean (ap (λ (p : Proposed). p.partial) c.deref_mut-2.ensures.value ∙ c.in-Ok.ensures.started) (sym c.in-Ok.ensures.agrees ∙ sym (ap (λ (p : Proposed). p.agrees) c.deref_mut-2.ensures.value) ∙ agrees) (chain_grows m c.in_ok-fill_in.ensures.filled))
+    none_fails c.args.model.now c.deref_mut.result.now.partial c.fill_in.new.partial (located_items c.args.block.now.items.items) c.in_ok-proposed.ensures.clean (ap (λ (p : Proposed). p.partial) c.deref_mut.ensures.value ∙ c.in_ok-proposed.ensures.started)
+    (sym c.in_ok-proposed.ensures.agrees ∙ sym (ap (λ (p : Proposed). p.agrees) c.deref_mut.ensures.value) ∙ agrees) (chain_grows c.args.model.now c.in_ok-fill_in.ensures.filled)
