@@ -213,6 +213,7 @@ fn take(
 }
 
 /// Takes the next step, where one is left. Once each variable has a value there is none.
+#[inline(always)]
 pub(crate) fn advance(
     alloc: Global,
     model: &Model<'_>,

@@ -1,4 +1,4 @@
-use Rattle.std.proofs.Common.{◌≡◌, IfSome, IsSomeAnd, ap, subst, sym, arith}
+use Rattle.std.proofs.Common.{◌≡◌, IfSome, IsSomeAnd, subst, sym, arith}
 use Rattle.fz_filling.specs.of_verdict.Blocks.{block_fault, items_fault}
 use Rattle.fz_filling.specs.of_verdict.View.{located_block, located_items}
 use Rattle.fz_judge.specs.Judged.{TellsFault}
