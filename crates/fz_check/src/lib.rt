@@ -16,7 +16,9 @@ pub use checking::{check, show, show_printing_all};
 pub use error::CheckError;
 pub use fz_base::Span;
 pub use fz_streaming::Answer;
-pub use fz_streaming::fz_judge::{BlockError, Fault, Judge, Reason, Verdict, fill, fill_with_steps};
+pub use fz_streaming::fz_judge::{
+    BlockError, Fault, Judge, Reason, Verdict, fill, fill_with_steps,
+};
 pub use fz_streaming::fz_model::ModelError;
 pub use fz_streaming::fz_stream::StreamError;
 pub use fz_streaming::fz_syntax::SyntaxError;

@@ -6,7 +6,9 @@ ghost use Rattle.fz_model.specs.Meaning.{points};
 use crate::points::{push_point, push_value};
 use crate::table::{Call, look_at};
 use fz_check::{CheckError, fill_with_steps};
-use fz_explain::{Explained, Giver, Sought, Source, explain, first_point, point_place, variables_of};
+use fz_explain::{
+    Explained, Giver, Sought, Source, explain, first_point, point_place, variables_of,
+};
 use fz_model::{Model, Partial, load};
 use fz_stream::{Block, blocks};
 use fz_syntax::{Ast, parse};

@@ -169,8 +169,7 @@ fn point_explanation(
     let case = reading.case;
     let variables = variables_of(alloc, reading.model, point)?;
     let source = case.model;
-    let Some(mut message) = variables_message(alloc, reading, source, place, &variables)?
-    else {
+    let Some(mut message) = variables_message(alloc, reading, source, place, &variables)? else {
         return Ok(None);
     };
     if let Some(note) = bounds_note(alloc, reading.model, point)? {
@@ -275,8 +274,7 @@ fn objective_explanation(
     }
     let case = reading.case;
     let source = case.model;
-    let Some(mut message) = variables_message(alloc, reading, source, place, &variables)?
-    else {
+    let Some(mut message) = variables_message(alloc, reading, source, place, &variables)? else {
         return Ok(None);
     };
     let told = case.told;

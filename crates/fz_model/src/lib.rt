@@ -10,9 +10,10 @@
 #![tactic(auto)]
 
 pub use fz_eval::fz_data::{
-    Argument, Array, ConstraintParts, Constraints, Found, Goal, Hint, LoadError, Model, NO_HINT, Partial, Point,
-    PointParts, Posted, Scalar, ScalarList, Scalars, Segment, Slot, Store, Variable, What, item_at,
-    kind_of, literal_kind, literal_value, load, load_text, part, same_kind, scalar_at,
+    Argument, Array, ConstraintParts, Constraints, Found, Goal, Hint, LoadError, Model, NO_HINT,
+    Partial, Point, PointParts, Posted, Scalar, ScalarList, Scalars, Segment, Slot, Store,
+    Variable, What, item_at, kind_of, literal_kind, literal_value, load, load_text, part,
+    same_kind, scalar_at,
 };
 pub use fz_eval::{Opening, Overview, Spot, all_hold, forced, only_number, opening_of, state};
 pub use fz_meaning::{
