@@ -38,8 +38,8 @@ fn streaming_refusal(error: StreamingError) -> CheckError
 
 /// As `check_stream`, with at most `reads` reads. Where completion is on, values are searched for
 /// that the solver left out, and what is found is judged as the filling is: it makes no block
-/// violated. It can make an undecided block satisfied, and a satisfied one undecided, whose objective
-/// isn't better than one that was found for the block before.
+/// violated. It can make an undecided block satisfied, and a satisfied one undecided, where its
+/// objective isn't better than one that was found for the block before.
 ///
 /// # Errors
 ///
@@ -93,8 +93,8 @@ pub fn check_stream_up_to<R: Read, W: Write>(
         (R.remaining reader.new) (W.contents writer.old) (W.contents writer.new)
         ⊎ HoldsOfModel model.now (λ m. WritesFrontOfLines completion m (R.remaining reader.old)
         (R.remaining reader.new) (W.contents writer.old) (W.contents writer.new)) }
-    // No more bytes were read than so many reads of 4,096 bytes can bring; where there is an answer,
-    // than one read fewer can.
+    // No more bytes were read than so many reads of 4,096 bytes can bring, and where there is an
+    // answer no more than one read fewer can.
     ensures reads { SpendsReads reads 0 (R.remaining reader.old) (R.remaining reader.new) }
     ensures end_read { IfOk result
         (λ _. SpendsReads reads 1 (R.remaining reader.old) (R.remaining reader.new)) }
