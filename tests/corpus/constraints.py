@@ -111,15 +111,15 @@ def inverse(f, fo, g, go):
     return leads_back(f, g) and leads_back(g, f)
 
 
-def is_row(x, t):
-    n = len(x)
-    return any(t[i : i + n] == x for i in range(0, len(t), n))
-
-
 def has_rows(x, t):
     """So many whole rows, each as long as x, which has an element. Each argument is its term, or
     the list of its terms."""
     return len(x) > 0 and len(t) % len(x) == 0
+
+
+def is_row(x, t):
+    n = len(x)
+    return has_rows(x, t) and any(t[i : i + n] == x for i in range(0, len(t), n))
 
 
 def has_transitions(x, states, symbols, d, q, final):
@@ -128,6 +128,8 @@ def has_transitions(x, states, symbols, d, q, final):
 
 
 def regular(x, states, symbols, d, q, final):
+    if len(d) != states * symbols:
+        return False
     for v in x:
         if not (1 <= q <= states and 1 <= v <= symbols):
             return False
