@@ -4,9 +4,9 @@ crate promises", with the contracts in crates/, and the number of paths in docs/
 crates.txt.
 
 Each clause that a row names must stand at one of the row's calls, and each call must have one of
-them; where a row names none, each call must have an `ensures`. A call is looked for in the crates of
-the heading above it and in those that they stand on. In the table of premises, which has two columns,
-each call must have a `requires`. What a clause says isn't compared."""
+them; where a row names none, each call must have an `ensures`. A call is looked for in the crates
+of the heading above it and in those that they stand on. In the table of premises, which has two
+columns, each call must have a `requires`. What a clause says isn't compared."""
 import os
 import pathlib
 import re
@@ -51,7 +51,8 @@ def rows():
 
 def is_so(crates, calls, clauses):
     stated = [set().union(*(c for key, c in contracts(crates) if key == call)) for call in calls]
-    return all(found & clauses if clauses else found for found in stated) and clauses <= set().union(*stated)
+    each_has_one = all(found & clauses if clauses else found for found in stated)
+    return each_has_one and clauses <= set().union(*stated)
 
 
 def paths(crate):
@@ -63,7 +64,8 @@ def wrong():
     for crates, calls, clauses in rows():
         if not is_so(crates, calls, clauses):
             yield f"{calls}: not with the clauses {sorted(clauses)}"
-    told = re.search(r"there\s+are\s+(\d+)\s+paths", (ROOT / "docs" / "ARCHITECTURE.md").read_text())
+    architecture = (ROOT / "docs" / "ARCHITECTURE.md").read_text()
+    told = re.search(r"there\s+are\s+(\d+)\s+paths", architecture)
     if not paths("fzcheck") == int(told[1]) <= 1000:
         yield f"there are {paths('fzcheck')} paths below fzcheck"
 

@@ -99,8 +99,8 @@ fn verdict_over<'a>(
     verdict_under(alloc, model, overview, partial, agrees, block, before)
 }
 
-/// The verdict on a block that is satisfied under its filling, where its objective isn't better than
-/// one that was found for the block before.
+/// The verdict on a block that is satisfied under its filling, where its objective isn't better
+/// than one that was found for the block before.
 fn not_shown_better(fault: Fault<'_>) -> Verdict<'_>
     ensures { verdict_view result ≡ not_shown_better (fault_view fault.entry) }
 {

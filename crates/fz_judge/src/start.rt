@@ -31,7 +31,8 @@ use std::alloc::{AllocError, Global};
 pub(crate) struct Proposed {
     pub(crate) partial: Partial,
     pub(crate) agrees: bool,
-    /// for each item, by its number, the hint of its name: the next block mostly prints the same names
+    /// for each item, by its number, the hint of its name: the next block mostly prints the same
+    /// names
     pub(crate) hints: Vec<Hint>,
 }
 

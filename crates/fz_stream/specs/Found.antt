@@ -13,8 +13,8 @@ use Rattle.fz_stream.specs.Parts.{SolutionBlock, StreamPart, BlockPart, ClaimPar
 abbrev pub block_of : Block → SolutionBlock
 block_of b = record { offset = b.offset; text = b.text.now; items = bare_items b.items.items }
 
--- the block's text is cut into the tokens of its items, and each name and literal has the byte range
--- of its own tokens
+-- the block's text is cut into the tokens of its items, and each name and literal has the byte
+-- range of its own tokens
 abbrev pub HasPlaces : Block → Type 0
 HasPlaces b = ArePlacedIn b.text.now (placed_items b.items.items)
 

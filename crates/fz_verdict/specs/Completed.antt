@@ -32,7 +32,8 @@ pub data IsCompleted (m : Model) (block : Block) (before : Option ℤ) (F : Part
   -- the values of the block before may have been looked for, that is no fault of the block
   NotBetterThanFound : {now found : ℤ}
       → objective_fails m.aim before (objective m F) ≡ Some (NotBetter now found)
-      → IsCompleted m block before F Satisfied (Undecided (NotShownBetter now found)) (objective m F)
+      → IsCompleted m block before F Satisfied (Undecided (NotShownBetter now found))
+      (objective m F)
 
 -- the verdict that is reported of a block with a filling and a verdict under it: that same verdict,
 -- where no values are looked for
