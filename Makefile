@@ -40,8 +40,11 @@ test:
 	@mkdir -p build
 	cp crates/fzcheck/out/fzcheck build/fzcheck
 	tests/documents.py
+	tests/headline.py
 	tests/program.sh build/fzcheck
+	tests/as_json.py build/fzcheck
 	tests/broken/run.py build/fzcheck
+	tests/cases/run.py build/fzcheck crates/fz_hostile/out/fz_hostile
 	tests/corpus/run.py build/fzcheck tests/corpus examples
 	tests/corpus/left_out.py build/fzcheck
 	tests/hostile/run.py build/fzcheck crates/fz_hostile/out/fz_hostile

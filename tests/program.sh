@@ -25,7 +25,7 @@ expect() {
   fi
 }
 
-usage='usage: fzcheck show [--print-all] MODEL | check [--complete] [--explain] MODEL [STREAM]'
+usage='usage: fzcheck show [--print-all] MODEL | check [--complete] [--explain[=all]] [--json] MODEL [STREAM]'
 accepted=$'block 1: satisfied\naccepted: blocks 1'
 printf 'x = 1;\n----------\n' >"$folder/wrong.out"
 printf 'x = 3;\n' >"$folder/open.out"
@@ -43,6 +43,7 @@ wrong "error: unexpected argument '--fast' found" check --fast examples/first.fz
 wrong "error: unrecognized subcommand 'chekc'" chekc examples/first.fzn
 wrong "error: unexpected argument 'examples/first.out' found" show examples/first.fzn examples/first.out
 wrong "error: unexpected argument '--complete' found" show --complete examples/first.fzn
+wrong "error: unexpected argument '--json' found" show --json examples/first.fzn
 wrong "error: unexpected argument '--print-all' found" check --print-all examples/first.fzn
 wrong "$wanting" check
 wrong "$wanting" check --explain
@@ -53,7 +54,7 @@ for words in help --help -h 'help check' 'check --help' 'show -h'; do
   # shellcheck disable=SC2086
   expect "a request for help: $words" 5 "$page" "$usage" "$program" $words
 done
-for word in check show --complete --explain --print-all --version STREAM; do
+for word in check show --complete --explain --json --print-all --version STREAM; do
   expect "help names $word" 0 '' '' grep -q -- "$word" "$folder/page"
 done
 version="fzcheck $(sed -n 's/^## \([0-9][0-9.]*\).*/\1/p' CHANGELOG.md | head -1)"
@@ -68,6 +69,10 @@ expect 'a folder, shown' 6 '' $'refused: read\n'"$folder: Is a directory" "$prog
 expect 'a folder for a stream, after the model' 4 '' 'refused: model: Syntax at 13..13' "$program" check "$folder/broken.fzn" "$folder"
 expect 'a folder for a stream' 6 '' $'refused: read\n'"$folder: Is a directory" "$program" check examples/first.fzn "$folder"
 expect 'the first model' 0 "$accepted" '' "$program" check examples/first.fzn examples/first.out
+expect 'the first model, as JSON' 0 '{"block":1,"verdict":"satisfied"}
+{"answer":"accepted","blocks":1,"satisfied":1,"violated":0,"undecided":0}' '' "$program" check --json examples/first.fzn examples/first.out
+expect 'a model that is not there, as JSON' 6 '{"refused":"read"}' $'refused: read\n'"$folder/none.fzn: $none" "$program" check --json "$folder/none.fzn" examples/first.out
+expect 'a folder for a stream, as JSON' 6 '{"refused":"read"}' $'refused: read\n'"$folder: Is a directory" "$program" check --json examples/first.fzn "$folder"
 expect 'the first model, by --' 0 "$accepted" '' "$program" check -- examples/first.fzn examples/first.out
 expect 'standard input without a block' 3 'no blocks' '' "$program" check examples/first.fzn
 expect 'a violated block' 1 $'block 1: violated: constraint 1 int_le\nrejected: block 1' '' "$program" check examples/first.fzn "$folder/wrong.out"
@@ -119,6 +124,22 @@ expect 'a verdict in a stream that comes in torn pieces' 0 "$folder/deep.fzn:3:1
    3 | constraint int_le(x,5);
      |            ^^^^^^
      = x = 9, printed" '' cat "$folder/told"
+torn | "$program" check --explain=all "$folder/deep.fzn" 2>"$folder/told" >/dev/null
+expect 'each block that is not satisfied' 0 "$folder/deep.fzn:2:11: no value for y in block 1
+$folder/deep.fzn:2:11: no value for y in block 2
+$folder/deep.fzn:3:12: constraint 1 int_le fails in block 3
+$folder/deep.fzn:2:11: no value for y in block 4" '' grep -F "$folder" "$folder/told"
+# A printed value that differs, in a line far on.
+far() { awk 'BEGIN { for (i = 0; i < 300; i++) print "x = 3;\n----------"; print "x = 3;\na = array1d(1..1,[4]);\n----------" }' </dev/null; }
+printf 'var 0..9: x;\narray [1..1] of var 0..9: a :: output_array([1..1]) = [x];\nsolve satisfy;\n' >"$folder/far.fzn"
+far | "$program" check --explain "$folder/far.fzn" 2>"$folder/told" >/dev/null
+expect 'a printed value far on in a pipe' 0 '(standard input):602:1: printed a differs in block 301
+   602 | a = array1d(1..1,[4]);
+       | ^
+       = x = 3, printed' '' cat "$folder/told"
+far | "$program" check --json "$folder/far.fzn" >"$folder/lines"
+expect 'a printed value far on in a pipe, as JSON' 0 '{"block":301,"verdict":"violated","point":"printed","name":"a","line":602,"column":1}' '' \
+  grep violated.,.point "$folder/lines"
 # A line of a megabyte: what is shown of it has at most 120 columns.
 awk 'BEGIN { printf "var 0..9: x;\nconstraint int_lin_le(["; for (i = 0; i < 500000; i++) printf "1,"; print "y],[x],0);\nsolve satisfy;" }' </dev/null >"$folder/wide.fzn"
 "$program" check --explain "$folder/wide.fzn" examples/first.out 2>"$folder/told"
@@ -173,22 +194,22 @@ expect 'a large model, violated' 1 $'block 1: violated: constraint 5000 set_in\n
 expect 'a large model with an unknown constraint' 2 $'block 1: undecided: constraint 10001 my_own not known\nundecided: block 1' '' "$program" check "$folder/unknown.fzn" "$folder/large.out"
 # A block's line is written before the next block is complete.
 mkfifo "$folder/pipe"
-"$program" check examples/first.fzn <"$folder/pipe" >"$folder/lines" 2>&1 &
-exec 7>"$folder/pipe"
-printf 'x = 3;\n----------\nx = 4;\n' >&7
-for _ in $(seq 100); do
-  [ -s "$folder/lines" ] && break
-  sleep 0.1
-done
-early=$(cat "$folder/lines")
-exec 7>&-
-wait
-if [ "$early" = 'block 1: satisfied' ]; then
-  passed=$((passed + 1))
-else
-  failed=$((failed + 1))
-  echo "failed: a line is late: $early"
-fi
+early() {
+  local line=$1
+  shift
+  "$program" check "$@" examples/first.fzn <"$folder/pipe" >"$folder/lines" 2>&1 &
+  exec 7>"$folder/pipe"
+  printf 'x = 3;\n----------\nx = 4;\n' >&7
+  for _ in $(seq 100); do
+    [ -s "$folder/lines" ] && break
+    sleep 0.1
+  done
+  expect "an early line: $line" 0 "$line" '' cat "$folder/lines"
+  exec 7>&-
+  wait
+}
+early 'block 1: satisfied'
+early '{"block":1,"verdict":"satisfied"}' --json
 
 echo "$passed passed, $failed failed"
 [ "$failed" -eq 0 ]

@@ -3,12 +3,13 @@
 
 The program makes one call on what files hold, and makes it once more on the same operands where
 it found no memory. So with one growth refused it tells that memory ran out at most once, and
-around that what it tells with ample memory. The calls are made on the cases of cases.txt, on the
-examples and on pairs of sets.
+around that what it tells with ample memory. The calls are made on worked cases of tests/cases and
+tests/broken, on the examples and on pairs of sets.
 
 A reader that gives single bytes or fails, a writer that fails and a splitter that is full follow.
 The last line is 'N passed, M failed'."""
 import itertools
+import json
 import os
 import re
 import sys
@@ -19,9 +20,12 @@ from multiprocessing import Pool
 
 import running
 from beside import IMPROVING_MODEL, IMPROVING_REPORT, IMPROVING_STREAM, content, examples
-from running import FOLDER, HERE, Tally
+from running import FOLDER, ROOT, Tally
 
-CASES = os.path.join(HERE, "cases.txt")
+TESTS = os.path.join(ROOT, "tests")
+sys.path.insert(0, os.path.join(TESTS, "cases"))
+import tables
+
 NOT_MADE = 7, b"", b""  # the operands found no memory, or can't be had at all: the call wasn't made
 MEMORY = re.compile(rb"^Err\((?:Memory|AllocError)\)\n", re.MULTILINE)
 FAILED = b"Err(Failed)\nfalse\nErr(Failed)\nErr(Failed)\n"  # `feed`, `waiting`, `take`, `finish`
@@ -50,13 +54,13 @@ ARRAY = b"x = array2d(1..2,{1,2},[1,{3,1},true,1..4]); y = -1..2;"
 ITEMS = (b"x = 3;", b"x = 3", b"x = 1.5;", ARRAY * 9)
 NAMES = (
     "range list union intersect minus symdiff copy copy_value ranges lex parse to_text read_items "
-    "load new_partial state forced blocks feed take finish fill judge check report_text show "
-    "show_printing_all refusal_text check_stream check_stream_up_to"
+    "load load_text new_partial state forced blocks feed take fill fill_with_steps judge "
+    "check report_text show show_printing_all refusal_text check_stream check_stream_up_to"
 ).split()
 SET_CALLS = "make union intersect minus symdiff copy copy_value ranges".split()
 ENOUGH = "none"  # it was wanted once more, and given
-IN_MODELS = ("load", "new_partial", "points")
-OVER_BLOCKS = ("fill", "judge", "points")
+IN_MODELS = ("load", "load_text", "new_partial", "points")
+OVER_BLOCKS = ("fill", "fill_with_steps", "judge", "points")
 
 
 @dataclass
@@ -78,7 +82,7 @@ class Call:
         front, rest = parts
         behind = ample.removeprefix(front)
         if self.name == "split" and rest == FAILED and ample.startswith(front):
-            return "finish" if behind.startswith(b'"finished"') else "feed"
+            return None if behind.startswith(b'"finished"') else "feed"
         if self.kind == "live":  # all is written again
             return self.name if rest == ample and ample.startswith(front) else None
         return self.name_before(rest) if front + rest == ample else None
@@ -97,20 +101,18 @@ class Call:
 
 
 def models():
-    """Each model of the cases with its streams."""
-    with open(CASES) as f:
-        text = f.read()
-    for case in text.split("\n\n")[1:]:
-        model, streams = "", []
-        for line in case.rstrip("\n").split("\n"):
-            is_stream = line.startswith("> ")
-            line = line.removeprefix("> ").replace(" / ", "\n") + "\n"
-            line = line.removesuffix("\\\n")
-            if is_stream:
-                streams.append(line.encode())
-            else:
-                model += line
-        yield model.encode(), streams
+    """Each model of the worked cases with its streams, and those whose names have a fault."""
+    streams = {}
+    for name in ("reports.txt", "completed.txt", "shown.txt"):
+        for command, text, stream, _ in tables.blocks(name):
+            of_text = streams.setdefault(text.encode("latin-1"), [])
+            if "STREAM" in command:
+                of_text.append(stream.encode("latin-1"))
+    with open(os.path.join(TESTS, "broken", "by_hand.txt")) as f:
+        for line in f:
+            if "\tnames\t" in line:
+                streams[json.loads(line.split("\t")[4]).encode()] = []
+    return streams.items()
 
 
 def of_model(model):
@@ -263,7 +265,7 @@ def devices():
             yield live(improving, ANY, ANY, room, fails), IMPROVING_REPORT[:room] + write
     yield live(improving, ANY, ANY, len(IMPROVING_REPORT), 1), IMPROVING_REPORT + accepted
     full = Call("stream", "split", (b"x" * (MOST_BYTES + 1),), (str(MOST_BYTES),))
-    yield full, b"%d\nfalse\n()\nErr(TooLong)\n" % MOST_BYTES + FAILED
+    yield full, b"%d\nfalse\nfalse\n()\nErr(TooLong)\n" % MOST_BYTES + FAILED
 
 
 def device(program, call, want):

@@ -1,9 +1,13 @@
-"""Reads and writes that fail, each in turn and after each number of bytes.
+"""Reads and writes that fail, each in turn and after each number of bytes, and when lines are
+written.
 
 A failed read is `refused: read` and what the system says of the file, with the lines of all parts
 that ended before it; a failed write, or one that takes nothing, is `refused: write`, with what was
 taken before. Both end with status 6."""
 import itertools
+import os
+import select
+import subprocess
 import tempfile
 
 from beside import (
@@ -15,7 +19,7 @@ from beside import (
     content,
     examples,
 )
-from running import FOLDER, Tally, run
+from running import FOLDER, MOST_SECONDS, READ_SIZE, Tally, run
 
 WRITE = 6, b"refused: write\n"
 INPUT = "(standard input)"
@@ -63,15 +67,66 @@ def failing_reads(words):
 def failing_writes(words):
     """The writer takes k bytes of the report and then fails, or takes nothing."""
     tally = Tally()
-    size = len(IMPROVING_REPORT)
+    report = run(words, IMPROVING_STREAM).out
+    size = len(report)
     for k in range(size + 1):
         for more in ({}, {"REFUSE_NOTHING": "1"}, {"REFUSE_PIECE": "1"}):
             limits = {"REFUSE_WRITE": "1", "REFUSE_BYTES": str(k)} | more
             ran = run(words, IMPROVING_STREAM, limits)
-            refused = WRITE[0], IMPROVING_REPORT[:k], WRITE[1]
-            want = refused if k < size else (0, IMPROVING_REPORT, b"")
+            refused = WRITE[0], report[:k], WRITE[1]
+            want = refused if k < size else (0, report, b"")
             tally.expect(f"a writer of {k} bytes, {more}", ran.answer, want)
     return tally
+
+
+def known_lines(words):
+    """The lines on the parts that have ended are written before more is read, however the stream is
+    cut, and the lines on one read at once."""
+    tally = Tally()
+    size = len(IMPROVING_STREAM)
+    pipes = {"stdin": subprocess.PIPE, "stdout": subprocess.PIPE, "bufsize": 0}
+    for piece in range(1, size + 1):
+        with subprocess.Popen(words, **pipes) as process:
+            for at in range(0, size, piece):
+                process.stdin.write(IMPROVING_STREAM[at : at + piece])
+                want = written_of(at + piece).removeprefix(written_of(at))
+                got = soon(process.stdout) if want else b""
+                if not tally.expect(f"pieces of {piece} bytes, {at} read", got, want):
+                    process.kill()
+                    return tally
+            process.stdin.close()
+            tally.expect(f"pieces of {piece} bytes, the answer", soon(process.stdout), LINES[-1])
+    return tally
+
+
+def soon(pipe):
+    """What one read gives of what is written."""
+    ready, _, _ = select.select([pipe], [], [], MOST_SECONDS)
+    return os.read(pipe.fileno(), READ_SIZE) if ready else b"too late"
+
+
+def number_of_writes(program):
+    """The lines on one read are one write, with the answer's line where no read follows. Lines as
+    long as names of so many bytes don't all wait for the next read."""
+    tally = Tally()
+    refused = IMPROVING_STREAM[:36] + b"d = 1;\n----------\n"
+    cases = [(IMPROVING_MODEL, IMPROVING_STREAM, 2), (IMPROVING_MODEL, IMPROVING_STREAM[:17], 1)]
+    cases.append((IMPROVING_MODEL, refused, 1))
+    for length, writes in ((1_000, 2), (30_000, 3), (70_000, 5)):
+        named = b"var 0..9: " + b"n" * length + b";\nsolve satisfy;\n"
+        cases.append((named, b"----------\n" * 4, writes))
+    for text, stream, writes in cases:
+        with tempfile.NamedTemporaryFile(dir=FOLDER) as model:
+            model.write(text)
+            model.flush()
+            words = [program, "check", model.name]
+            met = [bool(run(words, stream, {"REFUSE_WRITE": str(n)}).met) for n in (writes, writes + 1)]
+        tally.expect(f"{writes} writes on {stream} and a model of {len(text)}", met, [True, False])
+    return tally
+
+
+def failing_writes_of_json(words):
+    return failing_writes([*words, "--json"])
 
 
 def each_read(program, name, model, stream):
@@ -102,6 +157,9 @@ def each_byte_shown(program, name, model):
 def jobs(program):
     yield improving, (program, failing_reads)
     yield improving, (program, failing_writes)
+    yield improving, (program, known_lines)
+    yield number_of_writes, (program,)
+    yield improving, (program, failing_writes_of_json)
     for name, model, stream in examples():
         yield each_read, (program, name, model, stream)
         yield each_byte_shown, (program, name, model)

@@ -36,12 +36,14 @@ def closed(program):
     alone = [program, "check", FIRST_MODEL]
     missing = [program, "check", FIRST_MODEL + ".none"]
     show = [program, "show", FIRST_MODEL]
+    as_json = [program, "check", "--json", FIRST_MODEL, FIRST_STREAM]
     for name, script, words, want in (
         ("standard input, which is wanted", '"$@" <&-', alone, unread(INPUT, "Bad file descriptor")),
         ("standard input, which isn't wanted", '"$@" <&-', both, ACCEPTED),
         ("standard input, and show", '"$@" <&-', show, (0, content(FIRST_MODEL), b"")),
         ("standard output", '"$@" >&-', both, WRITE),
         ("standard output, and show", '"$@" >&-', show, WRITE),
+        ("standard output, and JSON", '"$@" >&-', as_json, WRITE),
         ("standard output and input", '"$@" >&- <&-', both, WRITE),
         ("standard error", '"$@" 2>&-', missing, (6, b"", b"")),
         ("all three", '"$@" <&- >&- 2>&-', both, (6, b"", b"")),
@@ -52,8 +54,9 @@ def closed(program):
 
 def full(program):
     tally = Tally()
-    words = [program, "check", FIRST_MODEL, FIRST_STREAM]
-    tally.expect("/dev/full", in_shell('"$@" >/dev/full', *words).answer, WRITE)
+    for form in (), ("--json",):
+        words = [program, "check", *form, FIRST_MODEL, FIRST_STREAM]
+        tally.expect(f"/dev/full {form}", in_shell('"$@" >/dev/full', *words).answer, WRITE)
     shown = in_shell('"$@" >/dev/full', program, "show", FIRST_MODEL)
     tally.expect("/dev/full, and show", shown.answer, WRITE)
     refused = in_shell('"$@" 2>/dev/full', program, "check", FIRST_MODEL + ".none")
@@ -65,12 +68,13 @@ def no_reader(program):
     """A pipe that nobody reads is a write that fails: the program isn't ended by the signal of
     it."""
     tally = Tally()
-    for words in ("check", FIRST_MODEL, FIRST_STREAM), ("show", FIRST_MODEL):
+    check = "check", FIRST_MODEL, FIRST_STREAM
+    for words in check, (*check, "--json"), ("show", FIRST_MODEL):
         source, to = os.pipe()
         os.close(source)
         ran = run([program, *words], stdout=to)
         os.close(to)
-        tally.expect(f"a pipe without reader, {words[0]}", ran.answer, WRITE)
+        tally.expect(f"a pipe without reader, {words}", ran.answer, WRITE)
     return tally
 
 

@@ -101,6 +101,8 @@ def models():
     yield "an element too many", listed, one_more, 32
     yield "a number too many", Filled(b"constraint p({", b"1,", most, b"1});\n" + SOLVE), one_more
     yield "a set", Filled(b"constraint p({", b"1,", most - 1, b"1});\n" + SOLVE), NOTHING
+    arguments = Filled(b"constraint p(", b"1,", most, b"1);\n" + SOLVE)
+    yield "arguments without a limit", arguments, NOTHING, 45
     yield "lists", to_length(b"", b"constraint p([1,2,3,4,5,6,7,8,9]);\n", SOLVE), NOTHING
     yield "truths", to_length(b"", b"constraint p(true,false);\n", SOLVE), NOTHING
     yield "bytes of no text", to_length(b"", b"\0", b""), refused("model", "BadByte", 0, 1)

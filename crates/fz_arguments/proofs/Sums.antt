@@ -8,9 +8,11 @@ use Rattle.fz_base.specs.declared.value.Value.TheVariants.{Int, Bool as Truth, S
 use Rattle.fz_meaning.specs.declared.kind.Kind.{Kind}
 use Rattle.fz_meaning.specs.declared.kind.Kind.TheVariants.{Int as IntKind}
 use Rattle.fz_meaning.specs.declared.term.Term.{Term}
-use Rattle.fz_meaning.specs.Builtins.{Shape, products, fits_128, sums_from, leaves_128, with_bool}
+use Rattle.fz_meaning.specs.Builtins.{Shape, with_bool}
+use Rattle.fz_meaning.specs.Relations.{products}
+use Rattle.fz_meaning.specs.States.{fits_128, sums_from, leaves_128, known_products, product_before, products_leave, terms_at_argument}
 use Rattle.fz_meaning.specs.Builtins.Shape.{ArrayOf}
-use Rattle.fz_meaning.specs.Meaning.{Argument, Partial, value, as_int, number_at, known_products, product_before, products_leave, terms_at_argument, has_shape, have_shapes}
+use Rattle.fz_meaning.specs.Meaning.{Argument, Partial, value, as_int, number_at, has_shape, have_shapes}
 use Rattle.fz_meaning.proofs.Values.{no, and_both, and_first, and_second}
 use Rattle.fz_arguments.specs.Given.{int_in, ints_of, read_leave, slots_at}
 use Rattle.fz_arguments.proofs.Ready.{slots_are_terms}

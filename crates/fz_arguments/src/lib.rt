@@ -2,7 +2,7 @@
 //! scalars and the elements of arrays, read as integers, Booleans and sets, and whether all of them
 //! can be read as the constraint's row asks. An internal crate of `fz_model`.
 //!
-//! Its worked cases are in `fz_check_cases` (`builtins.rt` and `globals.rt`, through `state`).
+//! Its worked cases are in `tests/cases` (`builtins.txt`).
 #![tactic(auto)]
 
 mod elements;

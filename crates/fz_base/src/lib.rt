@@ -5,7 +5,7 @@
 //! numbers, so `1..1000000000` takes no more memory than `1..100`. A set has no limit but memory.
 //! Calls that make a set take an allocator and refuse only where memory runs out; calls that ask
 //! something of a set take no memory and always succeed.
-//! Its worked cases are in `fz_text_cases`.
+//! Its worked cases are in `tests/cases` (`calls.txt`).
 #![tactic(auto)]
 
 mod bits;

@@ -2,12 +2,11 @@
 
 ghost use Rattle.std.specs.Prelude.{◌≡◌, not, ◌&&◌, ◌||◌, length, int_le, IfOk};
 ghost use Rattle.std.specs.List.{list_all, list_any, filter};
-ghost use Rattle.fz_meaning.specs.Values.{◌=ℤ◌, ◌=ᴮ◌, ◌=ˢ◌};
-ghost use Rattle.fz_meaning.specs.Builtins.{all_different, is_among, is_element, is_odd, total, where_true};
+ghost use Rattle.fz_meaning.specs.Relations.{◌=ℤ◌, ◌=ᴮ◌, ◌=ˢ◌, all_different, is_among, is_element, is_odd, total, where_true};
 ghost use Rattle.fz_builtins.specs.Readings.{int, ints, numbers, sets_of, truth, truths};
 
 use fz_globals::fz_kernel::arrays::{
-    all_elements_different, all_true, any_true, clause_holds, is_bool_element, is_int_element,
+    all_elements_different, all_true, any_false, any_true, is_bool_element, is_int_element,
     is_maximum, is_minimum, is_set_element, odd_number_true, sum_where_true,
 };
 use fz_globals::fz_kernel::fz_arguments::ArgumentView;
@@ -79,7 +78,7 @@ pub(crate) fn bool_clause(view: &ArgumentView<'_, '_>) -> bool
     ensures { result ≡ (list_any (λ x. x) (truths view.now 0)
         || list_any (λ x. not x) (truths view.now 1)) }
 {
-    clause_holds(&view.elements(0), &view.elements(1))
+    any_true(&view.elements(0)) || any_false(&view.elements(1))
 }
 
 /// Whether the sum of the numbers whose Booleans are true is the third argument.

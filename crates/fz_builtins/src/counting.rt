@@ -2,9 +2,7 @@
 
 ghost use Rattle.std.specs.Prelude.{◌≡◌, not, pos, length, int_le, int_lt, IfOk};
 ghost use Rattle.std.specs.List.{list_any, filter};
-ghost use Rattle.fz_meaning.specs.Values.{◌=ℤ◌, ◌=ᴮ◌};
-ghost use Rattle.fz_meaning.specs.Builtins.{all_different, is_among};
-ghost use Rattle.fz_meaning.specs.Globals.{count_of, count_in, values_of, is_nonzero};
+ghost use Rattle.fz_meaning.specs.Relations.{◌=ℤ◌, ◌=ᴮ◌, all_different, is_among, count_of, count_in, values_of, is_nonzero};
 ghost use Rattle.fz_builtins.specs.Readings.{int, ints, numbers, truth, truths};
 
 use fz_globals::counts;

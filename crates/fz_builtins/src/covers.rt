@@ -1,7 +1,7 @@
 //! The rows that count the values of a cover (`fzn_global_cardinality` and the like).
 
 ghost use Rattle.std.specs.Prelude.{◌≡◌, ◌&&◌, IfOk};
-ghost use Rattle.fz_meaning.specs.Globals.{counts_are, counts_lie, is_closed};
+ghost use Rattle.fz_meaning.specs.Relations.{counts_are, counts_lie, is_closed};
 ghost use Rattle.fz_builtins.specs.Readings.{ints};
 
 use fz_globals::cover::{counts_are, counts_lie, is_closed};

@@ -1,7 +1,7 @@
 //! The rows of sets and arrays.
 
 ghost use Rattle.std.specs.Prelude.{◌≡◌, IfOk};
-ghost use Rattle.fz_meaning.specs.Globals.{is_flagged, are_disjoint, is_partition, are_channelled};
+ghost use Rattle.fz_meaning.specs.Relations.{is_flagged, are_disjoint, is_partition, are_channelled};
 ghost use Rattle.fz_builtins.specs.Readings.{int, ints, numbers, sets_of, truths};
 
 use fz_globals::channels::are_channelled;

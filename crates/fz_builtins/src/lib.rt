@@ -3,7 +3,7 @@
 //! arguments, and asks `fz_kernel`, `fz_globals` or `fz_scheduling` for the relation. An internal
 //! crate of `fz_model`.
 //!
-//! Its worked cases are in `fz_check_cases` (`builtins.rt` and `globals.rt`).
+//! Its worked cases are in `tests/cases` (`builtins.txt`).
 #![tactic(auto)]
 
 mod arrays;

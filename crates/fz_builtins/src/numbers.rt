@@ -2,12 +2,12 @@
 
 ghost use Rattle.std.specs.Prelude.{◌≡◌, pos, ◌+ℤ◌, ◌*ℤ◌, not, ◌&&◌, int_le, int_lt, int_div, int_rem, unsigned_abs};
 ghost use Rattle.std.specs.Int.{int_min, int_max};
-ghost use Rattle.fz_meaning.specs.Values.{◌=ℤ◌};
+ghost use Rattle.fz_meaning.specs.Relations.{◌=ℤ◌};
 ghost use Rattle.fz_builtins.specs.Readings.{int};
 
 use fz_globals::fz_kernel::fz_arguments::ArgumentView;
 use fz_globals::fz_kernel::numbers::{
-    is_absolute, is_greatest, is_least, is_product, is_quotient, is_remainder, is_sum,
+    absolute, greatest, least, product, quotient, remainder, sum,
 };
 
 /// Whether the numbers are equal.
@@ -42,35 +42,35 @@ pub(crate) fn int_lt(view: &ArgumentView<'_, '_>) -> bool
 pub(crate) fn int_plus(view: &ArgumentView<'_, '_>) -> bool
     ensures { result ≡ (int view.now 2 =ℤ (int view.now 0 +ℤ int view.now 1)) }
 {
-    is_sum(view.int(0), view.int(1), view.int(2))
+    i128::from(view.int(2)) == sum(view.int(0), view.int(1))
 }
 
 /// Whether the third number is the product of the others.
 pub(crate) fn int_times(view: &ArgumentView<'_, '_>) -> bool
     ensures { result ≡ (int view.now 2 =ℤ (int view.now 0 *ℤ int view.now 1)) }
 {
-    is_product(view.int(0), view.int(1), view.int(2))
+    i128::from(view.int(2)) == product(view.int(0), view.int(1))
 }
 
 /// Whether the third number is the lesser of the others.
 pub(crate) fn int_min(view: &ArgumentView<'_, '_>) -> bool
     ensures { result ≡ (int view.now 2 =ℤ int_min (int view.now 0) (int view.now 1)) }
 {
-    is_least(view.int(0), view.int(1), view.int(2))
+    view.int(2) == least(view.int(0), view.int(1))
 }
 
 /// Whether the third number is the greater of the others.
 pub(crate) fn int_max(view: &ArgumentView<'_, '_>) -> bool
     ensures { result ≡ (int view.now 2 =ℤ int_max (int view.now 0) (int view.now 1)) }
 {
-    is_greatest(view.int(0), view.int(1), view.int(2))
+    view.int(2) == greatest(view.int(0), view.int(1))
 }
 
 /// Whether the second number is the absolute value of the first.
 pub(crate) fn int_abs(view: &ArgumentView<'_, '_>) -> bool
     ensures { result ≡ (int view.now 1 =ℤ pos (unsigned_abs (int view.now 0))) }
 {
-    is_absolute(view.int(0), view.int(1))
+    i128::from(view.int(1)) == absolute(view.int(0))
 }
 
 /// Whether the third number is the quotient of the others.
@@ -78,7 +78,10 @@ pub(crate) fn int_div(view: &ArgumentView<'_, '_>) -> bool
     ensures { result ≡ (not (int view.now 1 =ℤ pos 0)
         && (int view.now 2 =ℤ int_div (int view.now 0) (int view.now 1))) }
 {
-    is_quotient(view.int(0), view.int(1), view.int(2))
+    match quotient(view.int(0), view.int(1)) {
+        Some(quotient) => i128::from(view.int(2)) == quotient,
+        None => false,
+    }
 }
 
 /// Whether the third number is the remainder of the others.
@@ -86,5 +89,8 @@ pub(crate) fn int_mod(view: &ArgumentView<'_, '_>) -> bool
     ensures { result ≡ (not (int view.now 1 =ℤ pos 0)
         && (int view.now 2 =ℤ int_rem (int view.now 0) (int view.now 1))) }
 {
-    is_remainder(view.int(0), view.int(1), view.int(2))
+    match remainder(view.int(0), view.int(1)) {
+        Some(remainder) => i128::from(view.int(2)) == remainder,
+        None => false,
+    }
 }

@@ -1,8 +1,7 @@
 //! The rows of order.
 
 ghost use Rattle.std.specs.Prelude.{◌≡◌, not, pos, int_le, int_lt, ◌&&◌, ◌||◌, IfOk};
-ghost use Rattle.fz_meaning.specs.Values.{◌=ℤ◌, ◌=ᴮ◌};
-ghost use Rattle.fz_meaning.specs.Globals.{all_neighbours, is_sorted_form, is_before, precedes, rises_by_one};
+ghost use Rattle.fz_meaning.specs.Relations.{◌=ℤ◌, ◌=ᴮ◌, all_neighbours, is_sorted_form, is_before, precedes, rises_by_one};
 ghost use Rattle.fz_builtins.specs.Readings.{int, ints, truths};
 
 use fz_globals::fz_kernel::fz_arguments::ArgumentView;
@@ -11,9 +10,7 @@ use fz_globals::order::{
     truths_decrease, truths_increase,
 };
 use fz_globals::precedence::{precede_in_chain, precedes, rises_by_one};
-use fz_scheduling::lexical::{
-    bools_are_before, bools_are_not_behind, ints_are_before, ints_are_not_behind,
-};
+use fz_scheduling::lexical::{bools_are_before, ints_are_before};
 use std::alloc::{AllocError, Global};
 
 /// Whether all elements are equal.
@@ -76,7 +73,7 @@ pub(crate) fn lex_less_int(view: &ArgumentView<'_, '_>) -> bool
 pub(crate) fn lex_lesseq_int(view: &ArgumentView<'_, '_>) -> bool
     ensures { result ≡ not (is_before int_lt ◌=ℤ◌ (ints view.now 1) (ints view.now 0)) }
 {
-    ints_are_not_behind(&view.elements(0), &view.elements(1))
+    !ints_are_before(&view.elements(1), &view.elements(0))
 }
 
 /// Whether the first list comes before the second, where false comes before true.
@@ -91,7 +88,7 @@ pub(crate) fn lex_lesseq_bool(view: &ArgumentView<'_, '_>) -> bool
     ensures { result ≡ not (is_before (λ x y. not x && y) ◌=ᴮ◌ (truths view.now 1)
         (truths view.now 0)) }
 {
-    bools_are_not_behind(&view.elements(0), &view.elements(1))
+    !bools_are_before(&view.elements(1), &view.elements(0))
 }
 
 /// Whether the second value comes only after an element that is the first one.

@@ -1,7 +1,7 @@
 //! The outcome of a row.
 
 ghost use Rattle.std.specs.Prelude.{◌≡◌, not, ◌||◌};
-ghost use Rattle.fz_meaning.specs.Values.{◌=ᴮ◌};
+ghost use Rattle.fz_meaning.specs.Relations.{◌=ᴮ◌};
 ghost use Rattle.fz_builtins.specs.Outcomes.{compared, implied_by, told};
 
 use fz_meaning::State;

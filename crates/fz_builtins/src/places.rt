@@ -1,8 +1,7 @@
 //! The rows of lists of successors, of tables and of automata.
 
 ghost use Rattle.std.specs.Prelude.{◌≡◌, int_le, IfOk};
-ghost use Rattle.fz_meaning.specs.Values.{◌=ℤ◌, ◌=ᴮ◌};
-ghost use Rattle.fz_meaning.specs.Globals.{as_places, is_circuit, is_subcircuit, are_inverse, is_row_of, is_word, is_index_of_best};
+ghost use Rattle.fz_meaning.specs.Relations.{◌=ℤ◌, ◌=ᴮ◌, as_places, is_circuit, is_subcircuit, are_inverse, is_row_of, is_word, is_index_of_best};
 ghost use Rattle.fz_builtins.specs.Readings.{int, ints, numbers, truths};
 
 use fz_globals::best_index::{is_index_of_maximum, is_index_of_minimum};

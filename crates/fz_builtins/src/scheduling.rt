@@ -2,7 +2,7 @@
 
 ghost use Rattle.std.specs.Prelude.{◌≡◌, pos, length, int_le, ◌&&◌, ◌+ℤ◌, ◌-ℤ◌};
 ghost use Rattle.std.specs.List.{list_all, zip};
-ghost use Rattle.fz_meaning.specs.Globals.{is_cumulative, is_disjunctive, is_strictly_disjunctive, boxes, overlap_nowhere, overlap_in_no_area, load_of, lies_between, loads_are, slides_between};
+ghost use Rattle.fz_meaning.specs.Relations.{is_cumulative, is_disjunctive, is_strictly_disjunctive, boxes, overlap_nowhere, overlap_in_no_area, load_of, lies_between, loads_are, slides_between};
 ghost use Rattle.fz_builtins.specs.Readings.{int, ints};
 
 use fz_globals::fz_kernel::fz_arguments::ArgumentView;

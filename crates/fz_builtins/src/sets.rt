@@ -3,12 +3,12 @@
 ghost use Rattle.std.specs.Prelude.{◌≡◌, pos, not};
 ghost use Rattle.std.specs.FinSet as sets;
 ghost use Rattle.fz_base.specs.Sets.{symmetric_difference};
-ghost use Rattle.fz_meaning.specs.Values.{◌=ℤ◌, ◌=ˢ◌};
+ghost use Rattle.fz_meaning.specs.Relations.{◌=ℤ◌, ◌=ˢ◌};
 ghost use Rattle.fz_builtins.specs.Readings.{int, numbers};
 
 use fz_globals::fz_kernel::fz_arguments::ArgumentView;
 use fz_globals::fz_kernel::sets::{
-    has_cardinality, is_difference, is_intersection, is_symmetric_difference, is_union, same_set,
+    is_difference, is_intersection, is_symmetric_difference, is_union, same_set,
 };
 
 /// Whether the number is in the set.
@@ -82,5 +82,5 @@ pub(crate) fn set_symdiff(view: &ArgumentView<'_, '_>) -> bool
 pub(crate) fn set_card(view: &ArgumentView<'_, '_>) -> bool
     ensures { result ≡ (int view.now 1 =ℤ pos (sets.len (numbers view.now 0))) }
 {
-    has_cardinality(view.set(0), view.int(1))
+    i128::from(view.int(1)) == view.set(0).len() as i128
 }

@@ -1,9 +1,8 @@
 //! The rows whose products are added in 128 bits.
 
 ghost use Rattle.std.specs.Prelude.{◌≡◌, ◌||◌, int_le, not};
-ghost use Rattle.fz_meaning.specs.Values.{◌=ℤ◌};
-ghost use Rattle.fz_meaning.specs.Builtins.{leaves_128, products, total};
-ghost use Rattle.fz_meaning.specs.Globals.{is_knapsack};
+ghost use Rattle.fz_meaning.specs.Relations.{◌=ℤ◌, products, total, is_knapsack};
+ghost use Rattle.fz_meaning.specs.States.{leaves_128};
 ghost use Rattle.fz_builtins.specs.Outcomes.{sum_outcome};
 ghost use Rattle.fz_builtins.specs.Readings.{int, ints};
 

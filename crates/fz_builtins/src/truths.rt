@@ -1,8 +1,7 @@
 //! The rows over Booleans.
 
 ghost use Rattle.std.specs.Prelude.{◌≡◌, not, ◌&&◌, ◌||◌};
-ghost use Rattle.fz_meaning.specs.Values.{◌=ℤ◌, ◌=ᴮ◌};
-ghost use Rattle.fz_meaning.specs.Builtins.{as_number};
+ghost use Rattle.fz_meaning.specs.Relations.{◌=ℤ◌, ◌=ᴮ◌, as_number};
 ghost use Rattle.fz_builtins.specs.Readings.{int, truth};
 
 use fz_globals::fz_kernel::fz_arguments::ArgumentView;

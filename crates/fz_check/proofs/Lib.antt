@@ -1,8 +1,11 @@
-pub mod FirstNumbers
-pub mod Judging
-pub mod Accepting
-pub mod Reporting
-pub mod ReportLines
+mod Rows
+pub mod Appending
+pub mod WritingLemmas
+pub mod EventLemmas
+pub mod JuryLemmas
+pub mod ReaderLemmas
+pub mod ReportLemmas
+pub mod StreamingLemmas
+pub mod PassingLemmas
 pub mod Refusals
-pub mod OverLemmas
 pub mod Showing

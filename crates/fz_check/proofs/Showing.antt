@@ -1,16 +1,16 @@
 -- What is shown of a model.
 use Rattle.std.proofs.Common.{◌≡◌, ◌∙◌, ℕ, List, sym, ap, subst}
-use Rattle.fz_streaming.specs.of_syntax.Limits.{LexesWithNumbersInLimit}
-use Rattle.fz_streaming.specs.of_syntax.Print.{CanBeWritten, tree_text}
-use Rattle.fz_streaming.specs.of_syntax.Text.{IsTextOfTree}
-use Rattle.fz_streaming.specs.of_syntax.Tokens.{toks}
-use Rattle.fz_streaming.specs.of_syntax.View.{bare}
-use Rattle.fz_streaming.specs.of_syntax.declared.Ast as the_ast
-use Rattle.fz_streaming.proofs.of_syntax.PrintBack.{read_can_be_written}
-use Rattle.fz_streaming.specs.of_model.Names.{HasNoFault}
-use Rattle.fz_streaming.specs.of_model.Located.{bare_of}
-use Rattle.fz_streaming.specs.of_model.View.{located}
-use Rattle.fz_streaming.proofs.of_model.Places.{located_is_bare}
+use Rattle.fz_judge.specs.of_syntax.AnyLength.{LexesWithNumbersInLimit}
+use Rattle.fz_judge.specs.of_syntax.Print.{CanBeWritten, tree_text}
+use Rattle.fz_judge.specs.of_syntax.Text.{IsTextOfTree}
+use Rattle.fz_judge.specs.of_syntax.Tokens.{toks}
+use Rattle.fz_judge.specs.of_syntax.View.{bare}
+use Rattle.fz_judge.specs.of_syntax.declared.Ast as the_ast
+use Rattle.fz_judge.proofs.of_syntax.PrintBack.{read_can_be_written}
+use Rattle.fz_judge.specs.of_model.Names.{HasNoFault}
+use Rattle.fz_judge.specs.of_model.Located.{bare_of}
+use Rattle.fz_judge.specs.of_model.View.{located}
+use Rattle.fz_judge.proofs.of_model.Places.{located_is_bare}
 use Rattle.fz_outputs.specs.Outputs.{with_all_printed}
 use Rattle.fz_outputs.proofs.Tokens.{can_be_written}
 use Rattle.fz_outputs.proofs.Same.{same_model}

@@ -1,12 +1,18 @@
 -- What an accepted stream has (this project's profile).
-use Rattle.std.specs.Prelude.{◌≡◌, ℕ, ◌≤◌, List, length, map}
-use Rattle.fz_streaming.specs.of_syntax.Text.{IsTextOfTree}
-use Rattle.fz_streaming.specs.of_stream.Parts.{StreamPart, IsStreamText}
-use Rattle.fz_streaming.specs.of_stream.Found.{blocks_in}
-use Rattle.fz_streaming.specs.of_model.Located.{LocatedTree, bare_of}
-use Rattle.fz_streaming.specs.of_model.Names.{HasNoFault}
-use Rattle.fz_streaming.specs.of_verdict.Blocks.{Block, bare_of_block}
-use Rattle.fz_streaming.specs.of_verdict.Headline.{HaveSolutions}
+use Rattle.std.specs.Prelude.{◌≡◌, ℕ, ◌≤◌, List, length, map, Option}
+use Rattle.fz_judge.specs.of_syntax.Text.{IsTextOfTree}
+use Rattle.fz_judge.specs.of_stream.Parts.{StreamPart, IsStreamText, blocks_in}
+use Rattle.fz_judge.specs.of_model.Located.{LocatedTree, bare_of}
+use Rattle.fz_judge.specs.of_model.Names.{HasNoFault}
+use Rattle.fz_judge.specs.of_verdict.Solutions.{Block, bare_of_block, HaveSolutions}
+use Rattle.std.specs.Io.KnownBytes.{Consumes, IsAtEnd}
+
+-- The reader gave these bytes up to its end, and this holds of them.
+pub record HoldsOfStream (left left' : Option (List ℕ)) (Holds : List ℕ → Type 0) : Type 0 where
+  pub given : List ℕ
+  pub reads : Consumes left left' given
+  pub end : IsAtEnd left'
+  pub holds : Holds given
 
 -- The model's bytes are a text of a tree without faults; the stream's bytes are a text of parts, of
 -- which `count` are blocks, at least one; and for these blocks there are assignments, one per

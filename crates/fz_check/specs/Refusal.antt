@@ -1,18 +1,19 @@
 -- The line and the byte range of a refusal, and the program's exit status (this project's profile).
 use Rattle.std.specs.Prelude.{ℕ, List, ◌++◌, Option, Some, None, Result, Ok, Err, codes, decimal}
 use Rattle.fz_base.specs.declared.span.Span.{Span}
-use Rattle.fz_streaming.specs.of_syntax.SyntaxError.{SyntaxError}
-use Rattle.fz_streaming.specs.of_syntax.SyntaxError.TheVariants as syntax
-use Rattle.fz_streaming.specs.of_model.declared.ModelError.{ModelError}
-use Rattle.fz_streaming.specs.of_model.declared.ModelError.TheVariants as model
-use Rattle.fz_streaming.specs.of_stream.declared.error.StreamError.{StreamError}
-use Rattle.fz_streaming.specs.of_stream.declared.error.StreamError.TheVariants as stream
-use Rattle.fz_streaming.specs.of_judge.declared.error.BlockError.{BlockError}
-use Rattle.fz_streaming.specs.of_judge.declared.error.BlockError.TheVariants as block
+use Rattle.fz_judge.specs.of_syntax.SyntaxError.{SyntaxError}
+use Rattle.fz_judge.specs.of_syntax.SyntaxError.TheVariants as syntax
+use Rattle.fz_judge.specs.of_model.declared.ModelError.{ModelError}
+use Rattle.fz_judge.specs.of_model.declared.ModelError.TheVariants as model
+use Rattle.fz_judge.specs.of_stream.declared.error.StreamError.{StreamError}
+use Rattle.fz_judge.specs.of_stream.declared.error.StreamError.TheVariants as stream
+use Rattle.fz_judge.specs.declared.error.BlockError.{BlockError}
+use Rattle.fz_judge.specs.declared.error.BlockError.TheVariants as block
 use Rattle.fz_check.specs.declared.error.CheckError.{CheckError}
 use Rattle.fz_check.specs.declared.error.CheckError.TheVariants as errors
-use Rattle.fz_streaming.specs.declared.line.Answer.{Answer}
-use Rattle.fz_streaming.specs.declared.line.Answer.TheVariants as answers
+use Rattle.fz_check.specs.declared.refusal.Told.{Told}
+use Rattle.fz_check.specs.declared.tally.Answer.{Answer}
+use Rattle.fz_check.specs.declared.tally.Answer.TheVariants as answers
 
 -- the name of a fault, and its byte range where it has one
 pub record Named : Type 0 where
@@ -77,15 +78,15 @@ refusal errors.Write = codes "write"
 abbrev pub refusal_line : CheckError → List ℕ
 refusal_line e = codes "refused: " ++ refusal e ++ codes "\n"
 
--- the byte range of the fault, where it has one: in the model's text, or in the whole stream
-abbrev pub refusal_place : CheckError → Option Span
-refusal_place (errors.Model e) = (syntax_fault e).place
-refusal_place (errors.Names e) = (model_fault e).place
-refusal_place (errors.Stream e) = (stream_fault e).place
-refusal_place (errors.Block number e) = (block_fault e).place
-refusal_place errors.Memory = None
-refusal_place errors.Read = None
-refusal_place errors.Write = None
+-- the fault, where it has one, with its byte range in the model's text or in the whole stream
+abbrev pub refusal_fault : CheckError → Option Named
+refusal_fault (errors.Model e) = Some (syntax_fault e)
+refusal_fault (errors.Names e) = Some (model_fault e)
+refusal_fault (errors.Stream e) = Some (stream_fault e)
+refusal_fault (errors.Block number e) = Some (block_fault e)
+refusal_fault errors.Memory = None
+refusal_fault errors.Read = None
+refusal_fault errors.Write = None
 
 -- the program's exit status
 abbrev pub status_of : Result Answer CheckError → ℕ
@@ -97,3 +98,7 @@ status_of (Err errors.Read) = 6
 status_of (Err errors.Write) = 6
 status_of (Err errors.Memory) = 7
 status_of (Err _) = 4
+
+-- the name and the byte range of a fault, as the code has them
+abbrev pub named : Told → Named
+named t = record { name = t.name.now; place = t.place }

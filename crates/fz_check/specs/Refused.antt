@@ -1,29 +1,32 @@
 -- What holds where a check is refused (this project's profile).
-use Rattle.std.specs.Prelude.{◌≡◌, ◌≢◌, ◌↔◌, ℕ, ◌+◌, ◌<◌, ◌≤◌, List, ◌∷◌, ◌++◌, length, None}
+use Rattle.std.specs.Prelude.{◌≡◌, ◌≢◌, ◌↔◌, ℕ, ◌+◌, ◌<◌, ◌≤◌, List, ◌∷◌, ◌++◌, length, map, None, ⊤}
 use Rattle.std.specs.List.{AllByRecursion}
-use Rattle.fz_streaming.specs.of_syntax.Limits.{most_bytes}
-use Rattle.fz_streaming.specs.of_syntax.Places.{IsPlacedWithin}
-use Rattle.fz_streaming.specs.of_syntax.SyntaxError.{SyntaxError}
-use Rattle.fz_streaming.specs.of_syntax.SyntaxError.TheVariants.{TooLong as TextTooLong, Memory as TextMemory}
-use Rattle.fz_streaming.specs.of_syntax.Text.{IsTextOfTree, IsRefusalOf}
-use Rattle.fz_streaming.specs.of_syntax.Tree.{Tree}
-use Rattle.fz_streaming.specs.of_stream.Broken.{StopsAfter}
-use Rattle.fz_streaming.specs.of_stream.Faults.{IsStreamFault}
-use Rattle.fz_streaming.specs.of_stream.Parts.{StreamPart, IsStreamText}
-use Rattle.fz_streaming.specs.of_stream.declared.block.Block as the_block
-use Rattle.fz_streaming.specs.of_stream.declared.error.StreamError.{StreamError}
-use Rattle.fz_streaming.specs.of_stream.declared.error.StreamError.TheVariants as stream
-use Rattle.fz_streaming.specs.of_model.Meaning.{Model}
-use Rattle.fz_streaming.specs.of_model.Names.{model_of}
-use Rattle.fz_streaming.specs.of_model.Texts.{IsNameFault}
-use Rattle.fz_streaming.specs.of_model.declared.ModelError.{ModelError}
-use Rattle.fz_streaming.specs.of_model.declared.ModelError.TheVariants.{Memory as NameMemory}
-use Rattle.fz_streaming.specs.of_verdict.Blocks.{block_fault}
-use Rattle.fz_streaming.specs.of_verdict.View.{located_block}
-use Rattle.fz_streaming.specs.of_judge.Judged.{IsBlockRefusal}
-use Rattle.fz_streaming.specs.of_judge.declared.error.BlockError.{BlockError}
-use Rattle.fz_streaming.specs.of_judge.declared.error.BlockError.TheVariants.{Memory as BlockMemory}
-use Rattle.fz_check.specs.Reported.{Checked}
+use Rattle.fz_judge.specs.of_syntax.Lexing.{most_bytes}
+use Rattle.fz_judge.specs.of_syntax.Places.{IsPlacedWithin}
+use Rattle.fz_judge.specs.of_syntax.SyntaxError.{SyntaxError}
+use Rattle.fz_judge.specs.of_syntax.SyntaxError.TheVariants.{TooLong as TextTooLong, Memory as TextMemory}
+use Rattle.fz_judge.specs.of_syntax.Text.{IsTextOfTree}
+use Rattle.fz_judge.specs.of_syntax.Refusals.{IsRefusalOf}
+use Rattle.fz_judge.specs.of_syntax.Tree.{Tree}
+use Rattle.fz_judge.specs.of_stream.Broken.{StopsAfter}
+use Rattle.fz_judge.specs.of_stream.Faults.{IsStreamFault}
+use Rattle.fz_judge.specs.of_stream.Found.{HasPlaces, block_of}
+use Rattle.fz_judge.specs.of_stream.Parts.{blocks_in, StreamPart, IsStreamText}
+use Rattle.fz_judge.specs.of_stream.declared.block.Block as the_block
+use Rattle.fz_judge.specs.of_stream.declared.error.StreamError.{StreamError}
+use Rattle.fz_judge.specs.of_stream.declared.error.StreamError.TheVariants as stream
+use Rattle.fz_judge.specs.of_model.Meaning.{Model}
+use Rattle.fz_judge.specs.of_model.Texts.{IsNameFault}
+use Rattle.fz_judge.specs.of_model.declared.ModelError.{ModelError}
+use Rattle.fz_judge.specs.of_model.declared.ModelError.TheVariants.{Memory as NameMemory}
+use Rattle.fz_judge.specs.of_verdict.BlockFaults.{block_fault}
+use Rattle.fz_judge.specs.of_verdict.View.{located_block}
+use Rattle.fz_judge.specs.Judged.{IsBlockRefusal}
+use Rattle.fz_judge.specs.declared.error.BlockError.{BlockError}
+use Rattle.fz_judge.specs.declared.error.BlockError.TheVariants.{Memory as BlockMemory}
+use Rattle.fz_check.specs.declared.error.CheckError.{CheckError}
+use Rattle.fz_check.specs.declared.error.CheckError.TheVariants as errors
+use Rattle.fz_check.specs.Reported.{HoldsOfModel}
 
 -- The model's bytes are not a text of any tree. The fault is `TooLong` exactly where they are too
 -- many. It comes in the order of faults, one of the lexer before one of the grammar, and its byte
@@ -68,9 +71,29 @@ pub record IsFirstFault (m : Model) (blocks : List the_block.Block) (number : �
   pub tells : IsBlockRefusal m (located_block block) e
   pub not_memory : e ≢ BlockMemory
 
--- The stream's bytes are not too many. Of its blocks, the one with this number is the first that
--- doesn't fit the tree's model, and this is its first fault.
-pub record HasBlockFault (model stream : List ℕ) (number : ℕ) (e : BlockError) : Type 0 where
+-- The stream's bytes are not too many, and a text of parts. Of their blocks, with the byte ranges of
+-- names and literals, the one with this number is the first that doesn't fit the model, and this is
+-- its first fault.
+pub record HasBlockFault (m : Model) (stream : List ℕ) (number : ℕ) (e : BlockError) : Type 0 where
   pub short : length stream ≤ most_bytes
-  pub checked : Checked model stream
-  pub first : IsFirstFault (model_of checked.tree) checked.blocks number e
+  pub parts : List StreamPart
+  pub text_of_stream : IsStreamText stream parts
+  pub blocks : List the_block.Block
+  pub blocks_are : map block_of blocks ≡ blocks_in parts
+  pub places : AllByRecursion HasPlaces blocks
+  pub first : IsFirstFault m blocks number e
+
+-- the refusals of a model's text: of its bytes, and of its names; or memory ran out
+abbrev pub IsModelRefusal : List ℕ → CheckError → Type 0
+IsModelRefusal model (errors.Model e) = HasTextFault model e
+IsModelRefusal model (errors.Names e) = HasNameFault model e
+IsModelRefusal model errors.Memory = ⊤
+IsModelRefusal model _ = ⊥
+
+-- and those of a stream that is read whole, where the model has no fault: first of the stream, then
+-- of its blocks
+abbrev pub IsRefusal : List ℕ → List ℕ → CheckError → Type 0
+IsRefusal model stream (errors.Stream e) = HoldsOfModel model (λ _. HasStreamFault stream e)
+IsRefusal model stream (errors.Block n e) =
+    HoldsOfModel model (λ m. HasBlockFault m stream n e)
+IsRefusal model stream e = IsModelRefusal model e

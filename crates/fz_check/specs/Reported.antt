@@ -1,35 +1,25 @@
 -- What holds of a report (this project's profile).
 use Rattle.std.specs.Prelude.{◌≡◌, ℕ, suc, ℤ, List, map, Some}
-use Rattle.std.specs.List.{AllByRecursion, slice_get}
-use Rattle.fz_streaming.specs.of_syntax.Text.{IsTextOfTree}
-use Rattle.fz_streaming.specs.of_stream.Parts.{StreamPart, IsStreamText}
-use Rattle.fz_streaming.specs.of_stream.Found.{HasPlaces, block_of, blocks_in}
-use Rattle.fz_streaming.specs.of_stream.declared.block.Block as the_block
-use Rattle.fz_streaming.specs.of_model.Located.{LocatedTree, bare_of}
-use Rattle.fz_streaming.specs.of_model.Meaning.{Model, Assignment, IsSolution, IsKnownSolution}
-use Rattle.fz_streaming.specs.of_model.Names.{HasNoFault, model_of}
-use Rattle.fz_streaming.specs.of_verdict.declared.completion.Completion.{Completion}
-use Rattle.fz_streaming.specs.of_verdict.Blocks.{Block, Extends}
-use Rattle.fz_streaming.specs.of_verdict.Headline.{Improves}
-use Rattle.fz_streaming.specs.of_verdict.Report.{Report, IsReport}
-use Rattle.fz_streaming.specs.of_verdict.Verdict.{Verdict, Fault}
-use Rattle.fz_streaming.specs.of_verdict.View.{located_block}
-use Rattle.fz_streaming.specs.of_verdict.Verdict.Verdict.{Satisfied, Violated}
-use Rattle.fz_streaming.specs.of_verdict.Verdict.Fault.{NotBetter}
-use Rattle.fz_streaming.specs.Streaming.{HaveVerdicts}
+use Rattle.std.specs.List.{slice_get}
+use Rattle.fz_judge.specs.of_model.Located.{LocatedTree}
+use Rattle.fz_judge.specs.of_model.Meaning.{Model, Assignment, IsSolution}
+use Rattle.fz_judge.specs.of_model.States.{IsKnownSolution}
+use Rattle.fz_judge.specs.of_model.Names.{HasNoFault, model_of}
+use Rattle.fz_judge.specs.of_model.Texts.{IsLoadedFrom}
+use Rattle.fz_judge.specs.of_stream.Parts.{StreamPart}
+use Rattle.fz_judge.specs.of_verdict.declared.completion.Completion.{Completion}
+use Rattle.fz_judge.specs.of_verdict.Solutions.{Block, Extends, Improves}
+use Rattle.fz_judge.specs.of_verdict.Verdict.{Answer, Verdict, Fault}
+use Rattle.fz_judge.specs.of_verdict.View.{located_block}
+use Rattle.fz_judge.specs.of_verdict.Verdict.Verdict.{Satisfied, Violated}
+use Rattle.fz_judge.specs.of_verdict.Verdict.Fault.{NotBetter}
+use Rattle.fz_check.specs.Report.{Event, HaveVerdicts, IsReport}
 
--- What is checked against what: the model's bytes are a text of a tree without faults, and the
--- stream's bytes are a text of parts, of which these are the blocks, with the byte ranges of their
--- names and literals.
-pub record Checked (model stream : List ℕ) : Type 0 where
-  pub tree : LocatedTree
-  pub text_of_model : IsTextOfTree model (bare_of tree)
-  pub no_fault : HasNoFault tree
-  pub parts : List StreamPart
-  pub text_of_stream : IsStreamText stream parts
-  pub blocks : List the_block.Block
-  pub blocks_are : map block_of blocks ≡ blocks_in parts
-  pub places : AllByRecursion HasPlaces blocks
+-- The model's bytes are a text of a tree without faults, and this holds of its model.
+pub record HoldsOfModel (model : List ℕ) (Holds : Model → Type 0) : Type 0 where
+  pub m : Model
+  pub loaded : IsLoadedFrom model m
+  pub holds : Holds m
 
 -- ---- what the verdicts of a report say of solutions
 
@@ -63,13 +53,12 @@ pub record AreBorneOut (m : Model) (blocks : List Block) (verdicts : List Verdic
       → (j : ℕ) × (earlier : Block) × (i ≡ suc j) × (slice_get blocks j ≡ Some earlier)
       × NoneImproves m earlier block
 
--- The report is that of the tree's model on the parts, with a search for values that were left out
--- or without one, and its verdicts are borne out.
-pub record HasReport (c : Completion) (model stream : List ℕ) (r : Report) : Type 0 where
-  pub checked : Checked model stream
-  pub is_report : IsReport c (model_of checked.tree)
-      (map located_block checked.blocks) checked.parts r
-  pub borne_out : AreBorneOut (model_of checked.tree) (map located_block checked.blocks) r.verdicts
+-- The events are the report of the tree's model on the stream, with a search for values that were
+-- left out or without one, and its verdicts are borne out.
+abbrev pub HasReport : Completion → List ℕ → List ℕ → List Event → Answer → Type 0
+HasReport c model stream events answer = HoldsOfModel model
+    (λ m. (r : IsReport c m stream events answer)
+    × AreBorneOut m (map located_block r.have_verdicts.blocks) r.verdicts)
 
 -- The verdicts of lines that were written are borne out, also where the stream is refused behind
 -- them.

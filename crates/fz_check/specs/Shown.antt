@@ -1,11 +1,11 @@
 -- What `show` gives of a model (this project's profile).
 use Rattle.std.specs.Prelude.{◌≡◌, ℕ, List}
-use Rattle.fz_streaming.specs.of_syntax.Limits.{LexesWithNumbersInLimit}
-use Rattle.fz_streaming.specs.of_syntax.Print.{tree_text}
-use Rattle.fz_streaming.specs.of_syntax.Text.{IsTextOfTree}
-use Rattle.fz_streaming.specs.of_syntax.Tokens.{toks}
-use Rattle.fz_streaming.specs.of_model.Located.{LocatedTree, bare_of}
-use Rattle.fz_streaming.specs.of_model.Names.{HasNoFault, model_of}
+use Rattle.fz_judge.specs.of_syntax.AnyLength.{LexesWithNumbersInLimit}
+use Rattle.fz_judge.specs.of_syntax.Print.{tree_text}
+use Rattle.fz_judge.specs.of_syntax.Text.{IsTextOfTree}
+use Rattle.fz_judge.specs.of_syntax.Tokens.{toks}
+use Rattle.fz_judge.specs.of_model.Located.{LocatedTree, bare_of}
+use Rattle.fz_judge.specs.of_model.Names.{HasNoFault, model_of}
 use Rattle.fz_outputs.specs.Outputs.{with_all_printed}
 
 -- The model's bytes are a text of a tree without faults, and what is shown is that tree's canonical

@@ -1,7 +1,170 @@
--- The name and the byte range of a fault, as the code has them. Private functions alone cite this
--- file, and a reader need not believe it.
-use Rattle.fz_check.specs.declared.refusal.Told.{Told}
-use Rattle.fz_check.specs.Refusal.{Named}
+-- What is judged and told while the parts of a stream come. Private functions alone cite this file,
+-- and a reader need not believe it.
+use Rattle.std.specs.Prelude.{◌≡◌, ◌≢◌, ℕ, suc, ◌+◌, ◌*◌, ◌≤◌, List, [], ◌∷◌, ◌++◌, length, map, Option, None, ⊤, ◌⊎◌}
+use Rattle.std.specs.List.{AllByRecursion}
+use Rattle.std.specs.Io.KnownBytes.{Appends, Consumes, IsAtEnd}
+use Rattle.fz_judge.specs.of_model.Meaning.{Model}
+use Rattle.fz_judge.specs.of_stream.declared.block.Block as the_block
+use Rattle.fz_judge.specs.of_stream.declared.error.StreamError.{StreamError}
+use Rattle.fz_judge.specs.of_stream.declared.error.StreamError.TheVariants as stream
+use Rattle.fz_judge.specs.of_stream.declared.error.StreamError.TheVariants.{Memory as StreamMemory}
+use Rattle.fz_judge.specs.of_stream.Faults.{IsStreamFault}
+use Rattle.fz_judge.specs.of_stream.Found.{EndsWithin, HasPlaces, block_of}
+use Rattle.fz_judge.specs.of_stream.Parts.{blocks_in, StreamPart, BlockPart, Frame}
+use Rattle.fz_judge.specs.of_verdict.Solutions.{Block}
+use Rattle.fz_judge.specs.of_verdict.View.{located_block}
+use Rattle.fz_judge.specs.of_verdict.declared.completion.Completion.{Completion}
+use Rattle.fz_judge.specs.of_verdict.Completed.{AreTold, AreVerdicts}
+use Rattle.fz_judge.specs.of_verdict.Verdict.{Answer, Verdict, first_number, is_undecided, is_violated}
+use Rattle.fz_judge.specs.declared.error.BlockError.{BlockError}
+use Rattle.fz_judge.specs.declared.error.BlockError.TheVariants.{Memory}
+use Rattle.fz_judge.specs.Judged.{IsBlockRefusal}
+use Rattle.fz_check.specs.declared.error.CheckError.{CheckError}
+use Rattle.fz_check.specs.declared.error.CheckError.TheVariants as errors
+use Rattle.fz_check.specs.declared.jury.Jury.{Jury}
+use Rattle.fz_check.specs.declared.tally.Tally.{Tally}
+use Rattle.fz_check.specs.Report.{Event, HaveVerdicts, IsReport, events_of, text_of}
+use Rattle.fz_check.specs.Reading.{HasNext, IsRefusedAfter, ReaderState, StandsAt, piece_size}
+use Rattle.fz_check.specs.Streaming.{AreLast, EndInside, IsStopped}
+use Rattle.fz_check.specs.Writing.{WritesFront}
 
-abbrev pub named : Told → Named
-named t = record { name = t.name.now; place = t.place }
+-- out of memory is told as such, and any other fault as one of the stream
+abbrev pub stream_refusal : StreamError → CheckError
+stream_refusal stream.Memory = errors.Memory
+stream_refusal e = errors.Stream e
+
+-- the numbers are those of blocks with these verdicts
+pub record Tallies (t : Tally) (verdicts : List Verdict) : Type 0 where
+  pub blocks : t.blocks ≡ length verdicts
+  pub violated : t.violated ≡ first_number 1 is_violated verdicts
+  pub undecided : t.undecided ≡ first_number 1 is_undecided verdicts
+
+-- The blocks were judged with these verdicts, and counted. What is judged from here on goes on from
+-- them.
+pub record HasJudged (c : Completion) (m : Model) (j : Jury) (blocks : List Block)
+    (verdicts : List Verdict) : Type 0 where
+  pub same_model : j.judge.model ≡ m
+  pub same_completion : j.judge.completion ≡ c
+  pub goes_on : (more : List Block) (ws : List Verdict)
+      → AreTold c m j.judge.before j.judge.found more ws
+      → AreVerdicts c m (blocks ++ more) (verdicts ++ ws)
+  pub tallies : Tallies j.tally verdicts
+
+-- no block was judged
+pub record IsFresh (j : Jury) : Type 0 where
+  pub before : j.judge.before ≡ None
+  pub found : j.judge.found ≡ None
+  pub tally : j.tally ≡ record { blocks = 0; violated = None; undecided = None }
+
+-- one more block was judged, whatever was judged before
+abbrev pub JudgesOneMore : Jury → Jury → Block → Verdict → Type 0
+JudgesOneMore j j' block v =
+    (c : Completion) (m : Model) (blocks : List Block) (verdicts : List Verdict)
+    → HasJudged c m j blocks verdicts → HasJudged c m j' (blocks ++ block ∷ []) (verdicts ++ v ∷ [])
+
+-- the next block is refused, with its number, or memory ran out; the block is one that ends within
+-- so many bytes
+abbrev pub IsUnjudged : ℕ → Jury → the_block.Block → CheckError → Type 0
+IsUnjudged most j block (errors.Block n e) = (n ≡ suc j.tally.blocks) × (e ≢ Memory)
+    × (HasPlaces block → EndsWithin most block
+    → IsBlockRefusal j.judge.model (located_block block) e)
+IsUnjudged most j block errors.Memory = ⊤
+IsUnjudged most j block _ = ⊥
+
+-- The blocks among the parts were judged with these verdicts.
+pub record HasTold (c : Completion) (m : Model) (j : Jury) (parts : List StreamPart)
+    (verdicts : List Verdict) : Type 0 where
+  pub blocks : List the_block.Block
+  pub blocks_are : map block_of blocks ≡ blocks_in parts
+  pub places : AllByRecursion HasPlaces blocks
+  pub judged : HasJudged c m j (map located_block blocks) verdicts
+
+-- One more part was told, by this line.
+pub record TellsOneMore (text : Event → List ℕ) (c : Completion) (m : Model) (j : Jury)
+    (parts : List StreamPart) (verdicts : List Verdict) (part : StreamPart)
+    (line : List ℕ) : Type 0 where
+  pub more : List Verdict
+  pub told : HasTold c m j (parts ++ part ∷ []) more
+  pub lines : text_of text (events_of 0 more (parts ++ part ∷ []))
+      ≡ text_of text (events_of 0 verdicts parts) ++ line
+
+-- The part is a block, which has the number and this fault.
+pub record RefusesPart (m : Model) (parts : List StreamPart) (part : StreamPart) (number : ℕ)
+    (e : BlockError) : Type 0 where
+  pub block : the_block.Block
+  pub places : HasPlaces block
+  pub part_is : part ≡ BlockPart (block_of block)
+  pub number_is : number ≡ suc (length (blocks_in parts))
+  pub not_memory : e ≢ Memory
+  pub refused : IsBlockRefusal m (located_block block) e
+
+-- that is why the next part is not told, or memory ran out
+abbrev pub IsUntold : Model → List StreamPart → StreamPart → CheckError → Type 0
+IsUntold m parts part (errors.Block n e) = RefusesPart m parts part n e
+IsUntold m parts part errors.Memory = ⊤
+IsUntold m parts part _ = ⊥
+
+-- the stream is refused behind these parts of the bytes that were given, or memory ran out
+abbrev pub IsUnread : Option (List ℕ) → List ℕ → List StreamPart → CheckError → Type 0
+IsUnread left given parts (errors.Stream e) =
+    IsStreamFault e × (e ≢ StreamMemory) × IsRefusedAfter left given parts e
+IsUnread left given parts errors.Memory = ⊤
+IsUnread left given parts _ = ⊥
+
+-- Where a frame waits behind parts that were told, it is read as a part, which is told too.
+abbrev pub TellsNext : (Event → List ℕ) → ReaderState → Jury → Jury → List ℕ → Type 0
+TellsNext text s j j' line =
+    (c : Completion) (m : Model) (left : Option (List ℕ)) (given : List ℕ) (parts : List StreamPart)
+    (frame : Frame) (verdicts : List Verdict) → HasNext s left given parts frame
+    → HasTold c m j parts verdicts
+    → (part : StreamPart) × StandsAt s left given (parts ++ part ∷ [])
+    × TellsOneMore text c m j' parts verdicts part line
+
+-- there it can't be read, or is read and not told
+abbrev pub LeavesNext : ReaderState → Jury → CheckError → Type 0
+LeavesNext s j e =
+    (c : Completion) (m : Model) (left : Option (List ℕ)) (given : List ℕ) (parts : List StreamPart)
+    (frame : Frame) (verdicts : List Verdict) → HasNext s left given parts frame
+    → HasTold c m j parts verdicts → IsUnread left given parts e
+    ⊎ ((part : StreamPart) × StandsAt s left given (parts ++ part ∷ []) × IsUntold m parts part e)
+
+-- a failed write, or out of memory
+abbrev pub IsUnwritten : CheckError → Type 0
+IsUnwritten errors.Write = ⊤
+IsUnwritten errors.Memory = ⊤
+IsUnwritten _ = ⊥
+
+-- How a check stands that has told of these parts, whether it goes on or not: these bytes were read,
+-- in at most so many reads, and once a front of the lines that wait is written, it is one of all.
+pub record Stands (text : Event → List ℕ) (c : Completion) (m : Model) (reads : ℕ)
+    (left left' written written' : Option (List ℕ)) (lines : List ℕ) : Type 0 where
+  pub given : List ℕ
+  pub consumes : Consumes left left' given
+  pub few : length given ≤ reads * piece_size
+  pub parts : List StreamPart
+  pub end_inside : EndInside left' given parts
+  pub verdicts : List Verdict
+  pub have_verdicts : HaveVerdicts c m parts verdicts
+  pub last : List Event
+  pub are_last : AreLast left' given parts verdicts last
+  pub front : (next : Option (List ℕ)) → WritesFront written' next lines
+      → WritesFront written next (text_of text (events_of 0 verdicts parts ++ last))
+
+-- the check ends with this error, once all of the lines that wait are written
+abbrev pub StopsOnceWritten : (Event → List ℕ) → Completion → Model → Option (List ℕ)
+    → Option (List ℕ) → Option (List ℕ) → Option (List ℕ) → List ℕ → CheckError → Type 0
+StopsOnceWritten text c m left left' written written' lines e = (next : Option (List ℕ))
+    → Appends written' next lines → IsStopped text c m left left' written next e
+
+-- and the answer is the report's, which is written then
+pub record AnswersOnceWritten (text : Event → List ℕ) (c : Completion) (m : Model) (reads : ℕ)
+    (left left' written written' : Option (List ℕ)) (lines : List ℕ)
+    (answer : Answer) : Type 0 where
+  pub given : List ℕ
+  pub consumes : Consumes left left' given
+  pub end : IsAtEnd left'
+  pub few : length given + piece_size ≤ reads * piece_size
+  pub events : List Event
+  pub report : IsReport c m given events answer
+  pub writes : (next : Option (List ℕ)) → Appends written' next lines
+      → Appends written next (text_of text events)

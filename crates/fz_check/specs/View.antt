@@ -1,13 +1,31 @@
--- The report, as defined, that a `Report` of the code stands for.
-use Rattle.std.specs.Prelude.{map}
-use Rattle.fz_streaming.specs.of_verdict.Report as report
-use Rattle.fz_streaming.specs.of_judge.View.{verdict_view}
+-- What the code tells and answers, as definitions have it.
+use Rattle.std.specs.Prelude.{List, [], ◌∷◌, ◌++◌, map}
+use Rattle.fz_judge.specs.of_verdict.Verdict as plain
+use Rattle.fz_judge.specs.View.{verdict_view}
+use Rattle.fz_check.specs.declared.tally.Answer.{Answer}
+use Rattle.fz_check.specs.declared.tally.Answer.TheVariants as answers
+use Rattle.fz_check.specs.declared.event.Event as the_event
+use Rattle.fz_check.specs.declared.event.Event.TheVariants as events
 use Rattle.fz_check.specs.declared.report.Report.{Report}
-use Rattle.fz_streaming.specs.View.{answer_view}
+use Rattle.fz_check.specs.declared.report.Entry.{Entry}
+use Rattle.fz_check.specs.declared.report.Entry.TheVariants as entries
+use Rattle.fz_check.specs.Report.{Event}
+use Rattle.fz_check.specs.Report.Event.{Judged, Claimed, Answered}
 
-abbrev pub report_view : Report → report.Report
-report_view r = record {
-  verdicts = map verdict_view r.verdicts.items;
-  claims = r.claims.items;
-  answer = answer_view r.answer;
-}
+abbrev pub answer_view : Answer → plain.Answer
+answer_view (answers.Accepted n) = plain.Answer.Accepted n
+answer_view (answers.Rejected n) = plain.Answer.Rejected n
+answer_view (answers.Undecided n) = plain.Answer.UndecidedAt n
+answer_view answers.NoBlocks = plain.Answer.NoBlocks
+
+abbrev pub event_view : the_event.Event → Event
+event_view (events.Block j) = Judged j.number (verdict_view j.verdict)
+event_view (events.Claim k) = Claimed k
+event_view (events.Answer a) = Answered (answer_view a)
+
+abbrev pub entry_view : Entry → Event
+entry_view (entries.Block n v) = Judged n (verdict_view v)
+entry_view (entries.Claim k) = Claimed k
+
+abbrev pub report_view : Report → List Event
+report_view r = map entry_view r.entries.items ++ Answered (answer_view r.answer) ∷ []

@@ -1,132 +1,55 @@
 //! The check of a stream that is read whole, and the canonical text of a model.
 
-ghost use Rattle.std.specs.Prelude.{◌≡◌, ◌≢◌, ◌≤◌, ℕ, length, map, vec_len, IfOk, IfErr, Err};
+ghost use Rattle.std.specs.Prelude.{◌≡◌, ◌≤◌, ℕ, List, length, map, IfOk, IfErr};
 ghost use Rattle.std.specs.List.{AllByRecursion};
-ghost use Rattle.fz_streaming.specs.of_syntax.SyntaxError.{SyntaxError as SyntaxFault};
-ghost use Rattle.fz_streaming.specs.of_syntax.Offering.{IsTextOfAll, items_of_tree};
-ghost use Rattle.fz_streaming.specs.of_syntax.Limits.{most_bytes};
-ghost use Rattle.fz_streaming.specs.of_model.declared.ModelError.{ModelError as NameFault};
-ghost use Rattle.fz_streaming.specs.of_model.declared.ModelError.TheVariants.{Memory as NameMemory};
-ghost use Rattle.fz_streaming.specs.of_model.Names.{HasNoFault, IsInReadingOrder, model_of};
-ghost use Rattle.fz_streaming.specs.of_model.Texts.{IsLoadedFrom};
-ghost use Rattle.fz_streaming.specs.of_model.View.{TellsFirstFault, located};
-ghost use Rattle.fz_streaming.specs.of_stream.declared.error.StreamError.{StreamError as StreamFault};
-ghost use Rattle.fz_streaming.specs.of_stream.Found.{AreInOrder, EndsWithin, HasPlaces, IsReadAs, block_of};
-ghost use Rattle.fz_streaming.specs.of_verdict.Completed.{AreVerdicts};
-ghost use Rattle.fz_streaming.specs.of_verdict.View.{located_block};
-ghost use Rattle.fz_streaming.specs.of_judge.declared.error.BlockError.{BlockError as BlockFault};
-ghost use Rattle.fz_streaming.specs.of_judge.View.{verdict_view};
+ghost use Rattle.fz_judge.specs.of_syntax.Offering.{IsTextOfAll, items_of_tree};
+ghost use Rattle.fz_judge.specs.of_syntax.Lexing.{most_bytes};
+ghost use Rattle.fz_judge.specs.of_model.Names.{HasNoFault};
+ghost use Rattle.fz_judge.specs.of_model.Texts.{IsLoadedFrom};
+ghost use Rattle.fz_judge.specs.of_model.View.{located};
+ghost use Rattle.fz_judge.specs.of_stream.Found.{EndsWithin, HasPlaces, IsReadAs, block_of};
+ghost use Rattle.fz_check.specs.declared.tally.Answer.TheVariants.{Accepted};
 ghost use Rattle.fz_check.specs.Headline.{HasSolutions};
-ghost use Rattle.fz_check.specs.Over.{HoldsOfModel};
-ghost use Rattle.fz_check.specs.Refused.{HasBlockFault, HasNameFault, HasStreamFault, HasTextFault, IsFirstFault};
+ghost use Rattle.fz_check.specs.Passing.{IsJudgingRefusal, IsStreamRefusal, PassesClaims};
+ghost use Rattle.fz_check.specs.Refused.{IsModelRefusal, IsRefusal};
+ghost use Rattle.fz_check.specs.Report.{IsReport};
 ghost use Rattle.fz_check.specs.Reported.{HasReport};
 ghost use Rattle.fz_check.specs.Shown.{IsShown, IsShownPrintingAll};
-ghost use Rattle.fz_check.specs.Loading.{
-  IsCheckRefusal,
-  IsJudgingRefusal,
-  IsModelRefusal,
-  IsNameRefusal,
-  IsStreamRefusal,
-  IsTextRefusal,
-  block_refusal,
-  name_refusal,
-  stream_refusal,
-  text_refusal,
-};
-ghost use Rattle.fz_check.specs.View.{report_view};
+ghost use Rattle.fz_check.specs.View.{answer_view, report_view};
 
-use crate::error::CheckError;
-use crate::report::{Report, answer_to};
+use crate::error::{CheckError, stream_refusal};
+use crate::jury::Jury;
+use crate::report::{Entry, Report};
+use fz_judge::fz_model::{LoadError, Model, ModelError, load, load_text};
+use fz_judge::fz_stream::{Block, Claim, Stream, blocks};
+use fz_judge::fz_syntax::{Ast, SyntaxError, parse, to_text};
+use fz_judge::fz_verdict::Completion;
 use fz_outputs::print_all;
-use fz_streaming::Answer;
-use fz_streaming::fz_judge::{BlockError, Judge, Verdict};
-use fz_streaming::fz_model::{LoadError, Model, ModelError, load, load_text};
-use fz_streaming::fz_stream::{Block, Stream, StreamError, blocks};
-use fz_streaming::fz_syntax::{Ast, SyntaxError, parse, to_text};
-use fz_streaming::fz_verdict::Completion;
-use std::alloc::Global;
-
-/// The error of a check for an error in the text of its model.
-fn text_refusal(error: SyntaxError) -> CheckError
-    ensures { result ≡ text_refusal error }
-{
-    match error {
-        SyntaxError::Memory => CheckError::Memory,
-        error => CheckError::Model(error),
-    }
-}
-
-/// The error of a check for an error in the names of its model.
-fn name_refusal(error: ModelError) -> CheckError
-    ensures { result ≡ name_refusal error }
-{
-    match error {
-        ModelError::Memory => CheckError::Memory,
-        error => CheckError::Names(error),
-    }
-}
-
-/// The error of a check for an error in its stream.
-fn stream_refusal(error: StreamError) -> CheckError
-    ensures { result ≡ stream_refusal error }
-{
-    match error {
-        StreamError::Memory => CheckError::Memory,
-        error => CheckError::Stream(error),
-    }
-}
-
-/// The error of a check for an error in the block with this number.
-fn block_refusal(number: usize, error: BlockError) -> CheckError
-    ensures { result ≡ block_refusal number error }
-{
-    match error {
-        BlockError::Memory => CheckError::Memory,
-        error => CheckError::Block(number, error),
-    }
-}
+use std::alloc::{AllocError, Global};
 
 /// The model of a text.
 pub(crate) fn read_model<'a>(alloc: Global, source: &'a [u8]) -> Result<Model<'a>, CheckError>
     ensures loaded { IfOk result (IsLoadedFrom source.now) }
-    ensures model { (e : SyntaxFault) → result ≡ Err (CheckError.Model e)
-        → HasTextFault source.now e }
-    ensures names { (e : NameFault) → result ≡ Err (CheckError.Names e)
-        → HasNameFault source.now e }
-    ensures kinds { IfErr result IsModelRefusal }
+    ensures refused { IfErr result (IsModelRefusal source.now) }
 {
     match load_text(alloc, source) {
         Ok(model) => Ok(model),
-        Err(LoadError::Text(error)) => Err(text_refusal(error)),
-        Err(LoadError::Names(error)) => Err(name_refusal(error)),
+        Err(LoadError::Text(SyntaxError::Memory)) => Err(CheckError::Memory),
+        Err(LoadError::Text(error)) => Err(CheckError::Model(error)),
+        Err(LoadError::Names(ModelError::Memory)) => Err(CheckError::Memory),
+        Err(LoadError::Names(error)) => Err(CheckError::Names(error)),
     }
 }
 
 /// The tree of a model's text.
 fn read_tree<'a>(alloc: Global, source: &'a [u8]) -> Result<Ast<'a>, CheckError>
     ensures text { IfOk result (λ a. IsTextOfAll source.now (items_of_tree a)) }
-    ensures model { (e : SyntaxFault) → result ≡ Err (CheckError.Model e)
-        → HasTextFault source.now e }
-    ensures kinds { IfErr result IsTextRefusal }
+    ensures refused { IfErr result (IsModelRefusal source.now) }
 {
     match parse(alloc, source) {
         Ok(ast) => Ok(ast),
-        Err(error) => Err(text_refusal(error)),
-    }
-}
-
-/// The model of a tree.
-fn load_tree<'a>(alloc: Global, ast: &Ast<'a>) -> Result<Model<'a>, CheckError>
-    ensures loaded { IfOk result (λ m. HasNoFault (located ast.now)
-        × (m ≡ model_of (located ast.now))) }
-    ensures names { (e : NameFault) → result ≡ Err (CheckError.Names e)
-        → (e ≢ NameMemory) × (IsInReadingOrder (located ast.now)
-        → TellsFirstFault (located ast.now) e) }
-    ensures kinds { IfErr result IsNameRefusal }
-{
-    match load(alloc, ast) {
-        Ok(model) => Ok(model),
-        Err(error) => Err(name_refusal(error)),
+        Err(SyntaxError::Memory) => Err(CheckError::Memory),
+        Err(error) => Err(CheckError::Model(error)),
     }
 }
 
@@ -134,14 +57,17 @@ fn load_tree<'a>(alloc: Global, ast: &Ast<'a>) -> Result<Model<'a>, CheckError>
 fn read_sound_tree<'a>(alloc: Global, source: &'a [u8]) -> Result<Ast<'a>, CheckError>
     ensures text { IfOk result (λ a. IsTextOfAll source.now (items_of_tree a)) }
     ensures no_fault { IfOk result (λ a. HasNoFault (located a)) }
-    ensures model { (e : SyntaxFault) → result ≡ Err (CheckError.Model e)
-        → HasTextFault source.now e }
-    ensures names { (e : NameFault) → result ≡ Err (CheckError.Names e)
-        → HasNameFault source.now e }
-    ensures kinds { IfErr result IsModelRefusal }
+    ensures refused { IfErr result (IsModelRefusal source.now) }
 {
-    let ast = read_tree(alloc, source)?;
-    load_tree(alloc, &ast)?;
+    let ast = match read_tree(alloc, source) {
+        Ok(ast) => ast,
+        Err(error) => return Err(error),
+    };
+    match load(alloc, &ast) {
+        Ok(_) => {}
+        Err(ModelError::Memory) => return Err(CheckError::Memory),
+        Err(error) => return Err(CheckError::Names(error)),
+    }
     Ok(ast)
 }
 
@@ -151,11 +77,8 @@ fn read_stream<'s>(alloc: Global, stream: &'s [u8]) -> Result<Stream<'s>, CheckE
         (map block_of s.blocks.items) s.claims.items) }
     ensures places { IfOk result (λ s. AllByRecursion HasPlaces s.blocks.items) }
     ensures within { IfOk result (λ s. AllByRecursion (EndsWithin usize.MAX) s.blocks.items) }
-    ensures in_order { IfOk result (λ s. AreInOrder 0 (vec_len s.blocks) s.claims.items) }
     ensures short { IfOk result (λ _. length stream.now ≤ most_bytes) }
-    ensures stream { (e : StreamFault) → result ≡ Err (CheckError.Stream e)
-        → HasStreamFault stream.now e }
-    ensures kinds { IfErr result IsStreamRefusal }
+    ensures refused { IfErr result (IsStreamRefusal stream.now) }
 {
     match blocks(alloc, stream) {
         Ok(stream) => Ok(stream),
@@ -163,30 +86,55 @@ fn read_stream<'s>(alloc: Global, stream: &'s [u8]) -> Result<Stream<'s>, CheckE
     }
 }
 
-/// The verdicts on the blocks, in order, by one judge, which stores the objective of the block
-/// before.
+/// Adds the first claims, those that come right after this number of blocks, and gives the others.
+fn push_claims<'s>(
+    entries: &mut Vec<Entry<'_>>,
+    claims: &'s [Claim],
+    after: usize,
+) -> Result<&'s [Claim], AllocError>
+    ensures { IfOk result (λ rest. PassesClaims entries.old.items entries.new.items
+        claims.now rest.now after) }
+{
+    let mut rest = claims;
+    while let Some((first, others)) = rest.split_first() {
+        if first.after != after {
+            return Ok(rest);
+        }
+        entries.push(Entry::Claim(first.kind))?;
+        rest = others;
+    }
+    Ok(rest)
+}
+
+/// The report on the blocks and claims of a stream, by one judge, which stores the objective of the
+/// block before.
 fn judge_blocks<'a>(
     alloc: Global,
     model: &Model<'a>,
     blocks: &[Block<'_>],
-) -> Result<Vec<Verdict<'a>>, CheckError>
+    claims: &[Claim],
+) -> Result<Report<'a>, CheckError>
     requires places { AllByRecursion HasPlaces blocks.now }
     requires within { AllByRecursion (EndsWithin usize.MAX) blocks.now }
-    ensures judged { IfOk result (λ v. AreVerdicts Completion.Off model.now
-        (map located_block blocks.now) (map verdict_view v.items)) }
-    ensures block { (n : ℕ) (e : BlockFault) → result ≡ Err (CheckError.Block n e)
-        → IsFirstFault model.now blocks.now n e }
-    ensures kinds { IfErr result IsJudgingRefusal }
+    ensures report { IfOk result (λ r. (bytes : List ℕ) → IsReadAs bytes
+        (map block_of blocks.now) claims.now
+        → IsReport Completion.Off model.now bytes (report_view r) (answer_view r.answer)) }
+    ensures refused { IfErr result (IsJudgingRefusal model.now blocks.now) }
 {
-    let mut judge = Judge::new(model, Completion::Off);
-    let mut verdicts = Vec::new(alloc);
+    let mut jury = Jury::new(model, Completion::Off);
+    let mut entries = Vec::new(alloc);
+    let mut rest = push_claims(&mut entries, claims, 0)?;
     for (place, block) in blocks.iter().enumerate() {
-        match judge.judge(alloc, block) {
-            Ok(verdict) => verdicts.push(verdict)?,
-            Err(error) => return Err(block_refusal(place + 1, error)),
+        match jury.judge(alloc, block) {
+            Ok(verdict) => entries.push(Entry::Block(place + 1, verdict))?,
+            Err(error) => return Err(error),
         }
+        rest = push_claims(&mut entries, rest, place + 1)?;
     }
-    Ok(verdicts)
+    Ok(Report {
+        entries,
+        answer: jury.tally.answer(),
+    })
 }
 
 /// Judges each block of a stream against a model. First the model's text is looked at, then its
@@ -201,37 +149,28 @@ fn judge_blocks<'a>(
 /// out.
 pub fn check<'a>(alloc: Global, model: &'a [u8], stream: &[u8]) -> Result<Report<'a>, CheckError>
     // What is accepted has solutions.
-    ensures accepted { IfOk result (λ r. (count : ℕ) → r.answer ≡ Answer.Accepted count
+    ensures accepted { IfOk result (λ r. (count : ℕ) → r.answer ≡ Accepted count
         → HasSolutions model.now stream.now count) }
-    // The report is the one as defined, with one verdict for each block, the stream's claims and
-    // the answer that follows. A block that is satisfied has a solution. A block that is violated
-    // has none, or none that improves on the block before.
+    // The report is the one as defined: each block with its verdict and each claim in the stream's
+    // order, and the answer that follows. A block that is satisfied has a solution. A block that is
+    // violated has none, or none that improves on the block before.
     ensures report { IfOk result (λ r. HasReport Completion.Off model.now stream.now
-        (report_view r)) }
-    ensures in_order { IfOk result (λ r. AreInOrder 0 (vec_len r.verdicts) r.claims.items) }
+        (report_view r) (answer_view r.answer)) }
     ensures short { IfOk result (λ _. length stream.now ≤ most_bytes) }
     // The model is refused only where its bytes are not a text of any tree, or with the leftmost
-    // fault of its names.
-    ensures model { (e : SyntaxFault) → result ≡ Err (CheckError.Model e)
-        → HasTextFault model.now e }
-    ensures names { (e : NameFault) → result ≡ Err (CheckError.Names e) → HasNameFault model.now e }
-    // The stream is refused only where the model has no fault, and the stream's bytes are too many
-    // or not a text of parts. A block is refused only with the first fault.
-    ensures stream { (e : StreamFault) → result ≡ Err (CheckError.Stream e)
-        → HoldsOfModel model.now (λ _. HasStreamFault stream.now e) }
-    ensures block { (n : ℕ) (e : BlockFault) → result ≡ Err (CheckError.Block n e)
-        → HasBlockFault model.now stream.now n e }
-    ensures kinds { IfErr result IsCheckRefusal }
+    // fault of its names; the stream only where the model has no fault, and the stream's bytes are
+    // too many or not a text of parts; a block only with the first fault.
+    ensures refused { IfErr result (IsRefusal model.now stream.now) }
 {
-    let loaded = read_model(alloc, model)?;
-    let found = read_stream(alloc, stream)?;
-    let verdicts = judge_blocks(alloc, &loaded, &found.blocks)?;
-    let answer = answer_to(&verdicts);
-    Ok(Report {
-        verdicts,
-        claims: found.claims,
-        answer,
-    })
+    let loaded = match read_model(alloc, model) {
+        Ok(loaded) => loaded,
+        Err(error) => return Err(error),
+    };
+    let found = match read_stream(alloc, stream) {
+        Ok(found) => found,
+        Err(error) => return Err(error),
+    };
+    judge_blocks(alloc, &loaded, &found.blocks, &found.claims)
 }
 
 /// The canonical text of a model, one line for each item, as `to_text` writes it. The names of the
@@ -246,10 +185,7 @@ pub fn show(alloc: Global, model: &[u8]) -> Result<Vec<u8>, CheckError>
     ensures shown { IfOk result (λ text. IsShown model.now text.items) }
     // It is refused only where the bytes are not a text of any tree, or with the leftmost fault of
     // its names.
-    ensures model { (e : SyntaxFault) → result ≡ Err (CheckError.Model e)
-        → HasTextFault model.now e }
-    ensures names { (e : NameFault) → result ≡ Err (CheckError.Names e) → HasNameFault model.now e }
-    ensures kinds { IfErr result IsModelRefusal }
+    ensures refused { IfErr result (IsModelRefusal model.now) }
 {
     let ast = match read_sound_tree(alloc, model) {
         Ok(ast) => ast,
@@ -273,10 +209,7 @@ pub fn show_printing_all(alloc: Global, model: &[u8]) -> Result<Vec<u8>, CheckEr
     ensures shown { IfOk result (λ text. IsShownPrintingAll model.now text.items) }
     // It is refused only where the bytes are not a text of any tree, or with the leftmost fault of
     // its names.
-    ensures model { (e : SyntaxFault) → result ≡ Err (CheckError.Model e)
-        → HasTextFault model.now e }
-    ensures names { (e : NameFault) → result ≡ Err (CheckError.Names e) → HasNameFault model.now e }
-    ensures kinds { IfErr result IsModelRefusal }
+    ensures refused { IfErr result (IsModelRefusal model.now) }
 {
     let ast = match read_sound_tree(alloc, model) {
         Ok(ast) => ast,

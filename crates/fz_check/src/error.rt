@@ -1,9 +1,12 @@
 //! The errors of a check.
 
-use fz_streaming::fz_judge::BlockError;
-use fz_streaming::fz_model::ModelError;
-use fz_streaming::fz_stream::StreamError;
-use fz_streaming::fz_syntax::SyntaxError;
+ghost use Rattle.std.specs.Prelude.{◌≡◌};
+ghost use Rattle.fz_check.specs.Telling.{stream_refusal};
+
+use fz_judge::BlockError;
+use fz_judge::fz_model::ModelError;
+use fz_judge::fz_stream::StreamError;
+use fz_judge::fz_syntax::SyntaxError;
 use std::alloc::{AllocError, AllocFailed};
 use thiserror::Error;
 
@@ -24,12 +27,22 @@ pub enum CheckError {
     Block(usize, BlockError),
     #[error("memory")]
     Memory,
-    /// A read failed.
+    /// A read failed, or as many were made as may be.
     #[error("read")]
     Read,
-    /// A write failed.
+    /// A write failed, or took nothing.
     #[error("write")]
     Write,
+}
+
+/// The error of a check for an error in its stream.
+pub(crate) fn stream_refusal(error: StreamError) -> CheckError
+    ensures { result ≡ stream_refusal error }
+{
+    match error {
+        StreamError::Memory => CheckError::Memory,
+        error => CheckError::Stream(error),
+    }
 }
 
 impl From<AllocError> for CheckError {

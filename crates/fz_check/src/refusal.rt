@@ -1,23 +1,23 @@
 //! The line and the byte range of a refusal, and the exit status of the program.
 
-ghost use Rattle.std.specs.Prelude.{◌≡◌, ◌++◌, IfOk, OnOk};
-ghost use Rattle.fz_check.specs.Refusal.{block_fault, model_fault, named_text, refusal_line, refusal_place, status_of, stream_fault, syntax_fault};
-ghost use Rattle.fz_check.specs.Telling.{named};
+ghost use Rattle.std.specs.Prelude.{◌≡◌, ◌++◌, IfOk, OnOk, option_map};
+ghost use Rattle.fz_check.specs.Refusal.{block_fault, model_fault, named, named_text, refusal_fault, refusal_line, status_of, stream_fault, syntax_fault};
 
 use crate::error::CheckError;
+use crate::tally::Answer;
+use crate::text::{push_bytes, push_count};
 use fz_base::Span;
-use fz_streaming::fz_judge::BlockError;
-use fz_streaming::fz_model::ModelError;
-use fz_streaming::fz_stream::StreamError;
-use fz_streaming::fz_syntax::SyntaxError;
-use fz_streaming::{Answer, push_bytes, push_count};
+use fz_judge::BlockError;
+use fz_judge::fz_model::ModelError;
+use fz_judge::fz_stream::StreamError;
+use fz_judge::fz_syntax::SyntaxError;
 use std::alloc::{AllocError, Global};
 
 /// The name of a fault, and its byte range where it has one.
 #[derive(Clone, Copy)]
-struct Told {
-    name: &'static [u8],
-    place: Option<Span>,
+pub struct Told {
+    pub name: &'static [u8],
+    pub place: Option<Span>,
 }
 
 impl Told {
@@ -140,16 +140,17 @@ pub fn refusal_text(alloc: Global, error: &CheckError) -> Result<Vec<u8>, AllocE
     Ok(text)
 }
 
-/// The byte range of the fault, counted from 0 in the model's text or in the whole stream. There is
-/// none where a text is too long, memory ran out, or a read or a write failed.
-pub fn refusal_place(error: &CheckError) -> Option<Span>
-    ensures { result ≡ refusal_place error.now }
+/// The name and the byte range of the fault, which is counted from 0 in the model's text or in the
+/// whole stream. A text that is too long has no byte range; memory that ran out, and a read or a
+/// write that failed, have no fault.
+pub fn refusal_fault(error: &CheckError) -> Option<Told>
+    ensures { option_map named result ≡ refusal_fault error.now }
 {
     match *error {
-        CheckError::Model(inner) => told_syntax(inner).place,
-        CheckError::Names(inner) => told_model(inner).place,
-        CheckError::Stream(inner) => told_stream(inner).place,
-        CheckError::Block(_, inner) => told_block(inner).place,
+        CheckError::Model(inner) => Some(told_syntax(inner)),
+        CheckError::Names(inner) => Some(told_model(inner)),
+        CheckError::Stream(inner) => Some(told_stream(inner)),
+        CheckError::Block(_, inner) => Some(told_block(inner)),
         CheckError::Memory | CheckError::Read | CheckError::Write => None,
     }
 }

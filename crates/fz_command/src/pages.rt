@@ -2,7 +2,8 @@
 
 /// The line on standard error where the command line is wrong, or asks for help.
 pub const USAGE: &str = "\
-usage: fzcheck show [--print-all] MODEL | check [--complete] [--explain] MODEL [STREAM]";
+usage: fzcheck show [--print-all] MODEL \
+| check [--complete] [--explain[=all]] [--json] MODEL [STREAM]";
 
 /// The answer to `--version`: the program and its version.
 pub const VERSION: &str = "fzcheck 0.4.0";
@@ -11,13 +12,16 @@ pub const VERSION: &str = "fzcheck 0.4.0";
 pub const HELP: &str = "\
 fzcheck: checks the output of a FlatZinc solver against its model
 
-fzcheck check [--complete] [--explain] MODEL [STREAM]
+fzcheck check [--complete] [--explain[=all]] [--json] MODEL [STREAM]
     Judges each solution block of the file STREAM, or of standard input where it is left out,
     against the model in the file MODEL. There is a line for each block and claim, and then the
     answer.
     --complete  looks for values that the solver left out, and judges what it finds
     --explain   shows on standard error what stands behind the verdict that the answer names,
                 or where the fault stands that a refusal tells of
+    --explain=all
+                the same of each block that isn't satisfied, as it comes
+    --json      writes the report, with what is explained, as JSON: an object on each line
     For example: fzcheck check examples/knapsack/model.fzn examples/knapsack/stream.txt
 
 fzcheck show [--print-all] MODEL

@@ -33,8 +33,26 @@ pub enum Printing {
 pub struct CheckOptions {
     /// Whether values that the solver left out are searched for.
     pub completes: bool,
-    /// Whether refusals and verdicts are explained.
-    pub explains: bool,
+    pub explains: Explaining,
+    pub form: Form,
+}
+
+/// What the report is written as.
+#[derive(Clone, Copy, Debug, PartialEq, Eq)]
+pub enum Form {
+    Text,
+    /// A JSON object on each line.
+    Json,
+}
+
+/// What is explained.
+#[derive(Clone, Copy, Debug, PartialEq, Eq)]
+pub enum Explaining {
+    Nothing,
+    /// The block that the answer names, or a refusal.
+    Answer,
+    /// Each block that isn't satisfied, and a refusal.
+    All,
 }
 
 /// Why the command line gives no command.
@@ -100,7 +118,8 @@ fn request_of<'a>(matches: &ArgMatches<'a>) -> Result<Request<'a>, Refused> {
             stream: given.get_str("STREAM"),
             options: CheckOptions {
                 completes: given.get_flag("complete"),
-                explains: given.get_flag("explain"),
+                explains: explaining_of(given),
+                form: form_of(given),
             },
         }),
         _ => Err(Refused::Help),
@@ -117,6 +136,22 @@ fn printing_of(given: &ArgMatches<'_>) -> Printing {
         Printing::All
     } else {
         Printing::AsWritten
+    }
+}
+
+fn explaining_of(given: &ArgMatches<'_>) -> Explaining {
+    match given.get_str("explain") {
+        Some("all") => Explaining::All,
+        Some(_) => Explaining::Answer,
+        None => Explaining::Nothing,
+    }
+}
+
+fn form_of(given: &ArgMatches<'_>) -> Form {
+    if given.get_flag("json") {
+        Form::Json
+    } else {
+        Form::Text
     }
 }
 
@@ -143,7 +178,22 @@ fn check_command<'a>(alloc: Global) -> Result<Command<'a>, AllocError> {
     over_model(alloc, "check")?
         .arg(file_word(alloc, "STREAM"))?
         .arg(flag(alloc, "complete"))?
-        .arg(flag(alloc, "explain"))
+        .arg(flag(alloc, "json"))?
+        .arg(explain_option(alloc))
+}
+
+/// What `--explain` may name; where it names nothing, it is the first.
+const EXPLAINED: [&str; 2] = ["answer", "all"];
+
+/// The option that is `--explain`, or `--explain=all`.
+fn explain_option<'a>(alloc: Global) -> Arg<'a> {
+    Arg::new(alloc, "explain")
+        .long("explain")
+        .action(ArgAction::Set)
+        .num_args(0..=1)
+        .require_equals(true)
+        .default_missing_value(EXPLAINED[0])
+        .value_parser(EXPLAINED.as_slice())
 }
 
 /// The program with the first of its commands.

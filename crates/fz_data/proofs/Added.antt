@@ -9,7 +9,7 @@ use Rattle.fz_meaning.specs.declared.term.Term.{Term}
 use Rattle.fz_meaning.specs.declared.term.Term.TheVariants.{Var, Fixed}
 use Rattle.fz_meaning.specs.declared.term.Domain.{Domain}
 use Rattle.fz_meaning.specs.declared.term.Domain.TheVariants.{All, Within, Among}
-use Rattle.fz_meaning.specs.Values.{kind_of, same_kind}
+use Rattle.fz_meaning.specs.Relations.{kind_of, same_kind}
 use Rattle.fz_meaning.specs.Located.{Decl}
 use Rattle.fz_meaning.specs.Meaning.{Place, declared_points, definition_points, admits_all}
 use Rattle.fz_meaning.specs.Meaning.Place.{Scalar, Array}

@@ -9,7 +9,7 @@ use Rattle.fz_base.specs.declared.span.Span.{Span}
 use Rattle.fz_meaning.specs.declared.kind.Kind.{Kind}
 use Rattle.fz_meaning.specs.declared.kind.Kind.TheVariants.{Int as IntKind}
 use Rattle.fz_meaning.specs.declared.term.Term.TheVariants.{Var, Fixed}
-use Rattle.fz_meaning.specs.Values.{same_kind}
+use Rattle.fz_meaning.specs.Relations.{same_kind}
 use Rattle.fz_meaning.specs.Located.{Basic, Expr, Decl, Constraint, Goal}
 use Rattle.fz_meaning.specs.Located.Basic.{Lit, Named}
 use Rattle.fz_meaning.specs.Located.Expr.{One, Several}

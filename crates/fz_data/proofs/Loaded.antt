@@ -8,7 +8,8 @@ use Rattle.fz_meaning.specs.declared.kind.Kind.TheVariants.{Int as IntKind}
 use Rattle.fz_meaning.specs.Located.{Decl, LocatedTree}
 use Rattle.fz_meaning.specs.Meaning.{declared_points, numbered_from, name_of, place_named, variable_of, first_some, find_name, row_of}
 use Rattle.fz_meaning.specs.Meaning.Declared.{Parameter, ScalarVariable, ArrayOfVariables}
-use Rattle.fz_meaning.specs.Names.{IsInReadingOrder, goal_parts, parts, kind_of_base, domain_of, is_scalar, number_of, variable_declared, definition_of, term_of, place_of_declared, declared_of, posted_of, aim_of, model_of}
+use Rattle.fz_meaning.specs.Leftmost.{IsInReadingOrder}
+use Rattle.fz_meaning.specs.Names.{goal_parts, parts, kind_of_base, domain_of, is_scalar, number_of, variable_declared, definition_of, term_of, place_of_declared, declared_of, posted_of, aim_of, model_of}
 use Rattle.fz_meaning.specs.View.{TellsFault, TellsFirstFault}
 use Rattle.fz_data.specs.Kinds.{PlaceFits, PostedFits}
 use Rattle.fz_meaning.specs.FirstFault.{FirstFaultIsLeftmost, decls_fault, constraint_fault, constraints_fault, goal_fault, first_fault}

@@ -4,7 +4,7 @@ use Rattle.std.specs.Prelude.{ℕ, ℤ, Bool, false, true, ◌&&◌, List, [], �
 use Rattle.std.specs.List.{list_all}
 use Rattle.std.specs.Option.{option_map_or}
 use Rattle.fz_meaning.specs.Builtins.{Row}
-use Rattle.fz_meaning.specs.Values.{same_kind}
+use Rattle.fz_meaning.specs.Relations.{same_kind}
 use Rattle.fz_meaning.specs.Meaning.{are_rows_of, are_whole_rows, as_int}
 use Rattle.fz_meaning.specs.declared.row.Matrix.{Matrix}
 use Rattle.fz_meaning.specs.declared.row.Matrix.TheVariants.{Absent, RowsLike, RowsBy}

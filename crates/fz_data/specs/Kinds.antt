@@ -1,7 +1,7 @@
 -- The kinds of what a name stands for, and of the scalars of a constraint (this project's profile).
 use Rattle.std.specs.Prelude.{◌≡◌, Some}
 use Rattle.std.specs.List.{AllByRecursion}
-use Rattle.fz_meaning.specs.Values.{kind_of}
+use Rattle.fz_meaning.specs.Relations.{kind_of}
 use Rattle.fz_meaning.specs.declared.kind.Kind.{Kind}
 use Rattle.fz_meaning.specs.declared.term.Term.{Term}
 use Rattle.fz_meaning.specs.declared.term.Term.TheVariants.{Var, Fixed}

@@ -3,7 +3,7 @@
 -- number stands for that no variable or array has.
 use Rattle.std.specs.Prelude.{ℕ, List, [], map, Option, None, Some, option_map, slice_get}
 use Rattle.std.specs.Option.{option_map_or}
-use Rattle.fz_meaning.specs.Values.{kind_of}
+use Rattle.fz_meaning.specs.Relations.{kind_of}
 use Rattle.fz_meaning.specs.declared.kind.Kind.{Kind}
 use Rattle.fz_meaning.specs.declared.kind.Kind.TheVariants.{Int as IntKind}
 use Rattle.fz_meaning.specs.declared.term.Term.{Term}

@@ -10,7 +10,7 @@ use Rattle.fz_meaning.specs.declared.kind.Kind.{Kind}
 use Rattle.fz_meaning.specs.declared.kind.Kind.TheVariants.{Int as IntKind}
 use Rattle.fz_meaning.specs.declared.term.Term.{Term}
 use Rattle.fz_meaning.specs.declared.term.Term.TheVariants.{Var, Fixed}
-use Rattle.fz_meaning.specs.Values.{kind_of, same_kind}
+use Rattle.fz_meaning.specs.Relations.{kind_of, same_kind}
 use Rattle.fz_meaning.specs.Located.{Basic, Expr, Decl, Constraint, Goal}
 use Rattle.fz_meaning.specs.Located.Goal.{Satisfy, Minimize, Maximize}
 use Rattle.fz_meaning.specs.of_syntax.Tree.{Note, NoteArg, NoteArgs}
@@ -33,8 +33,7 @@ use Rattle.fz_data.specs.declared.scope.Item.{Item}
 use Rattle.fz_data.specs.declared.scope.Item.TheVariants as items
 use Rattle.fz_data.specs.declared.parts.Array as the_array
 use Rattle.fz_names.specs.Naming as the_declared
-use Rattle.fz_names.specs.Naming.{has_text}
-use Rattle.fz_names.specs.Naming.{Declared as declarations}
+use Rattle.fz_names.specs.Naming.{has_text, Declared as declarations}
 use Rattle.fz_data.specs.declared.parts.DeclaredPoint.{DeclaredPoint}
 use Rattle.fz_data.specs.declared.parts.DeclaredPoint.TheVariants as points
 use Rattle.fz_data.specs.declared.parts.Variable.{Variable}

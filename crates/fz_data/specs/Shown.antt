@@ -2,12 +2,13 @@
 -- project's profile).
 use Rattle.std.specs.Prelude.{ℕ, List, map, slice_get, ⊤}
 use Rattle.std.specs.Option.{option_map_or}
-use Rattle.fz_meaning.specs.Values.{kind_of}
+use Rattle.fz_meaning.specs.Relations.{kind_of}
 use Rattle.fz_meaning.specs.declared.kind.Kind.{Kind}
 use Rattle.fz_meaning.specs.declared.kind.Kind.TheVariants.{Int as IntKind}
 use Rattle.fz_meaning.specs.declared.term.Term.{Term}
 use Rattle.fz_meaning.specs.declared.term.Term.TheVariants.{Var, Fixed}
 use Rattle.fz_meaning.specs.Meaning as meaning
+use Rattle.fz_meaning.specs.States as states
 use Rattle.fz_store.specs.Slots.{scalar_term, slot_term}
 use Rattle.fz_data.specs.Parts.{variable_view, constraint_view}
 use Rattle.fz_data.specs.declared.point.Point.{Point}
@@ -28,10 +29,10 @@ scalar_terms s = map (slot_term s.constants.now) s.slots.now
 -- ---- points
 
 -- how a point is reported
-abbrev pub point_name : Point → meaning.PointName
-point_name (points.Domain x) = meaning.DomainOf x.now
-point_name (points.Definition x) = meaning.DefinitionOf x.now
-point_name (points.Constraint k x) = meaning.ConstraintOf k x.now
+abbrev pub point_name : Point → states.PointName
+point_name (points.Domain x) = states.DomainOf x.now
+point_name (points.Definition x) = states.DefinitionOf x.now
+point_name (points.Constraint k x) = states.ConstraintOf k x.now
 
 -- a point by its parts
 abbrev pub point_view : PointParts → meaning.Point

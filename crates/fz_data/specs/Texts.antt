@@ -1,9 +1,9 @@
 -- What is said of the text of a model that is loaded item by item.
-use Rattle.std.specs.Prelude.{◌≡◌, ◌++◌, ⊤, ℕ, List, [], map, Result, Ok, Err}
-use Rattle.fz_meaning.specs.of_syntax.Offering.{TreeItems, IsTextOfAll, IsRefused, AtDecls, AtConstraints, AtSolve}
+use Rattle.std.specs.Prelude.{◌≡◌, ◌⊎◌, ℕ, List, map}
+use Rattle.fz_meaning.specs.of_syntax.Offering.{TreeItems, IsTextOfAll, IsRefused, IsLeft, TookAll, from_decls, from_constraints}
 use Rattle.fz_meaning.specs.of_syntax.Text.{IsTextOfTree}
-use Rattle.fz_meaning.specs.of_syntax.declared.reader.Items.{Items}
-use Rattle.fz_meaning.specs.of_syntax.declared.Predicate.{Predicate}
+use Rattle.fz_meaning.specs.of_syntax.declared.reader.Rest.{Rest}
+use Rattle.fz_meaning.specs.of_syntax.declared.Solve.{Solve}
 use Rattle.fz_meaning.specs.of_syntax.declared.Decl.{Decl}
 use Rattle.fz_meaning.specs.of_syntax.declared.Constraint.{Constraint}
 use Rattle.fz_meaning.specs.FirstFault.{first_fault}
@@ -38,55 +38,28 @@ pub record IsNameFault (source : List ℕ) (e : ModelError) : Type 0 where
 
 -- ---- only private functions use these
 
--- The source is a text of a tree whose first declarations are these.
-pub record BeginsWithDecls (source : List ℕ) (ds : List Decl) : Type 0 where
-  pub all : TreeItems
-  pub text : IsTextOfAll source all
-  pub more : List Decl
-  pub decls : all.decls ≡ ds ++ more
+-- These items are left of a text, and a refusal tells the first fault of the tree of all its items.
+pub record TellsOf {R : Type 0} (Left : R → Type 0) (all : R → TreeItems)
+    (e : ModelError) : Type 0 where
+  pub rest : R
+  pub left : Left rest
+  pub tells : Tells e (first_fault (located_all (all rest)))
 
--- The source is a text of a tree whose declarations are these, and the first constraints.
-pub record BeginsWithConstraints (source : List ℕ) (ds : List Decl)
-    (cs : List Constraint) : Type 0 where
-  pub all : TreeItems
-  pub text : IsTextOfAll source all
-  pub decls : all.decls ≡ ds
-  pub more : List Constraint
-  pub constraints : all.constraints ≡ cs ++ more
+-- The source is refused, or names in what is left of it, unless memory ran out.
+abbrev pub IsLoadRefusal : {R : Type 0} → List ℕ → (R → Type 0) → (R → TreeItems) → LoadError
+    → Type 0
+IsLoadRefusal source Left all (errors.Text e) = IsRefused source e
+IsLoadRefusal source Left all (errors.Names e) = (e ≡ names.Memory) ⊎ TellsOf Left all e
 
--- The source is a text of a tree, of which a refusal tells the first fault.
-pub record TellsOfText (source : List ℕ) (e : ModelError) : Type 0 where
-  pub all : TreeItems
-  pub text : IsTextOfAll source all
-  pub tells : Tells e (first_fault (located_all all))
-
-abbrev pub IsNameRefusal : List ℕ → ModelError → Type 0
-IsNameRefusal source names.Memory = ⊤
-IsNameRefusal source e = TellsOfText source e
-
-abbrev pub IsLoadRefusal : List ℕ → LoadError → Type 0
-IsLoadRefusal source (errors.Text e) = IsRefused source e
-IsLoadRefusal source (errors.Names e) = IsNameRefusal source e
-
--- the text so far is loaded, or refused
-abbrev pub IsLoad : {X : Type 0} → List ℕ → Result X LoadError → (X → Type 0) → Type 0
-IsLoad source (Ok x) Loaded = Loaded x
-IsLoad source (Err e) Loaded = IsLoadRefusal source e
-
--- All predicates were offered.
-pub record IsPastPredicates (i : Items) : Type 0 where
-  pub predicates : List Predicate
-  pub offered : AtDecls predicates [] i
-
--- All declarations were offered, and the scope stands for them.
-pub record HasDeclared (ps : List Predicate) (i : Items) (s : Scope) : Type 0 where
+-- All declarations were taken, and the scope stands for them.
+pub record HasDeclared (old new : Rest) (s : Scope) : Type 0 where
   pub decls : List Decl
-  pub offered : AtConstraints ps decls [] i
+  pub took : TookAll from_decls from_constraints decls old new
   pub declares : Declares (map located_decl decls) s
 
--- All constraints were offered too, and these are what they were loaded to.
-pub record HasPosted (ps : List Predicate) (ds : List Decl) (i : Items) (s : Scope) (store : Store)
-    (found : List Posted) : Type 0 where
+-- These constraints and the solve item were left, and this is what they were loaded to.
+pub record HasPosted (old : Rest) (s : Scope) (store : Store) (found : List Posted)
+    (solve : Solve) : Type 0 where
   pub constraints : List Constraint
-  pub offered : AtSolve ps ds constraints i
+  pub left : IsLeft from_constraints old (constraints, solve)
   pub posts : Posts s (map located_constraint constraints) store found

@@ -1,7 +1,7 @@
 //! What a declaration declares, and whether its name, its length and its value fit.
 
 ghost use Rattle.std.specs.Prelude.{◌≡◌, IfErr, IfOk, None, Some, map, true};
-ghost use Rattle.fz_meaning.specs.Values.{kind_of, same_kind};
+ghost use Rattle.fz_meaning.specs.Relations.{kind_of, same_kind};
 ghost use Rattle.fz_meaning.specs.Names.{differs_in_length, kind_of_base, literal_of, parts, variable_declared};
 ghost use Rattle.fz_meaning.specs.Located.Expr.{One};
 ghost use Rattle.fz_data.specs.Parts.{variable_view};

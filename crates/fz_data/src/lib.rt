@@ -3,7 +3,7 @@
 //! offers all of it. Its own internal crates are `fz_names`, with the table of declared names, and
 //! `fz_store`, with the lists of arguments and scalars.
 //!
-//! Its worked cases are in `fz_check_cases` (`load.rt`).
+//! Its worked cases are in `tests/cases` (`calls.txt`) and `tests/broken`.
 #![tactic(auto)]
 
 mod declaring;

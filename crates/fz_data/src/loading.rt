@@ -4,7 +4,8 @@
 ghost use Rattle.std.specs.Prelude.{◌≡◌, ◌++◌, ◌∷◌, [], IfErr, IfOk, List, None, OnOk, map};
 ghost use Rattle.fz_meaning.specs.Located.{Decl as LocatedDecl};
 ghost use Rattle.fz_meaning.specs.declared.error.ModelError.TheVariants.{Memory};
-ghost use Rattle.fz_meaning.specs.Names.{HasNoFault, IsInReadingOrder, model_of};
+ghost use Rattle.fz_meaning.specs.Names.{HasNoFault, model_of};
+ghost use Rattle.fz_meaning.specs.Leftmost.{IsInReadingOrder};
 ghost use Rattle.fz_meaning.specs.View.{TellsFault, TellsFirstFault, located, located_decl};
 ghost use Rattle.fz_meaning.specs.FirstFault.{decl_fault, decls_fault, first_fault};
 ghost use Rattle.fz_data.specs.Scope.{HasKinds, Tells};

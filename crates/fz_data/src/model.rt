@@ -1,7 +1,8 @@
 //! The loaded model.
 
 ghost use Rattle.std.specs.Prelude.{◌≡◌, ◌<◌, IfSome, Some, length, map, option_map, slice_get};
-ghost use Rattle.fz_meaning.specs.Meaning.{constraint_points, find_name, points, row_of, shown_point, variables_of};
+ghost use Rattle.fz_meaning.specs.Meaning.{constraint_points, find_name, points, row_of, variables_of};
+ghost use Rattle.fz_meaning.specs.States.{shown_point};
 ghost use Rattle.fz_meaning.specs.Known.{known_row};
 ghost use Rattle.fz_data.specs.Kinds.{PlaceFits, PostedFits};
 ghost use Rattle.fz_data.specs.Parts.{constraint_view, elements_of, goal_view, kept_row, posted_view, variable_view};

@@ -5,7 +5,7 @@ ghost use Rattle.std.specs.List.{list_all};
 ghost use Rattle.fz_meaning.specs.declared.term.Term.TheVariants.{Var};
 ghost use Rattle.fz_meaning.specs.Meaning.{are_rows_of, are_whole_rows, as_int, fits, has_shape, have_shapes, row_of};
 ghost use Rattle.fz_meaning.specs.Known.{known_row, shape_of};
-ghost use Rattle.fz_meaning.specs.Values.{kind_of};
+ghost use Rattle.fz_meaning.specs.Relations.{kind_of};
 ghost use Rattle.fz_data.specs.Parts.{argument_view, kind_of_term};
 ghost use Rattle.fz_data.specs.Fitting.{are_equally_long, array_kind, have_lengths, is_array_of, is_array_slot, is_of_kind, is_scalar_of, kinds_among, length_at, length_of, number_at, number_of, slot_length, slot_number, stands_in_rows};
 ghost use Rattle.fz_store.specs.Slots.{constant_at};

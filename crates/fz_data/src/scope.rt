@@ -5,7 +5,7 @@ ghost use Rattle.fz_meaning.specs.View.{located_basic};
 ghost use Rattle.fz_meaning.specs.declared.term.Term.TheVariants.{Fixed, Var};
 ghost use Rattle.fz_meaning.specs.FirstFault.{literal_fault};
 ghost use Rattle.fz_meaning.specs.Names.{literal_value};
-ghost use Rattle.fz_meaning.specs.Values.{kind_of};
+ghost use Rattle.fz_meaning.specs.Relations.{kind_of};
 ghost use Rattle.fz_meaning.specs.of_syntax.View.{bare_literal_kind};
 ghost use Rattle.fz_data.specs.Parts.{kind_of_term, terms_of};
 ghost use Rattle.fz_data.specs.declared.scope.Item.TheVariants.{Parameter, Variable as item_variable, Array as item_array};

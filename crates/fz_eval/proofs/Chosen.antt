@@ -3,7 +3,9 @@ use Rattle.std.proofs.Common.{◌≡◌, true, false, List, Option, None, Result
 use Rattle.fz_base.specs.declared.value.Value.{Value}
 use Rattle.fz_meaning.specs.declared.kind.Kind.{Kind}
 use Rattle.fz_meaning.specs.Builtins.{Row}
-use Rattle.fz_meaning.specs.Meaning.{Argument, Partial, sums_leave}
+use Rattle.fz_meaning.specs.Results.{result_of}
+use Rattle.fz_meaning.specs.Meaning.{Argument, Partial}
+use Rattle.fz_meaning.specs.States.{sums_leave}
 use Rattle.fz_eval.specs.Left.{IsLeft, IsOfKind, IsPlaceOf, holds_with, is_too_large}
 use Rattle.fz_eval.specs.declared.only.Spot.{Spot}
 use Rattle.fz_eval.specs.Forced.{IsOnlyValue, IsReady}
@@ -11,7 +13,7 @@ use Rattle.fz_eval.proofs.Held.{scalar_left, too_large}
 
 module _ (K : Partial) (xs : List Argument) (r : Row) (s : Spot) (h : IsReady K xs r s) where
   pub scalar_chosen : {E : Type 0} → (k : Kind) × IsOfKind r.shapes s.argument k
-      → IsPlaceOf r.result s.argument → is_too_large r K xs ≡ sums_leave K xs r
+      → IsPlaceOf (result_of r) s.argument → is_too_large r K xs ≡ sums_leave K xs r
       → (a : Answer (Option Value) E)
       → ((k : Kind) → IsOfKind r.shapes s.argument k → is_too_large r K xs ≡ false → IfOk a (λ o. IsLeft k (holds_with r K xs s.argument) o))
       → (is_too_large r K xs ≡ true → IfOk a (λ o. o ≡ None)) → IfOk a (λ o. IsOnlyValue K xs r s.variable o)

@@ -10,11 +10,12 @@ use Rattle.fz_meaning.specs.declared.kind.Kind.{Kind}
 use Rattle.fz_meaning.specs.declared.kind.Kind.TheVariants.{Int as IntKind, Bool as BoolKind, Set as SetKind}
 use Rattle.fz_meaning.specs.declared.term.Term.{Term}
 use Rattle.fz_meaning.specs.declared.term.Term.TheVariants.{Var}
-use Rattle.fz_meaning.specs.Values.{kind_of, same_kind}
+use Rattle.fz_meaning.specs.Relations.{kind_of, same_kind}
 use Rattle.fz_meaning.specs.Builtins.{Shape, ArgValue}
 use Rattle.fz_meaning.specs.Builtins.Shape.{ScalarOf, ArrayOf}
 use Rattle.fz_meaning.specs.Builtins.ArgValue.{OneValue, ManyValues}
-use Rattle.fz_meaning.specs.Meaning.{Argument, Partial, value, value_at, give, terms_in, has_shape, have_shapes, terms_at_argument}
+use Rattle.fz_meaning.specs.Meaning.{Argument, Partial, value, value_at, give, terms_in, has_shape, have_shapes}
+use Rattle.fz_meaning.specs.States.{terms_at_argument}
 use Rattle.fz_meaning.specs.Meaning.Place.{Scalar, Array}
 use Rattle.fz_meaning.specs.Meaning.Argument.{One, ListOf}
 use Rattle.fz_meaning.specs.Steps.{open_terms}

@@ -5,11 +5,13 @@ use Rattle.fz_base.specs.declared.value.Value.{Value}
 use Rattle.fz_meaning.specs.declared.kind.Kind.{Kind}
 use Rattle.fz_meaning.specs.declared.term.Term.{Term}
 use Rattle.fz_meaning.specs.declared.term.Term.TheVariants.{Var}
-use Rattle.fz_meaning.specs.Values.{kind_of}
-use Rattle.fz_meaning.specs.Builtins.{Shape, Row, Result}
+use Rattle.fz_meaning.specs.Relations.{kind_of}
+use Rattle.fz_meaning.specs.Builtins.{Shape, Row}
+use Rattle.fz_meaning.specs.Results.{Result, result_of}
 use Rattle.fz_meaning.specs.Builtins.Shape.{ScalarOf, ArrayOf}
-use Rattle.fz_meaning.specs.Builtins.Result.{NoResult, Places, UnitTerm}
-use Rattle.fz_meaning.specs.Meaning.{Argument, Partial, value_at, give, argument_values, has_shape, have_shapes, row_holds, sums_leave, terms_in, terms_at_argument}
+use Rattle.fz_meaning.specs.Results.Result.{NoResult, Places, UnitTerm}
+use Rattle.fz_meaning.specs.Meaning.{Argument, Partial, value_at, give, argument_values, has_shape, have_shapes, row_holds, terms_in}
+use Rattle.fz_meaning.specs.States.{sums_leave, terms_at_argument}
 use Rattle.fz_meaning.specs.Meaning.Place.{Scalar, Array}
 use Rattle.fz_meaning.specs.Meaning.Argument.{One, ListOf}
 use Rattle.fz_meaning.specs.Steps.{IsResult, open_terms}
@@ -147,7 +149,7 @@ module _ (K : Partial) (xs : List Argument) (r : Row) (s : Spot) (h : IsReady K 
   module _ (z : Shape) (shape : slice_get r.shapes s.argument ≡ Some z) (test : Value → Bool)
       (test_is : s.variable < length K → (w : Value) → kind_of w ≡ kind_in z
       → row_holds r (given_values (give K s.variable w) r.shapes xs) ≡ test w)
-      (result : IsResult K xs s.variable r.result) (sums : sums_leave K xs r ≡ false) where
+      (result : IsResult K xs s.variable (result_of r)) (sums : sums_leave K xs r ≡ false) where
     holds_kind : s.variable < length K → (w : Value) → IsSomeAnd
         (argument_values (give K s.variable w) xs) (λ vs. IsTrue (row_holds r vs))
         → kind_of w ≡ kind_in z
@@ -193,9 +195,9 @@ module _ (K : Partial) (xs : List Argument) (r : Row) (s : Spot) (h : IsReady K 
         (s.argument, place, q, at)
     result_of_place UnitTerm place = absurd place
 
-    pub scalar_left : IsPlaceOf r.result s.argument → sums_leave K xs r ≡ false → (o : Option Value)
+    pub scalar_left : IsPlaceOf (result_of r) s.argument → sums_leave K xs r ≡ false → (o : Option Value)
         → IsLeft k (holds_with r K xs s.argument) o → IsOnlyValue K xs r s.variable o
-    scalar_left place sums = is_left (ScalarOf k) shape (holds_with r K xs s.argument) scalar_test (result_of_place r.result place) sums
+    scalar_left place sums = is_left (ScalarOf k) shape (holds_with r K xs s.argument) scalar_test (result_of_place (result_of r) place) sums
 
   -- ---- where it is none
 
@@ -210,6 +212,6 @@ module _ (K : Partial) (xs : List Argument) (r : Row) (s : Spot) (h : IsReady K 
       let (k, is) = scalar_shape r.shapes xs i q (Var s.variable) h.shaped at in
       place (subst (Contains ks) same among) k (subst (λ j. IsOfKind r.shapes j k) same is)
 
-  pub nothing_placed : (IsPlaceOf r.result s.argument → (k : Kind) → IsOfKind r.shapes s.argument k
-      → ⊥) → (r.result ≡ UnitTerm → ⊥) → IsOnlyValue K xs r s.variable None
-  nothing_placed place unit = λ within w f. not_placed within w r.result place unit f.result
+  pub nothing_placed : (IsPlaceOf (result_of r) s.argument → (k : Kind) → IsOfKind r.shapes s.argument k
+      → ⊥) → (result_of r ≡ UnitTerm → ⊥) → IsOnlyValue K xs r s.variable None
+  nothing_placed place unit = λ within w f. not_placed within w (result_of r) place unit f.result

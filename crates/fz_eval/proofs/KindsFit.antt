@@ -7,10 +7,12 @@ use Rattle.fz_base.specs.declared.value.Value.{Value}
 use Rattle.fz_meaning.specs.declared.kind.Kind.{Kind}
 use Rattle.fz_meaning.specs.declared.term.Term.{Term}
 use Rattle.fz_meaning.specs.declared.term.Term.TheVariants.{Var, Fixed}
-use Rattle.fz_meaning.specs.Values.{kind_of, same_kind}
-use Rattle.fz_meaning.specs.Builtins.{Row, Shape, Result}
-use Rattle.fz_meaning.specs.Builtins.Result.{NoResult, Places, UnitTerm}
-use Rattle.fz_meaning.specs.Meaning.{Argument, FitVariables, IsPartial, Model, Partial, Posted, Variable, give, has_shape, have_shapes, row_of, terms_in, value_at, variables_of, terms_at_argument}
+use Rattle.fz_meaning.specs.Relations.{kind_of, same_kind}
+use Rattle.fz_meaning.specs.Builtins.{Row, Shape}
+use Rattle.fz_meaning.specs.Results.{Result, result_of}
+use Rattle.fz_meaning.specs.Results.Result.{NoResult, Places, UnitTerm}
+use Rattle.fz_meaning.specs.Meaning.{Argument, FitVariables, IsPartial, Model, Partial, Posted, Variable, give, has_shape, have_shapes, row_of, terms_in, value_at, variables_of}
+use Rattle.fz_meaning.specs.States.{terms_at_argument}
 use Rattle.fz_meaning.specs.Steps.{IsResult, kind_at, open_terms}
 use Rattle.fz_meaning.proofs.Lists.{all_append, all_map, at_place}
 use Rattle.fz_meaning.proofs.Steps.{is_open, only_open_none}
@@ -113,7 +115,7 @@ module _ (m : Model) (K : Partial) (partial : IsPartial m K) where
     pub filled_kind : (v : Value) → Fills K p.arguments r n v → kind_at m n ≡ Some (kind_of v)
     filled_kind v f =
         let shaped : have_shapes r.shapes p.arguments ≡ true = row_fits p r row in
-        let (i, j, at) = result_stands p.arguments n r.result f.result in
+        let (i, j, at) = result_stands p.arguments n (result_of r) f.result in
         let (s, shape, kind) = kind_there m r.shapes p.arguments i j n shaped fits at in
         let is : kind_of v ≡ kind_in s =
         kind_back K n (only_open_none K n (flat_map terms_in p.arguments) f.only_open) (has_number f.only_open) v r.shapes p.arguments i j s shaped (holds_read (give K n v) p.arguments r shaped f.holds) at shape in

@@ -3,7 +3,7 @@ use Rattle.std.proofs.Common.{◌≡◌, ℕ, suc, ◌+◌, Bool, true, false, n
 use Rattle.std.specs.Prelude.{IsSome}
 use Rattle.std.specs.List.{list_any}
 use Rattle.fz_base.specs.declared.value.Value.TheVariants.{Bool as BoolValue}
-use Rattle.fz_meaning.specs.Values.{◌=ᴮ◌}
+use Rattle.fz_meaning.specs.Relations.{◌=ᴮ◌}
 use Rattle.fz_meaning.specs.Builtins.{Shape, Row, implied, reified, with_bool, read}
 use Rattle.fz_meaning.specs.declared.known.Form.{Form}
 use Rattle.fz_meaning.specs.declared.known.Form.TheVariants.{Base, Reified, Implied}

@@ -7,7 +7,8 @@ use Rattle.std.proofs.lemmas.Option.{get_or_from_slice_get, slice_get_within}
 use Rattle.fz_base.specs.declared.value.Value.{Value}
 use Rattle.fz_meaning.specs.declared.term.Term.{Term}
 use Rattle.fz_meaning.specs.declared.term.Term.TheVariants.{Var}
-use Rattle.fz_meaning.specs.Meaning.{Model, Partial, Posted, terms_at_argument, terms_in, value_at}
+use Rattle.fz_meaning.specs.Meaning.{Model, Partial, Posted, terms_in, value_at}
+use Rattle.fz_meaning.specs.States.{terms_at_argument}
 use Rattle.fz_meaning.specs.Meaning.Point.{ConstraintPoint}
 use Rattle.fz_meaning.specs.Steps.{Gives, open_terms}
 use Rattle.fz_meaning.proofs.Steps.{filter-append, is_open, only_open_none}

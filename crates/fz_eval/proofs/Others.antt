@@ -4,7 +4,8 @@ use Rattle.std.specs.List.{AllByRecursion, list_all}
 use Rattle.std.specs.Option.{option_map_or}
 use Rattle.std.proofs.lemmas.List.{append-nil}
 use Rattle.fz_meaning.specs.declared.state.State.{State}
-use Rattle.fz_meaning.specs.Meaning.{Model, Partial, Point, constraint_points, declared_points, numbered, points, state, variables_of}
+use Rattle.fz_meaning.specs.Meaning.{Model, Partial, Point, constraint_points, declared_points, numbered, points, variables_of}
+use Rattle.fz_meaning.specs.States.{state}
 use Rattle.fz_eval.specs.Holding.{is_held, point_holds}
 use Rattle.fz_eval.specs.Overviews.{others_from, holds_at}
 use Rattle.fz_eval.specs.Whole.{is_domain, lie_inside}

@@ -3,12 +3,14 @@ use Rattle.std.proofs.Common.{◌≡◌, ℕ, true, false, List, [], ◌∷◌, 
 use Rattle.std.specs.List.{AllByRecursion, list_all}
 use Rattle.std.specs.Option.{option_map_or}
 use Rattle.fz_base.specs.declared.value.Value.{Value}
-use Rattle.fz_meaning.specs.Values.{kind_of}
+use Rattle.fz_meaning.specs.Relations.{kind_of}
 use Rattle.fz_meaning.specs.declared.kind.Kind.{Kind}
 use Rattle.fz_meaning.specs.Builtins.{Shape, Row}
+use Rattle.fz_meaning.specs.Results.{result_of}
 use Rattle.fz_meaning.specs.Builtins.Shape.{ScalarOf, ArrayOf}
 use Rattle.fz_meaning.specs.Meaning as meaning
-use Rattle.fz_meaning.specs.Meaning.{Model, Partial, Posted, IsPartial, argument_values, give, value_at, has_shape, have_shapes, is_term_of, row_holds, row_of, sums_leave, terms_in}
+use Rattle.fz_meaning.specs.Meaning.{Model, Partial, Posted, IsPartial, argument_values, give, value_at, has_shape, have_shapes, is_term_of, row_holds, row_of, terms_in}
+use Rattle.fz_meaning.specs.States.{sums_leave}
 use Rattle.fz_meaning.specs.Meaning.Point.{ConstraintPoint}
 use Rattle.fz_meaning.specs.Steps.{Gives, IsResult, kind_at}
 use Rattle.fz_meaning.proofs.Values.{no, and_first, and_second}
@@ -66,7 +68,7 @@ module _ (m : Model) (K : Partial) (fits : IsPartial m K) (k : ℕ) (p : Posted)
   fills w g = record {
     only_open = g.only_open;
     sums_fit = subst (λ o. IfSome o (λ q. IsFalse (sums_leave K p.arguments q))) row g.sums_fit;
-    result = subst (λ o. IsSomeAnd o (λ q. IsResult K p.arguments n q.result)) row g.target.1;
+    result = subst (λ o. IsSomeAnd o (λ q. IsResult K p.arguments n (result_of q))) row g.target.1;
     within_limits = g.within_limits;
     holds = subst (λ o. IsSomeAnd o (λ q. IsSomeAnd (argument_values (give K n w) p.arguments) (λ vs. IsTrue (row_holds q vs)))) row g.then_holds;
   }
@@ -74,7 +76,7 @@ module _ (m : Model) (K : Partial) (fits : IsPartial m K) (k : ℕ) (p : Posted)
   gives : (w : Value) → Fills K p.arguments r n w → kind_at m n ≡ Some (kind_of w)
       → Gives m K (ConstraintPoint k p) n w
   gives w f kind = record {
-    target = (target, intro (λ q. IsResult K p.arguments n q.result) (row_of p) r row f.result);
+    target = (target, intro (λ q. IsResult K p.arguments n (result_of q)) (row_of p) r row f.result);
     only_open = f.only_open;
     of_kind = kind;
     within_limits = f.within_limits;

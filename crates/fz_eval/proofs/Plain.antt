@@ -5,8 +5,7 @@ use Rattle.std.proofs.lemmas.Int.{ints}
 use Rattle.std.proofs.Math.IntN.{*ℤ-zero, *ℤ_comm, *ℤ-one, *ℤ-negsuc}
 use Rattle.std.specs.List.{list_all}
 use Rattle.std.specs.Option.{option_map_or}
-use Rattle.fz_meaning.specs.Values.{◌=ℤ◌}
-use Rattle.fz_meaning.specs.Builtins.{element_at, is_element, is_among, total, products}
+use Rattle.fz_meaning.specs.Relations.{◌=ℤ◌, element_at, is_element, is_among, total, products}
 use Rattle.fz_meaning.proofs.Values.{no, same_int, int_itself, same_truth}
 use Rattle.fz_eval.specs.Left.{IsLeftNumber, IsLeftPlain}
 

@@ -5,17 +5,18 @@ use Rattle.fz_base.specs.declared.value.Value.{Value}
 use Rattle.fz_base.specs.declared.value.Value.TheVariants.{Bool as Truth}
 use Rattle.fz_meaning.specs.declared.kind.Kind.{Kind}
 use Rattle.fz_meaning.specs.declared.kind.Kind.TheVariants.{Bool as BoolKind}
-use Rattle.fz_meaning.specs.Values.{◌=ᴮ◌}
-use Rattle.fz_meaning.specs.Builtins.{Shape, Row, reified, with_bool}
+use Rattle.fz_meaning.specs.Relations.{◌=ᴮ◌}
+use Rattle.fz_meaning.specs.Builtins.{Shape, Row, reified, with_bool, row_at}
+use Rattle.fz_meaning.specs.Results.{result_of}
 use Rattle.fz_meaning.specs.Builtins.Shape.{ScalarOf}
 use Rattle.fz_meaning.specs.Builtins.ArgValue.{OneValue}
 use Rattle.fz_meaning.specs.Meaning.{Argument, Partial, row_holds}
 use Rattle.fz_meaning.proofs.Values.{no, bool_itself}
-use Rattle.fz_meaning.specs.Builtins.{row_at}
 use Rattle.fz_meaning.specs.Known.{form_at, known_row}
 use Rattle.fz_meaning.specs.declared.known.Form.TheVariants.{Base as FormBase, Reified as FormReified, Implied as FormImplied}
 use Rattle.fz_meaning.specs.declared.known.Known.{Known}
 use Rattle.fz_meaning.proofs.TableRows.{reified_holds}
+use Rattle.fz_meaning.proofs.WithTruth.{reified_result}
 use Rattle.fz_builtins.specs.of_view.Given.{given, given_from, given_values, read_leave}
 use Rattle.fz_builtins.specs.Outcomes.{row_outcome, sum_outcome}
 use Rattle.fz_eval.proofs.Known.{all_read}
@@ -66,27 +67,34 @@ last_kind : (ss : List Shape) (k : Kind) → slice_get (with_bool ss) (length ss
 last_kind [] k e = cc
 last_kind (s ∷ ss) k e = last_kind ss k e
 
+pub reified_place : (known : Known) (i : ℕ) → known.form ≡ FormReified
+    → IsPlaceOf (result_of (known_row known)) i → i ≡ length (row_at known.builtin).shapes
+reified_place known i form place =
+    let r : Row = row_at known.builtin in
+    only_place (length r.shapes) i (subst (λ o. IsPlaceOf o i) (ap (λ f. result_of (form_at f r)) form ∙ reified_result r) place)
+
 pub form_left : (known : Known) (K : Partial) (xs : List Argument) (i : ℕ) {E : Type 0}
     (result : Result (Option Value) E) → known.form ≡ FormReified
-    → IsPlaceOf (known_row known).result i
+    → IsPlaceOf (result_of (known_row known)) i
     → (is_too_large (row_at known.builtin) K xs ≡ false → IfOk result (λ left. IsLeft BoolKind (holds_with (reified (row_at known.builtin)) K xs i) left))
     → (k : Kind) → IsOfKind (known_row known).shapes i k → is_too_large (known_row known) K xs ≡ false → IfOk result (λ left. IsLeft k (holds_with (known_row known) K xs i) left)
 form_left known K xs i result form place h k kind fits =
     let r : Row = row_at known.builtin in
     let is : known_row known ≡ reified r = ap (λ f. form_at f r) form in
-    let here : i ≡ length r.shapes = only_place (length r.shapes) i (subst (λ s. IsPlaceOf s.result i) is place) in
+    let here : i ≡ length r.shapes = reified_place known i form place in
     let bool : BoolKind ≡ k = last_kind r.shapes k (subst (λ j. slice_get (with_bool r.shapes) j ≡ Some (ScalarOf k)) here (subst (λ s. IsOfKind s.shapes i k) is kind)) in
     let left : IfOk result (λ left. IsLeft BoolKind (holds_with (reified r) K xs i) left) = h (subst (λ s. is_too_large s K xs ≡ false) is fits) in
     subst₂ (λ s j. IfOk result (λ left. IsLeft j (holds_with s K xs i) left)) (sym is) bool left
 
 pub base_fits : (known : Known) (K : Partial) (xs : List Argument) (i : ℕ) → known.form ≡ FormBase
-    → IsPlaceOf (known_row known).result i → is_too_large (known_row known) K xs ≡ true → ⊥
+    → IsPlaceOf (result_of (known_row known)) i → is_too_large (known_row known) K xs ≡ true → ⊥
 base_fits known K xs i base place large =
     let r : Row = row_at known.builtin in
     let is : known_row known ≡ r = ap (λ f. form_at f r) base in
-    let none : r.sums ≡ [] = adds_nothing known.builtin i (subst (λ s. IsPlaceOf s.result i) is place) in
+    let none : r.sums ≡ [] = adds_nothing known.builtin i (subst (λ s. IsPlaceOf (result_of s) i) is place) in
     no (ap (list_any (read_leave K xs)) (sym none) ∙ ap (λ s. is_too_large s K xs) (sym is) ∙ large)
 
 pub no_implied : (known : Known) (i : ℕ) → known.form ≡ FormImplied
-    → IsPlaceOf (known_row known).result i → ⊥
-no_implied known i implied place = subst (λ f. IsPlaceOf (form_at f (row_at known.builtin)).result i) implied place
+    → IsPlaceOf (result_of (known_row known)) i → ⊥
+unfolding result_of
+no_implied known i implied place = subst (λ f. IsPlaceOf (result_of (form_at f (row_at known.builtin))) i) implied place

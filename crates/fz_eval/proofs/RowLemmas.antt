@@ -10,12 +10,12 @@ use Rattle.fz_base.specs.declared.value.Value.{Value}
 use Rattle.fz_base.specs.declared.value.Value.TheVariants.{Int, Bool as Truth, Set}
 use Rattle.fz_meaning.specs.declared.kind.Kind.{Kind}
 use Rattle.fz_meaning.specs.declared.kind.Kind.TheVariants.{Int as IntKind, Bool as BoolKind, Set as SetKind}
-use Rattle.fz_meaning.specs.Values.{◌=ℤ◌, ◌=ᴮ◌, ◌=ˢ◌}
-use Rattle.fz_meaning.specs.Builtins.{plain_list, total, products, where_true, is_element, is_among, as_number}
+use Rattle.fz_meaning.specs.Relations.{◌=ℤ◌, ◌=ᴮ◌, ◌=ˢ◌, total, products, where_true, is_element, is_among, as_number}
+use Rattle.fz_meaning.specs.Builtins.{plain_list, row_at}
+use Rattle.fz_meaning.specs.Results.{result_of}
 use Rattle.fz_meaning.specs.Meaning.{Argument, Partial}
-use Rattle.fz_meaning.specs.Builtins.{row_at}
 use Rattle.fz_meaning.specs.declared.builtin.Builtin.{Builtin}
-use Rattle.fz_meaning.specs.declared.builtin.Builtin.TheVariants.{IntEq, IntLinEq, IntAbs, ArrayIntElement, ArrayVarIntElement, ArrayIntMaximum, ArrayIntMinimum, BoolEq, BoolNot, BoolAnd, BoolOr, BoolXor, ArrayBoolAnd, ArrayBoolOr, ArrayBoolElement, ArrayVarBoolElement, Bool2Int, BoolLinEq, SetEq, SetCard, ArraySetElement, ArrayVarSetElement}
+use Rattle.fz_meaning.specs.declared.builtin.Builtin.TheVariants.{IntEq, IntLinEq, IntAbs, ArrayIntElement, ArrayIntMaximum, ArrayIntMinimum, BoolEq, BoolNot, BoolAnd, BoolOr, BoolXor, ArrayBoolAnd, ArrayBoolOr, ArrayBoolElement, Bool2Int, BoolLinEq, SetEq, SetCard, ArraySetElement}
 use Rattle.fz_meaning.proofs.TableRows.{plain_ints, plain_bools, plain_sets, int_lin_eq_holds}
 use Rattle.fz_builtins.specs.of_view.Given.{int_at, bool_at, set_at, ints_at, bools_at, sets_at}
 use Rattle.fz_meaning.proofs.Values.{same_int, int_itself, bool_itself, set_itself, same_truth}
@@ -49,36 +49,36 @@ not_itself' false = refl
 module _ (K : Partial) (xs : List Argument) (i : ℕ) where
   -- ---- numbers
 
-  pub int_eq_row : (n : ℤ) → IsPlaceOf (row_at IntEq).result i → FitsSigned w64 n
+  pub int_eq_row : (n : ℤ) → IsPlaceOf (result_of (row_at IntEq)) i → FitsSigned w64 n
       → n ≡ int_at K xs (1 - i) → IsLeft IntKind (holds_with (row_at IntEq) K xs i) (Some (Int n))
-  unfolding row_at
+  unfolding row_at result_of
   int_eq_row n place fits e =
       elim (either_place 0 1 i place) [
         | inl here ↦ let is : n ≡ int_at K xs 1 = e ∙ ap (λ j. int_at K xs (1 - j)) here in rw here (refl, fits, rw (← is) (int_itself n))
         | inr here ↦ let is : n ≡ int_at K xs 0 = e ∙ ap (λ j. int_at K xs (1 - j)) here in rw here (refl, fits, rw (← is) (int_itself n))
       ]
 
-  pub int_abs_row : (a : ℤ) (o : Option ℤ) → IsPlaceOf (row_at IntAbs).result i → a ≡ int_at K xs 0
+  pub int_abs_row : (a : ℤ) (o : Option ℤ) → IsPlaceOf (result_of (row_at IntAbs)) i → a ≡ int_at K xs 0
       → IsLeftNumber (λ b. b =ℤ pos (unsigned_abs a)) o
       → IsLeft IntKind (holds_with (row_at IntAbs) K xs i) (option_map Int o)
-  unfolding row_at
+  unfolding row_at result_of
   int_abs_row a o place d h =
       let here : i ≡ 1 = only_place 1 i place in
       rw here (number_left _ o (subst (λ x. IsLeftNumber (λ b. b =ℤ pos (unsigned_abs x)) o) d h))
 
-  pub set_card_row : (a : NumberSet) (o : Option ℤ) → IsPlaceOf (row_at SetCard).result i
+  pub set_card_row : (a : NumberSet) (o : Option ℤ) → IsPlaceOf (result_of (row_at SetCard)) i
       → a ≡ set_at K xs 0 → IsLeftNumber (λ b. b =ℤ pos (sets.len a)) o
       → IsLeft IntKind (holds_with (row_at SetCard) K xs i) (option_map Int o)
-  unfolding row_at
+  unfolding row_at result_of
   set_card_row a o place d h =
       let here : i ≡ 1 = only_place 1 i place in
       rw here (number_left _ o (subst (λ x. IsLeftNumber (λ b. b =ℤ pos (sets.len x)) o) d h))
 
   pub array_int_maximum_row : (b : List ℤ) (o : Option ℤ)
-      → IsPlaceOf (row_at ArrayIntMaximum).result i → b ≡ ints_at K xs 1
+      → IsPlaceOf (result_of (row_at ArrayIntMaximum)) i → b ≡ ints_at K xs 1
       → IsLeftNumber (λ a. is_among a b && list_all (λ x. int_le x a) b) o
       → IsLeft IntKind (holds_with (row_at ArrayIntMaximum) K xs i) (option_map Int o)
-  unfolding row_at
+  unfolding row_at result_of
   array_int_maximum_row b o place d h =
       let here : i ≡ 0 = only_place 0 i place in
       let ns : List ℤ = ints_at K xs 1 in
@@ -86,10 +86,10 @@ module _ (K : Partial) (xs : List Argument) (i : ℕ) where
       rw here (number_left _ o (rw (plain_ints ns) left))
 
   pub array_int_minimum_row : (b : List ℤ) (o : Option ℤ)
-      → IsPlaceOf (row_at ArrayIntMinimum).result i → b ≡ ints_at K xs 1
+      → IsPlaceOf (result_of (row_at ArrayIntMinimum)) i → b ≡ ints_at K xs 1
       → IsLeftNumber (λ a. is_among a b && list_all (λ x. int_le a x) b) o
       → IsLeft IntKind (holds_with (row_at ArrayIntMinimum) K xs i) (option_map Int o)
-  unfolding row_at
+  unfolding row_at result_of
   array_int_minimum_row b o place d h =
       let here : i ≡ 0 = only_place 0 i place in
       let ns : List ℤ = ints_at K xs 1 in
@@ -97,131 +97,117 @@ module _ (K : Partial) (xs : List Argument) (i : ℕ) where
       rw here (number_left _ o (rw (plain_ints ns) left))
 
   pub array_int_element_row : (a : ℤ) (b : List ℤ) (o : Option ℤ)
-      → IsPlaceOf (row_at ArrayIntElement).result i → a ≡ int_at K xs 0 → b ≡ ints_at K xs 1
+      → IsPlaceOf (result_of (row_at ArrayIntElement)) i → a ≡ int_at K xs 0 → b ≡ ints_at K xs 1
       → IsLeftNumber (λ c. is_element ◌=ℤ◌ a b c) o
       → IsLeft IntKind (holds_with (row_at ArrayIntElement) K xs i) (option_map Int o)
-  unfolding row_at
+  unfolding row_at result_of
   array_int_element_row a b o place d e h =
       let here : i ≡ 2 = only_place 2 i place in
       let left : IsLeftNumber (λ c. is_element ◌=ℤ◌ (int_at K xs 0) (ints_at K xs 1) c) o = subst₂ (λ a b. IsLeftNumber (λ c. is_element ◌=ℤ◌ a b c) o) d e h in
       rw here (number_left _ o (rw (plain_ints (ints_at K xs 1)) left))
 
-  pub array_var_int_element_row : (a : ℤ) (b : List ℤ) (o : Option ℤ)
-      → IsPlaceOf (row_at ArrayVarIntElement).result i → a ≡ int_at K xs 0 → b ≡ ints_at K xs 1
-      → IsLeftNumber (λ c. is_element ◌=ℤ◌ a b c) o
-      → IsLeft IntKind (holds_with (row_at ArrayVarIntElement) K xs i) (option_map Int o)
-  unfolding row_at
-  array_var_int_element_row = array_int_element_row
-
-  pub bool_lin_eq_row : (n : ℤ) (o : Option ℤ) → IsPlaceOf (row_at BoolLinEq).result i
+  pub bool_lin_eq_row : (n : ℤ) (o : Option ℤ) → IsPlaceOf (result_of (row_at BoolLinEq)) i
       → n ≡ total (where_true (ints_at K xs 0) (bools_at K xs 1)) → IsLeftNumber (λ c. c =ℤ n) o
       → IsLeft IntKind (holds_with (row_at BoolLinEq) K xs i) (option_map Int o)
-  unfolding row_at
+  unfolding row_at result_of
   bool_lin_eq_row n o place d h =
       let here : i ≡ 2 = only_place 2 i place in
       let left : IsLeftNumber (λ c. c =ℤ total (where_true (ints_at K xs 0) (bools_at K xs 1))) o = subst (λ n. IsLeftNumber (λ c. c =ℤ n) o) d h in
       rw here (number_left _ o (rw (plain_ints (ints_at K xs 0), plain_bools (bools_at K xs 1)) (same_numbers _ _ o (λ c. other_way (total (where_true (ints_at K xs 0) (bools_at K xs 1))) c) left)))
 
-  pub bool2int_number_row : (b : Bool) (o : Option ℤ) → IsPlaceOf (row_at Bool2Int).result i
+  pub bool2int_number_row : (b : Bool) (o : Option ℤ) → IsPlaceOf (result_of (row_at Bool2Int)) i
       → IsOfKind (row_at Bool2Int).shapes i IntKind → b ≡ bool_at K xs 0
       → IsLeftNumber (λ n. n =ℤ as_number b) o
       → IsLeft IntKind (holds_with (row_at Bool2Int) K xs i) (option_map Int o)
-  unfolding row_at
+  unfolding row_at result_of
   bool2int_number_row b o place kind d h =
       let here : i ≡ 1 = elim (either_place 0 1 i place) [ inl first ↦ let is = rw first at kind in cc | inr second ↦ second ] in
       rw here (number_left _ o (subst (λ b. IsLeftNumber (λ n. n =ℤ as_number b) o) d h))
 
   -- ---- Booleans
 
-  pub bool2int_truth_row : (n : ℤ) (o : Option Bool) → IsPlaceOf (row_at Bool2Int).result i
+  pub bool2int_truth_row : (n : ℤ) (o : Option Bool) → IsPlaceOf (result_of (row_at Bool2Int)) i
       → IsOfKind (row_at Bool2Int).shapes i BoolKind → n ≡ int_at K xs 1
       → IsLeftPlain (λ b. n =ℤ as_number b) o
       → IsLeft BoolKind (holds_with (row_at Bool2Int) K xs i) (option_map Truth o)
-  unfolding row_at
+  unfolding row_at result_of
   bool2int_truth_row n o place kind d h =
       let here : i ≡ 0 = elim (either_place 0 1 i place) [ inl first ↦ first | inr second ↦ let is = rw second at kind in cc ] in
       rw here (truth_left _ o (subst (λ n. IsLeftPlain (λ b. n =ℤ as_number b) o) d h))
 
-  pub bool_eq_row : (b : Bool) → IsPlaceOf (row_at BoolEq).result i → b ≡ bool_at K xs (1 - i)
+  pub bool_eq_row : (b : Bool) → IsPlaceOf (result_of (row_at BoolEq)) i → b ≡ bool_at K xs (1 - i)
       → IsLeft BoolKind (holds_with (row_at BoolEq) K xs i) (Some (Truth b))
-  unfolding row_at
+  unfolding row_at result_of
   bool_eq_row b place e =
       elim (either_place 0 1 i place) [
         | inl here ↦ let is : b ≡ bool_at K xs 1 = e ∙ ap (λ j. bool_at K xs (1 - j)) here in rw here (refl, tt, rw (← is) (bool_itself b))
         | inr here ↦ let is : b ≡ bool_at K xs 0 = e ∙ ap (λ j. bool_at K xs (1 - j)) here in rw here (refl, tt, rw (← is) (bool_itself b))
       ]
 
-  pub bool_not_row : (b : Bool) → IsPlaceOf (row_at BoolNot).result i → b ≡ bool_at K xs (1 - i)
+  pub bool_not_row : (b : Bool) → IsPlaceOf (result_of (row_at BoolNot)) i → b ≡ bool_at K xs (1 - i)
       → IsLeft BoolKind (holds_with (row_at BoolNot) K xs i) (Some (Truth (not b)))
-  unfolding row_at
+  unfolding row_at result_of
   bool_not_row b place e =
       elim (either_place 0 1 i place) [
         | inl here ↦ let is : b ≡ bool_at K xs 1 = e ∙ ap (λ j. bool_at K xs (1 - j)) here in rw here (refl, tt, rw (← is) (not_itself b))
         | inr here ↦ let is : b ≡ bool_at K xs 0 = e ∙ ap (λ j. bool_at K xs (1 - j)) here in rw here (refl, tt, rw (← is) (not_itself' b))
       ]
 
-  pub bool_and_row : (t : Bool) → IsPlaceOf (row_at BoolAnd).result i
+  pub bool_and_row : (t : Bool) → IsPlaceOf (result_of (row_at BoolAnd)) i
       → t ≡ (bool_at K xs 0 && bool_at K xs 1)
       → IsLeft BoolKind (holds_with (row_at BoolAnd) K xs i) (Some (Truth t))
-  unfolding row_at
+  unfolding row_at result_of
   bool_and_row t place e =
       let here : i ≡ 2 = only_place 2 i place in
       rw here (refl, tt, rw (← e) (bool_itself t))
 
-  pub bool_or_row : (t : Bool) → IsPlaceOf (row_at BoolOr).result i
+  pub bool_or_row : (t : Bool) → IsPlaceOf (result_of (row_at BoolOr)) i
       → t ≡ (bool_at K xs 0 || bool_at K xs 1)
       → IsLeft BoolKind (holds_with (row_at BoolOr) K xs i) (Some (Truth t))
-  unfolding row_at
+  unfolding row_at result_of
   bool_or_row t place e =
       let here : i ≡ 2 = only_place 2 i place in
       rw here (refl, tt, rw (← e) (bool_itself t))
 
-  pub bool_xor_row : (t : Bool) → IsPlaceOf (row_at BoolXor).result i
+  pub bool_xor_row : (t : Bool) → IsPlaceOf (result_of (row_at BoolXor)) i
       → t ≡ (not (bool_at K xs 0 =ᴮ bool_at K xs 1))
       → IsLeft BoolKind (holds_with (row_at BoolXor) K xs i) (Some (Truth t))
-  unfolding row_at
+  unfolding row_at result_of
   bool_xor_row t place e =
       let here : i ≡ 2 = only_place 2 i place in
       rw here (refl, tt, rw (← e) (bool_itself t))
 
-  pub array_bool_and_row : (t : Bool) → IsPlaceOf (row_at ArrayBoolAnd).result i
+  pub array_bool_and_row : (t : Bool) → IsPlaceOf (result_of (row_at ArrayBoolAnd)) i
       → t ≡ list_all (λ x. x) (bools_at K xs 0)
       → IsLeft BoolKind (holds_with (row_at ArrayBoolAnd) K xs i) (Some (Truth t))
-  unfolding row_at
+  unfolding row_at result_of
   array_bool_and_row t place e =
       let here : i ≡ 1 = only_place 1 i place in
       rw here (refl, tt, rw (plain_bools (bools_at K xs 0), ← e) (bool_itself t))
 
-  pub array_bool_or_row : (t : Bool) → IsPlaceOf (row_at ArrayBoolOr).result i
+  pub array_bool_or_row : (t : Bool) → IsPlaceOf (result_of (row_at ArrayBoolOr)) i
       → t ≡ list_any (λ x. x) (bools_at K xs 0)
       → IsLeft BoolKind (holds_with (row_at ArrayBoolOr) K xs i) (Some (Truth t))
-  unfolding row_at
+  unfolding row_at result_of
   array_bool_or_row t place e =
       let here : i ≡ 1 = only_place 1 i place in
       rw here (refl, tt, rw (plain_bools (bools_at K xs 0), ← e) (bool_itself t))
 
   pub array_bool_element_row : (a : ℤ) (b : List Bool) (o : Option Bool)
-      → IsPlaceOf (row_at ArrayBoolElement).result i → a ≡ int_at K xs 0 → b ≡ bools_at K xs 1
+      → IsPlaceOf (result_of (row_at ArrayBoolElement)) i → a ≡ int_at K xs 0 → b ≡ bools_at K xs 1
       → IsLeftPlain (λ c. is_element ◌=ᴮ◌ a b c) o
       → IsLeft BoolKind (holds_with (row_at ArrayBoolElement) K xs i) (option_map Truth o)
-  unfolding row_at
+  unfolding row_at result_of
   array_bool_element_row a b o place d e h =
       let here : i ≡ 2 = only_place 2 i place in
       let left : IsLeftPlain (λ c. is_element ◌=ᴮ◌ (int_at K xs 0) (bools_at K xs 1) c) o = subst₂ (λ a b. IsLeftPlain (λ c. is_element ◌=ᴮ◌ a b c) o) d e h in
       rw here (truth_left _ o (rw (plain_bools (bools_at K xs 1)) left))
 
-  pub array_var_bool_element_row : (a : ℤ) (b : List Bool) (o : Option Bool)
-      → IsPlaceOf (row_at ArrayVarBoolElement).result i → a ≡ int_at K xs 0 → b ≡ bools_at K xs 1
-      → IsLeftPlain (λ c. is_element ◌=ᴮ◌ a b c) o
-      → IsLeft BoolKind (holds_with (row_at ArrayVarBoolElement) K xs i) (option_map Truth o)
-  unfolding row_at
-  array_var_bool_element_row = array_bool_element_row
-
   -- ---- sets
 
-  pub set_eq_row : (s : NumberSet) → IsPlaceOf (row_at SetEq).result i → s ≡ set_at K xs (1 - i)
+  pub set_eq_row : (s : NumberSet) → IsPlaceOf (result_of (row_at SetEq)) i → s ≡ set_at K xs (1 - i)
       → IsLeft SetKind (holds_with (row_at SetEq) K xs i) (Some (Set s))
-  unfolding row_at
+  unfolding row_at result_of
   set_eq_row s place e =
       elim (either_place 0 1 i place) [
         | inl here ↦ let is : s ≡ set_at K xs 1 = e ∙ ap (λ j. set_at K xs (1 - j)) here in rw here (refl, tt, rw (← is) (set_itself s))
@@ -229,59 +215,52 @@ module _ (K : Partial) (xs : List Argument) (i : ℕ) where
       ]
 
   pub array_set_element_row : (a : ℤ) (b : List NumberSet) (o : Option NumberSet)
-      → IsPlaceOf (row_at ArraySetElement).result i → a ≡ int_at K xs 0 → b ≡ sets_at K xs 1
+      → IsPlaceOf (result_of (row_at ArraySetElement)) i → a ≡ int_at K xs 0 → b ≡ sets_at K xs 1
       → IsLeftPlain (λ c. is_element ◌=ˢ◌ a b c) o
       → IsLeft SetKind (holds_with (row_at ArraySetElement) K xs i) (option_map Set o)
-  unfolding row_at
+  unfolding row_at result_of
   array_set_element_row a b o place d e h =
       let here : i ≡ 2 = only_place 2 i place in
       let left : IsLeftPlain (λ c. is_element ◌=ˢ◌ (int_at K xs 0) (sets_at K xs 1) c) o = subst₂ (λ a b. IsLeftPlain (λ c. is_element ◌=ˢ◌ a b c) o) d e h in
       rw here (set_left _ o (rw (plain_sets (sets_at K xs 1)) left))
 
-  pub array_var_set_element_row : (a : ℤ) (b : List NumberSet) (o : Option NumberSet)
-      → IsPlaceOf (row_at ArrayVarSetElement).result i → a ≡ int_at K xs 0 → b ≡ sets_at K xs 1
-      → IsLeftPlain (λ c. is_element ◌=ˢ◌ a b c) o
-      → IsLeft SetKind (holds_with (row_at ArrayVarSetElement) K xs i) (option_map Set o)
-  unfolding row_at
-  array_var_set_element_row = array_set_element_row
-
 -- from the row of a builtin to that of an equal one
 pub from_row : (K : Partial) (xs : List Argument) (i : ℕ) (k : Kind) (o : Option Value)
-    (b c : Builtin) → b ≡ c → IsPlaceOf (row_at b).result i
-    → (IsPlaceOf (row_at c).result i → IsLeft k (holds_with (row_at c) K xs i) o) → IsLeft k (holds_with (row_at b) K xs i) o
-from_row K xs i k o b c is place h = subst (λ d. IsLeft k (holds_with (row_at d) K xs i) o) (sym is) (h (subst (λ d. IsPlaceOf (row_at d).result i) is place))
+    (b c : Builtin) → b ≡ c → IsPlaceOf (result_of (row_at b)) i
+    → (IsPlaceOf (result_of (row_at c)) i → IsLeft k (holds_with (row_at c) K xs i) o) → IsLeft k (holds_with (row_at b) K xs i) o
+from_row K xs i k o b c is place h = subst (λ d. IsLeft k (holds_with (row_at d) K xs i) o) (sym is) (h (subst (λ d. IsPlaceOf (result_of (row_at d)) i) is place))
 
 -- the index of the other of two arguments
 within_two : (i : ℕ) → (i ≡ 0) ⊎ (i ≡ 1) → i ≤ 1
 within_two i (inl e) = omega arith
 within_two i (inr e) = omega arith
 
-pub int_eq_place : (b : Builtin) (i : ℕ) → b ≡ IntEq → IsPlaceOf (row_at b).result i → i ≤ 1
-unfolding row_at
-int_eq_place b i is place = within_two i (either_place 0 1 i (subst (λ d. IsPlaceOf (row_at d).result i) is place))
+pub int_eq_place : (b : Builtin) (i : ℕ) → b ≡ IntEq → IsPlaceOf (result_of (row_at b)) i → i ≤ 1
+unfolding row_at result_of
+int_eq_place b i is place = within_two i (either_place 0 1 i (subst (λ d. IsPlaceOf (result_of (row_at d)) i) is place))
 
-pub bool_eq_place : (b : Builtin) (i : ℕ) → b ≡ BoolEq → IsPlaceOf (row_at b).result i → i ≤ 1
-unfolding row_at
-bool_eq_place b i is place = within_two i (either_place 0 1 i (subst (λ d. IsPlaceOf (row_at d).result i) is place))
+pub bool_eq_place : (b : Builtin) (i : ℕ) → b ≡ BoolEq → IsPlaceOf (result_of (row_at b)) i → i ≤ 1
+unfolding row_at result_of
+bool_eq_place b i is place = within_two i (either_place 0 1 i (subst (λ d. IsPlaceOf (result_of (row_at d)) i) is place))
 
-pub bool_not_place : (b : Builtin) (i : ℕ) → b ≡ BoolNot → IsPlaceOf (row_at b).result i → i ≤ 1
-unfolding row_at
-bool_not_place b i is place = within_two i (either_place 0 1 i (subst (λ d. IsPlaceOf (row_at d).result i) is place))
+pub bool_not_place : (b : Builtin) (i : ℕ) → b ≡ BoolNot → IsPlaceOf (result_of (row_at b)) i → i ≤ 1
+unfolding row_at result_of
+bool_not_place b i is place = within_two i (either_place 0 1 i (subst (λ d. IsPlaceOf (result_of (row_at d)) i) is place))
 
-pub set_eq_place : (b : Builtin) (i : ℕ) → b ≡ SetEq → IsPlaceOf (row_at b).result i → i ≤ 1
-unfolding row_at
-set_eq_place b i is place = within_two i (either_place 0 1 i (subst (λ d. IsPlaceOf (row_at d).result i) is place))
+pub set_eq_place : (b : Builtin) (i : ℕ) → b ≡ SetEq → IsPlaceOf (result_of (row_at b)) i → i ≤ 1
+unfolding row_at result_of
+set_eq_place b i is place = within_two i (either_place 0 1 i (subst (λ d. IsPlaceOf (result_of (row_at d)) i) is place))
 
 -- a number as the code passes it
 pub passed : (z n : ℤ) → FitsSigned w64 z → z ≡ n → to_z w64 (of_z w64 z) ≡ n
 passed z n fits e = to_z-of_z w64 z fits ∙ e
 
 -- rows of two numbers or two sets, with the result in the third argument
-module _ (K : Partial) (xs : List Argument) (i : ℕ) (b d : Builtin) (is : b ≡ d) (place : IsPlaceOf (row_at b).result i) (third : IsPlaceOf (row_at d).result i → i ≡ 2) where
+module _ (K : Partial) (xs : List Argument) (i : ℕ) (b d : Builtin) (is : b ≡ d) (place : IsPlaceOf (result_of (row_at b)) i) (third : IsPlaceOf (result_of (row_at d)) i → i ≡ 2) where
   in_third : (k : Kind) (o : Option Value) → IsLeft k (holds_with (row_at d) K xs 2) o
       → IsLeft k (holds_with (row_at b) K xs i) o
   in_third k o left =
-      let here : i ≡ 2 = third (subst (λ z. IsPlaceOf (row_at z).result i) is place) in
+      let here : i ≡ 2 = third (subst (λ z. IsPlaceOf (result_of (row_at z)) i) is place) in
       subst₂ (λ z j. IsLeft k (holds_with (row_at z) K xs j) o) (sym is) (sym here) left
 
   pub two_numbers : (f : ℤ → ℤ → ℤ → Bool) (x y : ℤ) (o : Option ℤ)
@@ -324,7 +303,7 @@ module _ (K : Partial) (xs : List Argument) (i : ℕ) (s u w : ℤ) where
       → slice_get (ints_at K xs 1) i ≡ Some (pos 0)
       → s ≡ total (products (ints_at K xs 0) (ints_at K xs 1)) → w ≡ int_at K xs 2
       → holds_with_element (row_at IntLinEq) K xs i (Int n) ≡ ((s +ℤ (u *ℤ n)) =ℤ w)
-  unfolding row_at
+  unfolding row_at result_of
   unit_test n d e sum wanted =
       let a = ints_at K xs 0 in
       let b = ints_at K xs 1 in

@@ -1,12 +1,13 @@
 -- From readiness and outcome to the state of a constraint.
 use Rattle.std.proofs.Common.{◌≡◌, Bool, true, false, ◌&&◌, ◌||◌, List, map, [], ◌∷◌, Option, Some, None, cond, refl, sym, ap, ◌∙◌}
-use Rattle.std.specs.Prelude.{is_some, find, bytes_eq}
+use Rattle.std.specs.Prelude.{is_some, find}
 use Rattle.std.specs.List.{list_all, list_any}
 use Rattle.fz_meaning.specs.declared.state.State.{State}
 use Rattle.fz_meaning.specs.declared.term.Term.{Term}
 use Rattle.fz_meaning.specs.declared.state.State.TheVariants.{Holds, Fails, NoValue, TooLarge}
-use Rattle.fz_meaning.specs.Builtins.{Row, ArgValue, builtins, row_at, rows}
-use Rattle.fz_meaning.specs.Meaning.{Argument, Partial, Posted, argument_values, fits, have_shapes, judged, judged_by, row_holds, row_of, state_of_row, state_of_values, sums_leave, values}
+use Rattle.fz_meaning.specs.Builtins.{Row, ArgValue, builtins, is_named, row_at, rows}
+use Rattle.fz_meaning.specs.Meaning.{Argument, Partial, Posted, argument_values, fits, have_shapes, row_holds, row_of, values}
+use Rattle.fz_meaning.specs.States.{judged, judged_by, state_of_row, state_of_values, sums_leave}
 use Rattle.fz_meaning.proofs.Values.{no, no', and_first, and_second}
 use Rattle.fz_meaning.specs.declared.known.Form.{Form}
 use Rattle.fz_meaning.specs.declared.known.Form.TheVariants.{Base, Reified, Implied}
@@ -104,8 +105,8 @@ found_passes p (z ∷ ys) y e =
 
 pub row_fits : (p : Posted) (r : Row) → row_of p ≡ Some r → have_shapes r.shapes p.arguments ≡ true
 row_fits p r e =
-    let both = found_passes (λ r. bytes_eq r.name p.name && fits r p.arguments) rows r e in
-    and_first (have_shapes r.shapes p.arguments) _ (and_second (bytes_eq r.name p.name) (fits r p.arguments) both)
+    let both = found_passes (λ r. is_named p.name r && fits r p.arguments) rows r e in
+    and_first (have_shapes r.shapes p.arguments) _ (and_second (is_named p.name r) (fits r p.arguments) both)
 
 -- the state under the row that the constraint fits
 pub same_state : (K L : Partial) (xs ys : List Argument) (r : Row) (o : Option Row) → K ≡ L

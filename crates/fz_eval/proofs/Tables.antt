@@ -1,14 +1,16 @@
 -- What the rows of the table have in common: where scalars are filled, which rows add sums up, and
 -- which one fills an element.
-use Rattle.std.proofs.Common.{◌≡◌, ℕ, zero, suc, Bool, true, false, cond, ◌&&◌, List, [], ◌∷◌, find, Some, slice_get, bytes_eq, Contains, refl, sym, subst, arith}
+use Rattle.std.proofs.Common.{◌≡◌, ℕ, zero, suc, Bool, true, false, cond, ◌&&◌, List, [], ◌∷◌, find, Some, slice_get, Contains, refl, sym, subst, arith}
 use Rattle.std.specs.List.{list_all}
 use Rattle.std.specs.Option.{option_map_or}
 use Rattle.fz_meaning.specs.declared.kind.Kind.{Kind}
 use Rattle.fz_meaning.specs.declared.kind.Kind.TheVariants.{Int as IntKind}
-use Rattle.fz_meaning.specs.Builtins.{Shape, Row, Result, builtins, row_at, rows}
+use Rattle.fz_meaning.specs.Builtins.{Shape, Row, builtins, is_named, row_at, rows}
+use Rattle.fz_meaning.specs.Results.{Result, result_of}
 use Rattle.fz_meaning.specs.Builtins.Shape.{ScalarOf, ArrayOf}
-use Rattle.fz_meaning.specs.Builtins.Result.{NoResult, Places, UnitTerm}
-use Rattle.fz_meaning.specs.Meaning.{Argument, Partial, fits, have_shapes, sums_leave}
+use Rattle.fz_meaning.specs.Results.Result.{NoResult, Places, UnitTerm}
+use Rattle.fz_meaning.specs.Meaning.{Argument, Partial, fits, have_shapes}
+use Rattle.fz_meaning.specs.States.{sums_leave}
 use Rattle.fz_meaning.proofs.Values.{no, and_first, and_second}
 use Rattle.fz_meaning.specs.declared.builtin.Builtin.{Builtin}
 use Rattle.fz_meaning.specs.declared.builtin.Builtin.TheVariants.{IntLinEq}
@@ -31,7 +33,7 @@ found_all q t (y ∷ ys) x h e =
     ] e
 
 of_row : (q : Row → Bool) → list_all q rows ≡ true → (r : Row) → IsRow r → q r ≡ true
-of_row q h r (p, e) = found_all q (λ r. bytes_eq r.name p.name && fits r p.arguments) rows r h e
+of_row q h r (p, e) = found_all q (λ r. is_named p.name r && fits r p.arguments) rows r h e
 
 -- ---- an argument that may be filled is a scalar
 
@@ -47,8 +49,8 @@ are_scalars ss NoResult = true
 are_scalars ss (Places is) = list_all (is_scalar_at ss) is
 are_scalars ss UnitTerm = true
 
-all_fill_scalars : list_all (λ r. are_scalars r.shapes r.result) rows ≡ true
-unfolding rows row_at builtins is_scalar is_scalar_at are_scalars
+all_fill_scalars : list_all (λ r. are_scalars r.shapes (result_of r)) rows ≡ true
+unfolding rows row_at builtins result_of is_scalar is_scalar_at are_scalars
 all_fill_scalars = refl
 
 passes_at : (q : ℕ → Bool) (is : List ℕ) (i : ℕ) → list_all q is ≡ true → Contains is i → q i ≡ true
@@ -70,9 +72,9 @@ scalar_filled ss NoResult i h place = absurd place
 scalar_filled ss (Places is) i h place = scalar_there ss i (passes_at (is_scalar_at ss) is i h place)
 scalar_filled ss UnitTerm i h place = absurd place
 
-pub place_is_scalar : (r : Row) → IsRow r → (i : ℕ) → IsPlaceOf r.result i
+pub place_is_scalar : (r : Row) → IsRow r → (i : ℕ) → IsPlaceOf (result_of r) i
     → (k : Kind) × IsOfKind r.shapes i k
-place_is_scalar r row i place = scalar_filled r.shapes r.result i (of_row (λ r. are_scalars r.shapes r.result) all_fill_scalars r row) place
+place_is_scalar r row i place = scalar_filled r.shapes (result_of r) i (of_row (λ r. are_scalars r.shapes (result_of r)) all_fill_scalars r row) place
 
 -- ---- a row adds products of arrays of numbers
 
@@ -87,18 +89,19 @@ same_sums K xs r row h = sym (sums_leave_are K r.shapes xs r.sums (of_row (λ r.
 
 -- ---- the row that fills an element
 
-unit_base : (b : Builtin) → (row_at b).result ≡ UnitTerm → row_at b ≡ row_at IntLinEq
-unfolding row_at
+unit_base : (b : Builtin) → result_of (row_at b) ≡ UnitTerm → row_at b ≡ row_at IntLinEq
+unfolding row_at result_of
 unit_base IntLinEq e = refl
 unit_base _ e = cc
 
-unit_form : (b : Builtin) (f : Form) → (form_at f (row_at b)).result ≡ UnitTerm
+unit_form : (b : Builtin) (f : Form) → result_of (form_at f (row_at b)) ≡ UnitTerm
     → form_at f (row_at b) ≡ row_at IntLinEq
+unfolding result_of
 unit_form b Base e = unit_base b e
 unit_form b Reified e = cc
 unit_form b Implied e = cc
 
-pub unit_row : (k : Known) → (known_row k).result ≡ UnitTerm → known_row k ≡ row_at IntLinEq
+pub unit_row : (k : Known) → result_of (known_row k) ≡ UnitTerm → known_row k ≡ row_at IntLinEq
 unit_row k e = unit_form k.builtin k.form e
 
 pub unit_shapes : (row_at IntLinEq).shapes

@@ -7,17 +7,18 @@ use Rattle.fz_base.specs.declared.value.Value.TheVariants.{Int, Bool as Truth, S
 use Rattle.fz_meaning.specs.declared.kind.Kind.TheVariants.{Int as IntKind}
 use Rattle.fz_meaning.specs.declared.term.Term.{Term}
 use Rattle.fz_meaning.specs.declared.term.Term.TheVariants.{Var}
-use Rattle.fz_meaning.specs.Values.{kind_of}
-use Rattle.fz_meaning.specs.Builtins.{Row}
+use Rattle.fz_meaning.specs.Relations.{kind_of}
+use Rattle.fz_meaning.specs.Builtins.{Row, row_at}
+use Rattle.fz_meaning.specs.Results.{result_of}
 use Rattle.fz_meaning.specs.Builtins.Shape.{ScalarOf, ArrayOf}
 use Rattle.fz_meaning.specs.Builtins.ArgValue.{ManyValues}
-use Rattle.fz_meaning.specs.Builtins.Result.{UnitTerm}
-use Rattle.fz_meaning.specs.Meaning.{Argument, Partial, value, value_at, give, row_holds, sums_leave, terms_in, terms_at_argument}
+use Rattle.fz_meaning.specs.Results.Result.{UnitTerm}
+use Rattle.fz_meaning.specs.Meaning.{Argument, Partial, value, value_at, give, row_holds, terms_in}
+use Rattle.fz_meaning.specs.States.{sums_leave, terms_at_argument}
 use Rattle.fz_meaning.specs.Steps.{IsResult, open_terms}
 use Rattle.fz_meaning.proofs.States.{intro}
 use Rattle.fz_meaning.proofs.Steps.{is_open, term_keeps, some_of, as_number_of}
 use Rattle.fz_meaning.specs.declared.builtin.Builtin.TheVariants.{IntLinEq}
-use Rattle.fz_meaning.specs.Builtins.{row_at}
 use Rattle.fz_builtins.specs.of_view.Given.{slots_at, int_in, ints_of, ints_at, given, given_values, read_leave}
 use Rattle.fz_builtins.proofs.of_view.Sums.{slots_terms}
 use Rattle.fz_eval.specs.Left.{HasUnit, IsLeft, IsReadAsNone, IsUnit, holds_with_element, is_too_large, products_leave}
@@ -136,7 +137,7 @@ module _ (K : Partial) (xs : List Argument) (r : Row) (s : Spot) (h : IsReady K 
         (changes K s.variable (none K xs r s h) within w r.shapes xs 1 s.place (ArrayOf IntKind) h.shaped h.only_open stands_second (ap (λ ss. slice_get ss 1) shapes)
         ∙ ap (slice_set (given_values K r.shapes xs) 1) (given_element within w is))
 
-    pub element_left : r ≡ row_at IntLinEq → r.result ≡ UnitTerm → r.sums ≡ (0, 1) ∷ []
+    pub element_left : r ≡ row_at IntLinEq → result_of r ≡ UnitTerm → r.sums ≡ (0, 1) ∷ []
         → is_too_large r K xs ≡ sums_leave K xs r → HasUnit K xs s.place → (o : Option ℤ)
         → (products_leave K xs ≡ false → IsLeft IntKind (holds_with_element (row_at IntLinEq) K xs s.place) (option_map Int o)) → (products_leave K xs ≡ true → o ≡ None)
         → IsOnlyValue K xs r s.variable (option_map Int o)

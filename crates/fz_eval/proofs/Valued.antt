@@ -12,11 +12,12 @@ use Rattle.fz_meaning.specs.declared.term.Term.{Term}
 use Rattle.fz_meaning.specs.declared.term.Term.TheVariants.{Var, Fixed}
 use Rattle.fz_meaning.specs.declared.term.Domain.{Domain}
 use Rattle.fz_meaning.specs.declared.term.Domain.TheVariants.{All, Within, Among}
-use Rattle.fz_meaning.specs.Values.{kind_of, same_kind}
+use Rattle.fz_meaning.specs.Relations.{kind_of, same_kind}
 use Rattle.fz_meaning.specs.Builtins.{Shape}
 use Rattle.fz_meaning.specs.Builtins.Shape.{ScalarOf, ArrayOf}
 use Rattle.fz_meaning.specs.Meaning as meaning
-use Rattle.fz_meaning.specs.Meaning.{Argument, Declared, Model, Partial, Place, Point, Posted, array_points, declared_points, definition_points, has_shape, have_shapes, inside, is_term_of, terms_at, terms_in, judged, judged_by, numbered, numbered_from, value_at, variable_of, variables_of}
+use Rattle.fz_meaning.specs.Meaning.{Argument, Declared, Model, Partial, Place, Point, Posted, array_points, declared_points, definition_points, has_shape, have_shapes, inside, is_term_of, terms_at, terms_in, numbered, numbered_from, value_at, variable_of, variables_of}
+use Rattle.fz_meaning.specs.States.{judged, judged_by}
 use Rattle.fz_meaning.specs.Meaning.Declared.{Parameter, ScalarVariable, ArrayOfVariables}
 use Rattle.fz_meaning.specs.Meaning.Point.{DomainPoint, DefinitionPoint, ArrayPoint}
 use Rattle.fz_meaning.specs.Meaning.Place.{Scalar, Array}

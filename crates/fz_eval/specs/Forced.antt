@@ -2,11 +2,13 @@
 -- cites `Gives` alone; the rest is for private functions.
 use Rattle.std.specs.Prelude.{◌≡◌, ℕ, ℤ, ◌<◌, ◌↔◌, true, false, slice_get, List, [], ◌∷◌, length, flat_map, Option, Some, None, IsTrue, IsSomeAnd}
 use Rattle.fz_base.specs.declared.value.Value.{Value}
-use Rattle.fz_meaning.specs.Values.{kind_of}
+use Rattle.fz_meaning.specs.Relations.{kind_of}
 use Rattle.fz_meaning.specs.declared.term.Domain.{Domain}
 use Rattle.fz_meaning.specs.Builtins.{Row}
+use Rattle.fz_meaning.specs.Results.{result_of}
 use Rattle.fz_meaning.specs.declared.term.Term.TheVariants.{Var}
-use Rattle.fz_meaning.specs.Meaning.{Argument, Model, Point, Partial, Posted, admits, argument_values, give, have_shapes, row_holds, row_of, sums_leave, terms_in, terms_at_argument}
+use Rattle.fz_meaning.specs.Meaning.{Argument, Model, Point, Partial, Posted, admits, argument_values, give, have_shapes, row_holds, row_of, terms_in}
+use Rattle.fz_meaning.specs.States.{sums_leave, terms_at_argument}
 use Rattle.fz_meaning.specs.Steps.{Gives, GivesNothing, HasOneNumber, IsResult, WithinLimits, kind_at, open_terms}
 use Rattle.fz_eval.specs.declared.only.Spot.{Spot}
 use Rattle.fz_eval.specs.Kinds.{each_fits}
@@ -38,7 +40,7 @@ IsRow r = (p : Posted) × (row_of p ≡ Some r)
 pub record Fills (K : Partial) (xs : List Argument) (r : Row) (n : ℕ) (v : Value) : Type 0 where
   pub only_open : open_terms K (flat_map terms_in xs) ≡ Var n ∷ []
   pub sums_fit : sums_leave K xs r ≡ false
-  pub result : IsResult K xs n r.result
+  pub result : IsResult K xs n (result_of r)
   pub within_limits : WithinLimits v
   pub holds : IsSomeAnd (argument_values (give K n v) xs) (λ vs. IsTrue (row_holds r vs))
 

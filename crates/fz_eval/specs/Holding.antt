@@ -2,7 +2,8 @@
 use Rattle.std.specs.Prelude.{Bool, true, false}
 use Rattle.fz_meaning.specs.declared.state.State.{State}
 use Rattle.fz_meaning.specs.declared.state.State.TheVariants.{Holds}
-use Rattle.fz_meaning.specs.Meaning.{Partial, Point, state}
+use Rattle.fz_meaning.specs.Meaning.{Partial, Point}
+use Rattle.fz_meaning.specs.States.{state}
 
 abbrev pub is_held : State → Bool
 is_held Holds = true

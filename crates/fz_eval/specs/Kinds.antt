@@ -5,7 +5,7 @@ use Rattle.std.specs.List.{list_all}
 use Rattle.std.specs.Option.{option_map_or}
 use Rattle.fz_meaning.specs.declared.kind.Kind.{Kind}
 use Rattle.fz_meaning.specs.declared.term.Term.{Term}
-use Rattle.fz_meaning.specs.Values.{kind_of, same_kind}
+use Rattle.fz_meaning.specs.Relations.{kind_of, same_kind}
 use Rattle.fz_meaning.specs.Builtins.{Shape}
 use Rattle.fz_meaning.specs.Meaning.{Argument, Partial, value, terms_in}
 pub use Rattle.fz_eval.specs.Whole.{kind_in}

@@ -6,11 +6,12 @@ use Rattle.std.specs.List.{list_any}
 use Rattle.fz_base.specs.declared.value.Value.{Value}
 use Rattle.fz_base.specs.declared.value.Value.TheVariants.{Int}
 use Rattle.fz_meaning.specs.declared.kind.Kind.{Kind}
-use Rattle.fz_meaning.specs.Values.{kind_of}
-use Rattle.fz_meaning.specs.Builtins.{Shape, Row, Result}
+use Rattle.fz_meaning.specs.Relations.{kind_of}
+use Rattle.fz_meaning.specs.Builtins.{Shape, Row}
+use Rattle.fz_meaning.specs.Results.{Result}
 use Rattle.fz_meaning.specs.Builtins.Shape.{ScalarOf}
 use Rattle.fz_meaning.specs.Builtins.ArgValue.{OneValue, ManyValues}
-use Rattle.fz_meaning.specs.Builtins.Result.{NoResult, Places, UnitTerm}
+use Rattle.fz_meaning.specs.Results.Result.{NoResult, Places, UnitTerm}
 use Rattle.fz_meaning.specs.Meaning.{Argument, Partial, row_holds}
 use Rattle.fz_builtins.specs.of_view.Given.{given_values, ints_at, read_leave}
 use Rattle.fz_meaning.specs.Steps.{WithinLimits}

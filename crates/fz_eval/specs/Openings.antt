@@ -6,7 +6,8 @@ use Rattle.std.specs.List.{Contains, list_all}
 use Rattle.fz_base.specs.declared.value.Value.{Value}
 use Rattle.fz_meaning.specs.declared.term.Term.{Term}
 use Rattle.fz_meaning.specs.declared.term.Term.TheVariants.{Var}
-use Rattle.fz_meaning.specs.Meaning.{Model, Partial, Posted, terms_at_argument, terms_in, value_at}
+use Rattle.fz_meaning.specs.Meaning.{Model, Partial, Posted, terms_in, value_at}
+use Rattle.fz_meaning.specs.States.{terms_at_argument}
 use Rattle.fz_meaning.specs.Meaning.Point.{ConstraintPoint}
 use Rattle.fz_meaning.specs.Steps.{GivesNothing, open_terms}
 use Rattle.fz_builtins.specs.of_data.declared.Argument.{Argument}

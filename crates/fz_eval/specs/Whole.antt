@@ -3,7 +3,7 @@
 use Rattle.std.specs.Prelude.{◌≡◌, Bool, true, false, ◌&&◌, List, [], ◌∷◌, Option, Some, None}
 use Rattle.fz_base.specs.declared.value.Value.{Value}
 use Rattle.fz_meaning.specs.declared.kind.Kind.{Kind}
-use Rattle.fz_meaning.specs.Values.{kind_of, same_kind}
+use Rattle.fz_meaning.specs.Relations.{kind_of, same_kind}
 use Rattle.fz_meaning.specs.Builtins.{Row, Shape}
 use Rattle.fz_meaning.specs.Builtins.Shape.{ScalarOf, ArrayOf}
 use Rattle.fz_meaning.specs.Meaning.{Partial, Point, Posted, Variable, inside, row_of}

@@ -3,7 +3,8 @@
 ghost use Rattle.std.specs.Prelude.{◌≡◌, IfOk, option_map};
 ghost use Rattle.fz_base.specs.declared.value.Value.TheVariants.{Int, Bool as Truth, Set};
 ghost use Rattle.fz_meaning.specs.declared.kind.Kind.TheVariants.{Int as IntKind, Bool as BoolKind, Set as SetKind};
-ghost use Rattle.fz_meaning.specs.Builtins.{element_at};
+ghost use Rattle.fz_meaning.specs.Relations.{element_at};
+ghost use Rattle.fz_meaning.specs.Results.{result_of};
 ghost use Rattle.fz_builtins.specs.of_view.Views.{arguments_of, assigned, sets};
 ghost use Rattle.fz_meaning.specs.Builtins.{row_at};
 ghost use Rattle.fz_eval.specs.Counted.{IsNoneOf, counting_rows};
@@ -28,7 +29,7 @@ pub(crate) fn left_number(
     place: usize,
     view: &ArgumentView<'_, '_>,
 ) -> Option<i64>
-    requires result { IsPlaceOf (row_at builtin).result place }
+    requires result { IsPlaceOf (result_of (row_at builtin)) place }
     requires number { IsOfKind (row_at builtin).shapes place IntKind }
     requires other { IsNoneOf builtin counting_rows }
     ensures { IsLeft IntKind (holds_with (row_at builtin) (assigned view.now)
@@ -44,7 +45,6 @@ pub(crate) fn left_number(
         Builtin::IntDiv => quotient(view.int(0), view.int(1)),
         Builtin::IntMod => remainder(view.int(0), view.int(1)),
         Builtin::ArrayIntElement => int_element(view.int(0), &view.elements(1)),
-        Builtin::ArrayVarIntElement => int_element(view.int(0), &view.elements(1)),
         Builtin::ArrayIntMaximum => maximum(&view.elements(1)),
         Builtin::ArrayIntMinimum => minimum(&view.elements(1)),
         Builtin::Bool2Int => Some(number_of_truth(view.truth(0))),
@@ -60,7 +60,7 @@ pub(crate) fn left_truth(
     place: usize,
     view: &ArgumentView<'_, '_>,
 ) -> Option<bool>
-    requires result { IsPlaceOf (row_at builtin).result place }
+    requires result { IsPlaceOf (result_of (row_at builtin)) place }
     requires truth { IsOfKind (row_at builtin).shapes place BoolKind }
     ensures { IsLeft BoolKind (holds_with (row_at builtin) (assigned view.now)
         (arguments_of view.now) place) (option_map Truth result) }
@@ -74,7 +74,6 @@ pub(crate) fn left_truth(
         Builtin::ArrayBoolAnd => Some(all_true(&view.elements(0))),
         Builtin::ArrayBoolOr => Some(any_true(&view.elements(0))),
         Builtin::ArrayBoolElement => bool_element(view.int(0), &view.elements(1)),
-        Builtin::ArrayVarBoolElement => bool_element(view.int(0), &view.elements(1)),
         Builtin::Bool2Int => truth_of(view.int(1)),
         _ => None,
     }
@@ -87,7 +86,7 @@ pub(crate) fn left_set(
     place: usize,
     view: &ArgumentView<'_, '_>,
 ) -> Result<Option<IntSet>, SetError>
-    requires result { IsPlaceOf (row_at builtin).result place }
+    requires result { IsPlaceOf (result_of (row_at builtin)) place }
     requires set { IsOfKind (row_at builtin).shapes place SetKind }
     ensures { IfOk result (λ left. IsLeft SetKind (holds_with (row_at builtin) (assigned view.now)
         (arguments_of view.now) place) (option_map Set left)) }
@@ -99,7 +98,6 @@ pub(crate) fn left_set(
         Builtin::SetDiff => Ok(Some(view.set(0).minus(alloc, view.set(1))?)),
         Builtin::SetSymdiff => Ok(Some(view.set(0).symdiff(alloc, view.set(1))?)),
         Builtin::ArraySetElement => element_copy(alloc, view.int(0), &view.elements(1)),
-        Builtin::ArrayVarSetElement => element_copy(alloc, view.int(0), &view.elements(1)),
         _ => Ok(None),
     }
 }

@@ -2,7 +2,8 @@
 
 ghost use Rattle.std.specs.Prelude.{◌≡◌, IfOk, IsTrue, Some, true, length, map, option_map};
 ghost use Rattle.std.specs.List.{list_any};
-ghost use Rattle.fz_meaning.specs.Meaning.{have_shapes, row_of, state_of_row};
+ghost use Rattle.fz_meaning.specs.Meaning.{have_shapes, row_of};
+ghost use Rattle.fz_meaning.specs.States.{state_of_row};
 ghost use Rattle.fz_meaning.specs.Builtins.{row_at};
 ghost use Rattle.fz_meaning.specs.Known.{HasTruth, known_row};
 ghost use Rattle.fz_builtins.specs.of_data.Parts.{constraint_view};

@@ -1,8 +1,7 @@
 //! What the rows leave that count or give an index.
 
 ghost use Rattle.std.specs.Prelude.{◌≡◌, IfOk, int_le, length, pos};
-ghost use Rattle.fz_meaning.specs.Values.{◌=ℤ◌};
-ghost use Rattle.fz_meaning.specs.Globals.{count_in, count_of, is_index_of_best, values_of};
+ghost use Rattle.fz_meaning.specs.Relations.{◌=ℤ◌, count_in, count_of, is_index_of_best, values_of};
 ghost use Rattle.fz_builtins.specs.of_view.Views.{arguments_of, assigned};
 ghost use Rattle.fz_builtins.specs.Readings.{int, ints, numbers};
 ghost use Rattle.fz_eval.specs.Counted.{IsCounted, Tells};
@@ -33,8 +32,6 @@ pub(crate) fn counted(
     ensures { IfOk result (λ o. IsCounted builtin (assigned view.now) (arguments_of view.now) o) }
 {
     match builtin {
-        Builtin::Count => Ok(of_value(view)),
-        Builtin::GecodeCount => Ok(of_value(view)),
         Builtin::FznCountEq => Ok(of_value(view)),
         Builtin::FznAmong => Ok(in_set(view)),
         Builtin::FznNvalue => Ok(values(alloc, view)?),

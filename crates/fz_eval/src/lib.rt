@@ -10,7 +10,7 @@
 //! the one value of the argument's kind, an integer of 64 bits among them, with which the row
 //! holds. `opening_of` tells what a constraint waits for before.
 //!
-//! Its worked cases are in `fz_check_cases` (`points.rt`, `builtins.rt` and `globals.rt`).
+//! Its worked cases are in `tests/cases` (`builtins.txt`, `calls.txt`).
 #![tactic(auto)]
 
 mod base_row;

@@ -5,8 +5,7 @@
 ghost use Rattle.std.specs.Prelude.{pos, ◌+ℤ◌, ◌*ℤ◌, ◌&&◌, not, int_div, int_rem, unsigned_abs};
 ghost use Rattle.std.specs.Int.{int_max, int_min};
 ghost use Rattle.std.specs.FinSet as sets;
-ghost use Rattle.fz_meaning.specs.Builtins.{as_number};
-ghost use Rattle.fz_meaning.specs.Values.{◌=ℤ◌};
+ghost use Rattle.fz_meaning.specs.Relations.{as_number, ◌=ℤ◌};
 ghost use Rattle.fz_eval.specs.Left.{IsLeftNumber, IsLeftPlain, IsUnit};
 
 use fz_base::IntSet;

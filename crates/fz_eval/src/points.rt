@@ -2,7 +2,8 @@
 
 ghost use Rattle.std.specs.Prelude.{◌≡◌, ◌<◌, IfOk, IsTrue, Some, length, option_map, slice_get};
 ghost use Rattle.fz_meaning.specs.Known.{known_row};
-ghost use Rattle.fz_meaning.specs.Meaning.{Point, points, row_of, state};
+ghost use Rattle.fz_meaning.specs.Meaning.{Point, points, row_of};
+ghost use Rattle.fz_meaning.specs.States.{state};
 ghost use Rattle.fz_builtins.specs.of_data.Parts.{constraint_view};
 ghost use Rattle.fz_builtins.specs.of_data.Shown.{IfConstraint, point_view};
 ghost use Rattle.fz_eval.specs.Whole.{IsReady};

@@ -2,10 +2,11 @@
 
 ghost use Rattle.std.specs.Prelude.{◌≡◌, ◌↔◌, IfOk, IfSome, IsTrue, Some, option_map, true};
 ghost use Rattle.fz_base.specs.declared.value.Value.TheVariants.{Int};
-ghost use Rattle.fz_meaning.specs.Builtins.Result.{UnitTerm};
+ghost use Rattle.fz_meaning.specs.Results.Result.{UnitTerm};
+ghost use Rattle.fz_meaning.specs.Results.{result_of};
 ghost use Rattle.fz_meaning.specs.Meaning.{IsPartial, Model as Meaning, row_of};
 ghost use Rattle.fz_meaning.specs.Meaning.Point.{ConstraintPoint};
-ghost use Rattle.fz_meaning.specs.Known.{known_row, result_of};
+ghost use Rattle.fz_meaning.specs.Known.{as_result, known_row};
 ghost use Rattle.fz_builtins.specs.of_data.Kinds.{PostedFits};
 ghost use Rattle.fz_builtins.specs.of_data.Parts.{constraint_view};
 ghost use Rattle.fz_builtins.specs.of_view.Views.{arguments_of, assigned};
@@ -78,7 +79,7 @@ fn value_at(
 // The value of an element of a sum, where its coefficient is 1 or -1.
 fn element_left(known: Known, spot: Spot, view: &ArgumentView<'_, '_>) -> Option<i64>
     requires row { IsRow (known_row known) }
-    requires unit_term { (known_row known).result ≡ UnitTerm }
+    requires unit_term { result_of (known_row known) ≡ UnitTerm }
     requires ready { IsReady (assigned view.now) (arguments_of view.now) (known_row known) spot }
     ensures { IsOnlyValue (assigned view.now) (arguments_of view.now)
         (known_row known) spot.variable (option_map Int result) }
@@ -102,14 +103,14 @@ fn has_unit(view: &ArgumentView<'_, '_>, place: usize) -> bool
 }
 
 fn is_unit_term(filled: Filled) -> bool
-    ensures { IsTrue result ↔ (result_of filled ≡ UnitTerm) }
+    ensures { IsTrue result ↔ (as_result filled ≡ UnitTerm) }
 {
     matches!(filled, Filled::UnitTerm)
 }
 
 // Whether the argument at an index may be filled.
 fn is_place(filled: Filled, place: usize) -> bool
-    ensures { IsTrue result ↔ IsPlaceOf (result_of filled) place }
+    ensures { IsTrue result ↔ IsPlaceOf (as_result filled) place }
 {
     match filled {
         Filled::Nothing | Filled::UnitTerm => false,

@@ -4,6 +4,7 @@ ghost use Rattle.std.specs.Prelude.{◌≡◌, ℕ, length, None, IfNone, IfOk, 
 ghost use Rattle.fz_base.specs.declared.value.Value.TheVariants.{Bool as Truth};
 ghost use Rattle.fz_meaning.specs.declared.kind.Kind.{Kind};
 ghost use Rattle.fz_meaning.specs.Builtins.{reified};
+ghost use Rattle.fz_meaning.specs.Results.{result_of};
 ghost use Rattle.fz_meaning.specs.declared.kind.Kind.TheVariants.{Bool as BoolKind, Int as IntKind};
 ghost use Rattle.fz_builtins.specs.of_view.Views.{arguments_of, assigned};
 ghost use Rattle.fz_meaning.specs.Builtins.{row_at};
@@ -28,7 +29,7 @@ pub(crate) fn left_value(
     place: usize,
     view: &ArgumentView<'_, '_>,
 ) -> Result<Option<Value>, AllocError>
-    requires result { IsPlaceOf (known_row known).result place }
+    requires result { IsPlaceOf (result_of (known_row known)) place }
     ensures left { (k : Kind) → IsOfKind (known_row known).shapes place k
         → IsFalse (is_too_large (known_row known) (assigned view.now) (arguments_of view.now))
         → IfOk result (λ left. IsLeft k
@@ -72,7 +73,7 @@ fn left_base(
     place: usize,
     view: &ArgumentView<'_, '_>,
 ) -> Result<Option<Value>, AllocError>
-    requires { IsPlaceOf (row_at builtin).result place }
+    requires { IsPlaceOf (result_of (row_at builtin)) place }
     ensures { (k : Kind) → IsOfKind (row_at builtin).shapes place k
         → IfOk result (λ left. IsLeft k
         (holds_with (row_at builtin) (assigned view.now) (arguments_of view.now) place) left) }
@@ -98,7 +99,7 @@ fn left_int(
     place: usize,
     view: &ArgumentView<'_, '_>,
 ) -> Result<Option<Value>, AllocError>
-    requires result { IsPlaceOf (row_at builtin).result place }
+    requires result { IsPlaceOf (result_of (row_at builtin)) place }
     requires number { IsOfKind (row_at builtin).shapes place IntKind }
     ensures { IfOk result (λ left. IsLeft IntKind
         (holds_with (row_at builtin) (assigned view.now) (arguments_of view.now) place) left) }

@@ -3,5 +3,6 @@ pub mod Sources
 pub mod Spots
 pub mod Told
 pub mod Explained
-pub mod Notes
+pub mod Domains
 pub mod Leaving
+pub mod Lines

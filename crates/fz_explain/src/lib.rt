@@ -1,22 +1,36 @@
-//! What is behind a verdict on a block, for a person to act on: the point that the verdict is
-//! about, the variables in that point, and where the value of each comes from.
-//!
-//! Worked cases are in `fz_check_cases` (`explaining.rt`, `messages.rt`).
+//! What is behind a verdict on a block, or a refusal, for a person to act on. Data under contracts
+//! are the point that a verdict is about, the variables in that point, and where the value of each
+//! comes from. Messages in the form of a compiler's show these: an `Explainer` explains the verdicts
+//! on blocks, `message_at` shows a byte range of a file or a stream. No contract speaks of their
+//! words and layout, which `tests/explained` tests.
 #![tactic(auto)]
 
+mod case;
+mod domain;
+mod excerpt;
 mod explained;
 mod failing;
+mod help;
+mod lines;
+mod message;
 mod notes;
 mod place;
 mod scalars;
+mod sentence;
 mod source;
 mod sums;
 mod variables;
+mod verdict;
 
+pub use case::{Case, Explainer};
+pub use domain::declared_domain;
 pub use explained::{Explained, Explanation, explain};
 pub use failing::{Sought, first_point};
+pub use fz_base::{Range, Value};
 pub use fz_filling::Giver;
-pub use notes::{Loaded, bounds_note, notes_of};
+pub use lines::{Spot, spot_of};
+pub use message::{Message, Text, message_at};
+pub use notes::{MOST_RANGES, Note, Origin};
 pub use place::point_place;
 pub use source::{Source, sources_are_earlier};
 pub use sums::too_large_at;

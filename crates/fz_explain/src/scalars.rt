@@ -1,7 +1,8 @@
 //! The scalars in the arguments of a constraint.
 
 ghost use Rattle.std.specs.Prelude.{◌≡◌, ◌++◌, IfOk, OnOk, flat_map, map};
-ghost use Rattle.fz_filling.specs.of_model.Meaning.{terms_at, terms_at_argument, terms_in};
+ghost use Rattle.fz_filling.specs.of_model.Meaning.{terms_at, terms_in};
+ghost use Rattle.fz_filling.specs.of_model.States.{terms_at_argument};
 ghost use Rattle.fz_filling.specs.of_model.Parts.{argument_view, constraint_view, place_view};
 ghost use Rattle.fz_filling.specs.of_model.Slots.{scalar_term, slot_term};
 

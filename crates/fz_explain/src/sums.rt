@@ -1,7 +1,8 @@
 //! The product with which a sum of products leaves signed 128 bits.
 
 ghost use Rattle.std.specs.Prelude.{◌≡◌, ◌<◌, ◌++◌, [], IfOk, OnOk, Some, length, map, slice_get};
-ghost use Rattle.fz_filling.specs.of_model.Meaning.{Point, known_products, number_at, points, product_before};
+ghost use Rattle.fz_filling.specs.of_model.Meaning.{Point, number_at, points};
+ghost use Rattle.fz_filling.specs.of_model.States.{known_products, product_before};
 ghost use Rattle.fz_filling.specs.of_model.Parts.{constraint_view};
 ghost use Rattle.fz_filling.specs.of_model.Slots.{scalar_term};
 ghost use Rattle.fz_explain.specs.Leaving.{first_leaving, leaving_in, leaving_of};

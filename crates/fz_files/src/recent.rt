@@ -1,12 +1,11 @@
-//! A reader that stores the last of what it gave, so that a fault can be shown in its line.
+//! A reader that stores the last of what it gave, so that a place in it can be shown in its line.
 
 ghost use Rattle.std.specs.Prelude.{◌≡◌};
 ghost use Rattle.std.specs.Io.{ReadsAtMost};
 ghost use Rattle.std.specs.Io.KnownBytes.{ReadConsumes};
 
-use fz_places::spot_of;
 use std::alloc::{AllocError, Global};
-use std::cell::Cell;
+use std::cell::RefCell;
 use std::io;
 use std::io::Read;
 
@@ -28,50 +27,31 @@ pub const NOTHING: Passed = Passed {
     blocks: 0,
 };
 
-/// A block that is to be explained: its number, its text, and what comes before it.
+/// What was read of a stream since the last block ended that ended before the last read. Where
+/// memory runs out, nothing is stored from then on.
 #[derive(Drop)]
-pub struct Told {
-    pub number: usize,
-    pub bytes: Vec<u8>,
-    pub passed: Passed,
-}
-
-/// A reader that gives what another one gives. Where that is asked for, it stores what it gave
-/// since the last block ended, and the block whose number is in a cell. Of a failed read it stores
-/// the error.
-#[derive(Drop)]
-pub struct Recent<'c, R> {
-    reader: R,
-    wanted: &'c Cell<usize>,
-    told: Option<Told>,
+pub struct Recent {
     alloc: Global,
     keeps: bool,
     bytes: Vec<u8>,
     /// The index in `bytes` of the first line that wasn't looked at.
     next: usize,
     passed: Passed,
-    failure: Option<io::Error>,
 }
 
-impl<'c, R: Read> Recent<'c, R> {
-    /// The cell has the number, from 1, of the block to be explained, or 0 where there is none so
-    /// far.
-    pub fn new(alloc: Global, reader: R, keeps: bool, wanted: &'c Cell<usize>) -> Recent<'c, R> {
+impl Recent {
+    /// Before the first read.
+    pub fn new(alloc: Global) -> Recent {
         Recent {
-            reader,
-            wanted,
-            told: None,
             alloc,
-            keeps,
+            keeps: true,
             bytes: Vec::new(alloc),
             next: 0,
             passed: NOTHING,
-            failure: None,
         }
     }
 
-    /// The bytes that are stored, and what was given before them; none where nothing is stored, or
-    /// memory ran out.
+    /// The bytes that are stored, and what was given before them; none where nothing is stored.
     pub fn kept(&self) -> Option<(&[u8], Passed)> {
         if self.keeps {
             Some((&self.bytes, self.passed))
@@ -80,61 +60,15 @@ impl<'c, R: Read> Recent<'c, R> {
         }
     }
 
-    /// Why a read failed, where one did.
-    pub fn failure(&self) -> Option<&io::Error> {
-        self.failure.as_ref()
+    /// How many lines of the stream end before this offset; none where what is stored doesn't tell.
+    pub fn lines_before(&self, offset: usize) -> Option<usize> {
+        let (bytes, passed) = self.kept()?;
+        let front = before(bytes, offset.checked_sub(passed.bytes)?);
+        Some(passed.lines.saturating_add(count_ends(front)))
     }
 
     /// Drops the blocks that have ended, since what was given is judged before more is read.
-    fn let_go(&mut self)
-        ensures { self.new.reader ≡ self.old.reader }
-    {
-        if self.keeps {
-            self.keeps = self.tell_wanted().is_ok() && self.drop_ended().is_ok();
-        }
-    }
-
-    /// The block that is to be explained, after the last read.
-    pub fn told(&mut self) -> Option<&Told> {
-        if self.keeps {
-            self.keeps = self.tell_wanted().is_ok();
-        }
-        if self.keeps && self.wanted.get() > 0 {
-            self.told.as_ref()
-        } else {
-            None
-        }
-    }
-
-    /// Stores the block whose number is in the cell, where that isn't stored already.
-    fn tell_wanted(&mut self) -> Result<(), AllocError>
-        ensures { self.new.reader ≡ self.old.reader }
-    {
-        let number = self.wanted.get();
-        let is_told = match &self.told {
-            Some(told) => told.number == number,
-            None => false,
-        };
-        if number > 0 && !is_told {
-            let (start, end) = block_ends(&self.bytes, number.saturating_sub(self.passed.blocks));
-            let text = behind(&self.bytes, start);
-            let lines = spot_of(&self.bytes, start).line.saturating_sub(1);
-            self.told = Some(Told {
-                number,
-                bytes: Vec::from_slice(self.alloc, before(text, end.saturating_sub(start)))?,
-                passed: Passed {
-                    bytes: self.passed.bytes.saturating_add(start),
-                    lines: self.passed.lines.saturating_add(lines),
-                    blocks: number.saturating_sub(1),
-                },
-            });
-        }
-        Ok(())
-    }
-
-    fn drop_ended(&mut self) -> Result<(), AllocError>
-        ensures { self.new.reader ≡ self.old.reader }
-    {
+    fn drop_ended(&mut self) -> Result<(), AllocError> {
         let mut next = self.next;
         let mut ended = 0;
         let mut blocks = self.passed.blocks;
@@ -155,27 +89,41 @@ impl<'c, R: Read> Recent<'c, R> {
     }
 
     /// Drops so many bytes at the front.
-    fn drop_front(&mut self, count: usize) -> Result<(), AllocError>
-        ensures { self.new.reader ≡ self.old.reader }
-    {
+    fn drop_front(&mut self, count: usize) -> Result<(), AllocError> {
         if count == 0 {
             return Ok(());
         }
-        let lines = spot_of(&self.bytes, count).line.saturating_sub(1);
+        let lines = count_ends(before(&self.bytes, count));
         self.bytes = Vec::from_slice(self.alloc, behind(&self.bytes, count))?;
         self.passed.bytes = self.passed.bytes.saturating_add(count);
         self.passed.lines = self.passed.lines.saturating_add(lines);
         Ok(())
     }
+}
 
-    /// Stores more bytes. Where memory runs out, nothing is stored from then on.
-    fn keep(&mut self, bytes: &[u8])
-        ensures { self.new.reader ≡ self.old.reader }
+/// Drops what has ended, where something is stored.
+fn let_go(recent: Option<&RefCell<Recent>>) {
+    if let Some(cell) = recent
+        && let Ok(mut recent) = cell.try_borrow_mut()
+        && recent.keeps
     {
-        if self.keeps {
-            self.keeps = self.bytes.extend_from_slice(bytes).is_ok();
-        }
+        recent.keeps = recent.drop_ended().is_ok();
     }
+}
+
+/// Stores more bytes.
+fn keep(recent: Option<&RefCell<Recent>>, bytes: &[u8]) {
+    if let Some(cell) = recent
+        && let Ok(mut recent) = cell.try_borrow_mut()
+        && recent.keeps
+    {
+        recent.keeps = recent.bytes.extend_from_slice(bytes).is_ok();
+    }
+}
+
+/// How many lines end in these bytes.
+fn count_ends(bytes: &[u8]) -> usize {
+    bytes.iter().filter(|byte| **byte == b'\n').count()
 }
 
 /// How many blocks end in these bytes.
@@ -187,25 +135,6 @@ pub fn count_blocks(bytes: &[u8]) -> usize {
         }
     }
     count
-}
-
-/// The indices in the bytes where the block with this number, from 1, begins and where it ends,
-/// behind its marker line.
-fn block_ends(bytes: &[u8], number: usize) -> (usize, usize) {
-    let mut at: usize = 0;
-    let mut start = 0;
-    let mut count: usize = 0;
-    for line in bytes.split_inclusive(|byte| *byte == b'\n') {
-        at = at.saturating_add(line.len());
-        if is_marker(line) {
-            count = count.saturating_add(1);
-            if count == number {
-                return (start, at);
-            }
-            start = at;
-        }
-    }
-    (start, at)
 }
 
 /// The first `count` bytes, or all.
@@ -222,7 +151,32 @@ fn is_marker(line: &[u8]) -> bool {
     line.trim_ascii() == MARKER
 }
 
-impl<'c, R: Read> Read for Recent<'c, R> {
+/// A reader that gives what another one gives. It stores that where there is a cell for it, and the
+/// error of a failed read.
+#[derive(Drop)]
+pub struct Recorder<'c, R> {
+    reader: R,
+    recent: Option<&'c RefCell<Recent>>,
+    failure: Option<io::Error>,
+}
+
+impl<'c, R: Read> Recorder<'c, R> {
+    /// Before the first read.
+    pub fn new(reader: R, recent: Option<&'c RefCell<Recent>>) -> Recorder<'c, R> {
+        Recorder {
+            reader,
+            recent,
+            failure: None,
+        }
+    }
+
+    /// Why a read failed, where one did.
+    pub fn failure(&self) -> Option<&io::Error> {
+        self.failure.as_ref()
+    }
+}
+
+impl<'c, R: Read> Read for Recorder<'c, R> {
     ghost remaining = { λ r. R.remaining r.reader };
 
     fn read(&mut self, buf: &mut [u8]) -> io::Result<usize>
@@ -230,10 +184,10 @@ impl<'c, R: Read> Read for Recent<'c, R> {
         ensures bytes { ReadConsumes (R.remaining self.old.reader)
             (R.remaining self.new.reader) result buf.new }
     {
-        self.let_go();
+        let_go(self.recent);
         match self.reader.read(buf) {
             Ok(count) => {
-                self.keep(&buf[..count]);
+                keep(self.recent, &buf[..count]);
                 Ok(count)
             }
             Err(error) => {

@@ -3,12 +3,14 @@ use Rattle.std.proofs.Common.{◌≡◌, ◌||◌, ℕ, suc, zero, pos, negsuc, 
 use Rattle.std.specs.List.{AllByRecursion, list_any}
 use Rattle.fz_base.specs.declared.value.Value.{Value}
 use Rattle.fz_base.specs.declared.value.Value.TheVariants.{Int}
-use Rattle.fz_verdict.specs.of_model.Builtins.{Row, Result, leaves_128}
+use Rattle.fz_verdict.specs.of_model.Builtins.{Row}
+use Rattle.fz_verdict.specs.of_model.States.{leaves_128, product_before, known_products, products_leave, sums_leave, terms_at_argument}
+use Rattle.fz_verdict.specs.of_model.Results.{Result, result_of}
 use Rattle.fz_verdict.specs.of_model.Builtins.ArgValue.{OneValue, ManyValues}
-use Rattle.fz_verdict.specs.of_model.Builtins.Result.{NoResult, Places, UnitTerm}
+use Rattle.fz_verdict.specs.of_model.Results.Result.{NoResult, Places, UnitTerm}
 use Rattle.fz_verdict.specs.of_model.declared.Term.{Term}
 use Rattle.fz_verdict.specs.of_model.declared.Term.TheVariants.{Var, Fixed}
-use Rattle.fz_verdict.specs.of_model.Meaning.{Argument, Model, Point, Partial, value, values, value_at, give, option_cons, terms_in, argument_value, argument_values, row_of, row_holds, HoldsUnder, inside, as_int, product_before, known_products, products_leave, sums_leave, terms_at_argument}
+use Rattle.fz_verdict.specs.of_model.Meaning.{Argument, Model, Point, Partial, value, values, value_at, give, option_cons, terms_in, argument_value, argument_values, row_of, row_holds, HoldsUnder, inside, as_int}
 use Rattle.fz_verdict.specs.of_model.Meaning.Place.{Scalar, Array}
 use Rattle.fz_verdict.specs.of_model.Meaning.Argument.{One, ListOf}
 use Rattle.fz_verdict.specs.of_model.Meaning.Point.{DomainPoint, DefinitionPoint, ArrayPoint, ConstraintPoint}
@@ -92,10 +94,10 @@ module _ (K L : Partial) where
   target_agrees (ArrayPoint name d ts) n h t = t
   target_agrees (ConstraintPoint k p) n h (named, is) = (named, by_row (row_of p) is)
     where
-      by_row : (o : Option Row) → IsSomeAnd o (λ r. IsResult K p.arguments n r.result)
-          → IsSomeAnd o (λ r. IsResult L p.arguments n r.result)
+      by_row : (o : Option Row) → IsSomeAnd o (λ r. IsResult K p.arguments n (result_of r))
+          → IsSomeAnd o (λ r. IsResult L p.arguments n (result_of r))
       by_row None is = is
-      by_row (Some r) is = result_agrees p.arguments n r.result h is
+      by_row (Some r) is = result_agrees p.arguments n (result_of r) h is
 
   sums_fit_agree : (p : Point) → Agree K L (terms_of p) → SumsFit K p → SumsFit L p
   sums_fit_agree (DomainPoint x k) h s = tt

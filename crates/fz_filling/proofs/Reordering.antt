@@ -4,7 +4,7 @@ use Rattle.std.proofs.Common.{◌≡◌, ℕ, suc, zero, true, false, cond, List
 use Rattle.fz_base.specs.declared.value.Value.{Value}
 use Rattle.fz_verdict.specs.of_model.declared.Term.{Term}
 use Rattle.fz_verdict.specs.of_model.declared.Term.TheVariants.{Var}
-use Rattle.fz_verdict.specs.of_model.Values.{kind_of}
+use Rattle.fz_verdict.specs.of_model.Relations.{kind_of}
 use Rattle.fz_verdict.specs.of_model.Meaning.{Model, Point, Partial, value, value_at, give}
 use Rattle.fz_verdict.specs.of_model.Steps.{Gives, open_terms, terms_of}
 use Rattle.fz_verdict.proofs.of_model.Steps.{PointFits, only_value, only_open_none, value_at_other, filter-none, is_open}

@@ -8,7 +8,7 @@ use Rattle.fz_base.specs.declared.value.Value.{Value}
 use Rattle.fz_verdict.specs.of_model.Meaning.{Model, Point, Partial, give, value_at, variables_of, points, IsPartial}
 use Rattle.fz_verdict.specs.of_model.Partial.{unset_count}
 use Rattle.fz_verdict.specs.of_model.Steps.{Gives, GivesNothing, terms_of}
-use Rattle.fz_verdict.specs.of_model.Values.{kind_of}
+use Rattle.fz_verdict.specs.of_model.Relations.{kind_of}
 use Rattle.fz_verdict.proofs.of_model.Lists.{there_is}
 use Rattle.fz_verdict.proofs.of_model.Partials.{give_fits, has_place}
 use Rattle.fz_verdict.proofs.of_model.Steps.{only_open_none}

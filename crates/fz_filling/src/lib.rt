@@ -2,7 +2,7 @@
 //! where they come to the same in any order; one search through the points finds the rest. An
 //! internal crate of `fz_check`.
 //!
-//! Its worked cases are in `fz_check_cases`.
+//! Its worked cases are in `tests/cases` (`reports.txt`).
 #![tactic(auto)]
 
 mod course;

@@ -4,9 +4,7 @@ use Rattle.std.specs.List.{list_all}
 use Rattle.std.specs.Cmp.{both_ways}
 use Rattle.std.proofs.lemmas.Int.{ints}
 use Rattle.std.proofs.lemmas.List.Sorted.{length_permutation}
-use Rattle.fz_meaning.specs.Values.{◌=ℤ◌}
-use Rattle.fz_meaning.specs.Builtins.{is_among}
-use Rattle.fz_meaning.specs.Globals.{all_neighbours, is_same_list, is_sorted_form, count_of}
+use Rattle.fz_meaning.specs.Relations.{◌=ℤ◌, is_among, all_neighbours, is_same_list, is_sorted_form, count_of}
 use Rattle.fz_meaning.proofs.Values.{no, no', and_first, and_second, and_both, same_int, int_itself}
 use Rattle.fz_globals.proofs.Compared.{above_is_other, at_most, is_at_most}
 use Rattle.fz_globals.proofs.Each.{filter_yes, filter_no, told-permutation, count_of-permutation}

@@ -13,9 +13,7 @@ use Rattle.std.proofs.lemmas.Bool.Decides.{nat_tests, Decides-int_eq}
 use Rattle.std.proofs.lemmas.Option.{slice_get_within}
 use Rattle.fz_base.specs.Sets.{NumberSet}
 use Rattle.fz_base.proofs.Numbers.{same_numbers}
-use Rattle.fz_meaning.specs.Values.{◌=ℤ◌, ◌=ˢ◌}
-use Rattle.fz_meaning.specs.Builtins.{element_at}
-use Rattle.fz_meaning.specs.Globals.{are_channelled, indices_of, lies_between, sets_are}
+use Rattle.fz_meaning.specs.Relations.{◌=ℤ◌, ◌=ˢ◌, element_at, are_channelled, indices_of, lies_between, sets_are}
 use Rattle.fz_meaning.proofs.Values.{no, no', and_first, and_second, and_both, same_int, int_itself, same_set_is, set_itself}
 use Rattle.fz_globals.specs.Held.{is_held, are_held, size_of_all}
 use Rattle.fz_globals.proofs.Tested.{other_int}

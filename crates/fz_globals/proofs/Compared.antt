@@ -3,7 +3,7 @@ use Rattle.std.proofs.Common.{◌≡◌, ℤ, ◌<ℤ◌, ◌≤ℤ◌, int_le, 
 use Rattle.std.proofs.lemmas.Int.{ints}
 use Rattle.std.proofs.lemmas.Bool.Decides.{Decides-int_eq}
 use mathlib.Core.Bool.{beq}
-use Rattle.fz_meaning.specs.Values.{◌=ℤ◌, ◌=ᴮ◌}
+use Rattle.fz_meaning.specs.Relations.{◌=ℤ◌, ◌=ᴮ◌}
 
 pub is_equal : (a b : ℤ) → a ≡ b → (a =ℤ b) ≡ true
 is_equal a b same = (Decides-int_eq a b).1 same

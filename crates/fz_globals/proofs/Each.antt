@@ -5,9 +5,7 @@ use Rattle.std.specs.List.{list_all, list_any}
 use Rattle.std.proofs.lemmas.List.Elements.{filter-append}
 use Rattle.std.proofs.lemmas.List.Sums.{length-filter}
 use Rattle.std.proofs.lemmas.List.Sorted.{sum_by-IsPermutation, list_any-IsPermutation}
-use Rattle.fz_meaning.specs.Values.{◌=ℤ◌}
-use Rattle.fz_meaning.specs.Builtins.{is_among}
-use Rattle.fz_meaning.specs.Globals.{all_both, is_same_list, count_of, counts_are, counts_lie, is_closed}
+use Rattle.fz_meaning.specs.Relations.{◌=ℤ◌, is_among, all_both, is_same_list, count_of, counts_are, counts_lie, is_closed}
 use Rattle.fz_kernel.proofs.Left.{next, none_left, one_more}
 
 -- ---- a test of each element

@@ -5,9 +5,7 @@ use Rattle.std.specs.Cmp.{both_ways}
 use Rattle.std.proofs.lemmas.Int.{ints}
 use Rattle.std.proofs.lemmas.Bool.{or_right}
 use Rattle.std.proofs.lemmas.Bool.Decides.{Decides-int_eq}
-use Rattle.fz_meaning.specs.Values.{◌=ℤ◌}
-use Rattle.fz_meaning.specs.Builtins.{is_among}
-use Rattle.fz_meaning.specs.Globals.{index_from}
+use Rattle.fz_meaning.specs.Relations.{◌=ℤ◌, is_among, index_from}
 use Rattle.fz_meaning.proofs.Values.{no, and_first, and_second, and_both, same_int, int_itself}
 use Rattle.fz_globals.proofs.Tested.{other_int}
 use Rattle.fz_kernel.proofs.Left.{next, none_left}

@@ -10,8 +10,7 @@ use Rattle.std.proofs.lemmas.Bool.Decides.{Decides-int_eq}
 use Rattle.std.proofs.lemmas.List.Sorted.{sorted_far, ranks_by, Contains-permutation, IsPermutation-sym}
 use Rattle.std.proofs.lemmas.Option.{same_Some, slice_get_within, slice_get-get_or, get_or_from_slice_get}
 use Rattle.fz_base.proofs.Numbers.{not_below}
-use Rattle.fz_meaning.specs.Values.{◌=ℤ◌}
-use Rattle.fz_meaning.specs.Globals.{index_from, precedes}
+use Rattle.fz_meaning.specs.Relations.{◌=ℤ◌, index_from, precedes}
 use Rattle.fz_globals.specs.Keys.{key, keys_from, AreKeys, comes_before}
 use Rattle.fz_globals.proofs.Tested.{other_int}
 use Rattle.fz_kernel.proofs.Left.{next}

@@ -9,8 +9,7 @@ use Rattle.std.proofs.lemmas.Bool.Decides.{nat_tests}
 use Rattle.fz_base.specs.Sets.{NumberSet, numbers_between, LiesWithin, Has64Bits}
 use Rattle.fz_base.specs.Ranges.{is_between}
 use Rattle.fz_base.proofs.Numbers.{contains-numbers_between, same_numbers}
-use Rattle.fz_meaning.specs.Values.{◌=ᴮ◌}
-use Rattle.fz_meaning.specs.Globals.{flags_are, is_flagged}
+use Rattle.fz_meaning.specs.Relations.{◌=ᴮ◌, flags_are, is_flagged}
 use Rattle.fz_meaning.proofs.Values.{no}
 use Rattle.fz_globals.proofs.FirstBest.{from_here, one_on}
 use Rattle.fz_kernel.proofs.Left.{next, none_left}

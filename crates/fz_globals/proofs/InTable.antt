@@ -3,7 +3,7 @@ use Rattle.std.proofs.Common.{◌≡◌, ℕ, suc, zero, ◌+◌, ◌*◌, ◌%�
 use Rattle.std.specs.List.{list_any}
 use Rattle.std.proofs.lemmas.List.{length-drop, drop-drop}
 use Rattle.std.proofs.lemmas.Nat.{mod-mul-add, mul-add-lt, mul-le}
-use Rattle.fz_meaning.specs.Globals.{is_same_list, is_row_of, rows_of, rows_within}
+use Rattle.fz_meaning.specs.Relations.{is_same_list, is_row_of, rows_of, rows_within}
 use Rattle.fz_kernel.proofs.Left.{next, none_left}
 
 -- ---- indices of a part of a list

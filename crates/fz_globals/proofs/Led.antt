@@ -5,9 +5,7 @@ use Rattle.std.proofs.lemmas.Int.{ints}
 use Rattle.std.proofs.lemmas.List.{length-map}
 use Rattle.std.proofs.lemmas.Bool.Decides.{Decides-int_eq}
 use Rattle.std.proofs.lemmas.Option.{slice_get-map}
-use Rattle.fz_meaning.specs.Values.{◌=ℤ◌}
-use Rattle.fz_meaning.specs.Builtins.{all_different, element_at, is_among}
-use Rattle.fz_meaning.specs.Globals.{as_places, leads_back, lies_between}
+use Rattle.fz_meaning.specs.Relations.{◌=ℤ◌, all_different, element_at, is_among, as_places, leads_back, lies_between}
 use Rattle.fz_meaning.proofs.Values.{no, and_first, and_second}
 use Rattle.fz_kernel.proofs.Left.{next, none_left}
 use Rattle.fz_kernel.proofs.Passed.{element_is}

@@ -1,7 +1,7 @@
 -- A loop that tests each element with the next one.
 use Rattle.std.proofs.Common.{◌≡◌, ℕ, ◌+◌, ◌-◌, ◌≤◌, Bool, true, false, ◌&&◌, List, [], ◌∷◌, drop, length, Some, slice_get, refl, sym, ap, ◌∙◌, arith}
 use Rattle.std.proofs.lemmas.List.{length-drop}
-use Rattle.fz_meaning.specs.Globals.{all_neighbours}
+use Rattle.fz_meaning.specs.Relations.{all_neighbours}
 use Rattle.fz_kernel.proofs.Left.{next}
 
 -- each of those before the index i passes with the next one, where that is before i too

@@ -2,8 +2,7 @@
 use Rattle.std.proofs.Common.{◌≡◌, ℤ, Bool, true, false, List, Option, Some, None, IfSome, IfNone, sym, ap, subst, ◌∙◌}
 use Rattle.std.specs.Cmp.{both_ways}
 use Rattle.std.specs.Option.{option_map_or}
-use Rattle.fz_meaning.specs.Values.{◌=ℤ◌}
-use Rattle.fz_meaning.specs.Globals.{index_from, is_index_of_best}
+use Rattle.fz_meaning.specs.Relations.{◌=ℤ◌, index_from, is_index_of_best}
 use Rattle.fz_meaning.proofs.Values.{same_int, int_itself}
 use Rattle.fz_kernel.proofs.Best.{IsOrder, is_best}
 use Rattle.fz_globals.proofs.FirstBest.{at_the_best}

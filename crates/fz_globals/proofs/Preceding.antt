@@ -3,8 +3,7 @@ use Rattle.std.proofs.Common.{◌≡◌, ℕ, ◌+◌, ◌≤◌, ℤ, pos, ◌+
 use Rattle.std.specs.Int.{int_max}
 use Rattle.std.proofs.lemmas.List.{length-drop}
 use Rattle.std.proofs.lemmas.Bool.Decides.{Decides-int_eq}
-use Rattle.fz_meaning.specs.Values.{◌=ℤ◌}
-use Rattle.fz_meaning.specs.Globals.{all_neighbours, precedes, rises_by_one}
+use Rattle.fz_meaning.specs.Relations.{◌=ℤ◌, all_neighbours, precedes, rises_by_one}
 use Rattle.fz_globals.proofs.Tested.{other_int}
 use Rattle.fz_kernel.proofs.Left.{next, none_left}
 

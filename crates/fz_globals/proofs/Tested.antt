@@ -4,7 +4,7 @@ use Rattle.std.specs.List.{list_all}
 use mathlib.Core.Bool.{beq}
 use Rattle.std.proofs.lemmas.Bool.{false_from_ne_true, not-true, not-false}
 use Rattle.std.proofs.lemmas.Bool.Decides.{Decides-int_eq}
-use Rattle.fz_meaning.specs.Values.{◌=ℤ◌, ◌=ᴮ◌}
+use Rattle.fz_meaning.specs.Relations.{◌=ℤ◌, ◌=ᴮ◌}
 use Rattle.fz_meaning.proofs.Values.{and_first, and_second}
 use Rattle.fz_kernel.proofs.Left.{next, none_left}
 

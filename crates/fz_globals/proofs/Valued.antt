@@ -9,9 +9,7 @@ use Rattle.std.proofs.lemmas.Int.{ints}
 use Rattle.std.proofs.lemmas.List.{drop_more, length-drop, get_or-drop, get_or_default}
 use Rattle.std.proofs.lemmas.List.Sorted.{list_any-IsPermutation}
 use Rattle.std.proofs.lemmas.Bool.Decides.{Decides-int_eq}
-use Rattle.fz_meaning.specs.Values.{◌=ℤ◌}
-use Rattle.fz_meaning.specs.Builtins.{is_among}
-use Rattle.fz_meaning.specs.Globals.{values_of}
+use Rattle.fz_meaning.specs.Relations.{◌=ℤ◌, is_among, values_of}
 use Rattle.fz_meaning.proofs.Values.{same_truth, same_int}
 use Rattle.fz_globals.proofs.Compared.{above_is_other}
 use Rattle.fz_globals.proofs.Halving.{Ascends}

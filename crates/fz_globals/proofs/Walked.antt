@@ -6,9 +6,7 @@ use Rattle.std.proofs.lemmas.Int.{ints}
 use Rattle.std.proofs.lemmas.Bool.{or_right, cases_lt}
 use Rattle.std.proofs.lemmas.Bool.Decides.{nat_tests, Decides-int_eq}
 use Rattle.std.proofs.lemmas.Option.{same_Some}
-use Rattle.fz_meaning.specs.Values.{◌=ℤ◌}
-use Rattle.fz_meaning.specs.Builtins.{all_different, element_at, is_among}
-use Rattle.fz_meaning.specs.Globals.{are_places, tour, end_of_tour, is_circuit, moved_from, is_one_tour, is_subcircuit}
+use Rattle.fz_meaning.specs.Relations.{◌=ℤ◌, all_different, element_at, is_among, are_places, tour, end_of_tour, is_circuit, moved_from, is_one_tour, is_subcircuit}
 use Rattle.fz_meaning.proofs.Values.{no, and_both, same_int}
 use Rattle.fz_kernel.proofs.Left.{next, none_left}
 use Rattle.fz_globals.proofs.Led.{element_place, one_place}

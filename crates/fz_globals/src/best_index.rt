@@ -1,7 +1,6 @@
 // The indices of the greatest and of the least element.
 ghost use Rattle.std.specs.Prelude.{◌≡◌, ℤ, false, int_le, IfSome, IfNone};
-ghost use Rattle.fz_meaning.specs.Values.{◌=ℤ◌};
-ghost use Rattle.fz_meaning.specs.Globals.{index_from, is_index_of_best};
+ghost use Rattle.fz_meaning.specs.Relations.{◌=ℤ◌, index_from, is_index_of_best};
 ghost use Rattle.fz_kernel.specs.of_view.Views.{ints};
 
 use crate::indices::index_at;

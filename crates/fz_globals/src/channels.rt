@@ -1,6 +1,6 @@
 // Channelling: each number is the index of the set that has the number's own index.
 ghost use Rattle.std.specs.Prelude.{◌≡◌};
-ghost use Rattle.fz_meaning.specs.Globals.{are_channelled};
+ghost use Rattle.fz_meaning.specs.Relations.{are_channelled};
 ghost use Rattle.fz_kernel.specs.of_view.Views.{ints, sets};
 ghost use Rattle.fz_globals.specs.Held.{are_held, is_held, size_of_all};
 

@@ -2,9 +2,7 @@
 ghost use Rattle.std.specs.Prelude.{◌≡◌, length, pos, IfOk};
 ghost use Rattle.std.specs.List.{filter, list_any};
 ghost use Rattle.std.specs.FinSet as set;
-ghost use Rattle.fz_meaning.specs.Values.{◌=ℤ◌, ◌=ᴮ◌};
-ghost use Rattle.fz_meaning.specs.Builtins.{all_different, is_among};
-ghost use Rattle.fz_meaning.specs.Globals.{count_of, count_in, is_nonzero, values_of};
+ghost use Rattle.fz_meaning.specs.Relations.{◌=ℤ◌, ◌=ᴮ◌, all_different, is_among, count_of, count_in, is_nonzero, values_of};
 ghost use Rattle.fz_kernel.specs.of_view.Views.{ints, bools};
 
 use crate::ordered::{numbers_in_order, values_in_order};

@@ -3,9 +3,7 @@ ghost use Rattle.std.specs.Prelude.{◌≡◌, int_le, IfOk};
 ghost use Rattle.std.specs.Ordering.{int_cmp};
 ghost use Rattle.std.specs.List.{list_all};
 ghost use Rattle.std.specs.List.Sorted.{IsSorted};
-ghost use Rattle.fz_meaning.specs.Values.{◌=ℤ◌};
-ghost use Rattle.fz_meaning.specs.Builtins.{is_among};
-ghost use Rattle.fz_meaning.specs.Globals.{all_both, count_of, counts_are, counts_lie, is_closed};
+ghost use Rattle.fz_meaning.specs.Relations.{◌=ℤ◌, is_among, all_both, count_of, counts_are, counts_lie, is_closed};
 ghost use Rattle.fz_kernel.specs.of_view.Views.{ints};
 
 use crate::ordered::{count_in_order, numbers_in_order, stands_in_order};

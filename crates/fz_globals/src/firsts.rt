@@ -2,7 +2,7 @@
 ghost use Rattle.std.specs.Prelude.{◌≡◌, ◌+◌, ◌<◌, ◌≤◌, ◌+ℤ◌, ◌<ℤ◌, ◌≤ℤ◌, ℕ, ℤ, List, pos, get_or, length, option_map, IfNone, IfOk, IfSome};
 ghost use Rattle.std.specs.Ordering.{int_cmp};
 ghost use Rattle.std.specs.List.Sorted.{IsSorted};
-ghost use Rattle.fz_meaning.specs.Globals.{index_from};
+ghost use Rattle.fz_meaning.specs.Relations.{index_from};
 ghost use Rattle.fz_kernel.specs.of_view.Views.{ints};
 ghost use Rattle.fz_globals.specs.Keys.{key, AreKeys};
 

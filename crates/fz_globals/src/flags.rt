@@ -2,7 +2,7 @@
 ghost use Rattle.std.specs.Prelude.{◌≡◌, ◌+ℤ◌, ◌-ℤ◌, ◌<◌, pos};
 ghost use Rattle.std.specs.Int.{int_min};
 ghost use Rattle.std.specs.FinSet as number_sets;
-ghost use Rattle.fz_meaning.specs.Globals.{flags_are, is_flagged};
+ghost use Rattle.fz_meaning.specs.Relations.{flags_are, is_flagged};
 ghost use Rattle.fz_kernel.specs.of_view.Views.{bools};
 
 use crate::indices::index_at;

@@ -1,7 +1,6 @@
 // Elements compared with the next ones, and with their sorted list.
 ghost use Rattle.std.specs.Prelude.{◌≡◌, not, ◌||◌, int_le, int_lt, IfOk};
-ghost use Rattle.fz_meaning.specs.Values.{◌=ℤ◌};
-ghost use Rattle.fz_meaning.specs.Globals.{all_neighbours, is_same_list, is_sorted_form};
+ghost use Rattle.fz_meaning.specs.Relations.{◌=ℤ◌, all_neighbours, is_same_list, is_sorted_form};
 ghost use Rattle.fz_kernel.specs.of_view.Views.{ints, bools};
 
 use crate::ordered::numbers_in_order;

@@ -3,8 +3,7 @@ ghost use Rattle.std.specs.Prelude.{◌≡◌, length, int_le, int_lt, IfOk};
 ghost use Rattle.std.specs.Ordering.{int_cmp};
 ghost use Rattle.std.specs.List.{filter};
 ghost use Rattle.std.specs.List.Sorted.{IsSorted, IsPermutation};
-ghost use Rattle.fz_meaning.specs.Builtins.{is_among};
-ghost use Rattle.fz_meaning.specs.Globals.{count_of, values_of};
+ghost use Rattle.fz_meaning.specs.Relations.{is_among, count_of, values_of};
 ghost use Rattle.fz_kernel.specs.of_view.Views.{ints};
 
 use fz_kernel::arrays::numbers_of;

@@ -1,7 +1,7 @@
 // Sets that have no element in common.
 ghost use Rattle.std.specs.Prelude.{◌≡◌, IfOk};
 ghost use Rattle.std.specs.FinSet.{difference};
-ghost use Rattle.fz_meaning.specs.Globals.{are_disjoint, is_partition};
+ghost use Rattle.fz_meaning.specs.Relations.{are_disjoint, is_partition};
 ghost use Rattle.fz_kernel.specs.of_view.Views.{sets};
 
 use fz_base::{IntSet, SetError};

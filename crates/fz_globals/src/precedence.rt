@@ -2,7 +2,7 @@
 ghost use Rattle.std.specs.Prelude.{◌≡◌, List, Some, ℤ, pos, option_map, IfOk};
 ghost use Rattle.std.specs.Ordering.{int_cmp};
 ghost use Rattle.std.specs.List.Sorted.{IsSorted};
-ghost use Rattle.fz_meaning.specs.Globals.{all_neighbours, precedes, rises_by_one};
+ghost use Rattle.fz_meaning.specs.Relations.{all_neighbours, precedes, rises_by_one};
 ghost use Rattle.fz_kernel.specs.of_view.Views.{ints};
 ghost use Rattle.fz_globals.specs.Keys.{AreKeys, comes_before};
 

@@ -1,7 +1,6 @@
 // Rows of tables, which are written one after another.
 ghost use Rattle.std.specs.Prelude.{◌≡◌, ◌+◌, ◌*◌, ◌%◌, ◌≤◌, ◌<◌, false, drop, length, nat_eq, take, IfNone, IfSome};
-ghost use Rattle.fz_meaning.specs.Values.{◌=ℤ◌, ◌=ᴮ◌};
-ghost use Rattle.fz_meaning.specs.Globals.{is_row_of, is_same_list};
+ghost use Rattle.fz_meaning.specs.Relations.{◌=ℤ◌, ◌=ᴮ◌, is_row_of, is_same_list};
 ghost use Rattle.fz_kernel.specs.of_view.Views.{bools, ints, slots_of};
 
 use fz_kernel::fz_arguments::Elements;

@@ -2,9 +2,7 @@
 // list begin with `first`, a position is counted from 0 and is the index less `first`.
 ghost use Rattle.std.specs.Prelude.{◌≡◌, ◌+◌, ◌<◌, ◌≤◌, ◌+ℤ◌, ◌-ℤ◌, ℕ, pos, true, false, [], length, slice_get, IfNone, IfOk, IfSome, Some};
 ghost use Rattle.std.specs.Option.{option_map_or};
-ghost use Rattle.fz_meaning.specs.Values.{◌=ℤ◌};
-ghost use Rattle.fz_meaning.specs.Builtins.{all_different, element_at};
-ghost use Rattle.fz_meaning.specs.Globals.{are_inverse, are_places, as_places, end_of_tour, is_circuit, is_one_tour, is_subcircuit, leads_back, lies_between, moved_from, tour};
+ghost use Rattle.fz_meaning.specs.Relations.{◌=ℤ◌, all_different, element_at, are_inverse, are_places, as_places, end_of_tour, is_circuit, is_one_tour, is_subcircuit, leads_back, lies_between, moved_from, tour};
 ghost use Rattle.fz_kernel.specs.of_view.Views.{ints, slots_of};
 
 use crate::indices::{place_from, place_in};

@@ -2,7 +2,8 @@
 
 use crate::outside::{file, is_given, tell, tell_error, tell_text};
 use fz_check::{
-    CheckError, Report, check, refusal_text, report_text, show, show_printing_all, status,
+    CheckError, Report, check, refusal_fault, refusal_text, report_text, show, show_printing_all,
+    status,
 };
 
 /// Makes a call on the text of a model and, where it takes one, on a stream.
@@ -66,7 +67,8 @@ fn tell_checked(rt: &HostRuntime, model: &[u8], stream: &[u8]) {
     }
 }
 
-/// Prints the exit status of a check, and the text of its report or the line of its refusal.
+/// Prints the exit status of a check, and the text of its report, or the byte range and the line of
+/// its refusal.
 fn call_on_answer(rt: &HostRuntime, model: &[u8], stream: &[u8]) -> Option<()> {
     match check(rt.alloc(), model, stream) {
         Ok(report) => tell_report(rt, &report),
@@ -87,6 +89,7 @@ fn tell_report(rt: &HostRuntime, report: &Report<'_>) {
 
 fn tell_refusal(rt: &HostRuntime, error: CheckError) {
     tell(rt, &status(&Err(error)));
+    tell(rt, &refusal_fault(&error).and_then(|told| told.place));
     for _ in 0..2 {
         if is_given(rt, refusal_text(rt.alloc(), &error)) {
             break;

@@ -2,7 +2,7 @@
 
 use crate::loading::tell_points;
 use crate::outside::{file, tell, tell_error};
-use fz_check::{BlockError, Completion, Judge, fill};
+use fz_check::{BlockError, Completion, Judge, fill, fill_with_steps};
 use fz_model::{Model, load};
 use fz_stream::{Block, blocks};
 use fz_syntax::{Ast, parse};
@@ -55,16 +55,35 @@ fn fill_lacks_memory(rt: &HostRuntime, call: &str, model: &Model<'_>, block: &Bl
             }
             false
         }
-        Err(error) => {
-            tell_error(rt, &error);
-            matches!(error, BlockError::Memory)
+        Err(error) => is_memory(rt, error),
+    }
+}
+
+fn is_memory(rt: &HostRuntime, error: BlockError) -> bool {
+    tell_error(rt, &error);
+    matches!(error, BlockError::Memory)
+}
+
+/// Fills a block, and prints its values and the steps that gave them, or the refusal. Whether
+/// memory ran out.
+fn steps_lack_memory(rt: &HostRuntime, model: &Model<'_>, block: &Block<'_>) -> bool {
+    match fill_with_steps(rt.alloc(), model, block) {
+        Ok((partial, steps)) => {
+            tell(rt, &partial.values());
+            tell(rt, &steps);
+            false
         }
+        Err(error) => is_memory(rt, error),
     }
 }
 
 fn tell_filling(rt: &HostRuntime, call: &str, model: &Model<'_>, block: &Block<'_>) {
     for _ in 0..2 {
-        if !fill_lacks_memory(rt, call, model, block) {
+        let lacks_memory = match call {
+            "fill_with_steps" => steps_lack_memory(rt, model, block),
+            _ => fill_lacks_memory(rt, call, model, block),
+        };
+        if !lacks_memory {
             break;
         }
     }

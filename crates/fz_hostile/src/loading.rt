@@ -4,13 +4,21 @@ ghost use Rattle.std.specs.Prelude.{◌<◌, length};
 ghost use Rattle.fz_model.specs.Meaning.{IsPartial, points};
 
 use crate::outside::{file, tell, tell_all, tell_error};
+use crate::reading;
 use fz_base::Value;
-use fz_model::{Model, ModelError, Partial, forced, load, state};
+use fz_model::{
+    Found, LoadError, Model, ModelError, Partial, Scalar, Term, What, forced, load, load_text,
+    state,
+};
 use fz_syntax::{Ast, parse};
 
 /// Makes a call on a model.
 pub fn make_call(rt: &HostRuntime, call: &str, operands: &[String]) -> Option<()> {
     let source = file(rt, operands, 0)?;
+    if call == "load_text" {
+        tell_loaded_text(rt, &source);
+        return Some(());
+    }
     match parse(rt.alloc(), &source) {
         Ok(tree) => call_on_tree(rt, call, &tree),
         Err(_) => None,
@@ -55,9 +63,30 @@ fn load_lacks_memory(rt: &HostRuntime, tree: &Ast<'_>) -> bool {
             tell_model(rt, &model);
             false
         }
-        Err(error) => {
-            tell_error(rt, &error);
-            matches!(error, ModelError::Memory)
+        Err(error) => is_memory(rt, error),
+    }
+}
+
+fn is_memory(rt: &HostRuntime, error: ModelError) -> bool {
+    tell_error(rt, &error);
+    matches!(error, ModelError::Memory)
+}
+
+fn load_text_lacks_memory(rt: &HostRuntime, source: &[u8]) -> bool {
+    match load_text(rt.alloc(), source) {
+        Ok(model) => {
+            tell_model(rt, &model);
+            false
+        }
+        Err(LoadError::Text(error)) => reading::is_memory(rt, error),
+        Err(LoadError::Names(error)) => is_memory(rt, error),
+    }
+}
+
+fn tell_loaded_text(rt: &HostRuntime, source: &[u8]) {
+    for _ in 0..2 {
+        if !load_text_lacks_memory(rt, source) {
+            break;
         }
     }
 }
@@ -102,30 +131,48 @@ fn call_on_nothing(rt: &HostRuntime, call: &str, model: &Model<'_>, mut partial:
     }
 }
 
-/// Prints the answers of the calls that look something up in a model or a partial assignment, and
-/// gives the first variable a value, where it has none.
+/// Prints what a name stands for: the number of a variable, or the kind and the length of an array.
+fn tell_found(rt: &HostRuntime, found: Option<Found<'_, '_>>) {
+    let Some(found) = found else {
+        tell(rt, &"nothing");
+        return;
+    };
+    match found.what {
+        What::Scalar(Scalar::Variable(number)) => tell(rt, &number),
+        What::Scalar(_) => tell(rt, &"a constant"),
+        What::Array(kind, elements) => tell(rt, &(kind, elements.len())),
+    }
+}
+
+/// Prints the answers of the calls that look up the first variable.
+fn tell_first(rt: &HostRuntime, partial: &Partial) {
+    let read = (partial.number(0), partial.truth(0));
+    tell(rt, &(partial.unset(), partial.has(0), read));
+    tell(rt, &(partial.get(0), partial.value(&Term::Var(0))));
+}
+
+/// Prints the answers of the calls that look something up in a model or a partial assignment. The
+/// first variable is given a value and loses it again.
 fn ask(rt: &HostRuntime, model: &Model<'_>, partial: &mut Partial) {
     tell_model(rt, model);
     for variable in model.variables() {
-        let found = model.find(variable.name).is_some();
-        tell(rt, &found);
+        tell_found(rt, model.find(variable.name));
     }
+    for array in model.constraints().arrays {
+        tell_found(rt, model.find(array.name));
+    }
+    tell_found(rt, model.find(b"no such"));
     for number in 0..model.points() {
         let point = model.point(number);
         tell(rt, &point);
     }
+    tell_first(rt, partial);
     if !partial.values().is_empty() && partial.get(0).is_none() {
         partial.set(0, Value::Int(4));
     }
-    tell(
-        rt,
-        &(
-            partial.get(0),
-            partial.number(0),
-            partial.truth(0),
-            partial.has(0),
-        ),
-    );
+    tell_first(rt, partial);
+    partial.clear();
+    tell_first(rt, partial);
 }
 
 fn tell_state(rt: &HostRuntime, model: &Model<'_>, number: usize, partial: &Partial)

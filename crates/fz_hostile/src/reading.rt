@@ -29,7 +29,8 @@ fn lacks_memory(rt: &HostRuntime, call: &str, source: &[u8]) -> bool {
     }
 }
 
-fn is_memory(rt: &HostRuntime, error: SyntaxError) -> bool {
+/// Prints an error. Whether it is that memory ran out.
+pub fn is_memory(rt: &HostRuntime, error: SyntaxError) -> bool {
     tell_error(rt, &error);
     matches!(error, SyntaxError::Memory)
 }
@@ -37,7 +38,9 @@ fn is_memory(rt: &HostRuntime, error: SyntaxError) -> bool {
 fn lex_lacks_memory(rt: &HostRuntime, source: &[u8]) -> bool {
     match lex(rt.alloc(), source) {
         Ok(tokens) => {
-            tell(rt, &tokens);
+            for token in &tokens {
+                tell(rt, &(token.kind, token.span));
+            }
             false
         }
         Err(error) => is_memory(rt, error),

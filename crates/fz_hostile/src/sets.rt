@@ -4,6 +4,14 @@ use crate::outside::{file, tell};
 use fz_base::{IntSet, SetError, Value};
 use fz_syntax::{LiteralKind, Printed, PrintedValue, read_items};
 use std::alloc::Global;
+use std::mem::size_of;
+
+// Tables of values are read for each constraint of each block, so a value has to be small.
+const _: () = prove!(size_of::<IntSet>() == 16);
+
+const _: () = prove!(size_of::<Value>() == 24);
+
+const _: () = prove!(size_of::<Option<Value>>() == 32);
 
 /// Makes a call on the sets that the first two items of a text print.
 pub fn make_call(rt: &HostRuntime, call: &str, operands: &[String]) -> Option<()> {
@@ -18,6 +26,7 @@ pub fn make_call(rt: &HostRuntime, call: &str, operands: &[String]) -> Option<()
         "copy_value" => copy_value(rt, first),
         "ranges" => tell_ranges(rt, first),
         "ask" => ask(rt, first, second),
+        "compare" => compare(rt, first, second),
         _ => combine(rt, call, first, second),
     }
 }
@@ -114,6 +123,17 @@ fn combine(rt: &HostRuntime, call: &str, first: &LiteralKind, second: &LiteralKi
     Some(())
 }
 
+/// Prints the ranges of the result of each operation on two sets.
+fn compare(rt: &HostRuntime, first: &LiteralKind, second: &LiteralKind) -> Option<()> {
+    let a = made(rt.alloc(), first).ok()?;
+    let b = made(rt.alloc(), second).ok()?;
+    for call in ["union", "intersect", "minus", "symdiff"] {
+        let set = combined(rt.alloc(), call, &a, &b).ok()?;
+        tell(rt, &set.ranges(rt.alloc()));
+    }
+    Some(())
+}
+
 /// Prints the answers of the calls that examine sets and values.
 fn ask(rt: &HostRuntime, first: &LiteralKind, second: &LiteralKind) -> Option<()> {
     let Ok(a) = made(rt.alloc(), first) else {
@@ -138,6 +158,6 @@ fn ask(rt: &HostRuntime, first: &LiteralKind, second: &LiteralKind) -> Option<()
     );
     let one = Value::Set(a);
     let other = Value::Set(b);
-    tell(rt, &one.equals(&other));
+    tell(rt, &(one.equals(&other), one.equals(&Value::Bool(true))));
     Some(())
 }

@@ -52,24 +52,25 @@ fn tell_part(rt: &HostRuntime, part: &Option<Part<'_>>) {
     }
 }
 
-/// Prints the part that waits. Whether it was lent.
-fn is_lent(rt: &HostRuntime, splitter: &Splitter) -> bool {
+/// Prints the part that waits, or its fault. Whether memory ran out.
+fn take_lacks_memory(rt: &HostRuntime, splitter: &Splitter) -> bool {
     match splitter.take() {
         Ok(part) => {
             tell_part(rt, &part);
-            true
+            false
         }
         Err(error) => {
             tell_error(rt, &error);
-            false
+            matches!(error, StreamError::Memory)
         }
     }
 }
 
 fn tell_taken(rt: &HostRuntime, splitter: &Splitter) {
     tell(rt, &splitter.waiting());
+    tell(rt, &splitter.frame().is_some());
     for _ in 0..2 {
-        if is_lent(rt, splitter) {
+        if !take_lacks_memory(rt, splitter) {
             break;
         }
     }
@@ -120,7 +121,7 @@ fn tell_failed(rt: &HostRuntime, splitter: &mut Splitter)
 {
     let _ = fed(rt, splitter, b"x");
     tell(rt, &splitter.waiting());
-    is_lent(rt, splitter);
+    take_lacks_memory(rt, splitter);
     let finished = splitter.finish();
     tell(rt, &finished);
 }

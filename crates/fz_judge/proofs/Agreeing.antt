@@ -9,15 +9,16 @@ use Rattle.fz_filling.specs.of_model.declared.Term.TheVariants.{Var, Fixed}
 use Rattle.fz_filling.specs.of_model.Located.{Name, Literal}
 use Rattle.fz_filling.specs.of_model.Names.{literal_value}
 use Rattle.fz_filling.specs.of_model.Partial.{nothing_for}
-use Rattle.fz_filling.specs.of_model.Values.{same_value, same_values}
+use Rattle.fz_filling.specs.of_model.Relations.{same_value, same_values}
 use Rattle.fz_filling.specs.of_model.Meaning.{Place, Model, Partial, find_name, first_some, give, option_cons, value, value_at, values, variables_of}
 use Rattle.fz_filling.specs.of_model.Meaning.Place.{Scalar, Array}
 use Rattle.fz_filling.proofs.of_model.Lists.{all_left, all_map, all_right}
 use Rattle.fz_filling.proofs.of_model.Steps.{value_at_other}
 use Rattle.fz_filling.proofs.of_model.Values.{and_first, and_second, no, same_value_is, value_itself, values_itself}
-use Rattle.fz_filling.specs.of_verdict.Blocks.{BlockFault, Printed, PrintedValue, fault_if, items_fault, literal_fault, printed_fault, printed_values, value_fault}
-use Rattle.fz_filling.specs.of_verdict.Blocks.BlockFaultKind.{UnknownName, WrongLength}
-use Rattle.fz_filling.specs.of_verdict.Blocks.PrintedValue.{OneValue, ArrayOf}
+use Rattle.fz_filling.specs.of_verdict.BlockFaults.{BlockFault, fault_if, items_fault, literal_fault, printed_fault, value_fault}
+use Rattle.fz_filling.specs.of_verdict.Solutions.{Printed, PrintedValue, printed_values}
+use Rattle.fz_filling.specs.of_verdict.BlockFaults.BlockFaultKind.{UnknownName, WrongLength}
+use Rattle.fz_filling.specs.of_verdict.Solutions.PrintedValue.{OneValue, ArrayOf}
 use Rattle.fz_filling.specs.of_verdict.Filling.{HasAllOf, pairs, pairs_at, printed_scalars, start_from}
 use Rattle.fz_filling.specs.of_verdict.Verdict.{has_printed, printed_fails}
 use Rattle.fz_filling.specs.of_verdict.Verdict.Fault.{PrintedFault}

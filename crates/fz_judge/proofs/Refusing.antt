@@ -9,7 +9,7 @@ use Rattle.fz_filling.specs.of_model.Meaning.{Place, Model, find_name, first_som
 use Rattle.fz_filling.specs.of_model.Meaning.Place.{Scalar, Array}
 use Rattle.fz_filling.specs.of_model.View.{located_literal, located_name}
 use Rattle.fz_filling.specs.of_model.Names.{literal_value}
-use Rattle.fz_filling.specs.of_model.Values.{kind_of, same_kind}
+use Rattle.fz_filling.specs.of_model.Relations.{kind_of, same_kind}
 use Rattle.fz_filling.specs.of_syntax.declared.Literal as the_literal
 use Rattle.fz_filling.specs.of_syntax.declared.Printed as the_printed
 use Rattle.fz_filling.specs.of_syntax.declared.PrintedValue as the_value
@@ -19,8 +19,9 @@ use Rattle.fz_filling.proofs.of_syntax.PlacedLaws.{fits_items}
 use Rattle.fz_filling.specs.of_syntax.Placed.{ArePlacedIn, placed_items}
 use Rattle.fz_filling.specs.of_syntax.Places.{IsSpanWithin}
 use Rattle.fz_filling.specs.of_syntax.Spots.{Spot, Stand, name_spot, literal_spot, literal_spots, printed_value_spots, printed_spots, item_spots}
-use Rattle.fz_filling.specs.of_verdict.Blocks.{Printed, BlockFault, BlockFaultKind, Block, fault_if, literal_fault, value_fault, printed_fault, items_fault, block_fault, moved}
-use Rattle.fz_filling.specs.of_verdict.Blocks.BlockFaultKind.{UnknownName, WrongKind, WrongLength}
+use Rattle.fz_filling.specs.of_verdict.Solutions.{Printed, Block}
+use Rattle.fz_filling.specs.of_verdict.BlockFaults.{BlockFault, BlockFaultKind, fault_if, literal_fault, value_fault, printed_fault, items_fault, block_fault, moved}
+use Rattle.fz_filling.specs.of_verdict.BlockFaults.BlockFaultKind.{UnknownName, WrongKind, WrongLength}
 use Rattle.fz_filling.specs.of_verdict.View.{located_printed_value, located_printed, located_items}
 use Rattle.fz_judge.specs.declared.error.BlockError.{BlockError}
 use Rattle.fz_judge.specs.declared.error.BlockError.TheVariants as errors

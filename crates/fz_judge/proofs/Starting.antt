@@ -18,14 +18,15 @@ use Rattle.fz_filling.specs.of_model.Shown.{scalar_terms, what_place}
 use Rattle.fz_filling.specs.of_model.Slots.{scalar_term}
 use Rattle.fz_filling.specs.of_model.Meaning.{Place, Variable, Model, Partial, give, value_at, variables_of, first_some, IsPartial}
 use Rattle.fz_filling.specs.of_model.Meaning.Place.{Scalar, Array}
-use Rattle.fz_filling.specs.of_model.Values.{kind_of, same_kind}
+use Rattle.fz_filling.specs.of_model.Relations.{kind_of, same_kind}
 use Rattle.fz_filling.proofs.of_model.Lists.{all_map}
 use Rattle.fz_filling.proofs.of_model.Partials.{fits_length, give_fits, has_place}
 use Rattle.fz_filling.proofs.of_model.ScanSteps.{or_assoc, or_nothing}
 use Rattle.fz_filling.proofs.of_model.Scope.{same_kind_is}
-use Rattle.fz_filling.specs.of_verdict.Blocks.{Printed, PrintedValue, printed_values, literal_fault, fault_if, value_fault}
-use Rattle.fz_filling.specs.of_verdict.Blocks.PrintedValue.{OneValue, ArrayOf}
-use Rattle.fz_filling.specs.of_verdict.Blocks.BlockFaultKind.{WrongKind, WrongLength}
+use Rattle.fz_filling.specs.of_verdict.Solutions.{Printed, PrintedValue, printed_values}
+use Rattle.fz_filling.specs.of_verdict.BlockFaults.{literal_fault, fault_if, value_fault}
+use Rattle.fz_filling.specs.of_verdict.Solutions.PrintedValue.{OneValue, ArrayOf}
+use Rattle.fz_filling.specs.of_verdict.BlockFaults.BlockFaultKind.{WrongKind, WrongLength}
 use Rattle.fz_filling.specs.of_verdict.Filling.{pairs, pairs_at, printed_scalars, if_var, first_printed, start_from}
 use Rattle.fz_filling.proofs.of_verdict.Accepted.{or_none, first_none}
 use Rattle.fz_judge.specs.Working.{HasRoom, IsWithin, terms_of_what, with_first, with_all, item_scalars}

@@ -6,7 +6,8 @@ use Rattle.fz_filling.specs.of_model.Holding.{is_held, point_holds}
 use Rattle.fz_filling.proofs.of_model.Values.{and_first, and_second}
 use Rattle.fz_filling.specs.of_model.declared.State.{State}
 use Rattle.fz_filling.specs.of_model.declared.State.TheVariants.{Holds, Fails, NoValue, Unknown, TooLarge}
-use Rattle.fz_filling.specs.of_model.Meaning.{Model, Partial, Point, PointName, points, state, first_some, shown_point, variables_of}
+use Rattle.fz_filling.specs.of_model.Meaning.{Model, Partial, Point, points, first_some, variables_of}
+use Rattle.fz_filling.specs.of_model.States.{PointName, state, shown_point}
 use Rattle.fz_filling.specs.of_verdict.Verdict.{Fault, Reason, fault_at, fault_named, first_unset, point_fails, point_undecided, reason_at, verdict_by}
 use Rattle.fz_filling.specs.of_verdict.Verdict.Verdict.{Violated, Satisfied}
 use Rattle.fz_judge.specs.Working.{holds, is_failed, reason_named, with_objective}

@@ -2,8 +2,9 @@
 use Rattle.std.specs.Prelude.{◌≡◌, ℤ, IfSome, IsSomeAnd, None, Option, Some, ⊤}
 use Rattle.fz_base.specs.declared.span.Span.{Span}
 use Rattle.fz_filling.specs.of_model.Meaning.{Model, Partial, objective}
-use Rattle.fz_filling.specs.of_verdict.Blocks.{Block, BlockFault, BlockFaultKind, block_fault}
-use Rattle.fz_filling.specs.of_verdict.Blocks.BlockFaultKind.{UnknownName, WrongKind, WrongLength}
+use Rattle.fz_filling.specs.of_verdict.Solutions.{Block}
+use Rattle.fz_filling.specs.of_verdict.BlockFaults.{BlockFault, BlockFaultKind, block_fault}
+use Rattle.fz_filling.specs.of_verdict.BlockFaults.BlockFaultKind.{UnknownName, WrongKind, WrongLength}
 use Rattle.fz_filling.specs.of_verdict.declared.completion.Completion.{Completion}
 use Rattle.fz_filling.specs.of_verdict.Completed.{IsToldBy}
 use Rattle.fz_filling.specs.of_verdict.Verdict.{Verdict, IsFilled, verdict}

@@ -10,13 +10,15 @@ use Rattle.fz_filling.specs.of_model.declared.Term.TheVariants.{Var, Fixed}
 use Rattle.fz_filling.specs.of_model.declared.What.{What}
 use Rattle.fz_filling.specs.of_model.declared.What.TheVariants as whats
 use Rattle.fz_filling.specs.of_model.Names.{literal_value}
-use Rattle.fz_filling.specs.of_model.Values.{same_value}
+use Rattle.fz_filling.specs.of_model.Relations.{same_value}
 use Rattle.fz_filling.specs.of_model.Shown.{scalar_terms}
 use Rattle.fz_filling.specs.of_model.Slots.{scalar_term}
-use Rattle.fz_filling.specs.of_model.Meaning.{Model, Partial, PointName, IsPartial, give, objective, value, value_at, variables_of, find_name}
+use Rattle.fz_filling.specs.of_model.Meaning.{Model, Partial, IsPartial, give, objective, value, value_at, variables_of, find_name}
+use Rattle.fz_filling.specs.of_model.States.{PointName}
 use Rattle.fz_filling.specs.of_syntax.Places.{IsSpanWithin}
-use Rattle.fz_filling.specs.of_verdict.Blocks.{Block, Printed, PrintedValue, printed_values, moved}
-use Rattle.fz_filling.specs.of_verdict.Blocks.PrintedValue.{OneValue, ArrayOf}
+use Rattle.fz_filling.specs.of_verdict.Solutions.{Block, Printed, PrintedValue, printed_values}
+use Rattle.fz_filling.specs.of_verdict.BlockFaults.{moved}
+use Rattle.fz_filling.specs.of_verdict.Solutions.PrintedValue.{OneValue, ArrayOf}
 use Rattle.fz_filling.specs.of_verdict.Filling.{pairs, pairs_at}
 use Rattle.fz_filling.specs.of_verdict.Verdict.{Fault, Reason, Verdict, verdict, not_known_at, too_large_at, verdict_by}
 use Rattle.fz_filling.specs.of_verdict.Verdict.Verdict.{Satisfied, Violated, Undecided}

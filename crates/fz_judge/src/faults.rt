@@ -8,7 +8,7 @@ ghost use Rattle.fz_filling.specs.of_model.Parts.{variable_view};
 ghost use Rattle.fz_filling.specs.of_model.Shown.{kind_among, scalar_terms, what_place};
 ghost use Rattle.fz_filling.specs.of_model.Slots.{scalar_term};
 ghost use Rattle.fz_filling.specs.of_model.View.{located_literal, located_name};
-ghost use Rattle.fz_filling.specs.of_verdict.Blocks.{literal_fault, value_fault};
+ghost use Rattle.fz_filling.specs.of_verdict.BlockFaults.{literal_fault, value_fault};
 ghost use Rattle.fz_filling.specs.of_verdict.View.{located_printed_value};
 ghost use Rattle.fz_judge.specs.Judged.{refusal};
 

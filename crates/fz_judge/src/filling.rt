@@ -7,7 +7,7 @@ ghost use Rattle.fz_filling.specs.of_model.Meaning.{IsPartial, first_some};
 ghost use Rattle.fz_filling.specs.of_model.Partial.{nothing_for};
 ghost use Rattle.fz_filling.specs.of_stream.Found.{EndsWithin, HasPlaces};
 ghost use Rattle.fz_filling.specs.of_syntax.Places.{IsSpanWithin};
-ghost use Rattle.fz_filling.specs.of_verdict.Blocks.{block_fault, items_fault, moved};
+ghost use Rattle.fz_filling.specs.of_verdict.BlockFaults.{block_fault, items_fault, moved};
 ghost use Rattle.fz_filling.specs.of_verdict.Filling.{printed_scalars, start};
 ghost use Rattle.fz_filling.specs.of_verdict.Verdict.{IsFilled, printed_fails};
 ghost use Rattle.fz_filling.specs.of_verdict.View.{located_block, located_items};

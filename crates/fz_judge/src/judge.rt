@@ -4,7 +4,7 @@ ghost use Rattle.std.specs.Prelude.{◌≡◌, IfErr, IfOk, IfSome, IsTrue, None
 ghost use Rattle.fz_filling.specs.of_model.Meaning.{IsPartial, first_some, objective};
 ghost use Rattle.fz_filling.specs.of_model.Overviews.{IsOverview};
 ghost use Rattle.fz_filling.specs.of_stream.Found.{EndsWithin, HasPlaces};
-ghost use Rattle.fz_filling.specs.of_verdict.Blocks.{block_fault, items_fault};
+ghost use Rattle.fz_filling.specs.of_verdict.BlockFaults.{block_fault, items_fault};
 ghost use Rattle.fz_filling.specs.of_verdict.Completed.{IsCompleted};
 ghost use Rattle.fz_filling.specs.of_verdict.Verdict.{objective_fails, printed_fails, verdict, verdict_by};
 ghost use Rattle.fz_filling.specs.of_verdict.Verdict.Verdict.{Undecided};
@@ -187,6 +187,13 @@ impl<'m, 'a> Judge<'m, 'a> {
             search: None,
             spare: None,
         }
+    }
+
+    /// The objective of the block that was judged last, with the values that were found for it.
+    pub fn objective(&self) -> Option<i64>
+        ensures { result ≡ self.now.found }
+    {
+        self.found
     }
 
     /// The verdict on a block that has the verdict `under` and the objective `now` under its

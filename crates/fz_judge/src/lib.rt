@@ -1,7 +1,7 @@
 //! Judging solution blocks against a model, one after another: the fault of a block, its filling,
 //! and the verdict on it. An internal crate of `fz_check`.
 //!
-//! Its worked cases are in `fz_check_cases`.
+//! Its worked cases are in `tests/cases`.
 #![tactic(auto)]
 
 mod error;

@@ -7,8 +7,7 @@ use Rattle.std.proofs.lemmas.Int.{ints}
 use Rattle.std.proofs.lemmas.List.Folds.{list_any_more, list_all_more}
 use Rattle.std.proofs.lemmas.Option.{slice_get_within, get_or_from_slice_get}
 use Rattle.std.proofs.lemmas.Bool.Decides.{Decides-int_eq}
-use Rattle.fz_meaning.specs.Values.{◌=ℤ◌}
-use Rattle.fz_meaning.specs.Builtins.{is_among}
+use Rattle.fz_meaning.specs.Relations.{◌=ℤ◌, is_among}
 use Rattle.fz_meaning.proofs.Values.{no, and_first, and_second, and_both, same_int, int_itself}
 
 -- what an order keeps

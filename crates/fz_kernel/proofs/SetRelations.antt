@@ -1,7 +1,7 @@
 -- A test that holds just where two sets are the same is the test of whether they are equal.
 use Rattle.std.proofs.Common.{◌≡◌, Bool, true, ◌↔◌, ap, ◌∙◌}
 use Rattle.fz_base.specs.Sets.{NumberSet}
-use Rattle.fz_meaning.specs.Values.{◌=ˢ◌}
+use Rattle.fz_meaning.specs.Relations.{◌=ˢ◌}
 use Rattle.fz_meaning.proofs.Values.{same_set_is, same_truth, set_itself}
 
 pub told_same : (r : Bool) (s t : NumberSet) → (r ≡ true ↔ (s ≡ t)) → r ≡ (s =ˢ t)

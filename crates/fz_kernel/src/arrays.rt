@@ -12,4 +12,4 @@ pub use element::{
 };
 pub use extremes::{is_maximum, is_minimum, maximum, minimum};
 pub use sums::{sum_of_products, sum_where_true};
-pub use truths::{all_true, any_false, any_true, clause_holds, odd_number_true};
+pub use truths::{all_true, any_false, any_true, odd_number_true};

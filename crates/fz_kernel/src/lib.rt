@@ -7,7 +7,7 @@
 //! products can leave 128 bits, which the result says. Some relations of sets take memory, and so
 //! does [`arrays::all_elements_different`] over a long array.
 //!
-//! Its worked cases are in `fz_check_cases` (`builtins.rt`).
+//! Its worked cases are in `tests/cases` (`builtins.txt`).
 #![tactic(auto)]
 
 pub mod arrays;

@@ -1,8 +1,7 @@
-// Integers: the exact results of the builtins' arithmetic, and the relations made of them.
-ghost use Rattle.std.specs.Prelude.{◌≡◌, pos, ◌+ℤ◌, ◌*ℤ◌, int_div, int_rem, unsigned_abs, IfSome, IfNone, not, ◌&&◌};
+// Integers: the exact results of the builtins' arithmetic.
+ghost use Rattle.std.specs.Prelude.{◌≡◌, pos, ◌+ℤ◌, ◌*ℤ◌, int_div, int_rem, unsigned_abs, IfSome, IfNone};
 ghost use Rattle.std.specs.Int.{int_min, int_max};
-ghost use Rattle.fz_meaning.specs.Values.{◌=ℤ◌};
-ghost use Rattle.fz_meaning.specs.Builtins.{as_number};
+ghost use Rattle.fz_meaning.specs.Relations.{as_number};
 
 /// The sum, which always fits in 128 bits.
 pub fn sum(a: i64, b: i64) -> i128
@@ -69,59 +68,4 @@ pub fn number_of_truth(truth: bool) -> i64
     ensures exact { result ≡ as_number truth }
 {
     if truth { 1 } else { 0 }
-}
-
-/// Whether `c` is `a + b`.
-pub fn is_sum(a: i64, b: i64, c: i64) -> bool
-    ensures exact { result ≡ (c =ℤ (a +ℤ b)) }
-{
-    i128::from(c) == sum(a, b)
-}
-
-/// Whether `c` is `a * b`.
-pub fn is_product(a: i64, b: i64, c: i64) -> bool
-    ensures exact { result ≡ (c =ℤ (a *ℤ b)) }
-{
-    i128::from(c) == product(a, b)
-}
-
-/// Whether `c` is the lesser of `a` and `b`.
-pub fn is_least(a: i64, b: i64, c: i64) -> bool
-    ensures exact { result ≡ (c =ℤ int_min a b) }
-{
-    c == least(a, b)
-}
-
-/// Whether `c` is the greater of `a` and `b`.
-pub fn is_greatest(a: i64, b: i64, c: i64) -> bool
-    ensures exact { result ≡ (c =ℤ int_max a b) }
-{
-    c == greatest(a, b)
-}
-
-/// Whether `b` is the absolute value of `a`.
-pub fn is_absolute(a: i64, b: i64) -> bool
-    ensures exact { result ≡ (b =ℤ pos (unsigned_abs a)) }
-{
-    i128::from(b) == absolute(a)
-}
-
-/// Whether `c` is the quotient of `a` and `b`.
-pub fn is_quotient(a: i64, b: i64, c: i64) -> bool
-    ensures exact { result ≡ (not (b =ℤ pos 0) && (c =ℤ int_div a b)) }
-{
-    match quotient(a, b) {
-        Some(quotient) => i128::from(c) == quotient,
-        None => false,
-    }
-}
-
-/// Whether `c` is the remainder of `a` and `b`.
-pub fn is_remainder(a: i64, b: i64, c: i64) -> bool
-    ensures exact { result ≡ (not (b =ℤ pos 0) && (c =ℤ int_rem a b)) }
-{
-    match remainder(a, b) {
-        Some(remainder) => i128::from(c) == remainder,
-        None => false,
-    }
 }

@@ -1,8 +1,8 @@
 // Sets: the relations of the builtins, each decided without making the set that it speaks of.
-ghost use Rattle.std.specs.Prelude.{◌≡◌, pos};
+ghost use Rattle.std.specs.Prelude.{◌≡◌};
 ghost use Rattle.std.specs.FinSet as set;
 ghost use Rattle.fz_base.specs.Sets.{symmetric_difference};
-ghost use Rattle.fz_meaning.specs.Values.{◌=ℤ◌, ◌=ˢ◌};
+ghost use Rattle.fz_meaning.specs.Relations.{◌=ˢ◌};
 
 use fz_base::IntSet;
 
@@ -11,13 +11,6 @@ pub fn same_set(a: &IntSet, b: &IntSet) -> bool
     ensures exact { result ≡ (a.now =ˢ b.now) }
 {
     a.is_subset(b) && b.is_subset(a)
-}
-
-/// Whether the set has this many elements.
-pub fn has_cardinality(a: &IntSet, number: i64) -> bool
-    ensures exact { result ≡ (number =ℤ pos (set.len a.now)) }
-{
-    i128::from(number) == a.len() as i128
 }
 
 /// Whether `c` is the union of `a` and `b`.

@@ -7,15 +7,13 @@ use Rattle.std.specs.List.{position_or_len, AllByRecursion}
 use Rattle.std.proofs.lemmas.List.{length-drop, append-nil, get_or_past}
 use Rattle.std.proofs.lemmas.Bool.{eqb-true, eqb-false, cases_Bool, cases_lt, ltb-true, ltb-false}
 use Rattle.std.proofs.lemmas.Int.{ints}
-use Rattle.fz_lex.specs.Byte.{is_blank, is_line_feed}
-use Rattle.fz_lex.specs.Token.{TokenValue, Word, Whole, FloatText, StringText, Marked}
-use Rattle.fz_lex.specs.Lexing.{SpannedToken, CutBetween, nothing, blank, comment, spelling, IsWholeComment, IsLongestSpelling, NothingBegins, LexesToSpanned, AreInOrder}
-use Rattle.fz_lex.specs.Limits.{most_bytes, IsWithinLimit, IsTokenWithinLimit, AreWithinLimit, LexesWithinLimits}
+use Rattle.fz_lex.specs.Token.{is_blank, is_line_feed, TokenValue, Word, Whole, FloatText, StringText, Marked}
+use Rattle.fz_lex.specs.Lexing.{SpannedToken, CutBetween, nothing, blank, comment, spelling, IsWholeComment, IsLongestSpelling, LexesToSpanned, most_bytes, IsWithinLimit, IsTokenWithinLimit, AreWithinLimit, LexesWithinLimits}
+use Rattle.fz_lex.specs.View.{NothingBegins, spanned, IsSpelledAtSpan, IsLexicalFault}
+use Rattle.fz_lex.specs.Found.{AreInOrder, NextFrom, FaultFrom, IsScanned, IsScanFault}
 use Rattle.fz_lex.specs.Scan.{FrontToken, found, none, front_of}
 use Rattle.fz_lex.specs.Ahead.{comma_at, gap_from, is_whole_within, is_within, tokens_at, tokens_from, tokens_ahead, stop_at, stop_from, stop_ahead}
-use Rattle.fz_lex.specs.View.{spanned, IsSpelledAtSpan, IsLexicalFault}
 use Rattle.fz_lex.specs.Left.{first_and}
-use Rattle.fz_lex.specs.Found.{NextFrom, FaultFrom, IsScanned, IsScanFault}
 use Rattle.fz_lex.specs.declared.token.Token.{Token}
 use Rattle.fz_lex.specs.declared.error.SyntaxError.{SyntaxError}
 use Rattle.fz_lex.specs.declared.error.SyntaxError.TheVariants.{TooLong, BadByte, TooLarge, Float, Syntax, TooDeep, TooMany, Memory}

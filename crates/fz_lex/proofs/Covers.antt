@@ -8,8 +8,7 @@ use Rattle.std.proofs.lemmas.List.{length-append, append_assoc, get_or_append_le
 use Rattle.std.proofs.lemmas.Bool.{and_parts, and_left, and_right, ne_eqb, eqb-true, eqb-false, cases_Bool}
 use Rattle.std.proofs.lemmas.Bool.Decides.{nat_tests}
 use Rattle.std.proofs.Math.Seq.{drop-append-add}
-use Rattle.fz_lex.specs.Byte.{is_word_byte}
-use Rattle.fz_lex.specs.Token.{AreDigits, number_of, WritesNatural, decimal, hexadecimal, octal, IsExponent, IsUnsignedFloat, pointed, scaled, IsStringRest, closed, plain, escaped}
+use Rattle.fz_lex.specs.Token.{is_word_byte, AreDigits, number_of, WritesNatural, decimal, hexadecimal, octal, IsExponent, IsUnsignedFloat, pointed, scaled, IsStringRest, closed, plain, escaped}
 use Rattle.fz_lex.specs.Scan.{digits_len, fraction_len, signed_digits_len, exponent_len, NumberFront, is_based, based_number, decimal_number, number_front, string_rest_len}
 use Rattle.fz_lex.proofs.Runs.{digits_cover, first_digit}
 use Rattle.fz_lex.proofs.StringRest.{quote_first, plain_first, escape_first}

@@ -1,12 +1,11 @@
 -- Cuts joined end to end, and that a source has one cut.
 use Rattle.std.proofs.Common.{◌≡◌, ℕ, ◌+◌, ◌<◌, ◌≤◌, List, [], ◌∷◌, ◌++◌, length, drop, get_or, ℤ, true, refl, sym, ap, ◌∙◌, subst, arith}
 use Rattle.std.specs.List.{position_or_len}
-use Rattle.fz_lex.specs.Byte.{is_blank, is_line_feed}
-use Rattle.fz_lex.specs.Token.{TokenValue}
-use Rattle.fz_lex.specs.Lexing.{SpannedToken, CutBetween, nothing, blank, comment, spelling, IsWholeComment, IsLongestSpelling, NothingBegins, AreInOrder}
+use Rattle.fz_lex.specs.Token.{is_blank, is_line_feed, TokenValue, Whole}
+use Rattle.fz_lex.specs.Lexing.{SpannedToken, CutBetween, nothing, blank, comment, spelling, IsWholeComment, IsLongestSpelling, IsWithinLimit, IsTokenWithinLimit, AreWithinLimit}
+use Rattle.fz_lex.specs.View.{NothingBegins}
+use Rattle.fz_lex.specs.Found.{AreInOrder}
 use Rattle.std.proofs.lemmas.List.{get_or-drop, append-nil}
-use Rattle.fz_lex.specs.Token.{Whole}
-use Rattle.fz_lex.specs.Limits.{IsWithinLimit, IsTokenWithinLimit, AreWithinLimit}
 use Rattle.fz_lex.proofs.Fronts.{blank_none, comment_none}
 use Rattle.fz_lex.proofs.Laws.{longest_is_found, longest_is_positive}
 

@@ -3,9 +3,8 @@ use Rattle.std.proofs.Common.{◌≡◌, ◌≢◌, ◌∷◌, [], ℕ, ◌+◌,
 use Rattle.std.proofs.lemmas.Bool.Decides.{nat_tests}
 use Rattle.std.proofs.lemmas.Bool.{or_cases, eqb-true}
 use Rattle.std.specs.Char.{is_digit}
-use Rattle.fz_lex.specs.Byte.{is_blank, is_word_start}
+use Rattle.fz_lex.specs.Token.{is_blank, is_word_start, Marked, mark_text}
 use Rattle.fz_lex.specs.Scan.{front_of, mark_front, number_front, number_token, found, none}
-use Rattle.fz_lex.specs.Token.{Marked, mark_text}
 use Rattle.fz_lex.specs.declared.token.Mark.{Mark}
 use Rattle.fz_lex.specs.declared.token.Mark.TheVariants.{OpenParen, CloseParen, OpenBracket, CloseBracket, OpenBrace, CloseBrace, Comma, Semicolon, Colon, ColonColon, Equals, DotDot}
 

@@ -2,9 +2,9 @@
 -- printer.
 use Rattle.std.proofs.Common.{◌≡◌, ℕ, ◌+◌, ◌-◌, ◌<◌, ◌≤◌, List, [], ◌∷◌, ◌++◌, length, drop, get_or, map, true, refl, sym, ap, ◌∙◌, subst, arith}
 use Rattle.std.proofs.lemmas.List.{length-drop, length-append, drop-drop, drop_at}
-use Rattle.fz_lex.specs.Byte.{is_blank}
-use Rattle.fz_lex.specs.Token.{TokenValue, Spells}
-use Rattle.fz_lex.specs.Lexing.{SpannedToken, CutBetween, nothing, blank, spelling, IsLongestSpelling, LexesTo}
+use Rattle.fz_lex.specs.Token.{is_blank, TokenValue, Spells}
+use Rattle.fz_lex.specs.Lexing.{SpannedToken, CutBetween, nothing, blank, spelling, IsLongestSpelling}
+use Rattle.fz_lex.specs.AnyLength.{LexesTo}
 use Rattle.fz_lex.proofs.Laws.{EndsBefore, ended_is_longest}
 use Rattle.fz_lex.proofs.Cuts.{at_place}
 

@@ -7,10 +7,9 @@ use Rattle.std.proofs.lemmas.Bool.Decides.{nat_tests}
 use Rattle.std.specs.Prelude.{codes}
 use Rattle.std.specs.List.{prefix_len, list_all}
 use Rattle.std.specs.Char.{is_digit}
-use Rattle.fz_lex.specs.Byte.{is_word_start, is_word_byte}
+use Rattle.fz_lex.specs.Token.{is_word_start, is_word_byte, TokenValue, Word, Whole, FloatText, StringText, Marked, Spells, IsWordText, IsStringText, WritesWhole, unsigned, negative, IsFloatText, unsigned_float, negative_float, mark_text}
 use Rattle.fz_lex.specs.declared.token.Mark.{Mark}
 use Rattle.fz_lex.specs.declared.token.Mark.TheVariants.{OpenParen, CloseParen, OpenBracket, CloseBracket, OpenBrace, CloseBrace, Comma, Semicolon, Colon, ColonColon, Equals, DotDot}
-use Rattle.fz_lex.specs.Token.{TokenValue, Word, Whole, FloatText, StringText, Marked, Spells, IsWordText, IsStringText, WritesWhole, unsigned, negative, IsFloatText, unsigned_float, negative_float, mark_text}
 use Rattle.fz_lex.proofs.Runs.{chosen, prefix_all, prefix_covers}
 use Rattle.fz_lex.proofs.Fronts.{front_natural, front_negative}
 use Rattle.fz_lex.specs.Lexing.{IsLongestSpelling}

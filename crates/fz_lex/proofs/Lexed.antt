@@ -2,8 +2,7 @@
 use Rattle.std.proofs.Common.{◌≡◌, ℕ, ◌<◌, List, [], ◌∷◌, ◌++◌, length, refl, subst, arith}
 use Rattle.std.specs.List.{AllByRecursion}
 use Rattle.std.proofs.lemmas.List.{length-drop}
-use Rattle.fz_lex.specs.Lexing.{SpannedToken}
-use Rattle.fz_lex.specs.Limits.{IsTokenWithinLimit, AreWithinLimit, LexesWithinLimits}
+use Rattle.fz_lex.specs.Lexing.{SpannedToken, IsTokenWithinLimit, AreWithinLimit, LexesWithinLimits}
 use Rattle.fz_lex.specs.View.{IsLexicalFault, IsPlacedWithin, all_spanned}
 use Rattle.fz_lex.specs.Found.{IsLexed}
 use Rattle.fz_lex.specs.declared.token.Token.{Token}

@@ -2,10 +2,9 @@
 use Rattle.std.proofs.Common.{◌≡◌, ◌≢◌, ℕ, ◌+◌, ◌-◌, ◌<◌, ◌≤◌, List, [], ◌∷◌, ◌++◌, length, take, drop, get_or, slice_range, IsFalse, refl, sym, ap, ◌∙◌, subst, arith}
 use Rattle.std.proofs.lemmas.List.{take_rest, length-drop, append-nil}
 use Rattle.std.specs.List.{AllByRecursion}
-use Rattle.fz_lex.specs.Byte.{is_blank}
+use Rattle.fz_lex.specs.Token.{is_blank}
 use Rattle.fz_lex.specs.Ahead.{comma_at}
-use Rattle.fz_lex.specs.Lexing.{SpannedToken, nothing, CutBetween, CutUpTo, IsLongestSpelling}
-use Rattle.fz_lex.specs.Limits.{IsTokenWithinLimit, AreWithinLimit}
+use Rattle.fz_lex.specs.Lexing.{SpannedToken, nothing, CutBetween, CutUpTo, IsLongestSpelling, IsTokenWithinLimit, AreWithinLimit}
 use Rattle.fz_lex.specs.View.{token_value, IsLexicalFault}
 use Rattle.fz_lex.specs.Found.{IsFrontOf, FaultFrom}
 use Rattle.fz_lex.specs.declared.token.Mark.TheVariants.{Comma}

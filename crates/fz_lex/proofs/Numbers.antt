@@ -2,7 +2,7 @@
 -- number is.
 use Rattle.std.proofs.Common.{◌≡◌, ℕ, ◌-◌, ◌^◌, ◌≤◌, min, List, Option, Some, None, option_map, Bool, true, false, ⊎_elim, arith}
 use Rattle.std.proofs.lemmas.Int.{ints}
-use Rattle.fz_lex.specs.Limits.{IsWithinLimit}
+use Rattle.fz_lex.specs.Lexing.{IsWithinLimit}
 use Rattle.fz_lex.specs.Scan.{signed, number_token, front_of}
 use Rattle.fz_lex.specs.Found.{IsNumberFound, IsFrontOf}
 use Rattle.fz_lex.specs.declared.scanner.Front.{Front}

@@ -10,9 +10,8 @@ use Rattle.std.proofs.lemmas.Fmt.{decimal_is_IsNumeral}
 use Rattle.std.proofs.lemmas.Bool.{and_from, ne_eqb}
 use Rattle.std.proofs.lemmas.Bool.Decides.{nat_tests}
 use Rattle.std.proofs.lemmas.Int.{ints}
-use Rattle.fz_lex.specs.Byte.{is_word_byte}
-use Rattle.fz_lex.specs.Token.{TokenValue, Word, Whole, FloatText, StringText, Marked, IsWordText, IsFloatText, IsStringText, WritesNatural, decimal as decimal_digits, WritesWhole, unsigned, negative, mark_text}
-use Rattle.fz_lex.specs.Limits.{IsWithinLimit}
+use Rattle.fz_lex.specs.Token.{is_word_byte, TokenValue, Word, Whole, FloatText, StringText, Marked, IsWordText, IsFloatText, IsStringText, WritesNatural, decimal as decimal_digits, WritesWhole, unsigned, negative, mark_text}
+use Rattle.fz_lex.specs.Lexing.{IsWithinLimit}
 use Rattle.fz_lex.specs.Scan.{fraction_len}
 use Rattle.fz_lex.specs.declared.token.Mark.{Mark}
 use Rattle.fz_lex.proofs.Covers.{EndsNumber}

@@ -3,8 +3,7 @@ use Rattle.std.proofs.Common.{◌≡◌, ℕ, ◌-◌, ◌^◌, List, [], ◌∷
 use Rattle.std.specs.Prelude.{codes, replicate}
 use Rattle.std.proofs.lemmas.Int.{ints}
 use Rattle.fz_lex.specs.Token.{TokenValue, Word, Whole, FloatText, StringText, Marked, Spells, decimal, hexadecimal, octal, unsigned, negative, scaled, negative_float, closed, plain}
-use Rattle.fz_lex.specs.Lexing.{SpannedToken, nothing, comment, spelling, LexesToSpanned, IsLongestSpelling}
-use Rattle.fz_lex.specs.Limits.{least_whole, greatest_whole, IsWithinLimit}
+use Rattle.fz_lex.specs.Lexing.{SpannedToken, nothing, comment, spelling, LexesToSpanned, IsLongestSpelling, least_whole, greatest_whole, IsWithinLimit}
 use Rattle.fz_lex.specs.Scan.{found, none, front_of, number_front, fraction_len, exponent_len, signed_digits_len, string_rest_len, mark_front}
 use Rattle.fz_lex.specs.declared.token.Mark.TheVariants.{Equals, DotDot, Semicolon}
 use Rattle.fz_lex.proofs.Joined.{Joins, done, gap, text}

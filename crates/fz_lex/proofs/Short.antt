@@ -4,7 +4,7 @@ use Rattle.std.specs.Char.{is_digit}
 use Rattle.std.proofs.lemmas.Bool.{and_left, and_right, ne_eqb, eqb-true, cases_Bool}
 use Rattle.std.proofs.lemmas.Int.{ints}
 use Rattle.fz_lex.specs.Token.{Whole}
-use Rattle.fz_lex.specs.Limits.{IsWithinLimit}
+use Rattle.fz_lex.specs.Lexing.{IsWithinLimit}
 use Rattle.fz_lex.specs.Scan.{found, front_of, digits_len, leading_number, fraction_len, exponent_len, is_based, decimal_number, number_front}
 use Rattle.fz_lex.proofs.Cuts.{at_place}
 use Rattle.fz_lex.proofs.Fronts.{decimal_digit, digit_no_word_start, front_natural, front_negative}

@@ -3,8 +3,8 @@
 use Rattle.std.proofs.Common.{◌≡◌, ℕ, ◌-◌, ◌≤◌, List, [], ◌∷◌, ◌++◌, length, take, drop, slice_range, map, sym, ap, ◌∙◌, subst, arith}
 use Rattle.std.specs.List.{AllByRecursion}
 use Rattle.fz_lex.specs.Token.{TokenValue, Word, Whole, FloatText, StringText, Marked, Spells, IsTokenText, IsWordText, IsFloatText, IsStringText}
-use Rattle.fz_lex.specs.Lexing.{SpannedToken, CutBetween, nothing, blank, comment, spelling, LexesToSpanned, LexesTo}
-use Rattle.fz_lex.specs.Limits.{most_bytes, IsTokenWithinLimit, LexesWithNumbersInLimit, IsTextOfTokens}
+use Rattle.fz_lex.specs.Lexing.{SpannedToken, CutBetween, nothing, blank, comment, spelling, LexesToSpanned, most_bytes, IsTokenWithinLimit, IsTextOfTokens}
+use Rattle.fz_lex.specs.AnyLength.{LexesTo, LexesWithNumbersInLimit}
 use Rattle.fz_lex.specs.View.{IsSpelledAtSpan}
 use Rattle.fz_lex.proofs.Cuts.{cut_once}
 

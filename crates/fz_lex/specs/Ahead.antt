@@ -3,8 +3,7 @@
 -- a source without a fault lexes to it is proved.
 use Rattle.std.specs.Prelude.{ℕ, zero, suc, ◌+◌, ◌^◌, List, [], ◌∷◌, length, drop, slice_index, Bool, true, nat_lt, ◌==◌, if◌then◌else◌, ℤ, pos, negsuc}
 use Rattle.std.specs.List.{position_or_len}
-use Rattle.fz_lex.specs.Byte.{is_blank, is_line_feed}
-use Rattle.fz_lex.specs.Token.{TokenValue, Word, Whole, FloatText, StringText, Marked}
+use Rattle.fz_lex.specs.Token.{is_blank, is_line_feed, TokenValue, Word, Whole, FloatText, StringText, Marked}
 use Rattle.fz_lex.specs.Lexing.{SpannedToken}
 use Rattle.fz_lex.specs.declared.token.Mark.TheVariants.{Comma}
 use Rattle.fz_lex.specs.Scan.{FrontToken, found, none, front_of}

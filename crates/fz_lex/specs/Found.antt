@@ -1,10 +1,9 @@
 -- What the private functions of the lexer promise each other. A reader need not believe this file:
 -- what the crate promises doesn't speak of it.
-use Rattle.std.specs.Prelude.{Bool, ◌⊎◌, Option, Some, None, ◌≡◌, ◌≢◌, ℕ, ◌+◌, ◌<◌, List, [], ◌∷◌, length, take, drop, slice_range, ℤ}
+use Rattle.std.specs.Prelude.{Bool, ◌⊎◌, Option, Some, None, ◌≡◌, ◌≢◌, ℕ, ◌+◌, ◌<◌, List, [], ◌∷◌, length, take, drop, slice_range, ℤ, ◌≤◌}
 use Rattle.fz_lex.specs.Token.{Whole}
-use Rattle.fz_lex.specs.Lexing.{SpannedToken, LexesToSpanned, NothingBegins, IsLongestSpelling, CutBetween}
-use Rattle.fz_lex.specs.Limits.{IsWithinLimit, IsTokenWithinLimit, AreWithinLimit}
-use Rattle.fz_lex.specs.View.{token_value, spanned, all_spanned, TextsAreSlices, IsLexicalFault}
+use Rattle.fz_lex.specs.Lexing.{SpannedToken, LexesToSpanned, IsLongestSpelling, CutBetween, IsWithinLimit, IsTokenWithinLimit, AreWithinLimit}
+use Rattle.fz_lex.specs.View.{NothingBegins, token_value, spanned, all_spanned, TextsAreSlices, IsLexicalFault}
 use Rattle.fz_lex.specs.Scan.{found, none, front_of, signed}
 use Rattle.fz_lex.specs.declared.token.TokenKind.TheVariants as kinds
 use Rattle.fz_lex.specs.declared.token.Token.{Token}
@@ -12,6 +11,12 @@ use Rattle.fz_lex.specs.declared.scanner.Front.{Front}
 use Rattle.fz_lex.specs.declared.scanner.Front.TheVariants.{Found, OutsideLimit, Nothing}
 use Rattle.fz_lex.specs.declared.error.SyntaxError.{SyntaxError}
 use Rattle.fz_lex.specs.declared.error.SyntaxError.TheVariants.{TooLong, BadByte, TooLarge, Float, Syntax, TooDeep, TooMany, Memory}
+
+-- Each span follows the one before, has at least one byte, and ends within the bytes.
+abbrev pub AreInOrder : ℕ → ℕ → List SpannedToken → Type 0
+AreInOrder from end [] = from ≤ end
+AreInOrder from end (t ∷ tokens) =
+    (from ≤ t.start) × (t.start < t.end) × AreInOrder t.end end tokens
 
 -- What the code finds at the front of the bytes is what is there.
 abbrev pub IsFrontOf : List ℕ → Front → Type 0

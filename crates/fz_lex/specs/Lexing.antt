@@ -1,9 +1,8 @@
 -- How a text is cut into tokens. "Handbook" is the MiniZinc Handbook, FlatZinc grammar. A `place`
 -- is a byte offset, counted from 0, and `drop place source` is the source from there on.
-use Rattle.std.specs.Prelude.{◌≡◌, ◌≢◌, ℕ, ◌+◌, ◌<◌, ◌≤◌, List, [], ◌∷◌, length, take, drop, slice_index, IsTrue, IsFalse, map}
-use Rattle.std.specs.List.{position_or_len}
-use Rattle.fz_lex.specs.Byte.{is_blank, is_line_feed}
-use Rattle.fz_lex.specs.Token.{TokenValue, Spells}
+use Rattle.std.specs.Prelude.{◌≡◌, ℕ, ◌+◌, ◌<◌, ◌≤◌, List, [], ◌∷◌, length, take, drop, slice_index, IsTrue, map, ◌-◌, ◌^◌, ℤ, pos, neg_ℤ, ◌≤ℤ◌}
+use Rattle.std.specs.List.{position_or_len, AllByRecursion}
+use Rattle.fz_lex.specs.Token.{is_blank, is_line_feed, TokenValue, Spells, Word, Whole, FloatText, StringText, Marked}
 
 -- A token and the byte range of its text: from start up to end, exclusive.
 pub record SpannedToken : Type 0 where
@@ -47,21 +46,38 @@ CutUpTo source place tokens = CutBetween source 0 place tokens
 abbrev pub LexesToSpanned : List ℕ → List SpannedToken → Type 0
 LexesToSpanned source tokens = CutUpTo source (length source) tokens
 
--- The source lexes to the tokens.
-abbrev pub LexesTo : List ℕ → List TokenValue → Type 0
-LexesTo source tokens = (spanned : List SpannedToken) × LexesToSpanned source spanned
+-- The least and the greatest integer that is accepted.
+abbrev pub least_whole : ℤ
+least_whole = neg_ℤ (pos (2 ^ 63))
+
+abbrev pub greatest_whole : ℤ
+greatest_whole = pos (2 ^ 63 - 1)
+
+-- The most bytes that a text may have.
+abbrev pub most_bytes : ℕ
+most_bytes = 2 ^ 24
+
+abbrev pub IsWithinLimit : ℤ → Type 0
+IsWithinLimit z = (least_whole ≤ℤ z) × (z ≤ℤ greatest_whole)
+
+-- An integer is within the limit; nothing is asked of the other tokens.
+abbrev pub IsTokenWithinLimit : TokenValue → Type 0
+IsTokenWithinLimit (Word text) = Unit {0}
+IsTokenWithinLimit (Whole z) = IsWithinLimit z
+IsTokenWithinLimit (FloatText text) = Unit {0}
+IsTokenWithinLimit (StringText text) = Unit {0}
+IsTokenWithinLimit (Marked m) = Unit {0}
+
+abbrev pub AreWithinLimit : List SpannedToken → Type 0
+AreWithinLimit tokens = AllByRecursion (λ t. IsTokenWithinLimit t.token) tokens
+
+-- The source lexes to the tokens, and both are within the limits.
+pub record LexesWithinLimits (source : List ℕ) (tokens : List SpannedToken) : Type 0 where
+  pub short : length source ≤ most_bytes
+  pub lexes : LexesToSpanned source tokens
+  pub numbers : AreWithinLimit tokens
+
+-- The source is a text of the tokens: it lexes to them, and both are within the limits.
+abbrev pub IsTextOfTokens : List ℕ → List TokenValue → Type 0
+IsTextOfTokens source tokens = (spanned : List SpannedToken) × LexesWithinLimits source spanned
     × (map (λ t. t.token) spanned ≡ tokens)
-
--- No blank, no comment and no text of a token begins where these bytes begin, and there is a byte.
-pub record NothingBegins (bytes : List ℕ) : Type 0 where
-  pub a_byte : 0 < length bytes
-  pub no_blank : IsFalse (is_blank (slice_index bytes 0))
-  pub no_comment : slice_index bytes 0 ≢ 37
-  pub no_spelling : (token : TokenValue) (n : ℕ) → n ≤ length bytes → Spells token (take n bytes)
-      → ⊥
-
--- Each span follows the one before, has at least one byte, and ends within the bytes.
-abbrev pub AreInOrder : ℕ → ℕ → List SpannedToken → Type 0
-AreInOrder from end [] = from ≤ end
-AreInOrder from end (t ∷ tokens) =
-    (from ≤ t.start) × (t.start < t.end) × AreInOrder t.end end tokens

@@ -1,10 +1,9 @@
-pub mod Byte
 pub mod Token
 pub mod Lexing
-pub mod Limits
 pub mod View
 pub mod Scan
 pub mod Found
 pub mod Ahead
 pub mod Left
+pub mod AnyLength
 pub use Rattle.fz_base.specs as of_base

@@ -1,11 +1,26 @@
 -- Tokens and their texts. "Handbook" is the MiniZinc Handbook, FlatZinc grammar; "profile" is this
 -- project's own choice where the Handbook leaves one or is narrowed.
-use Rattle.std.specs.Prelude.{◌≡◌, ◌≢◌, ℕ, ◌+◌, ◌*◌, ◌<◌, ◌⊎◌, List, [], ◌∷◌, ◌++◌, length, ℤ, pos, neg_ℤ, IsTrue, codes, fold}
+use Rattle.std.specs.Prelude.{◌≡◌, ◌≢◌, ℕ, ◌+◌, ◌*◌, ◌<◌, ◌⊎◌, List, [], ◌∷◌, ◌++◌, length, ℤ, pos, neg_ℤ, IsTrue, codes, fold, Bool, ◌==◌, ◌||◌}
 use Rattle.std.specs.List.{list_all}
-use Rattle.std.specs.Char.{digit_value, is_digit}
-use Rattle.fz_lex.specs.Byte.{is_word_start, is_word_byte}
+use Rattle.std.specs.Char.{digit_value, is_digit, is_ascii_alphabetic, is_ascii_alphanumeric}
 use Rattle.fz_lex.specs.declared.token.Mark.{Mark}
 use Rattle.fz_lex.specs.declared.token.Mark.TheVariants.{OpenParen, CloseParen, OpenBracket, CloseBracket, OpenBrace, CloseBrace, Comma, Semicolon, Colon, ColonColon, Equals, DotDot}
+
+-- A blank: space, tab, CR or LF.
+abbrev pub is_blank : ℕ → Bool
+is_blank b = b == 32 || b == 9 || b == 13 || b == 10
+
+-- What a word begins with: `[A-Za-z_]`.
+abbrev pub is_word_start : ℕ → Bool
+is_word_start b = is_ascii_alphabetic b || b == 95
+
+-- What a word goes on with: `[A-Za-z0-9_]`.
+abbrev pub is_word_byte : ℕ → Bool
+is_word_byte b = is_ascii_alphanumeric b || b == 95
+
+-- LF, which ends a line.
+abbrev pub is_line_feed : ℕ → Bool
+is_line_feed b = b == 10
 
 -- A token, without where it is in the source and how it is written: a word, an integer of any size,
 -- the text of a float or of a string, which have no other value (profile), or a mark.

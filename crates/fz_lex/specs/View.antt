@@ -1,16 +1,23 @@
 -- From tokens of the code to the plain data that the definitions speak of, and what a refusal says
 -- about the source (this project's profile).
-use Rattle.std.specs.Prelude.{◌≡◌, ℕ, ◌+◌, ◌<◌, ◌≤◌, List, length, drop, slice_range, map, ℤ}
+use Rattle.std.specs.Prelude.{◌≡◌, ℕ, ◌+◌, ◌<◌, ◌≤◌, List, length, drop, slice_range, map, ℤ, ◌≢◌, take, slice_index, IsFalse}
 use Rattle.std.specs.List.{AllByRecursion}
 use Rattle.fz_base.specs.declared.span.Span.{Span}
-use Rattle.fz_lex.specs.Token.{TokenValue, Word, Whole, FloatText, StringText, Marked, Spells}
-use Rattle.fz_lex.specs.Lexing.{SpannedToken, CutUpTo, NothingBegins, IsLongestSpelling}
-use Rattle.fz_lex.specs.Limits.{most_bytes, IsWithinLimit, AreWithinLimit}
+use Rattle.fz_lex.specs.Token.{TokenValue, Word, Whole, FloatText, StringText, Marked, Spells, is_blank}
+use Rattle.fz_lex.specs.Lexing.{SpannedToken, CutUpTo, IsLongestSpelling, most_bytes, IsWithinLimit, AreWithinLimit}
 use Rattle.fz_lex.specs.declared.token.TokenKind.{TokenKind}
 use Rattle.fz_lex.specs.declared.token.TokenKind.TheVariants as kinds
 use Rattle.fz_lex.specs.declared.token.Token.{Token}
 use Rattle.fz_lex.specs.declared.error.SyntaxError.{SyntaxError}
 use Rattle.fz_lex.specs.declared.error.SyntaxError.TheVariants.{TooLong, BadByte, TooLarge, Float, Syntax, TooDeep, TooMany, Memory}
+
+-- No blank, no comment and no text of a token begins where these bytes begin, and there is a byte.
+pub record NothingBegins (bytes : List ℕ) : Type 0 where
+  pub a_byte : 0 < length bytes
+  pub no_blank : IsFalse (is_blank (slice_index bytes 0))
+  pub no_comment : slice_index bytes 0 ≢ 37
+  pub no_spelling : (token : TokenValue) (n : ℕ) → n ≤ length bytes → Spells token (take n bytes)
+      → ⊥
 
 -- The token of a kind with a text.
 abbrev pub token_value : TokenKind → List ℕ → TokenValue

@@ -2,11 +2,10 @@
 
 ghost use Rattle.std.specs.Prelude.{◌≡◌, ◌≢◌, ◌<◌, ◌∷◌, [], List, length, drop, IsOk, IfErr, IfSome, IfNone, OnOk};
 ghost use Rattle.std.specs.List.{AllByRecursion};
-ghost use Rattle.fz_lex.specs.Limits.{most_bytes, AreWithinLimit, LexesWithinLimits};
-ghost use Rattle.fz_lex.specs.Lexing.{SpannedToken, AreInOrder, LexesToSpanned};
+ghost use Rattle.fz_lex.specs.Lexing.{most_bytes, AreWithinLimit, LexesWithinLimits, SpannedToken, LexesToSpanned};
+ghost use Rattle.fz_lex.specs.Found.{AreInOrder, IsScanned, IsScanFault};
 ghost use Rattle.fz_lex.specs.View.{spanned, IsSpelledAtSpan, IsLexicalFault, IsPlacedWithin};
 ghost use Rattle.fz_lex.specs.Ahead.{tokens_ahead};
-ghost use Rattle.fz_lex.specs.Found.{IsScanned, IsScanFault};
 ghost use Rattle.fz_lex.specs.Left.{left, listed_comma, source_of};
 
 use crate::error::SyntaxError;

@@ -1,12 +1,11 @@
 //! Goes over a source token by token, and lists its tokens.
 
 ghost use Rattle.std.specs.Prelude.{◌≡◌, ◌≢◌, ◌+◌, ◌<◌, ◌≤◌, ◌∷◌, [], Some, IfSome, IfNone, List, length, slice_index, IsFalse, IfOk, IfErr, OnErr, MatchResult};
-ghost use Rattle.fz_lex.specs.Byte as bytes_spec;
-ghost use Rattle.fz_lex.specs.Limits.{most_bytes, LexesWithinLimits};
-ghost use Rattle.fz_lex.specs.Lexing.{SpannedToken, CutBetween, AreInOrder};
+ghost use Rattle.fz_lex.specs.Token as bytes_spec;
+ghost use Rattle.fz_lex.specs.Lexing.{most_bytes, LexesWithinLimits, SpannedToken, CutBetween};
+ghost use Rattle.fz_lex.specs.Found.{AreInOrder, NextFrom, FaultFrom, IsLexed};
 ghost use Rattle.fz_lex.specs.View.{all_spanned, TextsAreSlices, IsLexicalFault, IsPlacedWithin};
 ghost use Rattle.fz_lex.specs.Ahead.{comma_at, tokens_ahead, stop_ahead};
-ghost use Rattle.fz_lex.specs.Found.{NextFrom, FaultFrom, IsLexed};
 
 use crate::error::SyntaxError;
 use crate::scanner::{Front, comment_len, is_blank, read_front, short_whole};

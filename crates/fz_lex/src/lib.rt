@@ -2,7 +2,7 @@
 //! whole text, `Tokens` reads them one by one without memory, and `check_tokens` only tells whether
 //! there is a lexical fault. An internal crate of `fz_syntax`, which passes on `lex`, the tokens
 //! and the errors.
-//! Its worked cases are in `fz_text_cases`.
+//! Its worked cases are in `tests/cases` (`calls.txt`) and `tests/broken`.
 #![tactic(auto)]
 
 mod ahead;

@@ -3,10 +3,9 @@
 ghost use Rattle.std.specs.Prelude.{◌≡◌, ◌≢◌, ◌-◌, ◌^◌, ◌<◌, ◌≤◌, ◌∷◌, [], false, length, min, slice_index, IsFalse, IfSome, Some, true, IfNone, option_map};
 ghost use Rattle.std.specs.List.{position_or_len};
 ghost use Rattle.std.specs.Char.{digit_value, is_digit};
-ghost use Rattle.fz_lex.specs.Byte as bytes_spec;
-ghost use Rattle.fz_lex.specs.Byte.{is_word_start};
-ghost use Rattle.fz_lex.specs.Token.{Whole, mark_text};
-ghost use Rattle.fz_lex.specs.Limits.{IsWithinLimit};
+ghost use Rattle.fz_lex.specs.Token as bytes_spec;
+ghost use Rattle.fz_lex.specs.Token.{is_word_start, Whole, mark_text};
+ghost use Rattle.fz_lex.specs.Lexing.{IsWithinLimit};
 ghost use Rattle.fz_lex.specs.Scan as scan;
 ghost use Rattle.fz_lex.specs.Found.{IsFrontOf, IsNumberFound};
 

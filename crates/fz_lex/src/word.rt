@@ -3,7 +3,7 @@
 ghost use Rattle.std.specs.Prelude.{◌≡◌, ◌+◌, ◌≤◌, ◌==◌, if◌then◌else◌, length, take, drop};
 ghost use Rattle.std.specs.Int.{w64, trailing_zeros};
 ghost use Rattle.std.specs.List.{prefix_len};
-ghost use Rattle.fz_lex.specs.Byte as bytes_spec;
+ghost use Rattle.fz_lex.specs.Token as bytes_spec;
 
 use std::simd::prelude::*;
 

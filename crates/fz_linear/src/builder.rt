@@ -32,10 +32,9 @@ fn other_rule(known: Option<Known>) -> Rule {
         return Rule::Plain;
     };
     match known.builtin {
-        Builtin::ArrayVarIntElement | Builtin::ArrayVarBoolElement => Rule::Element,
-        Builtin::GecodeBinPackingLoad | Builtin::FzcheckBinPackingLoad => Rule::Tally,
+        Builtin::ArrayIntElement | Builtin::ArrayBoolElement => Rule::Element,
         Builtin::FznGlobalCardinality | Builtin::FznGlobalCardinalityClosed => Rule::Tally,
-        Builtin::FznDistribute => Rule::Tally,
+        Builtin::GecodeBinPackingLoad | Builtin::FznDistribute => Rule::Tally,
         _ => Rule::Plain,
     }
 }

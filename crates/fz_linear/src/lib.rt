@@ -2,7 +2,7 @@
 //! and the linear row that it is, if it is one; and bounds of variables. Nothing is promised of
 //! them, since what the search finds is judged. An internal crate of `fz_check`.
 //!
-//! Its worked cases are in `fz_check_cases` (`completing.rt`).
+//! Its worked cases are in `tests/cases` (`completed.txt`).
 #![tactic(auto)]
 
 mod arguments;

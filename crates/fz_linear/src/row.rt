@@ -133,7 +133,7 @@ fn is_equal(sums: Sums, number: i128) -> Option<bool> {
 pub enum Rule {
     /// as a linear row
     Linear(Row),
-    /// as an element of an array of variables, by its index
+    /// as an element of an array, by its index
     Element,
     /// as counts or loads, by what is counted or packed
     Tally,

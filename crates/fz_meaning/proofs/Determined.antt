@@ -9,15 +9,16 @@ use Rattle.std.specs.List.{AllByRecursion, list_any, list_all}
 use Rattle.std.specs.Option.{option_map_or}
 use Rattle.std.specs.Int.{int_min, int_max}
 use Rattle.std.specs.FinSet as sets
-use Rattle.fz_meaning.specs.Values.{◌=ℤ◌, ◌=ᴮ◌, ◌=ˢ◌}
-use Rattle.fz_meaning.specs.Builtins.{Shape, Of, Plain, Test, Row, Result, base_rows, builtins, implied, reified, row_at, rows, rows_with_forms, with_bool, with_truth, products, total, as_number, is_among, element_at, where_true}
+use Rattle.fz_meaning.specs.Relations.{◌=ℤ◌, ◌=ᴮ◌, ◌=ˢ◌, products, total, as_number, is_among, element_at, where_true, count_in, count_of, index_from, is_index_of_best, values_of}
+use Rattle.fz_meaning.specs.Builtins.{Shape, Of, Plain, Test, Row, base_rows, builtins, implied, reified, row_at, rows, rows_with_forms, with_bool, with_truth}
 use Rattle.fz_meaning.specs.Builtins.Shape.{ScalarOf, ArrayOf}
-use Rattle.fz_meaning.specs.Builtins.Result.{NoResult, Places, UnitTerm}
-use Rattle.fz_meaning.specs.Globals.{count_in, count_of, index_from, is_index_of_best, values_of}
+use Rattle.fz_meaning.specs.Results.{Result, result_of}
+use Rattle.fz_meaning.specs.Results.Result.{NoResult, Places, UnitTerm}
 use Rattle.fz_meaning.proofs.Lists.{all_append}
+use Rattle.fz_meaning.proofs.WithTruth.{reified_result}
 use Rattle.fz_meaning.proofs.Values.{no, and_first, and_second, int_itself, same_int, same_bool, same_set_is}
 use Rattle.fz_meaning.specs.declared.builtin.Builtin.{Builtin}
-use Rattle.fz_meaning.specs.declared.builtin.Builtin.TheVariants.{Count, GecodeCount, GecodeMaximumArgIntOffset, GecodeMinimumArgIntOffset, FznCountEq, FznAmong, FznNvalue, IntEq, IntLinEq, IntPlus, IntTimes, IntMin, IntMax, IntAbs, IntDiv, IntMod, ArrayIntElement, ArrayVarIntElement, ArrayIntMaximum, ArrayIntMinimum, BoolEq, BoolNot, BoolAnd, BoolOr, BoolXor, ArrayBoolAnd, ArrayBoolOr, ArrayBoolElement, ArrayVarBoolElement, Bool2Int, BoolLinEq, SetEq, SetUnion, SetIntersect, SetDiff, SetSymdiff, SetCard, ArraySetElement, ArrayVarSetElement}
+use Rattle.fz_meaning.specs.declared.builtin.Builtin.TheVariants.{GecodeMaximumArgIntOffset, GecodeMinimumArgIntOffset, FznCountEq, FznAmong, FznNvalue, IntEq, IntLinEq, IntPlus, IntTimes, IntMin, IntMax, IntAbs, IntDiv, IntMod, ArrayIntElement, ArrayIntMaximum, ArrayIntMinimum, BoolEq, BoolNot, BoolAnd, BoolOr, BoolXor, ArrayBoolAnd, ArrayBoolOr, ArrayBoolElement, Bool2Int, BoolLinEq, SetEq, SetUnion, SetIntersect, SetDiff, SetSymdiff, SetCard, ArraySetElement}
 use Rattle.fz_meaning.specs.declared.kind.Kind.TheVariants.{Int as IntKind}
 use Rattle.fz_base.specs.Sets.{NumberSet, symmetric_difference}
 
@@ -52,7 +53,7 @@ DeterminesResult ss t (Places is) = AllByRecursion (Determines ss t) is
 DeterminesResult ss t UnitTerm = DeterminesTerm ss t
 
 abbrev pub RowDetermines : Row → Type 0
-RowDetermines r = DeterminesResult r.shapes r.holds r.result
+RowDetermines r = DeterminesResult r.shapes r.holds (result_of r)
 
 -- ---- the rows
 
@@ -191,7 +192,7 @@ term_both as' bs a x cs ds y same u c d e =
 -- ---- the table
 
 row_determines : (b : Builtin) → RowDetermines (row_at b)
-unfolding row_at
+unfolding row_at result_of
 row_determines IntEq = ((λ x y b. int_both x y b), ((λ a x y. int_both' x y a), tt))
 row_determines IntLinEq = term_both
 row_determines IntPlus = ((λ a b x y. int_both x y (a +ℤ b)), tt)
@@ -202,7 +203,6 @@ row_determines IntAbs = ((λ a x y. int_both x y (pos (unsigned_abs a))), tt)
 row_determines IntDiv = ((λ a b x y d e. int_both x y (int_div a b) (and_second (not (b =ℤ pos 0)) _ d) (and_second (not (b =ℤ pos 0)) _ e)), tt)
 row_determines IntMod = ((λ a b x y d e. int_both x y (int_rem a b) (and_second (not (b =ℤ pos 0)) _ d) (and_second (not (b =ℤ pos 0)) _ e)), tt)
 row_determines ArrayIntElement = ((λ a b x y. element_both ◌=ℤ◌ int_both' (element_at b a) x y), tt)
-row_determines ArrayVarIntElement = ((λ a b x y. element_both ◌=ℤ◌ int_both' (element_at b a) x y), tt)
 row_determines ArrayIntMaximum = ((λ x y b. extreme_both int_le int_le_antisymmetric b x y), tt)
 row_determines ArrayIntMinimum = ((λ x y b. extreme_both (λ z w. int_le w z) (λ z w d e. int_le_antisymmetric z w e d) b x y), tt)
 row_determines BoolEq = ((λ x y b. bool_both x y b), ((λ a x y. bool_both' x y a), tt))
@@ -213,7 +213,6 @@ row_determines BoolXor = ((λ a b x y. bool_both x y (not (a =ᴮ b))), tt)
 row_determines ArrayBoolAnd = ((λ a x y. bool_both x y (list_all (λ z. z) a)), tt)
 row_determines ArrayBoolOr = ((λ a x y. bool_both x y (list_any (λ z. z) a)), tt)
 row_determines ArrayBoolElement = ((λ a b x y. element_both ◌=ᴮ◌ bool_both' (element_at b a) x y), tt)
-row_determines ArrayVarBoolElement = ((λ a b x y. element_both ◌=ᴮ◌ bool_both' (element_at b a) x y), tt)
 row_determines Bool2Int = ((λ x y b. number_both x y b), ((λ a x y. int_both x y (as_number a)), tt))
 row_determines BoolLinEq = ((λ a b x y. int_both' x y (total (where_true a b))), tt)
 row_determines SetEq = ((λ x y b. set_both x y b), ((λ a x y. set_both' x y a), tt))
@@ -223,9 +222,6 @@ row_determines SetDiff = ((λ a b x y. set_both x y (sets.difference a b)), tt)
 row_determines SetSymdiff = ((λ a b x y. set_both x y (symmetric_difference a b)), tt)
 row_determines SetCard = ((λ a x y. int_both x y (pos (sets.len a))), tt)
 row_determines ArraySetElement = ((λ a b x y. element_both ◌=ˢ◌ set_both' (element_at b a) x y), tt)
-row_determines ArrayVarSetElement = ((λ a b x y. element_both ◌=ˢ◌ set_both' (element_at b a) x y), tt)
-row_determines Count = ((λ a b x y. int_both x y (count_of a b)), tt)
-row_determines GecodeCount = ((λ a b x y. int_both x y (count_of a b)), tt)
 row_determines FznCountEq = ((λ a b x y. int_both x y (count_of a b)), tt)
 row_determines FznAmong = ((λ x y b c. int_both x y (count_in b c)), tt)
 row_determines FznNvalue = ((λ x y b. int_both x y (pos (length (values_of b)))), tt)
@@ -245,9 +241,10 @@ reified_determines (s ∷ ss) t = λ x. reified_determines ss (t x)
 
 reified_rows_determine : (rs : List Row) → AllByRecursion RowDetermines (map reified rs)
 reified_rows_determine [] = tt
-reified_rows_determine (r ∷ rs) = ((reified_determines r.shapes r.holds, tt), reified_rows_determine rs)
+reified_rows_determine (r ∷ rs) = (subst (DeterminesResult (with_bool r.shapes) (reified r).holds) (sym (reified_result r)) (reified_determines r.shapes r.holds, tt), reified_rows_determine rs)
 
 implied_rows_determine : (rs : List Row) → AllByRecursion RowDetermines (map implied rs)
+unfolding result_of
 implied_rows_determine [] = tt
 implied_rows_determine (r ∷ rs) = (tt, implied_rows_determine rs)
 

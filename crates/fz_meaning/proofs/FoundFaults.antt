@@ -5,10 +5,11 @@ use Rattle.std.specs.Option.{option_or}
 use Rattle.fz_base.specs.declared.span.Span.{Span}
 use Rattle.fz_meaning.specs.declared.kind.Kind.{Kind}
 use Rattle.fz_meaning.specs.declared.kind.Kind.TheVariants.{Int as IntKind}
-use Rattle.fz_meaning.specs.Values.{kind_of, same_kind}
+use Rattle.fz_meaning.specs.Relations.{kind_of, same_kind}
 use Rattle.fz_meaning.specs.Located.{Name, Literal, Basic, Decl, Constraint, LocatedTree}
 use Rattle.fz_meaning.specs.Located.Basic.{Lit, Named}
-use Rattle.fz_meaning.specs.Names.{FaultKind, HasFault, HasNoFault, IsFirstFault, IsInReadingOrder, Some_of, InOrder, in_order, in_order_after, Use, use_of, uses, UnknownAt, WrongKindAt, rank, span_of, fault_places, literal_value, kind_of_base, declares, declaration, named_as, parts, parts_of_arguments, goal_parts, differs_in_length, is_scalar_of}
+use Rattle.fz_meaning.specs.Names.{FaultKind, HasFault, HasNoFault, Some_of, InOrder, in_order, in_order_after, Use, use_of, uses, UnknownAt, WrongKindAt, literal_value, kind_of_base, declares, declaration, named_as, parts, parts_of_arguments, goal_parts, differs_in_length, is_scalar_of}
+use Rattle.fz_meaning.specs.Leftmost.{IsFirstFault, IsInReadingOrder, rank, span_of, fault_places}
 use Rattle.fz_meaning.specs.Names.FaultKind.{DuplicateName, UnknownName, WrongKind, WrongLength}
 use Rattle.fz_meaning.proofs.Scope.{some_left, some_right}
 use Rattle.fz_meaning.proofs.Values.{no, no'}

@@ -1,20 +1,24 @@
--- Each builtin is found by its name, and has its row.
-use Rattle.std.proofs.Common.{◌≡◌, ◌≢◌, ◌<◌, ◌≤◌, ◌+◌, ℕ, get_or, drop, Bool, true, false, ◌&&◌, cond, eq-eqb, List, [], ◌∷◌, ◌++◌, map, find, length, Option, Some, None, refl, sym, ap, subst, ◌∙◌}
-use Rattle.std.specs.List.{list_all}
+-- Each builtin is found by its names, and has its row.
+use Rattle.std.proofs.Common.{◌≡◌, ◌≢◌, ◌<◌, ◌≤◌, ◌+◌, ℕ, get_or, drop, Bool, true, false, ◌&&◌, ◌||◌, cond, eq-eqb, List, [], ◌∷◌, ◌++◌, map, find, flat_map, length, Option, Some, None, refl, sym, ap, subst, ◌∙◌}
+use Rattle.std.specs.List.{list_all, list_any}
 use Rattle.std.specs.Prelude.{IfNone, bytes_eq, codes, option_map, option_and_then, ◌==◌}
 use Rattle.std.proofs.lemmas.List.{at_drop_more, at_drop_all}
-use Rattle.fz_meaning.specs.Builtins.{Row, base_rows, builtins, row_at}
+use Rattle.fz_meaning.specs.Builtins.{Row, base_rows, builtins, is_named, row_at}
+use Rattle.fz_meaning.specs.Results.{first_name}
 use Rattle.fz_meaning.specs.Meaning.{Posted, fits, row_of}
 use Rattle.fz_meaning.specs.declared.builtin.Builtin.{Builtin}
 use Rattle.fz_meaning.specs.declared.builtin.Builtin.TheVariants.{IntEq}
 use Rattle.fz_meaning.specs.declared.known.Form.{Form}
 use Rattle.fz_meaning.specs.declared.known.Known.{Known}
-use Rattle.fz_meaning.specs.Known.{HasTruth, form_at, known_row, name_of, named_so_long, row_named, suffix_of}
-use Rattle.fz_meaning.proofs.Named.{and_both, named, same_name, find_filter, row_named_form, row_named_base, row_of_is}
+use Rattle.fz_meaning.specs.Known.{HasTruth, form_at, known_row, names_of, named_so_long, row_named, suffix_of}
+use Rattle.fz_meaning.proofs.Named.{and_both, same_name, find_filter, row_named_form, row_named_base, row_of_is}
 
 -- the builtin of a name
 abbrev pub called : List ℕ → Builtin → Bool
-called x b = bytes_eq (name_of b) x
+called x b = is_named x (row_at b)
+
+abbrev pub name_of : Builtin → List ℕ
+name_of b = first_name (row_at b)
 
 found_own : (b : Builtin) → find (called (name_of b)) builtins ≡ Some b
 unfolding row_at builtins
@@ -34,53 +38,61 @@ all_found t q (d ∷ bs) b h e =
 pub each_builtin : (q : Builtin → Bool) → list_all q builtins ≡ true → (b : Builtin) → q b ≡ true
 each_builtin q h b = all_found (called (name_of b)) q builtins b h (found_own b)
 
--- two of one name are one
+-- two of one first name are one
 pub own_name : (b d : Builtin) → name_of b ≡ name_of d → b ≡ d
 own_name b d e = let same : Some b ≡ Some d = sym (found_own b) ∙ ap (λ n. find (called n) builtins) e ∙ found_own d in cc
 
 find_row : (x : List ℕ) (bs : List Builtin)
-    → find (named x) (map row_at bs) ≡ option_map row_at (find (called x) bs)
+    → find (is_named x) (map row_at bs) ≡ option_map row_at (find (called x) bs)
 find_row x [] = refl
-find_row x (b ∷ bs) = elim (called x b) as (λ c. cond c (Some (row_at b)) (find (named x) (map row_at bs)) ≡ option_map row_at (cond c (Some b) (find (called x) bs))) [ true ↦ refl | false ↦ find_row x bs ]
+find_row x (b ∷ bs) = elim (called x b) as (λ c. cond c (Some (row_at b)) (find (is_named x) (map row_at bs)) ≡ option_map row_at (cond c (Some b) (find (called x) bs))) [ true ↦ refl | false ↦ find_row x bs ]
 
--- ---- the builtins of a name's length
+-- ---- each name with its builtin
 
-named_alike : (x : List ℕ) (bs : List Builtin)
-    → find (λ b. called x b && (length (name_of b) == length x)) bs ≡ find (called x) bs
+abbrev builtin_in : Option (List ℕ × Builtin) → Option Builtin
+builtin_in o = option_map (λ e. e.1) o
+
+abbrev is_for : List ℕ → (List ℕ × Builtin) → Bool
+is_for x e = bytes_eq e.0 x
+
+among_own : (x : List ℕ) (b : Builtin) (ns : List (List ℕ)) (rest : List (List ℕ × Builtin))
+    → builtin_in (find (is_for x) (map (λ n. (n, b)) ns ++ rest))
+    ≡ cond (list_any (λ n. bytes_eq n x) ns) (Some b) (builtin_in (find (is_for x) rest))
+among_own x b [] rest = refl
+among_own x b (n ∷ ns) rest = elim (bytes_eq n x) as (λ c. builtin_in (cond c (Some (n, b)) (find (is_for x) (map (λ n. (n, b)) ns ++ rest))) ≡ cond (c || list_any (λ n. bytes_eq n x) ns) (Some b) (builtin_in (find (is_for x) rest))) [ true ↦ refl | false ↦ among_own x b ns rest ]
+
+find_name : (x : List ℕ) (bs : List Builtin)
+    → builtin_in (find (is_for x) (flat_map names_of bs)) ≡ find (called x) bs
+find_name x [] = refl
+find_name x (b ∷ bs) = among_own x b (row_at b).names (flat_map names_of bs) ∙ ap (cond (called x b) (Some b)) (find_name x bs)
+
+-- a name is looked for among those of its length only
+named_alike : (x : List ℕ) (es : List (List ℕ × Builtin))
+    → find (λ e. is_for x e && (length e.0 == length x)) es ≡ find (is_for x) es
 named_alike x [] = refl
-named_alike x (b ∷ bs) =
-    (elim (called x b) as (λ c. called x b ≡ c → cond (c && (length (name_of b) == length x)) (Some b) (find (λ d. called x d && (length (name_of d) == length x)) bs) ≡ cond c (Some b) (find (called x) bs)) [
-      | true ↦ λ e. let here : (length (name_of b) == length x) ≡ true = eq-eqb (length (name_of b)) (length x) (ap length (same_name (name_of b) x e)) in
-          ap (λ c. cond c (Some b) (find (λ d. called x d && (length (name_of d) == length x)) bs)) here
-      | false ↦ λ e. named_alike x bs
+named_alike x (e ∷ es) =
+    (elim (is_for x e) as (λ c. is_for x e ≡ c → cond (c && (length e.0 == length x)) (Some e) (find (λ d. is_for x d && (length d.0 == length x)) es) ≡ cond c (Some e) (find (is_for x) es)) [
+      | true ↦ λ same. ap (λ c. cond c (Some e) (find (λ d. is_for x d && (length d.0 == length x)) es)) (eq-eqb (length e.0) (length x) (ap length (same_name e.0 x same)))
+      | false ↦ λ _. named_alike x es
     ]) refl
 
--- a name is looked for among those only
 pub find_by_length : (x : List ℕ)
-    → find (called x) (named_so_long (length x)) ≡ find (called x) builtins
-find_by_length x = find_filter (called x) (λ b. length (name_of b) == length x) builtins ∙ named_alike x builtins
+    → builtin_in (find (is_for x) (named_so_long (length x))) ≡ find (called x) builtins
+find_by_length x =
+    ap builtin_in (find_filter (is_for x) (λ e. length e.0 == length x) (flat_map names_of builtins) ∙ named_alike x (flat_map names_of builtins)) ∙ find_name x builtins
 
 -- ---- the loop over them
 
 -- names with their builtins, as they are listed
 module _ {E : Type 0} (text : E → List ℕ) (what : E → Builtin) where
-  found_in : (x : List ℕ) (ns : List E) (bs : List Builtin) → map {B = List ℕ × Builtin} (λ n. (text n, what n)) ns ≡ map {B = List ℕ × Builtin} (λ b. (name_of b, b)) bs → option_map what (find (λ n. bytes_eq (text n) x) ns) ≡ find (called x) bs
-  found_in x [] [] e = refl
-  found_in x [] (b ∷ bs) e = cc
-  found_in x (n ∷ ns) [] e = cc
-  found_in x (n ∷ ns) (b ∷ bs) e =
-      let pair : ◌≡◌ {A = List ℕ × Builtin} (text n, what n) (name_of b, b) = cc in
-      let same : text n ≡ name_of b = ap (λ p. p.0) pair in
-      let is : what n ≡ b = ap (λ p. p.1) pair in
-      let more : map {B = List ℕ × Builtin} (λ n. (text n, what n)) ns ≡ map {B = List ℕ × Builtin} (λ b. (name_of b, b)) bs = cc in
-      let later = found_in x ns bs more in
-      subst (λ y. option_map what (cond (bytes_eq (text n) x) (Some n) (find (λ n. bytes_eq (text n) x) ns)) ≡ cond (bytes_eq y x) (Some b) (find (called x) bs)) same
-      (elim (bytes_eq (text n) x) as (λ c. option_map what (cond c (Some n) (find (λ n. bytes_eq (text n) x) ns)) ≡ cond c (Some b) (find (called x) bs)) [ true ↦ ap Some is | false ↦ later ])
+  found_in : (x : List ℕ) (ns : List E) → option_map what (find (λ n. bytes_eq (text n) x) ns) ≡ builtin_in (find (is_for x) (map (λ n. (text n, what n)) ns))
+  found_in x [] = refl
+  found_in x (n ∷ ns) = elim (bytes_eq (text n) x) as (λ c. option_map what (cond c (Some n) (find (λ n. bytes_eq (text n) x) ns)) ≡ builtin_in (cond c (Some (text n, what n)) (find (is_for x) (map (λ n. (text n, what n)) ns)))) [ true ↦ refl | false ↦ found_in x ns ]
 
-  module _ (x : List ℕ) (ns : List E) (i : ℕ) (listed : map {B = List ℕ × Builtin} (λ n. (text n, what n)) ns ≡ map {B = List ℕ × Builtin} (λ b. (name_of b, b)) (named_so_long (length x)))
+  module _ (x : List ℕ) (ns : List E) (i : ℕ) (listed : map {B = List ℕ × Builtin} (λ n. (text n, what n)) ns ≡ named_so_long (length x))
       (so_far : find (λ n. bytes_eq (text n) x) (drop i ns) ≡ find (λ n. bytes_eq (text n) x) ns) where
     found : option_map what (find (λ n. bytes_eq (text n) x) (drop i ns)) ≡ find (called x) builtins
-    found = ap (option_map what) so_far ∙ found_in x ns (named_so_long (length x)) listed ∙ find_by_length x
+    found = ap (option_map what) so_far ∙ found_in x ns ∙ ap (λ es. builtin_in (find (is_for x) es)) listed ∙ find_by_length x
 
     pub found_here : (d : E) → i < length ns → bytes_eq (text (get_or ns i d)) x ≡ true
         → Some (what (get_or ns i d)) ≡ find (called x) builtins
@@ -99,7 +111,7 @@ option_step u None = refl
 option_step u (Some b) = (elim (u (row_at b)) as (λ c. cond c (Some (row_at b)) None ≡ option_map row_at (cond c (Some b) None)) [ true ↦ refl | false ↦ refl ])
 
 module _ (x : List ℕ) (o : Option Builtin) (is : o ≡ find (called x) builtins) where
-  found_row : find (named x) base_rows ≡ option_map row_at o
+  found_row : find (is_named x) base_rows ≡ option_map row_at o
   found_row = find_row x builtins ∙ ap (option_map row_at) (sym is)
 
   -- a name without a suffix

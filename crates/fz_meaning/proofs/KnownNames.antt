@@ -12,7 +12,7 @@ use Rattle.fz_meaning.specs.declared.kind.Kind.{Kind}
 use Rattle.fz_meaning.specs.declared.kind.Kind.TheVariants.{Int as IntKind}
 use Rattle.fz_meaning.specs.declared.term.Term.{Term}
 use Rattle.fz_meaning.specs.declared.term.Term.TheVariants.{Var, Fixed}
-use Rattle.fz_meaning.specs.Values.{same_kind}
+use Rattle.fz_meaning.specs.Relations.{same_kind}
 use Rattle.fz_meaning.specs.Located.{Name, Basic, Expr, Decl}
 use Rattle.fz_meaning.specs.Located.Basic.{Lit, Named}
 use Rattle.fz_meaning.specs.Located.Expr.{One, Several}

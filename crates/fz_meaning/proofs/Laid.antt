@@ -4,9 +4,9 @@ use Rattle.std.proofs.Common.{◌≡◌, ℕ, ◌+◌, ◌<◌, Bool, true, fals
 use Rattle.std.specs.Prelude.{not, is_some}
 use Rattle.std.specs.List.{AllByRecursion}
 use Rattle.std.proofs.lemmas.Grind.{flat_map-append}
-use Rattle.fz_syntax.specs.Shape.{Limits, IsDecl, IsValueOf, HasShape}
+use Rattle.fz_syntax.specs.Text.{Limits, IsDecl, IsValueOf, HasShape}
 use Rattle.fz_meaning.specs.declared.kind.Kind.{Kind}
-use Rattle.fz_meaning.specs.Values.{kind_of, same_kind}
+use Rattle.fz_meaning.specs.Relations.{kind_of, same_kind}
 use Rattle.fz_meaning.specs.Located.{Literal, Expr, Decl, LocatedTree, bare_expr, bare_decl, bare_of}
 use Rattle.fz_meaning.specs.Located.Basic.{Lit, Named}
 use Rattle.fz_meaning.specs.Located.Expr.{One, Several}

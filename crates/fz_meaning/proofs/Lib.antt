@@ -27,3 +27,4 @@ pub mod Refusals
 pub mod Whole
 pub mod Laid
 pub mod Targets
+pub use Rattle.fz_syntax.proofs.Offers

@@ -1,23 +1,20 @@
--- The rows of the table by name: each base row has a name of its own, none ends in `_reif` or
--- `_imp`, and each reified form has its base row's name with one of these appended.
-use Rattle.std.proofs.Common.{◌≡◌, ◌≢◌, ℕ, Bool, true, false, true≢false, not, ◌&&◌, cond, List, [], ◌∷◌, ◌++◌, map, filter, find, length, drop, Option, Some, None, refl, sym, ap, subst, ◌∙◌, arith}
+-- The rows of the table by name: no two base rows share one, none ends in `_reif` or `_imp`, and each
+-- reified form has its base row's names with one of these appended.
+use Rattle.std.proofs.Common.{◌≡◌, ◌≢◌, ℕ, Bool, true, false, true≢false, not, ◌&&◌, cond, List, [], ◌∷◌, ◌++◌, ◌||◌, map, filter, find, length, drop, Option, Some, None, refl, sym, ap, subst, ◌∙◌, arith}
 use Rattle.std.specs.Prelude.{◌==◌, codes, bytes_eq, option_map, option_and_then, ◌-◌}
-use Rattle.std.specs.List.{list_all}
+use Rattle.std.specs.List.{list_all, list_any}
 use Rattle.std.specs.Option.{option_or}
 use Rattle.std.proofs.lemmas.List.{append_cancel_right, drop_at, length-append}
 use Rattle.std.proofs.lemmas.List.Folds.{find-append}
 use Rattle.std.proofs.lemmas.Bool.Decides.{same_from_decides}
 use Rattle.std.proofs.lemmas.Slice.Eq.{bytes_eq-Decides}
-use Rattle.fz_meaning.specs.Builtins.{Row, base_rows, builtins, implied, reified, row_at, rows, rows_with_forms}
+use Rattle.fz_meaning.specs.Builtins.{Row, base_rows, builtins, implied, is_named, reified, row_at, rows, rows_with_forms}
 use Rattle.fz_meaning.specs.declared.known.Form.{Form}
 use Rattle.fz_meaning.specs.declared.known.Form.TheVariants.{Base, Reified, Implied}
 use Rattle.fz_meaning.specs.Meaning.{Posted, fits, row_of}
 use Rattle.fz_meaning.specs.Known.{HasTruth, form_at, row_named, suffix_of}
 
--- ---- a row's name is compared
-
-abbrev pub named : List ℕ → Row → Bool
-named x r = bytes_eq r.name x
+-- ---- a row's names are compared
 
 pub same_name : (x y : List ℕ) → bytes_eq x y ≡ true → x ≡ y
 same_name x y e = (bytes_eq-Decides x y).0 e
@@ -32,15 +29,31 @@ suffix_drops x y s =
     ((λ e. append_cancel_right x y s (same_name (x ++ s) (y ++ s) e), λ e. equal_names (x ++ s) (y ++ s) (ap (λ z. z ++ s) e)))
     (bytes_eq-Decides x y)
 
+suffixes_drop : (x s : List ℕ) (ns : List (List ℕ))
+    → list_any (λ n. bytes_eq n (x ++ s)) (map (λ n. n ++ s) ns) ≡ list_any (λ n. bytes_eq n x) ns
+suffixes_drop x s [] = refl
+suffixes_drop x s (n ∷ ns) = λ i. suffix_drops n x s i || suffixes_drop x s ns i
+
+-- what is one of the names with the suffix ends in that
+front_of : (x s : List ℕ) (ns : List (List ℕ))
+    → list_any (λ n. bytes_eq n x) (map (λ n. n ++ s) ns) ≡ true
+    → (front : List ℕ) × (x ≡ front ++ s)
+front_of x s [] e = cc
+front_of x s (n ∷ ns) e =
+    (elim (bytes_eq (n ++ s) x) as (λ b. bytes_eq (n ++ s) x ≡ b → (b || list_any (λ n. bytes_eq n x) (map (λ n. n ++ s) ns)) ≡ true → (front : List ℕ) × (x ≡ front ++ s)) [
+      | true ↦ λ same _. (n, sym (same_name (n ++ s) x same))
+      | false ↦ λ _ e. front_of x s ns e
+    ]) refl e
+
 -- ---- `find` over rows
 
--- no later row has the name of an earlier one
-abbrev pub none_named : List ℕ → List Row → Bool
-none_named x rs = list_all (λ r. not (named x r)) rs
+-- no later row has a name of an earlier one
+abbrev pub none_named : List Row → List ℕ → Bool
+none_named rs x = list_all (λ r. not (is_named x r)) rs
 
 abbrev pub apart : List Row → Bool
 apart [] = true
-apart (r ∷ rs) = none_named r.name rs && apart rs
+apart (r ∷ rs) = list_all (none_named rs) r.names && apart rs
 
 not_true : (b : Bool) → not b ≡ true → b ≡ false
 not_true true e = cc
@@ -50,6 +63,17 @@ pub and_both : (b c : Bool) → (b && c) ≡ true → (b ≡ true) × (c ≡ tru
 and_both true true e = (refl, refl)
 and_both true false e = cc
 and_both false c e = cc
+
+-- what holds of each name holds of the one that is meant
+of_named : (q : List ℕ → Bool) (x : List ℕ) (ns : List (List ℕ))
+    → list_any (λ n. bytes_eq n x) ns ≡ true → list_all q ns ≡ true → q x ≡ true
+of_named q x [] e h = cc
+of_named q x (n ∷ ns) e h =
+    let parts = and_both (q n) _ h in
+    (elim (bytes_eq n x) as (λ b. bytes_eq n x ≡ b → (b || list_any (λ n. bytes_eq n x) ns) ≡ true → q x ≡ true) [
+      | true ↦ λ same _. subst (λ y. q y ≡ true) (same_name n x same) parts.0
+      | false ↦ λ _ e. of_named q x ns e parts.1
+    ]) refl e
 
 module _ {A : Type 0} where
   pub find_none : (t : A → Bool) (xs : List A) → list_all (λ x. not (t x)) xs ≡ true
@@ -79,14 +103,14 @@ module _ {A : Type 0} where
 
 -- where names are apart, the row of the name is found first, and then asked more of it
 pub find_apart : (x : List ℕ) (u : Row → Bool) (rs : List Row) → apart rs ≡ true
-    → find (λ r. named x r && u r) rs
-    ≡ option_and_then (λ r. cond (u r) (Some r) None) (find (named x) rs)
+    → find (λ r. is_named x r && u r) rs
+    ≡ option_and_then (λ r. cond (u r) (Some r) None) (find (is_named x) rs)
 find_apart x u [] h = refl
 find_apart x u (r ∷ rs) h =
-    let parts = and_both (none_named r.name rs) (apart rs) h in
-    (elim (named x r) as (λ b. named x r ≡ b → cond (b && u r) (Some r) (find (λ s. named x s && u s) rs) ≡ option_and_then (λ s. cond (u s) (Some s) None) (cond b (Some r) (find (named x) rs))) [
-      | true ↦ λ e. let none : list_all (λ s. not (named x s)) rs ≡ true = subst (λ y. none_named y rs ≡ true) (same_name r.name x e) parts.0 in
-          (elim (u r) as (λ c. cond c (Some r) (find (λ s. named x s && u s) rs) ≡ cond c (Some r) None) [ true ↦ refl | false ↦ find_none_and (named x) u rs none ])
+    let parts = and_both (list_all (none_named rs) r.names) (apart rs) h in
+    (elim (is_named x r) as (λ b. is_named x r ≡ b → cond (b && u r) (Some r) (find (λ s. is_named x s && u s) rs) ≡ option_and_then (λ s. cond (u s) (Some s) None) (cond b (Some r) (find (is_named x) rs))) [
+      | true ↦ λ e. let none : none_named rs x ≡ true = of_named (none_named rs) x r.names e parts.0 in
+          (elim (u r) as (λ c. cond c (Some r) (find (λ s. is_named x s && u s) rs) ≡ cond c (Some r) None) [ true ↦ refl | false ↦ find_none_and (is_named x) u rs none ])
       | false ↦ λ e. find_apart x u rs parts.1
     ]) refl
 
@@ -107,20 +131,20 @@ row_of_is p = find_apart p.name (λ r. fits r p.arguments) rows rows_apart
 -- ---- the reified forms
 
 -- rows whose names have a suffix more are found under that, and under no name that doesn't end so
-module _ (form : Row → Row) (suffix : List ℕ) (is : (r : Row) → (form r).name ≡ r.name ++ suffix) where
+module _ (form : Row → Row) (suffix : List ℕ) (is : (r : Row) → (form r).names ≡ map (λ n. n ++ suffix) r.names) where
   find_form : (x : List ℕ) (rs : List Row)
-      → find (named (x ++ suffix)) (map form rs) ≡ option_map form (find (named x) rs)
+      → find (is_named (x ++ suffix)) (map form rs) ≡ option_map form (find (is_named x) rs)
   find_form x [] = refl
   find_form x (r ∷ rs) =
-      rw (ap (λ n. bytes_eq n (x ++ suffix)) (is r) ∙ suffix_drops r.name x suffix)
-      (elim (named x r) as (λ b. cond b (Some (form r)) (find (named (x ++ suffix)) (map form rs)) ≡ option_map form (cond b (Some r) (find (named x) rs))) [ true ↦ refl | false ↦ find_form x rs ])
+      rw (ap (list_any (λ n. bytes_eq n (x ++ suffix))) (is r) ∙ suffixes_drop x suffix r.names)
+      (elim (is_named x r) as (λ b. cond b (Some (form r)) (find (is_named (x ++ suffix)) (map form rs)) ≡ option_map form (cond b (Some r) (find (is_named x) rs))) [ true ↦ refl | false ↦ find_form x rs ])
 
   find_no_form : (x : List ℕ) → ((front : List ℕ) → x ≢ front ++ suffix) → (rs : List Row)
-      → find (named x) (map form rs) ≡ None
+      → find (is_named x) (map form rs) ≡ None
   find_no_form x h [] = refl
   find_no_form x h (r ∷ rs) =
-      (elim (named x (form r)) as (λ b. named x (form r) ≡ b → cond b (Some (form r)) (find (named x) (map form rs)) ≡ None) [
-        | true ↦ λ e. absurd (h r.name (sym (same_name (form r).name x e) ∙ is r))
+      (elim (is_named x (form r)) as (λ b. is_named x (form r) ≡ b → cond b (Some (form r)) (find (is_named x) (map form rs)) ≡ None) [
+        | true ↦ λ e. let (front, ends) = front_of x suffix r.names (sym (ap (list_any (λ n. bytes_eq n x)) (is r)) ∙ e) in absurd (h front ends)
         | false ↦ λ e. find_no_form x h rs
       ]) refl
 
@@ -139,21 +163,24 @@ pub no_front : (suffix x end : List ℕ) → end ≡ drop (length x - length suf
 unfolding ends_in
 no_front suffix x end is other front e = true≢false (sym (ends_there suffix front) ∙ ap (ends_in suffix) (sym e) ∙ ap (λ y. bytes_eq y suffix) (sym is) ∙ other)
 
-none_ends_so : (suffix : List ℕ) (rs : List Row) → list_all (λ r. not (ends_in suffix r.name)) rs
-    ≡ true → (front : List ℕ) → list_all (λ r. not (named (front ++ suffix) r)) rs ≡ true
+abbrev none_end_in : List ℕ → List Row → Bool
+none_end_in suffix rs = list_all (λ r. list_all (λ n. not (ends_in suffix n)) r.names) rs
+
+none_ends_so : (suffix : List ℕ) (rs : List Row) → none_end_in suffix rs ≡ true
+    → (front : List ℕ) → none_named rs (front ++ suffix) ≡ true
 none_ends_so suffix [] h front = refl
 none_ends_so suffix (r ∷ rs) h front =
-    let parts = and_both (not (ends_in suffix r.name)) _ h in
-    (elim (named (front ++ suffix) r) as (λ b. named (front ++ suffix) r ≡ b → (not b && list_all (λ s. not (named (front ++ suffix) s)) rs) ≡ true) [
-      | true ↦ λ e. let ends : ends_in suffix r.name ≡ true = ap (ends_in suffix) (same_name r.name (front ++ suffix) e) ∙ ends_there suffix front in absurd (true≢false (sym ends ∙ not_true (ends_in suffix r.name) parts.0))
+    let parts = and_both (list_all (λ n. not (ends_in suffix n)) r.names) _ h in
+    (elim (is_named (front ++ suffix) r) as (λ b. is_named (front ++ suffix) r ≡ b → (not b && list_all (λ s. not (is_named (front ++ suffix) s)) rs) ≡ true) [
+      | true ↦ λ e. absurd (true≢false (sym (ends_there suffix front) ∙ not_true (ends_in suffix (front ++ suffix)) (of_named (λ n. not (ends_in suffix n)) (front ++ suffix) r.names e parts.0)))
       | false ↦ λ e. none_ends_so suffix rs parts.1 front
     ]) refl
 
-no_base_reified : list_all (λ r. not (ends_in (codes "_reif") r.name)) base_rows ≡ true
+no_base_reified : none_end_in (codes "_reif") base_rows ≡ true
 unfolding ends_in row_at builtins
 no_base_reified = refl
 
-no_base_implied : list_all (λ r. not (ends_in (codes "_imp") r.name)) base_rows ≡ true
+no_base_implied : none_end_in (codes "_imp") base_rows ≡ true
 unfolding ends_in row_at builtins
 no_base_implied = refl
 
@@ -178,42 +205,42 @@ option_or_none None = refl
 option_or_none (Some r) = refl
 
 -- the row of a name is a base row, or one of the forms
-split : (x : List ℕ) → row_named x ≡ option_or (find (named x) base_rows)
-    (option_or (find (named x) (map reified rows_with_forms))
-    (find (named x) (map implied rows_with_forms)))
+split : (x : List ℕ) → row_named x ≡ option_or (find (is_named x) base_rows)
+    (option_or (find (is_named x) (map reified rows_with_forms))
+    (find (is_named x) (map implied rows_with_forms)))
 unfolding row_named rows
-split x = find-append (named x) base_rows _ ∙ ap (option_or (find (named x) base_rows)) (find-append (named x) (map reified rows_with_forms) (map implied rows_with_forms))
+split x = find-append (is_named x) base_rows _ ∙ ap (option_or (find (is_named x) base_rows)) (find-append (is_named x) (map reified rows_with_forms) (map implied rows_with_forms))
 
-found_with_forms : (x : List ℕ) → find (named x) rows_with_forms
-    ≡ option_and_then (λ r. cond r.has_forms (Some r) None) (find (named x) base_rows)
-found_with_forms x = find_filter (named x) (λ r. r.has_forms) base_rows ∙ find_apart x (λ r. r.has_forms) base_rows base_apart
+found_with_forms : (x : List ℕ) → find (is_named x) rows_with_forms
+    ≡ option_and_then (λ r. cond r.has_forms (Some r) None) (find (is_named x) base_rows)
+found_with_forms x = find_filter (is_named x) (λ r. r.has_forms) base_rows ∙ find_apart x (λ r. r.has_forms) base_rows base_apart
 
 -- a name with a suffix is the one of a base row's form, where the base row has forms
 pub row_named_form : (f : Form) → HasTruth f → (x : List ℕ)
     → row_named (x ++ suffix_of f) ≡ option_map (form_at f)
-    (option_and_then (λ r. cond r.has_forms (Some r) None) (find (named x) base_rows))
+    (option_and_then (λ r. cond r.has_forms (Some r) None) (find (is_named x) base_rows))
 row_named_form Base h x = absurd h
 row_named_form Reified h x =
     let y = x ++ codes "_reif" in
     split y
-    ∙ ap (λ o. option_or o (option_or (find (named y) (map reified rows_with_forms)) (find (named y) (map implied rows_with_forms)))) (find_none (named y) base_rows (none_ends_so (codes "_reif") base_rows no_base_reified x))
-    ∙ ap (option_or (find (named y) (map reified rows_with_forms))) (find_no_form implied (codes "_imp") (λ r. refl) y (λ front e. other_suffix front x (sym e)) rows_with_forms)
-    ∙ option_or_none (find (named y) (map reified rows_with_forms))
+    ∙ ap (λ o. option_or o (option_or (find (is_named y) (map reified rows_with_forms)) (find (is_named y) (map implied rows_with_forms)))) (find_none (is_named y) base_rows (none_ends_so (codes "_reif") base_rows no_base_reified x))
+    ∙ ap (option_or (find (is_named y) (map reified rows_with_forms))) (find_no_form implied (codes "_imp") (λ r. refl) y (λ front e. other_suffix front x (sym e)) rows_with_forms)
+    ∙ option_or_none (find (is_named y) (map reified rows_with_forms))
     ∙ find_form reified (codes "_reif") (λ r. refl) x rows_with_forms
     ∙ ap (option_map reified) (found_with_forms x)
 row_named_form Implied h x =
     let y = x ++ codes "_imp" in
     split y
-    ∙ ap (λ o. option_or o (option_or (find (named y) (map reified rows_with_forms)) (find (named y) (map implied rows_with_forms)))) (find_none (named y) base_rows (none_ends_so (codes "_imp") base_rows no_base_implied x))
-    ∙ ap (λ o. option_or o (find (named y) (map implied rows_with_forms))) (find_no_form reified (codes "_reif") (λ r. refl) y (λ front e. other_suffix x front e) rows_with_forms)
+    ∙ ap (λ o. option_or o (option_or (find (is_named y) (map reified rows_with_forms)) (find (is_named y) (map implied rows_with_forms)))) (find_none (is_named y) base_rows (none_ends_so (codes "_imp") base_rows no_base_implied x))
+    ∙ ap (λ o. option_or o (find (is_named y) (map implied rows_with_forms))) (find_no_form reified (codes "_reif") (λ r. refl) y (λ front e. other_suffix x front e) rows_with_forms)
     ∙ find_form implied (codes "_imp") (λ r. refl) x rows_with_forms
     ∙ ap (option_map implied) (found_with_forms x)
 
 -- and any other is a base row's
 pub row_named_base : (x : List ℕ) → ((front : List ℕ) → x ≢ front ++ codes "_reif")
-    → ((front : List ℕ) → x ≢ front ++ codes "_imp") → row_named x ≡ find (named x) base_rows
+    → ((front : List ℕ) → x ≢ front ++ codes "_imp") → row_named x ≡ find (is_named x) base_rows
 row_named_base x not_reified not_implied =
     split x
-    ∙ ap (λ o. option_or (find (named x) base_rows) (option_or o (find (named x) (map implied rows_with_forms)))) (find_no_form reified (codes "_reif") (λ r. refl) x not_reified rows_with_forms)
-    ∙ ap (option_or (find (named x) base_rows)) (find_no_form implied (codes "_imp") (λ r. refl) x not_implied rows_with_forms)
-    ∙ option_or_none (find (named x) base_rows)
+    ∙ ap (λ o. option_or (find (is_named x) base_rows) (option_or o (find (is_named x) (map implied rows_with_forms)))) (find_no_form reified (codes "_reif") (λ r. refl) x not_reified rows_with_forms)
+    ∙ ap (option_or (find (is_named x) base_rows)) (find_no_form implied (codes "_imp") (λ r. refl) x not_implied rows_with_forms)
+    ∙ option_or_none (find (is_named x) base_rows)

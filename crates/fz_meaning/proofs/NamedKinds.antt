@@ -8,7 +8,7 @@ use Rattle.std.proofs.lemmas.Slice.Eq.{bytes_eq-Decides}
 use Rattle.fz_base.specs.declared.span.Span.{Span}
 use Rattle.fz_base.specs.declared.value.Value.TheVariants.{Int}
 use Rattle.fz_meaning.specs.declared.kind.Kind.{Kind}
-use Rattle.fz_meaning.specs.Values.{same_kind}
+use Rattle.fz_meaning.specs.Relations.{same_kind}
 use Rattle.fz_meaning.specs.Located.{Basic, Decl, LocatedTree}
 use Rattle.fz_meaning.specs.Located.Basic.{Lit, Named}
 use Rattle.fz_meaning.specs.Names.{HasNoFault, Some_of, Use, use_of, goal_parts, InOrder, in_order, in_order_after, uses, UnknownAt, WrongKindAt, declaration, named_as, is_scalar, is_scalar_of, is_scalar_variable, number_of, scalar_term, term_of, literal_of, kind_of_base, parts, parts_of_arguments, declared_of, variable_declared, model_of, definition_of, domain_of, place_of_declared}

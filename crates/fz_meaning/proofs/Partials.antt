@@ -4,7 +4,7 @@ use Rattle.fz_base.specs.declared.value.Value.{Value}
 use Rattle.fz_meaning.specs.declared.kind.Kind.{Kind}
 use Rattle.fz_meaning.specs.Meaning.{FitVariables, IsPartial, Model, Partial, Variable, give, variables_of}
 use Rattle.fz_meaning.specs.Steps.{kind_at}
-use Rattle.fz_meaning.specs.Values.{kind_of}
+use Rattle.fz_meaning.specs.Relations.{kind_of}
 
 pub fits_length : (xs : List Variable) (K : Partial) → FitVariables xs K → length K ≡ length xs
 fits_length [] [] h = refl

@@ -17,7 +17,8 @@ use Rattle.fz_syntax.specs.declared.Goal as the_goal
 use Rattle.fz_syntax.specs.declared.Goal.TheVariants as goals
 use Rattle.fz_meaning.specs.Located.{Decl, Constraint}
 use Rattle.fz_meaning.specs.View.{located_basic, located_expr, located_value, located_decl, located_constraint, located_goal, located, located_all}
-use Rattle.fz_meaning.specs.Names.{IsInReadingOrder, RiseFrom, span_of, fault_places, parts, parts_of_arguments, goal_parts}
+use Rattle.fz_meaning.specs.Leftmost.{IsInReadingOrder, RiseFrom, span_of, fault_places}
+use Rattle.fz_meaning.specs.Names.{parts, parts_of_arguments, goal_parts}
 
 -- ---- byte ranges among spots
 

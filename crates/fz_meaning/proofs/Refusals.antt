@@ -5,7 +5,8 @@ use Rattle.fz_meaning.specs.declared.error.ModelError.{ModelError}
 use Rattle.fz_meaning.specs.declared.error.ModelError.TheVariants as errors
 use Rattle.fz_meaning.specs.Located.{Decl, LocatedTree}
 use Rattle.fz_meaning.specs.Meaning.{first_some}
-use Rattle.fz_meaning.specs.Names.{IsInReadingOrder, kind_of_base, parts}
+use Rattle.fz_meaning.specs.Leftmost.{IsInReadingOrder}
+use Rattle.fz_meaning.specs.Names.{kind_of_base, parts}
 use Rattle.fz_meaning.specs.Names.FaultKind.{DuplicateName, UnknownName, WrongKind, WrongLength}
 use Rattle.fz_meaning.specs.View.{TellsFirstFault}
 use Rattle.fz_meaning.specs.FirstFault.{Fault, Refuses, parts_fault, name_fault, decl_fault, decls_fault, constraints_fault, goal_fault, first_fault}

@@ -1,5 +1,5 @@
 -- The definitions, computed at rows that are written out by hand.
-use Rattle.std.proofs.Common.{◌≡◌, ℕ, ◌-◌, ◌^◌, ℤ, pos, negsuc, Bool, true, false, ◌||◌, List, [], ◌∷◌, ◌++◌, Some, None, codes, refl, length, inl, inr, slice_get, sym, ap, ◌∙◌, subst, int_cmp, lit<, lt-ltb}
+use Rattle.std.proofs.Common.{◌≡◌, ℕ, ◌-◌, ◌^◌, ℤ, pos, negsuc, Bool, true, false, ◌||◌, List, [], ◌∷◌, ◌++◌, Some, None, codes, refl, length, flat_map, inl, inr, slice_get, sym, ap, ◌∙◌, subst, int_cmp, lit<, lt-ltb}
 use Rattle.std.specs.List.{list_all, list_any}
 use Rattle.std.specs.FinSet as sets
 use Rattle.std.specs.Cmp.{int_cmp_total}
@@ -10,22 +10,24 @@ use Rattle.fz_syntax.specs.Tree.Literal.{Number, Range}
 use Rattle.fz_syntax.specs.Tree.Base.{BoolBase, IntBase}
 use Rattle.fz_meaning.specs.declared.state.State.{State}
 use Rattle.fz_meaning.specs.declared.state.State.TheVariants.{Holds, Fails, NoValue, Unknown, TooLarge}
-use Rattle.fz_meaning.specs.Values.{◌=ˢ◌, set_of}
-use Rattle.fz_meaning.specs.Builtins.{rows, leaves_128, builtins, row_at}
+use Rattle.fz_meaning.specs.Relations.{◌=ˢ◌, set_of}
+use Rattle.fz_meaning.specs.Builtins.{rows, builtins, row_at}
+use Rattle.fz_meaning.specs.States.{leaves_128, state, judged}
+use Rattle.fz_meaning.specs.Results.{result_of}
 use Rattle.fz_meaning.specs.Located.{Expr, Decl, LocatedTree}
 use Rattle.fz_meaning.specs.Located.Basic.{Lit, Named}
 use Rattle.fz_meaning.specs.Located.Expr.{One, Several}
 use Rattle.fz_meaning.specs.Located.Goal.{Satisfy, Minimize}
 use Rattle.fz_meaning.specs.Names.{model_of, HasFault}
 use Rattle.fz_meaning.specs.Names.FaultKind.{DuplicateName, UnknownName, WrongKind, WrongLength}
-use Rattle.fz_meaning.specs.Meaning.{Partial, Point, points, state, judged}
+use Rattle.fz_meaning.specs.Meaning.{Partial, Point, points}
 use Rattle.fz_meaning.specs.Meaning.Point.{ConstraintPoint}
 use Rattle.fz_meaning.specs.declared.term.Term.TheVariants.{Fixed}
 use Rattle.fz_meaning.specs.Steps.{Gives, GivesNothing, WithinLimits}
 use Rattle.fz_meaning.proofs.Values.{no, same_int, and_first, and_second, and_both}
 use Rattle.fz_meaning.proofs.Writing.{span_at, name_at, literal, whole, num, v, MIN, MAX, int_var, var_in, posts, defines, model_tree, i, is, t, ts, s, names, x, z}
 
-how_many : length rows ≡ 152
+how_many : length (flat_map (λ r. r.names) rows) ≡ 152
 unfolding rows row_at builtins
 how_many = refl
 
@@ -328,7 +330,7 @@ doubled = model_tree (var_in 0 9 x None ∷ var_in 0 17 z None ∷ []) (posts (c
 
 doubled_gives : Gives (model_of doubled) (Some (Int (pos 4)) ∷ None ∷ [])
     (point_of doubled 2 nothing) 1 (Int (pos 8))
-unfolding rows row_at builtins
+unfolding rows row_at builtins result_of
 doubled_gives = record {
   target = (refl, (1, refl, Fixed (Int (negsuc 0)), refl, inr refl));
   only_open = refl;
@@ -359,7 +361,7 @@ in_front = model_tree (int_var z ∷ [])
     ∷ Several (v z ∷ whole MIN ∷ whole (negsuc 9223372036854775806) ∷ whole MAX ∷ whole MAX ∷ whole MAX ∷ whole MAX ∷ whole MAX ∷ []) ∷ i (pos 2) ∷ []) (defines z) ∷ []) Satisfy
 
 in_front_gives : Gives (model_of in_front) (None ∷ []) (point_of in_front 1 nothing) 0 (Int (pos 1))
-unfolding rows row_at builtins
+unfolding rows row_at builtins result_of
 in_front_gives = record {
   target = (refl, (0, refl, Fixed (Int (pos 1)), refl, inl refl));
   only_open = refl;

@@ -5,7 +5,8 @@ use Rattle.std.specs.List.{flat_map}
 use Rattle.std.specs.Option.{option_or}
 use Rattle.fz_base.specs.declared.span.Span.{Span}
 use Rattle.fz_meaning.specs.Meaning.{first_some}
-use Rattle.fz_meaning.specs.Names.{FaultKind, Some_of, RiseFrom, NotAfter}
+use Rattle.fz_meaning.specs.Names.{FaultKind, Some_of}
+use Rattle.fz_meaning.specs.Leftmost.{RiseFrom, NotAfter}
 use Rattle.fz_meaning.specs.FirstFault.{Fault}
 
 -- the end of the last byte range

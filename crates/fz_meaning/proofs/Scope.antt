@@ -3,7 +3,7 @@ use Rattle.std.proofs.Common.{◌≡◌, ℕ, suc, zero, pos, Bool, true, false,
 use Rattle.std.specs.Prelude.{⊤}
 use Rattle.std.specs.List.{list_any}
 use Rattle.std.specs.Option.{option_map_or}
-use Rattle.fz_meaning.specs.Values.{kind_of, same_kind}
+use Rattle.fz_meaning.specs.Relations.{kind_of, same_kind}
 use Rattle.fz_base.specs.declared.span.Span.{Span}
 use Rattle.fz_meaning.specs.Located.{Basic, Expr, Decl, Goal, LocatedTree}
 use Rattle.fz_meaning.specs.Located.Basic.{Lit, Named}
@@ -13,9 +13,8 @@ use Rattle.fz_meaning.specs.Names.{HasNoFault, Some_of, Use, use_of, goal_parts,
 use Rattle.std.proofs.lemmas.List.Folds.{find_at}
 use Rattle.std.proofs.lemmas.Slice.Eq.{bytes_eq-Decides}
 use Rattle.fz_meaning.specs.Names.FaultKind.{UnknownName, WrongKind}
-use Rattle.fz_meaning.specs.Meaning.{Declared, variable_of}
+use Rattle.fz_meaning.specs.Meaning.{Declared, variable_of, Aim, Model}
 use Rattle.fz_meaning.specs.declared.term.Term.TheVariants.{Var, Fixed}
-use Rattle.fz_meaning.specs.Meaning.{Aim, Model}
 use Rattle.fz_meaning.specs.declared.term.Term.{Term}
 use Rattle.fz_meaning.specs.Steps.{kind_at}
 use Rattle.fz_meaning.proofs.Values.{no, and_first, and_second}

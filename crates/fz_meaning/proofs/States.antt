@@ -5,9 +5,10 @@ use Rattle.std.specs.List.{AllByRecursion, list_any}
 use Rattle.std.specs.Option.{option_map_or}
 use Rattle.fz_base.specs.declared.value.Value.{Value}
 use Rattle.fz_meaning.specs.declared.state.State.TheVariants.{Holds, Fails, TooLarge}
-use Rattle.fz_meaning.specs.Values.{same_value}
+use Rattle.fz_meaning.specs.Relations.{same_value}
 use Rattle.fz_meaning.specs.Builtins.{Row, ArgValue}
-use Rattle.fz_meaning.specs.Meaning.{Argument, Point, Partial, value, values, value_at, argument_values, row_of, row_holds, sums_leave, state, judged, judged_by, both, state_of_values, state_of_row, inside, is_outside, HoldsUnder}
+use Rattle.fz_meaning.specs.Meaning.{Argument, Point, Partial, value, values, value_at, argument_values, row_of, row_holds, inside, HoldsUnder}
+use Rattle.fz_meaning.specs.States.{sums_leave, state, judged, judged_by, both, state_of_values, state_of_row, is_outside}
 use Rattle.fz_meaning.specs.declared.term.Term.{Term}
 use Rattle.fz_meaning.specs.declared.term.Domain.{Domain}
 use Rattle.fz_meaning.specs.Meaning.Point.{DomainPoint, DefinitionPoint, ArrayPoint, ConstraintPoint}

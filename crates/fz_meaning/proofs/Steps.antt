@@ -1,13 +1,14 @@
 -- A forced step's value is the only one with which its point holds.
-use Rattle.std.proofs.Common.{◌≡◌, ℕ, suc, zero, ℤ, pos, negsuc, Bool, true, false, cond, List, [], ◌∷◌, ◌++◌, length, filter, Option, Some, None, refl, sym, ap, subst, subst₂, ◌∙◌, option_map, slice_get, is_none, flat_map, ◌⊎◌, inl, inr, IsSomeAnd, Contains, IsTrue, arith, bytes_eq, ◌&&◌}
+use Rattle.std.proofs.Common.{◌≡◌, ℕ, suc, zero, ℤ, pos, negsuc, Bool, true, false, cond, List, [], ◌∷◌, ◌++◌, length, filter, Option, Some, None, refl, sym, ap, subst, subst₂, ◌∙◌, option_map, slice_get, is_none, flat_map, ◌⊎◌, inl, inr, IsSomeAnd, Contains, IsTrue, arith, ◌&&◌}
 use Rattle.std.specs.Prelude.{⊤}
 use Rattle.std.specs.List.{AllByRecursion}
 use Rattle.std.specs.Option.{option_map_or}
-use Rattle.fz_meaning.specs.Values.{kind_of}
-use Rattle.fz_meaning.specs.Builtins.{Shape, Of, Plain, Test, Row, Result, rows, passes, read, plain, plain_list, plain_and, ArgValue}
+use Rattle.fz_meaning.specs.Relations.{kind_of}
+use Rattle.fz_meaning.specs.Builtins.{Shape, Of, Plain, Test, Row, is_named, rows, passes, read, plain, plain_list, plain_and, ArgValue}
 use Rattle.fz_meaning.specs.Builtins.Shape.{ScalarOf, ArrayOf}
 use Rattle.fz_meaning.specs.Builtins.ArgValue.{OneValue, ManyValues}
-use Rattle.fz_meaning.specs.Builtins.Result.{NoResult, Places, UnitTerm}
+use Rattle.fz_meaning.specs.Results.{Result, result_of}
+use Rattle.fz_meaning.specs.Results.Result.{NoResult, Places, UnitTerm}
 use Rattle.fz_meaning.specs.Meaning.{Argument, Variable, Model, Point, Partial, value, values, value_at, give, option_cons, terms_in, argument_value, argument_values, row_of, row_holds, HoldsUnder, inside, fits as fits_row}
 use Rattle.fz_meaning.specs.declared.term.Term.{Term}
 use Rattle.fz_meaning.specs.declared.term.Term.TheVariants.{Var, Fixed}
@@ -539,10 +540,10 @@ only_value m K (DefinitionPoint x k e) n v w fits g same q =
     sides_determined K n (only_open_none K n (Var k ∷ e ∷ []) g.only_open) v w x k e g.only_open g.then_holds q
 only_value m K (ArrayPoint name d ts) n v w fits g same q = absurd g.target
 only_value m K (ConstraintPoint k p) n v w fits g same q =
-    (elim (row_of p) as (λ o. row_of p ≡ o → IsSomeAnd o (λ r. IsResult K p.arguments n r.result) → IsSomeAnd o (λ r. IsSomeAnd (argument_values (give K n v) p.arguments) (λ vs. IsTrue (row_holds r vs)))
+    (elim (row_of p) as (λ o. row_of p ≡ o → IsSomeAnd o (λ r. IsResult K p.arguments n (result_of r)) → IsSomeAnd o (λ r. IsSomeAnd (argument_values (give K n v) p.arguments) (λ vs. IsTrue (row_holds r vs)))
     → IsSomeAnd o (λ r. IsSomeAnd (argument_values (give K n w) p.arguments) (λ vs. IsTrue (row_holds r vs))) → v ≡ w) [
       | None ↦ λ _ is. absurd is
       | Some r ↦ λ found is d e.
-          result_determined K n (only_open_none K n (flat_map terms_in p.arguments) g.only_open) v w r.shapes r.holds p.arguments r.result
-          (at_found RowDetermines (λ r. bytes_eq r.name p.name && fits_row r p.arguments) rows r rows_determine found) is g.only_open (row_passes (give K n v) p.arguments r d) (row_passes (give K n w) p.arguments r e)
+          result_determined K n (only_open_none K n (flat_map terms_in p.arguments) g.only_open) v w r.shapes r.holds p.arguments (result_of r)
+          (at_found RowDetermines (λ r. is_named p.name r && fits_row r p.arguments) rows r rows_determine found) is g.only_open (row_passes (give K n v) p.arguments r d) (row_passes (give K n w) p.arguments r e)
     ]) refl g.target.1 g.then_holds q

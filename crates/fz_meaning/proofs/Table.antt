@@ -10,7 +10,7 @@ use borrow.Author.Tests.{ltb-true, ltb-false}
 use Rattle.fz_base.specs.declared.span.Span.{Span}
 use Rattle.fz_meaning.specs.declared.kind.Kind.{Kind}
 use Rattle.fz_meaning.specs.declared.term.Term.{Term}
-use Rattle.fz_meaning.specs.Values.{same_kind}
+use Rattle.fz_meaning.specs.Relations.{same_kind}
 use Rattle.fz_meaning.specs.Located.{Decl}
 use Rattle.fz_meaning.specs.Meaning.{Place, is_term_of}
 use Rattle.fz_meaning.specs.Meaning.Place.{Scalar, Array}

@@ -6,8 +6,8 @@ use Rattle.fz_base.specs.Sets.{NumberSet}
 use Rattle.fz_base.specs.declared.value.Value.{Value}
 use Rattle.fz_base.specs.declared.value.Value.TheVariants.{Int, Bool as Truth, Set}
 use Rattle.fz_meaning.specs.declared.kind.Kind.TheVariants.{Int as IntKind, Bool as BoolKind, Set as SetKind}
-use Rattle.fz_meaning.specs.Values.{◌=ℤ◌, ◌=ᴮ◌}
-use Rattle.fz_meaning.specs.Builtins.{ArgValue, Shape, Row, Test, implied, reified, row_at, read, plain_list, plain_and, passes, total, products, with_bool, with_truth}
+use Rattle.fz_meaning.specs.Relations.{◌=ℤ◌, ◌=ᴮ◌, total, products}
+use Rattle.fz_meaning.specs.Builtins.{ArgValue, Shape, Row, Test, implied, reified, row_at, read, plain_list, plain_and, passes, with_bool, with_truth}
 use Rattle.fz_meaning.specs.Builtins.ArgValue.{OneValue, ManyValues}
 use Rattle.fz_meaning.specs.Meaning.{row_holds}
 use Rattle.fz_meaning.specs.declared.builtin.Builtin.TheVariants.{IntLinEq}

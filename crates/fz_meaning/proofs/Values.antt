@@ -2,7 +2,7 @@
 use Rattle.std.proofs.Common.{◌≡◌, ℤ, Bool, true, false, ◌&&◌, List, [], ◌∷◌, refl, sym, ap, true≢false, is_eq, int_cmp}
 use Rattle.std.specs.FinSet.{contains, is_subset, is_subset-contains, contains-is_subset, same_set, int_cmp-IsAntisymmetric}
 use Rattle.std.specs.Cmp.{int_cmp_total, Equal-is, tied_itself}
-use Rattle.fz_meaning.specs.Values.{◌=ℤ◌, ◌=ᴮ◌, ◌=ˢ◌, same_value, same_values}
+use Rattle.fz_meaning.specs.Relations.{◌=ℤ◌, ◌=ᴮ◌, ◌=ˢ◌, same_value, same_values}
 use Rattle.fz_base.specs.declared.value.Value.{Value}
 use Rattle.fz_base.specs.declared.value.Value.TheVariants.{Int, Bool as Truth, Set}
 use Rattle.fz_base.specs.Sets.{NumberSet}

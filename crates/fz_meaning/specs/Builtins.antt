@@ -1,8 +1,9 @@
 -- The table of builtins (MiniZinc Handbook, "FlatZinc builtins": int, bool, set and array; which of
 -- them are known, and what a zero divisor, an index out of range and an empty maximum mean, is this
--- project's profile). One line for each row: name, kinds of the arguments, when it holds, and the
--- arguments that `defines_var` may fill.
-use Rattle.std.specs.Prelude.{ℕ, ℤ, pos, ◌+ℤ◌, ◌*ℤ◌, Bool, true, false, not, ◌&&◌, ◌||◌, List, [], ◌∷◌, ◌++◌, length, map, codes, int_le, int_lt, int_div, int_rem, unsigned_abs, Option, Some, None, ◌-ℤ◌}
+-- project's profile). A row has the names that it goes by, the kinds of the arguments, and when it
+-- holds. Which arguments `defines_var` may fill is in `Results.antt`.
+use Prim.Native.String.{String}
+use Rattle.std.specs.Prelude.{ℕ, ℤ, pos, ◌+ℤ◌, ◌*ℤ◌, Bool, true, false, not, ◌&&◌, ◌||◌, List, [], ◌∷◌, ◌++◌, length, map, codes, int_le, int_lt, int_div, int_rem, unsigned_abs, Option, Some, None, ◌-ℤ◌, bytes_eq}
 use Rattle.std.specs.Int.{int_min, int_max}
 use Rattle.std.specs.List.{list_all, list_any, filter, zip}
 use Rattle.std.specs.Option.{option_map_or}
@@ -10,11 +11,11 @@ use Rattle.std.specs.FinSet as sets
 use Rattle.fz_base.specs.Sets.{NumberSet, symmetric_difference}
 use Rattle.fz_base.specs.declared.value.Value.{Value}
 use Rattle.fz_base.specs.declared.value.Value.TheVariants.{Int, Bool as Truth, Set}
-use Rattle.fz_meaning.specs.Values.{◌=ℤ◌, ◌=ᴮ◌, ◌=ˢ◌}
-use Rattle.fz_meaning.specs.Globals.{all_neighbours, are_channelled, are_disjoint, are_inverse, as_places, boxes, count_in, count_of, counts_are, counts_lie, is_before, is_circuit, is_closed, is_cumulative, is_disjunctive, is_flagged, is_index_of_best, is_knapsack, is_nonzero, is_partition, is_row_of, is_sorted_form, is_strictly_disjunctive, is_subcircuit, is_word, lies_between, load_of, loads_are, overlap_in_no_area, overlap_nowhere, precedes, rises_by_one, slides_between, values_of}
-pub use Rattle.fz_meaning.specs.Relations.{total, products, where_true, element_at, is_element, is_among, is_odd, as_number, sums_from, fits_128, leaves_128, all_different}
+use Rattle.fz_meaning.specs.Relations.{◌=ℤ◌, ◌=ᴮ◌, ◌=ˢ◌, all_neighbours, are_channelled, are_disjoint, are_inverse, as_places, boxes, count_in, count_of, counts_are, counts_lie, is_before, is_circuit, is_closed, is_cumulative, is_disjunctive, is_flagged, is_index_of_best, is_knapsack, is_nonzero, is_partition, is_row_of, is_sorted_form, is_strictly_disjunctive, is_subcircuit, is_word, lies_between, load_of, loads_are, overlap_in_no_area, overlap_nowhere, precedes, rises_by_one, slides_between, values_of, total, products, where_true, is_element, is_among, is_odd, as_number, all_different}
 use Rattle.fz_meaning.specs.declared.builtin.Builtin.{Builtin}
 use Rattle.fz_meaning.specs.declared.builtin.Builtin.TheVariants as builtin
+use Rattle.fz_meaning.specs.declared.known.Form.{Form}
+use Rattle.fz_meaning.specs.declared.known.Form.TheVariants.{Base, Reified, Implied}
 use Rattle.fz_meaning.specs.declared.kind.Kind.{Kind}
 use Rattle.fz_meaning.specs.declared.kind.Kind.TheVariants.{Int as IntKind, Bool as BoolKind, Set as SetKind}
 use Rattle.fz_meaning.specs.declared.row.Matrix.{Matrix}
@@ -62,17 +63,8 @@ Test (s ∷ ss) = Of s → Test ss
 
 -- ---- the rows
 
--- which arguments `defines_var` may fill
-pub data Result : Type 0 where
-  -- none
-  NoResult : Result
-  -- one whose index is one of these, counted from 0
-  Places : List ℕ → Result
-  -- one element of the second array that has the coefficient 1 or -1
-  UnitTerm : Result
-
 pub record Row : Type 0 where
-  pub name : List ℕ
+  pub names : List (List ℕ)
   pub shapes : List Shape
   -- the indices, counted from 0, of the arrays that have to be of equal lengths
   pub together : List ℕ
@@ -81,328 +73,264 @@ pub record Row : Type 0 where
   -- the indices of the arrays whose products are added in signed 128 bits
   pub sums : List (ℕ × ℕ)
   pub holds : Test shapes
-  pub result : Result
-  -- whether there are reified forms for it
+  -- whether there are reified forms for it, and which of them it is
   pub has_forms : Bool
+  pub form : Form
 
--- a row with no such forms, and one with them
-abbrev pub row : (name : List ℕ) → (shapes : List Shape) → Test shapes → Result → Row
-row name shapes holds result = record {
-  name = name;
+abbrev pub is_named : List ℕ → Row → Bool
+is_named name r = list_any (λ n. bytes_eq n name) r.names
+
+-- a row by its names, its kinds and when it holds
+abbrev pub Written : Type 0
+Written = List String → (shapes : List Shape) → Test shapes → Row
+
+abbrev pub row_with : List ℕ → Matrix → List (ℕ × ℕ) → Bool → Written
+row_with together matrix sums has_forms names shapes holds = record {
+  names = map codes names;
   shapes = shapes;
-  together = [];
-  matrix = Absent;
-  sums = [];
+  together = together;
+  matrix = matrix;
+  sums = sums;
   holds = holds;
-  result = result;
-  has_forms = false;
+  has_forms = has_forms;
+  form = Base;
 }
 
-abbrev pub forms : Row → Row
-forms r = record r { has_forms = true }
+-- a row that asks nothing more, and one that has reified forms
+abbrev pub row : Written
+row = row_with [] Absent [] false
+
+abbrev pub forms : Written
+forms = row_with [] Absent [] true
 
 -- one whose arrays at these indices have equal lengths
-abbrev pub equal : List ℕ → Row → Row
-equal places r = record r { together = places }
+abbrev pub equal : List ℕ → Written
+equal places = row_with places Absent [] false
+
+-- the sums of int_lin, which are added in 128 bits, and which have reified forms
+abbrev pub int_lin : Written
+int_lin = row_with (0 ∷ 1 ∷ []) Absent ((0, 1) ∷ []) true
+
+-- weights, profits and numbers of things, of which two sums are made
+abbrev pub knapsack : Written
+knapsack = row_with (0 ∷ 1 ∷ 2 ∷ []) Absent ((0, 2) ∷ (1, 2) ∷ []) false
 
 -- one whose second array is a table: its rows are as long as the first array, which isn't empty
-abbrev pub table : Row → Row
-table r = record r { matrix = RowsLike 0 1 }
+abbrev pub table : Written
+table = row_with [] (RowsLike 0 1) [] false
 
 -- one whose fourth argument has the transitions of an automaton: as many rows as the second says,
 -- which is one for each state, and each as long as the third says
-abbrev pub automaton : Row → Row
-automaton r = record r { matrix = RowsBy 1 2 3 }
+abbrev pub automaton : Written
+automaton = row_with [] (RowsBy 1 2 3) [] false
 
--- the rows of sums, whose first two arguments have equal lengths
-abbrev pub lin : Row → Row
-lin r = equal (0 ∷ 1 ∷ []) r
-
--- those of int_lin, whose sum is added in signed 128 bits
-abbrev pub int_lin : Row → Row
-int_lin r = record r { together = 0 ∷ 1 ∷ []; sums = (0, 1) ∷ [] }
-
--- weights, profits and numbers of things, of which two sums are made
-abbrev pub knapsack : Row → Row
-knapsack r = record r { together = 0 ∷ 1 ∷ 2 ∷ []; sums = (0, 2) ∷ (1, 2) ∷ [] }
-
-abbrev pub a : Result
-a = Places (0 ∷ [])
-
-abbrev pub b : Result
-b = Places (1 ∷ [])
-
-abbrev pub c : Result
-c = Places (2 ∷ [])
-
-abbrev pub a_or_b : Result
-a_or_b = Places (0 ∷ 1 ∷ [])
-
--- Name, kinds, holds when, result. `forms` has the reified forms, `lin` and `int_lin` want the
--- first two arrays equally long, `equal` those at its indices; `table` and `automaton` want an
--- array of whole rows. The table is opaque, so that no goal about code writes it out: a proof that
--- reads it says `unfolding row_at`.
+-- Names, kinds, and when it holds of the arguments a, b, c. The table is opaque, so that no goal
+-- about code writes it out: a proof that reads it says `unfolding row_at`.
 unfoldable pub row_at : Builtin → Row
-row_at builtin.IntEq = forms (row (codes "int_eq") (I ∷ I ∷ []) (λ a b. a =ℤ b) a_or_b)
-row_at builtin.IntNe = forms (row (codes "int_ne") (I ∷ I ∷ []) (λ a b. not (a =ℤ b)) NoResult)
-row_at builtin.IntLe = forms (row (codes "int_le") (I ∷ I ∷ []) (λ a b. int_le a b) NoResult)
-row_at builtin.IntLt = forms (row (codes "int_lt") (I ∷ I ∷ []) (λ a b. int_lt a b) NoResult)
+row_at builtin.IntEq = forms ("int_eq" ∷ []) (I ∷ I ∷ []) λ a b. a =ℤ b
+row_at builtin.IntNe = forms ("int_ne" ∷ []) (I ∷ I ∷ []) λ a b. not (a =ℤ b)
+row_at builtin.IntLe = forms ("int_le" ∷ []) (I ∷ I ∷ []) λ a b. int_le a b
+row_at builtin.IntLt = forms ("int_lt" ∷ []) (I ∷ I ∷ []) λ a b. int_lt a b
 row_at builtin.IntLinEq =
-    forms (int_lin (row (codes "int_lin_eq") ([I] ∷ [I] ∷ I ∷ [])
-    (λ a b c. total (products a b) =ℤ c) UnitTerm))
+    int_lin ("int_lin_eq" ∷ []) ([I] ∷ [I] ∷ I ∷ []) λ a b c. total (products a b) =ℤ c
 row_at builtin.IntLinNe =
-    forms (int_lin (row (codes "int_lin_ne") ([I] ∷ [I] ∷ I ∷ [])
-    (λ a b c. not (total (products a b) =ℤ c)) NoResult))
+    int_lin ("int_lin_ne" ∷ []) ([I] ∷ [I] ∷ I ∷ []) λ a b c. not (total (products a b) =ℤ c)
 row_at builtin.IntLinLe =
-    forms (int_lin (row (codes "int_lin_le") ([I] ∷ [I] ∷ I ∷ [])
-    (λ a b c. int_le (total (products a b)) c) NoResult))
-row_at builtin.IntPlus = row (codes "int_plus") (I ∷ I ∷ I ∷ []) (λ a b c. c =ℤ (a +ℤ b)) c
-row_at builtin.IntTimes = row (codes "int_times") (I ∷ I ∷ I ∷ []) (λ a b c. c =ℤ (a *ℤ b)) c
-row_at builtin.IntMin = row (codes "int_min") (I ∷ I ∷ I ∷ []) (λ a b c. c =ℤ int_min a b) c
-row_at builtin.IntMax = row (codes "int_max") (I ∷ I ∷ I ∷ []) (λ a b c. c =ℤ int_max a b) c
-row_at builtin.IntAbs = row (codes "int_abs") (I ∷ I ∷ []) (λ a b. b =ℤ pos (unsigned_abs a)) b
+    int_lin ("int_lin_le" ∷ []) ([I] ∷ [I] ∷ I ∷ []) λ a b c. int_le (total (products a b)) c
+row_at builtin.IntPlus = row ("int_plus" ∷ []) (I ∷ I ∷ I ∷ []) λ a b c. c =ℤ (a +ℤ b)
+row_at builtin.IntTimes = row ("int_times" ∷ []) (I ∷ I ∷ I ∷ []) λ a b c. c =ℤ (a *ℤ b)
+row_at builtin.IntMin = row ("int_min" ∷ []) (I ∷ I ∷ I ∷ []) λ a b c. c =ℤ int_min a b
+row_at builtin.IntMax = row ("int_max" ∷ []) (I ∷ I ∷ I ∷ []) λ a b c. c =ℤ int_max a b
+row_at builtin.IntAbs = row ("int_abs" ∷ []) (I ∷ I ∷ []) λ a b. b =ℤ pos (unsigned_abs a)
 row_at builtin.IntDiv =
-    row (codes "int_div") (I ∷ I ∷ I ∷ []) (λ a b c. not (b =ℤ pos 0) && (c =ℤ int_div a b)) c
+    row ("int_div" ∷ []) (I ∷ I ∷ I ∷ []) λ a b c. not (b =ℤ pos 0) && (c =ℤ int_div a b)
 row_at builtin.IntMod =
-    row (codes "int_mod") (I ∷ I ∷ I ∷ []) (λ a b c. not (b =ℤ pos 0) && (c =ℤ int_rem a b)) c
+    row ("int_mod" ∷ []) (I ∷ I ∷ I ∷ []) λ a b c. not (b =ℤ pos 0) && (c =ℤ int_rem a b)
 row_at builtin.ArrayIntElement =
-    row (codes "array_int_element") (I ∷ [I] ∷ I ∷ []) (λ a b c. is_element ◌=ℤ◌ a b c) c
-row_at builtin.ArrayVarIntElement =
-    row (codes "array_var_int_element") (I ∷ [I] ∷ I ∷ []) (λ a b c. is_element ◌=ℤ◌ a b c) c
+    row ("array_int_element" ∷ "array_var_int_element" ∷ []) (I ∷ [I] ∷ I ∷ [])
+    λ a b c. is_element ◌=ℤ◌ a b c
 row_at builtin.ArrayIntMaximum =
-    row (codes "array_int_maximum") (I ∷ [I] ∷ [])
-    (λ a b. is_among a b && list_all (λ x. int_le x a) b) a
+    row ("array_int_maximum" ∷ []) (I ∷ [I] ∷ [])
+    λ a b. is_among a b && list_all (λ x. int_le x a) b
 row_at builtin.ArrayIntMinimum =
-    row (codes "array_int_minimum") (I ∷ [I] ∷ [])
-    (λ a b. is_among a b && list_all (λ x. int_le a x) b) a
+    row ("array_int_minimum" ∷ []) (I ∷ [I] ∷ [])
+    λ a b. is_among a b && list_all (λ x. int_le a x) b
 row_at builtin.FznAllDifferentInt =
-    row (codes "fzn_all_different_int") ([I] ∷ []) (λ a. all_different a) NoResult
-row_at builtin.GecodeAllDifferentInt =
-    row (codes "gecode_all_different_int") ([I] ∷ []) (λ a. all_different a) NoResult
-row_at builtin.GeasAllDifferentInt =
-    row (codes "geas_all_different_int") ([I] ∷ []) (λ a. all_different a) NoResult
-row_at builtin.BoolEq = forms (row (codes "bool_eq") (B ∷ B ∷ []) (λ a b. a =ᴮ b) a_or_b)
-row_at builtin.BoolLe = forms (row (codes "bool_le") (B ∷ B ∷ []) (λ a b. not a || b) NoResult)
-row_at builtin.BoolLt = forms (row (codes "bool_lt") (B ∷ B ∷ []) (λ a b. not a && b) NoResult)
-row_at builtin.BoolNot = row (codes "bool_not") (B ∷ B ∷ []) (λ a b. not (a =ᴮ b)) a_or_b
-row_at builtin.BoolAnd = row (codes "bool_and") (B ∷ B ∷ B ∷ []) (λ a b c. c =ᴮ (a && b)) c
-row_at builtin.BoolOr = row (codes "bool_or") (B ∷ B ∷ B ∷ []) (λ a b c. c =ᴮ (a || b)) c
-row_at builtin.BoolXor = row (codes "bool_xor") (B ∷ B ∷ B ∷ []) (λ a b c. c =ᴮ not (a =ᴮ b)) c
+    row ("fzn_all_different_int" ∷ "gecode_all_different_int" ∷ "geas_all_different_int" ∷ [])
+    ([I] ∷ []) λ a. all_different a
+row_at builtin.BoolEq = forms ("bool_eq" ∷ []) (B ∷ B ∷ []) λ a b. a =ᴮ b
+row_at builtin.BoolLe = forms ("bool_le" ∷ []) (B ∷ B ∷ []) λ a b. not a || b
+row_at builtin.BoolLt = forms ("bool_lt" ∷ []) (B ∷ B ∷ []) λ a b. not a && b
+row_at builtin.BoolNot = row ("bool_not" ∷ []) (B ∷ B ∷ []) λ a b. not (a =ᴮ b)
+row_at builtin.BoolAnd = row ("bool_and" ∷ []) (B ∷ B ∷ B ∷ []) λ a b c. c =ᴮ (a && b)
+row_at builtin.BoolOr = row ("bool_or" ∷ []) (B ∷ B ∷ B ∷ []) λ a b c. c =ᴮ (a || b)
+row_at builtin.BoolXor = row ("bool_xor" ∷ []) (B ∷ B ∷ B ∷ []) λ a b c. c =ᴮ not (a =ᴮ b)
 row_at builtin.ArrayBoolAnd =
-    row (codes "array_bool_and") ([B] ∷ B ∷ []) (λ a b. b =ᴮ list_all (λ x. x) a) b
+    row ("array_bool_and" ∷ []) ([B] ∷ B ∷ []) λ a b. b =ᴮ list_all (λ x. x) a
 row_at builtin.ArrayBoolOr =
-    row (codes "array_bool_or") ([B] ∷ B ∷ []) (λ a b. b =ᴮ list_any (λ x. x) a) b
+    row ("array_bool_or" ∷ []) ([B] ∷ B ∷ []) λ a b. b =ᴮ list_any (λ x. x) a
 row_at builtin.ArrayBoolXor =
-    row (codes "array_bool_xor") ([B] ∷ []) (λ a. is_odd (length (filter (λ x. x) a))) NoResult
+    row ("array_bool_xor" ∷ []) ([B] ∷ []) λ a. is_odd (length (filter (λ x. x) a))
 row_at builtin.ArrayBoolElement =
-    row (codes "array_bool_element") (I ∷ [B] ∷ B ∷ []) (λ a b c. is_element ◌=ᴮ◌ a b c) c
-row_at builtin.ArrayVarBoolElement =
-    row (codes "array_var_bool_element") (I ∷ [B] ∷ B ∷ []) (λ a b c. is_element ◌=ᴮ◌ a b c) c
+    row ("array_bool_element" ∷ "array_var_bool_element" ∷ []) (I ∷ [B] ∷ B ∷ [])
+    λ a b c. is_element ◌=ᴮ◌ a b c
 row_at builtin.BoolClause =
-    forms (row (codes "bool_clause") ([B] ∷ [B] ∷ [])
-    (λ a b. list_any (λ x. x) a || list_any (λ x. not x) b) NoResult)
-row_at builtin.Bool2Int = row (codes "bool2int") (B ∷ I ∷ []) (λ a b. b =ℤ as_number a) a_or_b
+    forms ("bool_clause" ∷ []) ([B] ∷ [B] ∷ [])
+    λ a b. list_any (λ x. x) a || list_any (λ x. not x) b
+row_at builtin.Bool2Int = row ("bool2int" ∷ []) (B ∷ I ∷ []) λ a b. b =ℤ as_number a
 row_at builtin.BoolLinEq =
-    lin (row (codes "bool_lin_eq") ([I] ∷ [B] ∷ I ∷ []) (λ a b c. total (where_true a b) =ℤ c) c)
+    equal (0 ∷ 1 ∷ []) ("bool_lin_eq" ∷ []) ([I] ∷ [B] ∷ I ∷ [])
+    λ a b c. total (where_true a b) =ℤ c
 row_at builtin.BoolLinLe =
-    lin (row (codes "bool_lin_le") ([I] ∷ [B] ∷ I ∷ [])
-    (λ a b c. int_le (total (where_true a b)) c) NoResult)
-row_at builtin.SetIn = forms (row (codes "set_in") (I ∷ S ∷ []) (λ a b. sets.contains b a) NoResult)
-row_at builtin.SetEq = forms (row (codes "set_eq") (S ∷ S ∷ []) (λ a b. a =ˢ b) a_or_b)
-row_at builtin.SetNe = forms (row (codes "set_ne") (S ∷ S ∷ []) (λ a b. not (a =ˢ b)) NoResult)
-row_at builtin.SetSubset =
-    forms (row (codes "set_subset") (S ∷ S ∷ []) (λ a b. sets.is_subset a b) NoResult)
-row_at builtin.SetSuperset =
-    forms (row (codes "set_superset") (S ∷ S ∷ []) (λ a b. sets.is_subset b a) NoResult)
-row_at builtin.SetUnion = row (codes "set_union") (S ∷ S ∷ S ∷ []) (λ a b c. c =ˢ sets.union a b) c
+    equal (0 ∷ 1 ∷ []) ("bool_lin_le" ∷ []) ([I] ∷ [B] ∷ I ∷ [])
+    λ a b c. int_le (total (where_true a b)) c
+row_at builtin.SetIn = forms ("set_in" ∷ []) (I ∷ S ∷ []) λ a b. sets.contains b a
+row_at builtin.SetEq = forms ("set_eq" ∷ []) (S ∷ S ∷ []) λ a b. a =ˢ b
+row_at builtin.SetNe = forms ("set_ne" ∷ []) (S ∷ S ∷ []) λ a b. not (a =ˢ b)
+row_at builtin.SetSubset = forms ("set_subset" ∷ []) (S ∷ S ∷ []) λ a b. sets.is_subset a b
+row_at builtin.SetSuperset = forms ("set_superset" ∷ []) (S ∷ S ∷ []) λ a b. sets.is_subset b a
+row_at builtin.SetUnion = row ("set_union" ∷ []) (S ∷ S ∷ S ∷ []) λ a b c. c =ˢ sets.union a b
 row_at builtin.SetIntersect =
-    row (codes "set_intersect") (S ∷ S ∷ S ∷ []) (λ a b c. c =ˢ sets.intersection a b) c
-row_at builtin.SetDiff =
-    row (codes "set_diff") (S ∷ S ∷ S ∷ []) (λ a b c. c =ˢ sets.difference a b) c
+    row ("set_intersect" ∷ []) (S ∷ S ∷ S ∷ []) λ a b c. c =ˢ sets.intersection a b
+row_at builtin.SetDiff = row ("set_diff" ∷ []) (S ∷ S ∷ S ∷ []) λ a b c. c =ˢ sets.difference a b
 row_at builtin.SetSymdiff =
-    row (codes "set_symdiff") (S ∷ S ∷ S ∷ []) (λ a b c. c =ˢ symmetric_difference a b) c
-row_at builtin.SetCard = row (codes "set_card") (S ∷ I ∷ []) (λ a b. b =ℤ pos (sets.len a)) b
+    row ("set_symdiff" ∷ []) (S ∷ S ∷ S ∷ []) λ a b c. c =ˢ symmetric_difference a b
+row_at builtin.SetCard = row ("set_card" ∷ []) (S ∷ I ∷ []) λ a b. b =ℤ pos (sets.len a)
 row_at builtin.ArraySetElement =
-    row (codes "array_set_element") (I ∷ [S] ∷ S ∷ []) (λ a b c. is_element ◌=ˢ◌ a b c) c
-row_at builtin.ArrayVarSetElement =
-    row (codes "array_var_set_element") (I ∷ [S] ∷ S ∷ []) (λ a b c. is_element ◌=ˢ◌ a b c) c
+    row ("array_set_element" ∷ "array_var_set_element" ∷ []) (I ∷ [S] ∷ S ∷ [])
+    λ a b c. is_element ◌=ˢ◌ a b c
 row_at builtin.FznAlldifferentExcept0 =
-    row (codes "fzn_alldifferent_except_0") ([I] ∷ [])
-    (λ a. all_different (filter is_nonzero a)) NoResult
-row_at builtin.GeasAllDifferentExcept0 =
-    row (codes "geas_all_different_except_0") ([I] ∷ [])
-    (λ a. all_different (filter is_nonzero a)) NoResult
-row_at builtin.FznAllEqualInt =
-    row (codes "fzn_all_equal_int") ([I] ∷ []) (λ a. all_neighbours ◌=ℤ◌ a) NoResult
-row_at builtin.Count = row (codes "count") ([I] ∷ I ∷ I ∷ []) (λ a b c. c =ℤ count_of a b) c
-row_at builtin.GecodeCount =
-    row (codes "gecode_count") ([I] ∷ I ∷ I ∷ []) (λ a b c. c =ℤ count_of a b) c
+    row ("fzn_alldifferent_except_0" ∷ "geas_all_different_except_0" ∷ []) ([I] ∷ [])
+    λ a. all_different (filter is_nonzero a)
+row_at builtin.FznAllEqualInt = row ("fzn_all_equal_int" ∷ []) ([I] ∷ []) λ a. all_neighbours ◌=ℤ◌ a
 row_at builtin.FznCountEq =
-    row (codes "fzn_count_eq") ([I] ∷ I ∷ I ∷ []) (λ a b c. c =ℤ count_of a b) c
+    row ("fzn_count_eq" ∷ "gecode_count" ∷ "count" ∷ []) ([I] ∷ I ∷ I ∷ [])
+    λ a b c. c =ℤ count_of a b
 row_at builtin.FznCountNeq =
-    row (codes "fzn_count_neq") ([I] ∷ I ∷ I ∷ []) (λ a b c. not (c =ℤ count_of a b)) NoResult
+    row ("fzn_count_neq" ∷ []) ([I] ∷ I ∷ I ∷ []) λ a b c. not (c =ℤ count_of a b)
 row_at builtin.FznCountGeq =
-    row (codes "fzn_count_geq") ([I] ∷ I ∷ I ∷ []) (λ a b c. int_le (count_of a b) c) NoResult
+    row ("fzn_count_geq" ∷ []) ([I] ∷ I ∷ I ∷ []) λ a b c. int_le (count_of a b) c
 row_at builtin.FznCountGt =
-    row (codes "fzn_count_gt") ([I] ∷ I ∷ I ∷ []) (λ a b c. int_lt (count_of a b) c) NoResult
+    row ("fzn_count_gt" ∷ []) ([I] ∷ I ∷ I ∷ []) λ a b c. int_lt (count_of a b) c
 row_at builtin.FznCountLeq =
-    row (codes "fzn_count_leq") ([I] ∷ I ∷ I ∷ []) (λ a b c. int_le c (count_of a b)) NoResult
+    row ("fzn_count_leq" ∷ []) ([I] ∷ I ∷ I ∷ []) λ a b c. int_le c (count_of a b)
 row_at builtin.FznCountLt =
-    row (codes "fzn_count_lt") ([I] ∷ I ∷ I ∷ []) (λ a b c. int_lt c (count_of a b)) NoResult
-row_at builtin.FznAmong = row (codes "fzn_among") (I ∷ [I] ∷ S ∷ []) (λ a b c. a =ℤ count_in b c) a
+    row ("fzn_count_lt" ∷ []) ([I] ∷ I ∷ I ∷ []) λ a b c. int_lt c (count_of a b)
+row_at builtin.FznAmong = row ("fzn_among" ∷ []) (I ∷ [I] ∷ S ∷ []) λ a b c. a =ℤ count_in b c
 row_at builtin.FznNvalue =
-    row (codes "fzn_nvalue") (I ∷ [I] ∷ []) (λ a b. a =ℤ pos (length (values_of b))) a
+    row ("fzn_nvalue" ∷ []) (I ∷ [I] ∷ []) λ a b. a =ℤ pos (length (values_of b))
 row_at builtin.FznAtLeastInt =
-    row (codes "fzn_at_least_int") (I ∷ [I] ∷ I ∷ []) (λ a b c. int_le a (count_of b c)) NoResult
+    row ("fzn_at_least_int" ∷ []) (I ∷ [I] ∷ I ∷ []) λ a b c. int_le a (count_of b c)
 row_at builtin.FznAtMostInt =
-    row (codes "fzn_at_most_int") (I ∷ [I] ∷ I ∷ []) (λ a b c. int_le (count_of b c) a) NoResult
+    row ("fzn_at_most_int" ∷ []) (I ∷ [I] ∷ I ∷ []) λ a b c. int_le (count_of b c) a
 row_at builtin.FznExactlyInt =
-    row (codes "fzn_exactly_int") (I ∷ [I] ∷ I ∷ []) (λ a b c. a =ℤ count_of b c) NoResult
+    row ("fzn_exactly_int" ∷ []) (I ∷ [I] ∷ I ∷ []) λ a b c. a =ℤ count_of b c
 row_at builtin.FznGlobalCardinality =
-    equal (1 ∷ 2 ∷ []) (row (codes "fzn_global_cardinality") ([I] ∷ [I] ∷ [I] ∷ [])
-    (λ a b c. counts_are a b c) NoResult)
+    equal (1 ∷ 2 ∷ []) ("fzn_global_cardinality" ∷ []) ([I] ∷ [I] ∷ [I] ∷ [])
+    λ a b c. counts_are a b c
 row_at builtin.FznGlobalCardinalityClosed =
-    equal (1 ∷ 2 ∷ []) (row (codes "fzn_global_cardinality_closed") ([I] ∷ [I] ∷ [I] ∷ [])
-    (λ a b c. counts_are a b c && is_closed a b) NoResult)
+    equal (1 ∷ 2 ∷ []) ("fzn_global_cardinality_closed" ∷ []) ([I] ∷ [I] ∷ [I] ∷ [])
+    λ a b c. counts_are a b c && is_closed a b
 row_at builtin.FznGlobalCardinalityLowUp =
-    equal (1 ∷ 2 ∷ 3 ∷ []) (row (codes "fzn_global_cardinality_low_up") ([I] ∷ [I] ∷ [I] ∷ [I] ∷ [])
-    (λ a b c d. counts_lie a b c d) NoResult)
+    equal (1 ∷ 2 ∷ 3 ∷ []) ("fzn_global_cardinality_low_up" ∷ []) ([I] ∷ [I] ∷ [I] ∷ [I] ∷ [])
+    λ a b c d. counts_lie a b c d
 row_at builtin.FznGlobalCardinalityLowUpClosed =
-    equal (1 ∷ 2 ∷ 3 ∷ []) (row (codes "fzn_global_cardinality_low_up_closed")
-    ([I] ∷ [I] ∷ [I] ∷ [I] ∷ []) (λ a b c d. counts_lie a b c d && is_closed a b) NoResult)
+    equal (1 ∷ 2 ∷ 3 ∷ []) ("fzn_global_cardinality_low_up_closed" ∷ [])
+    ([I] ∷ [I] ∷ [I] ∷ [I] ∷ []) λ a b c d. counts_lie a b c d && is_closed a b
 row_at builtin.FznDistribute =
-    equal (0 ∷ 1 ∷ []) (row (codes "fzn_distribute") ([I] ∷ [I] ∷ [I] ∷ [])
-    (λ a b c. counts_are c b a) NoResult)
+    equal (0 ∷ 1 ∷ []) ("fzn_distribute" ∷ []) ([I] ∷ [I] ∷ [I] ∷ []) λ a b c. counts_are c b a
 row_at builtin.FznCumulative =
-    equal (0 ∷ 1 ∷ 2 ∷ []) (row (codes "fzn_cumulative") ([I] ∷ [I] ∷ [I] ∷ I ∷ [])
-    (λ a b c d. is_cumulative (zip (zip a b) c) d) NoResult)
-row_at builtin.Cumulatives =
-    equal (0 ∷ 1 ∷ 2 ∷ []) (row (codes "cumulatives") ([I] ∷ [I] ∷ [I] ∷ I ∷ [])
-    (λ a b c d. is_cumulative (zip (zip a b) c) d) NoResult)
+    equal (0 ∷ 1 ∷ 2 ∷ []) ("fzn_cumulative" ∷ "cumulatives" ∷ []) ([I] ∷ [I] ∷ [I] ∷ I ∷ [])
+    λ a b c d. is_cumulative (zip (zip a b) c) d
 row_at builtin.FznDisjunctive =
-    equal (0 ∷ 1 ∷ []) (row (codes "fzn_disjunctive") ([I] ∷ [I] ∷ [])
-    (λ a b. is_disjunctive (zip a b)) NoResult)
+    equal (0 ∷ 1 ∷ []) ("fzn_disjunctive" ∷ []) ([I] ∷ [I] ∷ []) λ a b. is_disjunctive (zip a b)
 row_at builtin.FznDisjunctiveStrict =
-    equal (0 ∷ 1 ∷ []) (row (codes "fzn_disjunctive_strict") ([I] ∷ [I] ∷ [])
-    (λ a b. is_strictly_disjunctive (zip a b)) NoResult)
+    equal (0 ∷ 1 ∷ []) ("fzn_disjunctive_strict" ∷ []) ([I] ∷ [I] ∷ [])
+    λ a b. is_strictly_disjunctive (zip a b)
 row_at builtin.FznDiffn =
-    equal (0 ∷ 1 ∷ 2 ∷ 3 ∷ []) (row (codes "fzn_diffn") ([I] ∷ [I] ∷ [I] ∷ [I] ∷ [])
-    (λ a b c d. overlap_nowhere (boxes a b c d)) NoResult)
+    equal (0 ∷ 1 ∷ 2 ∷ 3 ∷ []) ("fzn_diffn" ∷ []) ([I] ∷ [I] ∷ [I] ∷ [I] ∷ [])
+    λ a b c d. overlap_nowhere (boxes a b c d)
 row_at builtin.FznDiffnNonstrict =
-    equal (0 ∷ 1 ∷ 2 ∷ 3 ∷ []) (row (codes "fzn_diffn_nonstrict") ([I] ∷ [I] ∷ [I] ∷ [I] ∷ [])
-    (λ a b c d. overlap_in_no_area (boxes a b c d)) NoResult)
+    equal (0 ∷ 1 ∷ 2 ∷ 3 ∷ []) ("fzn_diffn_nonstrict" ∷ []) ([I] ∷ [I] ∷ [I] ∷ [I] ∷ [])
+    λ a b c d. overlap_in_no_area (boxes a b c d)
 row_at builtin.GecodeNooverlap =
-    equal (0 ∷ 1 ∷ 2 ∷ 3 ∷ []) (row (codes "gecode_nooverlap") ([I] ∷ [I] ∷ [I] ∷ [I] ∷ [])
-    (λ a b c d. overlap_nowhere (boxes a c b d)) NoResult)
+    equal (0 ∷ 1 ∷ 2 ∷ 3 ∷ []) ("gecode_nooverlap" ∷ []) ([I] ∷ [I] ∷ [I] ∷ [I] ∷ [])
+    λ a b c d. overlap_nowhere (boxes a c b d)
 row_at builtin.GecodeCircuit =
-    row (codes "gecode_circuit") (I ∷ [I] ∷ []) (λ a b. is_circuit (as_places a b)) NoResult
-row_at builtin.FzcheckCircuit =
-    row (codes "fzcheck_circuit") (I ∷ [I] ∷ []) (λ a b. is_circuit (as_places a b)) NoResult
+    row ("gecode_circuit" ∷ "fzcheck_circuit" ∷ []) (I ∷ [I] ∷ []) λ a b. is_circuit (as_places a b)
 row_at builtin.FzcheckSubcircuit =
-    row (codes "fzcheck_subcircuit") (I ∷ [I] ∷ []) (λ a b. is_subcircuit (as_places a b)) NoResult
+    row ("fzcheck_subcircuit" ∷ []) (I ∷ [I] ∷ []) λ a b. is_subcircuit (as_places a b)
 row_at builtin.InverseOffsets =
-    row (codes "inverse_offsets") ([I] ∷ I ∷ [I] ∷ I ∷ [])
-    (λ a b c d. are_inverse (as_places b a) (as_places d c)) NoResult
-row_at builtin.GecodeInverseOffsets =
-    row (codes "gecode_inverse_offsets") ([I] ∷ I ∷ [I] ∷ I ∷ [])
-    (λ a b c d. are_inverse (as_places b a) (as_places d c)) NoResult
+    row ("inverse_offsets" ∷ "gecode_inverse_offsets" ∷ []) ([I] ∷ I ∷ [I] ∷ I ∷ [])
+    λ a b c d. are_inverse (as_places b a) (as_places d c)
 row_at builtin.FznTableInt =
-    table (row (codes "fzn_table_int") ([I] ∷ [I] ∷ []) (λ a b. is_row_of ◌=ℤ◌ a b) NoResult)
-row_at builtin.GecodeTableInt =
-    table (row (codes "gecode_table_int") ([I] ∷ [I] ∷ []) (λ a b. is_row_of ◌=ℤ◌ a b) NoResult)
-row_at builtin.GeasTableInt =
-    table (row (codes "geas_table_int") ([I] ∷ [I] ∷ []) (λ a b. is_row_of ◌=ℤ◌ a b) NoResult)
+    table ("fzn_table_int" ∷ "gecode_table_int" ∷ "geas_table_int" ∷ []) ([I] ∷ [I] ∷ [])
+    λ a b. is_row_of ◌=ℤ◌ a b
 row_at builtin.FznTableBool =
-    table (row (codes "fzn_table_bool") ([B] ∷ [B] ∷ []) (λ a b. is_row_of ◌=ᴮ◌ a b) NoResult)
+    table ("fzn_table_bool" ∷ []) ([B] ∷ [B] ∷ []) λ a b. is_row_of ◌=ᴮ◌ a b
 row_at builtin.FznRegular =
-    automaton (row (codes "fzn_regular") ([I] ∷ I ∷ I ∷ [I] ∷ I ∷ S ∷ [])
-    (λ a b c d e f. is_word a b c d e f) NoResult)
-row_at builtin.GecodeRegular =
-    automaton (row (codes "gecode_regular") ([I] ∷ I ∷ I ∷ [I] ∷ I ∷ S ∷ [])
-    (λ a b c d e f. is_word a b c d e f) NoResult)
+    automaton ("fzn_regular" ∷ "gecode_regular" ∷ []) ([I] ∷ I ∷ I ∷ [I] ∷ I ∷ S ∷ [])
+    λ a b c d e f. is_word a b c d e f
 row_at builtin.FznBinPacking =
-    equal (1 ∷ 2 ∷ []) (row (codes "fzn_bin_packing") (I ∷ [I] ∷ [I] ∷ [])
-    (λ a b c. list_all (λ v. int_le (load_of b c v) a) b) NoResult)
+    equal (1 ∷ 2 ∷ []) ("fzn_bin_packing" ∷ []) (I ∷ [I] ∷ [I] ∷ [])
+    λ a b c. list_all (λ v. int_le (load_of b c v) a) b
 row_at builtin.GecodeBinPackingLoad =
-    equal (1 ∷ 2 ∷ []) (row (codes "gecode_bin_packing_load") ([I] ∷ [I] ∷ [I] ∷ I ∷ [])
-    (λ a b c d. list_all (lies_between d ((d +ℤ pos (length a)) -ℤ pos 1)) b
-    && loads_are d b c a) NoResult)
-row_at builtin.FzcheckBinPackingLoad =
-    equal (1 ∷ 2 ∷ []) (row (codes "fzcheck_bin_packing_load") ([I] ∷ [I] ∷ [I] ∷ I ∷ [])
-    (λ a b c d. list_all (lies_between d ((d +ℤ pos (length a)) -ℤ pos 1)) b
-    && loads_are d b c a) NoResult)
+    equal (1 ∷ 2 ∷ []) ("gecode_bin_packing_load" ∷ "fzcheck_bin_packing_load" ∷ [])
+    ([I] ∷ [I] ∷ [I] ∷ I ∷ [])
+    λ a b c d. list_all (lies_between d ((d +ℤ pos (length a)) -ℤ pos 1)) b && loads_are d b c a
 row_at builtin.FznLexLessInt =
-    row (codes "fzn_lex_less_int") ([I] ∷ [I] ∷ []) (λ a b. is_before int_lt ◌=ℤ◌ a b) NoResult
-row_at builtin.GecodeArrayIntLt =
-    row (codes "gecode_array_int_lt") ([I] ∷ [I] ∷ []) (λ a b. is_before int_lt ◌=ℤ◌ a b) NoResult
+    row ("fzn_lex_less_int" ∷ "gecode_array_int_lt" ∷ []) ([I] ∷ [I] ∷ [])
+    λ a b. is_before int_lt ◌=ℤ◌ a b
 row_at builtin.FznLexLesseqInt =
-    row (codes "fzn_lex_lesseq_int") ([I] ∷ [I] ∷ [])
-    (λ a b. not (is_before int_lt ◌=ℤ◌ b a)) NoResult
-row_at builtin.GecodeArrayIntLq =
-    row (codes "gecode_array_int_lq") ([I] ∷ [I] ∷ [])
-    (λ a b. not (is_before int_lt ◌=ℤ◌ b a)) NoResult
+    row ("fzn_lex_lesseq_int" ∷ "gecode_array_int_lq" ∷ []) ([I] ∷ [I] ∷ [])
+    λ a b. not (is_before int_lt ◌=ℤ◌ b a)
 row_at builtin.FznLexLessBool =
-    row (codes "fzn_lex_less_bool") ([B] ∷ [B] ∷ [])
-    (λ a b. is_before (λ x y. not x && y) ◌=ᴮ◌ a b) NoResult
-row_at builtin.GecodeArrayBoolLt =
-    row (codes "gecode_array_bool_lt") ([B] ∷ [B] ∷ [])
-    (λ a b. is_before (λ x y. not x && y) ◌=ᴮ◌ a b) NoResult
+    row ("fzn_lex_less_bool" ∷ "gecode_array_bool_lt" ∷ []) ([B] ∷ [B] ∷ [])
+    λ a b. is_before (λ x y. not x && y) ◌=ᴮ◌ a b
 row_at builtin.FznLexLesseqBool =
-    row (codes "fzn_lex_lesseq_bool") ([B] ∷ [B] ∷ [])
-    (λ a b. not (is_before (λ x y. not x && y) ◌=ᴮ◌ b a)) NoResult
-row_at builtin.GecodeArrayBoolLq =
-    row (codes "gecode_array_bool_lq") ([B] ∷ [B] ∷ [])
-    (λ a b. not (is_before (λ x y. not x && y) ◌=ᴮ◌ b a)) NoResult
+    row ("fzn_lex_lesseq_bool" ∷ "gecode_array_bool_lq" ∷ []) ([B] ∷ [B] ∷ [])
+    λ a b. not (is_before (λ x y. not x && y) ◌=ᴮ◌ b a)
 row_at builtin.FznIncreasingInt =
-    row (codes "fzn_increasing_int") ([I] ∷ []) (λ a. all_neighbours int_le a) NoResult
+    row ("fzn_increasing_int" ∷ []) ([I] ∷ []) λ a. all_neighbours int_le a
 row_at builtin.FznIncreasingBool =
-    row (codes "fzn_increasing_bool") ([B] ∷ [])
-    (λ a. all_neighbours (λ x y. not x || y) a) NoResult
+    row ("fzn_increasing_bool" ∷ []) ([B] ∷ []) λ a. all_neighbours (λ x y. not x || y) a
 row_at builtin.FznDecreasingInt =
-    row (codes "fzn_decreasing_int") ([I] ∷ []) (λ a. all_neighbours (λ x y. int_le y x) a) NoResult
+    row ("fzn_decreasing_int" ∷ []) ([I] ∷ []) λ a. all_neighbours (λ x y. int_le y x) a
 row_at builtin.FznDecreasingBool =
-    row (codes "fzn_decreasing_bool") ([B] ∷ [])
-    (λ a. all_neighbours (λ x y. not y || x) a) NoResult
+    row ("fzn_decreasing_bool" ∷ []) ([B] ∷ []) λ a. all_neighbours (λ x y. not y || x) a
 row_at builtin.FznStrictlyIncreasingInt =
-    row (codes "fzn_strictly_increasing_int") ([I] ∷ []) (λ a. all_neighbours int_lt a) NoResult
+    row ("fzn_strictly_increasing_int" ∷ []) ([I] ∷ []) λ a. all_neighbours int_lt a
 row_at builtin.FznValuePrecedeInt =
-    row (codes "fzn_value_precede_int") (I ∷ I ∷ [I] ∷ []) (λ a b c. precedes a b c) NoResult
+    row ("fzn_value_precede_int" ∷ []) (I ∷ I ∷ [I] ∷ []) λ a b c. precedes a b c
 row_at builtin.GecodePrecede =
-    row (codes "gecode_precede") ([I] ∷ I ∷ I ∷ []) (λ a b c. precedes b c a) NoResult
+    row ("gecode_precede" ∷ []) ([I] ∷ I ∷ I ∷ []) λ a b c. precedes b c a
 row_at builtin.FznValuePrecedeChainInt =
-    row (codes "fzn_value_precede_chain_int") ([I] ∷ [I] ∷ [])
-    (λ a b. all_neighbours (λ s t. precedes s t b) a) NoResult
+    row ("fzn_value_precede_chain_int" ∷ []) ([I] ∷ [I] ∷ [])
+    λ a b. all_neighbours (λ s t. precedes s t b) a
 row_at builtin.FznSeqPrecedeChainInt =
-    row (codes "fzn_seq_precede_chain_int") ([I] ∷ []) (λ a. rises_by_one (pos 0) a) NoResult
-row_at builtin.FznSort =
-    row (codes "fzn_sort") ([I] ∷ [I] ∷ []) (λ a b. is_sorted_form a b) NoResult
-row_at builtin.FznMemberInt =
-    row (codes "fzn_member_int") ([I] ∷ I ∷ []) (λ a b. is_among b a) NoResult
+    row ("fzn_seq_precede_chain_int" ∷ []) ([I] ∷ []) λ a. rises_by_one (pos 0) a
+row_at builtin.FznSort = row ("fzn_sort" ∷ []) ([I] ∷ [I] ∷ []) λ a b. is_sorted_form a b
+row_at builtin.FznMemberInt = row ("fzn_member_int" ∷ []) ([I] ∷ I ∷ []) λ a b. is_among b a
 row_at builtin.FznMemberBool =
-    row (codes "fzn_member_bool") ([B] ∷ B ∷ []) (λ a b. list_any (λ x. x =ᴮ b) a) NoResult
+    row ("fzn_member_bool" ∷ []) ([B] ∷ B ∷ []) λ a b. list_any (λ x. x =ᴮ b) a
 row_at builtin.GecodeMaximumArgIntOffset =
-    row (codes "gecode_maximum_arg_int_offset") ([I] ∷ I ∷ I ∷ [])
-    (λ a b c. is_index_of_best (λ x m. int_le x m) a b c) c
+    row ("gecode_maximum_arg_int_offset" ∷ []) ([I] ∷ I ∷ I ∷ [])
+    λ a b c. is_index_of_best (λ x m. int_le x m) a b c
 row_at builtin.GecodeMinimumArgIntOffset =
-    row (codes "gecode_minimum_arg_int_offset") ([I] ∷ I ∷ I ∷ [])
-    (λ a b c. is_index_of_best (λ x m. int_le m x) a b c) c
-row_at builtin.FznKnapsack = knapsack (row (codes "fzn_knapsack") ([I] ∷ [I] ∷ [I] ∷ I ∷ I ∷ [])
-    (λ a b c d e. is_knapsack a b c d e) NoResult)
+    row ("gecode_minimum_arg_int_offset" ∷ []) ([I] ∷ I ∷ I ∷ [])
+    λ a b c. is_index_of_best (λ x m. int_le m x) a b c
+row_at builtin.FznKnapsack =
+    knapsack ("fzn_knapsack" ∷ []) ([I] ∷ [I] ∷ [I] ∷ I ∷ I ∷ []) λ a b c d e. is_knapsack a b c d e
 row_at builtin.FznSlidingSum =
-    row (codes "fzn_sliding_sum") (I ∷ I ∷ I ∷ [I] ∷ [])
-    (λ a b c d. slides_between a b c d) NoResult
+    row ("fzn_sliding_sum" ∷ []) (I ∷ I ∷ I ∷ [I] ∷ []) λ a b c d. slides_between a b c d
 row_at builtin.GecodeLinkSetToBooleans =
-    row (codes "gecode_link_set_to_booleans") (S ∷ [B] ∷ I ∷ [])
-    (λ a b c. is_flagged a b c) NoResult
+    row ("gecode_link_set_to_booleans" ∷ []) (S ∷ [B] ∷ I ∷ []) λ a b c. is_flagged a b c
 row_at builtin.GecodeIntSetChannel =
-    row (codes "gecode_int_set_channel") ([I] ∷ I ∷ [S] ∷ I ∷ [])
-    (λ a b c d. are_channelled a b c d) NoResult
-row_at builtin.FznDisjoint =
-    row (codes "fzn_disjoint") (S ∷ S ∷ []) (λ a b. are_disjoint a b) NoResult
+    row ("gecode_int_set_channel" ∷ []) ([I] ∷ I ∷ [S] ∷ I ∷ []) λ a b c d. are_channelled a b c d
+row_at builtin.FznDisjoint = row ("fzn_disjoint" ∷ []) (S ∷ S ∷ []) λ a b. are_disjoint a b
 row_at builtin.FznPartitionSet =
-    row (codes "fzn_partition_set") ([S] ∷ S ∷ []) (λ a b. is_partition a b) NoResult
-row_at builtin.GecodeArraySetPartition =
-    row (codes "gecode_array_set_partition") ([S] ∷ S ∷ []) (λ a b. is_partition a b) NoResult
+    row ("fzn_partition_set" ∷ "gecode_array_set_partition" ∷ []) ([S] ∷ S ∷ [])
+    λ a b. is_partition a b
 
 -- all of them, in the order of the table
 unfoldable pub builtins : List Builtin
@@ -410,37 +338,32 @@ builtins =
     builtin.IntEq ∷ builtin.IntNe ∷ builtin.IntLe ∷ builtin.IntLt ∷ builtin.IntLinEq ∷
     builtin.IntLinNe ∷ builtin.IntLinLe ∷ builtin.IntPlus ∷ builtin.IntTimes ∷ builtin.IntMin ∷
     builtin.IntMax ∷ builtin.IntAbs ∷ builtin.IntDiv ∷ builtin.IntMod ∷ builtin.ArrayIntElement ∷
-    builtin.ArrayVarIntElement ∷ builtin.ArrayIntMaximum ∷ builtin.ArrayIntMinimum ∷
-    builtin.FznAllDifferentInt ∷ builtin.GecodeAllDifferentInt ∷ builtin.GeasAllDifferentInt ∷
+    builtin.ArrayIntMaximum ∷ builtin.ArrayIntMinimum ∷ builtin.FznAllDifferentInt ∷
     builtin.BoolEq ∷ builtin.BoolLe ∷ builtin.BoolLt ∷ builtin.BoolNot ∷ builtin.BoolAnd ∷
     builtin.BoolOr ∷ builtin.BoolXor ∷ builtin.ArrayBoolAnd ∷ builtin.ArrayBoolOr ∷
-    builtin.ArrayBoolXor ∷ builtin.ArrayBoolElement ∷ builtin.ArrayVarBoolElement ∷
-    builtin.BoolClause ∷ builtin.Bool2Int ∷ builtin.BoolLinEq ∷ builtin.BoolLinLe ∷ builtin.SetIn ∷
-    builtin.SetEq ∷ builtin.SetNe ∷ builtin.SetSubset ∷ builtin.SetSuperset ∷ builtin.SetUnion ∷
-    builtin.SetIntersect ∷ builtin.SetDiff ∷ builtin.SetSymdiff ∷ builtin.SetCard ∷
-    builtin.ArraySetElement ∷ builtin.ArrayVarSetElement ∷ builtin.FznAlldifferentExcept0 ∷
-    builtin.GeasAllDifferentExcept0 ∷ builtin.FznAllEqualInt ∷ builtin.Count ∷ builtin.GecodeCount ∷
-    builtin.FznCountEq ∷ builtin.FznCountNeq ∷ builtin.FznCountGeq ∷ builtin.FznCountGt ∷
-    builtin.FznCountLeq ∷ builtin.FznCountLt ∷ builtin.FznAmong ∷ builtin.FznNvalue ∷
-    builtin.FznAtLeastInt ∷ builtin.FznAtMostInt ∷ builtin.FznExactlyInt ∷
-    builtin.FznGlobalCardinality ∷ builtin.FznGlobalCardinalityClosed ∷
-    builtin.FznGlobalCardinalityLowUp ∷ builtin.FznGlobalCardinalityLowUpClosed ∷
-    builtin.FznDistribute ∷ builtin.FznCumulative ∷ builtin.Cumulatives ∷ builtin.FznDisjunctive ∷
-    builtin.FznDisjunctiveStrict ∷ builtin.FznDiffn ∷ builtin.FznDiffnNonstrict ∷
-    builtin.GecodeNooverlap ∷ builtin.GecodeCircuit ∷ builtin.FzcheckCircuit ∷
-    builtin.FzcheckSubcircuit ∷ builtin.InverseOffsets ∷ builtin.GecodeInverseOffsets ∷
-    builtin.FznTableInt ∷ builtin.GecodeTableInt ∷ builtin.GeasTableInt ∷ builtin.FznTableBool ∷
-    builtin.FznRegular ∷ builtin.GecodeRegular ∷ builtin.FznBinPacking ∷
-    builtin.GecodeBinPackingLoad ∷ builtin.FzcheckBinPackingLoad ∷ builtin.FznLexLessInt ∷
-    builtin.GecodeArrayIntLt ∷ builtin.FznLexLesseqInt ∷ builtin.GecodeArrayIntLq ∷
-    builtin.FznLexLessBool ∷ builtin.GecodeArrayBoolLt ∷ builtin.FznLexLesseqBool ∷
-    builtin.GecodeArrayBoolLq ∷ builtin.FznIncreasingInt ∷ builtin.FznIncreasingBool ∷
-    builtin.FznDecreasingInt ∷ builtin.FznDecreasingBool ∷ builtin.FznStrictlyIncreasingInt ∷
-    builtin.FznValuePrecedeInt ∷ builtin.GecodePrecede ∷ builtin.FznValuePrecedeChainInt ∷
-    builtin.FznSeqPrecedeChainInt ∷ builtin.FznSort ∷ builtin.FznMemberInt ∷ builtin.FznMemberBool ∷
-    builtin.GecodeMaximumArgIntOffset ∷ builtin.GecodeMinimumArgIntOffset ∷ builtin.FznKnapsack ∷
-    builtin.FznSlidingSum ∷ builtin.GecodeLinkSetToBooleans ∷ builtin.GecodeIntSetChannel ∷
-    builtin.FznDisjoint ∷ builtin.FznPartitionSet ∷ builtin.GecodeArraySetPartition ∷ []
+    builtin.ArrayBoolXor ∷ builtin.ArrayBoolElement ∷ builtin.BoolClause ∷ builtin.Bool2Int ∷
+    builtin.BoolLinEq ∷ builtin.BoolLinLe ∷ builtin.SetIn ∷ builtin.SetEq ∷ builtin.SetNe ∷
+    builtin.SetSubset ∷ builtin.SetSuperset ∷ builtin.SetUnion ∷ builtin.SetIntersect ∷
+    builtin.SetDiff ∷ builtin.SetSymdiff ∷ builtin.SetCard ∷ builtin.ArraySetElement ∷
+    builtin.FznAlldifferentExcept0 ∷ builtin.FznAllEqualInt ∷ builtin.FznCountEq ∷
+    builtin.FznCountNeq ∷ builtin.FznCountGeq ∷ builtin.FznCountGt ∷ builtin.FznCountLeq ∷
+    builtin.FznCountLt ∷ builtin.FznAmong ∷ builtin.FznNvalue ∷ builtin.FznAtLeastInt ∷
+    builtin.FznAtMostInt ∷ builtin.FznExactlyInt ∷ builtin.FznGlobalCardinality ∷
+    builtin.FznGlobalCardinalityClosed ∷ builtin.FznGlobalCardinalityLowUp ∷
+    builtin.FznGlobalCardinalityLowUpClosed ∷ builtin.FznDistribute ∷ builtin.FznCumulative ∷
+    builtin.FznDisjunctive ∷ builtin.FznDisjunctiveStrict ∷ builtin.FznDiffn ∷
+    builtin.FznDiffnNonstrict ∷ builtin.GecodeNooverlap ∷ builtin.GecodeCircuit ∷
+    builtin.FzcheckSubcircuit ∷ builtin.InverseOffsets ∷ builtin.FznTableInt ∷
+    builtin.FznTableBool ∷ builtin.FznRegular ∷ builtin.FznBinPacking ∷
+    builtin.GecodeBinPackingLoad ∷ builtin.FznLexLessInt ∷ builtin.FznLexLesseqInt ∷
+    builtin.FznLexLessBool ∷ builtin.FznLexLesseqBool ∷ builtin.FznIncreasingInt ∷
+    builtin.FznIncreasingBool ∷ builtin.FznDecreasingInt ∷ builtin.FznDecreasingBool ∷
+    builtin.FznStrictlyIncreasingInt ∷ builtin.FznValuePrecedeInt ∷ builtin.GecodePrecede ∷
+    builtin.FznValuePrecedeChainInt ∷ builtin.FznSeqPrecedeChainInt ∷ builtin.FznSort ∷
+    builtin.FznMemberInt ∷ builtin.FznMemberBool ∷ builtin.GecodeMaximumArgIntOffset ∷
+    builtin.GecodeMinimumArgIntOffset ∷ builtin.FznKnapsack ∷ builtin.FznSlidingSum ∷
+    builtin.GecodeLinkSetToBooleans ∷ builtin.GecodeIntSetChannel ∷ builtin.FznDisjoint ∷
+    builtin.FznPartitionSet ∷ []
 
 abbrev pub base_rows : List Row
 base_rows = map row_at builtins
@@ -456,25 +379,22 @@ abbrev pub with_truth : (Bool → Bool → Bool) → (ss : List Shape) → Test 
 with_truth says [] t = λ r. says r t
 with_truth says (s ∷ ss) t = λ x. with_truth says ss (t x)
 
-abbrev pub form_of : List ℕ → (Bool → Bool → Bool) → Result → Row → Row
-form_of suffix says result r = record {
-  name = r.name ++ suffix;
+abbrev pub form_of : Form → List ℕ → (Bool → Bool → Bool) → Row → Row
+form_of form suffix says r = record r {
+  names = map (λ n. n ++ suffix) r.names;
   shapes = with_bool r.shapes;
-  together = r.together;
-  matrix = r.matrix;
-  sums = r.sums;
   holds = with_truth says r.shapes r.holds;
-  result = result;
   has_forms = false;
+  form = form;
 }
 
 -- reified: the Boolean is true exactly where the row holds
 abbrev pub reified : Row → Row
-reified r = form_of (codes "_reif") ◌=ᴮ◌ (Places (length r.shapes ∷ [])) r
+reified r = form_of Reified (codes "_reif") ◌=ᴮ◌ r
 
 -- half-reified: where the Boolean is true, the row holds
 abbrev pub implied : Row → Row
-implied r = form_of (codes "_imp") (λ t holds. not t || holds) NoResult r
+implied r = form_of Implied (codes "_imp") (λ t holds. not t || holds) r
 
 abbrev pub rows_with_forms : List Row
 rows_with_forms = filter (λ r. r.has_forms) base_rows

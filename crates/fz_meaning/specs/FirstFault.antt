@@ -7,11 +7,12 @@ use Rattle.fz_meaning.specs.declared.kind.Kind.{Kind}
 use Rattle.fz_meaning.specs.declared.kind.Kind.TheVariants.{Int as IntKind}
 use Rattle.fz_meaning.specs.declared.error.ModelError.{ModelError}
 use Rattle.fz_meaning.specs.declared.error.ModelError.TheVariants as errors
-use Rattle.fz_meaning.specs.Values.{kind_of, same_kind}
+use Rattle.fz_meaning.specs.Relations.{kind_of, same_kind}
 use Rattle.fz_meaning.specs.Located.{Basic, Decl, Constraint, Goal, LocatedTree}
 use Rattle.fz_meaning.specs.Located.Basic.{Lit, Named}
 use Rattle.fz_meaning.specs.Meaning.{first_some}
-use Rattle.fz_meaning.specs.Names.{FaultKind, HasNoFault, IsFirstFault, IsInReadingOrder, literal_value, kind_of_base, declares, declaration, parts, parts_of_arguments, goal_parts, differs_in_length, is_scalar_of}
+use Rattle.fz_meaning.specs.Names.{FaultKind, HasNoFault, literal_value, kind_of_base, declares, declaration, parts, parts_of_arguments, goal_parts, differs_in_length, is_scalar_of}
+use Rattle.fz_meaning.specs.Leftmost.{IsFirstFault, IsInReadingOrder}
 use Rattle.fz_meaning.specs.Names.FaultKind.{DuplicateName, UnknownName, WrongKind, WrongLength}
 
 -- a fault and the byte range at which it is told

@@ -1,8 +1,9 @@
 -- What a constraint's name means: a row of the table as the code names it.
-use Rattle.std.specs.Prelude.{◌==◌, ⊤, ℕ, List, [], ◌∷◌, length, filter, Option, codes, bytes_eq, find}
-use Rattle.fz_meaning.specs.Builtins.{Row, Shape as Kinds, Result, builtins, implied, reified, row_at, rows}
+use Rattle.std.specs.Prelude.{◌==◌, ⊤, ℕ, List, [], ◌∷◌, length, map, filter, flat_map, Option, codes, find}
+use Rattle.fz_meaning.specs.Builtins.{Row, Shape as Kinds, builtins, implied, is_named, reified, row_at, rows}
 use Rattle.fz_meaning.specs.Builtins.Shape.{ScalarOf, ArrayOf}
-use Rattle.fz_meaning.specs.Builtins.Result.{NoResult, Places, UnitTerm}
+use Rattle.fz_meaning.specs.Results.{Result}
+use Rattle.fz_meaning.specs.Results.Result.{NoResult, Places, UnitTerm}
 use Rattle.fz_meaning.specs.declared.builtin.Builtin.{Builtin}
 use Rattle.fz_meaning.specs.declared.known.Form.{Form}
 use Rattle.fz_meaning.specs.declared.known.Form.TheVariants.{Base, Reified, Implied}
@@ -14,14 +15,14 @@ use Rattle.fz_meaning.specs.declared.row.Shape.TheVariants.{Scalar, Array}
 
 -- the row of a name
 unfoldable pub row_named : List ℕ → Option Row
-row_named x = find (λ r. bytes_eq r.name x) rows
+row_named x = find (is_named x) rows
 
--- the name of a base row, and those whose names are so long
-abbrev pub name_of : Builtin → List ℕ
-name_of b = (row_at b).name
+-- the names of base rows, and those that are so long, each with its builtin
+abbrev pub names_of : Builtin → List (List ℕ × Builtin)
+names_of b = map (λ x. (x, b)) (row_at b).names
 
-abbrev pub named_so_long : ℕ → List Builtin
-named_so_long n = filter (λ b. length (name_of b) == n) builtins
+abbrev pub named_so_long : ℕ → List (List ℕ × Builtin)
+named_so_long n = filter (λ e. length e.0 == n) (flat_map names_of builtins)
 
 -- a form of a base row, and its suffix
 abbrev pub form_at : Form → Row → Row
@@ -48,8 +49,8 @@ abbrev pub shape_of : Shape → Kinds
 shape_of (Scalar k) = ScalarOf k
 shape_of (Array k) = ArrayOf k
 
-abbrev pub result_of : Filled → Result
-result_of Nothing = NoResult
-result_of (At n) = Places (n ∷ [])
-result_of (Either m n) = Places (m ∷ n ∷ [])
-result_of OneTerm = UnitTerm
+abbrev pub as_result : Filled → Result
+as_result Nothing = NoResult
+as_result (At n) = Places (n ∷ [])
+as_result (Either m n) = Places (m ∷ n ∷ [])
+as_result OneTerm = UnitTerm

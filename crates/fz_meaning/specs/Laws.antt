@@ -4,13 +4,14 @@ use Rattle.std.specs.Prelude.{◌≡◌, ◌↔◌, ℕ, None, Some}
 use Rattle.std.specs.List.{slice_get}
 use Rattle.fz_base.specs.declared.value.Value.{Value}
 use Rattle.fz_meaning.specs.declared.state.State.TheVariants.{Unknown}
-use Rattle.fz_meaning.specs.Values.{kind_of}
+use Rattle.fz_meaning.specs.Relations.{kind_of}
 use Rattle.fz_syntax.specs.View.{bare}
 use Rattle.fz_syntax.specs.declared.Ast.{Ast}
 use Rattle.fz_meaning.specs.View.{located}
 use Rattle.fz_meaning.specs.Located.{LocatedTree, Decl, bare_of}
 use Rattle.fz_meaning.specs.Names.{HasNoFault, number_of, scalar_variables}
-use Rattle.fz_meaning.specs.Meaning.{Model, Partial, Point, Posted, points, give, state, row_of, HoldsUnder}
+use Rattle.fz_meaning.specs.Meaning.{Model, Partial, Point, Posted, points, give, row_of, HoldsUnder}
+use Rattle.fz_meaning.specs.States.{state}
 use Rattle.fz_meaning.specs.Meaning.Point.{ConstraintPoint}
 use Rattle.fz_meaning.specs.Steps.{Gives}
 

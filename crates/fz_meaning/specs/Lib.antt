@@ -1,8 +1,7 @@
-pub mod Values
 pub mod Located
 pub mod Relations
 pub mod Builtins
-pub mod Globals
+pub mod Results
 pub mod Meaning
 pub mod Names
 pub mod View
@@ -12,4 +11,6 @@ pub mod Known
 pub mod TableData
 pub mod FirstFault
 pub mod ReadingOrder
+pub mod States
+pub mod Leftmost
 pub use Rattle.fz_syntax.specs as of_syntax

@@ -1,24 +1,21 @@
 -- What a model means, once its names are numbered: assignments, the value of an expression, the
--- domains, the points, solutions, and the state of a point (MiniZinc Handbook, FlatZinc, "variable
--- declarations" and "constraint items"; the points, their order and the states are this project's
--- profile).
-use Rattle.std.specs.Prelude.{◌≡◌, ℕ, zero, suc, ◌%◌, nat_eq, ℤ, pos, ◌*ℤ◌, Bool, true, false, not, cond, ◌&&◌, List, [], ◌∷◌, ◌++◌, length, map, ◌==◌, int_le, Option, Some, None, bytes_eq, option_map, option_and_then, slice_get, slice_set, IsTrue, IsSomeAnd, IfSome, ⊤, ◌⊎◌, flat_map, find}
-use Rattle.std.specs.List.{list_all, list_any, AllByRecursion}
+-- domains, the points, solutions and the objective (MiniZinc Handbook, FlatZinc, "variable
+-- declarations" and "constraint items"; the points and their order are this project's profile).
+use Rattle.std.specs.Prelude.{◌≡◌, ℕ, zero, suc, ◌%◌, nat_eq, ℤ, pos, ◌*ℤ◌, Bool, true, false, cond, ◌&&◌, List, [], ◌∷◌, ◌++◌, length, map, ◌==◌, int_le, Option, Some, None, bytes_eq, option_map, option_and_then, slice_get, slice_set, IsTrue, IsSomeAnd, IfSome, ⊤, flat_map, find}
+use Rattle.std.specs.List.{list_all, AllByRecursion}
 use Rattle.std.specs.Option.{option_map_or, option_flatten, option_or}
 use Rattle.std.specs.FinSet as sets
 use Rattle.fz_base.specs.declared.value.Value.{Value}
 use Rattle.fz_base.specs.declared.value.Value.TheVariants.{Int, Bool as Truth, Set}
 use Rattle.fz_meaning.specs.declared.kind.Kind.{Kind}
-use Rattle.fz_meaning.specs.declared.state.State.{State}
 use Rattle.fz_meaning.specs.declared.term.Term.{Term}
 use Rattle.fz_meaning.specs.declared.term.Term.TheVariants.{Var, Fixed}
 use Rattle.fz_meaning.specs.declared.term.Domain.{Domain}
 use Rattle.fz_meaning.specs.declared.term.Domain.TheVariants.{All, Within, Among}
-use Rattle.fz_meaning.specs.declared.state.State.TheVariants.{Holds, Fails, NoValue, Unknown, TooLarge}
 use Rattle.fz_meaning.specs.declared.row.Matrix.{Matrix}
 use Rattle.fz_meaning.specs.declared.row.Matrix.TheVariants.{Absent, RowsLike, RowsBy}
-use Rattle.fz_meaning.specs.Values.{◌=ℤ◌, kind_of, same_kind, same_value}
-use Rattle.fz_meaning.specs.Builtins.{Shape, Row, rows, ArgValue, passes, leaves_128}
+use Rattle.fz_meaning.specs.Relations.{◌=ℤ◌, kind_of, same_kind}
+use Rattle.fz_meaning.specs.Builtins.{Shape, Row, rows, is_named, ArgValue, passes}
 use Rattle.fz_meaning.specs.Builtins.Shape.{ScalarOf, ArrayOf}
 use Rattle.fz_meaning.specs.Builtins.ArgValue.{OneValue, ManyValues}
 
@@ -223,10 +220,6 @@ have_shapes [] [] = true
 have_shapes (s ∷ ss) (x ∷ xs) = has_shape s x && have_shapes ss xs
 have_shapes _ _ = false
 
--- the terms of the argument at an index
-abbrev pub terms_at_argument : List Argument → ℕ → List Term
-terms_at_argument xs i = option_map_or terms_in (slice_get xs i) []
-
 abbrev pub length_at : List Argument → ℕ → ℕ
 length_at xs i = option_map_or (λ x. length (terms_in x)) (slice_get xs i) 0
 
@@ -267,7 +260,7 @@ fits r xs =
 
 -- the row that a constraint fits; a constraint is known where there is one
 abbrev pub row_of : Posted → Option Row
-row_of p = find (λ r. bytes_eq r.name p.name && fits r p.arguments) rows
+row_of p = find (λ r. is_named p.name r && fits r p.arguments) rows
 
 -- the row's relation holds of the values
 abbrev pub row_holds : Row → List ArgValue → Bool
@@ -275,27 +268,6 @@ row_holds r vs = passes r.shapes r.holds vs
 
 abbrev pub number_at : Partial → Term → Option ℤ
 number_at K t = option_and_then as_int (value K t)
-
-abbrev pub product_before : Option ℤ → Option ℤ → List ℤ → List ℤ
-product_before (Some a) (Some b) ns = (a *ℤ b) ∷ ns
-product_before _ _ ns = ns
-
--- a[i] * b[i], from the left, at each index where both have values
-abbrev pub known_products : Partial → List Term → List Term → List ℤ
-known_products K (a ∷ as') (b ∷ bs) =
-    product_before (number_at K a) (number_at K b) (known_products K as' bs)
-known_products K _ _ = []
-
--- A partial sum of the products of two array arguments, added from the left over the indices at
--- which both elements have values, leaves signed 128 bits. Where the whole constraint has values
--- these are all indices, and where one element has none they are the others.
-abbrev pub products_leave : Partial → List Argument → ℕ × ℕ → Bool
-products_leave K xs at =
-    leaves_128 (known_products K (terms_at_argument xs at.0) (terms_at_argument xs at.1))
-
--- one of the row's sums leaves 128 bits
-abbrev pub sums_leave : Partial → List Argument → Row → Bool
-sums_leave K xs r = list_any (products_leave K xs) r.sums
 
 -- ---- points
 
@@ -347,63 +319,11 @@ HoldsUnder K (ConstraintPoint k p) =
     IsSomeAnd (row_of p) (λ r. IsSomeAnd (argument_values K p.arguments)
     (λ vs. IsTrue (row_holds r vs)))
 
--- the same, where it is asked of known constraints alone
-abbrev pub HoldsIfKnown : Partial → Point → Type 0
-HoldsIfKnown K (ConstraintPoint k p) = (row_of p ≡ None) ⊎ HoldsUnder K (ConstraintPoint k p)
-HoldsIfKnown K (DomainPoint x n) = HoldsUnder K (DomainPoint x n)
-HoldsIfKnown K (DefinitionPoint x n e) = HoldsUnder K (DefinitionPoint x n e)
-HoldsIfKnown K (ArrayPoint name d ts) = HoldsUnder K (ArrayPoint name d ts)
-
 -- an assignment inside all domains, with equal sides of every definition, and at which every
 -- constraint is known and holds
 pub record IsSolution (m : Model) (A : Assignment) : Type 0 where
   pub assignment : IsAssignment m A
   pub each_holds : AllByRecursion (HoldsUnder (whole A)) (points m)
-
--- the same with every known constraint in place of every constraint
-pub record IsKnownSolution (m : Model) (A : Assignment) : Type 0 where
-  pub assignment : IsAssignment m A
-  pub each_holds : AllByRecursion (HoldsIfKnown (whole A)) (points m)
-
--- ---- the state of a point under a partial assignment
-
-abbrev pub judged : Bool → State
-judged true = Holds
-judged false = Fails
-
--- judged by its value, where there is one
-abbrev pub judged_by : {A : Type 0} → (A → Bool) → Option A → State
-judged_by t None = NoValue
-judged_by t (Some v) = judged (t v)
-
-abbrev pub both : {A : Type 0} → Option A → Option A → Option (A × A)
-both (Some v) (Some w) = Some (v, w)
-both _ _ = None
-
--- a scalar with a value that lies outside
-abbrev pub is_outside : Partial → Domain → Term → Bool
-is_outside K d t = option_map_or (λ v. not (inside d v)) (value K t) false
-
--- Where an argument has no value, the constraint has none; then it is too large where a sum leaves
--- 128 bits; else it holds or fails.
-abbrev pub state_of_values : Partial → List Argument → Row → Option (List ArgValue) → State
-state_of_values K xs r None = NoValue
-state_of_values K xs r (Some vs) = cond (sums_leave K xs r) TooLarge (judged (row_holds r vs))
-
-abbrev pub state_of_row : Partial → List Argument → Option Row → State
-state_of_row K xs None = Unknown
-state_of_row K xs (Some r) = state_of_values K xs r (argument_values K xs)
-
--- A domain or a definition holds or fails where there are values, and else has none; an array's
--- domain fails as soon as one element lies outside; a constraint is unknown where it fits no row,
--- whatever its values are.
-abbrev pub state : Partial → Point → State
-state K (DomainPoint x n) = judged_by (inside x.domain) (value_at K n)
-state K (DefinitionPoint x n e) =
-    judged_by (λ (v, w). same_value v w) (both (value_at K n) (value K e))
-state K (ArrayPoint name d ts) =
-    cond (list_any (is_outside K d) ts) Fails (judged_by (λ vs. true) (values K ts))
-state K (ConstraintPoint k p) = state_of_row K p.arguments (row_of p)
 
 -- ---- the objective
 
@@ -415,18 +335,3 @@ objective_of (Maximize t) K = number_at K t
 
 abbrev pub objective : Model → Partial → Option ℤ
 objective m K = objective_of m.aim K
-
--- ---- what a caller is shown of a model
-
--- how a point is reported: by the declared name, or by the constraint's number and the predicate's
--- name
-pub data PointName : Type 0 where
-  DomainOf : List ℕ → PointName
-  DefinitionOf : List ℕ → PointName
-  ConstraintOf : ℕ → List ℕ → PointName
-
-abbrev pub shown_point : Point → PointName
-shown_point (DomainPoint x n) = DomainOf x.name
-shown_point (DefinitionPoint x n e) = DefinitionOf x.name
-shown_point (ArrayPoint name d ts) = DomainOf name
-shown_point (ConstraintPoint k p) = ConstraintOf k p.name

@@ -1,7 +1,7 @@
 -- The names of a model: the faults of a tree, and the model that a tree without faults is (MiniZinc
 -- Handbook, FlatZinc, "Parameter declaration items" and "Variable declaration items"; which of
 -- several faults is told is this project's profile).
-use Rattle.std.specs.Prelude.{◌≡◌, ℕ, ◌≤◌, ◌<◌, pos, Bool, false, not, cond, ◌&&◌, List, [], ◌∷◌, ◌++◌, length, map, ◌==◌, Option, Some, None, bytes_eq, IsTrue, IsFalse, IsSomeAnd, ⊤, ◌⊎◌, flat_map, find, codes, is_some}
+use Rattle.std.specs.Prelude.{◌≡◌, ℕ, pos, Bool, false, not, cond, ◌&&◌, List, [], ◌∷◌, ◌++◌, length, map, ◌==◌, Option, Some, None, bytes_eq, IsTrue, IsFalse, IsSomeAnd, ◌⊎◌, flat_map, find, codes, is_some}
 use Rattle.std.specs.List.{list_any, filter, position_or_len}
 use Rattle.std.specs.Option.{option_map_or}
 use Rattle.fz_base.specs.Sets.{numbers_between}
@@ -10,7 +10,7 @@ use Rattle.fz_base.specs.declared.value.Value.{Value}
 use Rattle.fz_base.specs.declared.value.Value.TheVariants.{Int, Bool as Truth, Set}
 use Rattle.fz_meaning.specs.declared.kind.Kind.{Kind}
 use Rattle.fz_meaning.specs.declared.kind.Kind.TheVariants.{Int as IntKind, Bool as BoolKind, Set as SetKind}
-use Rattle.fz_meaning.specs.Values.{kind_of, same_kind, set_of}
+use Rattle.fz_meaning.specs.Relations.{kind_of, same_kind, set_of}
 use Rattle.fz_syntax.specs.Tree as tree
 use Rattle.fz_syntax.specs.Tree.Literal.{Number, Truth as TruthWord, Range, Braces}
 use Rattle.fz_syntax.specs.Tree.Note.{Called}
@@ -157,44 +157,6 @@ HasFault t WrongLength at = Some_of (λ d. IsTrue (differs_in_length d) × (at �
 
 abbrev pub HasNoFault : LocatedTree → Type 0
 HasNoFault t = (k : FaultKind) (at : Span) → HasFault t k at → ⊥
-
--- of two faults at one byte range, that a name is declared twice is told
-abbrev pub rank : FaultKind → ℕ
-rank DuplicateName = 0
-rank UnknownName = 1
-rank WrongKind = 2
-rank WrongLength = 3
-
-abbrev pub NotAfter : FaultKind → Span → FaultKind → Span → Type 0
-NotAfter k at j there = (at.start < there.start) ⊎ ((at.start ≡ there.start) × (rank k ≤ rank j))
-
--- the leftmost fault
-pub record IsFirstFault (t : LocatedTree) (k : FaultKind) (at : Span) : Type 0 where
-  pub is_fault : HasFault t k at
-  pub first : (j : FaultKind) (there : Span) → HasFault t j there → NotAfter k at j there
-
--- ---- reading order
-
-abbrev pub span_of : Basic → Span
-span_of (Lit l) = l.span
-span_of (Named x) = x.span
-
--- the byte ranges at which faults are told, in reading order: of each declaration its name and the
--- parts of its value, of each constraint the parts of its arguments, and the objective
-abbrev pub fault_places : LocatedTree → List Span
-fault_places t =
-    flat_map (λ d. d.name.span ∷ map span_of (parts d.value)) t.decls
-    ++ flat_map (λ c. map span_of (parts_of_arguments c.args)) t.constraints
-    ++ map span_of (goal_parts t.solve.goal)
-
--- each begins after the one before it
-abbrev pub RiseFrom : ℕ → List Span → Type 0
-RiseFrom n [] = ⊤
-RiseFrom n (s ∷ ss) = (n ≤ s.start) × (s.start < s.end) × RiseFrom s.end ss
-
--- the byte ranges of the tree are those of a source that is read from left to right
-abbrev pub IsInReadingOrder : LocatedTree → Type 0
-IsInReadingOrder t = RiseFrom 0 (fault_places t)
 
 -- ---- what a name stands for
 --

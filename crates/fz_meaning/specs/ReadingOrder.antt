@@ -4,7 +4,7 @@ use Rattle.std.specs.Prelude.{ℕ, List}
 use Rattle.fz_syntax.specs.Spots.{Stand, spots}
 use Rattle.fz_syntax.specs.declared.Ast.{Ast}
 use Rattle.fz_meaning.specs.View.{located}
-use Rattle.fz_meaning.specs.Names.{IsInReadingOrder}
+use Rattle.fz_meaning.specs.Leftmost.{IsInReadingOrder}
 
 -- A tree whose names and literals follow each other in a source is in reading order.
 abbrev pub SourcesAreInReadingOrder : Type 0

@@ -7,10 +7,11 @@ use Rattle.fz_base.specs.declared.value.Value.{Value}
 use Rattle.fz_base.specs.declared.value.Value.TheVariants.{Int, Bool as Truth, Set}
 use Rattle.fz_meaning.specs.declared.kind.Kind.{Kind}
 use Rattle.fz_meaning.specs.declared.kind.Kind.TheVariants.{Int as IntKind}
-use Rattle.fz_meaning.specs.Values.{kind_of}
-use Rattle.fz_meaning.specs.Builtins.{Result}
-use Rattle.fz_meaning.specs.Builtins.Result.{NoResult, Places, UnitTerm}
-use Rattle.fz_meaning.specs.Meaning.{Argument, Model, Point, Partial, variables_of, value, give, admits, terms_at_argument, terms_in, row_of, sums_leave, HoldsUnder}
+use Rattle.fz_meaning.specs.Relations.{kind_of}
+use Rattle.fz_meaning.specs.Results.{Result, result_of}
+use Rattle.fz_meaning.specs.Results.Result.{NoResult, Places, UnitTerm}
+use Rattle.fz_meaning.specs.Meaning.{Argument, Model, Point, Partial, variables_of, value, give, admits, terms_in, row_of, HoldsUnder}
+use Rattle.fz_meaning.specs.States.{terms_at_argument, sums_leave}
 use Rattle.fz_meaning.specs.declared.term.Term.{Term}
 use Rattle.fz_meaning.specs.declared.term.Domain.{Domain}
 use Rattle.fz_meaning.specs.declared.term.Term.TheVariants.{Var}
@@ -58,7 +59,7 @@ IsTarget K (DomainPoint x n) y = (n ≡ y) × (x.kind ≡ IntKind) × HasOneNumb
 IsTarget K (DefinitionPoint x n e) y = (n ≡ y) ⊎ (e ≡ Var y)
 IsTarget K (ArrayPoint name d ts) y = ⊥
 IsTarget K (ConstraintPoint k p) y =
-    (p.target ≡ Some y) × IsSomeAnd (row_of p) (λ r. IsResult K p.arguments y r.result)
+    (p.target ≡ Some y) × IsSomeAnd (row_of p) (λ r. IsResult K p.arguments y (result_of r))
 
 -- the kind of the variable with this number
 abbrev pub kind_at : Model → ℕ → Option Kind

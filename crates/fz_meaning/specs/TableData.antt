@@ -6,7 +6,8 @@ use Rattle.fz_meaning.specs.declared.row.Lengths.{Lengths}
 use Rattle.fz_meaning.specs.declared.row.Lengths.TheVariants.{Free, Equal, Summed, Packed, Shaped}
 use Rattle.fz_meaning.specs.declared.row.Matrix.{Matrix}
 use Rattle.fz_meaning.specs.declared.row.Matrix.TheVariants.{Absent}
-use Rattle.fz_meaning.specs.Known.{result_of, shape_of}
+use Rattle.fz_meaning.specs.Known.{as_result, shape_of}
+use Rattle.fz_meaning.specs.Results.{result_of}
 
 -- the arrays of equal lengths, those whose products are added in 128 bits, and the matrix
 abbrev pub together_in : Lengths → List ℕ
@@ -27,10 +28,10 @@ abbrev pub matrix_in : Lengths → Matrix
 matrix_in (Shaped matrix) = matrix
 matrix_in _ = Absent
 
--- the kinds with the Boolean of the reified forms last, and the row's other fields
+-- the kinds with the Boolean of the reified forms last, the result, and the row's other fields
 pub record IsData (kept : BaseRow) (r : Row) : Type 0 where
   pub shapes : map shape_of kept.0.now ≡ with_bool r.shapes
-  pub filled : result_of kept.1 ≡ r.result
+  pub filled : as_result kept.1 ≡ result_of r
   pub together : together_in kept.2 ≡ r.together
   pub sums : sums_in kept.2 ≡ r.sums
   pub matrix : matrix_in kept.2 ≡ r.matrix

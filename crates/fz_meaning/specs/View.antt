@@ -21,7 +21,8 @@ use Rattle.fz_meaning.specs.Located.{Name, Literal, Basic, Expr, Decl, Constrain
 use Rattle.fz_meaning.specs.Located.Basic.{Lit, Named}
 use Rattle.fz_meaning.specs.Located.Expr.{One, Several}
 use Rattle.fz_meaning.specs.Located.Goal.{Satisfy, Minimize, Maximize}
-use Rattle.fz_meaning.specs.Names.{HasFault, IsFirstFault, DuplicateName, UnknownName, WrongKind, WrongLength}
+use Rattle.fz_meaning.specs.Names.{HasFault, DuplicateName, UnknownName, WrongKind, WrongLength}
+use Rattle.fz_meaning.specs.Leftmost.{IsFirstFault}
 
 -- ---- trees
 

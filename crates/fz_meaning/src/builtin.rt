@@ -1,8 +1,8 @@
 //! The builtins by name.
 
-ghost use Rattle.std.specs.Prelude.{◌≡◌, List, bytes_eq, find, map, ℕ};
-ghost use Rattle.fz_meaning.specs.Builtins.{builtins};
-ghost use Rattle.fz_meaning.specs.Known.{name_of, named_so_long};
+ghost use Rattle.std.specs.Prelude.{◌≡◌, List, find, map, ℕ};
+ghost use Rattle.fz_meaning.specs.Builtins.{builtins, is_named, row_at};
+ghost use Rattle.fz_meaning.specs.Known.{named_so_long};
 
 use crate::text::same_text;
 
@@ -24,12 +24,9 @@ pub enum Builtin {
     IntDiv,
     IntMod,
     ArrayIntElement,
-    ArrayVarIntElement,
     ArrayIntMaximum,
     ArrayIntMinimum,
     FznAllDifferentInt,
-    GecodeAllDifferentInt,
-    GeasAllDifferentInt,
     BoolEq,
     BoolLe,
     BoolLt,
@@ -41,7 +38,6 @@ pub enum Builtin {
     ArrayBoolOr,
     ArrayBoolXor,
     ArrayBoolElement,
-    ArrayVarBoolElement,
     BoolClause,
     Bool2Int,
     BoolLinEq,
@@ -57,12 +53,8 @@ pub enum Builtin {
     SetSymdiff,
     SetCard,
     ArraySetElement,
-    ArrayVarSetElement,
     FznAlldifferentExcept0,
-    GeasAllDifferentExcept0,
     FznAllEqualInt,
-    Count,
-    GecodeCount,
     FznCountEq,
     FznCountNeq,
     FznCountGeq,
@@ -80,34 +72,23 @@ pub enum Builtin {
     FznGlobalCardinalityLowUpClosed,
     FznDistribute,
     FznCumulative,
-    Cumulatives,
     FznDisjunctive,
     FznDisjunctiveStrict,
     FznDiffn,
     FznDiffnNonstrict,
     GecodeNooverlap,
     GecodeCircuit,
-    FzcheckCircuit,
     FzcheckSubcircuit,
     InverseOffsets,
-    GecodeInverseOffsets,
     FznTableInt,
-    GecodeTableInt,
-    GeasTableInt,
     FznTableBool,
     FznRegular,
-    GecodeRegular,
     FznBinPacking,
     GecodeBinPackingLoad,
-    FzcheckBinPackingLoad,
     FznLexLessInt,
-    GecodeArrayIntLt,
     FznLexLesseqInt,
-    GecodeArrayIntLq,
     FznLexLessBool,
-    GecodeArrayBoolLt,
     FznLexLesseqBool,
-    GecodeArrayBoolLq,
     FznIncreasingInt,
     FznIncreasingBool,
     FznDecreasingInt,
@@ -128,18 +109,17 @@ pub enum Builtin {
     GecodeIntSetChannel,
     FznDisjoint,
     FznPartitionSet,
-    GecodeArraySetPartition,
 }
 
 impl Builtin {
-    // The builtins whose names have this length, each with its name.
+    // The names of this length, each with its builtin.
     #[tactic(auto, unfolding(crate::specs::Builtins::builtins, crate::specs::Builtins::row_at))]
     fn named_so_long(length: usize) -> &'static [(&'static [u8], Builtin)]
         ensures { map {B = List ℕ × Builtin} (λ n. (n.0.now, n.1)) result.now
-            ≡ map (λ b. (name_of b, b)) (named_so_long length) }
+            ≡ named_so_long length }
     {
         match length {
-            5 => &[(b"count", Builtin::Count)],
+            5 => &[(b"count", Builtin::FznCountEq)],
             6 => &[
                 (b"int_eq", Builtin::IntEq),
                 (b"int_ne", Builtin::IntNe),
@@ -188,13 +168,13 @@ impl Builtin {
                 (b"bool_lin_eq", Builtin::BoolLinEq),
                 (b"bool_lin_le", Builtin::BoolLinLe),
                 (b"set_symdiff", Builtin::SetSymdiff),
-                (b"cumulatives", Builtin::Cumulatives),
+                (b"cumulatives", Builtin::FznCumulative),
                 (b"fzn_regular", Builtin::FznRegular),
             ],
             12 => &[
                 (b"set_superset", Builtin::SetSuperset),
-                (b"gecode_count", Builtin::GecodeCount),
                 (b"fzn_count_eq", Builtin::FznCountEq),
+                (b"gecode_count", Builtin::FznCountEq),
                 (b"fzn_count_gt", Builtin::FznCountGt),
                 (b"fzn_count_lt", Builtin::FznCountLt),
                 (b"fzn_knapsack", Builtin::FznKnapsack),
@@ -214,9 +194,9 @@ impl Builtin {
                 (b"fzn_distribute", Builtin::FznDistribute),
                 (b"fzn_cumulative", Builtin::FznCumulative),
                 (b"gecode_circuit", Builtin::GecodeCircuit),
-                (b"geas_table_int", Builtin::GeasTableInt),
+                (b"geas_table_int", Builtin::FznTableInt),
                 (b"fzn_table_bool", Builtin::FznTableBool),
-                (b"gecode_regular", Builtin::GecodeRegular),
+                (b"gecode_regular", Builtin::FznRegular),
                 (b"gecode_precede", Builtin::GecodePrecede),
                 (b"fzn_member_int", Builtin::FznMemberInt),
             ],
@@ -224,7 +204,7 @@ impl Builtin {
                 (b"fzn_at_most_int", Builtin::FznAtMostInt),
                 (b"fzn_exactly_int", Builtin::FznExactlyInt),
                 (b"fzn_disjunctive", Builtin::FznDisjunctive),
-                (b"fzcheck_circuit", Builtin::FzcheckCircuit),
+                (b"fzcheck_circuit", Builtin::GecodeCircuit),
                 (b"inverse_offsets", Builtin::InverseOffsets),
                 (b"fzn_bin_packing", Builtin::FznBinPacking),
                 (b"fzn_member_bool", Builtin::FznMemberBool),
@@ -233,7 +213,7 @@ impl Builtin {
             16 => &[
                 (b"fzn_at_least_int", Builtin::FznAtLeastInt),
                 (b"gecode_nooverlap", Builtin::GecodeNooverlap),
-                (b"gecode_table_int", Builtin::GecodeTableInt),
+                (b"gecode_table_int", Builtin::FznTableInt),
                 (b"fzn_lex_less_int", Builtin::FznLexLessInt),
             ],
             17 => &[
@@ -254,34 +234,34 @@ impl Builtin {
             ],
             19 => &[
                 (b"fzn_diffn_nonstrict", Builtin::FznDiffnNonstrict),
-                (b"gecode_array_int_lt", Builtin::GecodeArrayIntLt),
-                (b"gecode_array_int_lq", Builtin::GecodeArrayIntLq),
+                (b"gecode_array_int_lt", Builtin::FznLexLessInt),
+                (b"gecode_array_int_lq", Builtin::FznLexLesseqInt),
                 (b"fzn_lex_lesseq_bool", Builtin::FznLexLesseqBool),
                 (b"fzn_increasing_bool", Builtin::FznIncreasingBool),
                 (b"fzn_decreasing_bool", Builtin::FznDecreasingBool),
             ],
             20 => &[
-                (b"gecode_array_bool_lt", Builtin::GecodeArrayBoolLt),
-                (b"gecode_array_bool_lq", Builtin::GecodeArrayBoolLq),
+                (b"gecode_array_bool_lt", Builtin::FznLexLessBool),
+                (b"gecode_array_bool_lq", Builtin::FznLexLesseqBool),
             ],
             21 => &[
-                (b"array_var_int_element", Builtin::ArrayVarIntElement),
+                (b"array_var_int_element", Builtin::ArrayIntElement),
                 (b"fzn_all_different_int", Builtin::FznAllDifferentInt),
-                (b"array_var_set_element", Builtin::ArrayVarSetElement),
+                (b"array_var_set_element", Builtin::ArraySetElement),
                 (b"fzn_value_precede_int", Builtin::FznValuePrecedeInt),
             ],
             22 => &[
-                (b"geas_all_different_int", Builtin::GeasAllDifferentInt),
-                (b"array_var_bool_element", Builtin::ArrayVarBoolElement),
+                (b"geas_all_different_int", Builtin::FznAllDifferentInt),
+                (b"array_var_bool_element", Builtin::ArrayBoolElement),
                 (b"fzn_global_cardinality", Builtin::FznGlobalCardinality),
                 (b"fzn_disjunctive_strict", Builtin::FznDisjunctiveStrict),
-                (b"gecode_inverse_offsets", Builtin::GecodeInverseOffsets),
+                (b"gecode_inverse_offsets", Builtin::InverseOffsets),
                 (b"gecode_int_set_channel", Builtin::GecodeIntSetChannel),
             ],
             23 => &[(b"gecode_bin_packing_load", Builtin::GecodeBinPackingLoad)],
             24 => &[
-                (b"gecode_all_different_int", Builtin::GecodeAllDifferentInt),
-                (b"fzcheck_bin_packing_load", Builtin::FzcheckBinPackingLoad),
+                (b"gecode_all_different_int", Builtin::FznAllDifferentInt),
+                (b"fzcheck_bin_packing_load", Builtin::GecodeBinPackingLoad),
             ],
             25 => &[
                 (
@@ -290,14 +270,11 @@ impl Builtin {
                 ),
                 (b"fzn_seq_precede_chain_int", Builtin::FznSeqPrecedeChainInt),
             ],
-            26 => &[(
-                b"gecode_array_set_partition",
-                Builtin::GecodeArraySetPartition,
-            )],
+            26 => &[(b"gecode_array_set_partition", Builtin::FznPartitionSet)],
             27 => &[
                 (
                     b"geas_all_different_except_0",
-                    Builtin::GeasAllDifferentExcept0,
+                    Builtin::FznAlldifferentExcept0,
                 ),
                 (
                     b"fzn_strictly_increasing_int",
@@ -340,7 +317,7 @@ impl Builtin {
 
     // The builtin with this name, if there is one. Only names of the same length are compared.
     pub(crate) fn called(name: &[u8]) -> Option<Builtin>
-        ensures { result ≡ find (λ b. bytes_eq (name_of b) name.now) builtins }
+        ensures { result ≡ find (λ b. is_named name.now (row_at b)) builtins }
     {
         for (own, builtin) in Builtin::named_so_long(name.len()) {
             if same_text(own, name) {

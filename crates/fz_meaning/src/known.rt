@@ -1,7 +1,8 @@
 //! A builtin, or one of its reified forms.
 
 ghost use Rattle.std.specs.Prelude.{◌≡◌, ◌++◌, IfNone, IfSome, List, MatchOption, None, Some, ℕ, map};
-ghost use Rattle.fz_meaning.specs.Known.{HasTruth, known_row, result_of, row_named, shape_of, suffix_of};
+ghost use Rattle.fz_meaning.specs.Known.{HasTruth, as_result, known_row, row_named, shape_of, suffix_of};
+ghost use Rattle.fz_meaning.specs.Results.{result_of};
 
 use crate::builtin::Builtin;
 use crate::row::{BaseRow, Filled, Lengths, Matrix, Shape};
@@ -129,7 +130,7 @@ impl Known {
 
     /// Which arguments `defines_var` may name: of a form with `_reif`, its control variable.
     pub fn filled(self) -> Filled
-        ensures { result_of result ≡ (known_row self).result }
+        ensures { as_result result ≡ result_of (known_row self) }
     {
         let BaseRow(with_truth, filled, ..) = self.builtin.base_row();
         match self.form {

@@ -8,7 +8,7 @@
 //! definitions alone (`specs/Builtins.antt`).
 //!
 //! Its definitions are computed on worked rows in `proofs/Rows.antt`; the worked cases of the table
-//! are in `fz_check_cases`.
+//! are in `tests/cases` (`builtins.txt`).
 #![tactic(auto)]
 
 mod builtin;

@@ -110,7 +110,7 @@ const ALONE: bool = false;
 
 impl Builtin {
     // The row of the table.
-    #[tactic(auto, unfolding(crate::specs::Builtins::row_at))]
+    #[tactic(auto, unfolding(crate::specs::Builtins::row_at, crate::specs::Results::result_of))]
     #[inline(always)]
     pub(crate) fn base_row(self) -> BaseRow
         ensures { IsData result (row_at self) }
@@ -131,12 +131,9 @@ impl Builtin {
             Builtin::IntDiv => BaseRow(&[INT, INT, INT, BOOL], C, FREE, ALONE),
             Builtin::IntMod => BaseRow(&[INT, INT, INT, BOOL], C, FREE, ALONE),
             Builtin::ArrayIntElement => BaseRow(&[INT, INTS, INT, BOOL], C, FREE, ALONE),
-            Builtin::ArrayVarIntElement => BaseRow(&[INT, INTS, INT, BOOL], C, FREE, ALONE),
             Builtin::ArrayIntMaximum => BaseRow(&[INT, INTS, BOOL], A, FREE, ALONE),
             Builtin::ArrayIntMinimum => BaseRow(&[INT, INTS, BOOL], A, FREE, ALONE),
             Builtin::FznAllDifferentInt => BaseRow(&[INTS, BOOL], NONE, FREE, ALONE),
-            Builtin::GecodeAllDifferentInt => BaseRow(&[INTS, BOOL], NONE, FREE, ALONE),
-            Builtin::GeasAllDifferentInt => BaseRow(&[INTS, BOOL], NONE, FREE, ALONE),
             Builtin::BoolEq => BaseRow(&[BOOL, BOOL, BOOL], A_OR_B, FREE, FORMS),
             Builtin::BoolLe => BaseRow(&[BOOL, BOOL, BOOL], NONE, FREE, FORMS),
             Builtin::BoolLt => BaseRow(&[BOOL, BOOL, BOOL], NONE, FREE, FORMS),
@@ -148,7 +145,6 @@ impl Builtin {
             Builtin::ArrayBoolOr => BaseRow(&[BOOLS, BOOL, BOOL], B, FREE, ALONE),
             Builtin::ArrayBoolXor => BaseRow(&[BOOLS, BOOL], NONE, FREE, ALONE),
             Builtin::ArrayBoolElement => BaseRow(&[INT, BOOLS, BOOL, BOOL], C, FREE, ALONE),
-            Builtin::ArrayVarBoolElement => BaseRow(&[INT, BOOLS, BOOL, BOOL], C, FREE, ALONE),
             Builtin::BoolClause => BaseRow(&[BOOLS, BOOLS, BOOL], NONE, FREE, FORMS),
             Builtin::Bool2Int => BaseRow(&[BOOL, INT, BOOL], A_OR_B, FREE, ALONE),
             Builtin::BoolLinEq => BaseRow(&[INTS, BOOLS, INT, BOOL], C, FIRST_TWO, ALONE),
@@ -164,12 +160,8 @@ impl Builtin {
             Builtin::SetSymdiff => BaseRow(&[SET, SET, SET, BOOL], C, FREE, ALONE),
             Builtin::SetCard => BaseRow(&[SET, INT, BOOL], B, FREE, ALONE),
             Builtin::ArraySetElement => BaseRow(&[INT, SETS, SET, BOOL], C, FREE, ALONE),
-            Builtin::ArrayVarSetElement => BaseRow(&[INT, SETS, SET, BOOL], C, FREE, ALONE),
             Builtin::FznAlldifferentExcept0 => BaseRow(&[INTS, BOOL], NONE, FREE, ALONE),
-            Builtin::GeasAllDifferentExcept0 => BaseRow(&[INTS, BOOL], NONE, FREE, ALONE),
             Builtin::FznAllEqualInt => BaseRow(&[INTS, BOOL], NONE, FREE, ALONE),
-            Builtin::Count => BaseRow(&[INTS, INT, INT, BOOL], C, FREE, ALONE),
-            Builtin::GecodeCount => BaseRow(&[INTS, INT, INT, BOOL], C, FREE, ALONE),
             Builtin::FznCountEq => BaseRow(&[INTS, INT, INT, BOOL], C, FREE, ALONE),
             Builtin::FznCountNeq => BaseRow(&[INTS, INT, INT, BOOL], NONE, FREE, ALONE),
             Builtin::FznCountGeq => BaseRow(&[INTS, INT, INT, BOOL], NONE, FREE, ALONE),
@@ -212,12 +204,6 @@ impl Builtin {
                 FIRST_THREE,
                 ALONE,
             ),
-            Builtin::Cumulatives => BaseRow(
-                &[INTS, INTS, INTS, INT, BOOL],
-                NONE,
-                FIRST_THREE,
-                ALONE,
-            ),
             Builtin::FznDisjunctive => BaseRow(&[INTS, INTS, BOOL], NONE, FIRST_TWO, ALONE),
             Builtin::FznDisjunctiveStrict => BaseRow(&[INTS, INTS, BOOL], NONE, FIRST_TWO, ALONE),
             Builtin::FznDiffn => BaseRow(&[INTS, INTS, INTS, INTS, BOOL], NONE, ALL_FOUR, ALONE),
@@ -234,26 +220,11 @@ impl Builtin {
                 ALONE,
             ),
             Builtin::GecodeCircuit => BaseRow(&[INT, INTS, BOOL], NONE, FREE, ALONE),
-            Builtin::FzcheckCircuit => BaseRow(&[INT, INTS, BOOL], NONE, FREE, ALONE),
             Builtin::FzcheckSubcircuit => BaseRow(&[INT, INTS, BOOL], NONE, FREE, ALONE),
             Builtin::InverseOffsets => BaseRow(&[INTS, INT, INTS, INT, BOOL], NONE, FREE, ALONE),
-            Builtin::GecodeInverseOffsets => BaseRow(
-                &[INTS, INT, INTS, INT, BOOL],
-                NONE,
-                FREE,
-                ALONE,
-            ),
             Builtin::FznTableInt => BaseRow(&[INTS, INTS, BOOL], NONE, TABLE, ALONE),
-            Builtin::GecodeTableInt => BaseRow(&[INTS, INTS, BOOL], NONE, TABLE, ALONE),
-            Builtin::GeasTableInt => BaseRow(&[INTS, INTS, BOOL], NONE, TABLE, ALONE),
             Builtin::FznTableBool => BaseRow(&[BOOLS, BOOLS, BOOL], NONE, TABLE, ALONE),
             Builtin::FznRegular => BaseRow(
-                &[INTS, INT, INT, INTS, INT, SET, BOOL],
-                NONE,
-                AUTOMATON,
-                ALONE,
-            ),
-            Builtin::GecodeRegular => BaseRow(
                 &[INTS, INT, INT, INTS, INT, SET, BOOL],
                 NONE,
                 AUTOMATON,
@@ -271,20 +242,10 @@ impl Builtin {
                 SECOND_AND_THIRD,
                 ALONE,
             ),
-            Builtin::FzcheckBinPackingLoad => BaseRow(
-                &[INTS, INTS, INTS, INT, BOOL],
-                NONE,
-                SECOND_AND_THIRD,
-                ALONE,
-            ),
             Builtin::FznLexLessInt => BaseRow(&[INTS, INTS, BOOL], NONE, FREE, ALONE),
-            Builtin::GecodeArrayIntLt => BaseRow(&[INTS, INTS, BOOL], NONE, FREE, ALONE),
             Builtin::FznLexLesseqInt => BaseRow(&[INTS, INTS, BOOL], NONE, FREE, ALONE),
-            Builtin::GecodeArrayIntLq => BaseRow(&[INTS, INTS, BOOL], NONE, FREE, ALONE),
             Builtin::FznLexLessBool => BaseRow(&[BOOLS, BOOLS, BOOL], NONE, FREE, ALONE),
-            Builtin::GecodeArrayBoolLt => BaseRow(&[BOOLS, BOOLS, BOOL], NONE, FREE, ALONE),
             Builtin::FznLexLesseqBool => BaseRow(&[BOOLS, BOOLS, BOOL], NONE, FREE, ALONE),
-            Builtin::GecodeArrayBoolLq => BaseRow(&[BOOLS, BOOLS, BOOL], NONE, FREE, ALONE),
             Builtin::FznIncreasingInt => BaseRow(&[INTS, BOOL], NONE, FREE, ALONE),
             Builtin::FznIncreasingBool => BaseRow(&[BOOLS, BOOL], NONE, FREE, ALONE),
             Builtin::FznDecreasingInt => BaseRow(&[INTS, BOOL], NONE, FREE, ALONE),
@@ -317,7 +278,6 @@ impl Builtin {
             ),
             Builtin::FznDisjoint => BaseRow(&[SET, SET, BOOL], NONE, FREE, ALONE),
             Builtin::FznPartitionSet => BaseRow(&[SETS, SET, BOOL], NONE, FREE, ALONE),
-            Builtin::GecodeArraySetPartition => BaseRow(&[SETS, SET, BOOL], NONE, FREE, ALONE),
         }
     }
 }

@@ -1,6 +1,6 @@
-pub use Rattle.fz_meaning.specs.Values
 pub use Rattle.fz_meaning.specs.Located
 pub use Rattle.fz_meaning.specs.Builtins
+pub use Rattle.fz_meaning.specs.Results
 pub use Rattle.fz_meaning.specs.Meaning
 pub use Rattle.fz_meaning.specs.Names
 pub use Rattle.fz_meaning.specs.View
@@ -15,3 +15,6 @@ pub use Rattle.fz_eval.specs.of_data.Texts
 pub use Rattle.fz_eval.specs.Holding
 pub use Rattle.fz_eval.specs.Overviews
 pub use Rattle.fz_eval.specs.Openings
+pub use Rattle.fz_meaning.specs.Relations
+pub use Rattle.fz_meaning.specs.States
+pub use Rattle.fz_meaning.specs.Leftmost

@@ -6,7 +6,7 @@
 //! tells whether a row of THE TABLE holds, and `fz_eval` the state of a point and the step that it
 //! forces.
 //!
-//! Its worked cases are in `fz_check_cases`.
+//! Its worked cases are in `tests/cases`.
 #![tactic(auto)]
 
 pub use fz_eval::fz_data::{

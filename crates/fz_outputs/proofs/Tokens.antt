@@ -3,7 +3,7 @@
 use Rattle.std.proofs.Common.{◌≡◌, ℕ, List, [], ◌∷◌, ◌++◌, map, cond, true, false, flat_map, codes, rules}
 use Rattle.std.specs.List.{AllByRecursion}
 use Rattle.fz_syntax.specs.Token.{TokenValue, Word, Marked, IsTokenText}
-use Rattle.fz_syntax.specs.Limits.{IsTokenWithinLimit}
+use Rattle.fz_syntax.specs.Lexing.{IsTokenWithinLimit}
 use Rattle.fz_syntax.specs.Mark.TheVariants.{Colon, ColonColon, Semicolon}
 use Rattle.fz_syntax.specs.Print.{CanBeWritten}
 use Rattle.fz_syntax.specs.Tree as tree

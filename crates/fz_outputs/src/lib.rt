@@ -1,7 +1,7 @@
 //! Adds the annotation `output_var` to the scalar variables of a tree that lack it, so that a
 //! solver prints all of them. It is proved that the new tree has no fault where the first has none,
 //! and is one of the same model. An internal crate of `fz_check`.
-//! Its worked cases are in `fz_check_cases`.
+//! Its worked cases are in `tests/cases` (`shown.txt`).
 #![tactic(auto)]
 
 ghost use Rattle.std.specs.Prelude.{◌≡◌, IfOk, OnOk, map};

@@ -2,7 +2,7 @@
 use Rattle.std.proofs.Common.{◌≡◌, ℕ, ◌+◌, ◌*◌, ◌≤◌, ℤ, pos, ◌+ℤ◌, neg_ℤ, ◌≤ℤ◌, Bool, true, false, cond, List, ◌∷◌, drop, length, map, filter, FitsSigned, w64, sym, ap, ◌∙◌, arith}
 use Rattle.std.proofs.lemmas.Int.{ints}
 use Rattle.std.proofs.lemmas.List.{drop_all}
-use Rattle.fz_meaning.specs.Builtins.{total}
+use Rattle.fz_meaning.specs.Relations.{total}
 
 abbrev pub chosen : {A : Type 0} → (A → Bool) → List (A × ℤ) → ℤ
 chosen test ps = total (map (λ p. p.1) (filter (λ p. test p.0) ps))

@@ -3,8 +3,7 @@ use Rattle.std.proofs.Common.{◌≡◌, ℕ, ◌+◌, ◌*◌, ◌≤◌, ℤ, 
 use Rattle.std.specs.Int.{w128}
 use Rattle.std.proofs.lemmas.Int.{ints, unsigned_abs-mul}
 use Rattle.fz_meaning.proofs.Values.{and_first}
-use Rattle.fz_meaning.specs.Builtins.{element_at}
-use Rattle.fz_meaning.specs.Globals.{lies_between, run, step}
+use Rattle.fz_meaning.specs.Relations.{element_at, lies_between, run, step}
 use Rattle.fz_kernel.proofs.Left.{none_left}
 
 module _ (states symbols : ℤ) (d : List ℤ) (xs : List ℤ) (i : ℕ) (q x : ℤ) (whole : Option ℤ) (so_far : whole ≡ run states symbols d q (drop i xs)) (here : drop i xs ≡ x ∷ drop (i + 1) xs) where

@@ -3,7 +3,7 @@
 use Rattle.std.proofs.Common.{◌≡◌, ℕ, ◌+◌, ◌≤◌, Bool, true, false, ◌&&◌, List, ◌∷◌, drop, length, sym, ap, ◌∙◌}
 use Rattle.std.specs.List.{list_all}
 use Rattle.std.proofs.lemmas.List.{drop_all}
-use Rattle.fz_meaning.specs.Globals.{all_pairs}
+use Rattle.fz_meaning.specs.Relations.{all_pairs}
 
 -- ---- each element
 

@@ -3,8 +3,7 @@ use Rattle.std.proofs.Common.{◌≡◌, ℕ, suc, zero, ◌+◌, ◌*◌, ◌<�
 use Rattle.std.specs.List.{list_all}
 use Rattle.std.proofs.lemmas.Int.{ints}
 use Rattle.std.proofs.lemmas.List.{take_more, drop_more, get_or-drop, length-take, length-take-le, length-drop}
-use Rattle.fz_meaning.specs.Builtins.{total}
-use Rattle.fz_meaning.specs.Globals.{lies_between, windows}
+use Rattle.fz_meaning.specs.Relations.{total, lies_between, windows}
 use Rattle.fz_meaning.proofs.Values.{and_first, and_second}
 use Rattle.fz_scheduling.specs.Places.{number_at}
 

@@ -1,8 +1,7 @@
 //! What lies in bins: each thing has a bin and a weight.
 ghost use Rattle.std.specs.Prelude.{◌≡◌, ◌&&◌, ◌+ℤ◌, ◌-ℤ◌, pos, int_le, length};
 ghost use Rattle.std.specs.List.{list_all};
-ghost use Rattle.fz_meaning.specs.Values.{◌=ℤ◌};
-ghost use Rattle.fz_meaning.specs.Globals.{lies_between, load_of, loads_are};
+ghost use Rattle.fz_meaning.specs.Relations.{◌=ℤ◌, lies_between, load_of, loads_are};
 ghost use Rattle.fz_kernel.specs.of_view.Views.{ints};
 ghost use Rattle.fz_scheduling.specs.Places.{number_at};
 

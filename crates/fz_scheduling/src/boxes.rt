@@ -1,8 +1,7 @@
 //! Boxes: each has a start and a length along each of two axes.
 ghost use Rattle.std.specs.Prelude.{◌≡◌, ◌<◌, ◌+◌, ◌||◌, pos, drop, length};
 ghost use Rattle.std.specs.List.{list_all};
-ghost use Rattle.fz_meaning.specs.Values.{◌=ℤ◌};
-ghost use Rattle.fz_meaning.specs.Globals.{all_pairs, boxes, overlap_in_no_area, overlap_nowhere};
+ghost use Rattle.fz_meaning.specs.Relations.{◌=ℤ◌, all_pairs, boxes, overlap_in_no_area, overlap_nowhere};
 ghost use Rattle.fz_kernel.specs.of_view.Views.{ints};
 ghost use Rattle.fz_scheduling.specs.Places.{box_at, number_at, stand_apart};
 

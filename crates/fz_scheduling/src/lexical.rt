@@ -1,8 +1,7 @@
 //! Lexicographic order: the first index at which two arrays differ tells, and a proper prefix comes
 //! first.
 ghost use Rattle.std.specs.Prelude.{◌≡◌, ◌&&◌, not, int_lt};
-ghost use Rattle.fz_meaning.specs.Values.{◌=ℤ◌, ◌=ᴮ◌};
-ghost use Rattle.fz_meaning.specs.Globals.{is_before};
+ghost use Rattle.fz_meaning.specs.Relations.{◌=ℤ◌, ◌=ᴮ◌, is_before};
 ghost use Rattle.fz_kernel.specs.of_view.Views.{bools, ints};
 
 use crate::reading::{number_at, number_count, truth_at, truth_count};
@@ -21,13 +20,6 @@ pub fn ints_are_before(a: &Elements, b: &Elements) -> bool
     number_count(a) < number_count(b)
 }
 
-/// Whether the numbers of `a` come before those of `b`, or are the same.
-pub fn ints_are_not_behind(a: &Elements, b: &Elements) -> bool
-    ensures exact { result ≡ not (is_before int_lt ◌=ℤ◌ (ints b.now) (ints a.now)) }
-{
-    !ints_are_before(b, a)
-}
-
 /// Whether the Booleans of `a` come before those of `b`; false comes before true.
 pub fn bools_are_before(a: &Elements, b: &Elements) -> bool
     ensures exact { result ≡ is_before (λ x y. not x && y) ◌=ᴮ◌ (bools a.now) (bools b.now) }
@@ -39,11 +31,4 @@ pub fn bools_are_before(a: &Elements, b: &Elements) -> bool
         }
     }
     truth_count(a) < truth_count(b)
-}
-
-/// Whether the Booleans of `a` come before those of `b`, or are the same.
-pub fn bools_are_not_behind(a: &Elements, b: &Elements) -> bool
-    ensures exact { result ≡ not (is_before (λ x y. not x && y) ◌=ᴮ◌ (bools b.now) (bools a.now)) }
-{
-    !bools_are_before(b, a)
 }

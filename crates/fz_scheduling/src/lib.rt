@@ -6,7 +6,7 @@
 //! Numbers go in as 64 bits and are computed with exactly: nothing wraps, and only the sums of
 //! products of a knapsack can leave 128 bits, which the result says.
 //!
-//! Its worked cases are in `fz_check_cases` (`globals.rt`).
+//! Its worked cases are in `tests/cases` (`builtins.txt`).
 #![tactic(auto)]
 
 pub mod bins;

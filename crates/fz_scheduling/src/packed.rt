@@ -1,8 +1,8 @@
 //! The knapsack: so many of each thing, their total weight and their total profit.
 ghost use Rattle.std.specs.Prelude.{◌≡◌, ◌||◌, true, false, IfSome, IfNone};
 ghost use Rattle.std.specs.List.{list_all};
-ghost use Rattle.fz_meaning.specs.Builtins.{leaves_128, products};
-ghost use Rattle.fz_meaning.specs.Globals.{is_knapsack, is_natural};
+ghost use Rattle.fz_meaning.specs.States.{leaves_128};
+ghost use Rattle.fz_meaning.specs.Relations.{products, is_knapsack, is_natural};
 ghost use Rattle.fz_kernel.specs.of_view.Views.{ints};
 
 use crate::reading::{is_natural_at, number_count};

@@ -1,8 +1,7 @@
 // Reading the numbers of arrays.
 ghost use Rattle.std.specs.Prelude.{◌≡◌, false, pos, length, slice_index_or};
 ghost use Rattle.std.specs.List.{zip};
-ghost use Rattle.fz_meaning.specs.Values.{◌=ℤ◌};
-ghost use Rattle.fz_meaning.specs.Globals.{is_natural};
+ghost use Rattle.fz_meaning.specs.Relations.{◌=ℤ◌, is_natural};
 ghost use Rattle.fz_kernel.specs.of_view.Views.{bools, ints};
 ghost use Rattle.fz_scheduling.specs.Places.{number_at};
 

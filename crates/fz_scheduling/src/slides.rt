@@ -1,8 +1,7 @@
 //! The sums of runs of neighbours.
 ghost use Rattle.std.specs.Prelude.{◌≡◌, ◌≤◌, ◌<◌, length, take};
 ghost use Rattle.std.specs.List.{list_all};
-ghost use Rattle.fz_meaning.specs.Builtins.{total};
-ghost use Rattle.fz_meaning.specs.Globals.{lies_between, slides_between, windows};
+ghost use Rattle.fz_meaning.specs.Relations.{total, lies_between, slides_between, windows};
 ghost use Rattle.fz_kernel.specs.of_view.Views.{ints};
 
 use crate::reading::{number_at, number_count};

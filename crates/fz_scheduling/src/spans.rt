@@ -1,7 +1,7 @@
 // Spans: each begins at the number of one array, and is as long as that of another.
 ghost use Rattle.std.specs.Prelude.{◌≡◌, ◌<◌, ◌+◌, drop, length};
 ghost use Rattle.std.specs.List.{list_all, zip};
-ghost use Rattle.fz_meaning.specs.Globals.{all_pairs, are_apart, ends_before, last_naturally, runs_at};
+ghost use Rattle.fz_meaning.specs.Relations.{all_pairs, are_apart, ends_before, last_naturally, runs_at};
 ghost use Rattle.fz_kernel.specs.of_view.Views.{ints};
 ghost use Rattle.fz_scheduling.specs.Places.{keep_apart, span_at};
 

@@ -1,7 +1,7 @@
 //! Tasks: each has a start, a duration, and a use of the resource that they share.
 ghost use Rattle.std.specs.Prelude.{◌≡◌, ◌&&◌, length};
 ghost use Rattle.std.specs.List.{list_all, zip};
-ghost use Rattle.fz_meaning.specs.Globals.{is_cumulative, is_disjunctive, is_natural, is_strictly_disjunctive, used_at};
+ghost use Rattle.fz_meaning.specs.Relations.{is_cumulative, is_disjunctive, is_natural, is_strictly_disjunctive, used_at};
 ghost use Rattle.fz_kernel.specs.of_view.Views.{ints};
 ghost use Rattle.fz_scheduling.specs.Places.{keeps_within, number_at, span_at};
 

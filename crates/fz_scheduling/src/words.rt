@@ -1,6 +1,6 @@
 //! Words that a finite automaton accepts.
 ghost use Rattle.std.specs.Prelude.{◌≡◌, ◌+ℤ◌, ◌*ℤ◌, pos};
-ghost use Rattle.fz_meaning.specs.Globals.{is_word, lies_between, run, step};
+ghost use Rattle.fz_meaning.specs.Relations.{is_word, lies_between, run, step};
 ghost use Rattle.fz_kernel.specs.of_view.Views.{ints};
 
 use crate::reading::{number_at, number_count};

@@ -1,4 +1,4 @@
-//! Elements of arrays of variables.
+//! Elements of arrays.
 
 use crate::stop::Stop;
 use crate::work::Work;

@@ -2,7 +2,7 @@
 //! nothing forces. What is promised is only that the values are of their variables' kinds; whether
 //! a block is satisfied with them is judged afterwards. An internal crate of `fz_check`.
 //!
-//! Its worked cases are in `fz_check_cases` (`completing.rt`).
+//! Its worked cases are in `tests/cases` (`completed.txt`).
 #![tactic(auto)]
 
 mod agenda;

@@ -3,7 +3,7 @@
 ghost use Rattle.std.specs.Prelude.{◌≡◌, IfOk, IsTrue, Some};
 ghost use Rattle.fz_model.specs.Meaning.{IsPartial};
 ghost use Rattle.fz_model.specs.Steps.{kind_at};
-ghost use Rattle.fz_model.specs.Values.{kind_of};
+ghost use Rattle.fz_model.specs.Relations.{kind_of};
 
 use fz_base::Value;
 use fz_model::{

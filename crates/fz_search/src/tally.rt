@@ -25,7 +25,7 @@ enum Keys<'m> {
 
 fn tally_of<'m>(parts: &ConstraintParts<'m, '_>) -> Option<Tally<'m>> {
     match parts.posted.known?.builtin {
-        Builtin::GecodeBinPackingLoad | Builtin::FzcheckBinPackingLoad => Some(Tally {
+        Builtin::GecodeBinPackingLoad => Some(Tally {
             results: elements_in(parts, 0),
             numbers: elements_in(parts, 1),
             keys: Keys::From(scalar_in(parts, 3)),

@@ -2,7 +2,7 @@
 
 ghost use Rattle.std.specs.Prelude.{◌≡◌, IfOk, Some};
 ghost use Rattle.fz_meaning.specs.Names.{domain_of, domain_of_literal, kind_of_base, literal_value};
-ghost use Rattle.fz_meaning.specs.Values.{kind_of, same_kind};
+ghost use Rattle.fz_meaning.specs.Relations.{kind_of, same_kind};
 ghost use Rattle.fz_meaning.specs.of_syntax.View.{bare_base, bare_bounds, bare_literal_kind};
 
 use fz_base::{IntSet, Value};

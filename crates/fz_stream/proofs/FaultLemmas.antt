@@ -1,14 +1,15 @@
 -- What a refusal may be.
-use Rattle.std.proofs.Common.{◌≡◌, ◌≢◌, ℕ, ◌+◌, ◌≤◌, List, length, Option, Some, Err, Vec, Global, refl, sym, subst, arith}
+use Rattle.std.proofs.Common.{◌≡◌, ◌≢◌, ℕ, ◌+◌, ◌≤◌, List, length, Option, Some, Err, Vec, Global, refl, arith}
 use Rattle.fz_syntax.specs.declared.Printed.{Printed}
 use Rattle.fz_syntax.specs.Places.{IsPlacedWithin}
 use Rattle.fz_syntax.specs.SyntaxError.{SyntaxError}
 use Rattle.fz_syntax.specs.SyntaxError.TheVariants.{TooLong as TextTooLong, Memory as TextMemory}
-use Rattle.fz_syntax.specs.Text.{IsValue, IsTextOfItems, IsRefusalOf}
+use Rattle.fz_syntax.specs.Refusals.{IsValue, IsRefusalOf}
+use Rattle.fz_syntax.specs.Text.{IsTextOfItems}
 use Rattle.fz_syntax.specs.Tree.{Printed as Plain}
 use Rattle.fz_syntax.specs.View.{bare_items}
 use Rattle.fz_stream.specs.declared.error.StreamError.{StreamError}
-use Rattle.fz_stream.specs.declared.error.StreamError.TheVariants.{TooLong, Item, DuplicateName, Memory, Failed}
+use Rattle.fz_stream.specs.declared.error.StreamError.TheVariants.{TooLong, Item, DuplicateName, Unfinished, Memory}
 use Rattle.fz_stream.specs.Faults.{IsStreamFault, IsFaultWithin}
 use Rattle.fz_stream.specs.Moving.{item_fault}
 use Rattle.fz_stream.specs.Telling.{TellsOfText, TellsOf}
@@ -16,27 +17,22 @@ use Rattle.fz_stream.specs.declared.line.LineKind.{LineKind}
 use Rattle.fz_stream.specs.declared.line.LineKind.TheVariants.{Marker}
 use Rattle.fz_stream.specs.Step.{IsLineFault}
 
--- a fault of a line, or a limit, is a fault of a stream
-pub stream_fault : (e : StreamError) → (e ≢ TooLong → IsLineFault e) → IsStreamFault e
-stream_fault TooLong h = tt
-stream_fault Memory h = h (λ q. cc)
-stream_fault _ h = h (λ q. cc)
-
+-- a fault of a line is one of a stream
 pub line_fault : (e : StreamError) → IsLineFault e → IsStreamFault e
-line_fault e h = stream_fault e (λ _. h)
-
--- no line fails for an earlier failure
-pub not_failed : (e : StreamError) → (e ≢ TooLong → IsLineFault e) → e ≡ Failed → ⊥
-not_failed e h q = subst (λ f. (f ≢ TooLong → IsLineFault f) → ⊥) (sym q) (λ g. g (λ z. cc)) h
-
-pub not_too_long : (e : StreamError) → IsLineFault e → e ≡ TooLong → ⊥
-not_too_long e h q = subst IsLineFault q h
+line_fault TooLong h = tt
+line_fault _ h = h
 
 -- a byte range in some bytes is one in more
 pub placed_more : (n m : ℕ) (e : SyntaxError) → n ≤ m → IsPlacedWithin n e → IsPlacedWithin m e
 placed_more n m TextTooLong l h = tt
 placed_more n m TextMemory l h = tt
 placed_more n m _ l h = (h.0, omega (arith, h.1, l))
+
+pub fault_more : (n m : ℕ) (e : StreamError) → n ≤ m → IsFaultWithin n e → IsFaultWithin m e
+fault_more n m (Item e) l h = placed_more n m e l h
+fault_more n m (DuplicateName span) l h = (h.0, omega (arith, h.1, l))
+fault_more n m (Unfinished span) l h = (h.0, omega (arith, h.1, l))
+fault_more n m _ l h = tt
 
 -- a byte range in a text is one in the stream
 pub placed_fault : (offset n : ℕ) (e : SyntaxError) → IsPlacedWithin n e

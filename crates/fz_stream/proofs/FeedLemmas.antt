@@ -1,91 +1,69 @@
--- What `feed` promises, from what its parts do.
-use Rattle.std.proofs.Common.{◌≡◌, ℕ, ◌+◌, ◌≤◌, Option, Some, None, List, [], ◌∷◌, ◌++◌, length, take, refl, sym, ◌∙◌, subst, inl, inr, arith, append-nil, length-append, length-take, IsSome}
-use Rattle.std.specs.List.{AllByRecursion}
-use Rattle.fz_stream.specs.Lines.{EndsWithFeed}
+-- What `feed` and `finish` promise, from what their parts do.
+use Rattle.std.proofs.Common.{◌≡◌, ℕ, ◌+◌, ◌≤◌, Option, Some, None, List, [], ◌++◌, length, take, refl, sym, ap, ◌∙◌, subst, arith, append-nil, length-append, length-take, IsSome, true, false}
+use Rattle.fz_stream.specs.Parts.{lines_of, joined, Frame, Covers}
 use Rattle.fz_stream.specs.declared.splitter.Stage.{Stage}
 use Rattle.fz_stream.specs.declared.splitter.Stage.TheVariants.{Running}
 use Rattle.fz_stream.specs.declared.held.Ended.{Ended}
-use Rattle.fz_stream.specs.declared.held.Ended.TheVariants.{BlockEnded, ClaimEnded}
 use Rattle.fz_stream.specs.declared.held.Held.{Held}
-use Rattle.fz_stream.specs.Parts.{StreamPart, BlockPart, ClaimPart, IsStreamText}
-use Rattle.fz_stream.specs.Splitting.{SplitterState, WaitsForLast, WaitsForMore, Holds, Fits, Fed, EndsWith}
-use Rattle.fz_stream.specs.Keeping.{Keeps, IsHeld, EndedAs, KeepsAll, TakesPart, EndsStream, held_while}
+use Rattle.fz_stream.specs.Splitting.{SplitterState, WaitsForLast, Fits, frames_in}
+use Rattle.fz_stream.specs.Keeping.{Stands, AfterBytes, frame_at, held_while, line_while}
 use Rattle.fz_stream.specs.Inside.{waiting_of}
-use Rattle.fz_stream.proofs.SplitLemmas.{keeps_held, holds_current}
+use Rattle.fz_stream.proofs.LineLemmas.{joined-lines_of}
+use Rattle.fz_stream.proofs.PartLemmas.{size_of}
+use Rattle.fz_stream.proofs.TakeLemmas.{holds_of, taken_of}
+
+-- what fits a state is what stands for it
+pub stands_for : (s : SplitterState) (h : Held) → h.buffer.items ≡ s.held → h.line ≡ s.line
+    → h.before + length h.buffer.items ≡ s.taken
+    → (bytes : List ℕ) (frames : List Frame) → Fits s bytes frames → Stands h bytes frames
+stands_for s h held line taken bytes frames f =
+    let k = f.holds in
+    let bytes_are : h.buffer.items ≡ joined k.body ++ k.current = held ∙ k.held_are in
+    record {
+      lines = k.lines;
+      current = k.current;
+      has_line = record {
+        gap = k.gap;
+        body = k.body;
+        covers = k.covers;
+        bytes = bytes_are;
+        place = line ∙ f.line;
+        before = omega (arith, taken, f.taken, ap length k.whole, length-append (joined k.lines) k.current, size_of k.covers, ap length bytes_are, length-append (joined k.body) k.current);
+      };
+      whole = k.whole;
+      ended = k.ended;
+      goes_on = k.goes_on;
+    }
 
 -- a splitter's state by its parts
 abbrev pub made_state : Held → Option Ended → Stage → SplitterState
 made_state held ended stage = record {
   held = held_while ended held.buffer.items;
+  line = line_while ended held.line;
   taken = held.before + length held.buffer.items;
   waits = waiting_of ended held.before (take held.line held.buffer.items);
   stage = stage;
 }
 
-waits_for : (ended : Ended) (offset : ℕ) (text : List ℕ) (front : List StreamPart)
-    (part : StreamPart) → EndedAs ended offset text part
-    → WaitsForLast (waiting_of (Some ended) offset text) (front ++ part ∷ [])
-waits_for BlockEnded offset text front (BlockPart block) is = (front, BlockPart block, refl, (sym is.0, sym is.1))
-waits_for (ClaimEnded kind) offset text front (ClaimPart other) is = (front, ClaimPart other, refl, is)
-waits_for _ offset text front _ is = absurd is
-
-waits_for_more : (ended : Ended) (offset : ℕ) (text : List ℕ) (part : StreamPart)
-    → EndedAs ended offset text part
-    → WaitsForMore (waiting_of (Some ended) offset text) (part ∷ [])
-waits_for_more BlockEnded offset text (BlockPart block) is = (sym is.0, sym is.1)
-waits_for_more (ClaimEnded kind) offset text (ClaimPart other) is = is
-waits_for_more _ offset text _ is = absurd is
-
-some_waits : (ended : Ended) (offset : ℕ) (text : List ℕ)
-    → IsSome (waiting_of (Some ended) offset text)
-some_waits BlockEnded offset text = refl
-some_waits (ClaimEnded kind) offset text = refl
-
-held_now : {h : Held} {bytes : List ℕ} {parts : List StreamPart} → IsHeld h
-    → Keeps bytes parts h.buffer.items → Holds bytes parts h.buffer.items
-held_now {h} {bytes} {parts} i k = holds_current bytes parts h.buffer.items k i.body i.lines.whole i.lines.own i.current i.lines.bytes i.begun
-
--- what fits a state is kept by what stands for it
-pub kept_by : (s : SplitterState) (old : Held) → old.buffer.items ≡ s.held
-    → (bytes : List ℕ) (parts : List StreamPart) → Fits s bytes parts
-    → Keeps bytes parts old.buffer.items
-kept_by s old held bytes parts f = keeps_held bytes parts old.buffer.items (subst (Holds bytes parts) (sym held) f.holds)
-
-module _ (s : SplitterState) (old new : Held) (piece : List ℕ) (n : ℕ) (stage : Stage) (running : stage ≡ Running) (within : n ≤ length piece)
-    (held : old.buffer.items ≡ s.held) (taken : old.before + length old.buffer.items ≡ s.taken) (count : new.before + length new.buffer.items ≡ old.before + length old.buffer.items + n) where
-  kept : (bytes : List ℕ) (parts : List StreamPart) → Fits s bytes parts
-      → Keeps bytes parts old.buffer.items
-  kept = kept_by s old held
-
-  pub fed : (ended : Option Ended) → (ended ≡ None → KeepsAll old new piece n)
-      → ((e : Ended) → ended ≡ Some e → (bytes : List ℕ) (parts : List StreamPart) → Keeps bytes parts old.buffer.items → old.before + length old.buffer.items ≡ length bytes → TakesPart new bytes (take n piece) parts e)
-      → (bytes : List ℕ) (parts : List StreamPart) → Fits s bytes parts → Fed (made_state new ended stage) bytes piece parts n
-  fed None all part bytes parts f =
-      let k = all refl in
-      inl (record {
-        whole = k.whole;
-        none = refl;
-        fits = record {
-          running = running;
-          taken = omega (arith, count, taken, f.taken, k.whole, length-append bytes piece);
-          holds = held_now k.held (k.keeps bytes parts (kept bytes parts f));
-          waits = tt;
-        };
-      })
-  fed (Some e) all part bytes parts f =
-      let t = part e refl bytes parts (kept bytes parts f) (taken ∙ f.taken) in
-      inr (record {
-        part = t.part;
-        within = within;
-        some = some_waits e _ _;
-        fits = record {
-          running = running;
-          taken = omega (arith, count, taken, f.taken, length-append bytes (take n piece), length-take n piece, within);
-          holds = record { gap = []; body = []; current = []; stands = record { covers = t.completes; fillers = tt; own = tt }; ended = subst (AllByRecursion EndsWithFeed) (sym (append-nil _)) t.are_whole; goes_on = tt; held_are = refl };
-          waits = waits_for e _ _ parts t.part t.is;
-        };
-        completes = t.completes;
-      })
+pub fed : (old new : Held) (piece : List ℕ) (n : ℕ) (stage : Stage) → stage ≡ Running
+    → n ≤ length piece
+    → new.before + length new.buffer.items ≡ old.before + length old.buffer.items + n → (ended : Option Ended) (bytes : List ℕ) (frames : List Frame) → Stands old bytes frames → AfterBytes ended new (bytes ++ take n piece) frames
+    → Fits (made_state new ended stage) (bytes ++ take n piece) (frames ++ frames_in (waiting_of ended new.before (take new.line new.buffer.items)))
+fed old new piece n stage running within count None bytes frames s k =
+    subst (Fits (made_state new None stage) (bytes ++ take n piece)) (sym (append-nil frames)) (record {
+      running = running;
+      taken = omega (arith, count, taken_of old bytes frames s, length-append bytes (take n piece), length-take n piece, within);
+      holds = holds_of new _ frames k;
+      line = k.has_line.place;
+      waits = tt;
+    })
+fed old new piece n stage running within count (Some e) bytes frames s k = record {
+  running = running;
+  taken = omega (arith, count, taken_of old bytes frames s, length-append bytes (take n piece), length-take n piece, within);
+  holds = record { lines = lines_of (bytes ++ take n piece); gap = []; body = []; current = []; covers = k.covers; whole = sym (append-nil _ ∙ joined-lines_of _); ended = k.ended; goes_on = tt; held_are = refl };
+  line = refl;
+  waits = (frames, refl);
+}
 
 -- no more is held than the buffer has
 pub short_held : (ended : Option Ended) (bytes : List ℕ) (n : ℕ) → length bytes ≤ n
@@ -93,31 +71,42 @@ pub short_held : (ended : Option Ended) (bytes : List ℕ) (n : ℕ) → length 
 short_held None bytes n h = h
 short_held (Some ended) bytes n h = omega arith
 
--- what `finish` promises
-pub ended_with : (s : SplitterState) (old new : Held) (stage : Stage) → old.buffer.items ≡ s.held
-    → old.before + length old.buffer.items ≡ s.taken → (ended : Option Ended)
-    → ((bytes : List ℕ) (parts : List StreamPart) → Keeps bytes parts old.buffer.items → old.before + length old.buffer.items ≡ length bytes → EndsStream new bytes parts ended)
-    → (bytes : List ℕ) (parts : List StreamPart) → Fits s bytes parts → (more : List StreamPart) × EndsWith (made_state new ended stage) bytes parts more
-ended_with s old new stage held taken None ends bytes parts f =
-    ([], record { text = subst (IsStreamText bytes) (sym (append-nil parts)) (ends bytes parts (kept_by s old held bytes parts f) (taken ∙ f.taken)); waits = tt })
-ended_with s old new stage held taken (Some e) ends bytes parts f =
-    let t = ends bytes parts (kept_by s old held bytes parts f) (taken ∙ f.taken) in
-    (t.0 ∷ [], record { text = t.2; waits = waits_for_more e _ _ t.0 t.1 })
-
 -- what a splitter that has taken nothing fits
 pub fits_nothing : (s : SplitterState) → s.stage ≡ Running → s.taken ≡ 0 → s.held ≡ []
-    → s.waits ≡ None → Fits s [] []
-fits_nothing s running taken held waits = record {
+    → s.line ≡ 0 → s.waits ≡ None → Fits s [] []
+fits_nothing s running taken held line waits = record {
   running = running;
   taken = taken;
   holds = record {
+    lines = [];
     gap = [];
     body = [];
     current = [];
-    stands = record { covers = record { covered = []; whole = refl; of_parts = refl }; fillers = tt; own = tt };
+    covers = record { covered = []; whole = refl; of_frames = refl; fillers = tt; own = tt };
+    whole = refl;
     ended = tt;
     goes_on = tt;
     held_are = held;
   };
+  line = line;
   waits = subst (λ w. WaitsForLast w []) (sym waits) tt;
 }
+
+-- the last of the bytes that were taken ends the frame that waits
+pub cut_off : (new : Held) (bytes : List ℕ) (frames : List Frame) (ended : Option Ended)
+    → AfterBytes ended new bytes frames
+    → IsSome (waiting_of ended new.before (take new.line new.buffer.items))
+    → Covers (lines_of bytes) (frames ++ frames_in (waiting_of ended new.before (take new.line new.buffer.items))) [] []
+cut_off new bytes frames None k some = absurd (let no : false ≡ true = some in cc)
+cut_off new bytes frames (Some e) k some = k.covers
+
+-- a frame waits where one ended
+pub some_ended : (ended : Option Ended) (offset : ℕ) (text : List ℕ)
+    → IsSome (waiting_of ended offset text) → IsSome ended
+some_ended None offset text s = s
+some_ended (Some e) offset text s = refl
+
+pub none_ended : (ended : Option Ended) (offset : ℕ) (text : List ℕ)
+    → waiting_of ended offset text ≡ None → ended ≡ None
+none_ended None offset text n = refl
+none_ended (Some e) offset text n = absurd (let no : Some (frame_at e offset text) ≡ None = n in cc)

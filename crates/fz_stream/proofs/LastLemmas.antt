@@ -1,134 +1,84 @@
 -- How the end of a stream changes the state of a splitter.
-use Rattle.std.proofs.Common.{◌≡◌, ◌≢◌, ℕ, ◌+◌, ◌<◌, Option, Some, List, [], ◌∷◌, ◌++◌, length, refl, sym, ap, ◌∙◌, subst, ◌⊎◌, inl, inr, ⊎_elim, length-append, arith, Result, Ok, Err, IfOk, IfErr}
+use Rattle.std.proofs.Common.{◌≡◌, ℕ, ◌+◌, ◌<◌, List, [], ◌∷◌, ◌++◌, length, take, Some, None, refl, sym, ap, ◌∙◌, subst, append-nil, length-append, arith}
 use Rattle.fz_syntax.specs.Span.{Span}
 use Rattle.fz_stream.specs.declared.held.Ended.{Ended}
 use Rattle.fz_stream.specs.declared.held.Held.{Held}
 use Rattle.fz_stream.specs.declared.error.StreamError.{StreamError}
-use Rattle.fz_stream.specs.declared.error.StreamError.TheVariants.{Memory, Unfinished}
-use Rattle.fz_stream.specs.Lines.{Line, lines_of, joined, kind_of, HasNoFeed}
-use Rattle.fz_stream.specs.Parts.{StreamPart, AreBlockLines, GoesOnAfter}
-use Rattle.fz_stream.specs.Broken.{IsBrokenAtEndAfter}
-use Rattle.fz_stream.specs.Keeping.{Keeps, IsHeld, DropsLine, JoinsLine, GoesOnHolding, EndsPart, BreaksBlock, IsLeftOpen, EndsOpen, EndsStream}
-use Rattle.fz_stream.specs.Telling.{TellsOf}
-use Rattle.fz_stream.proofs.PartLemmas.{joined-append, joined_one, into_gap, into_body, into_parts}
-use Rattle.fz_stream.proofs.SplitLemmas.{goes_on_after, place, lines_of-begun, no_end}
+use Rattle.fz_stream.specs.declared.error.StreamError.TheVariants.{Unfinished}
+use Rattle.fz_stream.specs.Parts.{Line, lines_of, joined, HasNoFeed, Frame, AreBlockLines, Covers, IsFramed}
+use Rattle.fz_stream.specs.Broken.{BreaksAfter, CannotEnd}
+use Rattle.fz_stream.specs.Keeping.{HasLine, Stands, EndsLine, BreaksBlock, frame_at}
+use Rattle.fz_stream.specs.Splitting.{EndsLast}
+use Rattle.fz_stream.proofs.SplitLemmas.{lines_up_to, lines_of-begun, no_end}
 use Rattle.fz_stream.proofs.StepLemmas.{filled}
+use Rattle.fz_stream.proofs.StopLemmas.{breaks_at}
 
--- the current line isn't empty
-pub some_current : (h : Held) (i : IsHeld h) → h.line < length h.buffer.items
-    → (first : ℕ) × (rest : List ℕ) × (i.current ≡ first ∷ rest)
-some_current h i l = by i.current (omega (arith, l, i.lines.place, ap length i.lines.bytes, length-append (joined i.body) i.current))
-  where
-    by : (c : List ℕ) → 0 < length c → (first : ℕ) × (rest : List ℕ) × (c ≡ first ∷ rest)
-    by [] l = absurd (omega (arith, l))
-    by (x ∷ c) l = (x, c, refl)
+empty : (xs : List ℕ) → length xs ≡ 0 → xs ≡ []
+empty [] l = refl
+empty (x ∷ xs) l = absurd (omega (arith, l))
 
--- the current line is empty
-no_current : (h : Held) (i : IsHeld h) → h.line ≡ length h.buffer.items → i.current ≡ []
-no_current h i e = by i.current (omega (arith, e, i.lines.place, ap length i.lines.bytes, length-append (joined i.body) i.current))
-  where
-    by : (c : List ℕ) → length c ≡ 0 → c ≡ []
-    by [] l = refl
-    by (x ∷ c) l = absurd (omega (arith, l))
+no_body : (body : List Line) → AreBlockLines body → length (joined body) ≡ 0 → body ≡ []
+no_body [] own l = refl
+no_body (x ∷ body) own l = absurd (let some = filled x body own in omega (arith, some, l))
 
--- a body is open where it has bytes
-open_at : (h : Held) (start : ℕ) (body : List Line) → h.line ≡ length (joined body)
-    → h.line ≡ length h.buffer.items → AreBlockLines body → h.before ≡ start
-    → ((h.line ≡ 0) × (body ≡ [])) ⊎ IsLeftOpen h start body
-open_at h start [] line all own place = inl (line, refl)
-open_at h start (l ∷ body) line all own place =
-    let some = filled l body own in
-    inr (record { line = λ z. omega (arith, z, line, some); some = λ e. (let no : l ∷ body ≡ [] = e in cc); place = place; size = sym all ∙ line })
+one_line : (xs : List ℕ) → 0 < length xs → HasNoFeed xs → lines_of xs ≡ xs ∷ []
+one_line [] l h = absurd (omega (arith, l))
+one_line (x ∷ xs) l h = lines_of-begun x xs h
 
-module _ (bytes : List ℕ) (parts : List StreamPart) (h : Held) (i : IsHeld h) (k : Keeps bytes parts h.buffer.items) (all : h.before + length h.buffer.items ≡ length bytes) where
-  -- where what is held begins
-  begins : h.before ≡ length (joined k.covered) + length (joined k.gap)
-  begins = place bytes parts h.buffer.items k h.before all
+module _ (h : Held) (bytes : List ℕ) (frames : List Frame) (s : Stands h bytes frames) where
+  current_size : h.line + length s.current ≡ length h.buffer.items
+  current_size = omega (arith, s.has_line.place, ap length s.has_line.bytes, length-append (joined s.has_line.body) s.current)
 
   -- there is no current line
-  pub ends_open_without : h.line ≡ length h.buffer.items → EndsOpen h bytes parts
-  ends_open_without e = record {
-    gap = k.gap;
-    body = i.body;
-    stands = goes_on_after bytes parts h.buffer.items k i.body i.lines.whole i.lines.own i.current [] i.lines.bytes (ap lines_of (no_current h i e));
-    left = open_at h _ i.body i.lines.place e i.lines.own begins;
-  }
+  pub ends_without : h.line ≡ length h.buffer.items → HasLine h (lines_of bytes) frames []
+  ends_without e =
+      let none : s.current ≡ [] = empty s.current (let c = current_size in omega (arith, c, e)) in
+      let lines_are : lines_of bytes ≡ s.lines = lines_up_to bytes s.lines [] (s.whole ∙ ap (λ c. joined s.lines ++ c) none) s.ended ∙ append-nil s.lines in
+      subst (λ l. HasLine h l frames []) (sym lines_are) (subst (HasLine h s.lines frames) none s.has_line)
 
   module _ (l : h.line < length h.buffer.items) where
-    last_is : lines_of i.current ≡ i.current ∷ []
-    last_is =
-        let c = some_current h i l in
-        ap lines_of c.2 ∙ lines_of-begun c.0 c.1 (subst HasNoFeed c.2 i.begun) ∙ ap (λ x. x ∷ []) (sym c.2)
-
-    abbrev stands : GoesOnAfter bytes parts k.gap i.body (i.current ∷ [])
-    stands = goes_on_after bytes parts h.buffer.items k i.body i.lines.whole i.lines.own i.current (i.current ∷ []) i.lines.bytes last_is
+    lines_are : lines_of bytes ≡ s.lines ++ s.current ∷ []
+    lines_are = lines_up_to bytes s.lines s.current s.whole s.ended ∙ ap (λ c. s.lines ++ c) (one_line s.current (let c = current_size in omega (arith, c, l)) s.goes_on)
 
     -- the last line ends nothing
-    pub ends_open : (new : Held) → new.before + length new.buffer.items
-        ≡ h.before + length h.buffer.items → GoesOnHolding h new i.body i.current
-        → EndsOpen new bytes parts
-    ends_open new count g = ⊎_elim dropped joined_to g
-      where
-        dropped : DropsLine new i.body i.current → EndsOpen new bytes parts
-        dropped d = record { gap = k.gap ++ i.current ∷ []; body = []; stands = into_gap bytes parts k.gap i.body i.current [] stands d.none d.fills; left = inl (d.line_is, refl) }
+    pub ends_line : (new : Held) → EndsLine None new h
+        → HasLine new (lines_of bytes) frames []
+    ends_line new goes_on = subst (λ l. HasLine new l frames []) (sym lines_are) (goes_on _ _ _ s.has_line)
 
-        joined_to : JoinsLine h new i.body i.current → EndsOpen new bytes parts
-        joined_to j = record {
-          gap = k.gap;
-          body = i.body ++ i.current ∷ [];
-          stands = into_body bytes parts k.gap i.body i.current [] stands j.own;
-          left = open_at new _ (i.body ++ i.current ∷ [])
-              (j.line_is ∙ ap length (i.lines.bytes ∙ sym (joined-append i.body (i.current ∷ []) ∙ ap (λ l. joined i.body ++ l) (joined_one i.current))))
-              (j.line_is ∙ sym (ap length j.same)) j.own
-              (let same = ap length j.same in let b = begins in omega (arith, b, count, same));
-        }
-
-    -- the last line ends a part
-    pub ends_stream : (new : Held) (ended : Ended) → new.before + length new.buffer.items
-        ≡ h.before + length h.buffer.items → new.buffer.items ≡ h.buffer.items
-        → EndsPart new i.body i.current ended
-        → EndsStream new bytes parts (Some ended)
-    ends_stream new ended count same e =
-        let b = begins in
-        let here = e.lines (length (joined k.covered)) k.gap k.fillers (omega (arith, count, ap length same, b)) in
-        (e.part, e.is, record { rest = []; covers = (into_parts bytes parts k.gap i.body i.current [] stands e.part here).covers; fillers = tt })
+    -- the last line ends a frame
+    pub ends_last : (new : Held) (ended : Ended) → EndsLine (Some ended) new h
+        → EndsLast bytes frames (frame_at ended new.before (take new.line new.buffer.items))
+    ends_last new ended ends =
+        let l = s.has_line in
+        record { lines = s.lines; gap = l.gap; body = l.body; line = s.current; whole = lines_are; covers = l.covers; unended = no_end s.current s.goes_on; closes = ends _ _ _ l }
 
     -- the last line isn't allowed there
-    pub ends_broken : (e : StreamError) → BreaksBlock h.before i.body i.current e
-        → IsBrokenAtEndAfter bytes parts e
-    ends_broken e b = record {
-      gap = k.gap;
-      body = i.body;
-      rest = i.current ∷ [];
-      stands = stands;
-      begun = b.begun;
-      breaks = (no_end i.current i.begun, b.cannot);
-      tells = subst (λ n. TellsOf n (joined i.body) (Some (kind_of i.current)) e) begins b.tells;
-    }
+    pub ends_broken : (fault : StreamError)
+        → ((lines : List Line) (frames : List Frame) (line : Line) → HasLine h lines frames line → BreaksBlock lines frames line fault)
+        → BreaksAfter CannotEnd bytes frames fault
+    ends_broken fault breaks =
+        let b = breaks _ _ _ s.has_line in
+        breaks_at CannotEnd bytes s.lines frames s.current [] fault lines_are b (no_end s.current s.goes_on, b.cannot)
 
--- a block is left open
-pub ends_left_open : (bytes : List ℕ) (parts : List StreamPart) (h : Held) → EndsOpen h bytes parts
-    → h.line ≢ 0 → (span : Span) → span.start ≡ h.before
-    → span.end ≡ h.before + length h.buffer.items
-    → IsBrokenAtEndAfter bytes parts (Unfinished span)
-ends_left_open bytes parts h e z span from upto =
-    let o = left_open h _ e.body z e.left in
-    record { gap = e.gap; body = e.body; rest = []; stands = e.stands; begun = o.some; breaks = tt; tells = (tt, from ∙ o.place, omega (arith, upto, o.place, o.size)) }
-  where
-    left_open : (h : Held) (start : ℕ) (body : List Line) → h.line ≢ 0
-        → ((h.line ≡ 0) × (body ≡ [])) ⊎ IsLeftOpen h start body → IsLeftOpen h start body
-    left_open h start body z left = ⊎_elim (λ n. absurd (z n.0)) (λ o. o) left
+module _ (h : Held) (bytes : List ℕ) (frames : List Frame) (l : HasLine h (lines_of bytes) frames []) where
+  -- no block is left open
+  pub ends_framed : h.line ≡ 0 → IsFramed bytes frames
+  ends_framed e =
+      let none : l.body ≡ [] = no_body l.body l.covers.own (sym l.place ∙ e) in
+      (l.gap, subst (Covers (lines_of bytes) frames l.gap) none l.covers)
 
--- what is so of a stream whose lines have ended is so of what was held before
-module _ (h new : Held) (then_open : (bytes : List ℕ) (parts : List StreamPart) → Keeps bytes parts h.buffer.items → h.before + length h.buffer.items ≡ length bytes → EndsOpen new bytes parts) where
-  pub then_ends : (r : Result (Option Ended) StreamError)
-      → IfOk r (λ r. (bytes : List ℕ) (parts : List StreamPart) → EndsOpen new bytes parts → EndsStream new bytes parts r)
-      → IfOk r (λ r. (bytes : List ℕ) (parts : List StreamPart) → Keeps bytes parts h.buffer.items → h.before + length h.buffer.items ≡ length bytes → EndsStream new bytes parts r)
-  then_ends (Ok r) ends = λ bytes parts k size. ends bytes parts (then_open bytes parts k size)
-  then_ends (Err e) ends = tt
-
-  pub then_broken : (r : Result (Option Ended) StreamError)
-      → IfErr r (λ e. (bytes : List ℕ) (parts : List StreamPart) → EndsOpen new bytes parts → IsBrokenAtEndAfter bytes parts e)
-      → IfErr r (λ e. e ≢ Memory → (bytes : List ℕ) (parts : List StreamPart) → Keeps bytes parts h.buffer.items → h.before + length h.buffer.items ≡ length bytes → IsBrokenAtEndAfter bytes parts e)
-  then_broken (Ok r) broken = tt
-  then_broken (Err e) broken = λ known bytes parts k size. broken bytes parts (then_open bytes parts k size)
+  -- a block is left open
+  pub ends_left_open : 0 < h.line → (span : Span) → span.start ≡ h.before
+      → span.end ≡ h.before + length h.buffer.items
+      → BreaksAfter CannotEnd bytes frames (Unfinished span)
+  ends_left_open some span from upto = record {
+    lines = lines_of bytes;
+    gap = l.gap;
+    body = l.body;
+    rest = [];
+    whole = sym (append-nil (lines_of bytes));
+    covers = l.covers;
+    begun = λ e. omega (arith, some, l.place, ap (λ b. length (joined b)) e);
+    breaks = tt;
+    tells = (tt, from ∙ l.before, omega (arith, upto, l.before, ap length l.bytes, length-append (joined l.body) []));
+  }

@@ -2,7 +2,6 @@ pub mod LineLemmas
 pub mod NameLemmas
 pub mod PartLemmas
 pub mod OnePartLemmas
-pub mod ReadingLemmas
 pub mod StopLemmas
 pub mod SoFar
 pub mod FoundLemmas
@@ -15,6 +14,5 @@ pub mod FeedLemmas
 pub mod TakenLemmas
 pub mod FaultLemmas
 pub mod PlaceLemmas
-pub mod KeptLemmas
 pub mod Rows
 pub use Rattle.fz_syntax.proofs as of_syntax

@@ -1,90 +1,212 @@
--- Lines are those of one list of parts, and where a stream stops, of none.
-use Rattle.std.proofs.Common.{◌≡◌, ◌≢◌, ℕ, ◌+◌, List, [], ◌∷◌, ◌++◌, length, refl, sym, ap, ◌∙◌, subst, append_assoc, append-nil, length-append, arith}
+-- Lines are cut into one list of frames, so bytes are a text of one list of parts, and where a
+-- stream stops, of none.
+use Rattle.std.proofs.Common.{◌≡◌, ◌≢◌, ℕ, ◌+◌, Option, Some, None, List, [], ◌∷◌, ◌++◌, length, map, refl, sym, ap, ◌∙◌, subst, append_assoc, append-nil, length-append, arith}
 use Rattle.std.specs.List.{AllByRecursion}
-use Rattle.fz_syntax.specs.Text.{IsTextOfItems}
 use Rattle.fz_syntax.specs.Tree.{Printed}
 use Rattle.fz_syntax.proofs.More.{one_list_of_items}
+use Rattle.fz_syntax.specs.Text.{IsTextOfItems}
 use Rattle.fz_stream.specs.declared.error.StreamError.{StreamError}
 use Rattle.fz_stream.specs.declared.line.LineKind.{LineKind}
-use Rattle.fz_stream.specs.declared.line.LineKind.TheVariants.{Marker, Claim}
-use Rattle.fz_stream.specs.Lines.{Line, joined, kind_of, IsFiller, IsFillerKind, IsInner, IsInnerKind}
-use Rattle.fz_stream.specs.Parts.{SolutionBlock, StreamPart, BlockPart, ClaimPart, IsBlockText, AreBlockLines, AreLinesOf, IsStreamText}
-use Rattle.fz_stream.specs.Broken.{CannotFollow, BreaksText, StopsAfter}
-use Rattle.fz_stream.proofs.PartLemmas.{every_append, every_left, every_right, joined-append, EndAfter, end_after, IsPartOf, shape_of, next_part, no_part, inner_from_filler, inner_body}
+use Rattle.fz_stream.specs.declared.line.LineKind.TheVariants.{Blank, Comment, Marker, Claim}
+use Rattle.fz_stream.specs.declared.step.Step.{Step}
+use Rattle.fz_stream.specs.declared.step.Step.TheVariants.{GoesOn, EndsBlock, Claims, Breaks}
+use Rattle.fz_stream.specs.Parts.{Line, lines_of, joined, kind_of, IsFiller, IsFillerKind, IsInner, IsInnerKind, SolutionBlock, StreamPart, BlockPart, ClaimPart, Frame, BlockFrame, ClaimFrame, frame_of, IsBlockText, HasItems, AreBlockLines, Closes, AreLinesOfFrame, AreLinesOf, Covers, IsFramed, IsStreamText}
+use Rattle.fz_stream.specs.Broken.{CannotFollow, BreaksText, BreaksAfter}
+use Rattle.fz_stream.specs.Step.{step_of}
+use Rattle.fz_stream.proofs.PartLemmas.{two_parts}
+use Rattle.fz_stream.proofs.StepLemmas.{opened}
+
+-- The frames of lines, and `None` behind them where the lines are broken. A block is open that
+-- begins at `begun` and has this text so far, or none is; the next line begins at `at`.
+abbrev after : Step → (Option ℕ → List ℕ → List (Option Frame)) → List ℕ → Line
+    → List (Option Frame)
+after (GoesOn None) next text line = next None []
+after (GoesOn (Some start)) next text line = next (Some start) (text ++ line)
+after (EndsBlock start) next text line = Some (BlockFrame start text) ∷ next None []
+after (Claims kind) next text line = Some (ClaimFrame kind) ∷ next None []
+after (Breaks start) next text line = None ∷ []
+
+abbrev at_end : Option ℕ → List (Option Frame)
+at_end None = []
+at_end (Some start) = None ∷ []
+
+abbrev cut : ℕ → Option ℕ → List ℕ → List Line → List (Option Frame)
+cut at begun text [] = at_end begun
+cut at begun text (line ∷ lines) = after (step_of begun at (kind_of line)) (λ b t. cut (at + length line) b t lines) text line
+
+abbrev somes : List Frame → List (Option Frame)
+somes [] = []
+somes (frame ∷ frames) = Some frame ∷ somes frames
+
+filler_step : (k : LineKind) (at : ℕ) → IsFillerKind k → step_of None at k ≡ GoesOn None
+filler_step Blank at h = refl
+filler_step Comment at h = refl
+filler_step _ at h = absurd h
+
+inner_step : (k : LineKind) (at start : ℕ) → IsInnerKind k
+    → step_of (Some start) at k ≡ GoesOn (Some start)
+inner_step Marker at start h = absurd h
+inner_step (Claim kind) at start h = absurd h
+inner_step _ at start h = refl
+
+moved : (at n m : ℕ) (begun : Option ℕ) (text : List ℕ) (rest : List Line) → n ≡ m
+    → cut (at + n) begun text rest ≡ cut (at + m) begun text rest
+moved at n m begun text rest e = ap (λ k. cut (at + k) begun text rest) e
+
+not_moved : (at : ℕ) (begun : Option ℕ) (text : List ℕ) (rest : List Line)
+    → cut at begun text rest ≡ cut (at + 0) begun text rest
+not_moved at begun text rest = ap (λ n. cut n begun text rest) (let e : at ≡ at + 0 = omega arith in e)
+
+moved_twice : (at : ℕ) (x : Line) (xs : List ℕ) (begun : Option ℕ) (text : List ℕ) (rest : List Line)
+    → cut ((at + length x) + length xs) begun text rest ≡ cut (at + length (x ++ xs)) begun text rest
+moved_twice at x xs begun text rest =
+    ap (λ n. cut n begun text rest) (let e : (at + length x) + length xs ≡ at + length (x ++ xs) = omega (arith, length-append x xs) in e)
+
+over_fillers : (at : ℕ) (gap rest : List Line) → AllByRecursion IsFiller gap
+    → cut at None [] (gap ++ rest) ≡ cut (at + length (joined gap)) None [] rest
+over_fillers at [] rest h = not_moved at None [] rest
+over_fillers at (x ∷ gap) rest h =
+    ap (λ s. after s (λ b t. cut (at + length x) b t (gap ++ rest)) [] x) (filler_step (kind_of x) at h.0) ∙ over_fillers (at + length x) gap rest h.1 ∙ moved_twice at x (joined gap) None [] rest
+
+over_inner : (at start : ℕ) (text : List ℕ) (body rest : List Line) → AllByRecursion IsInner body
+    → cut at (Some start) text (body ++ rest)
+    ≡ cut (at + length (joined body)) (Some start) (text ++ joined body) rest
+over_inner at start text [] rest h = not_moved at (Some start) text rest ∙ ap (λ t. cut (at + 0) (Some start) t rest) (sym (append-nil text))
+over_inner at start text (x ∷ body) rest h =
+    ap (λ s. after s (λ b t. cut (at + length x) b t (body ++ rest)) text x) (inner_step (kind_of x) at start h.0) ∙ over_inner (at + length x) start (text ++ x) body rest h.1
+    ∙ ap (λ t. cut ((at + length x) + length (joined body)) (Some start) t rest) (append_assoc text x (joined body)) ∙ moved_twice at x (joined body) (Some start) (text ++ (x ++ joined body)) rest
+
+over_body : (at : ℕ) (body rest : List Line) → AreBlockLines body
+    → cut at None [] (body ++ rest)
+    ≡ cut (at + length (joined body)) (opened body at) (joined body) rest
+over_body at [] rest h = not_moved at None [] rest
+over_body at (x ∷ body) rest h =
+    ap (λ k. after (step_of None at k) (λ b t. cut (at + length x) b t (body ++ rest)) [] x) h.0 ∙ over_inner (at + length x) at x body rest h.1 ∙ moved_twice at x (joined body) (Some at) (x ++ joined body) rest
+
+over_closing : (at start : ℕ) (body : List Line) (line : Line) (rest : List Line) (frame : Frame)
+    → at ≡ start + length (joined body) → Closes start body line frame
+    → cut at (opened body start) (joined body) (line ∷ rest)
+    ≡ Some frame ∷ cut (at + length line) None [] rest
+over_closing at start [] line rest (BlockFrame offset text) place c =
+    let here : at ≡ offset = omega (arith, place, c.1) in
+    ap (λ k. after (step_of None at k) (λ b t. cut (at + length line) b t rest) [] line) c.0 ∙ ap (λ (n : ℕ). Some (BlockFrame n []) ∷ cut (at + length line) None [] rest) here
+    ∙ ap (λ (t : List ℕ). Some (BlockFrame offset t) ∷ cut (at + length line) None [] rest) (sym c.2)
+over_closing at start (x ∷ body) line rest (BlockFrame offset text) place c =
+    ap (λ k. after (step_of (Some start) at k) (λ b t. cut (at + length line) b t rest) (x ++ joined body) line) c.0 ∙ ap (λ (n : ℕ). Some (BlockFrame n (x ++ joined body)) ∷ cut (at + length line) None [] rest) (sym c.1)
+    ∙ ap (λ (t : List ℕ). Some (BlockFrame offset t) ∷ cut (at + length line) None [] rest) (sym c.2)
+over_closing at start [] line rest (ClaimFrame kind) place c = ap (λ k. after (step_of None at k) (λ b t. cut (at + length line) b t rest) [] line) c.0
+over_closing at start (x ∷ body) line rest (ClaimFrame kind) place c = absurd (let no : x ∷ body ≡ [] = c.1 in cc)
+
+over_frame : (at : ℕ) (own rest : List Line) (frame : Frame) → AreLinesOfFrame at own frame
+    → cut at None [] (own ++ rest) ≡ Some frame ∷ cut (at + length (joined own)) None [] rest
+over_frame at own rest frame k =
+    let size : ((at + length (joined k.gap)) + length (joined k.body)) + length k.line ≡ at + length (joined own) =
+    omega (arith, ap (λ l. length (joined l)) k.whole, two_parts k.gap (k.body ++ k.line ∷ []), two_parts k.body (k.line ∷ []), ap length (append-nil k.line)) in
+    ap (cut at None []) (ap (λ l. l ++ rest) k.whole ∙ simp append_assoc) ∙ over_fillers at k.gap (k.body ++ (k.line ∷ rest)) k.fillers ∙ over_body (at + length (joined k.gap)) k.body (k.line ∷ rest) k.own
+    ∙ over_closing ((at + length (joined k.gap)) + length (joined k.body)) (at + length (joined k.gap)) k.body k.line rest frame refl k.closes ∙ ap (λ n. Some frame ∷ cut n None [] rest) size
+
+over_frames : (at : ℕ) (covered rest : List Line) (frames : List Frame)
+    → AreLinesOf at covered frames → cut at None [] (covered ++ rest)
+    ≡ somes frames ++ cut (at + length (joined covered)) None [] rest
+over_frames at covered rest [] h = ap (λ l. cut at None [] (l ++ rest)) h ∙ not_moved at None [] rest ∙ moved at 0 (length (joined covered)) None [] rest (sym (ap (λ l. length (joined l)) h))
+over_frames at covered rest (frame ∷ frames) h =
+    let size : (at + length (joined h.0)) + length (joined h.1) ≡ at + length (joined covered) = omega (arith, ap (λ l. length (joined l)) h.2, two_parts h.0 h.1) in
+    ap (cut at None []) (ap (λ l. l ++ rest) h.2 ∙ append_assoc h.0 h.1 rest) ∙ over_frame at h.0 (h.1 ++ rest) frame h.3
+    ∙ ap (λ l. Some frame ∷ l) (over_frames (at + length (joined h.0)) h.1 rest frames h.4 ∙ ap (λ n. somes frames ++ cut n None [] rest) size)
+
+cut_of : (lines rest : List Line) (frames : List Frame) (gap body : List Line)
+    → Covers lines frames gap body → (at : ℕ) × (start : ℕ)
+    × (cut 0 None [] (lines ++ rest) ≡ somes frames ++ cut at (opened body start) (joined body) rest)
+cut_of lines rest frames gap body c =
+    let at : ℕ = 0 + length (joined c.covered) in (
+      (at + length (joined gap)) + length (joined body),
+      at + length (joined gap),
+      ap (cut 0 None []) (ap (λ l. l ++ rest) c.whole ∙ simp append_assoc) ∙ over_frames 0 c.covered (gap ++ (body ++ rest)) frames c.of_frames
+          ∙ ap (λ l. somes frames ++ l) (over_fillers at gap (body ++ rest) c.fillers ∙ over_body (at + length (joined gap)) body rest c.own),
+    )
+
+cut_whole : (bytes : List ℕ) (frames : List Frame) → IsFramed bytes frames
+    → cut 0 None [] (lines_of bytes) ≡ somes frames
+cut_whole bytes frames f =
+    ap (cut 0 None []) (sym (append-nil (lines_of bytes))) ∙ (cut_of (lines_of bytes) [] frames f.0 [] f.1).2 ∙ append-nil (somes frames)
+
+somes_once : (fs gs : List Frame) → somes fs ≡ somes gs → fs ≡ gs
+somes_once [] [] e = refl
+somes_once [] (g ∷ gs) e = absurd (let no : [] ≡ Some g ∷ somes gs = e in cc)
+somes_once (f ∷ fs) [] e = absurd (let no : Some f ∷ somes fs ≡ [] = e in cc)
+somes_once (f ∷ fs) (g ∷ gs) e =
+    let here : f ≡ g = cc in
+    let more : somes fs ≡ somes gs = cc in
+    ap (λ x. x ∷ fs) here ∙ ap (λ l. g ∷ l) (somes_once fs gs more)
 
 abbrev block_from : ℕ → List ℕ → List Printed → SolutionBlock
 block_from o t i = record { offset = o; text = t; items = i }
 
-pub three : {b : SolutionBlock} {offset : ℕ} {text : List ℕ} {items : List Printed} → b.offset ≡ offset → b.text ≡ text → b.items ≡ items → b ≡ record { offset = offset; text = text; items = items }
-three {b} {offset} {text} {items} e f g =
-    ap (λ (o : ℕ). block_from o b.text b.items) e ∙ ap (λ (t : List ℕ). block_from offset t b.items) f ∙ ap (λ (i : List Printed). block_from offset text i) g
+same_part : (part other : StreamPart) → HasItems part → HasItems other
+    → frame_of other ≡ frame_of part → other ≡ part
+same_part (BlockPart b) (BlockPart c) h g e =
+    let offsets : c.offset ≡ b.offset = cc in
+    let texts : c.text ≡ b.text = cc in
+    let items : c.items ≡ b.items = one_list_of_items b.text c.items b.items (subst (λ t. IsTextOfItems t c.items) texts g.0) h.0 in
+    ap BlockPart (ap (λ (o : ℕ). block_from o c.text c.items) offsets ∙ ap (λ (t : List ℕ). block_from b.offset t c.items) texts ∙ ap (λ (i : List Printed). block_from b.offset b.text i) items)
+same_part (BlockPart b) (ClaimPart d) h g e = absurd (let no : ClaimFrame d ≡ BlockFrame b.offset b.text = e in cc)
+same_part (ClaimPart c) (BlockPart b) h g e = absurd (let no : BlockFrame b.offset b.text ≡ ClaimFrame c = e in cc)
+same_part (ClaimPart c) (ClaimPart d) h g e = (let inside : d ≡ c = cc in ap ClaimPart inside)
 
--- lines make one part
-same_part : (start : ℕ) (gap body : List Line) (line : Line) (part other : StreamPart)
-    → IsPartOf start gap body line part → IsPartOf start gap body line other → other ≡ part
-same_part start gap body line (BlockPart b) (BlockPart c) h g =
-    let texts : c.text ≡ b.text = g.2 ∙ sym h.2 in
-    ap BlockPart (three (g.1 ∙ sym h.1) texts (one_list_of_items b.text c.items b.items (subst (λ t. IsTextOfItems t c.items) texts g.3.0) h.3.0))
-same_part start gap body line (BlockPart b) (ClaimPart d) h g = absurd (let no : Marker ≡ Claim d = sym h.0 ∙ g.0 in cc)
-same_part start gap body line (ClaimPart c) (BlockPart b) h g = absurd (let no : Marker ≡ Claim c = sym g.0 ∙ h.0 in cc)
-same_part start gap body line (ClaimPart c) (ClaimPart d) h g = (let same : Claim d ≡ Claim c = sym g.0 ∙ h.0 in let inside : d ≡ c = cc in ap ClaimPart inside)
-
--- any parts of what begins with the lines of these parts begin with these, and go on behind them
-begins_with : (start : ℕ) (covered rest : List Line) (parts others : List StreamPart)
-    → AreLinesOf start covered parts → EndAfter start (covered ++ rest) others
-    → (more : List StreamPart) × (others ≡ parts ++ more) × EndAfter (start + length (joined covered)) rest more
-begins_with start covered rest [] others h g =
-    let at : start ≡ start + length (joined covered) = omega (arith, ap (λ l. length (joined l)) h) in
-    (others, refl, subst (λ s. EndAfter s rest others) at (subst (λ l. EndAfter start (l ++ rest) others) h g))
-begins_with start covered rest (part ∷ parts) others h g =
-    let k = shape_of start h.0 part h.3 in
-    let cut : covered ++ rest ≡ k.gap ++ (k.body ++ (k.line ∷ (h.1 ++ rest))) = ap (λ l. l ++ rest) (h.2 ∙ ap (λ l. l ++ h.1) k.whole) ∙ simp append_assoc in
-    let n = next_part start k.gap k.body k.line (h.1 ++ rest) k.fillers k.own k.closes others (subst (λ l. EndAfter start l others) cut g) in
-    let w = begins_with (start + length (joined h.0)) h.1 rest parts n.more h.4 (subst (λ l. EndAfter (start + length (joined l)) (h.1 ++ rest) n.more) (sym k.whole) n.others) in
-    let size : (start + length (joined h.0)) + length (joined h.1) ≡ start + length (joined covered) =
-    omega (arith, ap (λ l. length (joined l)) h.2, ap length (joined-append h.0 h.1), length-append (joined h.0) (joined h.1)) in
-    (w.0, n.parts_are ∙ ap (λ q. q ∷ n.more) (same_part start k.gap k.body k.line part n.part k.is n.is) ∙ ap (λ ps. part ∷ ps) w.1, subst (λ s. EndAfter s rest w.0) size w.2)
+same_parts : (parts others : List StreamPart) → AllByRecursion HasItems parts
+    → AllByRecursion HasItems others → map frame_of others ≡ map frame_of parts → others ≡ parts
+same_parts [] [] h g e = refl
+same_parts [] (q ∷ others) h g e = absurd (let no : frame_of q ∷ map frame_of others ≡ [] = e in cc)
+same_parts (p ∷ parts) [] h g e = absurd (let no : [] ≡ frame_of p ∷ map frame_of parts = e in cc)
+same_parts (p ∷ parts) (q ∷ others) h g e =
+    let here : frame_of q ≡ frame_of p = cc in
+    let more : map frame_of others ≡ map frame_of parts = cc in
+    ap (λ x. x ∷ others) (same_part p q h.0 g.0 here) ∙ ap (λ l. p ∷ l) (same_parts parts others h.1 g.1 more)
 
 -- a stream's bytes are a text of one list of parts
 pub parts_once : (bytes : List ℕ) (parts others : List StreamPart) → IsStreamText bytes parts
     → IsStreamText bytes others → others ≡ parts
 parts_once bytes parts others t u =
-    let w = begins_with 0 t.covers.covered t.rest parts others t.covers.of_parts (subst (λ l. EndAfter 0 l others) t.covers.whole (end_after bytes others u)) in
-    w.1 ∙ ap (λ l. parts ++ l) (no_part _ t.rest (inner_from_filler t.rest t.fillers) w.0 w.2).0 ∙ append-nil parts
+    same_parts parts others t.items u.items (somes_once (map frame_of others) (map frame_of parts) (sym (cut_whole bytes (map frame_of others) u.framed) ∙ cut_whole bytes (map frame_of parts) t.framed))
 
-module _ (start : ℕ) (gap body : List Line) (fillers : AllByRecursion IsFiller gap) (own : AreBlockLines body) (begun : body ≢ []) where
-  no_filler : (b : List Line) → b ≢ [] → AreBlockLines b → AllByRecursion IsFiller b → ⊥
-  no_filler [] some own f = some refl
-  no_filler (x ∷ b) some own f = subst IsFillerKind own.0 f.0
+no_none : (fs : List Frame) (xs more : List (Option Frame)) → somes fs ≡ xs ++ None ∷ more → ⊥
+no_none [] [] more e = (let no : [] ≡ None ∷ more = e in cc)
+no_none [] (x ∷ xs) more e = (let no : [] ≡ x ∷ (xs ++ None ∷ more) = e in cc)
+no_none (f ∷ fs) [] more e = (let no : Some f ≡ None = cc in cc)
+no_none (f ∷ fs) (x ∷ xs) more e = no_none fs xs more (let rest : somes fs ≡ xs ++ None ∷ more = cc in rest)
 
-  closes : (line : Line) (k : LineKind) → kind_of line ≡ k → CannotFollow (joined body) k
-      → IsInner line → ⊥
-  closes line Marker e breaks i = subst IsInnerKind e i
-  closes line (Claim c) e breaks i = subst IsInnerKind e i
-  closes line _ e breaks i = breaks
+-- a block among the parts has items
+items_of : (parts : List StreamPart) (xs more : List (Option Frame)) (offset : ℕ) (text : List ℕ)
+    → AllByRecursion HasItems parts
+    → somes (map frame_of parts) ≡ xs ++ Some (BlockFrame offset text) ∷ more
+    → (items : List Printed) × IsBlockText text items
+items_of [] [] more offset text h e = absurd (let no : [] ≡ Some (BlockFrame offset text) ∷ more = e in cc)
+items_of [] (x ∷ xs) more offset text h e = absurd (let no : [] ≡ x ∷ (xs ++ Some (BlockFrame offset text) ∷ more) = e in cc)
+items_of (BlockPart b ∷ parts) [] more offset text h e = (let texts : b.text ≡ text = cc in (b.items, subst (λ t. IsBlockText t b.items) texts h.0))
+items_of (ClaimPart c ∷ parts) [] more offset text h e = absurd (let no : ClaimFrame c ≡ BlockFrame offset text = cc in cc)
+items_of (p ∷ parts) (x ∷ xs) more offset text h e =
+    items_of parts xs more offset text h.1 (let rest : somes (map frame_of parts) ≡ xs ++ Some (BlockFrame offset text) ∷ more = cc in rest)
 
-  no_part_of : (line : Line) (k : LineKind) → kind_of line ≡ k → CannotFollow (joined body) k
-      → (part : StreamPart) → IsPartOf start gap body line part → ⊥
-  no_part_of line Marker e breaks (BlockPart b) h = breaks b.items (subst (λ t. IsBlockText t b.items) h.2 h.3)
-  no_part_of line Marker e breaks (ClaimPart c) h = (let no : Marker ≡ Claim c = sym e ∙ h.0 in cc)
-  no_part_of line (Claim c) e breaks (BlockPart b) h = (let no : Claim c ≡ Marker = sym e ∙ h.0 in cc)
-  no_part_of line (Claim c) e breaks (ClaimPart d) h = begun h.1
-  no_part_of line _ e breaks part h = breaks
-
-  -- no parts have an open block that is broken by what comes after it
-  no_parts : (rest : List Line) → BreaksText (joined body) rest → (parts : List StreamPart)
-      → EndAfter start (gap ++ (body ++ rest)) parts → ⊥
-  no_parts [] breaks parts h =
-      let inner = every_append IsInner gap (body ++ []) (inner_from_filler gap fillers) (every_append IsInner body [] (inner_body body own) tt) in
-      no_filler body begun own (every_left IsFiller body [] (every_right IsFiller gap (body ++ []) (no_part start (gap ++ (body ++ [])) inner parts h).1))
-  no_parts (line ∷ rest) breaks parts h =
-      let n = next_part start gap body line rest fillers own (closes line (kind_of line) refl breaks) parts h in
-      no_part_of line (kind_of line) refl breaks n.part n.is
+-- what comes after an open block that is broken
+broken_rest : (parts : List StreamPart) (xs : List (Option Frame)) (at start : ℕ) (body : List Line)
+    (rest : List Line) → body ≢ [] → BreaksText (joined body) rest → AllByRecursion HasItems parts
+    → somes (map frame_of parts) ≡ xs ++ cut at (opened body start) (joined body) rest → ⊥
+broken_rest parts xs at start [] rest some breaks items e = some refl
+broken_rest parts xs at start (x ∷ body) [] some breaks items e = no_none (map frame_of parts) xs [] e
+broken_rest parts xs at start (x ∷ body) (line ∷ rest) some breaks items e = by (kind_of line) breaks e
+  where
+    by : (k : LineKind) → CannotFollow (x ++ joined body) k
+        → somes (map frame_of parts) ≡ xs ++ after (step_of (Some start) at k) (λ b t. cut (at + length line) b t rest) (x ++ joined body) line
+        → ⊥
+    by Marker breaks e = let w = items_of parts xs (cut (at + length line) None [] rest) start (x ++ joined body) items e in breaks w.0 w.1
+    by (Claim c) breaks e = no_none (map frame_of parts) xs [] e
+    by _ breaks e = breaks
 
 -- where a stream stops, its bytes are a text of no parts
-pub stops_no_text : (bytes : List ℕ) (before : List StreamPart) (fault : StreamError)
-    → StopsAfter bytes before fault → (parts : List StreamPart) → IsStreamText bytes parts → ⊥
-stops_no_text bytes before fault s parts t =
-    let c = s.stands.covers in
-    let w = begins_with 0 c.covered (s.gap ++ (s.body ++ s.rest)) before parts c.of_parts (subst (λ l. EndAfter 0 l parts) c.whole (end_after bytes parts t)) in
-    no_parts _ s.gap s.body s.stands.fillers s.stands.own s.begun s.rest s.breaks w.0 w.2
+pub stops_no_text : (bytes : List ℕ) (frames : List Frame) (fault : StreamError)
+    → BreaksAfter BreaksText bytes frames fault → (parts : List StreamPart)
+    → IsStreamText bytes parts → ⊥
+stops_no_text bytes frames fault s parts t =
+    let c = cut_of s.lines s.rest frames s.gap s.body s.covers in
+    broken_rest parts (somes frames) c.0 c.1 s.body s.rest s.begun s.breaks t.items
+    (sym (cut_whole bytes (map frame_of parts) t.framed) ∙ ap (cut 0 None []) s.whole ∙ c.2)

@@ -1,100 +1,225 @@
--- The loop invariant of `blocks`.
-use Rattle.std.proofs.Common.{◌≡◌, ℕ, ◌+◌, ◌-◌, ◌≤◌, Option, Some, None, List, [], ◌∷◌, ◌++◌, length, refl, sym, ap, ◌∙◌, subst, append-nil, arith, take, drop}
-use Rattle.std.proofs.lemmas.List.{drop-drop, drop_all, length-drop, length-take}
+-- A stream that is read line by line: the loop invariant of `blocks`.
+use Rattle.std.proofs.Common.{◌≡◌, ℕ, ◌+◌, ◌-◌, ◌≤◌, Option, Some, None, List, [], ◌∷◌, ◌++◌, length, refl, sym, ap, ◌∙◌, subst, append_assoc, append-nil, length-append, arith, take, drop, map}
+use Rattle.std.proofs.lemmas.List.{drop-drop, drop_all, drop_at, take_at, length-drop, map_push}
+use Rattle.std.specs.List.{AllByRecursion}
 use Rattle.fz_syntax.specs.Span.{Span}
+use Rattle.fz_syntax.specs.Tree.{Printed}
+use Rattle.fz_stream.specs.declared.error.StreamError.{StreamError}
 use Rattle.fz_stream.specs.declared.error.StreamError.TheVariants.{Unfinished}
 use Rattle.fz_stream.specs.declared.reading.Claim.{Claim as ClaimRead}
 use Rattle.fz_stream.specs.declared.line.ClaimKind.{ClaimKind}
-use Rattle.fz_stream.specs.declared.step.Step.TheVariants.{GoesOn, EndsBlock, Claims}
-use Rattle.fz_stream.specs.Lines.{Line, lines_of, joined, kind_of}
-use Rattle.fz_stream.specs.Parts.{SolutionBlock, StreamPart, BlockPart, ClaimPart, IsBlockText, IsStreamText}
-use Rattle.fz_stream.specs.Found.{blocks_in, claims_in, IsReadAs}
+use Rattle.fz_stream.specs.declared.step.Step.{Step}
+use Rattle.fz_stream.specs.declared.step.Step.TheVariants.{GoesOn, EndsBlock, Claims, Breaks}
+use Rattle.fz_stream.specs.Parts.{Line, lines_of, joined, kind_of, SolutionBlock, StreamPart, BlockPart, ClaimPart, frame_of, IsBlockText, HasItems, Closes, AreLinesOf, Covers, IsStreamText, blocks_in}
+use Rattle.fz_stream.specs.Found.{claims_in, IsReadAs}
 use Rattle.fz_stream.specs.Step.{step_of}
-use Rattle.fz_stream.specs.Broken.{StopsAfter}
+use Rattle.fz_stream.specs.Broken.{BreaksText, StopsAfter}
+use Rattle.fz_stream.specs.Telling.{TellsOfText}
+use Rattle.fz_stream.specs.Keeping.{BreaksBlock}
+use Rattle.fz_stream.proofs.LineLemmas.{joined-lines_of}
 use Rattle.fz_stream.proofs.OnePartLemmas.{parts_once}
-use Rattle.fz_stream.proofs.StopLemmas.{stops_at_end}
-use Rattle.fz_stream.proofs.ReadingLemmas.{Reading, start_reading, line_does, goes_on, ends_block, claims_one, blocks_in-append, claims_in-append}
-use Rattle.fz_stream.proofs.StepLemmas.{Begins, none_open}
+use Rattle.fz_stream.proofs.PartLemmas.{every_append, joined-append, one_more, size_of, into_gap, into_body, into_frames}
+use Rattle.fz_stream.proofs.StepLemmas.{opened, opens_more, none_open, some_open, Does, does}
+use Rattle.fz_stream.proofs.StopLemmas.{breaks_block, breaks_claim, breaks_at}
 
+-- The lines before those that are left are those of frames, of blank lines and comments, and of an
+-- open block; and the blocks and claims that were read are those of the frames.
 pub record ReadSoFar (stream : List ℕ) (begun : Option ℕ) (at : ℕ) (blocks : List SolutionBlock) (claims : List ClaimRead) : Type 0 where
   pub parts : List StreamPart
-  pub reading : Reading stream (lines_of (drop at stream)) begun at parts
+  pub items : AllByRecursion HasItems parts
+  pub lines : List Line
+  pub gap : List Line
+  pub body : List Line
+  pub whole : lines_of stream ≡ lines ++ lines_of (drop at stream)
+  pub covers : Covers lines (map frame_of parts) gap body
+  pub place_is : at ≡ (length (joined covers.covered) + length (joined gap)) + length (joined body)
+  pub begins : begun ≡ opened body (length (joined covers.covered) + length (joined gap))
   pub within : at ≤ length stream
   pub blocks_are : blocks ≡ blocks_in parts
   pub claims_are : claims ≡ claims_in 0 parts
 
 pub start_so_far : (stream : List ℕ) → ReadSoFar stream None 0 [] []
-start_so_far stream = record { parts = []; reading = start_reading stream; within = omega arith; blocks_are = refl; claims_are = refl }
+start_so_far stream = record {
+  parts = [];
+  items = tt;
+  lines = [];
+  gap = [];
+  body = [];
+  whole = refl;
+  covers = record { covered = []; whole = refl; of_frames = refl; fillers = tt; own = tt };
+  place_is = refl;
+  begins = refl;
+  within = omega arith;
+  blocks_are = refl;
+  claims_are = refl;
+}
+
+pub blocks_in-append : (ps qs : List StreamPart)
+    → blocks_in (ps ++ qs) ≡ blocks_in ps ++ blocks_in qs
+blocks_in-append [] qs = refl
+blocks_in-append (BlockPart b ∷ ps) qs = ap (λ l. b ∷ l) (blocks_in-append ps qs)
+blocks_in-append (ClaimPart k ∷ ps) qs = blocks_in-append ps qs
+
+pub claims_in-append : (n : ℕ) (ps qs : List StreamPart)
+    → claims_in n (ps ++ qs) ≡ claims_in n ps ++ claims_in (n + length (blocks_in ps)) qs
+claims_in-append n [] qs = ap (λ m. claims_in m qs) (let e : n ≡ n + 0 = omega arith in e)
+claims_in-append n (BlockPart b ∷ ps) qs =
+    claims_in-append (n + 1) ps qs ∙ ap (λ m. claims_in (n + 1) ps ++ claims_in m qs) (let e : (n + 1) + length (blocks_in ps) ≡ n + length (b ∷ blocks_in ps) = omega arith in e)
+claims_in-append n (ClaimPart k ∷ ps) qs = ap (λ l. record { after = n; kind = k } ∷ l) (claims_in-append n ps qs)
 
 -- the next line of the stream
 module _ (stream : List ℕ) (begun : Option ℕ) (at : ℕ) (blocks : List SolutionBlock) (claims : List ClaimRead) (s : ReadSoFar stream begun at blocks claims)
     (rest : List ℕ) (left : rest ≡ drop at stream) (line : Line) (within : length line ≤ length rest) (cut : lines_of rest ≡ line ∷ lines_of (drop (length line) rest)) where
-  pub now : Reading stream (line ∷ lines_of (drop (at + length line) stream)) begun at s.parts
-  now = subst (λ l. Reading stream l begun at s.parts) (ap lines_of (sym left) ∙ cut ∙ ap (λ l. line ∷ lines_of l) (ap (drop (length line)) left ∙ drop-drop (length line) at stream)) s.reading
+  left_are : lines_of stream ≡ s.lines ++ (line ∷ lines_of (drop (at + length line) stream))
+  left_are = s.whole ∙ ap (λ l. s.lines ++ l) (ap lines_of (sym left) ∙ cut ∙ ap (λ l. line ∷ lines_of l) (ap (drop (length line)) left ∙ drop-drop (length line) at stream))
+
+  whole_next : lines_of stream ≡ (s.lines ++ line ∷ []) ++ lines_of (drop (at + length line) stream)
+  whole_next = left_are ∙ sym (append_assoc s.lines (line ∷ []) _)
 
   inside : at + length line ≤ length stream
   inside = omega (arith, s.within, within, ap length left, length-drop at stream)
 
+  -- what the step of the line says
+  line_does : (step : Step) → step_of begun at (kind_of line) ≡ step
+      → Does step (length (joined s.covers.covered) + length (joined s.gap)) s.body line
+  line_does = does at _ s.body line s.covers.own s.place_is begun s.begins
+
+  -- a line after which nothing ends
   pub so_far_goes_on : (next : Option ℕ) → step_of begun at (kind_of line) ≡ GoesOn next
       → ReadSoFar stream next (at + length line) blocks claims
-  so_far_goes_on next e = record {
-    parts = s.parts;
-    reading = goes_on _ _ _ _ _ _ now next e;
-    within = inside;
-    blocks_are = s.blocks_are;
-    claims_are = s.claims_are;
-  }
+  so_far_goes_on None e =
+      let d = line_does (GoesOn None) e in
+      record {
+        parts = s.parts;
+        items = s.items;
+        lines = s.lines ++ line ∷ [];
+        gap = s.gap ++ line ∷ [];
+        body = [];
+        whole = whole_next;
+        covers = into_gap s.covers line d.0 d.1;
+        place_is = omega (arith, s.place_is, ap (λ b. length (joined b)) d.0, one_more s.gap line);
+        begins = refl;
+        within = inside;
+        blocks_are = s.blocks_are;
+        claims_are = s.claims_are;
+      }
+  so_far_goes_on (Some n) e =
+      let d = line_does (GoesOn (Some n)) e in
+      record {
+        parts = s.parts;
+        items = s.items;
+        lines = s.lines ++ line ∷ [];
+        gap = s.gap;
+        body = s.body ++ line ∷ [];
+        whole = whole_next;
+        covers = into_body s.covers line d.0;
+        place_is = omega (arith, s.place_is, one_more s.body line);
+        begins = opens_more s.body line _ n d.1;
+        within = inside;
+        blocks_are = s.blocks_are;
+        claims_are = s.claims_are;
+      }
 
-  pub so_far_block : (start : ℕ) → step_of begun at (kind_of line) ≡ EndsBlock start
-      → (block : SolutionBlock) → block.offset ≡ start
-      → block.text ≡ take (at - start) (drop start stream) → IsBlockText block.text block.items
-      → ReadSoFar stream None (at + length line) (blocks ++ block ∷ []) claims
-  so_far_block start e block offset text items = record {
-    parts = s.parts ++ BlockPart block ∷ [];
-    reading = ends_block _ _ _ _ _ _ now start e block offset text items;
-    within = inside;
-    blocks_are = ap (λ l. l ++ block ∷ []) s.blocks_are ∙ sym (blocks_in-append s.parts (BlockPart block ∷ []));
-    claims_are = s.claims_are ∙ sym (claims_in-append 0 s.parts (BlockPart block ∷ []) ∙ append-nil _);
-  }
+  -- the line ends a frame
+  so_far_part : (part : StreamPart) → HasItems part
+      → Closes (length (joined s.covers.covered) + length (joined s.gap)) s.body line (frame_of part)
+      → (more : List SolutionBlock) (claimed : List ClaimRead)
+      → more ≡ blocks_in (part ∷ []) → claimed ≡ claims_in (0 + length (blocks_in s.parts)) (part ∷ [])
+      → ReadSoFar stream None (at + length line) (blocks ++ more) (claims ++ claimed)
+  so_far_part part items closes more claimed are claimed_are =
+      let covers = into_frames s.covers line (frame_of part) closes in
+      record {
+        parts = s.parts ++ part ∷ [];
+        items = every_append HasItems s.parts (part ∷ []) s.items (items, tt);
+        lines = s.lines ++ line ∷ [];
+        gap = [];
+        body = [];
+        whole = whole_next;
+        covers = record {
+          covered = covers.covered;
+          whole = covers.whole;
+          of_frames = subst (AreLinesOf 0 covers.covered) (sym (map_push frame_of s.parts part)) covers.of_frames;
+          fillers = tt;
+          own = tt;
+        };
+        place_is = omega (arith, s.place_is, size_of s.covers, one_more s.lines line, size_of covers);
+        begins = refl;
+        within = inside;
+        blocks_are = ap (λ l. l ++ more) s.blocks_are ∙ ap (λ l. blocks_in s.parts ++ l) are ∙ sym (blocks_in-append s.parts (part ∷ []));
+        claims_are = ap (λ l. l ++ claimed) s.claims_are ∙ ap (λ l. claims_in 0 s.parts ++ l) claimed_are ∙ sym (claims_in-append 0 s.parts (part ∷ []));
+      }
+
+  so_far_stops : (fault : StreamError) → BreaksBlock s.lines (map frame_of s.parts) line fault
+      → StopsAfter stream s.parts fault
+  so_far_stops fault b = (s.items, breaks_at BreaksText stream s.lines (map frame_of s.parts) line _ fault left_are b b.cannot)
+
+  module _ (start : ℕ) (e : step_of begun at (kind_of line) ≡ EndsBlock start) (offset : ℕ) (text : List ℕ) (from : offset ≡ start) (is : text ≡ take (at - start) (drop start stream)) where
+    -- the line closes a block of this text, which is what is between its start and the line
+    text_is : text ≡ joined s.body
+    text_is =
+        let d = line_does (EndsBlock start) e in
+        let front : List ℕ = joined s.covers.covered ++ joined s.gap in
+        let behind : List ℕ = joined (line ∷ lines_of (drop (at + length line) stream)) in
+        let size : length front ≡ start = omega (arith, length-append (joined s.covers.covered) (joined s.gap), d.1) in
+        let lines_are : joined s.lines ≡ front ++ joined s.body =
+        ap joined s.covers.whole ∙ joined-append s.covers.covered _ ∙ ap (λ l. joined s.covers.covered ++ l) (joined-append s.gap s.body) ∙ sym (append_assoc (joined s.covers.covered) (joined s.gap) (joined s.body)) in
+        let split : stream ≡ front ++ (joined s.body ++ behind) =
+        sym (joined-lines_of stream) ∙ ap joined left_are ∙ joined-append s.lines _ ∙ ap (λ l. l ++ behind) lines_are ∙ append_assoc front (joined s.body) behind in
+        let dropped : drop start stream ≡ joined s.body ++ behind = ap (drop start) split ∙ drop_at front _ start size in
+        is ∙ ap (take (at - start)) dropped ∙ take_at (joined s.body) behind (at - start) (omega (arith, s.place_is, d.1))
+
+    pub so_far_block : (items : List Printed) → IsBlockText text items
+        → ReadSoFar stream None (at + length line) (blocks ++ record { offset = offset; text = text; items = items } ∷ []) claims
+    so_far_block items t =
+        let d = line_does (EndsBlock start) e in
+        subst (ReadSoFar stream None (at + length line) (blocks ++ record { offset = offset; text = text; items = items } ∷ [])) (append-nil claims)
+        (so_far_part (BlockPart (record { offset = offset; text = text; items = items })) t (d.0, from ∙ d.1, text_is) _ [] refl refl)
+
+    -- its text ends before its marker
+    pub so_far_text_within : offset + length text ≤ length stream
+    so_far_text_within = omega (arith, from, ap length text_is, (line_does (EndsBlock start) e).1, s.place_is, s.within)
+
+    -- or is none of a block
+    pub so_far_stops_at_block : ((items : List Printed) → IsBlockText text items → ⊥)
+        → (fault : StreamError) → TellsOfText offset text fault → StopsAfter stream s.parts fault
+    so_far_stops_at_block none fault told =
+        let d = line_does (EndsBlock start) e in
+        so_far_stops fault (breaks_block _ _ _ _ s.covers line d.0 offset text (from ∙ d.1) text_is none fault told)
 
   pub so_far_claim : (c : ClaimKind) → step_of begun at (kind_of line) ≡ Claims c → (claim : ClaimRead) → claim ≡ record { after = length blocks; kind = c }
       → ReadSoFar stream begun (at + length line) blocks (claims ++ claim ∷ [])
   so_far_claim c e claim is =
-      let d = line_does _ _ _ _ _ _ now (Claims c) e in
-      let none : begun ≡ None = subst (λ b. Begins b (length (joined now.stands.covers.covered) + length (joined now.gap)) begun) d.1 now.begins in
+      let d = line_does (Claims c) e in
+      let none : None ≡ begun = sym (s.begins ∙ ap (λ b. opened b (length (joined s.covers.covered) + length (joined s.gap))) d.1) in
       let place : length blocks ≡ 0 + length (blocks_in s.parts) = omega (arith, ap length s.blocks_are) in
-      record {
-        parts = s.parts ++ ClaimPart c ∷ [];
-        reading = subst (λ b. Reading stream (lines_of (drop (at + length line) stream)) b (at + length line) (s.parts ++ ClaimPart c ∷ [])) (sym none) (claims_one _ _ _ _ _ _ now c e);
-        within = inside;
-        blocks_are = s.blocks_are ∙ sym (blocks_in-append s.parts (ClaimPart c ∷ []) ∙ append-nil _);
-        claims_are = ap (λ l. l ++ claim ∷ []) s.claims_are ∙ ap (λ d. claims_in 0 s.parts ++ d ∷ []) (is ∙ ap (λ (n : ℕ). claim_from n c) place) ∙ sym (claims_in-append 0 s.parts (ClaimPart c ∷ []));
-      }
+      subst (λ b. ReadSoFar stream b (at + length line) blocks (claims ++ claim ∷ [])) none (subst (λ l. ReadSoFar stream None (at + length line) l (claims ++ claim ∷ [])) (append-nil blocks)
+      (so_far_part (ClaimPart c) tt d [] (claim ∷ []) refl (ap (λ x. x ∷ []) (is ∙ ap (λ (n : ℕ). claim_from n) place))))
     where
-      claim_from : ℕ → ClaimKind → ClaimRead
-      claim_from n k = record { after = n; kind = k }
+      claim_from : ℕ → ClaimRead
+      claim_from n = record { after = n; kind = c }
 
-  -- a block's text ends before its marker
-  pub so_far_text_within : (start : ℕ) → step_of begun at (kind_of line) ≡ EndsBlock start
-      → (offset : ℕ) (text : List ℕ) → offset ≡ start → text ≡ take (at - start) (drop start stream)
-      → offset + length text ≤ length stream
-  so_far_text_within start e offset text from is =
-      omega (arith, from, ap length is, (line_does _ _ _ _ _ _ now (EndsBlock start) e).1, now.place_is, s.within, length-take (at - start) (drop start stream), length-drop start stream)
+  -- a claim is inside the open block
+  pub so_far_stops_at_claim : (n : ℕ) → step_of begun at (kind_of line) ≡ Breaks n → (span : Span)
+      → span.start ≡ n → span.end ≡ at → StopsAfter stream s.parts (Unfinished span)
+  so_far_stops_at_claim n e span from upto =
+      so_far_stops (Unfinished span) (breaks_claim _ _ _ _ s.covers line n _ refl (line_does (Breaks n) e) span from (upto ∙ s.place_is))
 
 -- the end of the stream
 module _ (stream : List ℕ) (at : ℕ) (blocks : List SolutionBlock) (claims : List ClaimRead) (end : length stream ≤ at) (begun : Option ℕ) (s : ReadSoFar stream begun at blocks claims) where
-  last : Reading stream [] begun at s.parts
-  last = subst (λ l. Reading stream l begun at s.parts) (ap lines_of (drop_all at stream end)) s.reading
+  lines_are : lines_of stream ≡ s.lines ++ []
+  lines_are = s.whole ∙ ap (λ l. s.lines ++ lines_of l) (drop_all at stream end)
 
   pub so_far_read : begun ≡ None → IsReadAs stream blocks claims
-  so_far_read e = record { parts = s.parts; text = text; only = λ others t. parts_once stream s.parts others text t; blocks_are = s.blocks_are; claims_are = s.claims_are }
-    where
-      text : IsStreamText stream s.parts
-      text =
-          let none : last.body ≡ [] = none_open last.body _ (subst (Begins last.body _) e last.begins) in
-          let c = last.stands.covers in
-          record { rest = last.gap; covers = record { covered = c.covered; whole = c.whole ∙ ap (λ b. c.covered ++ (last.gap ++ (b ++ []))) none ∙ ap (λ l. c.covered ++ l) (append-nil last.gap); of_parts = c.of_parts }; fillers = last.stands.fillers }
+  so_far_read e =
+      let none : s.body ≡ [] = none_open s.body _ (sym e ∙ s.begins) in
+      let covers : Covers (lines_of stream) (map frame_of s.parts) s.gap [] = subst (λ l. Covers l (map frame_of s.parts) s.gap []) (sym (lines_are ∙ append-nil s.lines)) (subst (Covers s.lines (map frame_of s.parts) s.gap) none s.covers) in
+      let text : IsStreamText stream s.parts = record { framed = (s.gap, covers); items = s.items } in
+      record { parts = s.parts; text = text; only = λ others t. parts_once stream s.parts others text t; blocks_are = s.blocks_are; claims_are = s.claims_are }
 
   pub so_far_stops_at_end : (n : ℕ) → begun ≡ Some n → (span : Span) → span.start ≡ n
       → span.end ≡ length stream → StopsAfter stream s.parts (Unfinished span)
-  so_far_stops_at_end n e span from upto = stops_at_end stream begun at s.parts last n e span from (omega (arith, upto, end, s.within))
+  so_far_stops_at_end n e span from upto =
+      let w = some_open s.body _ n (sym e ∙ s.begins) in (
+        s.items,
+        record { lines = s.lines; gap = s.gap; body = s.body; rest = []; whole = lines_are; covers = s.covers; begun = w.0; breaks = tt; tells = (tt, from ∙ w.1, omega (arith, upto, end, s.within, s.place_is)) },
+      )

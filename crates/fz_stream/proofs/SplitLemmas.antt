@@ -1,16 +1,10 @@
--- The state of a splitter after a line, or a piece of one.
-use Rattle.std.proofs.Common.{◌≡◌, ◌≢◌, ℕ, ◌+◌, List, [], ◌∷◌, ◌++◌, length, take, drop, refl, sym, ap, ◌∙◌, subst, inl, inr, ◌⊎◌, ⊎_elim, zero, suc, ◌<◌, ◌≤◌, ◌-◌, length-append, append_assoc, append-nil, take-append-drop, arith, cond, get_or}
+-- Whole lines, and lines that have begun.
+use Rattle.std.proofs.Common.{◌≡◌, ◌≢◌, ℕ, ◌+◌, List, [], ◌∷◌, ◌++◌, length, take, drop, refl, sym, ap, ◌∙◌, subst, inl, inr, ◌⊎◌, ⊎_elim, zero, suc, ◌<◌, ◌≤◌, ◌-◌, length-append, append_assoc, take-append-drop, arith, cond, get_or}
 use Rattle.std.proofs.lemmas.Bool.{ne_eqb, eq-eqb, cases_eq}
 use Rattle.std.proofs.lemmas.List.{get_or_at, take-append-le}
 use Rattle.std.specs.List.{AllByRecursion}
-use Rattle.fz_stream.specs.Lines.{Line, lines_of, onto_first, joined, HasNoFeed, EndsWithFeed, IsFiller}
-use Rattle.fz_stream.specs.Parts.{StreamPart, AreBlockLines, GoesOnAfter}
-use Rattle.fz_stream.specs.Broken.{IsBrokenAfter}
-use Rattle.fz_stream.specs.Splitting.{Holds}
-use Rattle.fz_stream.specs.Keeping.{Keeps, BreaksBlock}
-use Rattle.fz_stream.specs.declared.error.StreamError.{StreamError}
-use Rattle.fz_stream.proofs.LineLemmas.{joined-lines_of}
-use Rattle.fz_stream.proofs.PartLemmas.{every_append, every_left, every_right, joined-append, into_gap}
+use Rattle.fz_stream.specs.Parts.{Line, lines_of, onto_first, joined, HasNoFeed, EndsWithFeed}
+use Rattle.fz_stream.proofs.PartLemmas.{every_append, every_left, every_right}
 
 -- the step of `lines_of` at a byte that is no LF
 onto : (x : ℕ) (xs : List ℕ) → x ≢ 10 → lines_of (x ∷ xs) ≡ onto_first x (lines_of xs)
@@ -42,107 +36,16 @@ lines_of-begun x (y ∷ ys) h = onto x (y ∷ ys) h.0 ∙ ap (onto_first x) (lin
 pub no_end : (line : List ℕ) → HasNoFeed line → EndsWithFeed line → ⊥
 no_end line h w = ((every_right (λ b. b ≢ 10) w.0 (10 ∷ []) (subst HasNoFeed w.2 h)).0) refl
 
--- what is held, without what it is
-pub keeps_held : (bytes : List ℕ) (parts : List StreamPart) (held : List ℕ) → Holds bytes parts held
-    → Keeps bytes parts held
-keeps_held bytes parts held h = record {
-  covered = h.stands.covers.covered;
-  gap = h.gap;
-  whole =
-      sym (joined-lines_of bytes) ∙ ap joined h.stands.covers.whole ∙ joined-append h.stands.covers.covered _
-      ∙ ap (λ l. joined h.stands.covers.covered ++ l) (joined-append h.gap _ ∙ ap (λ l. joined h.gap ++ l) (joined-append h.body (lines_of h.current) ∙ ap (λ l. joined h.body ++ l) (joined-lines_of h.current) ∙ sym h.held_are));
-  ended = every_left EndsWithFeed (h.stands.covers.covered ++ h.gap) h.body (subst (AllByRecursion EndsWithFeed) (sym (append_assoc h.stands.covers.covered h.gap h.body)) h.ended);
-  of_parts = h.stands.covers.of_parts;
-  fillers = h.stands.fillers;
-}
+-- where bytes are cut after whole lines
+pub lines_after : (bytes : List ℕ) (lines : List Line) (current : List ℕ) (more : List ℕ)
+    → bytes ≡ joined lines ++ current → AllByRecursion EndsWithFeed lines
+    → lines_of (bytes ++ more) ≡ lines ++ lines_of (current ++ more)
+lines_after bytes lines current more e h = ap lines_of (ap (λ l. l ++ more) e ∙ append_assoc (joined lines) current more) ∙ lines_of-lines lines (current ++ more) h
 
-module _ (bytes : List ℕ) (parts : List StreamPart) (held : List ℕ) (h : Keeps bytes parts held) where
-  -- what is held is followed by bytes
-  abbrev pub keeps_more : (more : List ℕ) → Keeps (bytes ++ more) parts (held ++ more)
-  keeps_more more = record {
-    covered = h.covered;
-    gap = h.gap;
-    whole = ap (λ l. l ++ more) h.whole ∙ append_assoc (joined h.covered) (joined h.gap ++ held) more ∙ ap (λ l. joined h.covered ++ l) (append_assoc (joined h.gap) held more);
-    ended = h.ended;
-    of_parts = h.of_parts;
-    fillers = h.fillers;
-  }
-
-  -- where what is held begins
-  pub place : (before : ℕ) → before + length held ≡ length bytes
-      → before ≡ length (joined h.covered) + length (joined h.gap)
-  place before all = omega (arith, all, ap length h.whole, length-append (joined h.covered) (joined h.gap ++ held), length-append (joined h.gap) held)
-
-  module _ (body : List Line) (whole : AllByRecursion EndsWithFeed body) (own : AreBlockLines body) where
-    pub all_ended : AllByRecursion EndsWithFeed (h.covered ++ (h.gap ++ body))
-    all_ended =
-        every_append EndsWithFeed h.covered (h.gap ++ body) (every_left EndsWithFeed h.covered h.gap h.ended)
-        (every_append EndsWithFeed h.gap body (every_right EndsWithFeed h.covered h.gap h.ended) whole)
-
-    -- after the parts come the gap, the body and the lines of what follows it
-    abbrev pub goes_on_after : (current : List ℕ) (rest : List Line) → held ≡ joined body ++ current
-        → lines_of current ≡ rest → GoesOnAfter bytes parts h.gap body rest
-    goes_on_after current rest e lines =
-        let grouped : joined (h.covered ++ (h.gap ++ body)) ++ current ≡ joined h.covered ++ (joined h.gap ++ (joined body ++ current)) =
-        ap (λ l. l ++ current) (joined-append h.covered (h.gap ++ body) ∙ ap (λ l. joined h.covered ++ l) (joined-append h.gap body)) ∙ simp append_assoc in
-        record {
-          covers = record {
-            covered = h.covered;
-            whole =
-                ap lines_of (h.whole ∙ ap (λ l. joined h.covered ++ (joined h.gap ++ l)) e ∙ sym grouped) ∙ lines_of-lines (h.covered ++ (h.gap ++ body)) current all_ended
-                ∙ ap (λ l. (h.covered ++ (h.gap ++ body)) ++ l) lines ∙ simp append_assoc;
-            of_parts = h.of_parts;
-          };
-          fillers = h.fillers;
-          own = own;
-        }
-
-    pub holds_current : (current : List ℕ) → held ≡ joined body ++ current → HasNoFeed current
-        → Holds bytes parts held
-    holds_current current e begun = record {
-      gap = h.gap;
-      body = body;
-      current = current;
-      stands = goes_on_after current (lines_of current) e refl;
-      ended = all_ended;
-      goes_on = begun;
-      held_are = e;
-    }
-
-    module _ (line : Line) (e : held ≡ joined body ++ line) (ends : EndsWithFeed line) where
-      abbrev pub at_line : GoesOnAfter bytes parts h.gap body (line ∷ [])
-      at_line = goes_on_after line (line ∷ []) e (ap lines_of (sym (append-nil line)) ∙ lines_of-line line [] ends)
-
-      pub all_whole : AllByRecursion EndsWithFeed (h.covered ++ (h.gap ++ (body ++ line ∷ [])))
-      all_whole = subst (AllByRecursion EndsWithFeed) (simp append_assoc) (every_append EndsWithFeed (h.covered ++ (h.gap ++ body)) (line ∷ []) all_ended (ends, tt))
-
-      -- a blank line or a comment where no block is open: it is dropped
-      pub keeps_filler : body ≡ [] → IsFiller line → Keeps bytes parts []
-      keeps_filler none fills = keeps_held bytes parts [] (record {
-        gap = h.gap ++ line ∷ [];
-        body = [];
-        current = [];
-        stands = into_gap bytes parts h.gap body line [] at_line none fills;
-        ended = subst (AllByRecursion EndsWithFeed) (ap (λ b. h.covered ++ (h.gap ++ (b ++ line ∷ []))) none ∙ ap (λ l. h.covered ++ l) (sym (append-nil _))) all_whole;
-        goes_on = tt;
-        held_are = refl;
-      })
-
--- the line can't follow the open block, whatever bytes follow it
-pub breaks : (bytes : List ℕ) (parts : List StreamPart) (held : List ℕ) (h : Keeps bytes parts held)
-    (body : List Line) → AllByRecursion EndsWithFeed body → AreBlockLines body → (line : Line)
-    → held ≡ joined body ++ line → EndsWithFeed line → (fault : StreamError)
-    → BreaksBlock (length (joined h.covered) + length (joined h.gap)) body line fault
-    → (rest : List ℕ) → IsBrokenAfter (bytes ++ rest) parts fault
-breaks bytes parts held h body whole own line e ends fault b rest = record {
-  gap = h.gap;
-  body = body;
-  rest = line ∷ lines_of rest;
-  stands = goes_on_after (bytes ++ rest) parts (held ++ rest) (keeps_more bytes parts held h rest) body whole own (line ++ rest) (line ∷ lines_of rest) (ap (λ l. l ++ rest) e ∙ append_assoc (joined body) line rest) (lines_of-line line rest ends);
-  begun = b.begun;
-  breaks = (ends, b.cannot);
-  tells = b.tells;
-}
+pub lines_up_to : (bytes : List ℕ) (lines : List Line) (current : List ℕ)
+    → bytes ≡ joined lines ++ current → AllByRecursion EndsWithFeed lines
+    → lines_of bytes ≡ lines ++ lines_of current
+lines_up_to bytes lines current e h = ap lines_of e ∙ lines_of-lines lines current h
 
 -- the first line of some bytes is whole, or has no LF
 pub first_cut : (xs : List ℕ) (line : Line) (lines : List Line) → lines_of xs ≡ line ∷ lines

@@ -1,18 +1,55 @@
 -- The loop invariant of a splitter's `take_bytes`.
-use Rattle.std.proofs.Common.{◌≡◌, ◌≢◌, ℕ, ◌+◌, ◌-◌, ◌<◌, ◌≤◌, ◌^◌, List, [], ◌∷◌, ◌++◌, length, take, drop, get_or, sym, ap, ◌∙◌, subst, ◌⊎◌, inl, inr, ⊎_elim, append_assoc, append-nil, length-append, length-take, length-drop, arith, take-append-drop}
+use Rattle.std.proofs.Common.{◌≡◌, ◌≢◌, ℕ, ◌+◌, ◌-◌, ◌<◌, ◌≤◌, ◌^◌, Some, None, List, [], ◌∷◌, ◌++◌, length, take, drop, get_or, sym, ap, ◌∙◌, subst, ◌⊎◌, inl, inr, ⊎_elim, append_assoc, append-nil, length-append, length-take, length-drop, arith, take-append-drop}
 use Rattle.std.proofs.lemmas.Bool.{cases_lt}
-use Rattle.std.proofs.lemmas.List.{take_all, take-take}
+use Rattle.std.proofs.lemmas.List.{take-take}
 use Rattle.std.proofs.Math.Seq.{take-add}
+use Rattle.std.specs.List.{AllByRecursion}
 use Rattle.fz_stream.specs.declared.held.Ended.{Ended}
 use Rattle.fz_stream.specs.declared.held.Held.{Held}
 use Rattle.fz_stream.specs.declared.error.StreamError.{StreamError}
-use Rattle.fz_stream.specs.Lines.{lines_of, joined, HasNoFeed, EndsWithFeed}
-use Rattle.fz_stream.specs.Parts.{StreamPart}
-use Rattle.fz_stream.specs.Broken.{IsBrokenAfter}
+use Rattle.fz_stream.specs.Parts.{Line, lines_of, joined, HasNoFeed, EndsWithFeed, Frame, Covers}
+use Rattle.fz_stream.specs.Broken.{BreaksAfter, CannotGoOn}
 use Rattle.fz_stream.specs.Splitting.{Holds, HasRoomAt, HasRoomFor, PassesLimit}
-use Rattle.fz_stream.specs.Keeping.{Keeps, DropsLine, JoinsLine, HasLine, IsHeld, GoesOnHolding, EndsPart, BreaksBlock, KeepsAll, TakesPart}
-use Rattle.fz_stream.proofs.PartLemmas.{every_append, joined-append, joined_one, into_parts}
-use Rattle.fz_stream.proofs.SplitLemmas.{keeps_more, place, keeps_filler, holds_current, at_line, all_whole, breaks, first_cut, whole_from_last, begun_from_last, whole_joined, no_feed_before}
+use Rattle.fz_stream.specs.Keeping.{HasLine, Stands, EndsLine, AfterBytes, BreaksBlock, frame_at}
+use Rattle.fz_stream.proofs.PartLemmas.{every_append, joined-push, size_of, into_frames}
+use Rattle.fz_stream.proofs.SplitLemmas.{lines_of-lines, lines_after, first_cut, whole_from_last, begun_from_last, whole_joined, no_feed_before}
+use Rattle.fz_stream.proofs.StopLemmas.{breaks_at}
+
+-- what is held
+abbrev pub holds_of : (h : Held) (bytes : List ℕ) (frames : List Frame) → Stands h bytes frames
+    → Holds bytes frames h.buffer.items
+holds_of h bytes frames s = record {
+  lines = s.lines;
+  gap = s.has_line.gap;
+  body = s.has_line.body;
+  current = s.current;
+  covers = s.has_line.covers;
+  whole = s.whole;
+  ended = s.ended;
+  goes_on = s.goes_on;
+  held_are = s.has_line.bytes;
+}
+
+-- and how many bytes were taken
+pub taken_of : (h : Held) (bytes : List ℕ) (frames : List Frame) → Stands h bytes frames
+    → h.before + length h.buffer.items ≡ length bytes
+taken_of h bytes frames s =
+    omega (arith, s.has_line.before, ap length s.has_line.bytes, length-append (joined s.has_line.body) s.current, ap length s.whole, length-append (joined s.lines) s.current, size_of s.has_line.covers)
+
+-- bytes without LF follow
+holds_more : (bytes : List ℕ) (frames : List Frame) (held more : List ℕ) → Holds bytes frames held
+    → HasNoFeed more → Holds (bytes ++ more) frames (held ++ more)
+holds_more bytes frames held more h none = record {
+  lines = h.lines;
+  gap = h.gap;
+  body = h.body;
+  current = h.current ++ more;
+  covers = h.covers;
+  whole = ap (λ l. l ++ more) h.whole ∙ append_assoc (joined h.lines) h.current more;
+  ended = h.ended;
+  goes_on = every_append (λ b. b ≢ 10) h.current more h.goes_on none;
+  held_are = ap (λ l. l ++ more) h.held_are ∙ append_assoc (joined h.body) h.current more;
+}
 
 pub record Taking (old now : Held) (piece : List ℕ) (at : ℕ) : Type 0 where
   pub within : at ≤ length piece
@@ -20,32 +57,22 @@ pub record Taking (old now : Held) (piece : List ℕ) (at : ℕ) : Type 0 where
   pub count : now.before + length now.buffer.items ≡ old.before + length old.buffer.items + at
   pub most : length now.buffer.items ≤ 2 ^ 24
   pub most_taken : now.before + length now.buffer.items ≤ 2 ^ 40
-  pub held : IsHeld now
-  pub keeps : (bytes : List ℕ) (parts : List StreamPart) → Keeps bytes parts old.buffer.items
-      → Keeps (bytes ++ take at piece) parts now.buffer.items
-  pub room : (bytes : List ℕ) (parts : List StreamPart) → Keeps bytes parts old.buffer.items
-      → old.before + length old.buffer.items ≡ length bytes → HasRoomFor bytes piece parts at
+  pub stands : (bytes : List ℕ) (frames : List Frame) → Stands old bytes frames
+      → Stands now (bytes ++ take at piece) frames
+  pub room : (bytes : List ℕ) (frames : List Frame) → Stands old bytes frames
+      → HasRoomFor bytes piece frames at
 
 pub start_taking : (old : Held) (piece : List ℕ) → old.line ≤ length old.buffer.items
-    → length old.buffer.items ≤ 2 ^ 24 → old.before + length old.buffer.items ≤ 2 ^ 40 → IsHeld old
+    → length old.buffer.items ≤ 2 ^ 24 → old.before + length old.buffer.items ≤ 2 ^ 40
     → Taking old old piece 0
-start_taking old piece l r m h = record {
-  most = r;
-  most_taken = m;
+start_taking old piece r l m = record {
   within = omega arith;
-  line = l;
+  line = r;
   count = omega arith;
-  held = h;
-  keeps = λ bytes parts k. subst (λ b. Keeps b parts old.buffer.items) (sym (append-nil bytes)) k;
-  room = λ bytes parts k size i l. absurd (omega (arith, l));
-}
-
-pub all_taken : (old now : Held) (piece : List ℕ) (at : ℕ) → Taking old now piece at
-    → length piece ≤ at → KeepsAll old now piece at
-all_taken old now piece at t end = record {
-  whole = omega (arith, t.within);
-  held = t.held;
-  keeps = λ bytes parts k. subst (λ p. Keeps (bytes ++ p) parts now.buffer.items) (take_all at piece end) (t.keeps bytes parts k);
+  most = l;
+  most_taken = m;
+  stands = λ bytes frames k. subst (λ b. Stands old b frames) (sym (append-nil bytes)) k;
+  room = λ bytes frames k i l. absurd (omega (arith, l));
 }
 
 -- the next line of the piece
@@ -65,46 +92,42 @@ module _ (old now : Held) (piece : List ℕ) (at : ℕ) (t : Taking old now piec
   front_next n l = take-add at n piece ∙ ap (λ m. take at piece ++ m) (ap (take n) (sym left) ∙ sym (take-take n (length part) rest (omega arith)) ∙ sym (ap (take n) front))
 
   -- what is held with so many bytes of the line, but not all
-  holds_front : (n : ℕ) → n < length part → (bytes : List ℕ) (parts : List StreamPart)
-      → Keeps bytes parts old.buffer.items
-      → Holds (bytes ++ take (at + n) piece) parts (now.buffer.items ++ take n part)
-  holds_front n l bytes parts k =
-      let begun : HasNoFeed (t.held.current ++ take n part) = every_append (λ b. b ≢ 10) t.held.current (take n part) t.held.begun (no_feed_before part n either l) in
-      let kept : Keeps (bytes ++ take (at + n) piece) parts (now.buffer.items ++ take n part) =
-      subst (λ b. Keeps b parts (now.buffer.items ++ take n part)) (append_assoc bytes (take at piece) (take n part) ∙ ap (λ m. bytes ++ m) (sym (front_next n l)))
-      (keeps_more (bytes ++ take at piece) parts now.buffer.items (t.keeps bytes parts k) (take n part)) in
-      holds_current _ _ _ kept t.held.body t.held.lines.whole t.held.lines.own (t.held.current ++ take n part)
-      (ap (λ m. m ++ take n part) t.held.lines.bytes ∙ append_assoc (joined t.held.body) t.held.current (take n part)) begun
+  holds_front : (n : ℕ) → n < length part → (bytes : List ℕ) (frames : List Frame)
+      → Stands old bytes frames
+      → Holds (bytes ++ take (at + n) piece) frames (now.buffer.items ++ take n part)
+  holds_front n l bytes frames k =
+      subst (λ b. Holds b frames (now.buffer.items ++ take n part)) (append_assoc bytes (take at piece) (take n part) ∙ ap (λ m. bytes ++ m) (sym (front_next n l)))
+      (holds_more (bytes ++ take at piece) frames now.buffer.items (take n part) (holds_of now _ frames (t.stands bytes frames k)) (no_feed_before part n either l))
 
   -- the line fits: there is room for each of its bytes
   pub room_next : length now.buffer.items + length part ≤ 2 ^ 24
       → now.before + length now.buffer.items + length part ≤ 2 ^ 40
-      → (bytes : List ℕ) (parts : List StreamPart) → Keeps bytes parts old.buffer.items → old.before + length old.buffer.items ≡ length bytes → HasRoomFor bytes piece parts (at + length part)
-  room_next fits over bytes parts k size i l =
-      ⊎_elim (λ before. t.room bytes parts k size i before)
-      (λ behind. (let place : at + (i - at) ≡ i = omega (arith, behind) in subst (HasRoomAt bytes piece parts) place (in_line (i - at) (omega (arith, behind, l))))) (cases_lt i at)
+      → (bytes : List ℕ) (frames : List Frame) → Stands old bytes frames → HasRoomFor bytes piece frames (at + length part)
+  room_next fits over bytes frames k i l =
+      ⊎_elim (λ before. t.room bytes frames k i before)
+      (λ behind. (let place : at + (i - at) ≡ i = omega (arith, behind) in subst (HasRoomAt bytes piece frames) place (in_line (i - at) (omega (arith, behind, l))))) (cases_lt i at)
     where
-      in_line : (n : ℕ) → n < length part → HasRoomAt bytes piece parts (at + n)
+      in_line : (n : ℕ) → n < length part → HasRoomAt bytes piece frames (at + n)
       in_line n less = (
         now.buffer.items ++ take n part,
-        holds_front n less bytes parts k,
+        holds_front n less bytes frames k,
         omega (arith, fits, less, length-append now.buffer.items (take n part), length-take n part),
-        omega (arith, over, less, size, t.count, inside, length-append bytes (take (at + n) piece), length-take (at + n) piece),
+        omega (arith, over, less, taken_of old bytes frames k, t.count, inside, length-append bytes (take (at + n) piece), length-take (at + n) piece),
       )
 
   -- the line doesn't fit: of its bytes n could be taken
-  pub passes_limit : (n : ℕ) → n < length part → (bytes : List ℕ) (parts : List StreamPart)
-      → Keeps bytes parts old.buffer.items → old.before + length old.buffer.items ≡ length bytes
-      → (length now.buffer.items + n ≡ 2 ^ 24) ⊎ (now.before + length now.buffer.items + n ≡ 2 ^ 40) → PassesLimit bytes piece parts
-  passes_limit n l bytes parts k size full =
+  pub passes_limit : (n : ℕ) → n < length part → (bytes : List ℕ) (frames : List Frame)
+      → Stands old bytes frames
+      → (length now.buffer.items + n ≡ 2 ^ 24) ⊎ (now.before + length now.buffer.items + n ≡ 2 ^ 40) → PassesLimit bytes piece frames
+  passes_limit n l bytes frames k full =
       let some : length (take n part) ≡ n = omega (arith, length-take n part, l) in
       record {
         n = at + n;
         within = omega (arith, l, inside);
         held = now.buffer.items ++ take n part;
-        holds = holds_front n l bytes parts k;
+        holds = holds_front n l bytes frames k;
         full = ⊎_elim (λ e. inl (omega (arith, e, some, length-append now.buffer.items (take n part))))
-            (λ e. inr (omega (arith, e, some, size, t.count, l, inside, length-append bytes (take (at + n) piece), length-take (at + n) piece))) full;
+            (λ e. inr (omega (arith, e, some, taken_of old bytes frames k, t.count, l, inside, length-append bytes (take (at + n) piece), length-take (at + n) piece))) full;
       }
 
   module _ (mid : Held) (pushed : mid.buffer.items ≡ now.buffer.items ++ part) (same_line : mid.line ≡ now.line) (same_before : mid.before ≡ now.before) (room : length now.buffer.items + length part ≤ 2 ^ 24)
@@ -112,24 +135,21 @@ module _ (old now : Held) (piece : List ℕ) (at : ℕ) (t : Taking old now piec
     sizes : length mid.buffer.items ≡ length now.buffer.items + length part
     sizes = ap length pushed ∙ length-append now.buffer.items part
 
-    bytes_mid : now.buffer.items ++ part ≡ joined t.held.body ++ (t.held.current ++ part)
-    bytes_mid = ap (λ l. l ++ part) t.held.lines.bytes ∙ append_assoc (joined t.held.body) t.held.current part
+    line_mid : (bytes : List ℕ) (frames : List Frame) (s : Stands now bytes frames)
+        → HasLine mid s.lines frames (s.current ++ part)
+    line_mid bytes frames s = record {
+      gap = s.has_line.gap;
+      body = s.has_line.body;
+      covers = s.has_line.covers;
+      bytes = pushed ∙ ap (λ l. l ++ part) s.has_line.bytes ∙ append_assoc (joined s.has_line.body) s.current part;
+      place = same_line ∙ s.has_line.place;
+      before = same_before ∙ s.has_line.before;
+    }
 
-    pub lines_mid : HasLine mid t.held.body (t.held.current ++ part)
-    lines_mid = record { bytes = pushed ∙ bytes_mid; place = same_line ∙ t.held.lines.place; whole = t.held.lines.whole; own = t.held.lines.own }
-
-    -- the bytes are held with the line's
-    keeps_mid : (bytes : List ℕ) (parts : List StreamPart) → Keeps bytes parts old.buffer.items
-        → Keeps (bytes ++ take (at + length part) piece) parts mid.buffer.items
-    keeps_mid bytes parts k =
-        subst (λ b. Keeps b parts mid.buffer.items) (append_assoc bytes (take at piece) part ∙ ap (λ l. bytes ++ l) (sym next))
-        (subst (Keeps ((bytes ++ take at piece) ++ part) parts) (sym pushed) (keeps_more (bytes ++ take at piece) parts now.buffer.items (t.keeps bytes parts k) part))
-
-    place_mid : (bytes : List ℕ) (parts : List StreamPart) (k : Keeps bytes parts old.buffer.items)
-        → old.before + length old.buffer.items ≡ length bytes
-        → mid.before ≡ length (joined (keeps_mid bytes parts k).covered) + length (joined (keeps_mid bytes parts k).gap)
-    place_mid bytes parts k size =
-        place _ parts mid.buffer.items (keeps_mid bytes parts k) mid.before (omega (arith, size, t.count, sizes, same_before, inside, length-append bytes (take (at + length part) piece), length-take (at + length part) piece))
+    whole_mid : (bytes : List ℕ) (frames : List Frame)
+        (s : Stands now (bytes ++ take at piece) frames)
+        → bytes ++ take (at + length part) piece ≡ joined s.lines ++ (s.current ++ part)
+    whole_mid bytes frames s = ap (λ l. bytes ++ l) next ∙ sym (append_assoc bytes (take at piece) part) ∙ ap (λ l. l ++ part) s.whole ∙ append_assoc (joined s.lines) s.current part
 
     -- no line ended
     pub taking_begun : (get_or part (length part - 1) 0 ≡ 10 → ⊥)
@@ -140,82 +160,65 @@ module _ (old now : Held) (piece : List ℕ) (at : ℕ) (t : Taking old now piec
       count = omega (arith, t.count, sizes, same_before);
       most = omega (arith, room, sizes);
       most_taken = omega (arith, left_over, sizes, same_before);
-      held = record { body = t.held.body; current = t.held.current ++ part; lines = lines_mid; begun = every_append (λ b. b ≢ 10) t.held.current part t.held.begun (begun_from_last part either unended) };
-      keeps = keeps_mid;
+      stands = λ bytes frames k. (
+          let s = t.stands bytes frames k in
+          record { lines = s.lines; current = s.current ++ part; has_line = line_mid _ frames s; whole = whole_mid bytes frames s; ended = s.ended; goes_on = every_append (λ b. b ≢ 10) s.current part s.goes_on (begun_from_last part either unended) });
       room = room_next room left_over;
     }
 
     module _ (closed : get_or part (length part - 1) 0 ≡ 10) where
-      pub ends_whole : EndsWithFeed (t.held.current ++ part)
-      ends_whole = whole_joined t.held.current part t.held.begun (whole_from_last part either some closed)
+      whole_lines : (bytes : List ℕ) (frames : List Frame) (s : Stands now bytes frames)
+          → AllByRecursion EndsWithFeed (s.lines ++ (s.current ++ part) ∷ [])
+      whole_lines bytes frames s = every_append EndsWithFeed s.lines ((s.current ++ part) ∷ []) s.ended (whole_joined s.current part s.goes_on (whole_from_last part either some closed), tt)
 
-      -- a line ended, and no part
+      whole_line : (bytes : List ℕ) (frames : List Frame)
+          (s : Stands now (bytes ++ take at piece) frames)
+          → bytes ++ take (at + length part) piece
+          ≡ joined (s.lines ++ (s.current ++ part) ∷ []) ++ []
+      whole_line bytes frames s = whole_mid bytes frames s ∙ sym (append-nil _ ∙ joined-push s.lines (s.current ++ part))
+
+      -- a line ended, and no frame
       pub taking_line : (new : Held) → new.line ≤ length new.buffer.items
           → new.before + length new.buffer.items ≡ mid.before + length mid.buffer.items
           → length new.buffer.items ≤ length mid.buffer.items
-          → GoesOnHolding mid new t.held.body (t.held.current ++ part) → Taking old new piece (at + length part)
-      taking_line new line count shorter g = record {
+          → EndsLine None new mid
+          → Taking old new piece (at + length part)
+      taking_line new line count shorter goes_on = record {
         within = inside;
         line = line;
         count = omega (arith, count, t.count, sizes, same_before);
         most = omega (arith, shorter, room, sizes);
         most_taken = omega (arith, count, left_over, sizes, same_before);
-        held = ⊎_elim dropped joined_to g;
-        keeps = λ bytes parts k. ⊎_elim (dropped_keeps bytes parts k) (λ (j : JoinsLine mid new t.held.body (t.held.current ++ part)). subst (Keeps (bytes ++ take (at + length part) piece) parts) (sym j.same) (keeps_mid bytes parts k)) g;
+        stands = λ bytes frames k. (
+            let s = t.stands bytes frames k in
+            record { lines = s.lines ++ (s.current ++ part) ∷ []; current = []; has_line = goes_on _ _ _ (line_mid _ frames s); whole = whole_line bytes frames s; ended = whole_lines _ frames s; goes_on = tt });
         room = room_next room left_over;
       }
-        where
-          body_next : joined t.held.body ++ (t.held.current ++ part)
-              ≡ joined (t.held.body ++ (t.held.current ++ part) ∷ []) ++ []
-          body_next = sym (append-nil _ ∙ joined-append t.held.body ((t.held.current ++ part) ∷ []) ∙ ap (λ l. joined t.held.body ++ l) (joined_one (t.held.current ++ part)))
 
-          dropped : DropsLine new t.held.body (t.held.current ++ part) → IsHeld new
-          dropped d = record { body = []; current = []; lines = record { bytes = d.empty; place = d.line_is; whole = tt; own = tt }; begun = tt }
-
-          joined_to : JoinsLine mid new t.held.body (t.held.current ++ part) → IsHeld new
-          joined_to j = record {
-            body = t.held.body ++ (t.held.current ++ part) ∷ [];
-            current = [];
-            lines = record {
-              bytes = j.same ∙ pushed ∙ bytes_mid ∙ body_next;
-              place = j.line_is ∙ ap length (pushed ∙ bytes_mid ∙ body_next ∙ append-nil _);
-              whole = every_append EndsWithFeed t.held.body ((t.held.current ++ part) ∷ []) t.held.lines.whole (ends_whole, tt);
-              own = j.own;
-            };
-            begun = tt;
-          }
-
-          dropped_keeps : (bytes : List ℕ) (parts : List StreamPart)
-              → Keeps bytes parts old.buffer.items → DropsLine new t.held.body
-              (t.held.current ++ part) → Keeps
-              (bytes ++ take (at + length part) piece) parts new.buffer.items
-          dropped_keeps bytes parts k d =
-              subst (Keeps (bytes ++ take (at + length part) piece) parts) (sym d.empty)
-              (keeps_filler _ parts mid.buffer.items (keeps_mid bytes parts k) t.held.body t.held.lines.whole t.held.lines.own (t.held.current ++ part) lines_mid.bytes ends_whole d.none d.fills)
-
-      -- a part ended
-      pub takes_part : (new : Held) (ended : Ended) → new.before + length new.buffer.items
-          ≡ mid.before + length mid.buffer.items → new.buffer.items ≡ mid.buffer.items
-          → EndsPart new t.held.body (t.held.current ++ part) ended → (bytes : List ℕ) (parts : List StreamPart) → Keeps bytes parts old.buffer.items → old.before + length old.buffer.items ≡ length bytes
-          → TakesPart new bytes (take (at + length part) piece) parts ended
-      takes_part new ended count same e bytes parts k size =
-          let h = keeps_mid bytes parts k in
-          let begins : length (joined h.covered) + length (joined h.gap) ≡ new.before = omega (arith, count, ap length same, place_mid bytes parts k size) in
-          let here = e.lines (length (joined h.covered)) h.gap h.fillers begins in
+      -- a frame ended
+      pub takes_frame : (new : Held) (ended : Ended)
+          → EndsLine (Some ended) new mid
+          → (bytes : List ℕ) (frames : List Frame) → Stands old bytes frames → AfterBytes (Some ended) new (bytes ++ take (at + length part) piece) frames
+      takes_frame new ended ends bytes frames k =
+          let s = t.stands bytes frames k in
+          let l = line_mid _ frames s in
+          let frame : Frame = frame_at ended new.before (take new.line new.buffer.items) in
+          let lines_are : lines_of (bytes ++ take (at + length part) piece) ≡ s.lines ++ (s.current ++ part) ∷ [] =
+          ap lines_of (whole_line bytes frames s) ∙ lines_of-lines (s.lines ++ (s.current ++ part) ∷ []) [] (whole_lines _ frames s) ∙ append-nil _ in
           record {
-            part = e.part;
-            is = e.is;
-            completes = (into_parts _ parts h.gap t.held.body (t.held.current ++ part) [] (at_line _ parts mid.buffer.items h t.held.body t.held.lines.whole t.held.lines.own (t.held.current ++ part) lines_mid.bytes ends_whole) e.part here).covers;
-            are_whole = all_whole _ parts mid.buffer.items h t.held.body t.held.lines.whole t.held.lines.own (t.held.current ++ part) lines_mid.bytes ends_whole;
+            covers = subst (λ l. Covers l (frames ++ frame ∷ []) [] []) (sym lines_are) (into_frames l.covers (s.current ++ part) frame (ends _ _ _ l));
+            ended = subst (AllByRecursion EndsWithFeed) (sym lines_are) (whole_lines _ frames s);
           }
 
       -- the line isn't allowed there
-      pub takes_broken : (e : StreamError) → BreaksBlock now.before t.held.body
-          (t.held.current ++ part) e → (bytes : List ℕ) (parts : List StreamPart)
-          → Keeps bytes parts old.buffer.items
-          → old.before + length old.buffer.items ≡ length bytes → IsBrokenAfter (bytes ++ piece) parts e
-      takes_broken e b bytes parts k size =
-          let h = keeps_mid bytes parts k in
-          subst (λ l. IsBrokenAfter l parts e) (append_assoc bytes (take (at + length part) piece) (drop (at + length part) piece) ∙ ap (λ l. bytes ++ l) (take-append-drop (at + length part) piece))
-          (breaks _ parts mid.buffer.items h t.held.body t.held.lines.whole t.held.lines.own (t.held.current ++ part) lines_mid.bytes ends_whole e
-          (subst (λ n. BreaksBlock n t.held.body (t.held.current ++ part) e) (sym same_before ∙ place_mid bytes parts k size) b) (drop (at + length part) piece))
+      pub takes_broken : (fault : StreamError)
+          → ((lines : List Line) (frames : List Frame) (line : Line) → HasLine mid lines frames line → BreaksBlock lines frames line fault)
+          → (bytes : List ℕ) (frames : List Frame) → Stands old bytes frames → BreaksAfter CannotGoOn (bytes ++ piece) frames fault
+      takes_broken fault breaks bytes frames k =
+          let s = t.stands bytes frames k in
+          let b = breaks _ _ _ (line_mid _ frames s) in
+          let more : List ℕ = drop (at + length part) piece in
+          let all : bytes ++ piece ≡ (bytes ++ take (at + length part) piece) ++ more = ap (λ l. bytes ++ l) (sym (take-append-drop (at + length part) piece)) ∙ sym (append_assoc bytes (take (at + length part) piece) more) in
+          let lines_are : lines_of (bytes ++ piece) ≡ s.lines ++ ((s.current ++ part) ∷ lines_of more) =
+          ap lines_of all ∙ lines_after _ (s.lines ++ (s.current ++ part) ∷ []) [] more (whole_line bytes frames s) (whole_lines _ frames s) ∙ append_assoc s.lines ((s.current ++ part) ∷ []) (lines_of more) in
+          breaks_at CannotGoOn (bytes ++ piece) s.lines frames (s.current ++ part) (lines_of more) fault lines_are b (whole_joined s.current part s.goes_on (whole_from_last part either some closed), b.cannot)

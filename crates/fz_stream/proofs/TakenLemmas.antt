@@ -1,60 +1,50 @@
--- What a part that is lent is.
-use Rattle.std.proofs.Common.{◌≡◌, ℕ, ◌+◌, Option, Some, None, List, [], ◌∷◌, ◌++◌, length, IfSome, refl, sym, ap, ◌∙◌, subst}
-use Rattle.fz_stream.specs.Lines.{Line, joined}
-use Rattle.fz_stream.specs.Splitting.{SplitterState, WaitingPart, WaitingBlock, WaitingClaim, WaitsFor, WaitsForLast, WaitsForMore, Fits, EndsWith, Lends, IsPartOfItems, parts_of}
-use Rattle.fz_stream.proofs.OnePartLemmas.{three}
-use Rattle.fz_stream.specs.Parts.{StreamPart, BlockPart, ClaimPart, IsBlockText, AreLinesOf}
+-- A block whose text no items have: the stream is broken there.
+use Rattle.std.proofs.Common.{◌≡◌, ℕ, ◌+◌, Option, Some, List, [], ◌∷◌, ◌++◌, length, refl, ap, ◌∙◌, subst, append_assoc, length-append, arith}
+use Rattle.std.specs.List.{AllByRecursion}
+use Rattle.fz_syntax.specs.Tree.{Printed}
+use Rattle.fz_stream.specs.declared.error.StreamError.{StreamError}
+use Rattle.fz_stream.specs.Parts.{Line, lines_of, joined, EndsWithFeed, Frame, BlockFrame, IsBlockText, Closes, Covers}
+use Rattle.fz_stream.specs.Broken.{BreaksAfter, CannotGoOn, CannotEnd}
+use Rattle.fz_stream.specs.Splitting.{SplitterState, WaitsForLast, Fits, EndsWith}
+use Rattle.fz_stream.specs.Telling.{TellsOfText}
+use Rattle.fz_stream.proofs.PartLemmas.{every_right, last_frame}
+use Rattle.fz_stream.proofs.SplitLemmas.{lines_after}
+use Rattle.fz_stream.proofs.StopLemmas.{breaks_block, breaks_at}
 
-abbrev HasText : StreamPart → Type 0
-HasText (BlockPart block) = IsBlockText block.text block.items
-HasText (ClaimPart kind) = Unit {0}
+-- two lists that are one end with one element
+pub last_same : {X : Type 0} (xs ys : List X) (x y : X) → xs ++ x ∷ [] ≡ ys ++ y ∷ [] → x ≡ y
+last_same [] [] x y e = cc
+last_same [] (b ∷ ys) x y e = absurd (omega (arith, ap length e, length-append ys (y ∷ [])))
+last_same (a ∷ xs) [] x y e = absurd (omega (arith, ap length e, length-append xs (x ∷ [])))
+last_same (a ∷ xs) (b ∷ ys) x y e = (let r : xs ++ x ∷ [] ≡ ys ++ y ∷ [] = cc in last_same xs ys x y r)
 
--- the last of some parts, where it is a block, has a text of its items
-last_text : (start : ℕ) (lines : List Line) (front : List StreamPart) (part : StreamPart)
-    → AreLinesOf start lines (front ++ part ∷ []) → HasText part
-last_text start lines [] (BlockPart block) h = h.3.items
-last_text start lines [] (ClaimPart kind) h = tt
-last_text start lines (p ∷ front) part h = last_text (start + length (joined h.0)) h.1 front part h.4
+module _ (offset : ℕ) (text : List ℕ) (none : (items : List Printed) → IsBlockText text items → ⊥) (fault : StreamError) (told : TellsOfText offset text fault) (waits : Option Frame) (is : waits ≡ Some (BlockFrame offset text)) where
+  -- whatever bytes follow it
+  pub broken_inside : (s : SplitterState) → s.waits ≡ waits → (bytes more : List ℕ)
+      (frames : List Frame) (frame : Frame)
+      → Fits s bytes (frames ++ frame ∷ []) → BreaksAfter CannotGoOn (bytes ++ more) frames fault
+  broken_inside s same bytes more frames frame f =
+      let h = f.holds in
+      let c = h.covers in
+      let w = last_frame 0 c.covered frames frame c.of_frames in
+      let k = w.4 in
+      let last = subst (λ o. WaitsForLast o (frames ++ frame ∷ [])) (same ∙ is) f.waits in
+      let closes : Closes ((0 + length (joined w.0)) + length (joined k.gap)) k.body k.line (BlockFrame offset text) =
+      subst (Closes ((0 + length (joined w.0)) + length (joined k.gap)) k.body k.line) (last_same frames last.0 frame (BlockFrame offset text) last.1) k.closes in
+      let lines : List Line = w.0 ++ (k.gap ++ k.body) in
+      let behind : List Line = h.gap ++ h.body in
+      let whole : h.lines ≡ lines ++ (k.line ∷ behind) = c.whole ∙ ap (λ l. l ++ behind) (w.2 ∙ ap (λ l. w.0 ++ l) k.whole) ∙ simp append_assoc in
+      let rest : List Line = lines_of (h.current ++ more) in
+      let all : lines_of (bytes ++ more) ≡ lines ++ (k.line ∷ (behind ++ rest)) = lines_after bytes h.lines h.current more h.whole h.ended ∙ ap (λ l. l ++ rest) whole ∙ append_assoc lines (k.line ∷ behind) rest in
+      let ends : EndsWithFeed k.line = (every_right EndsWithFeed lines (k.line ∷ behind) (subst (AllByRecursion EndsWithFeed) whole h.ended)).0 in
+      let covers : Covers lines frames k.gap k.body = record { covered = w.0; whole = refl; of_frames = w.3; fillers = k.fillers; own = k.own } in
+      let b = breaks_block lines frames k.gap k.body covers k.line closes.0 offset text (omega (arith, closes.1)) closes.2 none fault told in
+      breaks_at CannotGoOn (bytes ++ more) lines frames k.line (behind ++ rest) fault all b (ends, b.cannot)
 
--- a part that waits is the one that is lent
-waited_is_lent : (waiting : WaitingPart) (part lent : StreamPart) → WaitsFor waiting part
-    → HasText part → WaitsFor waiting lent → IsPartOfItems lent → part ≡ lent
-waited_is_lent (WaitingBlock offset text) (BlockPart b) (BlockPart c) w h v i =
-    let same : b.text ≡ c.text = sym w.1 ∙ v.1 in
-    let items : b.items ≡ c.items = i.1 b.items (subst (λ t. IsBlockText t b.items) same h) in
-    ap BlockPart (three (sym w.0 ∙ v.0) same items)
-waited_is_lent (WaitingBlock offset text) (BlockPart b) (ClaimPart k) w h v i = absurd v
-waited_is_lent (WaitingBlock offset text) (ClaimPart j) lent w h v i = absurd w
-waited_is_lent (WaitingClaim kind) (BlockPart b) lent w h v i = absurd w
-waited_is_lent (WaitingClaim kind) (ClaimPart j) (BlockPart c) w h v i = absurd v
-waited_is_lent (WaitingClaim kind) (ClaimPart j) (ClaimPart k) w h v i = ap ClaimPart (sym w ∙ v)
-
--- a part that is lent is the last, whatever was taken
-pub given : (s : SplitterState) (lent : StreamPart) → Lends s.waits (Some lent) → IsPartOfItems lent
-    → (bytes : List ℕ) (parts : List StreamPart) → Fits s bytes parts
-    → (front : List StreamPart) × (parts ≡ front ++ lent ∷ [])
-given s lent l i bytes parts f = by s.waits l f.waits
-  where
-    by : (o : Option WaitingPart) → Lends o (Some lent) → WaitsForLast o parts
-        → (front : List StreamPart) × (parts ≡ front ++ lent ∷ [])
-    by None l w = absurd l
-    by (Some waiting) l w =
-        let t = last_text 0 f.holds.stands.covers.covered w.0 w.1 (subst (AreLinesOf 0 f.holds.stands.covers.covered) w.2 f.holds.stands.covers.of_parts) in
-        (w.0, w.2 ∙ ap (λ p. w.0 ++ p ∷ []) (waited_is_lent waiting w.1 lent w.3 t l i))
-
--- at the end of the stream what is lent is what ended there
-pub given_at_end : (s : SplitterState) (lent : Option StreamPart) → Lends s.waits lent
-    → IfSome lent IsPartOfItems
-    → (bytes : List ℕ) (parts more : List StreamPart) → EndsWith s bytes parts more → more ≡ parts_of lent
-given_at_end s lent l i bytes parts more e = by s.waits lent more l i e.waits (subst (AreLinesOf 0 e.text.covers.covered) refl e.text.covers.of_parts)
-  where
-    by : (o : Option WaitingPart) (lent : Option StreamPart) (more : List StreamPart) → Lends o lent
-        → IfSome lent IsPartOfItems → WaitsForMore o more
-        → AreLinesOf 0 e.text.covers.covered (parts ++ more) → more ≡ parts_of lent
-    by None None [] l i w h = refl
-    by None None (p ∷ more) l i w h = absurd w
-    by None (Some q) more l i w h = absurd l
-    by (Some waiting) None more l i w h = absurd l
-    by (Some waiting) (Some q) [] l i w h = absurd w
-    by (Some waiting) (Some q) (p ∷ []) l i w h = ap (λ x. x ∷ []) (waited_is_lent waiting p q w (last_text 0 e.text.covers.covered parts p h) l i)
-    by (Some waiting) (Some q) (p ∷ r ∷ more) l i w h = absurd w
+  -- at the end of the stream
+  pub broken_last : (bytes : List ℕ) (frames : List Frame) → EndsWith waits bytes frames
+      → BreaksAfter CannotEnd bytes frames fault
+  broken_last bytes frames ends =
+      let e = subst (λ o. EndsWith o bytes frames) is ends in
+      let b = breaks_block e.lines frames e.gap e.body e.covers e.line e.closes.0 offset text e.closes.1 e.closes.2 none fault told in
+      breaks_at CannotEnd bytes e.lines frames e.line [] fault e.whole b (e.unended, b.cannot)

@@ -6,8 +6,7 @@ use Rattle.fz_syntax.specs.View.{bare_items}
 use Rattle.fz_stream.specs.declared.block.Block.{Block}
 use Rattle.fz_stream.specs.declared.line.LineKind.TheVariants.{Marker}
 use Rattle.fz_stream.specs.declared.reading.Claim.{Claim}
-use Rattle.fz_stream.specs.Lines.{Line, lines_of, joined, kind_of}
-use Rattle.fz_stream.specs.Parts.{SolutionBlock, StreamPart, BlockPart, ClaimPart, IsStreamText}
+use Rattle.fz_stream.specs.Parts.{Line, lines_of, joined, kind_of, SolutionBlock, StreamPart, BlockPart, ClaimPart, IsStreamText, blocks_in}
 
 -- a block of the code without the byte ranges of its items
 abbrev pub block_of : Block → SolutionBlock
@@ -21,12 +20,6 @@ HasPlaces b = ArePlacedIn b.text.now (placed_items b.items.items)
 -- the block's text ends within the first bytes of the stream, as many as given
 abbrev pub EndsWithin : ℕ → Block → Type 0
 EndsWithin n b = b.offset + length b.text.now ≤ n
-
--- the blocks among the parts
-abbrev pub blocks_in : List StreamPart → List SolutionBlock
-blocks_in [] = []
-blocks_in (BlockPart block ∷ parts) = block ∷ blocks_in parts
-blocks_in (ClaimPart kind ∷ parts) = blocks_in parts
 
 -- the claims among the parts, each with the number of blocks before it, of which n come before the
 -- parts

@@ -1,4 +1,3 @@
-pub mod Lines
 pub mod Parts
 pub mod Faults
 pub mod Moving
@@ -9,8 +8,6 @@ pub mod Splitting
 pub mod Lending
 pub mod Hashing
 pub mod Step
-pub mod Kept
-pub mod Releasing
 pub mod Keeping
 pub mod Inside
 pub mod Laws

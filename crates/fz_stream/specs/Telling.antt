@@ -5,7 +5,8 @@ use Rattle.fz_syntax.specs.Placed.{ArePlacedIn, placed_items}
 use Rattle.fz_syntax.specs.Places.{IsPlacedWithin}
 use Rattle.fz_syntax.specs.Span.{Span}
 use Rattle.fz_syntax.specs.SyntaxError.{SyntaxError}
-use Rattle.fz_syntax.specs.Text.{IsTextOfItems, IsRefusalOf}
+use Rattle.fz_syntax.specs.Text.{IsTextOfItems}
+use Rattle.fz_syntax.specs.Refusals.{IsRefusalOf}
 use Rattle.fz_syntax.specs.Tree.{Printed as PlainPrinted}
 use Rattle.fz_syntax.specs.View.{bare_items}
 use Rattle.fz_stream.specs.declared.error.StreamError.{StreamError}
@@ -14,9 +15,8 @@ use Rattle.fz_stream.specs.declared.line.ClaimKind.{ClaimKind}
 use Rattle.fz_stream.specs.declared.line.LineKind.{LineKind}
 use Rattle.fz_stream.specs.declared.line.LineKind.TheVariants.{Marker, Claim}
 use Rattle.fz_stream.specs.Faults.{IsItemFault}
-use Rattle.fz_stream.specs.Lines.{Line, kind_of}
+use Rattle.fz_stream.specs.Parts.{Line, kind_of, HasDistinctNames}
 use Rattle.fz_stream.specs.Moving.{moved_span, item_fault}
-use Rattle.fz_stream.specs.Parts.{HasDistinctNames}
 
 -- The item is the first that prints a name again: the names of the items before it are distinct,
 -- and its own is one of them.

@@ -1,6 +1,6 @@
 ghost use Rattle.std.specs.Prelude.{◌≡◌, ◌≢◌, ◌+◌, ◌≤◌, List, length, IfOk, IfErr, IfSome, IfNone};
 ghost use Rattle.fz_syntax.specs.declared.Printed.{Printed};
-ghost use Rattle.fz_syntax.specs.Limits.{most_bytes};
+ghost use Rattle.fz_syntax.specs.Lexing.{most_bytes};
 ghost use Rattle.fz_syntax.specs.Tree.{Printed as PlainPrinted};
 ghost use Rattle.fz_syntax.specs.View.{bare_items};
 ghost use Rattle.fz_stream.specs.Faults.{IsFaultWithin};

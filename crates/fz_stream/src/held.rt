@@ -1,20 +1,18 @@
 // What a splitter holds: the text of the open block, and the current line.
-ghost use Rattle.std.specs.Prelude.{◌≡◌, ◌≢◌, ℕ, ◌+◌, ◌≤◌, ◌<◌, ◌++◌, List, length, take, Err, Some, None, IfOk, IfErr, IsSome};
-ghost use Rattle.fz_stream.specs.declared.held.Ended.{Ended};
-ghost use Rattle.fz_stream.specs.Broken.{IsBrokenAfter, IsBrokenAtEndAfter};
-ghost use Rattle.fz_stream.specs.Faults.{IsFaultWithin};
-ghost use Rattle.fz_stream.specs.Keeping.{Keeps, HasLine, IsHeld, GoesOnHolding, EndsPart, BreaksBlock, IsKept, KeepsAll, TakesPart, EndsOpen, EndsStream, held_while};
-ghost use Rattle.fz_stream.specs.Lines.{Line};
-ghost use Rattle.fz_stream.specs.Parts.{StreamPart};
-ghost use Rattle.fz_stream.specs.Splitting.{HasRoomFor, PassesLimit, most_held, most_taken};
-ghost use Rattle.fz_stream.specs.Step.{begun_of, IsLineFault};
+ghost use Rattle.std.specs.Prelude.{◌≡◌, ◌≢◌, ℕ, ◌+◌, ◌≤◌, ◌<◌, ◌++◌, ◌∷◌, [], List, length, take, Err, Some, None, IfOk, IfErr, IsSome};
+ghost use Rattle.fz_syntax.specs.Places.{IsSpanWithin};
+ghost use Rattle.fz_stream.specs.Broken.{BreaksAfter, CannotGoOn, CannotEnd};
+ghost use Rattle.fz_stream.specs.Faults.{IsCuttingFault, IsFaultWithin};
+ghost use Rattle.fz_stream.specs.Inside.{waiting_of};
+ghost use Rattle.fz_stream.specs.Keeping.{HasLine, Stands, EndsLine, AfterBytes, BreaksBlock, held_while, line_while};
+ghost use Rattle.fz_stream.specs.Parts.{Line, lines_of, Frame};
+ghost use Rattle.fz_stream.specs.Splitting.{HasRoomFor, PassesLimit, EndsWith, most_held, most_taken};
+ghost use Rattle.fz_stream.specs.Step.{begun_of};
 
 use crate::error::StreamError;
-use crate::kept::{KeptItems, read_kept};
 use crate::line::{ClaimKind, first_line, line_kind};
 use crate::step::{Step, after_line};
 use fz_syntax::Span;
-use std::alloc::Global;
 
 /// The most bytes that are held at once.
 const MOST_HELD: usize = 16_777_216;
@@ -22,7 +20,7 @@ const MOST_HELD: usize = 16_777_216;
 /// The most bytes that are taken from the whole stream.
 const MOST_TAKEN: usize = 1_099_511_627_776;
 
-/// The kind of part that a line ended.
+/// The kind of frame that a line ended.
 #[derive(Clone, Copy, Debug)]
 pub enum Ended {
     BlockEnded,
@@ -37,8 +35,6 @@ pub struct Held {
     pub line: usize,
     /// How many bytes of the stream come before the buffer.
     pub before: usize,
-    /// The items of the block that ended last, where they weren't released.
-    pub kept: Option<KeptItems>,
 }
 
 /// The offset in the stream where the open block begins, if one is open: its whole lines have the
@@ -49,27 +45,21 @@ fn begun_at(line: usize, before: usize) -> Option<usize>
     if line == 0 { None } else { Some(before) }
 }
 
-/// Handles the end of the current line: drops the line, adds it to the open block, or ends a part.
-fn end_line(alloc: Global, held: &mut Held) -> Result<Option<Ended>, StreamError>
-    requires line { held.old.line < length held.old.buffer.items }
-    requires most { length held.old.buffer.items ≤ most_held }
+/// Handles the end of the current line: drops the line, adds it to the open block, or ends a frame.
+/// The error is the byte range of a block that is left unfinished.
+fn end_line(held: &mut Held) -> Result<Option<Ended>, Span>
+    requires line { held.old.line ≤ length held.old.buffer.items }
     requires taken { held.old.before + length held.old.buffer.items ≤ most_taken }
     ensures line_after { held.new.line ≤ length held.new.buffer.items }
     ensures taken { held.new.before + length held.new.buffer.items
         ≡ held.old.before + length held.old.buffer.items }
     ensures shorter { length held.new.buffer.items ≤ length held.old.buffer.items }
-    ensures goes_on { IfOk result (λ r. r ≡ None → (body : List Line) (line : Line)
-        → HasLine held.old body line → GoesOnHolding held.old held.new body line) }
-    ensures ends { IfOk result (λ r. (ended : Ended) → r ≡ Some ended
-        → (body : List Line) (line : Line) → HasLine held.old body line
-        → EndsPart held.new body line ended) }
-    ensures same { IfOk result (λ r. IsSome r
-        → (held.new.buffer.items ≡ held.old.buffer.items) × (held.new.line ≡ held.old.line)) }
-    ensures kept { IfOk result (λ r. IsKept r held.new) }
-    ensures breaks { IfErr result (λ e. e ≢ StreamError.Memory → (body : List Line) (line : Line)
-        → HasLine held.old body line → BreaksBlock held.old.before body line e) }
-    ensures fault { IfErr result IsLineFault }
-    ensures place { IfErr result (IsFaultWithin (held.old.before + length held.old.buffer.items)) }
+    ensures ends { IfOk result (λ r. EndsLine r held.new held.old) }
+    ensures breaks { IfErr result (λ span. (lines : List Line) (frames : List Frame) (line : Line)
+        → HasLine held.old lines frames line
+        → BreaksBlock lines frames line (StreamError.Unfinished span)) }
+    ensures place { IfErr result
+        (IsSpanWithin (held.old.before + length held.old.buffer.items)) }
 {
     let begun = begun_at(held.line, held.before);
     let at = held.before + held.line;
@@ -85,27 +75,22 @@ fn end_line(alloc: Global, held: &mut Held) -> Result<Option<Ended>, StreamError
             held.line = held.buffer.len();
             Ok(None)
         }
-        Step::EndsBlock(_) => {
-            let line = held.line;
-            let kept = read_kept(alloc, held.before, &held.buffer[..line])?;
-            held.kept = Some(kept);
-            Ok(Some(Ended::BlockEnded))
-        }
+        Step::EndsBlock(_) => Ok(Some(Ended::BlockEnded)),
         Step::Claims(kind) => Ok(Some(Ended::ClaimEnded(kind))),
-        Step::Breaks(start) => Err(StreamError::Unfinished(Span { start, end: at })),
+        Step::Breaks(start) => Err(Span { start, end: at }),
     }
 }
 
-/// Drops the bytes of the part that waited, if one did.
-pub fn drop_part(held: &mut Held, ended: Option<Ended>)
+/// Drops the bytes of the frame that waited, if one did.
+pub fn drop_frame(held: &mut Held, ended: Option<Ended>)
     requires line { held.old.line ≤ length held.old.buffer.items }
     requires taken { held.old.before + length held.old.buffer.items ≤ most_taken }
     ensures kept { held.new.buffer.items ≡ held_while ended held.old.buffer.items }
+    ensures line { held.new.line ≡ line_while ended held.old.line }
     ensures shorter { length held.new.buffer.items ≤ length held.old.buffer.items }
     ensures taken { held.new.before + length held.new.buffer.items
         ≡ held.old.before + length held.old.buffer.items }
     ensures line_after { held.new.line ≤ length held.new.buffer.items }
-    ensures held { (ended ≡ None → IsHeld held.old) → IsHeld held.new }
 {
     if ended.is_some() {
         held.before += held.buffer.len();
@@ -114,41 +99,30 @@ pub fn drop_part(held: &mut Held, ended: Option<Ended>)
     }
 }
 
-/// Takes bytes up to the end of a part, or all of them.
-pub fn take_bytes(
-    alloc: Global,
-    held: &mut Held,
-    piece: &[u8],
-) -> Result<(usize, Option<Ended>), StreamError>
+/// Takes bytes up to the end of a frame, or all of them.
+pub fn take_bytes(held: &mut Held, piece: &[u8]) -> Result<(usize, Option<Ended>), StreamError>
     requires line { held.old.line ≤ length held.old.buffer.items }
     requires most { length held.old.buffer.items ≤ most_held }
     requires taken { held.old.before + length held.old.buffer.items ≤ most_taken }
-    requires held { IsHeld held.old }
     ensures line_after { held.new.line ≤ length held.new.buffer.items }
     ensures most_after { length held.new.buffer.items ≤ most_held }
     ensures taken_after { held.new.before + length held.new.buffer.items ≤ most_taken }
     ensures within { IfOk result (λ r. r.0 ≤ length piece.now) }
+    ensures some { IfOk result (λ r. IsSome r.1 → 0 < r.0) }
+    ensures all { IfOk result (λ r. r.1 ≡ None → r.0 ≡ length piece.now) }
     ensures count { IfOk result (λ r. held.new.before + length held.new.buffer.items
         ≡ held.old.before + length held.old.buffer.items + r.0) }
-    ensures all { IfOk result (λ r. r.1 ≡ None → KeepsAll held.old held.new piece.now r.0) }
-    ensures part { IfOk result (λ r. (ended : Ended) → r.1 ≡ Some ended
-        → (bytes : List ℕ) (parts : List StreamPart) → Keeps bytes parts held.old.buffer.items →
-        held.old.before + length held.old.buffer.items ≡ length bytes
-        → TakesPart held.new bytes (take r.0 piece.now) parts ended) }
-    ensures kept { IfOk result (λ r. IsKept r.1 held.new) }
-    ensures room { IfOk result (λ r. (bytes : List ℕ) (parts : List StreamPart)
-        → Keeps bytes parts held.old.buffer.items →
-        held.old.before + length held.old.buffer.items ≡ length bytes
-        → HasRoomFor bytes piece.now parts r.0) }
+    ensures ends { IfOk result (λ r. (bytes : List ℕ) (frames : List Frame)
+        → Stands held.old bytes frames
+        → AfterBytes r.1 held.new (bytes ++ take r.0 piece.now) frames) }
+    ensures room { IfOk result (λ r. (bytes : List ℕ) (frames : List Frame)
+        → Stands held.old bytes frames → HasRoomFor bytes piece.now frames r.0) }
     ensures broken { IfErr result (λ e. e ≢ StreamError.Memory → e ≢ StreamError.TooLong →
-        (bytes : List ℕ) (parts : List StreamPart) → Keeps bytes parts held.old.buffer.items →
-        held.old.before + length held.old.buffer.items ≡ length bytes
-        → IsBrokenAfter (bytes ++ piece.now) parts e) }
-    ensures too_long { result ≡ Err StreamError.TooLong → (bytes : List ℕ) (parts : List StreamPart)
-        → Keeps bytes parts held.old.buffer.items →
-        held.old.before + length held.old.buffer.items ≡ length bytes
-        → PassesLimit bytes piece.now parts }
-    ensures fault { IfErr result (λ e. e ≢ StreamError.TooLong → IsLineFault e) }
+        (bytes : List ℕ) (frames : List Frame) → Stands held.old bytes frames
+        → BreaksAfter CannotGoOn (bytes ++ piece.now) frames e) }
+    ensures too_long { result ≡ Err StreamError.TooLong → (bytes : List ℕ) (frames : List Frame)
+        → Stands held.old bytes frames → PassesLimit bytes piece.now frames }
+    ensures fault { IfErr result IsCuttingFault }
     ensures place { IfErr result (IsFaultWithin
         (held.old.before + length held.old.buffer.items + length piece.now)) }
 {
@@ -164,61 +138,58 @@ pub fn take_bytes(
         at += part.len();
         let is_whole = part[part.len() - 1] == b'\n';
         if is_whole {
-            if let Some(ended) = end_line(alloc, held)? {
-                return Ok((at, Some(ended)));
+            match end_line(held) {
+                Ok(None) => {}
+                Ok(Some(ended)) => return Ok((at, Some(ended))),
+                Err(span) => return Err(StreamError::Unfinished(span)),
             }
         }
     }
     Ok((at, None))
 }
 
-/// Ends a stream of which all lines have ended. An open block is a fault.
-fn end_open(held: &Held) -> Result<Option<Ended>, StreamError>
+/// Ends a stream of which all lines have ended. The error is the byte range of an open block.
+fn end_open(held: &Held) -> Result<Option<Ended>, Span>
     requires { held.now.before + length held.now.buffer.items ≤ most_taken }
-    ensures ends { IfOk result (λ r. (bytes : List ℕ) (parts : List StreamPart)
-        → EndsOpen held.now bytes parts → EndsStream held.now bytes parts r) }
-    ensures kept { IfOk result (λ r. IsKept r held.now) }
-    ensures broken { IfErr result (λ e. (bytes : List ℕ) (parts : List StreamPart)
-        → EndsOpen held.now bytes parts → IsBrokenAtEndAfter bytes parts e) }
-    ensures fault { IfErr result IsLineFault }
-    ensures place { IfErr result (IsFaultWithin (held.now.before + length held.now.buffer.items)) }
+    ensures ends { IfOk result (λ r. (bytes : List ℕ) (frames : List Frame)
+        (offset : ℕ) (text : List ℕ) → HasLine held.now (lines_of bytes) frames []
+        → EndsWith (waiting_of r offset text) bytes frames) }
+    ensures broken { IfErr result (λ span. (bytes : List ℕ) (frames : List Frame)
+        → HasLine held.now (lines_of bytes) frames []
+        → BreaksAfter CannotEnd bytes frames (StreamError.Unfinished span)) }
+    ensures place { IfErr result (IsSpanWithin (held.now.before + length held.now.buffer.items)) }
 {
     if held.line > 0 {
         let start = held.before;
         let end = start + held.buffer.len();
-        return Err(StreamError::Unfinished(Span { start, end }));
+        return Err(Span { start, end });
     }
     Ok(None)
 }
 
-/// Ends the stream: with a last part, with none, or with a fault. The current line, where it isn't
-/// empty, is the last one.
-pub fn end_stream(alloc: Global, held: &mut Held) -> Result<Option<Ended>, StreamError>
+/// Ends the stream: with a last frame, with none, or with a block that is left unfinished, of which
+/// the error is the byte range. The current line, where it isn't empty, is the last one.
+pub fn end_stream(held: &mut Held) -> Result<Option<Ended>, Span>
     requires line { held.old.line ≤ length held.old.buffer.items }
-    requires most { length held.old.buffer.items ≤ most_held }
     requires taken { held.old.before + length held.old.buffer.items ≤ most_taken }
-    requires held { IsHeld held.old }
     ensures line_after { held.new.line ≤ length held.new.buffer.items }
     ensures taken { held.new.before + length held.new.buffer.items
         ≡ held.old.before + length held.old.buffer.items }
     ensures shorter { length held.new.buffer.items ≤ length held.old.buffer.items }
-    ensures ends { IfOk result (λ r. (bytes : List ℕ) (parts : List StreamPart)
-        → Keeps bytes parts held.old.buffer.items →
-        held.old.before + length held.old.buffer.items ≡ length bytes
-        → EndsStream held.new bytes parts r) }
-    ensures kept { IfOk result (λ r. IsKept r held.new) }
-    ensures broken { IfErr result (λ e. e ≢ StreamError.Memory
-        → (bytes : List ℕ) (parts : List StreamPart) → Keeps bytes parts held.old.buffer.items →
-        held.old.before + length held.old.buffer.items ≡ length bytes
-        → IsBrokenAtEndAfter bytes parts e) }
-    ensures fault { IfErr result IsLineFault }
-    ensures place { IfErr result (IsFaultWithin (held.old.before + length held.old.buffer.items)) }
+    ensures ends { IfOk result (λ r. (bytes : List ℕ) (frames : List Frame)
+        → Stands held.old bytes frames → EndsWith (waiting_of r held.new.before
+        (take held.new.line held.new.buffer.items)) bytes frames) }
+    ensures broken { IfErr result (λ span. (bytes : List ℕ) (frames : List Frame)
+        → Stands held.old bytes frames
+        → BreaksAfter CannotEnd bytes frames (StreamError.Unfinished span)) }
+    ensures place { IfErr result (IsSpanWithin (held.old.before + length held.old.buffer.items)) }
 {
     if held.line == held.buffer.len() {
         return end_open(held);
     }
-    if let Some(ended) = end_line(alloc, held)? {
-        return Ok(Some(ended));
+    match end_line(held) {
+        Ok(None) => end_open(held),
+        Ok(Some(ended)) => Ok(Some(ended)),
+        Err(span) => Err(span),
     }
-    end_open(held)
 }

@@ -1,8 +1,9 @@
 //! Streams of solver output: cuts them at their lines into solution blocks and claims, and reads
-//! what each block prints. `blocks` reads a whole stream; a `Splitter` is fed one in pieces and
-//! lends one block or claim at a time, within a limit of bytes. Whether a block is a solution isn't
-//! asked here.
-//! Its worked cases are in `fz_text_cases`.
+//! what each block prints. `blocks` reads a whole stream; a `Splitter` is fed one in pieces, cuts
+//! off one block or claim at a time, within a limit of bytes, and reads a block as it lends it.
+//! Whether a block is a solution isn't asked here.
+//!
+//! Its worked cases are in `tests/cases` (`reports.txt`, `calls.txt`).
 #![tactic(auto)]
 
 ghost use Rattle.fz_stream.specs.Laws.{StreamHasOneListOfParts};
@@ -11,7 +12,6 @@ mod block;
 mod error;
 mod hashing;
 mod held;
-mod kept;
 mod line;
 mod reading;
 mod splitter;
@@ -20,10 +20,9 @@ mod step;
 pub use block::Block;
 pub use error::{StreamError, moved_span};
 pub use fz_syntax;
-pub use kept::KeptItems;
 pub use line::ClaimKind;
 pub use reading::{Claim, Stream, blocks};
-pub use splitter::{Part, Splitter};
+pub use splitter::{Frame, Part, Splitter};
 
 /// A stream's bytes are a text of one list of blocks and claims, if of any.
 pub fn stream_has_one_list_of_parts()

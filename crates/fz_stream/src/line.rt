@@ -1,6 +1,6 @@
 ghost use Rattle.std.specs.Prelude.{◌≡◌, reverse, ◌∷◌, length, ◌<◌, ◌≤◌, take, drop, ◌==◌, position};
-ghost use Rattle.fz_syntax.specs.Byte.{is_blank};
-ghost use Rattle.fz_stream.specs.Lines.{kind_of, kind_of_words, lines_of, skip_blanks};
+ghost use Rattle.fz_syntax.specs.Token.{is_blank};
+ghost use Rattle.fz_stream.specs.Parts.{kind_of, kind_of_words, lines_of, skip_blanks};
 
 use memchr::memchr;
 

@@ -1,6 +1,6 @@
 ghost use Rattle.std.specs.Prelude.{◌≡◌, ◌≢◌, List, map, length, vec_len, ◌<◌, ◌↔◌, IfOk, IfErr, Err};
 ghost use Rattle.std.specs.List.{AllByRecursion};
-ghost use Rattle.fz_syntax.specs.Limits.{most_bytes};
+ghost use Rattle.fz_syntax.specs.Lexing.{most_bytes};
 ghost use Rattle.fz_stream.specs.Broken.{StopsAfter};
 ghost use Rattle.fz_stream.specs.Faults.{IsStreamFault, IsFaultWithin};
 ghost use Rattle.fz_stream.specs.Found.{block_of, HasPlaces, EndsWithin, IsReadAs, AreInOrder, StandsBeforeMarker};

@@ -1,17 +1,23 @@
-ghost use Rattle.std.specs.Prelude.{◌≡◌, ◌≢◌, ℕ, ◌+◌, ◌≤◌, List, [], ◌∷◌, ◌++◌, ◌⊎◌, ◌↔◌, length, Ok, Err, Some, None, IfOk, IfSome, OnOk, OnErr, IfErr, IsTrue, IsSome, option_map};
-ghost use Rattle.fz_stream.specs.Broken.{IsBrokenAfter, IsBrokenAtEndAfter};
-ghost use Rattle.fz_stream.specs.Faults.{IsStreamFault, IsFaultWithin};
-ghost use Rattle.fz_stream.specs.Parts.{StreamPart};
-ghost use Rattle.fz_stream.specs.Releasing.{AreOfWaiting};
-ghost use Rattle.fz_stream.specs.Splitting.{Fits, Fed, HasRoomFor, PassesLimit, EndsWith, Lends, IsPartOfItems, parts_of, most_held, most_taken};
+ghost use Rattle.std.specs.Prelude.{◌≡◌, ◌≢◌, ℕ, ◌+◌, ◌≤◌, ◌<◌, List, [], ◌∷◌, ◌++◌, ◌↔◌, length, take, Ok, Err, Some, None, IfOk, IfSome, OnOk, OnErr, IfErr, IsTrue, IsSome, option_map};
+ghost use Rattle.fz_stream.specs.Broken.{BreaksAfter, CannotGoOn, CannotEnd};
+ghost use Rattle.fz_stream.specs.Faults.{IsStreamFault, IsCuttingFault, IsFaultWithin};
+ghost use Rattle.fz_stream.specs.Parts.{lines_of, Frame as PlainFrame, Covers, frame_of};
+ghost use Rattle.fz_stream.specs.Splitting.{Fits, HasRoomFor, PassesLimit, EndsWith, IsPartOfItems, frames_in, most_held, most_taken};
 
-use crate::block::Block;
+use crate::block::{Block, read_block};
 use crate::error::StreamError;
-use crate::held::{Ended, Held, drop_part, end_stream, take_bytes};
-use crate::kept::{KeptItems, lent_block};
+use crate::held::{Ended, Held, drop_frame, end_stream, take_bytes};
 use crate::line::ClaimKind;
 use std::alloc::Global;
 use std::marker::Model;
+
+/// A part of a stream as its lines tell it: what a block prints isn't read.
+#[derive(Clone, Copy, Debug)]
+pub enum Frame<'a> {
+    /// The byte offset of a block's text in the stream, and the text.
+    Block(usize, &'a [u8]),
+    Claim(ClaimKind),
+}
 
 /// A part of a stream that a splitter lends.
 #[derive(Drop)]
@@ -28,8 +34,9 @@ pub enum Stage {
     Failed,
 }
 
-/// Reads a stream in pieces, a block or a claim at a time. It holds at most 16,777,216 bytes, the
-/// text of the open block and the current line, and takes at most 1,099,511,627,776 in all.
+/// Cuts a stream, fed in pieces, at its lines, a block or a claim at a time. It holds at most
+/// 16,777,216 bytes, the text of the open block and the current line, and takes at most
+/// 1,099,511,627,776 in all.
 #[derive(Drop)]
 pub struct Splitter {
     alloc: Global,
@@ -52,7 +59,7 @@ impl Model for Splitter {
 
 impl Splitter {
     ghost use Rattle.fz_stream.specs.declared.splitter.Stage.TheVariants.{Running, Finished, Failed as FailedStage};
-    ghost use Rattle.fz_stream.specs.Lending.{part_of, HasPlacesOfItems, PartEndsWithin};
+    ghost use Rattle.fz_stream.specs.Lending.{plain_frame, part_of, FrameIsShort, FrameEndsWithin, HasPlacesOfItems, PartEndsWithin};
 
     /// A splitter that has taken nothing.
     pub fn new(alloc: Global) -> Splitter
@@ -64,7 +71,6 @@ impl Splitter {
                 buffer: Vec::new(alloc),
                 line: 0,
                 before: 0,
-                kept: None,
             },
             ended: None,
             stage: Stage::Running,
@@ -78,101 +84,91 @@ impl Splitter {
         self.ended.is_some()
     }
 
-    /// Lends the part that waits, as often as it is called. Running out of memory changes nothing.
-    /// The text of a block is read anew each time: `release` and `lend` spare that.
-    pub fn take(&self) -> Result<Option<Part<'_>>, StreamError>
-        ensures lent { IfOk result (λ part. Lends self.now.waits (option_map part_of part)) }
-        ensures items { IfOk result (λ part. IfSome part (λ p. IsPartOfItems (part_of p))) }
-        ensures places { IfOk result (λ part. IfSome part HasPlacesOfItems) }
-        ensures within { IfOk result (λ part. IfSome part (PartEndsWithin most_taken)) }
-
-        // It is the last of the parts, whatever was taken before.
-        ensures given { IfOk result (λ part. (bytes : List ℕ) (parts : List StreamPart)
-            → Fits self.now bytes parts → IsSome part →
-            (front : List StreamPart) × (parts ≡ front ++ parts_of (option_map part_of part))) }
-        ensures given_at_end { IfOk result (λ part. (bytes : List ℕ) (parts more : List StreamPart)
-            → EndsWith self.now bytes parts more → more ≡ parts_of (option_map part_of part)) }
-
-        ensures failed { (result ≡ Err StreamError.Failed) ↔ (self.now.stage ≡ FailedStage) }
-        ensures refused { IfErr result (λ e. (e ≡ StreamError.Memory) ⊎ (e ≡ StreamError.Failed)) }
-    {
-        self.lend(None)
-    }
-
-    /// Takes the items of the block that waits out of the splitter, so that `lend` moves them and
-    /// reads nothing. Gives none where no block waits, or where its items were taken out before.
-    pub fn release(&mut self) -> Option<KeptItems>
-        ensures same { self.new ≡ self.old }
-        ensures items { IfSome result (AreOfWaiting self.old.waits) }
+    /// The frame that waits, as often as it is asked for.
+    pub fn frame(&self) -> Option<Frame<'_>>
+        ensures waits { option_map plain_frame result ≡ self.now.waits }
+        ensures short { IfSome result (FrameIsShort most_held) }
+        ensures within { IfSome result (FrameEndsWithin self.now.taken) }
+        ensures taken { self.now.taken ≤ most_taken }
     {
         match self.ended {
-            Some(Ended::BlockEnded) => self.held.kept.take(),
-            Some(Ended::ClaimEnded(_)) | None => None,
+            None => None,
+            Some(Ended::ClaimEnded(kind)) => Some(Frame::Claim(kind)),
+            Some(Ended::BlockEnded) => {
+                let text = &self.held.buffer[..self.held.line];
+                Some(Frame::Block(self.held.before, text))
+            }
         }
     }
 
-    /// Lends the part that waits, as `take` does, and moves into it the items that were released,
-    /// if they are given back.
-    pub fn lend(&self, released: Option<KeptItems>) -> Result<Option<Part<'_>>, StreamError>
-        // They are those of the block that waits, as `release` gave them.
-        requires { IfSome released (AreOfWaiting self.now.waits) }
-        ensures lent { IfOk result (λ part. Lends self.now.waits (option_map part_of part)) }
+    /// Lends the part that waits, as often as it is called, and reads a block's text each time. An
+    /// error changes nothing.
+    pub fn take(&self) -> Result<Option<Part<'_>>, StreamError>
+        // It is that of the frame that waits.
+        ensures lent { IfOk result
+            (λ part. option_map (λ p. frame_of (part_of p)) part ≡ self.now.waits) }
         ensures items { IfOk result (λ part. IfSome part (λ p. IsPartOfItems (part_of p))) }
         ensures places { IfOk result (λ part. IfSome part HasPlacesOfItems) }
         ensures within { IfOk result (λ part. IfSome part (PartEndsWithin most_taken)) }
 
-        // It is the last of the parts, whatever was taken before.
-        ensures given { IfOk result (λ part. (bytes : List ℕ) (parts : List StreamPart)
-            → Fits self.now bytes parts → IsSome part →
-            (front : List StreamPart) × (parts ≡ front ++ parts_of (option_map part_of part))) }
-        ensures given_at_end { IfOk result (λ part. (bytes : List ℕ) (parts more : List StreamPart)
-            → EndsWith self.now bytes parts more → more ≡ parts_of (option_map part_of part)) }
-
+        // A text is refused only where no further bytes can mend the stream.
+        ensures broken { IfErr result (λ e. e ≢ StreamError.Memory → e ≢ StreamError.Failed →
+            (bytes more : List ℕ) (frames : List PlainFrame) (frame : PlainFrame)
+            → Fits self.now bytes (frames ++ frame ∷ [])
+            → BreaksAfter CannotGoOn (bytes ++ more) frames e) }
+        ensures broken_at_end { IfErr result (λ e. e ≢ StreamError.Memory → e ≢ StreamError.Failed →
+            (bytes : List ℕ) (frames : List PlainFrame) → EndsWith self.now.waits bytes frames
+            → BreaksAfter CannotEnd bytes frames e) }
         ensures failed { (result ≡ Err StreamError.Failed) ↔ (self.now.stage ≡ FailedStage) }
-        ensures refused { IfErr result (λ e. (e ≡ StreamError.Memory) ⊎ (e ≡ StreamError.Failed)) }
+        ensures fault { IfErr result (λ e. e ≢ StreamError.Failed → IsStreamFault e) }
+        ensures place { IfErr result (IsFaultWithin self.now.taken) }
     {
         match self.stage {
             Stage::Failed => return Err(StreamError::Failed),
             Stage::Running | Stage::Finished => {}
         }
-        match self.ended {
+        match self.frame() {
             None => Ok(None),
-            Some(Ended::ClaimEnded(kind)) => Ok(Some(Part::Claim(kind))),
-            Some(Ended::BlockEnded) => {
-                let text = &self.held.buffer[..self.held.line];
-                match lent_block(self.alloc, self.held.before, text, released) {
-                    Ok(block) => Ok(Some(Part::Block(block))),
-                    Err(e) => Err(e),
-                }
-            }
+            Some(Frame::Claim(kind)) => Ok(Some(Part::Claim(kind))),
+            Some(Frame::Block(offset, text)) => match read_block(self.alloc, offset, text) {
+                Ok(block) => Ok(Some(Part::Block(block))),
+                Err(e) => Err(e),
+            },
         }
     }
 
-    /// Drops the part that waits, takes bytes up to the end of the line that completes the next
-    /// part, or all of them, and gives how many. After an error the splitter has failed for good.
+    /// Drops the frame that waits, takes bytes up to the end of the line that ends the next frame,
+    /// or all of them, and gives how many. After an error the splitter has failed for good.
     pub fn feed(&mut self, piece: &[u8]) -> Result<usize, StreamError>
         requires { self.old.stage ≢ Finished }
         // The splitter's state is one that fits these bytes, whatever was taken before.
-        ensures fits { IfOk result (λ n. (bytes : List ℕ) (parts : List StreamPart)
-            → Fits self.old bytes parts → Fed self.new bytes piece.now parts n) }
+        ensures fits { IfOk result (λ n. (bytes : List ℕ) (frames : List PlainFrame)
+            → Fits self.old bytes frames
+            → Fits self.new (bytes ++ take n piece.now) (frames ++ frames_in self.new.waits)) }
+        // The last byte that was taken ends the frame that waits.
+        ensures ends { IfOk result (λ n. (bytes : List ℕ) (frames : List PlainFrame)
+            → Fits self.old bytes frames → IsSome self.new.waits → Covers
+            (lines_of (bytes ++ take n piece.now)) (frames ++ frames_in self.new.waits) [] []) }
+        ensures some { IfOk result (λ n. IsSome self.new.waits → 0 < n) }
+        ensures all { IfOk result (λ n. self.new.waits ≡ None → n ≡ length piece.now) }
         ensures within { IfOk result (λ n. n ≤ length piece.now) }
         ensures ok { OnOk result (self.new.stage ≡ Running) }
         ensures held { OnOk result (length self.new.held ≤ most_held) }
         ensures taken { OnOk result (self.new.taken ≤ most_taken) }
         // The limits bind at each byte that is taken.
-        ensures room { IfOk result (λ n. (bytes : List ℕ) (parts : List StreamPart)
-            → Fits self.old bytes parts → HasRoomFor bytes piece.now parts n) }
+        ensures room { IfOk result (λ n. (bytes : List ℕ) (frames : List PlainFrame)
+            → Fits self.old bytes frames → HasRoomFor bytes piece.now frames n) }
 
         // A fault comes only where no further bytes can mend the stream.
         ensures broken { IfErr result (λ e. e ≢ StreamError.Memory → e ≢ StreamError.TooLong
             → e ≢ StreamError.Failed →
-            (bytes : List ℕ) (parts : List StreamPart) → Fits self.old bytes parts
-            → IsBrokenAfter (bytes ++ piece.now) parts e) }
+            (bytes : List ℕ) (frames : List PlainFrame) → Fits self.old bytes frames
+            → BreaksAfter CannotGoOn (bytes ++ piece.now) frames e) }
         ensures too_long { result ≡ Err StreamError.TooLong
-            → (bytes : List ℕ) (parts : List StreamPart) → Fits self.old bytes parts
-            → PassesLimit bytes piece.now parts }
+            → (bytes : List ℕ) (frames : List PlainFrame) → Fits self.old bytes frames
+            → PassesLimit bytes piece.now frames }
         ensures failed { (result ≡ Err StreamError.Failed) ↔ (self.old.stage ≡ FailedStage) }
-        ensures fault { IfErr result (λ e. e ≢ StreamError.Failed → IsStreamFault e) }
+        ensures fault { IfErr result (λ e. e ≢ StreamError.Failed → IsCuttingFault e) }
         ensures place { IfErr result (IsFaultWithin (self.old.taken + length piece.now)) }
         ensures err { OnErr result ((self.new.stage ≡ FailedStage) × (self.new.waits ≡ None)) }
     {
@@ -180,9 +176,9 @@ impl Splitter {
             Stage::Failed => return Err(StreamError::Failed),
             Stage::Running | Stage::Finished => {}
         }
-        drop_part(&mut self.held, self.ended);
+        drop_frame(&mut self.held, self.ended);
         self.ended = None;
-        match take_bytes(self.alloc, &mut self.held, piece) {
+        match take_bytes(&mut self.held, piece) {
             Ok((n, ended)) => {
                 self.ended = ended;
                 Ok(n)
@@ -194,22 +190,21 @@ impl Splitter {
         }
     }
 
-    /// Drops the part that waits, and ends the stream; the current line, where it isn't empty, is
-    /// its last. After that a part may wait. After an error the splitter has failed for good.
+    /// Drops the frame that waits, and ends the stream; the current line, where it isn't empty, is
+    /// its last. After that a frame may wait. After an error the splitter has failed for good.
     pub fn finish(&mut self) -> Result<(), StreamError>
         requires { self.old.stage ≢ Finished }
-        ensures ends { OnOk result ((bytes : List ℕ) (parts : List StreamPart)
-            → Fits self.old bytes parts →
-            (more : List StreamPart) × EndsWith self.new bytes parts more) }
+        ensures ends { OnOk result ((bytes : List ℕ) (frames : List PlainFrame)
+            → Fits self.old bytes frames → EndsWith self.new.waits bytes frames) }
         ensures ok { OnOk result (self.new.stage ≡ Finished) }
 
         // A fault comes only where the bytes that were taken are a text of no parts.
-        ensures broken { IfErr result (λ e. e ≢ StreamError.Memory → e ≢ StreamError.Failed →
-            (bytes : List ℕ) (parts : List StreamPart) → Fits self.old bytes parts
-            → IsBrokenAtEndAfter bytes parts e) }
-        ensures not_too_long { result ≢ Err StreamError.TooLong }
+        ensures broken { IfErr result (λ e. e ≢ StreamError.Failed →
+            (bytes : List ℕ) (frames : List PlainFrame) → Fits self.old bytes frames
+            → BreaksAfter CannotEnd bytes frames e) }
         ensures failed { (result ≡ Err StreamError.Failed) ↔ (self.old.stage ≡ FailedStage) }
-        ensures fault { IfErr result (λ e. e ≢ StreamError.Failed → IsStreamFault e) }
+        ensures fault { IfErr result (λ e. e ≢ StreamError.Failed
+            → IsCuttingFault e × (e ≢ StreamError.TooLong)) }
         ensures place { IfErr result (IsFaultWithin self.old.taken) }
         ensures err { OnErr result ((self.new.stage ≡ FailedStage) × (self.new.waits ≡ None)) }
     {
@@ -217,17 +212,17 @@ impl Splitter {
             Stage::Failed => return Err(StreamError::Failed),
             Stage::Running | Stage::Finished => {}
         }
-        drop_part(&mut self.held, self.ended);
+        drop_frame(&mut self.held, self.ended);
         self.ended = None;
-        match end_stream(self.alloc, &mut self.held) {
+        match end_stream(&mut self.held) {
             Ok(last) => {
                 self.ended = last;
                 self.stage = Stage::Finished;
                 Ok(())
             }
-            Err(e) => {
+            Err(span) => {
                 self.stage = Stage::Failed;
-                Err(e)
+                Err(StreamError::Unfinished(span))
             }
         }
     }

@@ -6,7 +6,7 @@ use Rattle.fz_lex.specs.declared.token.Mark.TheVariants.{OpenParen, OpenBracket,
 use Rattle.fz_lex.specs.Token.{TokenValue, Word, Whole, FloatText, StringText, Marked}
 use Rattle.fz_tree.specs.Tree.{Literal, Number, Truth, Range, Braces, Basic, Lit, Named, Expr, One, Several}
 use Rattle.fz_tree.specs.Tokens.{mark, number_toks, literal_toks, name_toks, basic_toks, expr_toks, separated}
-use Rattle.fz_tree.specs.Shape.{Limits, is_reserved, IsName, IsLiteral, IsBounds, IsBasic, IsExpr, IsLiteralBasic}
+use Rattle.fz_tree.specs.Text.{Limits, is_reserved, IsName, IsLiteral, IsBounds, IsBasic, IsExpr, IsLiteralBasic}
 use Rattle.fz_syntax.specs.Reading.{Reader, is_mark, is_word, next_passes, next_is, next_word, list_at, at_most, whole_at, name_at, is_whole, is_name, begins_literal, begins_basic, braces_at, from_whole, literal_at, basic_at, expr_list_at, expr_at, literal_basic_at}
 use Rattle.fz_syntax.proofs.Lists.{bind_ok, ok_is, Shrinks}
 use Rattle.fz_syntax.proofs.Shorter.{Shortens, whole_shortens, at_most_shortens}

@@ -5,7 +5,8 @@ use Rattle.std.proofs.lemmas.List.{append-nil}
 use Rattle.fz_lex.specs.Token.{TokenValue, Word, Whole, Marked, Spells}
 use Rattle.fz_lex.specs.declared.token.Mark.{Mark}
 use Rattle.fz_lex.specs.declared.token.Mark.TheVariants.{OpenBrace, CloseBrace, DotDot, Comma}
-use Rattle.fz_lex.specs.Lexing.{SpannedToken, AreInOrder, LexesToSpanned}
+use Rattle.fz_lex.specs.Lexing.{SpannedToken, LexesToSpanned}
+use Rattle.fz_lex.specs.Found.{AreInOrder}
 use Rattle.fz_lex.specs.Ahead.{tokens_ahead}
 use Rattle.fz_lex.specs.View.{IsSpelledAtSpan}
 use Rattle.fz_lex.proofs.Cuts.{cut_ordered}

@@ -4,11 +4,11 @@ use Rattle.std.proofs.lemmas.List.{append-nil}
 use Rattle.fz_lex.specs.Token.{TokenValue}
 use Rattle.fz_syntax.specs.declared.parser.refusal.Refusal.{Refusal}
 use Rattle.fz_tree.specs.Tree.{Literal}
-use Rattle.fz_tree.specs.Shape.{Limits}
+use Rattle.fz_tree.specs.Text.{Limits}
 use Rattle.fz_syntax.specs.Reading.{Fault, Read, ◌>>=◌}
 use Rattle.fz_syntax.specs.ReadingItems.{index_set_at, index_sets_at}
 use Rattle.fz_syntax.specs.Outcome.{Fails}
-use Rattle.fz_syntax.specs.Offering.{with_front}
+use Rattle.fz_syntax.proofs.Lists.{with_front}
 use Rattle.fz_syntax.proofs.Separated.{fails_like}
 use Rattle.fz_syntax.proofs.Running.{front_of_none}
 

@@ -6,7 +6,7 @@ use Rattle.fz_lex.specs.declared.token.Mark.TheVariants.{OpenParen, CloseParen, 
 use Rattle.fz_lex.specs.Token.{TokenValue, Marked}
 use Rattle.fz_tree.specs.Tree.{Literal, Number, Truth, Range, Braces, Lit, Named, Expr, One, Several, Base, BoolBase, IntBase, SetBase, Constraint, Goal, Satisfy, Minimize, Maximize, Solve}
 use Rattle.fz_syntax.specs.Reading.{next_is, next_word, any_number, mark_at, word_at, whole_at, range_at, bounds_at, int_at, base_at, plain_at, one_at, size_at, index_at, expr_at, constraint_at, goal_at, solve_at}
-use Rattle.fz_tree.specs.Shape.{Limits, IsExpr, IsBounds, IsBase, IsPlain, IsConstraint, IsGoal, IsSolve}
+use Rattle.fz_tree.specs.Text.{Limits, IsExpr, IsBounds, IsBase, IsPlain, IsConstraint, IsGoal, IsSolve}
 use Rattle.fz_tree.specs.Tokens.{mark, expr_toks, literal_toks, separated, notes_toks, bounds_toks, base_toks, index_toks, constraint_toks, goal_toks, solve_toks}
 use Rattle.fz_syntax.proofs.ListLaws.{mark_again}
 use Rattle.fz_syntax.proofs.ListAgain.{list_again}

@@ -7,7 +7,7 @@ use Rattle.fz_lex.specs.declared.token.Mark.TheVariants.{OpenParen, CloseParen, 
 use Rattle.fz_lex.specs.Token.{TokenValue, Word, Whole, FloatText, StringText, Marked}
 use Rattle.fz_tree.specs.Tree.{Literal, Range, Expr, Base, BoolBase, IntBase, SetBase, Param, Predicate, Decl, Constraint, One, Several, Tree, Goal, Satisfy, Minimize, Maximize, Solve}
 use Rattle.fz_syntax.specs.Reading.{Reader, ◌>>=◌, next_is, next_word, next_passes, any_number, mark_at, word_at, list_at, range_at, bounds_at, int_at, base_at, plain_at, is_one, one_at, size_at, index_at, array_at, any_index_at, var_at, param_prefix_at, prefix_at, param_at, predicate_at, expr_at, constraint_at, basic_at, goal_at, solve_at, type_at, value_at, may_lack_value, given_value_at, decl_at, literal_basic_at, expr_list_at, at_most, begins_literal, begins_decl, is_word, tree_at, begins_index, indexes_at, separated_at, many_at, is_mark, after_token}
-use Rattle.fz_tree.specs.Shape.{Limits, IsExpr, IsBounds, IsBase, IsPlain, IsParamArray, IsParam, IsPredicate, IsConstraint, IsGoal, IsSolve, IsBaseOf, IsValueOf, IsDecl, HasShape, IsAnyIndex, most_indexes}
+use Rattle.fz_tree.specs.Text.{Limits, IsExpr, IsBounds, IsBase, IsPlain, IsParamArray, IsParam, IsPredicate, IsConstraint, IsGoal, IsSolve, IsBaseOf, IsValueOf, IsDecl, HasShape, IsAnyIndex, most_indexes}
 use Rattle.fz_tree.specs.Tokens.{mark, word, name_toks, number_toks, expr_toks, literal_toks, separated, in_parens, in_brackets, notes_toks, bounds_toks, base_toks, var_toks, index_toks, prefix_toks, param_prefix_toks, param_toks, predicate_toks, constraint_toks, goal_toks, solve_toks, value_toks, decl_toks, toks, any_index_toks}
 use Rattle.fz_syntax.proofs.Lists.{Shrinks, bind_ok, ok_is}
 use Rattle.fz_syntax.proofs.ListLaws.{Took, Takes, Always, chosen, marked_tokens, worded_tokens, mark_takes, word_takes, list_takes, many_takes, separated_takes, separated_count, at_most_takes, at_most_below}

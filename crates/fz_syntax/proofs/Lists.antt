@@ -2,7 +2,6 @@
 use Rattle.std.proofs.Common.{◌≡◌, ℕ, zero, suc, ◌+◌, ◌≤◌, ◌<◌, Bool, true, false, cond, List, [], ◌∷◌, ◌++◌, length, Ok, Err, refl, sym, ap, ◌∙◌, append_assoc, arith}
 use Rattle.std.proofs.lemmas.List.{append-nil}
 use Rattle.fz_lex.specs.Token.{TokenValue}
-use Rattle.fz_syntax.specs.Offering.{with_front}
 use Rattle.fz_syntax.specs.Reading.{Fault, Read, Reader, ◌>>=◌, next_passes, many_upto, many_at}
 
 abbrev done : {A : Type 0} → A × List TokenValue → Read A
@@ -29,7 +28,7 @@ bind_same (Err e) f g h = refl
 
 -- ---- how much room a reading is given makes no difference
 
-abbrev put_first : {A : Type 0} → A → Read (List A) → Read (List A)
+abbrev pub put_first : {A : Type 0} → A → Read (List A) → Read (List A)
 put_first x read = read >>= λ others. Ok (x ∷ others.0, others.1)
 
 many_enough : {A : Type 0} (more : TokenValue → Bool) (part : ℕ → Reader A) → Shrinks part
@@ -71,6 +70,9 @@ many_ends more part i [] wanted = refl
 many_ends more part i (t ∷ ts) wanted = rw wanted refl
 
 -- ---- the same in a loop, with what was read before in front
+
+abbrev pub with_front : {A : Type 0} → List A → Read (List A) → Read (List A)
+with_front front read = read >>= λ x. Ok (front ++ x.0, x.1)
 
 regroup : {A : Type 0} (front : List A) (x : A) (read : Read (List A))
     → with_front front (put_first x read) ≡ with_front (front ++ x ∷ []) read

@@ -6,8 +6,7 @@ use Rattle.std.specs.List.{AllByRecursion}
 use Rattle.fz_lex.specs.declared.error.SyntaxError.{SyntaxError}
 use Rattle.fz_tree.specs.Tree.{Literal, Number, Truth, Range, Braces, Basic, Lit, Named, Expr, One, Several, Note, Called, NoteArgs, NoMoreArgs, MoreArgs, NoteArg, OneBasic, ListOf, NoteBasics, NoMoreBasics, MoreBasics, NoteBasic, NoteLiteral, NoteFloat, NoteString, Inner, Base, BoolBase, IntBase, SetBase, Param, Predicate, Decl, Constraint, Goal, Satisfy, Minimize, Maximize, Solve, Tree, PrintedValue, OneValue, ArrayOf, Printed}
 use Rattle.fz_tree.specs.Tokens.{toks, itoks}
-use Rattle.fz_tree.specs.Shape.{Limits, the_limits, IsLiteral, IsBounds, IsBasic, IsExpr, IsNote, AreArgs, IsArg, AreBasics, IsNoteBasic, AreNotes, IsBase, IsParamArray, IsParam, IsPredicate, IsLiteralBasic, IsValueOf, IsBaseOf, IsDecl, IsConstraint, IsGoal, IsSolve, HasShape, IsTree, IsPrintedValue, IsPrinted, IsAnyIndex}
-use Rattle.fz_tree.specs.Text.{IsTextOfTree, IsTextOfItems}
+use Rattle.fz_tree.specs.Text.{Limits, the_limits, IsLiteral, IsBounds, IsBasic, IsExpr, IsNote, AreArgs, IsArg, AreBasics, IsNoteBasic, AreNotes, IsBase, IsParamArray, IsParam, IsPredicate, IsLiteralBasic, IsValueOf, IsBaseOf, IsDecl, IsConstraint, IsGoal, IsSolve, HasShape, IsTree, IsPrintedValue, IsPrinted, IsAnyIndex, IsTextOfTree, IsTextOfItems}
 use Rattle.fz_syntax.specs.Reading.{Fault, tree_of}
 use Rattle.fz_syntax.specs.ReadingItems.{items_of}
 use Rattle.fz_syntax.proofs.TreeAgain.{tree_of_toks}

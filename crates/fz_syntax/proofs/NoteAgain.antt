@@ -5,7 +5,7 @@ use Rattle.fz_lex.specs.Token.{TokenValue, Marked}
 use Rattle.fz_tree.specs.Tree.{Literal, Number, Truth, Range, Braces, Note, Called, NoteArgs, NoMoreArgs, MoreArgs, NoteArg, OneBasic, ListOf, NoteBasics, NoMoreBasics, MoreBasics, NoteBasic, NoteLiteral, NoteFloat, NoteString, Inner}
 use Rattle.fz_tree.specs.Tokens.{mark, literal_toks, note_toks, args_toks, more_args_toks, arg_toks, more_basics_toks, note_basic_toks, notes_toks}
 use Rattle.fz_tree.specs.View.{arg_list, basic_list}
-use Rattle.fz_tree.specs.Shape.{Limits, IsLiteral, IsNote, AreArgs, IsArg, AreBasics, IsNoteBasic, AreNotes, count_basics}
+use Rattle.fz_tree.specs.Text.{Limits, IsLiteral, IsNote, AreArgs, IsArg, AreBasics, IsNoteBasic, AreNotes, count_basics}
 use Rattle.fz_syntax.specs.Reading.{Reader, ◌>>=◌, is_mark, next_passes, next_is, list_at, separated_at, many_at, after_token, at_most, any_number, is_name, begins_note_basic, literal_at, note_at, note_args_at, note_arg_at, note_list_at, note_basic_at, notes_at}
 use Rattle.fz_syntax.proofs.Lists.{many_step, many_ends}
 use Rattle.fz_syntax.proofs.Separated.{Shrinks-after_token}

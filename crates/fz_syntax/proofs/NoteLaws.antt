@@ -7,7 +7,7 @@ use Rattle.fz_lex.specs.Token.{TokenValue, Word, Whole, FloatText, StringText, M
 use Rattle.fz_tree.specs.Tree.{Literal, Number, Truth, Range, Braces, Note, Called, NoteArg, OneBasic, ListOf, NoteBasic, NoteLiteral, NoteFloat, NoteString, Inner}
 use Rattle.fz_tree.specs.Tokens.{mark, literal_toks, in_parens, note_toks, args_toks, more_args_toks, arg_toks, basics_toks, more_basics_toks, note_basic_toks, notes_toks, separated, after_commas}
 use Rattle.fz_tree.specs.View.{arg_list, basic_list}
-use Rattle.fz_tree.specs.Shape.{Limits, is_reserved, IsNote, AreArgs, IsArg, AreBasics, IsNoteBasic, AreNotes, count_basics}
+use Rattle.fz_tree.specs.Text.{Limits, is_reserved, IsNote, AreArgs, IsArg, AreBasics, IsNoteBasic, AreNotes, count_basics}
 use Rattle.fz_syntax.specs.Reading.{Reader, ◌>>=◌, is_mark, next_passes, next_is, separated_at, many_at, after_token, mark_at, at_most, any_number, name_at, is_name, is_quoted, is_deep_name, begins_note_basic, literal_at, note_at, note_args_at, note_arg_at, note_list_at, note_basic_at, notes_at, too_deep, unexpected}
 use Rattle.fz_syntax.proofs.Lists.{bind_ok, ok_is, Shrinks}
 use Rattle.fz_syntax.proofs.Shorter.{Shortens, at_most_shortens}

@@ -1,13 +1,12 @@
--- What was offered so far, as one more item is read, as none is left, and as the source is refused.
-use Rattle.std.proofs.Common.{◌≡◌, ℕ, Bool, true, false, List, [], ◌∷◌, ◌++◌, length, map, Ok, Err, refl, sym, ap, subst, drop, arith, ◌∙◌, append_assoc}
-use Rattle.std.specs.Prelude.{codes, ◌≤◌, ◌<◌, Option, Some, None, IfSome, IfNone, is_some}
+-- What is left of a text, as one more item is read, as none of its kind is left, and as the source
+-- is refused.
+use Rattle.std.proofs.Common.{◌≡◌, ℕ, zero, suc, ◌+◌, Bool, true, false, cond, List, [], ◌∷◌, ◌++◌, length, map, Result, Ok, Err, refl, sym, ap, subst, drop, arith, ◌∙◌, append_assoc, inl, inr}
+use Rattle.std.specs.Prelude.{◌≤◌, ◌<◌, ◌⊎◌, Option, Some, None, IfSome, IfNone, is_some}
 use Rattle.std.specs.List.{flat_map}
 use Rattle.std.proofs.lemmas.List.{append-nil}
-use Rattle.std.proofs.lemmas.Grind.{flat_map-append}
 use Rattle.fz_lex.specs.Ahead.{tokens_ahead}
 use Rattle.fz_lex.specs.Left.{source_of}
-use Rattle.fz_lex.specs.Lexing.{SpannedToken, LexesToSpanned}
-use Rattle.fz_lex.specs.Limits.{most_bytes, AreWithinLimit, LexesWithinLimits}
+use Rattle.fz_lex.specs.Lexing.{SpannedToken, LexesToSpanned, most_bytes, AreWithinLimit, LexesWithinLimits}
 use Rattle.fz_lex.specs.View.{IsLexicalFault, IsPlacedWithin, spanned}
 use Rattle.fz_lex.specs.declared.token.Token.{Token}
 use Rattle.fz_lex.specs.Token.{TokenValue}
@@ -16,176 +15,73 @@ use Rattle.fz_lex.specs.declared.error.SyntaxError.TheVariants as errors
 use Rattle.fz_tree.specs.Tree as tree
 use Rattle.fz_syntax.specs.declared.parser.cursor.Parser.{Parser}
 use Rattle.fz_syntax.specs.declared.parser.refusal.Refusal.{Refusal}
-use Rattle.fz_syntax.specs.declared.reader.Items.{Items}
+use Rattle.fz_syntax.specs.declared.reader.Rest.{Rest}
 use Rattle.fz_tree.specs.declared.tree.Predicate.{Predicate}
 use Rattle.fz_tree.specs.declared.tree.Decl.{Decl}
 use Rattle.fz_tree.specs.declared.tree.Constraint.{Constraint}
 use Rattle.fz_tree.specs.declared.tree.Solve.{Solve}
-use Rattle.fz_tree.specs.View.{bare_predicate, bare_decl, bare_constraint, bare_solve}
+use Rattle.fz_tree.specs.View.{bare_solve}
+use Rattle.fz_tree.specs.Text.{IsTextOfTree, the_limits}
 use Rattle.fz_syntax.specs.Placed.{PlacedToken, placed_predicate, placed_decl, placed_constraint, placed_solve}
-use Rattle.fz_tree.specs.Shape.{the_limits}
-use Rattle.fz_syntax.specs.Reading.{Read, Reader, ◌>>=◌, next_passes, is_word, begins_decl, predicate_at, decl_at, constraint_at, solve_at, tree_at, tree_of, ended}
+use Rattle.fz_syntax.specs.Reading.{Fault, Read, Reader, ◌>>=◌, next_passes, many_upto, many_at, any_number, solve_at, tree_at, tree_of, ended, whole}
 use Rattle.fz_syntax.specs.Outcome.{Fails, IsErrorOf, IsRefusal, IsWhole, unexpected_kind}
-use Rattle.fz_tree.specs.Text.{IsValue}
 use Rattle.fz_syntax.specs.Walk.{ahead, lexemes, Walk}
-use Rattle.fz_syntax.specs.Offering.{TreeItems, bare_all, placed_all, placed_before, IsTextOfAll, IsRefused, IsRefusedBy, by_lexer, by_grammar, IsAfter, read_predicates, read_decls, read_constraints, AtPredicates, AtDecls, AtConstraints, AtSolve}
-use Rattle.fz_syntax.proofs.Separated.{fails_bind}
-use Rattle.fz_syntax.proofs.Running.{front_of_none, gathers_on, gathers_stop, gathers_all, grown}
-use Rattle.fz_syntax.proofs.ItemLaws.{predicates_shrink, decls_shrink, constraints_shrink}
+use Rattle.fz_syntax.specs.Offering.{bare_all, placed_all, IsTextOfAll, IsRefused, IsRefusedBy, by_lexer, by_grammar, Part, kind_before, from_solve, from_predicates, all_items, IsLeft, IsWithin, Kind, Leaves, Took, TookAll, TookOne, changed}
+use Rattle.fz_syntax.proofs.Lists.{Shrinks, put_first, many_step, many_ends, many_fails}
+use Rattle.fz_syntax.proofs.Separated.{fails_bind, fails_like}
 use Rattle.fz_syntax.proofs.Walks.{walk_none, walk_then}
 use Rattle.fz_syntax.proofs.Whole.{refused_so, refused_more, grammar_refuses, lexer_refuses}
-use Rattle.fz_syntax.proofs.Parsed.{tree_found, tree_only}
+use Rattle.fz_syntax.proofs.Parsed.{tree_found, tree_read}
 use Rattle.fz_syntax.proofs.Fits.{placed_in, stands_of}
-use Rattle.fz_syntax.proofs.PlacedLaws.{fits_all}
+use Rattle.fz_syntax.proofs.PlacedLaws.{fits_all, to_right}
 
--- ---- the beginning
+-- ---- what is read, with its value changed
 
-begins_after : (source : List ℕ) (p : Parser) → ahead p ≡ tokens_ahead source 0
-    → source_of p.tokens ≡ source → p.end ≡ length source → length source ≤ most_bytes
-    → IsAfter source p p []
-begins_after source p all same end short = record { begins = all; of_source = same; short = short; ends = end; walked = walk_none }
+whole_changed : {A B : Type 0} (f : A → B) (read : Read A) (e : Fault) → whole read ≡ Err e
+    → whole (changed f read) ≡ Err e
+unfolding ended
+whole_changed f (Ok (x, [])) e h = absurd cc
+whole_changed f (Ok (x, t ∷ ts)) e h = cc
+whole_changed f (Err d) e h = cc
 
-pub at_first : (i : Items) → ahead i.parser ≡ tokens_ahead i.source.now 0
-    → source_of i.parser.tokens ≡ i.source.now → i.parser.end ≡ length i.source.now
-    → length i.source.now ≤ most_bytes → AtPredicates [] i
-at_first i all same end short = record {
-  start = i.parser;
-  after = begins_after i.source.now i.parser all same end short;
-  gathers = record { so_far = front_of_none (read_predicates (lexemes i.parser)) };
-}
+-- ---- one step
 
--- ---- one more item
-
-after_more : (source more : List ℕ) (start p q : Parser) (a b c : List PlacedToken) → more ≡ source
-    → q.end ≡ p.end → Walk p q b → c ≡ a ++ b → IsAfter source start p a → IsAfter more start q c
-after_more source more start p q a b c same end walked grew h =
-    subst (λ (s : List ℕ). IsAfter s start q c) (sym same)
-    (subst (λ (s : List PlacedToken). IsAfter source start q s) (sym grew) (record { begins = h.begins; of_source = h.of_source; short = h.short; ends = end ∙ h.ends; walked = walk_then h.walked walked }))
-
-flat_push : {A : Type 0} (f : A → List PlacedToken) (xs : List A) (x : A)
-    → flat_map f (xs ++ x ∷ []) ≡ flat_map f xs ++ f x
-flat_push f xs x = flat_map-append f xs (x ∷ []) ∙ ap (λ (s : List PlacedToken). flat_map f xs ++ s) (append-nil (f x))
-
-predicates_grow : (ps : List Predicate) (p : Predicate)
-    → placed_before (ps ++ p ∷ []) [] [] ≡ placed_before ps [] [] ++ placed_predicate p
-predicates_grow ps p =
-    let none : (s : List PlacedToken) → (s ++ []) ++ [] ≡ s = λ s. append-nil (s ++ []) ∙ append-nil s in
-    none (flat_map placed_predicate (ps ++ p ∷ [])) ∙ flat_push placed_predicate ps p ∙ ap (λ (s : List PlacedToken). s ++ placed_predicate p) (sym (none (flat_map placed_predicate ps)))
-
-decls_grow : (ps : List Predicate) (ds : List Decl) (d : Decl)
-    → placed_before ps (ds ++ d ∷ []) [] ≡ placed_before ps ds [] ++ placed_decl d
-decls_grow ps ds d =
-    let before = flat_map placed_predicate ps in
-    let own = flat_map placed_decl ds in
-    append-nil (before ++ flat_map placed_decl (ds ++ d ∷ [])) ∙ ap (λ (s : List PlacedToken). before ++ s) (flat_push placed_decl ds d)
-    ∙ sym (append_assoc before own (placed_decl d)) ∙ ap (λ (s : List PlacedToken). s ++ placed_decl d) (sym (append-nil (before ++ own)))
-
-constraints_grow : (ps : List Predicate) (ds : List Decl) (cs : List Constraint) (c : Constraint)
-    → placed_before ps ds (cs ++ c ∷ []) ≡ placed_before ps ds cs ++ placed_constraint c
-constraints_grow ps ds cs c =
-    let before = flat_map placed_predicate ps ++ flat_map placed_decl ds in
-    ap (λ (s : List PlacedToken). before ++ s) (flat_push placed_constraint cs c) ∙ sym (append_assoc before (flat_map placed_constraint cs) (placed_constraint c))
-
--- An item was read between the two states.
-pub record Took {X A : Type 0} (more : TokenValue → Bool) (read : Reader A) (view : X → A) (placed : X → List PlacedToken) (old new : Items) (x : X) : Type 0 where
+-- Between two states the parser took some tokens, and what is left before is read as what is left
+-- after it, with some items more.
+pub record Step {R B Q C : Type 0} (before : Part R B) (after : Part Q C) (bare : C → B) (all : Q → R) (old new : Rest) : Type 0 where
   pub same : new.source.now ≡ old.source.now
   pub end : new.parser.end ≡ old.parser.end
-  pub begins : next_passes more (lexemes old.parser) ≡ true
-  pub found : read (lexemes old.parser) ≡ Ok (view x, lexemes new.parser)
-  pub walked : Walk old.parser new.parser (placed x)
+  pub taken : List PlacedToken
+  pub walked : Walk old.parser new.parser taken
+  pub read : before.read (lexemes old.parser) ≡ changed bare (after.read (lexemes new.parser))
+  pub bares : (r : Q) → bare (after.bare r) ≡ before.bare (all r)
+  pub places : (r : Q) → taken ++ after.placed r ≡ before.placed (all r)
 
-abbrev pub TookPredicate : Items → Items → Predicate → Type 0
-TookPredicate = Took (is_word (codes "predicate")) (predicate_at the_limits) bare_predicate placed_predicate
-
-abbrev pub TookDecl : Items → Items → Decl → Type 0
-TookDecl = Took begins_decl (decl_at the_limits) bare_decl placed_decl
-
-abbrev pub TookConstraint : Items → Items → Constraint → Type 0
-TookConstraint = Took (is_word (codes "constraint")) (constraint_at the_limits) bare_constraint placed_constraint
-
-pub predicate_more : (ps : List Predicate) (p : Predicate) (old new : Items)
-    → TookPredicate old new p → AtPredicates ps old → AtPredicates (ps ++ p ∷ []) new
-predicate_more ps p old new t h = record {
-  start = h.start;
-  after = after_more old.source.now new.source.now h.start old.parser new.parser _ _ _ t.same t.end t.walked (predicates_grow ps p) h.after;
-  gathers = gathers_on (is_word (codes "predicate")) (predicate_at the_limits) (predicates_shrink the_limits) _ _ _ _ _ _ (grown bare_predicate _ ps p refl) true refl (sym t.begins) t.found h.gathers;
+pub step_leaves : {R B Q C : Type 0} (before : Part R B) (after : Part Q C) (bare : C → B)
+    (all : Q → R) (old new : Rest) → Step before after bare all old new
+    → Leaves before after all old new
+step_leaves before after bare all old new s = record {
+  same = s.same;
+  all_left = λ r left. record {
+    lexed = subst (λ (source : List ℕ). LexesWithinLimits source (tokens_ahead source 0)) s.same left.lexed;
+    read = s.read ∙ ap (changed bare) left.read ∙ ap (λ b. Ok (b, [])) (s.bares r);
+    last = left.last;
+    walked = subst (λ (placed : List PlacedToken). Walk old.parser left.last placed) (s.places r) (walk_then s.walked left.walked);
+    ended = left.ended;
+  };
 }
 
-pub decl_more : (ps : List Predicate) (ds : List Decl) (d : Decl) (old new : Items)
-    → TookDecl old new d → AtDecls ps ds old → AtDecls ps (ds ++ d ∷ []) new
-decl_more ps ds d old new t h = record {
-  start = h.start;
-  behind_predicates = h.behind_predicates;
-  after = after_more old.source.now new.source.now h.start old.parser new.parser _ _ _ t.same t.end t.walked (decls_grow ps ds d) h.after;
-  predicates = h.predicates;
-  gathers = gathers_on begins_decl (decl_at the_limits) (decls_shrink the_limits) _ _ _ _ _ _ (grown bare_decl _ ds d refl) true refl (sym t.begins) t.found h.gathers;
-}
-
-pub constraint_more : (ps : List Predicate) (ds : List Decl) (cs : List Constraint) (c : Constraint)
-    (old new : Items) → TookConstraint old new c → AtConstraints ps ds cs old
-    → AtConstraints ps ds (cs ++ c ∷ []) new
-constraint_more ps ds cs c old new t h = record {
-  start = h.start;
-  behind_predicates = h.behind_predicates;
-  behind_decls = h.behind_decls;
-  after = after_more old.source.now new.source.now h.start old.parser new.parser _ _ _ t.same t.end t.walked (constraints_grow ps ds cs c) h.after;
-  predicates = h.predicates;
-  decls = h.decls;
-  gathers = gathers_on (is_word (codes "constraint")) (constraint_at the_limits) (constraints_shrink the_limits) _ _ _ _ _ _ (grown bare_constraint _ cs c refl) true refl (sym t.begins) t.found h.gathers;
-}
-
--- ---- no more of a kind
-
-pub predicates_end : (ps : List Predicate) (i : Items) → next_passes (is_word (codes "predicate"))
-    (lexemes i.parser) ≡ false → AtPredicates ps i → AtDecls ps [] i
-predicates_end ps i none h = record {
-  start = h.start;
-  behind_predicates = lexemes i.parser;
-  after = h.after;
-  predicates = gathers_all (is_word (codes "predicate")) (predicate_at the_limits) _ _ _ false refl (sym none) h.gathers;
-  gathers = record { so_far = front_of_none (read_decls (lexemes i.parser)) };
-}
-
-pub decls_end : (ps : List Predicate) (ds : List Decl) (i : Items)
-    → next_passes begins_decl (lexemes i.parser) ≡ false → AtDecls ps ds i
-    → AtConstraints ps ds [] i
-decls_end ps ds i none h = record {
-  start = h.start;
-  behind_predicates = h.behind_predicates;
-  behind_decls = lexemes i.parser;
-  after = h.after;
-  predicates = h.predicates;
-  decls = gathers_all begins_decl (decl_at the_limits) _ _ _ false refl (sym none) h.gathers;
-  gathers = record { so_far = front_of_none (read_constraints (lexemes i.parser)) };
-}
-
-pub constraints_end : (ps : List Predicate) (ds : List Decl) (cs : List Constraint) (i : Items)
-    → next_passes (is_word (codes "constraint")) (lexemes i.parser) ≡ false
-    → AtConstraints ps ds cs i → AtSolve ps ds cs i
-constraints_end ps ds cs i none h = record {
-  start = h.start;
-  behind_predicates = h.behind_predicates;
-  behind_decls = h.behind_decls;
-  after = h.after;
-  predicates = h.predicates;
-  decls = h.decls;
-  constraints = gathers_all (is_word (codes "constraint")) (constraint_at the_limits) _ _ _ false refl (sym none) h.gathers;
+pub step_within : {R B Q C : Type 0} (before : Part R B) (after : Part Q C) (bare : C → B)
+    (all : Q → R) (old new : Rest) → Step before after bare all old new → IsWithin before old
+    → IsWithin after new
+step_within before after bare all old new s h = record {
+  short = omega (arith, h.short, ap length s.same);
+  of_source = s.walked.on.same_source ∙ h.of_source ∙ sym s.same;
+  ends = s.end ∙ h.ends ∙ ap length (sym s.same);
+  no_tree = λ f fails t text. h.no_tree f (ap whole s.read ∙ whole_changed bare (after.read (lexemes new.parser)) f fails) t (subst (λ (source : List ℕ). IsTextOfTree source t) s.same text);
 }
 
 -- ---- a refusal
-
-abbrev same_tree : tree.Tree → tree.Tree
-same_tree t = t
-
-memory_alone : (e : SyntaxError) (t : tree.Tree) → IsValue same_tree (Err e) t → e ≡ errors.Memory
-memory_alone errors.Memory t h = refl
-memory_alone errors.TooLong t h = absurd h
-memory_alone (errors.BadByte p) t h = absurd h
-memory_alone (errors.TooLarge p) t h = absurd h
-memory_alone (errors.Float p) t h = absurd h
-memory_alone (errors.Syntax p) t h = absurd h
-memory_alone (errors.TooDeep p) t h = absurd h
-memory_alone (errors.TooMany p) t h = absurd h
 
 pub lexer_refused : (source : List ℕ) (e : SyntaxError) → IsLexicalFault source e
     → ((tokens : List SpannedToken) → LexesWithinLimits source tokens → ⊥)
@@ -200,63 +96,163 @@ pub too_long_refused : (source : List ℕ) → most_bytes < length source
     → IsRefused source errors.TooLong
 too_long_refused source long = record { no_tree = λ t text. let short = text.lexes.1.short in absurd (omega (arith, short, long)); order = long; place = tt }
 
-pub refused_if : (source : List ℕ) (start : Parser) (r : Refusal) (e : SyntaxError)
-    → ahead start ≡ tokens_ahead source 0 → (IsErrorOf r e
-    → IsWhole same_tree (Err e) (tree_of the_limits (lexemes start))) → IsRefusedBy source r e
-    → IsRefused source e
-refused_if source start r e all reads (by_lexer fault none place) = lexer_refused source e fault none place
-refused_if source start r e all reads (by_grammar lexed of place) = record {
-  no_tree = λ t text. memory_alone e t (tree_only source start all (Err e) (reads of) t text);
-  order = grammar_refuses same_tree source e (tree_of the_limits (lexemes start)) (tokens_ahead source 0) lexed (reads of);
+-- what isn't whole is a fault, unless memory ran out
+fault_or_memory : {B : Type 0} (e : SyntaxError) (read : Result B Fault)
+    → IsWhole (λ (b : B). b) (Err e) read → (e ≡ errors.Memory) ⊎ ((f : Fault) × (read ≡ Err f))
+fault_or_memory errors.Memory read h = inl refl
+fault_or_memory errors.TooLong read h = inr (h.0, h.1)
+fault_or_memory (errors.BadByte p) read h = inr (h.0, h.1)
+fault_or_memory (errors.TooLarge p) read h = inr (h.0, h.1)
+fault_or_memory (errors.Float p) read h = inr (h.0, h.1)
+fault_or_memory (errors.Syntax p) read h = inr (h.0, h.1)
+fault_or_memory (errors.TooDeep p) read h = inr (h.0, h.1)
+fault_or_memory (errors.TooMany p) read h = inr (h.0, h.1)
+
+no_tree_left : {R B : Type 0} (part : Part R B) (i : Rest) (e : SyntaxError) → IsWithin part i
+    → (e ≡ errors.Memory) ⊎ ((f : Fault) × (whole (part.read (lexemes i.parser)) ≡ Err f))
+    → (t : tree.Tree) → IsTextOfTree i.source.now t → e ≡ errors.Memory
+no_tree_left part i e within (inl memory) t text = memory
+no_tree_left part i e within (inr fault) t text = absurd (within.no_tree fault.0 fault.1 t text)
+
+refused_if : {R B : Type 0} (part : Part R B) (i : Rest) (r : Refusal) (e : SyntaxError)
+    → IsWithin part i
+    → (IsErrorOf r e → IsWhole (λ (b : B). b) (Err e) (whole (part.read (lexemes i.parser))))
+    → IsRefusedBy i.source.now r e → IsRefused i.source.now e
+refused_if part i r e within reads (by_lexer fault none place) = lexer_refused i.source.now e fault none place
+refused_if {R} {B} part i r e within reads (by_grammar lexed of place) = record {
+  no_tree = no_tree_left part i e within (fault_or_memory e (whole (part.read (lexemes i.parser))) (reads of));
+  order = grammar_refuses (λ (b : B). b) i.source.now e (whole (part.read (lexemes i.parser))) (tokens_ahead i.source.now 0) lexed (reads of);
   place = place;
 }
 
--- the tree can't be read
-tree_fails : (source : List ℕ) (start : Parser) (r : Refusal) (e : SyntaxError)
-    (left : List TokenValue) → ahead start ≡ tokens_ahead source 0
-    → Fails r (tree_at the_limits (lexemes start)) left → IsRefusedBy source r e
-    → IsRefused source e
-unfolding tree_of
-tree_fails source start r e left all fails by = refused_if source start r e all (λ of. refused_so same_tree r e (tree_at the_limits) (lexemes start) left fails of) by
+-- what is left can't be read
+pub left_refused : {R B : Type 0} (part : Part R B) (i : Rest) (r : Refusal) (e : SyntaxError)
+    (left : List TokenValue) → IsWithin part i → Fails r (part.read (lexemes i.parser)) left
+    → IsRefusedBy i.source.now r e → IsRefused i.source.now e
+left_refused {R} {B} part i r e left within fails = refused_if part i r e within (refused_so (λ (b : B). b) r e part.read (lexemes i.parser) left fails)
 
-fails_behind : {A B : Type 0} (r : Refusal) (read : Read A) (x : A × List TokenValue)
-    (f : A × List TokenValue → Read B) (left : List TokenValue) → read ≡ Ok x → Fails r (f x) left
-    → Fails r (read >>= f) left
-fails_behind {A} r read x f left found h = subst (λ (q : Read A). Fails r (q >>= f) left) (sym found) h
+-- ---- the items of a kind
 
-pub predicate_refused : (ps : List Predicate) (i : Items) (r : Refusal) (e : SyntaxError)
-    (left : List TokenValue) → next_passes (is_word (codes "predicate")) (lexemes i.parser) ≡ true
-    → Fails r (predicate_at the_limits (lexemes i.parser)) left
-    → (i.parser.end ≡ length i.source.now → IsRefusedBy i.source.now r e) → AtPredicates ps i → IsRefused i.source.now e
-unfolding tree_at
-predicate_refused ps i r e left begins fails by h =
-    tree_fails i.source.now h.start r e left h.after.begins
-    (fails_bind r (read_predicates (lexemes h.start)) _ left (gathers_stop r (is_word (codes "predicate")) (predicate_at the_limits) _ _ left _ true refl (sym begins) h.gathers fails))
-    (by h.after.ends)
+-- which number the first item has makes no difference
+same_numbered : {A : Type 0} (begins : TokenValue → Bool) (item : Reader A) (room i j : ℕ)
+    (tokens : List TokenValue) → many_upto room begins (any_number item) i tokens ≡ many_upto room begins (any_number item) j tokens
+unfolding many_upto
+same_numbered begins item zero i j tokens = refl
+same_numbered {A} begins item (suc room) i j tokens =
+    λ k. cond (next_passes begins tokens) (item tokens >>= λ x. put_first x.0 (same_numbered begins item room (i + 1) (j + 1) x.1 k)) (Ok ([], tokens))
 
-pub decl_refused : (ps : List Predicate) (ds : List Decl) (i : Items) (r : Refusal)
-    (e : SyntaxError) (left : List TokenValue) → next_passes begins_decl (lexemes i.parser) ≡ true
-    → Fails r (decl_at the_limits (lexemes i.parser)) left
-    → (i.parser.end ≡ length i.source.now → IsRefusedBy i.source.now r e) → AtDecls ps ds i → IsRefused i.source.now e
-unfolding tree_at
-decl_refused ps ds i r e left begins fails by h =
-    tree_fails i.source.now h.start r e left h.after.begins
-    (fails_behind r (read_predicates (lexemes h.start)) _ _ left h.predicates
-    (fails_bind r (read_decls h.behind_predicates) _ left (gathers_stop r begins_decl (decl_at the_limits) _ _ left _ true refl (sym begins) h.gathers fails)))
-    (by h.after.ends)
+many_same : {A : Type 0} (begins : TokenValue → Bool) (item : Reader A) (i j : ℕ)
+    (tokens : List TokenValue)
+    → many_at begins (any_number item) i tokens ≡ many_at begins (any_number item) j tokens
+unfolding many_at
+many_same begins item i j tokens = same_numbered begins item (length tokens) i j tokens
 
-pub constraint_refused : (ps : List Predicate) (ds : List Decl) (cs : List Constraint) (i : Items)
-    (r : Refusal) (e : SyntaxError) (left : List TokenValue)
-    → next_passes (is_word (codes "constraint")) (lexemes i.parser) ≡ true
-    → Fails r (constraint_at the_limits (lexemes i.parser)) left
-    → (i.parser.end ≡ length i.source.now → IsRefusedBy i.source.now r e) → AtConstraints ps ds cs i → IsRefused i.source.now e
-unfolding tree_at
-constraint_refused ps ds cs i r e left begins fails by h =
-    tree_fails i.source.now h.start r e left h.after.begins
-    (fails_behind r (read_predicates (lexemes h.start)) _ _ left h.predicates
-    (fails_behind r (read_decls h.behind_predicates) _ _ left h.decls
-    (fails_bind r (read_constraints h.behind_decls) _ left (gathers_stop r (is_word (codes "constraint")) (constraint_at the_limits) _ _ left _ true refl (sym begins) h.gathers fails))))
-    (by h.after.ends)
+-- An item was read between the two states.
+pub record Reads {X A : Type 0} (kind : Kind X A) (old new : Rest) (x : X) : Type 0 where
+  pub same : new.source.now ≡ old.source.now
+  pub end : new.parser.end ≡ old.parser.end
+  pub begun : next_passes kind.begins (lexemes old.parser) ≡ true
+  pub found : kind.read (lexemes old.parser) ≡ Ok (kind.bare x, lexemes new.parser)
+  pub walked : Walk old.parser new.parser (kind.placed x)
+
+module _ {X A R B : Type 0} (kind : Kind X A) (behind : Part R B) where
+  abbrev here : Part (List X × R) (List A × B)
+  here = kind_before kind behind
+
+  abbrev behind_items : List A × List TokenValue → Read (List A × B)
+  behind_items xs = changed (λ b. (xs.0, b)) (behind.read xs.1)
+
+  abbrev first_of : A → List A × B → List A × B
+  first_of a b = (a ∷ b.0, b.1)
+
+  behind_first : (a : A) (xs : List A) (read : Read B)
+      → changed {B = List A × B} (λ b. (a ∷ xs, b)) read
+      ≡ changed (first_of a) (changed (λ b. (xs, b)) read)
+  behind_first a xs (Ok r) = refl
+  behind_first a xs (Err f) = refl
+
+  first_put : (a : A) (read : Read (List A))
+      → (put_first a read >>= behind_items) ≡ changed (first_of a) (read >>= behind_items)
+  first_put a (Ok xs) = behind_first a xs.0 (behind.read xs.1)
+  first_put a (Err f) = refl
+
+  item_step : Shrinks (any_number kind.read) → (x : X) (old new : Rest) → Reads kind old new x
+      → Step here here (first_of (kind.bare x)) (λ r. ((x ∷ []) ++ r.0, r.1)) old new
+  item_step shrinks x old new h = record {
+    same = h.same;
+    end = h.end;
+    taken = kind.placed x;
+    walked = h.walked;
+    read =
+        ap (λ (q : Read (List A)). q >>= behind_items) (many_step kind.begins (any_number kind.read) shrinks 0 (lexemes old.parser) (kind.bare x) (lexemes new.parser) h.begun h.found ∙ ap (put_first (kind.bare x)) (many_same kind.begins kind.read 1 0 (lexemes new.parser)))
+        ∙ first_put (kind.bare x) (many_at kind.begins (any_number kind.read) 0 (lexemes new.parser));
+    bares = λ r. refl;
+    places = λ r. sym (append_assoc (kind.placed x) (flat_map kind.placed r.0) (behind.placed r.1));
+  }
+
+  -- one more is read
+  pub item_within : Shrinks (any_number kind.read) → (x : X) (old new : Rest)
+      → Reads kind old new x → IsWithin here old → IsWithin here new
+  item_within shrinks x old new h = step_within here here (first_of (kind.bare x)) _ old new (item_step shrinks x old new h)
+
+  pub item_took : Shrinks (any_number kind.read) → (x : X) (old new : Rest) → Reads kind old new x
+      → TookOne here x old new
+  item_took shrinks x old new h = (
+    step_leaves here here (first_of (kind.bare x)) _ old new (item_step shrinks x old new h),
+    shrinks 0 (lexemes old.parser) (kind.bare x) (lexemes new.parser) h.found,
+  )
+
+  none_step : (i : Rest) → next_passes kind.begins (lexemes i.parser) ≡ false
+      → Step here behind (λ b. ([], b)) (λ r. ([], r)) i i
+  none_step i none = record {
+    same = refl;
+    end = refl;
+    taken = [];
+    walked = walk_none;
+    read = ap (λ (q : Read (List A)). q >>= behind_items) (many_ends kind.begins (any_number kind.read) 0 (lexemes i.parser) none);
+    bares = λ r. refl;
+    places = λ r. refl;
+  }
+
+  -- none is left
+  pub none_within : (i : Rest) → next_passes kind.begins (lexemes i.parser) ≡ false
+      → IsWithin here i → IsWithin behind i
+  none_within i none = step_within here behind (λ b. ([], b)) _ i i (none_step i none)
+
+  pub none_took : (i : Rest) → next_passes kind.begins (lexemes i.parser) ≡ false
+      → TookAll here behind [] i i
+  none_took i none = step_leaves here behind (λ b. ([], b)) _ i i (none_step i none)
+
+  -- the next one is refused
+  pub item_refused : (i : Rest) (r : Refusal) (e : SyntaxError) (left : List TokenValue)
+      → next_passes kind.begins (lexemes i.parser) ≡ true
+      → Fails r (kind.read (lexemes i.parser)) left → IsWithin here i
+      → IsRefusedBy i.source.now r e → IsRefused i.source.now e
+  item_refused i r e left begun fails within =
+      let many : Fails r (many_at kind.begins (any_number kind.read) 0 (lexemes i.parser)) left = fails_like r (kind.read (lexemes i.parser)) (many_at kind.begins (any_number kind.read) 0 (lexemes i.parser)) left (λ f found. many_fails kind.begins (any_number kind.read) 0 (lexemes i.parser) f begun found) fails in
+      left_refused here i r e left within (fails_bind r (many_at kind.begins (any_number kind.read) 0 (lexemes i.parser)) behind_items left many)
+
+-- ---- items taken one after another
+
+pub took_none : {X A R B : Type 0} {part : Part (List X × R) (List A × B)} {i : Rest}
+    → Took part [] i i
+took_none = record { same = refl; all_left = λ r left. left }
+
+pub took_more : {X A R B : Type 0} {part : Part (List X × R) (List A × B)} {a b c : Rest}
+    (xs : List X) (x : X) → Took part xs a b → Took part (x ∷ []) b c → Took part (xs ++ x ∷ []) a c
+took_more {X} {A} {R} {B} {part} {a} {b} {c} xs x h k = record {
+  same = k.same ∙ h.same;
+  all_left = λ r left. subst (λ (all : List X). IsLeft part a (all, r.1)) (sym (append_assoc xs (x ∷ []) r.0)) (h.all_left _ (k.all_left r left));
+}
+
+pub took_left : {X A R B : Type 0} {part : Part (List X × R) (List A × B)} {a b : Rest} {r : R}
+    (xs : List X) → Took part xs a b → IsLeft part b ([], r) → IsLeft part a (xs, r)
+took_left {X} {A} {R} {B} {part} {a} {b} {r} xs h left = subst (λ (all : List X). IsLeft part a (all, r)) (append-nil xs) (h.all_left ([], r) left)
+
+pub took_all : {X A R B : Type 0} {part : Part (List X × R) (List A × B)} {behind : Part R B}
+    {a b c : Rest} (xs : List X) → Took part xs a b → TookAll part behind [] b c
+    → TookAll part behind xs a c
+took_all xs h k = record { same = k.same ∙ h.same; all_left = λ r left. took_left xs h (k.all_left r left) }
 
 -- ---- the solve item
 
@@ -271,47 +267,68 @@ pub none_left : (o : Option Token) (p : Parser) → is_some o ≡ false → IfNo
 none_left None p none h = h
 none_left (Some t) p none h = absurd cc
 
-pub solve_refused : (ps : List Predicate) (ds : List Decl) (cs : List Constraint) (i : Items)
-    (r : Refusal) (e : SyntaxError) (left : List TokenValue)
-    → Fails r (solve_at the_limits (lexemes i.parser)) left
-    → IsRefusedBy i.source.now r e → AtSolve ps ds cs i → IsRefused i.source.now e
-unfolding tree_at
-solve_refused ps ds cs i r e left fails by h =
-    tree_fails i.source.now h.start r e left h.after.begins
-    (fails_behind r (read_predicates (lexemes h.start)) _ _ left h.predicates
-    (fails_behind r (read_decls h.behind_predicates) _ _ left h.decls (fails_behind r (read_constraints h.behind_decls) _ _ left h.constraints (fails_bind r (solve_at the_limits (lexemes i.parser)) _ left fails))))
-    by
-
-all_read : (ps : List Predicate) (ds : List Decl) (cs : List Constraint) (s : Solve) (i : Items)
-    (left : List TokenValue) → solve_at the_limits (lexemes i.parser) ≡ Ok (bare_solve s, left)
-    → (h : AtSolve ps ds cs i)
-    → tree_at the_limits (lexemes h.start) ≡ Ok (bare_all (record { predicates = ps; decls = ds; constraints = cs; solve = s }), left)
-unfolding tree_at
-all_read ps ds cs s i left found h = rw (h.predicates, h.decls, h.constraints, found) refl
-
 -- tokens follow it
-pub more_refused : (ps : List Predicate) (ds : List Decl) (cs : List Constraint) (s : Solve)
-    (i : Items) (r : Refusal) (e : SyntaxError) (left : List TokenValue)
+pub more_refused : (s : Solve) (i : Rest) (r : Refusal) (e : SyntaxError) (left : List TokenValue)
     → solve_at the_limits (lexemes i.parser) ≡ Ok (bare_solve s, left) → 0 < length left
-    → IsRefusal r (unexpected_kind left)
-    → IsRefusedBy i.source.now r e → AtSolve ps ds cs i → IsRefused i.source.now e
-unfolding tree_of
-more_refused ps ds cs s i r e left found some kind by h =
-    refused_if i.source.now h.start r e h.after.begins (λ of. refused_more same_tree r e (tree_at the_limits) (lexemes h.start) left _ (all_read ps ds cs s i left found h) some of kind) by
+    → IsRefusal r (unexpected_kind left) → IsWithin from_solve i → IsRefusedBy i.source.now r e
+    → IsRefused i.source.now e
+more_refused s i r e left found some kind within =
+    refused_if from_solve i r e within (λ of. refused_more (λ (t : tree.Solve). t) r e (solve_at the_limits) (lexemes i.parser) left _ found some of kind)
 
 -- nothing follows it
-pub text_of_all : (ps : List Predicate) (ds : List Decl) (cs : List Constraint) (s : Solve)
-    (i : Items) (now : Parser) → solve_at the_limits (lexemes i.parser)
+pub solve_left : (s : Solve) (i : Rest) (now : Parser) → solve_at the_limits (lexemes i.parser)
     ≡ Ok (bare_solve s, lexemes now) → ahead now ≡ [] → Walk i.parser now (placed_solve s)
-    → LexesToSpanned i.source.now (tokens_ahead i.source.now 0) → AreWithinLimit (tokens_ahead i.source.now 0) → AtSolve ps ds cs i → IsTextOfAll i.source.now (record { predicates = ps; decls = ds; constraints = cs; solve = s })
+    → LexesToSpanned i.source.now (tokens_ahead i.source.now 0)
+    → AreWithinLimit (tokens_ahead i.source.now 0) → IsWithin from_solve i → IsLeft from_solve i s
+solve_left s i now found none walked lexes numbers within = record {
+  lexed = record { short = within.short; lexes = lexes; numbers = numbers };
+  read = found ∙ ap (λ (ts : List SpannedToken). Ok (bare_solve s, map (λ t. t.token) ts)) none;
+  last = now;
+  walked = walked;
+  ended = none;
+}
+
+-- ---- the beginning
+
+abbrev tree_of_parts : List tree.Predicate × (List tree.Decl × (List tree.Constraint × tree.Solve))
+    → tree.Tree
+tree_of_parts b = record { predicates = b.0; decls = b.1.0; constraints = b.1.1.0; solve = b.1.1.1 }
+
+then_again : {A B C : Type 0} (read : Read A) (f : A × List TokenValue → Read B)
+    (g : B × List TokenValue → Read C) → ((read >>= f) >>= g) ≡ (read >>= λ x. f x >>= g)
+then_again (Ok x) f g = refl
+then_again (Err e) f g = refl
+
+tree_parts : (tokens : List TokenValue)
+    → tree_at the_limits tokens ≡ changed tree_of_parts (from_predicates.read tokens)
+unfolding tree_at
+tree_parts tokens = sym (simp then_again)
+
+pub all_left : (source : List ℕ) (i : Rest) → ahead i.parser ≡ tokens_ahead source 0
+    → i.source.now ≡ source
+    → (r : List Predicate × (List Decl × (List Constraint × Solve))) → IsLeft from_predicates i r → IsTextOfAll source (all_items r)
 unfolding tree_of ended
-text_of_all ps ds cs s i now found none walked lexes numbers h =
-    let empty : lexemes now ≡ [] = ap (λ (ts : List SpannedToken). map (λ t. t.token) ts) none in
-    let read = all_read ps ds cs s i (lexemes now) found h in
-    let all : TreeItems = record { predicates = ps; decls = ds; constraints = cs; solve = s } in
-    let placed = placed_in i.source.now h.start now (placed_all all) h.after.begins (walk_then h.after.walked walked) none lexes in
+all_left source i all same r left =
+    let lexed : LexesWithinLimits source (tokens_ahead source 0) = subst (λ (s : List ℕ). LexesWithinLimits s (tokens_ahead s 0)) same left.lexed in
+    let read : tree_of the_limits (lexemes i.parser) ≡ Ok (bare_all (all_items r)) = ap whole (tree_parts (lexemes i.parser) ∙ ap (changed tree_of_parts) left.read) in
+    let walked : Walk i.parser left.last (placed_all (all_items r)) = subst (λ (s : List PlacedToken). Walk i.parser left.last s) (sym (to_right (flat_map placed_predicate r.0) (flat_map placed_decl r.1.0) (flat_map placed_constraint r.1.1.0) (placed_solve r.1.1.1))) left.walked in
+    let placed = placed_in source i.parser left.last (placed_all (all_items r)) all walked left.ended lexed.lexes in
     record {
-      text = tree_found i.source.now h.start h.after.begins _ h.after.short lexes numbers (rw (read, empty) refl);
+      text = tree_found source i.parser all (bare_all (all_items r)) lexed.short lexed.lexes lexed.numbers read;
       placed = placed;
-      stands = stands_of i.source.now (fits_all all) placed;
+      stands = stands_of source (fits_all (all_items r)) placed;
     }
+
+pub all_within : (source : List ℕ) (i : Rest) → ahead i.parser ≡ tokens_ahead source 0
+    → source_of i.parser.tokens ≡ source → i.parser.end ≡ length source
+    → length source ≤ most_bytes → i.source.now ≡ source → IsWithin from_predicates i
+unfolding tree_of
+all_within source i all of_source end short same = record {
+  short = omega (arith, short, ap length same);
+  of_source = of_source ∙ sym same;
+  ends = end ∙ ap length (sym same);
+  no_tree = λ f fails t text.
+      let read = tree_read source i.parser all t (subst (λ (s : List ℕ). IsTextOfTree s t) same text) in
+      let faulty : tree_of the_limits (lexemes i.parser) ≡ Err f = ap whole (tree_parts (lexemes i.parser)) ∙ whole_changed tree_of_parts (from_predicates.read (lexemes i.parser)) f fails in
+      cc;
+}

@@ -4,8 +4,8 @@ use Rattle.std.specs.Prelude.{MatchResult}
 use Rattle.std.specs.List.{All, AllByRecursion}
 use Rattle.std.proofs.lemmas.List.Elements.{All-from_recursion}
 use Rattle.fz_lex.specs.Token.{TokenValue, IsTokenText}
-use Rattle.fz_lex.specs.Lexing.{SpannedToken, AreInOrder, LexesToSpanned, nothing}
-use Rattle.fz_lex.specs.Limits.{most_bytes, AreWithinLimit, IsTextOfTokens}
+use Rattle.fz_lex.specs.Lexing.{SpannedToken, LexesToSpanned, nothing, most_bytes, AreWithinLimit, IsTextOfTokens}
+use Rattle.fz_lex.specs.Found.{AreInOrder}
 use Rattle.fz_lex.specs.Ahead.{tokens_ahead}
 use Rattle.fz_lex.proofs.Texts.{words_are_words}
 use Rattle.fz_lex.proofs.AheadLaws.{lexed_ahead}
@@ -16,11 +16,11 @@ use Rattle.fz_syntax.specs.declared.parser.cursor.Parser.{Parser}
 use Rattle.fz_tree.specs.declared.tree.Printed.{Printed as Item}
 use Rattle.fz_tree.specs.Tree.{Tree, Printed}
 use Rattle.fz_tree.specs.Tokens.{toks, itoks}
-use Rattle.fz_tree.specs.Shape.{HasShape, IsPrinted, the_limits}
+use Rattle.fz_tree.specs.Text.{HasShape, IsPrinted, the_limits, IsTextOfTree, IsTextOfItems}
 use Rattle.fz_syntax.specs.Reading.{tree_of, tree_at}
 use Rattle.fz_syntax.specs.ReadingItems.{items_of, items_at}
 use Rattle.fz_syntax.specs.Outcome.{IsWhole}
-use Rattle.fz_tree.specs.Text.{IsTextOfTree, IsTextOfItems, IsValue}
+use Rattle.fz_tree.specs.Refusals.{IsValue}
 use Rattle.fz_syntax.specs.Walk.{ahead, lexemes}
 use Rattle.fz_syntax.proofs.Whole.{found_of, only_of}
 use Rattle.fz_syntax.proofs.ItemLaws.{tree_takes}
@@ -65,12 +65,9 @@ module _ (source : List ℕ) (p : Parser) (all : ahead p ≡ tokens_ahead source
       }
 
   -- a tree of which the source is a text is the one that was read
-  pub tree_only : (result : Result Tree SyntaxError) → IsWhole (λ (u : Tree). u) result
-      (tree_of the_limits (lexemes p)) → (t : Tree) → IsTextOfTree source t
-      → IsValue (λ (u : Tree). u) result t
-  unfolding tree_of
-  tree_only result read t text =
-      only_of (λ (u : Tree). u) toks (HasShape the_limits) (tree_at the_limits) (tree_of_toks the_limits) result (lexemes p) read t text.of_grammar.shape (ap values all ∙ tokens_are source (toks t) text.lexes)
+  pub tree_read : (t : Tree) → IsTextOfTree source t → tree_of the_limits (lexemes p) ≡ Ok t
+  tree_read t text =
+      ap (tree_of the_limits) (ap values all ∙ tokens_are source (toks t) text.lexes) ∙ tree_of_toks the_limits t text.of_grammar.shape
 
   -- the items that were read are some of which the source is a text
   pub items_found : (v : Vec Item Global) → length source ≤ most_bytes

@@ -30,7 +30,7 @@ use Rattle.fz_syntax.proofs.Fits.{Fits, fits_plain, fits_skip, fits_end, fits_th
 use Rattle.fz_syntax.proofs.PlacedNotes.{fits_note}
 use Rattle.fz_tree.specs.View.{bare_indexes}
 
-to_right : (a b c d : List Spot) → ((a ++ b) ++ c) ++ d ≡ a ++ (b ++ (c ++ d))
+pub to_right : {A : Type 0} (a b c d : List A) → ((a ++ b) ++ c) ++ d ≡ a ++ (b ++ (c ++ d))
 to_right a b c d = append_assoc (a ++ b) c d ∙ append_assoc a b (c ++ d)
 
 fits_basic : (b : Basic) → Fits (placed_basic b) (basic_spots b)

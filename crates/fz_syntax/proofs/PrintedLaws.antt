@@ -11,7 +11,7 @@ use Rattle.fz_lex.specs.Token.{TokenValue, Word, Whole, FloatText, StringText, M
 use Rattle.fz_tree.specs.Tree.{Literal, Number, Truth, Range, Braces, PrintedValue, OneValue, ArrayOf, Printed}
 use Rattle.fz_syntax.specs.Reading.{Reader, next_is, next_passes, is_name, any_number, at_most, literal_at, begins_literal, ended}
 use Rattle.fz_syntax.specs.ReadingItems.{dimensions_of, next_dimensions, index_set_at, index_sets_at, elements_at, printed_array_at, printed_value_at, printed_at, items_at, items_of}
-use Rattle.fz_tree.specs.Shape.{Limits, IsLiteral, IsBounds, IsPrintedValue, IsPrinted}
+use Rattle.fz_tree.specs.Text.{Limits, IsLiteral, IsBounds, IsPrintedValue, IsPrinted}
 use Rattle.fz_tree.specs.Tokens.{mark, name_toks, literal_toks, separated, array_word, printed_value_toks, printed_toks, itoks}
 use Rattle.fz_syntax.proofs.Lists.{bind_ok, ok_is, Shrinks}
 use Rattle.fz_syntax.proofs.Shorter.{at_most_shortens}

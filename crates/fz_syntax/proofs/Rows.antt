@@ -5,7 +5,7 @@ use Rattle.fz_lex.specs.declared.token.Mark.TheVariants.{OpenParen, CloseParen, 
 use Rattle.fz_lex.specs.Token.{TokenValue, Word, Whole, FloatText, Marked}
 use Rattle.fz_tree.specs.Tree.{Number, Range, Lit, Named, One, Called, NoMoreArgs, MoreArgs, OneBasic, NoteFloat, NoteLiteral, IntBase, SetBase, Param, Decl, Constraint, Solve, Satisfy}
 use Rattle.fz_tree.specs.Tokens.{decl_toks, constraint_toks, solve_toks, param_toks}
-use Rattle.fz_tree.specs.Shape.{the_limits, is_reserved}
+use Rattle.fz_tree.specs.Text.{the_limits, is_reserved}
 use Rattle.fz_syntax.specs.Reading.{Syntax, Float, TooDeep, TooMany, decl_at, constraint_at, solve_at, literal_at, note_at, prefix_at, mark_at, word_at, name_at, whole_at, many_upto, many_at, separated_at, list_at, braces_at, from_whole, basic_at, expr_at, note_basic_at, note_arg_at, note_args_at, notes_at, range_at, bounds_at, int_at, base_at, plain_at, one_at, size_at, index_at, array_at, var_at, type_at, given_value_at, goal_at}
 
 -- `var 1..5: x :: output_var;`

@@ -3,15 +3,13 @@ use Rattle.std.proofs.Common.{◌≡◌, ◌+◌, ℕ, suc, Bool, true, false, c
 use Rattle.std.proofs.lemmas.List.{map_push}
 use Rattle.fz_syntax.specs.declared.parser.refusal.Refusal.{Refusal}
 use Rattle.fz_lex.specs.declared.token.Mark.{Mark}
-use Rattle.fz_lex.specs.declared.token.Mark.TheVariants.{Comma}
-use Rattle.fz_lex.specs.declared.token.Mark.TheVariants.{ColonColon}
+use Rattle.fz_lex.specs.declared.token.Mark.TheVariants.{Comma, ColonColon}
 use Rattle.fz_lex.specs.Token.{TokenValue}
 use Rattle.fz_tree.specs.Tree.{Note}
-use Rattle.fz_tree.specs.Shape.{Limits}
+use Rattle.fz_tree.specs.Text.{Limits}
 use Rattle.fz_syntax.specs.Reading.{Read, Reader, is_mark, next_is, next_passes, many_at, after_token, separated_at, any_number, note_at, notes_at}
 use Rattle.fz_syntax.specs.Outcome.{Fails}
-use Rattle.fz_syntax.specs.Offering.{Gathers, with_front}
-use Rattle.fz_syntax.proofs.Lists.{Shrinks, loop_step, loop_fails, loop_ends}
+use Rattle.fz_syntax.proofs.Lists.{with_front, Shrinks, loop_step, loop_fails, loop_ends}
 use Rattle.fz_syntax.proofs.Separated.{separated_starts, separated_fails, marked_step, marked_fails, marked_ends, Taken, fails_like}
 
 -- The parts so far, followed by those that are still to be read, each after the mark, are all of
@@ -131,6 +129,10 @@ unfolding notes_at
 notes_begin limits tokens front empty =
     subst (λ (xs : List Note). Continues ColonColon (any_number (note_at limits limits.depth)) xs tokens (notes_at limits tokens)) (sym empty)
     (record { so_far = front_of_none (many_at (is_mark ColonColon) (after_token (any_number (note_at limits limits.depth))) 0 tokens) })
+
+-- The items so far, followed by those that are still to be read, are all items.
+pub record Gathers {A : Type 0} (more : TokenValue → Bool) (item : Reader A) (front : List A) (tokens : List TokenValue) (all : Read (List A)) : Type 0 where
+  pub so_far : with_front front (many_at more (any_number item) (length front) tokens) ≡ all
 
 pub gathers_begin : {A : Type 0} (more : TokenValue → Bool) (item : Reader A)
     (tokens : List TokenValue) (front : List A) → front ≡ []

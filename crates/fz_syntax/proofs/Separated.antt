@@ -8,8 +8,7 @@ use Rattle.fz_lex.specs.declared.token.Mark.TheVariants.{Comma}
 use Rattle.fz_lex.specs.Token.{TokenValue}
 use Rattle.fz_syntax.specs.Reading.{Syntax, Float, TooDeep, TooMany, Fault, FaultKind, Read, Reader, ◌>>=◌, is_mark, next_is, many_at, after_token, separated_at}
 use Rattle.fz_syntax.specs.Outcome.{Fails}
-use Rattle.fz_syntax.specs.Offering.{with_front}
-use Rattle.fz_syntax.proofs.Lists.{Shrinks, loop_step, loop_fails, loop_ends}
+use Rattle.fz_syntax.proofs.Lists.{Shrinks, loop_step, loop_fails, loop_ends, with_front}
 
 abbrev fault : FaultKind → List TokenValue → Fault
 fault kind left = record { kind = kind; left = left }

@@ -7,7 +7,7 @@ use Rattle.fz_lex.specs.declared.token.Mark.TheVariants.{OpenParen, CloseParen, 
 use Rattle.fz_lex.specs.Token.{TokenValue, Word, Marked}
 use Rattle.fz_tree.specs.Tree.{Number, Truth, Range, Braces, Basic, Lit, Named, Expr, One, Several, Base, BoolBase, IntBase, SetBase, Param, Predicate, Decl, Constraint, Tree}
 use Rattle.fz_syntax.specs.Reading.{Reader, ◌>>=◌, is_word, next_is, next_word, next_passes, any_number, mark_at, word_at, list_at, at_most, begins_literal, index_at, array_at, any_index_at, var_at, param_prefix_at, prefix_at, param_at, predicate_at, constraint_at, literal_basic_at, value_at, given_value_at, type_at, decl_at, begins_decl, tree_at, ended, tree_of, indexes_at, begins_index}
-use Rattle.fz_tree.specs.Shape.{Limits, IsLiteralBasic, IsBase, IsPlain, IsParamArray, IsParam, IsPredicate, IsConstraint, IsBaseOf, IsValueOf, IsDecl, HasShape, IsAnyIndex, most_indexes}
+use Rattle.fz_tree.specs.Text.{Limits, IsLiteralBasic, IsBase, IsPlain, IsParamArray, IsParam, IsPredicate, IsConstraint, IsBaseOf, IsValueOf, IsDecl, HasShape, IsAnyIndex, most_indexes}
 use Rattle.fz_tree.specs.Tokens.{mark, word, name_toks, expr_toks, basic_toks, separated, in_brackets, notes_toks, base_toks, var_toks, index_toks, prefix_toks, param_prefix_toks, param_toks, predicate_toks, value_toks, decl_toks, constraint_toks, solve_toks, toks, any_index_toks}
 use Rattle.fz_syntax.proofs.ListLaws.{Always, mark_again, at_most_again}
 use Rattle.fz_syntax.proofs.ListAgain.{list_again, many_again, flat_map_first, separated_again}

@@ -10,10 +10,9 @@ use Rattle.fz_lex.specs.Token.{TokenValue}
 use Rattle.fz_syntax.specs.Reading.{Fault, FaultKind, Read, Syntax, Float, TooDeep, TooMany, Reader, ended, whole}
 use Rattle.fz_syntax.specs.Outcome.{IsFault, IsWhole, IsRefusal, IsErrorOf, Fails, unexpected_kind}
 use Rattle.fz_lex.specs.of_base.declared.span.Span.{Span}
-use Rattle.fz_lex.specs.Lexing.{SpannedToken}
-use Rattle.fz_lex.specs.Limits.{LexesWithinLimits}
+use Rattle.fz_lex.specs.Lexing.{SpannedToken, LexesWithinLimits}
 use Rattle.fz_lex.specs.View.{IsLexicalFault}
-use Rattle.fz_tree.specs.Text.{IsValue, IsRefusalOf}
+use Rattle.fz_tree.specs.Refusals.{IsValue, IsRefusalOf}
 use Rattle.fz_syntax.proofs.ListLaws.{Takes}
 
 fault_of : {X A : Type 0} (view : X → A) (e : SyntaxError) (f : Fault) (read : Result A Fault)

@@ -4,7 +4,7 @@ use Rattle.std.specs.List.{AllByRecursion}
 use Rattle.std.specs.Str.{bytes_eq}
 use Rattle.std.proofs.lemmas.Bool.{cases_Bool}
 use Rattle.std.proofs.lemmas.Slice.Eq.{bytes_eq-Decides}
-use Rattle.fz_tree.specs.Shape.{is_one_of, type_words, item_words, truth_words, is_reserved}
+use Rattle.fz_tree.specs.Text.{is_one_of, type_words, item_words, truth_words, is_reserved}
 use Rattle.fz_syntax.specs.Words.{may_be_reserved}
 
 one_of_them : (words : List (List ℕ)) → AllByRecursion (λ w. may_be_reserved w ≡ true) words

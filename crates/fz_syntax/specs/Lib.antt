@@ -6,10 +6,8 @@ pub mod Placed
 pub mod Walk
 pub mod Offering
 pub mod Words
-pub use Rattle.fz_lex.specs.Byte
 pub use Rattle.fz_lex.specs.Token
 pub use Rattle.fz_lex.specs.Lexing
-pub use Rattle.fz_lex.specs.Limits
 pub use Rattle.fz_lex.specs.View as Places
 pub use Rattle.fz_lex.specs.of_base.Sets
 pub use Rattle.fz_lex.specs.of_base.Ranges
@@ -20,6 +18,7 @@ pub use Rattle.fz_lex.specs.of_base.declared.span.Span
 pub use Rattle.fz_tree.specs.Tree
 pub use Rattle.fz_tree.specs.View
 pub use Rattle.fz_tree.specs.Tokens
-pub use Rattle.fz_tree.specs.Shape
 pub use Rattle.fz_tree.specs.Text
 pub use Rattle.fz_tree.specs.Print
+pub use Rattle.fz_tree.specs.Refusals
+pub use Rattle.fz_lex.specs.AnyLength

@@ -1,12 +1,11 @@
 -- The items of a model as they are offered, one after another, each kind in its turn. A reader need
--- believe only `TreeItems`, `IsTextOfAll` and `IsRefused`. The others say what was offered so far:
--- `Items::new` promises that they hold at the beginning, and `IsTextOfAll` says what they come to
--- at the end.
-use Rattle.std.specs.Prelude.{◌≡◌, ◌≤◌, ℕ, List, [], ◌++◌, map, length, codes, Bool, Option, Some, None, Result, Ok, Err}
+-- believe only what is above `Part`. The rest says what is left to be offered: `PredicateItems::new`
+-- promises that what is left then is all of the text, each call that with the item that it offers
+-- what is left behind it was left before, and the last one that nothing is left.
+use Rattle.std.specs.Prelude.{◌≡◌, ◌<◌, ◌≤◌, ℕ, List, [], ◌∷◌, ◌++◌, map, length, codes, Bool, Result, Ok, Err}
 use Rattle.std.specs.List.{flat_map}
 use Rattle.fz_lex.specs.View.{IsLexicalFault, IsPlacedWithin}
-use Rattle.fz_lex.specs.Limits.{most_bytes, LexesWithinLimits}
-use Rattle.fz_lex.specs.Lexing.{SpannedToken}
+use Rattle.fz_lex.specs.Lexing.{most_bytes, LexesWithinLimits, SpannedToken}
 use Rattle.fz_syntax.specs.Outcome.{IsErrorOf}
 use Rattle.fz_syntax.specs.declared.parser.refusal.Refusal.{Refusal}
 use Rattle.fz_lex.specs.Ahead.{tokens_ahead}
@@ -16,7 +15,9 @@ use Rattle.fz_lex.specs.declared.error.SyntaxError.{SyntaxError}
 use Rattle.fz_lex.specs.declared.error.SyntaxError.TheVariants.{Memory}
 use Rattle.fz_tree.specs.Tree as tree
 use Rattle.fz_syntax.specs.declared.parser.cursor.Parser.{Parser}
-use Rattle.fz_syntax.specs.declared.reader.Items.{Items}
+use Rattle.fz_syntax.specs.declared.reader.Offer.{Offer}
+use Rattle.fz_syntax.specs.declared.reader.Offer.TheVariants.{Item, End}
+use Rattle.fz_syntax.specs.declared.reader.Rest.{Rest}
 use Rattle.fz_tree.specs.declared.tree.Ast.{Ast}
 use Rattle.fz_tree.specs.declared.tree.Predicate.{Predicate}
 use Rattle.fz_tree.specs.declared.tree.Decl.{Decl}
@@ -24,10 +25,10 @@ use Rattle.fz_tree.specs.declared.tree.Constraint.{Constraint}
 use Rattle.fz_tree.specs.declared.tree.Solve.{Solve}
 use Rattle.fz_tree.specs.View.{bare_predicate, bare_decl, bare_constraint, bare_solve}
 use Rattle.fz_syntax.specs.Placed.{PlacedToken, ArePlacedIn, placed_predicate, placed_decl, placed_constraint, placed_solve}
-use Rattle.fz_tree.specs.Shape.{the_limits}
+use Rattle.fz_tree.specs.Text.{the_limits, IsTextOfTree}
 use Rattle.fz_syntax.specs.Spots.{Spot, Stand, predicate_spots, decl_spots, constraint_spots, solve_spots}
-use Rattle.fz_syntax.specs.Reading.{Read, Reader, ◌>>=◌, many_at, any_number, is_word, begins_decl, predicate_at, decl_at, constraint_at}
-use Rattle.fz_tree.specs.Text.{IsTextOfTree, IsRefusalOf}
+use Rattle.fz_syntax.specs.Reading.{Fault, Read, Reader, ◌>>=◌, many_at, any_number, is_word, begins_decl, predicate_at, decl_at, constraint_at, solve_at, whole}
+use Rattle.fz_tree.specs.Refusals.{IsRefusalOf}
 use Rattle.fz_syntax.specs.Walk.{ahead, lexemes, Walk}
 
 -- The items of a tree, those of each kind in source order.
@@ -53,12 +54,9 @@ bare_all t = record {
   solve = bare_solve t.solve;
 }
 
-abbrev pub placed_before : List Predicate → List Decl → List Constraint → List PlacedToken
-placed_before ps ds cs =
-    flat_map placed_predicate ps ++ flat_map placed_decl ds ++ flat_map placed_constraint cs
-
 abbrev pub placed_all : TreeItems → List PlacedToken
-placed_all t = placed_before t.predicates t.decls t.constraints ++ placed_solve t.solve
+placed_all t = flat_map placed_predicate t.predicates ++ flat_map placed_decl t.decls
+    ++ flat_map placed_constraint t.constraints ++ placed_solve t.solve
 
 abbrev pub spots_all : TreeItems → List Spot
 spots_all t = flat_map predicate_spots t.predicates ++ (flat_map decl_spots t.decls
@@ -87,87 +85,125 @@ pub data IsRefusedBy (source : List ℕ) (reason : Refusal) (e : SyntaxError) : 
   by_grammar : LexesWithinLimits source (tokens_ahead source 0) → IsErrorOf reason e
       → IsPlacedWithin (length source) e → IsRefusedBy source reason e
 
--- ---- what was offered so far
+-- ---- what is left
 
--- what was read before, followed by what is read next
-abbrev pub with_front : {A : Type 0} → List A → Read (List A) → Read (List A)
-with_front front read = read >>= λ x. Ok (front ++ x.0, x.1)
+-- The last part of a text: how its tokens are read, what they are read as, and the tokens of its
+-- items.
+pub record Part (R B : Type 0) : Type 0 where
+  pub read : Reader B
+  pub bare : R → B
+  pub placed : R → List PlacedToken
 
--- The items so far, followed by those that are still to be read, are all items.
-pub record Gathers {A : Type 0} (more : TokenValue → Bool) (item : Reader A) (front : List A)
-    (tokens : List TokenValue) (all : Read (List A)) : Type 0 where
-  pub so_far : with_front front (many_at more (any_number item) (length front) tokens) ≡ all
+-- what is read, with its value changed
+abbrev pub changed : {A B : Type 0} → (A → B) → Read A → Read B
+changed f read = read >>= λ r. Ok (f r.0, r.1)
 
--- The parser was at the first token of the source, and took these tokens since.
-pub record IsAfter (source : List ℕ) (start now : Parser) (placed : List PlacedToken) : Type 0 where
-  pub begins : ahead start ≡ tokens_ahead source 0
-  pub of_source : source_of start.tokens ≡ source
-  pub short : length source ≤ most_bytes
-  pub ends : now.end ≡ length source
-  pub walked : Walk start now placed
+-- The items of a kind: which token begins one, how it is read, what it is read as, and its tokens.
+pub record Kind (X A : Type 0) : Type 0 where
+  pub begins : TokenValue → Bool
+  pub read : Reader A
+  pub bare : X → A
+  pub placed : X → List PlacedToken
 
-abbrev pub read_predicates : List TokenValue → Read (List tree.Predicate)
-read_predicates tokens =
-    many_at (is_word (codes "predicate")) (any_number (predicate_at the_limits)) 0 tokens
+-- items of a kind, as long as a token begins one, and the part behind them
+abbrev pub kind_before : {X A R B : Type 0} → Kind X A → Part R B → Part (List X × R) (List A × B)
+kind_before kind behind = record {
+  read = λ tokens. many_at kind.begins (any_number kind.read) 0 tokens >>= λ xs.
+      changed (λ r. (xs.0, r)) (behind.read xs.1);
+  bare = λ r. (map kind.bare r.0, behind.bare r.1);
+  placed = λ r. flat_map kind.placed r.0 ++ behind.placed r.1;
+}
 
-abbrev pub read_decls : List TokenValue → Read (List tree.Decl)
-read_decls tokens = many_at begins_decl (any_number (decl_at the_limits)) 0 tokens
+abbrev pub predicate_kind : Kind Predicate tree.Predicate
+predicate_kind = record {
+  begins = is_word (codes "predicate");
+  read = predicate_at the_limits;
+  bare = bare_predicate;
+  placed = placed_predicate;
+}
 
-abbrev pub read_constraints : List TokenValue → Read (List tree.Constraint)
-read_constraints tokens =
-    many_at (is_word (codes "constraint")) (any_number (constraint_at the_limits)) 0 tokens
+abbrev pub decl_kind : Kind Decl tree.Decl
+decl_kind = record {
+  begins = begins_decl;
+  read = decl_at the_limits;
+  bare = bare_decl;
+  placed = placed_decl;
+}
 
--- These predicates were offered.
-pub record AtPredicates (ps : List Predicate) (i : Items) : Type 0 where
-  pub start : Parser
-  pub after : IsAfter i.source.now start i.parser (placed_before ps [] [])
-  pub gathers : Gathers (is_word (codes "predicate")) (predicate_at the_limits)
-      (map bare_predicate ps) (lexemes i.parser) (read_predicates (lexemes start))
+abbrev pub constraint_kind : Kind Constraint tree.Constraint
+constraint_kind = record {
+  begins = is_word (codes "constraint");
+  read = constraint_at the_limits;
+  bare = bare_constraint;
+  placed = placed_constraint;
+}
 
--- All predicates are these, and these declarations were offered.
-pub record AtDecls (ps : List Predicate) (ds : List Decl) (i : Items) : Type 0 where
-  pub start : Parser
-  pub behind_predicates : List TokenValue
-  pub after : IsAfter i.source.now start i.parser (placed_before ps ds [])
-  pub predicates : read_predicates (lexemes start) ≡ Ok (map bare_predicate ps, behind_predicates)
-  pub gathers : Gathers begins_decl (decl_at the_limits) (map bare_decl ds) (lexemes i.parser)
-      (read_decls behind_predicates)
+abbrev pub from_solve : Part Solve tree.Solve
+from_solve = record { read = solve_at the_limits; bare = bare_solve; placed = placed_solve }
 
--- All predicates and declarations are these, and these constraints were offered.
-pub record AtConstraints (ps : List Predicate) (ds : List Decl) (cs : List Constraint)
-    (i : Items) : Type 0 where
-  pub start : Parser
-  pub behind_predicates : List TokenValue
-  pub behind_decls : List TokenValue
-  pub after : IsAfter i.source.now start i.parser (placed_before ps ds cs)
-  pub predicates : read_predicates (lexemes start) ≡ Ok (map bare_predicate ps, behind_predicates)
-  pub decls : read_decls behind_predicates ≡ Ok (map bare_decl ds, behind_decls)
-  pub gathers : Gathers (is_word (codes "constraint")) (constraint_at the_limits)
-      (map bare_constraint cs) (lexemes i.parser) (read_constraints behind_decls)
+abbrev pub from_constraints : Part (List Constraint × Solve) (List tree.Constraint × tree.Solve)
+from_constraints = kind_before constraint_kind from_solve
 
--- All items before the solve item are these.
-pub record AtSolve (ps : List Predicate) (ds : List Decl) (cs : List Constraint)
-    (i : Items) : Type 0 where
-  pub start : Parser
-  pub behind_predicates : List TokenValue
-  pub behind_decls : List TokenValue
-  pub after : IsAfter i.source.now start i.parser (placed_before ps ds cs)
-  pub predicates : read_predicates (lexemes start) ≡ Ok (map bare_predicate ps, behind_predicates)
-  pub decls : read_decls behind_predicates ≡ Ok (map bare_decl ds, behind_decls)
-  pub constraints : read_constraints behind_decls ≡ Ok (map bare_constraint cs, lexemes i.parser)
+abbrev pub from_decls : Part (List Decl × (List Constraint × Solve))
+    (List tree.Decl × (List tree.Constraint × tree.Solve))
+from_decls = kind_before decl_kind from_constraints
+
+abbrev pub from_predicates : Part (List Predicate × (List Decl × (List Constraint × Solve)))
+    (List tree.Predicate × (List tree.Decl × (List tree.Constraint × tree.Solve)))
+from_predicates = kind_before predicate_kind from_decls
+
+-- what is left at the beginning, as the items of a tree
+abbrev pub all_items : List Predicate × (List Decl × (List Constraint × Solve)) → TreeItems
+all_items r = record {
+  predicates = r.0;
+  decls = r.1.0;
+  constraints = r.1.1.0;
+  solve = r.1.1.1;
+}
+
+-- The tokens from here to the end of the source are those of these items, and the source lexes.
+pub record IsLeft {R B : Type 0} (part : Part R B) (i : Rest) (r : R) : Type 0 where
+  pub lexed : LexesWithinLimits i.source.now (tokens_ahead i.source.now 0)
+  pub read : part.read (lexemes i.parser) ≡ Ok (part.bare r, [])
+  pub last : Parser
+  pub walked : Walk i.parser last (part.placed r)
+  pub ended : ahead last ≡ []
+
+-- The parser is in the source, which is a text of no tree if the last part of it can't be read.
+pub record IsWithin {R B : Type 0} (part : Part R B) (i : Rest) : Type 0 where
+  pub short : length i.source.now ≤ most_bytes
+  pub of_source : source_of i.parser.tokens ≡ i.source.now
+  pub ends : i.parser.end ≡ length i.source.now
+  pub no_tree : (f : Fault) → whole (part.read (lexemes i.parser)) ≡ Err f → (t : tree.Tree)
+      → IsTextOfTree i.source.now t → ⊥
+
+-- What is left of the same source now, put together with what was taken, was left before.
+pub record Leaves {R B Q C : Type 0} (before : Part R B) (after : Part Q C) (all : Q → R)
+    (old new : Rest) : Type 0 where
+  pub same : new.source.now ≡ old.source.now
+  pub all_left : (r : Q) → IsLeft after new r → IsLeft before old (all r)
+
+-- These items were taken, and more of their kind may be left.
+abbrev pub Took : {X A R B : Type 0} → Part (List X × R) (List A × B) → List X → Rest → Rest
+    → Type 0
+Took part xs old new = Leaves part part (λ r. (xs ++ r.0, r.1)) old new
+
+-- These are all items of their kind.
+abbrev pub TookAll : {X A R B : Type 0} → Part (List X × R) (List A × B) → Part R B → List X
+    → Rest → Rest → Type 0
+TookAll part behind xs old new = Leaves part behind (λ r. (xs, r)) old new
 
 -- how many tokens are left
-abbrev pub left_of : Items → ℕ
+abbrev pub left_of : Rest → ℕ
 left_of i = length (lexemes i.parser)
 
--- An item is offered, or there are no more of its kind, or the source is refused.
-abbrev pub Offers : {X : Type 0} → List ℕ → Result (Option X) SyntaxError → (X → Type 0) → Type 0
-    → Type 0
-Offers source (Ok (Some x)) more done = more x
-Offers source (Ok None) more done = done
-Offers source (Err e) more done = IsRefused source e
+-- One item was taken.
+abbrev pub TookOne : {X A R B : Type 0} → Part (List X × R) (List A × B) → X → Rest → Rest → Type 0
+TookOne part x old new = Took part (x ∷ []) old new × (left_of new < left_of old)
 
--- The items of a kind are all offered, or the source is refused.
-abbrev pub IsAllOf : {X : Type 0} → List ℕ → Result X SyntaxError → (X → Type 0) → Type 0
-IsAllOf source (Ok x) all = all x
-IsAllOf source (Err e) all = IsRefused source e
+-- An item is offered, or there are no more of its kind, or the source is refused.
+abbrev pub Offers : {X S T : Type 0} → List ℕ → (X → S → Type 0) → (T → Type 0)
+    → Result (Offer X S T) SyntaxError → Type 0
+Offers source one none (Ok (Item x more)) = one x more
+Offers source one none (Ok (End behind)) = none behind
+Offers source one none (Err e) = IsRefused source e

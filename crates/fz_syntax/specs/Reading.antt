@@ -11,7 +11,7 @@ use Rattle.fz_lex.specs.declared.token.Mark.TheVariants.{OpenParen, CloseParen, 
 use Rattle.fz_lex.specs.Token.{TokenValue, Word, Whole, FloatText, StringText, Marked}
 use Rattle.fz_tree.specs.Tree.{Literal, Number, Truth, Range, Braces, Basic, Lit, Named, Expr, One, Several, Note, Called, NoteArg, OneBasic, ListOf, NoteBasic, NoteLiteral, NoteFloat, NoteString, Inner, Base, BoolBase, IntBase, SetBase, Param, Predicate, Decl, Constraint, Goal, Satisfy, Minimize, Maximize, Solve, Tree}
 use Rattle.fz_tree.specs.View.{arg_list, basic_list}
-use Rattle.fz_tree.specs.Shape.{is_reserved, Limits, most_indexes}
+use Rattle.fz_tree.specs.Text.{is_reserved, Limits, most_indexes}
 
 -- why a token is refused
 pub data FaultKind : Type 0 where

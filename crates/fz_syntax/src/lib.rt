@@ -1,14 +1,14 @@
-//! The syntax of FlatZinc: `parse` gives the tree of a model, `Items` its items one by one without
-//! a tree, `read_items` the items of a block of solver output, and `to_text` the canonical text of
-//! a tree. A facade: it also passes on the lexer and the errors of `fz_lex`, and the tree and the
+//! The syntax of FlatZinc: `parse` gives the tree of a model, `PredicateItems` its items one by one
+//! without a tree, `read_items` the items of a block of solver output, and `to_text` the canonical
+//! text of a tree. A facade: it also passes on the lexer and the errors of `fz_lex`, and the tree and the
 //! printer of `fz_tree`.
-//! Its worked cases are in `fz_text_cases`.
+//! Its worked cases are in `tests/cases` (`shown.txt`, `calls.txt`) and `tests/broken`.
 #![tactic(auto)]
 
 mod parser;
 mod reader;
 
-ghost use Rattle.fz_tree.specs.Text.{TextHasOneTree, TextHasOneListOfItems};
+ghost use Rattle.fz_tree.specs.Refusals.{TextHasOneTree, TextHasOneListOfItems};
 
 pub use fz_lex::fz_base::Span;
 pub use fz_lex::{Mark, SyntaxError, Token, TokenKind, lex};
@@ -17,7 +17,7 @@ pub use fz_tree::{
     NoteBasic, Param, Predicate, Printed, PrintedValue, Solve, to_text,
 };
 pub use parser::{parse, read_items};
-pub use reader::Items;
+pub use reader::{ConstraintItems, DeclItems, Offer, PredicateItems};
 
 /// A text has at most one tree.
 pub fn text_has_one_tree()

@@ -8,13 +8,13 @@ ghost use Rattle.fz_syntax.specs.Placed.{ArePlacedIn, placed_tree, placed_items}
 ghost use Rattle.fz_syntax.specs.Spots.{Stand, spots, item_spots};
 ghost use Rattle.fz_tree.specs.View.{bare, bare_items};
 ghost use Rattle.fz_syntax.specs.Outcome.{IsWhole};
-ghost use Rattle.fz_tree.specs.Text.{IsTextOfTree, IsTextOfItems, IsValue, IsRefusalOf};
+ghost use Rattle.fz_tree.specs.Text.{IsTextOfTree, IsTextOfItems, Limits, HasShape, IsTree, IsPrinted, the_limits};
+ghost use Rattle.fz_tree.specs.Refusals.{IsValue, IsRefusalOf};
 ghost use Rattle.fz_syntax.specs.Reading.{tree_of};
 ghost use Rattle.fz_syntax.specs.ReadingItems.{items_of};
 ghost use Rattle.fz_tree.specs.Tokens.{toks, itoks};
 ghost use Rattle.fz_tree.specs.Tree as tree;
-ghost use Rattle.fz_tree.specs.Shape.{Limits, HasShape, IsTree, IsPrinted, the_limits};
-ghost use Rattle.fz_lex.specs.Limits.{most_bytes};
+ghost use Rattle.fz_lex.specs.Lexing.{most_bytes};
 ghost use Rattle.fz_lex.specs.declared.error.SyntaxError.TheVariants.{TooLong, Memory};
 
 mod annotations;
@@ -28,7 +28,7 @@ pub(crate) mod refusal;
 mod types;
 
 use crate::parser::cursor::Parser;
-use crate::reader::Items;
+use crate::reader::PredicateItems;
 use fz_lex::{MOST_BYTES, SyntaxError, check_tokens};
 use fz_tree::{Ast, Printed};
 use std::alloc::Global;
@@ -93,11 +93,9 @@ pub fn parse<'a>(alloc: Global, source: &'a [u8]) -> Result<Ast<'a>, SyntaxError
     // So the names and literals follow one another in the source, and each name has its text.
     ensures stands { IfOk result (λ a. Stand source.now 0 (length source.now) (spots a)) }
 {
-    let mut items = Items::new(alloc, source)?;
-    let predicates = items.predicates()?;
-    let decls = items.decls()?;
-    let constraints = items.constraints()?;
-    let solve = items.solve()?;
+    let (predicates, items) = PredicateItems::new(alloc, source)?.all()?;
+    let (decls, items) = items.all()?;
+    let (constraints, solve) = items.all()?;
     Ok(Ast {
         predicates,
         decls,

@@ -1,12 +1,11 @@
-//! The items of a model, offered one after another.
+//! The items of a model, offered one after another. Each kind has a type of its own, which a call
+//! takes and gives back or gives up for the next one: so no call can come out of order, and none
+//! after an error.
 
-ghost use Rattle.std.specs.Prelude.{◌≡◌, ◌<◌, ◌≤◌, ◌++◌, ◌∷◌, ℕ, List, [], length, IfErr, IfOk, IfSome, Err};
-ghost use Rattle.fz_lex.specs.Limits.{most_bytes};
+ghost use Rattle.std.specs.Prelude.{◌≡◌, ◌<◌, [], length, IfErr, IfOk, Err};
+ghost use Rattle.fz_lex.specs.Lexing.{most_bytes};
 ghost use Rattle.fz_lex.specs.declared.error.SyntaxError.TheVariants.{TooLong};
-ghost use Rattle.fz_tree.specs.declared.tree.Predicate as the_predicate;
-ghost use Rattle.fz_tree.specs.declared.tree.Decl as the_decl;
-ghost use Rattle.fz_tree.specs.declared.tree.Constraint as the_constraint;
-ghost use Rattle.fz_syntax.specs.Offering.{AtPredicates, AtDecls, AtConstraints, AtSolve, IsAllOf, IsRefused, IsRefusedBy, IsTextOfAll, Offers, left_of};
+ghost use Rattle.fz_syntax.specs.Offering.{IsLeft, IsRefused, IsRefusedBy, IsTextOfAll, IsWithin, Offers, TookAll, TookOne, all_items, from_constraints, from_decls, from_predicates, from_solve};
 
 use crate::parser::cursor::Parser;
 use crate::parser::lists::trimmed;
@@ -15,40 +14,14 @@ use fz_lex::{MOST_BYTES, SyntaxError, check_tokens};
 use fz_tree::{Constraint, Decl, Expr, Predicate, Solve};
 use std::alloc::Global;
 
-/// The items of a model's text, read as they are asked for: first the predicate items, then the
-/// declarations, the constraints, and the solve item. No item is stored.
+/// What is left of a text. No item is stored.
 #[derive(Drop)]
-pub struct Items<'a> {
+pub(crate) struct Rest<'a> {
     pub(crate) parser: Parser<'a>,
     pub(crate) source: &'a [u8],
-    /// A buffer for the arguments of a constraint, used again for each constraint.
-    pub(crate) spare: Vec<Expr<'a>>,
 }
 
-impl<'a> Items<'a> {
-    /// A reader at the first item of a text.
-    ///
-    /// # Errors
-    ///
-    /// `TooLong`: the source has more than 16,777,216 bytes.
-    pub fn new(alloc: Global, source: &'a [u8]) -> Result<Items<'a>, SyntaxError>
-        ensures begins { IfOk result (AtPredicates []) }
-        ensures source { IfOk result (λ i. i.source.now ≡ source.now) }
-        ensures too_long { (most_bytes < length source.now) → result ≡ Err TooLong }
-        ensures only_too_long { IfErr result
-            (λ e. (e ≡ TooLong) × (most_bytes < length source.now)) }
-        ensures refused { IfErr result (IsRefused source.now) }
-    {
-        if source.len() > MOST_BYTES {
-            return Err(SyntaxError::TooLong);
-        }
-        Ok(Items {
-            parser: Parser::new(alloc, source),
-            source,
-            spare: Vec::new(alloc),
-        })
-    }
-
+impl<'a> Rest<'a> {
     /// The error where the grammar refuses the next token: a lexical fault of the source comes
     /// first, wherever it is.
     fn refused(&self, refusal: Refusal) -> SyntaxError
@@ -62,80 +35,11 @@ impl<'a> Items<'a> {
         }
     }
 
-    /// The next predicate item, where there is one.
-    ///
-    /// # Errors
-    ///
-    /// Those of `parse`.
-    pub fn predicate(&mut self) -> Result<Option<Predicate<'a>>, SyntaxError>
-        ensures offers { (ps : List the_predicate.Predicate) → AtPredicates ps self.old
-            → Offers self.old.source.now result (λ p. AtPredicates (ps ++ p ∷ []) self.new)
-            (AtDecls ps [] self.new) }
-        ensures source { self.new.source.now ≡ self.old.source.now }
-        ensures fewer { IfOk result (λ o. IfSome o (λ _. left_of self.new < left_of self.old)) }
-    {
-        if !self.parser.next_word(b"predicate") {
-            return Ok(None);
-        }
-        match self.parser.predicate() {
-            Ok(item) => Ok(Some(item)),
-            Err(refusal) => Err(self.refused(refusal)),
-        }
-    }
-
-    /// The next declaration, where there is one.
-    ///
-    /// # Errors
-    ///
-    /// Those of `parse`.
-    pub fn decl(&mut self) -> Result<Option<Decl<'a>>, SyntaxError>
-        ensures offers { (ps : List the_predicate.Predicate) (ds : List the_decl.Decl)
-            → AtDecls ps ds self.old → Offers self.old.source.now result
-            (λ d. AtDecls ps (ds ++ d ∷ []) self.new) (AtConstraints ps ds [] self.new) }
-        ensures source { self.new.source.now ≡ self.old.source.now }
-        ensures fewer { IfOk result (λ o. IfSome o (λ _. left_of self.new < left_of self.old)) }
-    {
-        if !self.parser.begins_decl() {
-            return Ok(None);
-        }
-        match self.parser.decl() {
-            Ok(item) => Ok(Some(item)),
-            Err(refusal) => Err(self.refused(refusal)),
-        }
-    }
-
-    /// The next constraint, where there is one.
-    ///
-    /// # Errors
-    ///
-    /// Those of `parse`.
-    pub fn constraint(&mut self) -> Result<Option<Constraint<'a>>, SyntaxError>
-        ensures offers { (ps : List the_predicate.Predicate) (ds : List the_decl.Decl)
-            (cs : List the_constraint.Constraint) → AtConstraints ps ds cs self.old
-            → Offers self.old.source.now result (λ c. AtConstraints ps ds (cs ++ c ∷ []) self.new)
-            (AtSolve ps ds cs self.new) }
-        ensures source { self.new.source.now ≡ self.old.source.now }
-        ensures fewer { IfOk result (λ o. IfSome o (λ _. left_of self.new < left_of self.old)) }
-    {
-        if !self.parser.next_word(b"constraint") {
-            return Ok(None);
-        }
-        match self.parser.constraint(&mut self.spare) {
-            Ok(item) => Ok(Some(item)),
-            Err(refusal) => Err(self.refused(refusal)),
-        }
-    }
-
     /// The solve item, which ends the text.
-    ///
-    /// # Errors
-    ///
-    /// Those of `parse`.
-    pub fn solve(mut self) -> Result<Solve<'a>, SyntaxError>
-        ensures text { (ps : List the_predicate.Predicate) (ds : List the_decl.Decl)
-            (cs : List the_constraint.Constraint) → AtSolve ps ds cs self.entry
-            → IsAllOf self.entry.source.now result (λ s. IsTextOfAll self.entry.source.now
-            (record { predicates = ps; decls = ds; constraints = cs; solve = s })) }
+    fn solve(mut self) -> Result<Solve<'a>, SyntaxError>
+        requires { IsWithin from_solve self }
+        ensures left { IfOk result (IsLeft from_solve self.entry) }
+        ensures refused { IfErr result (IsRefused self.entry.source.now) }
     {
         let item = match self.parser.solve() {
             Ok(item) => item,
@@ -147,44 +51,190 @@ impl<'a> Items<'a> {
         self.parser.tokens.finish()?;
         Ok(item)
     }
+}
 
-    /// All predicate items that are left.
-    pub(crate) fn predicates(&mut self) -> Result<Vec<Predicate<'a>>, SyntaxError>
-        ensures all { AtPredicates [] self.old
-            → IsAllOf self.old.source.now result (λ v. AtDecls v.items [] self.new) }
-        ensures source { self.new.source.now ≡ self.old.source.now }
+/// The next item of a kind with those behind it, or what is behind the last of the kind.
+#[derive(Drop)]
+pub enum Offer<X, S, T> {
+    Item(X, S),
+    End(T),
+}
+
+/// The items of a text from a predicate item on.
+#[derive(Drop)]
+pub struct PredicateItems<'a> {
+    pub(crate) rest: Rest<'a>,
+    ghost within: { IsWithin from_predicates rest },
+}
+
+/// The items of a text from a declaration on, behind all predicate items.
+#[derive(Drop)]
+pub struct DeclItems<'a> {
+    pub(crate) rest: Rest<'a>,
+    ghost within: { IsWithin from_decls rest },
+}
+
+/// The items of a text from a constraint on, behind all declarations.
+#[derive(Drop)]
+pub struct ConstraintItems<'a> {
+    pub(crate) rest: Rest<'a>,
+    /// A buffer for the arguments of a constraint, used again for each constraint.
+    spare: Vec<Expr<'a>>,
+    ghost within: { IsWithin from_constraints rest },
+}
+
+impl<'a> PredicateItems<'a> {
+    /// All items of a text.
+    ///
+    /// # Errors
+    ///
+    /// `TooLong`: the source has more than 16,777,216 bytes.
+    pub fn new(alloc: Global, source: &'a [u8]) -> Result<PredicateItems<'a>, SyntaxError>
+        ensures text { IfOk result (λ i. (r : _) → IsLeft from_predicates i.rest r
+            → IsTextOfAll source.now (all_items r)) }
+        ensures source { IfOk result (λ i. i.rest.source.now ≡ source.now) }
+        ensures too_long { (most_bytes < length source.now) → result ≡ Err TooLong }
+        ensures only_too_long { IfErr result
+            (λ e. (e ≡ TooLong) × (most_bytes < length source.now)) }
+        ensures refused { IfErr result (IsRefused source.now) }
     {
-        let mut items = Vec::new(self.parser.alloc);
-        while let Some(item) = self.predicate()? {
-            items.push(item)?;
+        if source.len() > MOST_BYTES {
+            return Err(SyntaxError::TooLong);
         }
-        Ok(trimmed(self.parser.alloc, items))
+        let rest = Rest {
+            parser: Parser::new(alloc, source),
+            source,
+        };
+        Ok(PredicateItems { rest })
     }
 
-    /// All declarations that are left.
-    pub(crate) fn decls(&mut self) -> Result<Vec<Decl<'a>>, SyntaxError>
-        ensures all { (ps : List the_predicate.Predicate) → AtDecls ps [] self.old
-            → IsAllOf self.old.source.now result (λ v. AtConstraints ps v.items [] self.new) }
-        ensures source { self.new.source.now ≡ self.old.source.now }
+    /// The next predicate item, or the declarations where there is none.
+    ///
+    /// # Errors
+    ///
+    /// Those of `parse`.
+    pub fn next(
+        self,
+    ) -> Result<Offer<Predicate<'a>, PredicateItems<'a>, DeclItems<'a>>, SyntaxError>
+        ensures offers { Offers self.entry.rest.source.now
+            (λ p more. TookOne from_predicates p self.entry.rest more.rest)
+            (λ behind. TookAll from_predicates from_decls [] self.entry.rest behind.rest) result }
     {
-        let mut items = Vec::new(self.parser.alloc);
-        while let Some(item) = self.decl()? {
-            items.push(item)?;
+        let PredicateItems { mut rest } = self;
+        if !rest.parser.next_word(b"predicate") {
+            return Ok(Offer::End(DeclItems { rest }));
         }
-        Ok(trimmed(self.parser.alloc, items))
+        match rest.parser.predicate() {
+            Ok(item) => Ok(Offer::Item(item, PredicateItems { rest })),
+            Err(refusal) => Err(rest.refused(refusal)),
+        }
     }
 
-    /// All constraints that are left.
-    pub(crate) fn constraints(&mut self) -> Result<Vec<Constraint<'a>>, SyntaxError>
-        ensures all { (ps : List the_predicate.Predicate) (ds : List the_decl.Decl)
-            → AtConstraints ps ds [] self.old
-            → IsAllOf self.old.source.now result (λ v. AtSolve ps ds v.items self.new) }
-        ensures source { self.new.source.now ≡ self.old.source.now }
+    /// All predicate items, and the declarations.
+    pub(crate) fn all(self) -> Result<(Vec<Predicate<'a>>, DeclItems<'a>), SyntaxError>
+        ensures all { IfOk result
+            (λ r. TookAll from_predicates from_decls r.0.items self.entry.rest r.1.rest) }
+        ensures refused { IfErr result (IsRefused self.entry.rest.source.now) }
     {
-        let mut items = Vec::new(self.parser.alloc);
-        while let Some(item) = self.constraint()? {
-            items.push(item)?;
+        let alloc = self.rest.parser.alloc;
+        let mut all = Vec::new(alloc);
+        let mut items = self;
+        loop {
+            match items.next()? {
+                Offer::Item(item, more) => {
+                    all.push(item)?;
+                    items = more;
+                }
+                Offer::End(behind) => return Ok((trimmed(alloc, all), behind)),
+            }
         }
-        Ok(trimmed(self.parser.alloc, items))
+    }
+}
+
+impl<'a> DeclItems<'a> {
+    /// The next declaration, or the constraints where there is none.
+    ///
+    /// # Errors
+    ///
+    /// Those of `parse`.
+    pub fn next(self) -> Result<Offer<Decl<'a>, DeclItems<'a>, ConstraintItems<'a>>, SyntaxError>
+        ensures offers { Offers self.entry.rest.source.now
+            (λ d more. TookOne from_decls d self.entry.rest more.rest)
+            (λ behind. TookAll from_decls from_constraints [] self.entry.rest behind.rest) result }
+    {
+        let DeclItems { mut rest } = self;
+        if !rest.parser.begins_decl() {
+            let spare = Vec::new(rest.parser.alloc);
+            return Ok(Offer::End(ConstraintItems { rest, spare }));
+        }
+        match rest.parser.decl() {
+            Ok(item) => Ok(Offer::Item(item, DeclItems { rest })),
+            Err(refusal) => Err(rest.refused(refusal)),
+        }
+    }
+
+    /// All declarations, and the constraints.
+    pub(crate) fn all(self) -> Result<(Vec<Decl<'a>>, ConstraintItems<'a>), SyntaxError>
+        ensures all { IfOk result
+            (λ r. TookAll from_decls from_constraints r.0.items self.entry.rest r.1.rest) }
+        ensures refused { IfErr result (IsRefused self.entry.rest.source.now) }
+    {
+        let alloc = self.rest.parser.alloc;
+        let mut all = Vec::new(alloc);
+        let mut items = self;
+        loop {
+            match items.next()? {
+                Offer::Item(item, more) => {
+                    all.push(item)?;
+                    items = more;
+                }
+                Offer::End(behind) => return Ok((trimmed(alloc, all), behind)),
+            }
+        }
+    }
+}
+
+impl<'a> ConstraintItems<'a> {
+    /// The next constraint, or the solve item, which ends the text.
+    ///
+    /// # Errors
+    ///
+    /// Those of `parse`.
+    pub fn next(self) -> Result<Offer<Constraint<'a>, ConstraintItems<'a>, Solve<'a>>, SyntaxError>
+        ensures offers { Offers self.entry.rest.source.now
+            (λ c more. TookOne from_constraints c self.entry.rest more.rest)
+            (λ solve. IsLeft from_constraints self.entry.rest ([], solve)) result }
+    {
+        let ConstraintItems {
+            mut rest,
+            mut spare,
+        } = self;
+        if !rest.parser.next_word(b"constraint") {
+            return Ok(Offer::End(rest.solve()?));
+        }
+        match rest.parser.constraint(&mut spare) {
+            Ok(item) => Ok(Offer::Item(item, ConstraintItems { rest, spare })),
+            Err(refusal) => Err(rest.refused(refusal)),
+        }
+    }
+
+    /// All constraints, and the solve item.
+    pub(crate) fn all(self) -> Result<(Vec<Constraint<'a>>, Solve<'a>), SyntaxError>
+        ensures all { IfOk result
+            (λ r. IsLeft from_constraints self.entry.rest (r.0.items, r.1)) }
+        ensures refused { IfErr result (IsRefused self.entry.rest.source.now) }
+    {
+        let alloc = self.rest.parser.alloc;
+        let mut all = Vec::new(alloc);
+        let mut items = self;
+        loop {
+            match items.next()? {
+                Offer::Item(item, more) => {
+                    all.push(item)?;
+                    items = more;
+                }
+                Offer::End(solve) => return Ok((trimmed(alloc, all), solve)),
+            }
+        }
     }
 }

@@ -3,13 +3,13 @@
 use Rattle.std.proofs.Common.{◌≡◌, ◌≤◌, ℕ, List, [], ◌∷◌, length, sym, subst}
 use Rattle.std.specs.List.{AllByRecursion}
 use Rattle.fz_lex.specs.Token.{TokenValue, IsTokenText}
-use Rattle.fz_lex.specs.Limits.{most_bytes, IsTokenWithinLimit, LexesWithNumbersInLimit}
+use Rattle.fz_lex.specs.Lexing.{most_bytes, IsTokenWithinLimit}
+use Rattle.fz_lex.specs.AnyLength.{LexesWithNumbersInLimit}
 use Rattle.fz_lex.proofs.Joined.{joined_lexes}
 use Rattle.fz_lex.proofs.Texts.{lexed_texts, text_lexes, text_of_tokens}
 use Rattle.fz_tree.specs.Tree.{Tree}
 use Rattle.fz_tree.specs.Tokens.{toks}
-use Rattle.fz_tree.specs.Text.{IsTextOfTree}
-use Rattle.fz_tree.specs.Shape.{IsTree, the_limits}
+use Rattle.fz_tree.specs.Text.{IsTextOfTree, IsTree, the_limits}
 use Rattle.fz_tree.specs.Print.{tree_text, CanBeWritten}
 use Rattle.fz_tree.proofs.PrintLaws.{IsPrintable, tree_joins}
 

@@ -6,7 +6,7 @@ use Rattle.std.specs.List.{flat_map, AllByRecursion}
 use Rattle.std.specs.Fmt.{signed_decimal}
 use Rattle.std.proofs.lemmas.List.{append-nil}
 use Rattle.fz_lex.specs.Token.{TokenValue, Word, Whole, FloatText, StringText, Marked, IsTokenText, unsigned, decimal}
-use Rattle.fz_lex.specs.Limits.{IsTokenWithinLimit}
+use Rattle.fz_lex.specs.Lexing.{IsTokenWithinLimit}
 use Rattle.fz_lex.specs.declared.token.Mark.TheVariants.{OpenParen, CloseParen, OpenBracket, CloseBracket, OpenBrace, CloseBrace, Comma, Semicolon, Colon, ColonColon, Equals, DotDot}
 use Rattle.fz_lex.proofs.Covers.{EndsNumber}
 use Rattle.fz_lex.proofs.Joined.{Joins, done, text}

@@ -1,7 +1,8 @@
 //! The canonical text of a tree.
 
 ghost use Rattle.std.specs.Prelude.{◌≡◌, ◌≤◌, ◌++◌, ℕ, List, length, OnOk, IfOk};
-ghost use Rattle.fz_lex.specs.Limits.{most_bytes, LexesWithNumbersInLimit};
+ghost use Rattle.fz_lex.specs.Lexing.{most_bytes};
+ghost use Rattle.fz_lex.specs.AnyLength.{LexesWithNumbersInLimit};
 ghost use Rattle.fz_tree.specs.View.{bare};
 ghost use Rattle.fz_tree.specs.Tokens.{toks};
 ghost use Rattle.fz_tree.specs.Text.{IsTextOfTree};

@@ -8,9 +8,10 @@ use Rattle.fz_base.specs.declared.value.Value.{Value}
 use Rattle.fz_model.specs.declared.Kind.TheVariants.{Int as IntKind}
 use Rattle.fz_model.specs.declared.State.{State}
 use Rattle.fz_model.specs.declared.State.TheVariants.{Holds, Fails, NoValue, Unknown, TooLarge}
-use Rattle.fz_model.specs.Values.{kind_of, same_value, same_values}
+use Rattle.fz_model.specs.Relations.{kind_of, same_value, same_values}
 use Rattle.fz_model.specs.Names.{literal_value}
-use Rattle.fz_model.specs.Meaning.{Place, Declared, Posted, Aim, Model, Point, Partial, Assignment, value, values, value_at, whole, points, state, judged, judged_by, inside, find_name, first_some, HoldsUnder, IsSolution, IsPartial, IsAssignment, FitVariables, variables_of, variable_of, numbered, numbered_from, declared_points, definition_points, constraint_points, is_outside, both, objective, objective_of, as_int, number_at}
+use Rattle.fz_model.specs.Meaning.{Place, Declared, Posted, Aim, Model, Point, Partial, Assignment, value, values, value_at, whole, points, inside, find_name, first_some, HoldsUnder, IsSolution, IsPartial, IsAssignment, FitVariables, variables_of, variable_of, numbered, numbered_from, declared_points, definition_points, constraint_points, objective, objective_of, as_int, number_at}
+use Rattle.fz_model.specs.States.{state, judged, judged_by, is_outside, both}
 use Rattle.fz_model.specs.declared.Term.{Term}
 use Rattle.fz_model.specs.declared.Term.TheVariants.{Var, Fixed}
 use Rattle.fz_model.specs.Meaning.Place.{Scalar, Array}
@@ -22,8 +23,7 @@ use Rattle.fz_model.proofs.Scope.{kind_of_term, HasNumberKind, AimsAtNumber}
 use Rattle.fz_model.proofs.States.{intro, judged_holds, point_holds}
 use Rattle.fz_model.proofs.Steps.{as_number_of}
 use Rattle.fz_model.proofs.Values.{no, no', same_value_is, same_values_is}
-use Rattle.fz_verdict.specs.Blocks.{Printed, PrintedValue, Block, ExtendsItems, Extends, HasPrinted, printed_values}
-use Rattle.fz_verdict.specs.Headline.{IsBetter, SolveInTurn}
+use Rattle.fz_verdict.specs.Solutions.{Printed, PrintedValue, Block, ExtendsItems, Extends, HasPrinted, printed_values, IsBetter, SolveInTurn}
 use Rattle.fz_verdict.specs.Verdict.{Verdict, Fault, Reason, verdict, verdict_by, has_printed, printed_fails, fault_at, reason_at, point_fails, point_undecided, objective_fails, not_better_if, AreJudged, answer_of, answer_by, first_number, is_violated, is_undecided}
 use Rattle.fz_verdict.specs.Verdict.Verdict.{Satisfied, Violated, Undecided}
 use Rattle.fz_verdict.specs.Verdict.Fault.{PrintedFault}

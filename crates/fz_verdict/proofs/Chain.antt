@@ -4,10 +4,11 @@ use Rattle.std.specs.List.{AllByRecursion, enumerate_from}
 use Rattle.std.specs.Option.{option_map_or, option_or}
 use Rattle.fz_base.specs.declared.value.Value.{Value}
 use Rattle.fz_model.specs.declared.Kind.{Kind}
-use Rattle.fz_model.specs.Values.{kind_of}
+use Rattle.fz_model.specs.Relations.{kind_of}
 use Rattle.fz_model.specs.Builtins.{ArgValue}
 use Rattle.fz_model.specs.Builtins.ArgValue.{OneValue, ManyValues}
-use Rattle.fz_model.specs.Meaning.{Place, Argument, Variable, Model, Point, Partial, Assignment, value, values, value_at, give, whole, option_cons, terms_in, argument_value, argument_values, row_of, row_holds, points, inside, find_name, HoldsUnder, HoldsIfKnown, IsKnownSolution, IsAssignment, FitVariables, variables_of}
+use Rattle.fz_model.specs.Meaning.{Place, Argument, Variable, Model, Point, Partial, Assignment, value, values, value_at, give, whole, option_cons, terms_in, argument_value, argument_values, row_of, row_holds, points, inside, find_name, HoldsUnder, IsAssignment, FitVariables, variables_of}
+use Rattle.fz_model.specs.States.{HoldsIfKnown, IsKnownSolution}
 use Rattle.fz_model.specs.declared.Term.{Term}
 use Rattle.fz_model.specs.declared.Term.TheVariants.{Var, Fixed}
 use Rattle.fz_model.specs.Meaning.Place.{Scalar, Array}
@@ -18,7 +19,7 @@ use Rattle.fz_model.proofs.Lists.{all_append, all_right, all_drop, all_take, all
 use Rattle.fz_model.proofs.Points.{points_fit}
 use Rattle.fz_model.proofs.States.{intro}
 use Rattle.fz_model.proofs.Steps.{some_of, PointFits, only_value, option_cons_parts, map_some}
-use Rattle.fz_verdict.specs.Blocks.{Block, Printed, PrintedValue, ExtendsItems, Extends, HasPrinted, printed_values}
+use Rattle.fz_verdict.specs.Solutions.{Block, Printed, PrintedValue, ExtendsItems, Extends, HasPrinted, printed_values}
 use Rattle.fz_verdict.specs.Filling.{IsFirstStep, Chain, counted_from, IsFilling, HasAllOf, pairs, pairs_at, printed_scalars, first_printed, start_from, start}
 use Rattle.fz_verdict.specs.Filling.Chain.{Ends, Step}
 

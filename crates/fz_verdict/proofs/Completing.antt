@@ -7,7 +7,7 @@ use Rattle.fz_model.specs.Meaning.{Model, Partial, Assignment, objective, IsPart
 use Rattle.fz_model.specs.Names.{HasNoFault, model_of}
 use Rattle.fz_verdict.specs.declared.completion.Completion.{Completion}
 use Rattle.fz_verdict.specs.declared.completion.Completion.TheVariants.{Off, On}
-use Rattle.fz_verdict.specs.Blocks.{Block, Extends}
+use Rattle.fz_verdict.specs.Solutions.{Block, Extends}
 use Rattle.fz_verdict.specs.Completed.{AreTold, AreVerdicts, IsCompleted, IsToldBy, LacksValuesAtMost}
 use Rattle.fz_verdict.specs.Completed.IsCompleted.{Found, AsFilled, NotBetterThanFound}
 use Rattle.fz_verdict.specs.Completed.AreTold.{NoneLeft as NoneTold, OneMore as OneTold}

@@ -1,10 +1,10 @@
 -- What holds of one block under its filling holds of each block of a report with such a verdict.
 use Rattle.std.proofs.Common.{◌≡◌, ℕ, suc, zero, ℤ, List, Option, Some, None, refl, ap, subst, slice_get, ◌⊎◌, inl, inr}
 use Rattle.fz_model.specs.Located.{LocatedTree}
-use Rattle.fz_model.specs.Meaning.{Model, Partial, Assignment, objective, IsKnownSolution, IsSolution}
+use Rattle.fz_model.specs.Meaning.{Model, Partial, Assignment, objective, IsSolution}
+use Rattle.fz_model.specs.States.{IsKnownSolution}
 use Rattle.fz_model.specs.Names.{HasNoFault, model_of}
-use Rattle.fz_verdict.specs.Blocks.{Block, Extends}
-use Rattle.fz_verdict.specs.Headline.{Improves}
+use Rattle.fz_verdict.specs.Solutions.{Block, Extends, Improves}
 use Rattle.fz_verdict.specs.declared.completion.Completion.{Completion}
 use Rattle.fz_verdict.specs.Completed.{AreVerdicts}
 use Rattle.fz_verdict.specs.Verdict.{Verdict, Fault, verdict, AreJudged, IsFilled}

@@ -1,5 +1,5 @@
--- Lists of blocks and parts as a loop builds them, one more at the end: verdicts, lines, answers,
--- and the chain of the filling.
+-- Lists of blocks and parts as a loop builds them, one more at the end: verdicts, answers, and
+-- the chain of the filling.
 use Rattle.std.proofs.Common.{◌≡◌, ℕ, suc, zero, ◌+◌, ◌≤◌, ◌<◌, ℤ, Bool, true, false, cond, List, [], ◌∷◌, ◌++◌, length, Option, Some, None, refl, sym, ap, subst, subst₂, ◌∙◌, slice_get, take, drop, arith, append_assoc, add-zero}
 use Rattle.std.specs.List.{AllByRecursion, enumerate_from}
 use Rattle.std.specs.Option.{option_or}
@@ -7,7 +7,7 @@ use Rattle.fz_base.specs.declared.value.Value.{Value}
 use Rattle.fz_model.specs.Meaning.{Model, Partial, Point, points, objective, give}
 use Rattle.fz_model.specs.Steps.{Gives, GivesNothing}
 use Rattle.fz_model.proofs.Lists.{all_append}
-use Rattle.fz_verdict.specs.Blocks.{Block}
+use Rattle.fz_verdict.specs.Solutions.{Block}
 use Rattle.fz_verdict.specs.Filling.{IsFirstStep, Chain}
 use Rattle.fz_verdict.specs.Filling.Chain.{Ends, Step}
 use Rattle.fz_verdict.specs.declared.completion.Completion.{Completion}
@@ -15,9 +15,7 @@ use Rattle.fz_verdict.specs.Completed.{AreTold, AreVerdicts, IsToldBy}
 use Rattle.fz_verdict.specs.Completed.AreTold.{NoneLeft, OneMore}
 use Rattle.fz_verdict.specs.Verdict.{Verdict, verdict, IsFilled, first_number}
 use Rattle.fz_stream.specs.declared.line.ClaimKind.{ClaimKind}
-use Rattle.fz_stream.specs.Parts.{SolutionBlock, StreamPart, BlockPart, ClaimPart}
-use Rattle.fz_stream.specs.Found.{blocks_in}
-use Rattle.fz_verdict.specs.Report.{block_line, claim_line, part_lines}
+use Rattle.fz_stream.specs.Parts.{SolutionBlock, StreamPart, BlockPart, ClaimPart, blocks_in}
 
 append_nil : {A : Type 0} (xs : List A) → xs ++ [] ≡ xs
 append_nil [] = refl
@@ -42,7 +40,7 @@ pub goes_on_judged : (c : Completion) (m : Model) (blocks : List Block) (vs : Li
     (filled found : Option ℤ) → GoesOn c m blocks vs filled found → AreVerdicts c m blocks vs
 goes_on_judged c m blocks vs filled found goes = subst₂ (λ bs us. AreVerdicts c m bs us) (append_nil blocks) (append_nil vs) (goes [] [] NoneLeft)
 
--- ---- lines and claims
+-- ---- the blocks among parts
 
 pub blocks_with_block : (ps : List StreamPart) (b : SolutionBlock)
     → blocks_in (ps ++ BlockPart b ∷ []) ≡ blocks_in ps ++ b ∷ []
@@ -55,26 +53,6 @@ pub blocks_with_claim : (ps : List StreamPart) (k : ClaimKind)
 blocks_with_claim [] k = refl
 blocks_with_claim (BlockPart c ∷ ps) k = ap (λ bs. c ∷ bs) (blocks_with_claim ps k)
 blocks_with_claim (ClaimPart j ∷ ps) k = blocks_with_claim ps k
-
-pub lines_with_block : (n : ℕ) (vs : List Verdict) (ps : List StreamPart) (v : Verdict)
-    (b : SolutionBlock) → length vs ≡ length (blocks_in ps)
-    → part_lines n (vs ++ v ∷ []) (ps ++ BlockPart b ∷ []) ≡ part_lines n vs ps ++ block_line (suc (n + length vs)) v ∷ []
-lines_with_block n [] [] v b e = ap (λ k. block_line (suc k) v ∷ []) (sym (add-zero n))
-lines_with_block n (w ∷ vs) [] v b e = absurd (omega arith)
-lines_with_block n [] (BlockPart c ∷ ps) v b e = absurd (omega arith)
-lines_with_block n (w ∷ vs) (BlockPart c ∷ ps) v b e =
-    let count : suc n + length vs ≡ n + suc (length vs) = omega arith in
-    ap (λ ls. block_line (suc n) w ∷ ls) (lines_with_block (suc n) vs ps v b (omega arith) ∙ ap (λ k. part_lines (suc n) vs ps ++ block_line (suc k) v ∷ []) count)
-lines_with_block n vs (ClaimPart k ∷ ps) v b e = ap (λ ls. claim_line k ∷ ls) (lines_with_block n vs ps v b e)
-
-pub lines_with_claim : (n : ℕ) (vs : List Verdict) (ps : List StreamPart) (k : ClaimKind)
-    → length vs ≡ length (blocks_in ps)
-    → part_lines n vs (ps ++ ClaimPart k ∷ []) ≡ part_lines n vs ps ++ claim_line k ∷ []
-lines_with_claim n [] [] k e = refl
-lines_with_claim n (w ∷ vs) [] k e = absurd (omega arith)
-lines_with_claim n [] (BlockPart c ∷ ps) k e = absurd (omega arith)
-lines_with_claim n (w ∷ vs) (BlockPart c ∷ ps) k e = ap (λ ls. block_line (suc n) w ∷ ls) (lines_with_claim (suc n) vs ps k (omega arith))
-lines_with_claim n vs (ClaimPart j ∷ ps) k e = ap (λ ls. claim_line j ∷ ls) (lines_with_claim n vs ps k e)
 
 -- ---- the first verdict of a kind
 

@@ -9,7 +9,7 @@ use Rattle.fz_stream.specs.of_syntax.declared.PrintedValue.TheVariants as printe
 use Rattle.fz_model.specs.View.{located_literal}
 use Rattle.fz_stream.specs.Found.{block_of}
 use Rattle.fz_stream.specs.declared.block.Block as the_block
-use Rattle.fz_verdict.specs.Blocks.{bare_literals, bare_value, bare_of_printed, bare_of_block}
+use Rattle.fz_verdict.specs.Solutions.{bare_literals, bare_value, bare_of_printed, bare_of_block}
 use Rattle.fz_verdict.specs.View.{located_printed_value, located_items, located_block}
 
 literals_are : (ls : List the_literal.Literal)

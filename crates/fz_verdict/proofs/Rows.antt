@@ -1,4 +1,4 @@
--- The definitions of verdicts, fillings and reports, computed at rows that are written out by hand.
+-- The definitions of verdicts and fillings, computed at rows that are written out by hand.
 use Rattle.std.proofs.Common.{◌≡◌, ℕ, ℤ, pos, negsuc, true, ◌&&◌, List, [], ◌∷◌, Option, Some, None, codes, refl, IsTrue, ◌↔◌, int_le, subst, sym, le-leb, le_refl, lit<}
 use Rattle.fz_base.specs.declared.value.Value.TheVariants.{Int}
 use Rattle.fz_model.specs.declared.Kind.TheVariants.{Int as IntKind}
@@ -15,17 +15,15 @@ use Rattle.fz_model.specs.Meaning.Point.{DomainPoint}
 use Rattle.fz_model.proofs.Determined.{int_le_antisymmetric}
 use Rattle.fz_model.proofs.Values.{and_first, and_second, and_both}
 use Rattle.fz_model.proofs.Writing.{name_at, span_at, named, literal, num, v, MIN, MAX, int_var, var_in, posts, defines, model_tree, i, is, names, x, y, z}
-use Rattle.fz_verdict.specs.Blocks.{Printed, Block, block_fault, BlockFaultKind}
-use Rattle.fz_verdict.specs.Blocks.PrintedValue.{OneValue, ArrayOf}
+use Rattle.fz_verdict.specs.Solutions.{Printed, Block}
+use Rattle.fz_verdict.specs.BlockFaults.{block_fault, BlockFaultKind}
+use Rattle.fz_verdict.specs.Solutions.PrintedValue.{OneValue, ArrayOf}
 use Rattle.fz_verdict.specs.Filling.{start, IsFilling}
 use Rattle.fz_verdict.specs.Filling.Chain.{Ends, Step}
 use Rattle.fz_verdict.specs.Verdict.{Verdict, verdict, answer_of, Answer}
 use Rattle.fz_verdict.specs.Verdict.Verdict.{Satisfied, Violated, Undecided}
 use Rattle.fz_verdict.specs.Verdict.Fault.{PrintedFault, DomainFault, DefinitionFault, ConstraintFault, NotBetter}
 use Rattle.fz_verdict.specs.Verdict.Reason.{NoValueFor, NotKnown, SumTooLarge}
-use Rattle.fz_stream.specs.declared.line.ClaimKind.TheVariants as claims
-use Rattle.fz_stream.specs.Parts.{SolutionBlock, BlockPart, ClaimPart}
-use Rattle.fz_verdict.specs.Report.{report_lines, part_lines, block_line, claim_line, answer_line}
 
 abbrev says : List ℕ → ℤ → Printed
 says t k = record { name = named t; value = OneValue (literal (Number k)) }
@@ -200,20 +198,3 @@ yx_verdict : verdict yx (Some (Int (pos 2)) ∷ Some (Int (pos 1)) ∷ []) (bloc
     ≡ Violated (DefinitionFault x)
 unfolding rows row_at builtins
 yx_verdict = refl
-
--- ---- the report's lines
-
-abbrev two_verdicts : List Verdict
-two_verdicts = Satisfied ∷ Violated (NotBetter (pos 5) (negsuc 4)) ∷ []
-
-report_of_two : report_lines (record { verdicts = two_verdicts; claims = record { after = 2; kind = claims.Complete } ∷ []; answer = answer_of two_verdicts })
-    ≡ block_line 1 Satisfied ∷ block_line 2 (Violated (NotBetter (pos 5) (negsuc 4))) ∷ codes "claim: ========== not judged" ∷ answer_line (Answer.Rejected 2) ∷ []
-report_of_two = refl
-
-abbrev a_block : SolutionBlock
-a_block = record { offset = 0; text = []; items = [] }
-
-lines_of_three : part_lines 0 two_verdicts (ClaimPart claims.Unbounded ∷ BlockPart a_block
-    ∷ ClaimPart claims.Complete ∷ BlockPart a_block ∷ [])
-    ≡ claim_line claims.Unbounded ∷ block_line 1 Satisfied ∷ claim_line claims.Complete ∷ block_line 2 (Violated (NotBetter (pos 5) (negsuc 4))) ∷ []
-lines_of_three = refl

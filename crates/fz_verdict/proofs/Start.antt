@@ -5,7 +5,7 @@ use Rattle.std.specs.List.{AllByRecursion}
 use Rattle.std.specs.Option.{option_map_or, option_or}
 use Rattle.fz_base.specs.declared.value.Value.{Value}
 use Rattle.fz_model.specs.declared.Kind.{Kind}
-use Rattle.fz_model.specs.Values.{kind_of, same_kind}
+use Rattle.fz_model.specs.Relations.{kind_of, same_kind}
 use Rattle.fz_model.specs.Located.{Name, Literal, LocatedTree}
 use Rattle.fz_model.specs.Names.{HasNoFault, literal_value, model_of}
 use Rattle.fz_model.specs.Meaning.{Place, Variable, Model, Partial, give, variables_of, find_name, first_some, FitVariables, IsPartial}
@@ -17,9 +17,10 @@ use Rattle.fz_model.proofs.NamedKinds.{TermFits, PlaceFits, named_fits}
 use Rattle.fz_model.proofs.Lists.{all_append}
 use Rattle.fz_model.proofs.Partials.{give_fits}
 use Rattle.fz_model.proofs.Scope.{same_kind_is}
-use Rattle.fz_verdict.specs.Blocks.{Printed, PrintedValue, Block, BlockFault, printed_values, fault_if, literal_fault, value_fault, printed_fault, items_fault, block_fault, moved}
-use Rattle.fz_verdict.specs.Blocks.PrintedValue.{OneValue, ArrayOf}
-use Rattle.fz_verdict.specs.Blocks.BlockFaultKind.{UnknownName, WrongKind, WrongLength}
+use Rattle.fz_verdict.specs.Solutions.{Printed, PrintedValue, Block, printed_values}
+use Rattle.fz_verdict.specs.BlockFaults.{BlockFault, fault_if, literal_fault, value_fault, printed_fault, items_fault, block_fault, moved}
+use Rattle.fz_verdict.specs.Solutions.PrintedValue.{OneValue, ArrayOf}
+use Rattle.fz_verdict.specs.BlockFaults.BlockFaultKind.{UnknownName, WrongKind, WrongLength}
 use Rattle.fz_verdict.specs.Filling.{Chain, pairs, pairs_at, printed_scalars, first_printed, start_from, start}
 use Rattle.fz_verdict.specs.Filling.Chain.{Ends, Step}
 use Rattle.fz_verdict.specs.Verdict.{IsFilled, IsProposed}

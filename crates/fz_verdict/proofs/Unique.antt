@@ -1,7 +1,7 @@
 -- A block has one filling.
 use Rattle.std.proofs.Common.{◌≡◌, ℕ, List, [], ◌∷◌, ◌++◌, Some, refl, sym, ap, subst, ◌∙◌}
 use Rattle.std.specs.List.{AllByRecursion}
-use Rattle.fz_model.specs.Values.{kind_of}
+use Rattle.fz_model.specs.Relations.{kind_of}
 use Rattle.fz_model.specs.Meaning.{Model, Point, Partial, give}
 use Rattle.fz_model.specs.declared.Term.{Term}
 use Rattle.fz_model.specs.declared.Term.TheVariants.{Var}

@@ -8,25 +8,25 @@ use Rattle.std.specs.Option.{option_map_or, option_or, option_and_then}
 use Rattle.fz_base.specs.declared.value.Value.{Value}
 use Rattle.fz_model.specs.declared.State.{State}
 use Rattle.fz_model.specs.declared.State.TheVariants.{Holds, Fails, NoValue, Unknown, TooLarge}
-use Rattle.fz_model.specs.Values.{same_value, same_values}
+use Rattle.fz_model.specs.Relations.{same_value, same_values}
 use Rattle.fz_model.specs.Names.{literal_value}
-use Rattle.fz_model.specs.Meaning.{Place, Variable, Aim, Model, Point, PointName, shown_point, Partial, Assignment, value, values, value_at, whole, option_cons, argument_values, row_of, row_holds, points, state, judged_by, both, state_of_row, inside, is_outside, find_name, first_some, HoldsIfKnown, IsKnownSolution, IsAssignment, FitVariables, variables_of, objective, objective_of, as_int}
+use Rattle.fz_model.specs.Meaning.{Place, Variable, Aim, Model, Point, Partial, Assignment, value, values, value_at, whole, option_cons, argument_values, row_of, row_holds, points, inside, find_name, first_some, IsAssignment, FitVariables, variables_of, objective, objective_of, as_int}
+use Rattle.fz_model.specs.States.{PointName, shown_point, state, judged_by, both, state_of_row, is_outside, HoldsIfKnown, IsKnownSolution}
 use Rattle.fz_model.specs.declared.Term.{Term}
 use Rattle.fz_model.specs.declared.Domain.{Domain}
 use Rattle.fz_model.specs.declared.Term.TheVariants.{Var, Fixed}
 use Rattle.fz_model.specs.Meaning.Place.{Scalar, Array}
 use Rattle.fz_model.specs.Meaning.Aim.{Satisfy, Minimize, Maximize}
 use Rattle.fz_model.specs.Meaning.Point.{DomainPoint, DefinitionPoint, ArrayPoint, ConstraintPoint}
-use Rattle.fz_model.specs.Meaning.PointName.{DomainOf, DefinitionOf, ConstraintOf}
+use Rattle.fz_model.specs.States.PointName.{DomainOf, DefinitionOf, ConstraintOf}
 use Rattle.fz_model.specs.Steps.{terms_of}
 use Rattle.fz_model.proofs.Lists.{all_left, all_right, all_map, all_both}
 use Rattle.fz_model.proofs.States.{judged_fails, both_some, row_state_fails}
 use Rattle.fz_model.proofs.Steps.{value_at_other, option_cons_parts, only_open_none}
 use Rattle.fz_model.proofs.Values.{no, no', value_itself, values_itself}
-use Rattle.fz_verdict.specs.Blocks.{Printed, PrintedValue, Block, ExtendsItems, Extends, HasPrinted, printed_values}
+use Rattle.fz_verdict.specs.Solutions.{Printed, PrintedValue, Block, ExtendsItems, Extends, HasPrinted, printed_values, IsBetter, Improves}
 use Rattle.fz_verdict.specs.Filling.{Chain, IsFilling, HasAllOf, pairs, pairs_at, printed_scalars, if_var, first_printed, start_from, start}
 use Rattle.fz_verdict.specs.Filling.Chain.{Ends, Step}
-use Rattle.fz_verdict.specs.Headline.{IsBetter, Improves}
 use Rattle.fz_verdict.specs.Verdict.{Fault, Reason, verdict, verdict_by, has_printed, printed_fails, fault_at, fault_named, point_fails, point_undecided, objective_fails, not_better_if}
 use Rattle.fz_verdict.specs.Verdict.Verdict.{Violated}
 use Rattle.fz_verdict.specs.Verdict.Fault.{PrintedFault, DomainFault, DefinitionFault, ConstraintFault, NotBetter}

@@ -4,7 +4,7 @@ use Rattle.std.specs.Prelude.{◌≡◌, ℤ, List, [], ◌∷◌, Option, Some,
 use Rattle.fz_model.specs.Meaning.{Model, Partial, objective, IsPartial}
 use Rattle.fz_verdict.specs.declared.completion.Completion.{Completion}
 use Rattle.fz_verdict.specs.declared.completion.Completion.TheVariants.{Off, On}
-use Rattle.fz_verdict.specs.Blocks.{Block}
+use Rattle.fz_verdict.specs.Solutions.{Block}
 use Rattle.fz_verdict.specs.Verdict.{Verdict, verdict, objective_fails, IsFilled}
 use Rattle.fz_verdict.specs.Verdict.Fault.{NotBetter}
 use Rattle.fz_verdict.specs.Verdict.Reason.{NoValueFor, NotShownBetter}

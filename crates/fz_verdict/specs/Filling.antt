@@ -10,8 +10,8 @@ use Rattle.fz_model.specs.declared.Term.{Term}
 use Rattle.fz_model.specs.declared.Term.TheVariants.{Var, Fixed}
 use Rattle.fz_model.specs.Meaning.Place.{Scalar, Array}
 use Rattle.fz_model.specs.Steps.{Gives, GivesNothing}
-use Rattle.fz_verdict.specs.Blocks.{Printed, PrintedValue, Block, printed_values}
-use Rattle.fz_verdict.specs.Blocks.PrintedValue.{OneValue, ArrayOf}
+use Rattle.fz_verdict.specs.Solutions.{Printed, PrintedValue, Block, printed_values}
+use Rattle.fz_verdict.specs.Solutions.PrintedValue.{OneValue, ArrayOf}
 
 -- ---- the start of the filling
 

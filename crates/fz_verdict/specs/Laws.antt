@@ -1,11 +1,12 @@
 -- What verdicts and reports say about solutions (this project's profile). Each law is the contract
 -- of a public function of this crate.
-use Rattle.std.specs.Prelude.{◌≡◌, ℕ, suc, ◌≤◌, ℤ, List, [], ◌∷◌, ◌++◌, map, Option, None, Some, length}
+use Rattle.std.specs.Prelude.{◌≡◌, ℕ, suc, ◌≤◌, ℤ, List, map, Option, None, Some, length}
 use Rattle.std.specs.List.{slice_get}
 use Rattle.fz_model.specs.Located.{LocatedTree}
 use Rattle.fz_model.specs.Names.{HasNoFault, model_of}
-use Rattle.fz_model.specs.Meaning.{Model, Partial, Assignment, objective, IsPartial, IsSolution, IsKnownSolution, whole}
-use Rattle.fz_verdict.specs.Blocks.{Block, Extends, bare_of_block}
+use Rattle.fz_model.specs.Meaning.{Model, Partial, Assignment, objective, IsPartial, IsSolution, whole}
+use Rattle.fz_model.specs.States.{IsKnownSolution}
+use Rattle.fz_verdict.specs.Solutions.{Block, Extends, bare_of_block, Improves, HaveSolutions}
 use Rattle.fz_verdict.specs.View.{located_block}
 use Rattle.fz_verdict.specs.Filling.{HasAllOf, IsFilling}
 use Rattle.fz_verdict.specs.declared.completion.Completion.{Completion}
@@ -15,11 +16,8 @@ use Rattle.fz_verdict.specs.Verdict.{Verdict, Fault, verdict, AreJudged, IsPropo
 use Rattle.fz_verdict.specs.Verdict.Verdict.{Satisfied, Violated}
 use Rattle.fz_verdict.specs.Verdict.Fault.{NotBetter}
 use Rattle.fz_verdict.specs.Verdict.Answer.{Accepted}
-use Rattle.fz_verdict.specs.Headline.{Improves, HaveSolutions}
-use Rattle.fz_stream.specs.Parts.{StreamPart}
-use Rattle.fz_stream.specs.Found.{block_of, blocks_in, claims_in}
+use Rattle.fz_stream.specs.Found.{block_of}
 use Rattle.fz_stream.specs.declared.block.Block as the_block
-use Rattle.fz_verdict.specs.Report.{Report, report_lines, part_lines, answer_line}
 
 -- Where a block is satisfied under a partial assignment, that partial assignment has a value for
 -- each variable, extends the block and is a solution.
@@ -125,14 +123,6 @@ FillingFollows = (m : Model) (block : Block) (F : Partial) (A : Assignment) → 
 abbrev pub FillingIsProposed : Type 0
 FillingIsProposed = (t : LocatedTree) (block : Block) (F : Partial) → HasNoFault t
     → IsFilled (model_of t) block F → IsProposed (model_of t) block F
-
--- The lines of a report on the parts of a stream, with one verdict for each block, are the lines of
--- the parts and then the answer.
-abbrev pub LinesOfParts : Type 0
-LinesOfParts =
-    (ps : List StreamPart) (r : Report) → length r.verdicts ≡ length (blocks_in ps)
-    → r.claims ≡ claims_in 0 ps
-    → report_lines r ≡ part_lines 0 r.verdicts ps ++ answer_line r.answer ∷ []
 
 -- The blocks with byte ranges, once the ranges are left out, are the plain blocks.
 abbrev pub BlocksAreBare : Type 0

@@ -4,14 +4,16 @@ use Rattle.std.specs.Prelude.{◌≡◌, ℕ, suc, zero, ℤ, Bool, true, false,
 use Rattle.std.specs.Option.{option_map_or, option_or}
 use Rattle.fz_model.specs.declared.State.{State}
 use Rattle.fz_model.specs.declared.State.TheVariants.{Holds, Fails, NoValue, Unknown, TooLarge}
-use Rattle.fz_model.specs.Values.{same_value, same_values}
+use Rattle.fz_model.specs.Relations.{same_value, same_values}
 use Rattle.fz_model.specs.Names.{literal_value}
-use Rattle.fz_model.specs.Meaning.{Place, Aim, Model, Variable, Point, PointName, Partial, value, values, points, state, objective, variables_of, find_name, first_some, shown_point, IsPartial}
+use Rattle.fz_model.specs.Meaning.{Place, Aim, Model, Variable, Point, Partial, value, values, points, objective, variables_of, find_name, first_some, IsPartial}
+use Rattle.fz_model.specs.States.{PointName, state, shown_point}
 use Rattle.fz_model.specs.Meaning.Place.{Scalar, Array}
 use Rattle.fz_model.specs.Meaning.Aim.{Minimize, Maximize}
-use Rattle.fz_model.specs.Meaning.PointName.{DomainOf, DefinitionOf, ConstraintOf}
-use Rattle.fz_verdict.specs.Blocks.{Printed, PrintedValue, Block, printed_values, block_fault}
-use Rattle.fz_verdict.specs.Blocks.PrintedValue.{OneValue, ArrayOf}
+use Rattle.fz_model.specs.States.PointName.{DomainOf, DefinitionOf, ConstraintOf}
+use Rattle.fz_verdict.specs.Solutions.{Printed, PrintedValue, Block, printed_values}
+use Rattle.fz_verdict.specs.BlockFaults.{block_fault}
+use Rattle.fz_verdict.specs.Solutions.PrintedValue.{OneValue, ArrayOf}
 use Rattle.fz_verdict.specs.Filling.{start, HasAllOf, IsFilling}
 
 -- ---- verdicts

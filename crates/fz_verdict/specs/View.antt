@@ -6,8 +6,8 @@ use Rattle.fz_stream.specs.of_syntax.declared.PrintedValue as the_value
 use Rattle.fz_stream.specs.of_syntax.declared.PrintedValue.TheVariants as printed
 use Rattle.fz_model.specs.View.{located_literal, located_name}
 use Rattle.fz_stream.specs.declared.block.Block as the_block
-use Rattle.fz_verdict.specs.Blocks.{Printed, PrintedValue, Block}
-use Rattle.fz_verdict.specs.Blocks.PrintedValue.{OneValue, ArrayOf}
+use Rattle.fz_verdict.specs.Solutions.{Printed, PrintedValue, Block}
+use Rattle.fz_verdict.specs.Solutions.PrintedValue.{OneValue, ArrayOf}
 
 abbrev pub located_printed_value : the_value.PrintedValue → PrintedValue
 located_printed_value (printed.One l) = OneValue (located_literal l)

@@ -1,9 +1,9 @@
-//! What a verdict on a solution block says: definitions of blocks over a model, their filling,
-//! verdicts and reports, and laws on what a verdict or an accepted report means for solutions. It
-//! has no code but the type `Completion`; the functions below have empty bodies, and their
-//! contracts are the laws. An internal crate of `fz_check`.
+//! What a verdict on a solution block says: definitions of blocks over a model, their filling and
+//! verdicts, and laws on what a verdict or an accepted stream means for solutions. It has no code
+//! but the type `Completion`; the functions below have empty bodies, and their contracts are the
+//! laws. An internal crate of `fz_check`.
 //! The definitions are computed on worked blocks in `proofs/Rows.antt`. Worked cases of the code
-//! that meets them are in `fz_check_cases`.
+//! that meets them are in `tests/cases`.
 #![tactic(auto)]
 
 ghost use Rattle.fz_verdict.specs.Laws.{
@@ -17,7 +17,6 @@ ghost use Rattle.fz_verdict.specs.Laws.{
   FillingIsOne,
   FillingIsProposed,
   BlocksAreBare,
-  LinesOfParts,
   NotBetterHaveNone,
   SatisfiedIsSolved,
   ViolatedHaveNone,
@@ -89,11 +88,6 @@ pub fn filling_follows()
 /// A filling is a partial assignment with every printed value.
 pub fn filling_is_proposed()
     ensures { FillingIsProposed }
-{}
-
-/// The lines of a report are in the order of the stream.
-pub fn lines_of_parts()
-    ensures { LinesOfParts }
 {}
 
 /// Blocks with byte ranges, once the ranges are left out, are the plain blocks.

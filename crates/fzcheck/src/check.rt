@@ -1,13 +1,18 @@
 //! The command `check`.
 
 use crate::MOST_BYTES;
+use crate::explain::explanation;
+use crate::json::refusal_line;
 use crate::refuse::{refuse, refuse_at, refuse_file, unread};
-use fz_check::{CheckError, Completion, MOST_READS, check_stream_up_to, status};
-use fz_command::CheckOptions;
-use fz_explanation::{Case, case_explanation, source_behind};
-use fz_files::{NOTHING, Progress, Recent, read_up_to};
-use std::cell::Cell;
-use std::io::Read;
+use crate::teller::Teller;
+use crate::waiting::InPlace;
+use fz_check::{Answer, CheckError, Completion, MOST_READS, check_events, status};
+use fz_command::{CheckOptions, Explaining, Form};
+use fz_explain::{Explainer, Message, Text};
+use fz_files::{NOTHING, Recent, Recorder, read_up_to};
+use std::alloc::Global;
+use std::cell::RefCell;
+use std::io::{Read, Write};
 use std::os::fd::AsFd;
 use std::{fs, io};
 
@@ -38,18 +43,20 @@ pub fn check_files(
     if stream.is_none()
         && let Err(failure) = find_input(rt)
     {
-        return refuse_file(rt, &CheckError::Read, task.stream, Some(&failure));
+        return refuse_reading(rt, &task, CheckError::Read, task.stream, Some(&failure));
     }
     let file = match fs::open(rt, model) {
         Ok(file) => file,
-        Err(failure) => return refuse_file(rt, &CheckError::Read, model, Some(&failure)),
+        Err(failure) => {
+            return refuse_reading(rt, &task, CheckError::Read, model, Some(&failure));
+        }
     };
     if stream.is_none() {
         return check_readers(rt, &task, file, rt.stdin());
     }
     match fs::open(rt, task.stream) {
         Ok(stream) => check_readers(rt, &task, file, stream),
-        Err(failure) => refuse_file(rt, &CheckError::Read, task.stream, Some(&failure)),
+        Err(failure) => refuse_reading(rt, &task, CheckError::Read, task.stream, Some(&failure)),
     }
 }
 
@@ -68,86 +75,140 @@ fn check_readers<M: Read + Drop, S: Read + Drop>(
     model: M,
     stream: S,
 ) -> u8 {
-    let nothing = Cell::new(0);
-    let mut model = Recent::new(rt.alloc(), model, false, &nothing);
+    let mut model = Recorder::new(model, None);
     match read_up_to(rt.alloc(), &mut model, MOST_BYTES) {
         Ok(bytes) => check_stream(rt, task, &bytes, stream),
-        Err(error) => refuse_file(rt, &unread(error), task.model, model.failure()),
+        Err(error) => refuse_reading(rt, task, unread(error), task.model, model.failure()),
     }
 }
 
 fn check_stream<S: Read + Drop>(rt: &HostRuntime, task: &Task<'_>, model: &[u8], stream: S) -> u8 {
-    let explains = task.options.explains;
-    let wanted = Cell::new(0);
-    let mut stream = Recent::new(rt.alloc(), stream, explains, &wanted);
-    let mut out = Progress::new(rt, rt.stdout(), explains, &wanted);
-    let completion = completion_of(task.options);
-    let outcome = check_stream_up_to(
-        rt.alloc(),
-        model,
-        &mut stream,
-        &mut out,
-        MOST_READS,
-        completion,
-    );
-    out.clear();
+    let options = task.options;
+    let recent = RefCell::new(Recent::new(rt.alloc()));
+    let stored = match (options.explains, options.form) {
+        (Explaining::Nothing, Form::Text) => None,
+        _ => Some(&recent),
+    };
+    let waiting = RefCell::new(Vec::new(rt.alloc()));
+    let mut stream = Recorder::new(stream, stored);
+    let text = Text {
+        name: task.model,
+        bytes: model,
+        passed: NOTHING,
+    };
+    let explainer = Explainer::new(text, options.completes);
+    let mut teller = Teller::new(rt, options, explainer, task.stream, &recent, &waiting);
+    let outcome = match options.form {
+        Form::Text => check_to(rt, task, model, &mut stream, &mut rt.stdout(), &mut teller),
+        Form::Json => {
+            let mut out = InPlace::new(rt.stdout(), &waiting);
+            check_to(rt, task, model, &mut stream, &mut out, &mut teller)
+        }
+    };
+    teller.clear();
     match outcome {
         Ok(answer) => {
-            explain_verdict(rt, task, model, &mut stream, out.told());
+            teller.tell();
             status(&Ok(answer))
         }
-        Err(error) => refuse_check(rt, task, model, &stream, &error),
+        Err(CheckError::Read) => {
+            refuse_reading(rt, task, CheckError::Read, task.stream, stream.failure())
+        }
+        Err(error) => refuse_check(rt, task, &text, stored, &error),
     }
 }
 
-fn completion_of(options: CheckOptions) -> Completion {
-    if options.completes {
+/// Checks a stream, and writes the report.
+fn check_to<S: Read, W: Write>(
+    rt: &HostRuntime,
+    task: &Task<'_>,
+    model: &[u8],
+    stream: &mut S,
+    out: &mut W,
+    teller: &mut Teller<'_>,
+) -> Result<Answer, CheckError> {
+    let completion = completion_of(task.options.completes);
+    check_events(
+        rt.alloc(),
+        model,
+        stream,
+        out,
+        teller,
+        MOST_READS,
+        completion,
+    )
+}
+
+fn completion_of(completes: bool) -> Completion {
+    if completes {
         Completion::On
     } else {
         Completion::Off
     }
 }
 
-/// Explains the verdict that the answer names, where there is one to be explained.
-fn explain_verdict<S: Read + Drop>(
+/// Refuses the check since a file can't be read.
+fn refuse_reading(
     rt: &HostRuntime,
     task: &Task<'_>,
-    model: &[u8],
-    stream: &mut Recent<'_, S>,
-    said: &[u8],
-) {
-    let Some(told) = stream.told() else {
-        return;
+    error: CheckError,
+    name: &str,
+    failure: Option<&io::Error>,
+) -> u8 {
+    if let Form::Json = task.options.form {
+        write_refusal(rt, &error, None);
+    }
+    refuse_file(rt, &error, name, failure)
+}
+
+/// Refuses the check. Where its fault is, is told with `--explain`, and in JSON.
+fn refuse_check(
+    rt: &HostRuntime,
+    task: &Task<'_>,
+    model: &Text<'_>,
+    stored: Option<&RefCell<Recent>>,
+    error: &CheckError,
+) -> u8 {
+    let message = match stored {
+        Some(recent) => fault_message(rt.alloc(), task, model, recent, error),
+        None => None,
     };
-    let case = Case {
-        said,
-        completes: task.options.completes,
-        model: source_behind(task.model, model, NOTHING),
-        stream: task.stream,
-        told,
-    };
-    if let Ok(Some(text)) = case_explanation(rt.alloc(), &case) {
-        let _ = eprint!(rt; "{text}");
+    match task.options.form {
+        Form::Text => refuse_at(rt, error, message.as_ref()),
+        Form::Json => {
+            write_refusal(rt, error, message.as_ref());
+            refuse(rt, error)
+        }
     }
 }
 
-/// Writes the refusal and, with `--explain`, where its fault is.
-fn refuse_check<S: Read + Drop>(
-    rt: &HostRuntime,
+/// The message on the fault of a refusal; none where it has no byte range, or memory runs out.
+fn fault_message(
+    alloc: Global,
     task: &Task<'_>,
-    model: &[u8],
-    stream: &Recent<'_, S>,
+    model: &Text<'_>,
+    recent: &RefCell<Recent>,
     error: &CheckError,
-) -> u8 {
-    match error {
-        CheckError::Read => refuse_file(rt, error, task.stream, stream.failure()),
-        _ if !task.options.explains => refuse(rt, error),
-        CheckError::Model(_) | CheckError::Names(_) => {
-            refuse_at(rt, error, task.model, model, NOTHING)
-        }
-        _ => match stream.kept() {
-            Some((bytes, passed)) => refuse_at(rt, error, task.stream, bytes, passed),
-            None => refuse(rt, error),
-        },
+) -> Option<Message> {
+    if let CheckError::Model(_) | CheckError::Names(_) = error {
+        return explanation(alloc, model, error).ok()?;
+    }
+    let recent = recent.try_borrow().ok()?;
+    let (bytes, passed) = recent.kept()?;
+    let stream = Text {
+        name: task.stream,
+        bytes,
+        passed,
+    };
+    explanation(alloc, &stream, error).ok()?
+}
+
+/// Writes the refusal in the place of the answer, unless it was a write that failed.
+fn write_refusal(rt: &HostRuntime, error: &CheckError, message: Option<&Message>) {
+    if let CheckError::Write = error {
+        return;
+    }
+    if let Ok(line) = refusal_line(rt.alloc(), error, message) {
+        let _ = rt.stdout().write_all(&line);
     }
 }

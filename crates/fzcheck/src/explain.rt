@@ -1,38 +1,37 @@
 //! Where the fault of a refusal is, as a message: the file, the line and column, what is wrong, and
 //! the line with the fault marked.
 
-use fz_check::{BlockError, CheckError, ModelError, StreamError, SyntaxError, refusal_place};
-use fz_explanation::source_behind;
+use fz_check::{BlockError, CheckError, ModelError, StreamError, SyntaxError, Told, refusal_fault};
+use fz_explain::{Message, Text, message_at};
 use fz_files::{Passed, count_blocks};
-use fz_message::{message_at, message_text};
 use std::alloc::{AllocError, Global};
 
-/// The message of a refusal in a source that has this name and, behind what has passed, these
-/// bytes. There is none where the refusal has no byte range.
+/// The message of a refusal in a text. There is none where the refusal has no byte range.
 ///
 /// # Errors
 ///
 /// Out of memory.
 pub fn explanation(
     alloc: Global,
-    name: &str,
-    bytes: &[u8],
-    passed: Passed,
+    text: &Text<'_>,
     error: &CheckError,
-) -> Result<Option<String>, AllocError> {
-    let Some(place) = refusal_place(error) else {
-        return Ok(None);
+) -> Result<Option<Message>, AllocError> {
+    let place = match refusal_fault(error) {
+        Some(
+            Told {
+                place: Some(place),
+                ..
+            },
+        ) => place,
+        _ => return Ok(None),
     };
-    let start = place.start.saturating_sub(passed.bytes);
-    let before = bytes.get(..start).unwrap_or(bytes);
-    let said = match block_number(before, passed, error) {
+    let start = place.start.saturating_sub(text.passed.bytes);
+    let before = text.bytes.get(..start).unwrap_or(text.bytes);
+    let said = match block_number(before, text.passed, error) {
         Some(number) => format!(in alloc; "{}, in block {}", meaning(error), number)?,
         None => String::from_str(alloc, meaning(error))?,
     };
-    match message_at(alloc, &source_behind(name, bytes, passed), place, said)? {
-        Some(message) => Ok(Some(message_text(alloc, &message)?)),
-        None => Ok(None),
-    }
+    message_at(alloc, text, place, said)
 }
 
 /// The number of the block that a fault is in, where it is a fault of the stream.

@@ -1,14 +1,16 @@
 //! The program `fzcheck`: what its commands do, its refusals and exit status. The verdicts and the
-//! texts that it shows are by `fz_check`; what stands behind a verdict is by `fz_explanation`,
-//! which reads the block again.
+//! texts that it shows are by `fz_check`; what stands behind a verdict is by `fz_explain`.
 //!
 //! Tests are in `tests/program.sh` and `tests/explained`.
 #![tactic(auto)]
 
 mod check;
 mod explain;
+mod json;
 mod refuse;
 mod show;
+mod teller;
+mod waiting;
 
 use check::check_files;
 use fz_check::CheckError;

@@ -1,9 +1,9 @@
 //! What the program writes to standard error where it refuses, and the exit status then.
 
-use crate::explain::explanation;
 use fz_check::{CheckError, refusal_text, status};
 use fz_command::USAGE;
-use fz_files::{Passed, ReadError};
+use fz_explain::Message;
+use fz_files::ReadError;
 use std::io;
 use std::io::Write;
 
@@ -49,18 +49,12 @@ fn is_told(told: u8, error: &CheckError) -> bool {
     told == status(&Err(*error))
 }
 
-/// Writes the line of a refusal, and where its fault is in the source that has this name and,
-/// behind what has passed, these bytes.
-pub fn refuse_at(
-    rt: &HostRuntime,
-    error: &CheckError,
-    name: &str,
-    bytes: &[u8],
-    passed: Passed,
-) -> u8 {
+/// Writes the line of a refusal, and the message on its fault, where there is one.
+pub fn refuse_at(rt: &HostRuntime, error: &CheckError, message: Option<&Message>) -> u8 {
     let told = refuse(rt, error);
     if is_told(told, error)
-        && let Ok(Some(text)) = explanation(rt.alloc(), name, bytes, passed, error)
+        && let Some(message) = message
+        && let Ok(text) = message.text(rt.alloc())
     {
         let _ = eprint!(rt; "{text}");
     }

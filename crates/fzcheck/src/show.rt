@@ -4,8 +4,7 @@ use crate::refuse::{refuse, refuse_file, unread};
 use crate::{MOST_BYTES, SHOWN};
 use fz_check::{CheckError, show, show_printing_all};
 use fz_command::Printing;
-use fz_files::{Recent, read_up_to};
-use std::cell::Cell;
+use fz_files::{Recorder, read_up_to};
 use std::io::Write;
 use std::{fs, io};
 
@@ -15,8 +14,7 @@ pub fn show_file(rt: &HostRuntime, name: &str, printing: Printing) -> u8 {
         Ok(file) => file,
         Err(failure) => return refuse_file(rt, &CheckError::Read, name, Some(&failure)),
     };
-    let nothing = Cell::new(0);
-    let mut reader = Recent::new(rt.alloc(), file, false, &nothing);
+    let mut reader = Recorder::new(file, None);
     match read_up_to(rt.alloc(), &mut reader, MOST_BYTES) {
         Ok(model) => show_bytes(rt, &model, printing),
         Err(error) => refuse_file(rt, &unread(error), name, reader.failure()),

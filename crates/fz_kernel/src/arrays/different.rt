@@ -1,6 +1,6 @@
 // Whether elements are all different.
 ghost use Rattle.std.specs.Prelude.{◌≡◌, ◌≤◌, drop, length, IfOk};
-ghost use Rattle.fz_meaning.specs.Builtins.{is_among, all_different};
+ghost use Rattle.fz_meaning.specs.Relations.{is_among, all_different};
 ghost use Rattle.fz_arguments.specs.Views.{ints};
 
 use crate::distinct::all_different;

@@ -1,7 +1,6 @@
 // The element at an index.
 ghost use Rattle.std.specs.Prelude.{◌≡◌, ◌+◌, ◌≤◌, ◌<◌, ℕ, pos, IfSome, IfNone, option_map};
-ghost use Rattle.fz_meaning.specs.Values.{◌=ℤ◌, ◌=ᴮ◌, ◌=ˢ◌};
-ghost use Rattle.fz_meaning.specs.Builtins.{element_at, is_element};
+ghost use Rattle.fz_meaning.specs.Relations.{◌=ℤ◌, ◌=ᴮ◌, ◌=ˢ◌, element_at, is_element};
 ghost use Rattle.fz_arguments.specs.Views.{ints, bools, sets};
 
 use crate::sets::same_set;

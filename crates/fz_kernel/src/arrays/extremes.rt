@@ -1,7 +1,7 @@
 // The greatest and the least element.
 ghost use Rattle.std.specs.Prelude.{◌≡◌, true, [], ◌&&◌, int_le, IfSome, IfNone};
 ghost use Rattle.std.specs.List.{list_all};
-ghost use Rattle.fz_meaning.specs.Builtins.{is_among};
+ghost use Rattle.fz_meaning.specs.Relations.{is_among};
 ghost use Rattle.fz_arguments.specs.Views.{ints};
 
 use fz_arguments::Elements;

@@ -1,6 +1,7 @@
 // Sums over arrays.
 ghost use Rattle.std.specs.Prelude.{◌≡◌, true, false, IfSome, IfNone};
-ghost use Rattle.fz_meaning.specs.Builtins.{total, products, where_true, leaves_128};
+ghost use Rattle.fz_meaning.specs.Relations.{total, products, where_true};
+ghost use Rattle.fz_meaning.specs.States.{leaves_128};
 ghost use Rattle.fz_arguments.specs.Views.{ints, bools};
 
 use crate::numbers::product;

@@ -1,7 +1,7 @@
 // Booleans in arrays.
-ghost use Rattle.std.specs.Prelude.{◌≡◌, not, ◌||◌, length};
+ghost use Rattle.std.specs.Prelude.{◌≡◌, not, length};
 ghost use Rattle.std.specs.List.{list_all, list_any, filter};
-ghost use Rattle.fz_meaning.specs.Builtins.{is_odd};
+ghost use Rattle.fz_meaning.specs.Relations.{is_odd};
 ghost use Rattle.fz_arguments.specs.Views.{bools};
 
 use fz_arguments::Elements;
@@ -53,12 +53,4 @@ pub fn odd_number_true(elements: &Elements) -> bool
         }
     }
     odd
-}
-
-/// Whether one of the first list is true, or one of the second false.
-pub fn clause_holds(positive: &Elements, negative: &Elements) -> bool
-    ensures exact { result ≡ (list_any (λ x. x) (bools positive.now)
-        || list_any (λ x. not x) (bools negative.now)) }
-{
-    any_true(positive) || any_false(negative)
 }

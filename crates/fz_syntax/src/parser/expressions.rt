@@ -6,7 +6,7 @@ ghost use Rattle.fz_syntax.specs.Outcome.{Gives, IsListed};
 ghost use Rattle.fz_syntax.specs.Reading.{mark_at, whole_at, is_whole, begins_literal, begins_basic, at_most, separated_at, braces_at, from_whole, literal_at, basic_at, expr_list_at, expr_at, list_at, literal_basic_at};
 ghost use Rattle.fz_lex.specs.Token.{Whole, Marked};
 ghost use Rattle.fz_lex.specs.declared.token.Mark.TheVariants.{CloseBracket, Comma};
-ghost use Rattle.fz_tree.specs.Shape.{the_limits};
+ghost use Rattle.fz_tree.specs.Text.{the_limits};
 ghost use Rattle.fz_syntax.specs.Placed.{placed_mark, placed_separated, placed_literal, placed_basic, placed_expr};
 ghost use Rattle.fz_syntax.specs.Walk.{Passed, Walk, placed_listed, lexemes};
 

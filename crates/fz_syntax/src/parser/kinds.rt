@@ -6,7 +6,7 @@ ghost use Rattle.fz_syntax.specs.Outcome.{plain_token, plain_kind};
 ghost use Rattle.fz_syntax.specs.Reading.{is_float, is_name, begins_index, begins_literal, is_quoted, may_lack_value, begins_decl};
 ghost use Rattle.fz_syntax.specs.ReadingItems.{dimensions_of, token_dimensions};
 ghost use Rattle.fz_syntax.specs.Words.{may_be_reserved};
-ghost use Rattle.fz_tree.specs.Shape.{is_one_of, type_words, item_words, truth_words, is_reserved};
+ghost use Rattle.fz_tree.specs.Text.{is_one_of, type_words, item_words, truth_words, is_reserved};
 
 use fz_lex::{Mark, Token, TokenKind};
 use fz_tree::LiteralKind;

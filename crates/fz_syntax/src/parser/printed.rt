@@ -5,7 +5,7 @@ ghost use Rattle.fz_tree.specs.View.{bare_literal, bare_printed_value, bare_prin
 ghost use Rattle.fz_syntax.specs.Outcome.{Gives};
 ghost use Rattle.fz_syntax.specs.Reading.{any_number, at_most, separated_at, begins_literal, literal_at, many_at, is_name};
 ghost use Rattle.fz_syntax.specs.ReadingItems.{next_dimensions, index_set_at, index_sets_at, elements_at, printed_array_at, printed_value_at, printed_at};
-ghost use Rattle.fz_tree.specs.Shape.{the_limits};
+ghost use Rattle.fz_tree.specs.Text.{the_limits};
 ghost use Rattle.fz_syntax.specs.Placed.{placed_mark, placed_word, placed_separated, placed_literal, placed_indexes, placed_printed_value, placed_printed, placed_items};
 ghost use Rattle.fz_lex.specs.declared.token.Mark.TheVariants.{CloseBracket, Comma};
 ghost use Rattle.fz_tree.specs.Tokens.{array_word};
@@ -13,7 +13,6 @@ ghost use Rattle.fz_syntax.specs.Walk.{Passed, Walk, lexemes};
 
 use crate::parser::cursor::{MAX_ELEMENTS, Parser};
 use crate::parser::kinds::dimensions;
-use crate::parser::lists::trimmed;
 use crate::parser::refusal::Refusal;
 use fz_lex::Mark;
 use fz_tree::{Literal, Printed, PrintedValue};
@@ -67,7 +66,7 @@ impl<'a> Parser<'a> {
             let set = self.index_set()?;
             sets.push(set)?;
         }
-        Ok(trimmed(self.alloc, sets))
+        Ok(sets)
     }
 
     /// An element of a list that has `count` elements so far.
@@ -105,7 +104,7 @@ impl<'a> Parser<'a> {
             let element = self.listed_element(elements.len())?;
             elements.push(element)?;
             if !self.eat(Mark::Comma) {
-                return Ok(trimmed(self.alloc, elements));
+                return Ok(elements);
             }
         }
     }
@@ -192,6 +191,6 @@ impl<'a> Parser<'a> {
             let item = self.printed()?;
             items.push(item)?;
         }
-        Ok(trimmed(self.alloc, items))
+        Ok(items)
     }
 }

@@ -66,10 +66,6 @@ pub returns-in-ArrayIntElement : goal.returns-in-ArrayIntElement
 unfolding row_outcome row_at
 returns-in-ArrayIntElement c = arm builtin.ArrayIntElement c.args.view.now c.in-ArrayIntElement.is (ap Truth c.int_element.ensures)
 
-pub returns-in-ArrayVarIntElement : goal.returns-in-ArrayVarIntElement
-unfolding row_outcome row_at
-returns-in-ArrayVarIntElement c = arm builtin.ArrayVarIntElement c.args.view.now c.in-ArrayVarIntElement.is (ap Truth c.int_element-in-ArrayVarIntElement.ensures)
-
 pub returns-in-ArrayIntMaximum : goal.returns-in-ArrayIntMaximum
 unfolding row_outcome row_at
 returns-in-ArrayIntMaximum c = arm builtin.ArrayIntMaximum c.args.view.now c.in-ArrayIntMaximum.is (ap Truth c.int_maximum.ensures)
@@ -81,14 +77,6 @@ returns-in-ArrayIntMinimum c = arm builtin.ArrayIntMinimum c.args.view.now c.in-
 pub returns-in_ok-int_all_different-in-FznAllDifferentInt : goal.returns-in_ok-int_all_different-in-FznAllDifferentInt
 unfolding row_outcome row_at
 returns-in_ok-int_all_different-in-FznAllDifferentInt c = arm builtin.FznAllDifferentInt c.args.view.now c.in-FznAllDifferentInt.is (ap Truth c.in_ok-int_all_different-in-FznAllDifferentInt.ensures)
-
-pub returns-in_ok-int_all_different-in-GecodeAllDifferentInt : goal.returns-in_ok-int_all_different-in-GecodeAllDifferentInt
-unfolding row_outcome row_at
-returns-in_ok-int_all_different-in-GecodeAllDifferentInt c = arm builtin.GecodeAllDifferentInt c.args.view.now c.in-GecodeAllDifferentInt.is (ap Truth c.in_ok-int_all_different-in-GecodeAllDifferentInt.ensures)
-
-pub returns-in_ok-int_all_different-in-GeasAllDifferentInt : goal.returns-in_ok-int_all_different-in-GeasAllDifferentInt
-unfolding row_outcome row_at
-returns-in_ok-int_all_different-in-GeasAllDifferentInt c = arm builtin.GeasAllDifferentInt c.args.view.now c.in-GeasAllDifferentInt.is (ap Truth c.in_ok-int_all_different-in-GeasAllDifferentInt.ensures)
 
 pub returns-in-BoolEq : goal.returns-in-BoolEq
 unfolding row_outcome row_at
@@ -133,10 +121,6 @@ returns-in-ArrayBoolXor c = arm builtin.ArrayBoolXor c.args.view.now c.in-ArrayB
 pub returns-in-ArrayBoolElement : goal.returns-in-ArrayBoolElement
 unfolding row_outcome row_at
 returns-in-ArrayBoolElement c = arm builtin.ArrayBoolElement c.args.view.now c.in-ArrayBoolElement.is (ap Truth c.bool_element.ensures)
-
-pub returns-in-ArrayVarBoolElement : goal.returns-in-ArrayVarBoolElement
-unfolding row_outcome row_at
-returns-in-ArrayVarBoolElement c = arm builtin.ArrayVarBoolElement c.args.view.now c.in-ArrayVarBoolElement.is (ap Truth c.bool_element-in-ArrayVarBoolElement.ensures)
 
 pub returns-in-BoolClause : goal.returns-in-BoolClause
 unfolding row_outcome row_at
@@ -198,33 +182,17 @@ pub returns-in-ArraySetElement : goal.returns-in-ArraySetElement
 unfolding row_outcome row_at
 returns-in-ArraySetElement c = arm builtin.ArraySetElement c.args.view.now c.in-ArraySetElement.is (ap Truth c.set_element.ensures)
 
-pub returns-in-ArrayVarSetElement : goal.returns-in-ArrayVarSetElement
-unfolding row_outcome row_at
-returns-in-ArrayVarSetElement c = arm builtin.ArrayVarSetElement c.args.view.now c.in-ArrayVarSetElement.is (ap Truth c.set_element-in-ArrayVarSetElement.ensures)
-
 pub returns-in_ok-different_but_zeros-in-FznAlldifferentExcept0 : goal.returns-in_ok-different_but_zeros-in-FznAlldifferentExcept0
 unfolding row_outcome row_at
 returns-in_ok-different_but_zeros-in-FznAlldifferentExcept0 c = arm builtin.FznAlldifferentExcept0 c.args.view.now c.in-FznAlldifferentExcept0.is (ap Truth c.in_ok-different_but_zeros-in-FznAlldifferentExcept0.ensures)
-
-pub returns-in_ok-different_but_zeros-in-GeasAllDifferentExcept0 : goal.returns-in_ok-different_but_zeros-in-GeasAllDifferentExcept0
-unfolding row_outcome row_at
-returns-in_ok-different_but_zeros-in-GeasAllDifferentExcept0 c = arm builtin.GeasAllDifferentExcept0 c.args.view.now c.in-GeasAllDifferentExcept0.is (ap Truth c.in_ok-different_but_zeros-in-GeasAllDifferentExcept0.ensures)
 
 pub returns-in-FznAllEqualInt : goal.returns-in-FznAllEqualInt
 unfolding row_outcome row_at
 returns-in-FznAllEqualInt c = arm builtin.FznAllEqualInt c.args.view.now c.in-FznAllEqualInt.is (ap Truth c.all_equal_int.ensures)
 
-pub returns-in-Count : goal.returns-in-Count
-unfolding row_outcome row_at
-returns-in-Count c = arm builtin.Count c.args.view.now c.in-Count.is (ap Truth c.count_eq.ensures)
-
-pub returns-in-GecodeCount : goal.returns-in-GecodeCount
-unfolding row_outcome row_at
-returns-in-GecodeCount c = arm builtin.GecodeCount c.args.view.now c.in-GecodeCount.is (ap Truth c.count_eq-in-GecodeCount.ensures)
-
 pub returns-in-FznCountEq : goal.returns-in-FznCountEq
 unfolding row_outcome row_at
-returns-in-FznCountEq c = arm builtin.FznCountEq c.args.view.now c.in-FznCountEq.is (ap Truth c.count_eq-in-FznCountEq.ensures)
+returns-in-FznCountEq c = arm builtin.FznCountEq c.args.view.now c.in-FznCountEq.is (ap Truth c.count_eq.ensures)
 
 pub returns-in-FznCountNeq : goal.returns-in-FznCountNeq
 unfolding row_outcome row_at
@@ -290,10 +258,6 @@ pub returns-in-FznCumulative : goal.returns-in-FznCumulative
 unfolding row_outcome row_at
 returns-in-FznCumulative c = arm builtin.FznCumulative c.args.view.now c.in-FznCumulative.is (ap Truth c.cumulative.ensures)
 
-pub returns-in-Cumulatives : goal.returns-in-Cumulatives
-unfolding row_outcome row_at
-returns-in-Cumulatives c = arm builtin.Cumulatives c.args.view.now c.in-Cumulatives.is (ap Truth c.cumulative-in-Cumulatives.ensures)
-
 pub returns-in-FznDisjunctive : goal.returns-in-FznDisjunctive
 unfolding row_outcome row_at
 returns-in-FznDisjunctive c = arm builtin.FznDisjunctive c.args.view.now c.in-FznDisjunctive.is (ap Truth c.disjunctive.ensures)
@@ -318,10 +282,6 @@ pub returns-in-GecodeCircuit : goal.returns-in-GecodeCircuit
 unfolding row_outcome row_at
 returns-in-GecodeCircuit c = arm builtin.GecodeCircuit c.args.view.now c.in-GecodeCircuit.is (ap Truth c.circuit.ensures)
 
-pub returns-in-FzcheckCircuit : goal.returns-in-FzcheckCircuit
-unfolding row_outcome row_at
-returns-in-FzcheckCircuit c = arm builtin.FzcheckCircuit c.args.view.now c.in-FzcheckCircuit.is (ap Truth c.circuit-in-FzcheckCircuit.ensures)
-
 pub returns-in_ok-subcircuit-in-FzcheckSubcircuit : goal.returns-in_ok-subcircuit-in-FzcheckSubcircuit
 unfolding row_outcome row_at
 returns-in_ok-subcircuit-in-FzcheckSubcircuit c = arm builtin.FzcheckSubcircuit c.args.view.now c.in-FzcheckSubcircuit.is (ap Truth c.in_ok-subcircuit-in-FzcheckSubcircuit.ensures)
@@ -330,21 +290,9 @@ pub returns-in-InverseOffsets : goal.returns-in-InverseOffsets
 unfolding row_outcome row_at
 returns-in-InverseOffsets c = arm builtin.InverseOffsets c.args.view.now c.in-InverseOffsets.is (ap Truth c.inverse.ensures)
 
-pub returns-in-GecodeInverseOffsets : goal.returns-in-GecodeInverseOffsets
-unfolding row_outcome row_at
-returns-in-GecodeInverseOffsets c = arm builtin.GecodeInverseOffsets c.args.view.now c.in-GecodeInverseOffsets.is (ap Truth c.inverse-in-GecodeInverseOffsets.ensures)
-
 pub returns-in-FznTableInt : goal.returns-in-FznTableInt
 unfolding row_outcome row_at
 returns-in-FznTableInt c = arm builtin.FznTableInt c.args.view.now c.in-FznTableInt.is (ap Truth c.table_int.ensures)
-
-pub returns-in-GecodeTableInt : goal.returns-in-GecodeTableInt
-unfolding row_outcome row_at
-returns-in-GecodeTableInt c = arm builtin.GecodeTableInt c.args.view.now c.in-GecodeTableInt.is (ap Truth c.table_int-in-GecodeTableInt.ensures)
-
-pub returns-in-GeasTableInt : goal.returns-in-GeasTableInt
-unfolding row_outcome row_at
-returns-in-GeasTableInt c = arm builtin.GeasTableInt c.args.view.now c.in-GeasTableInt.is (ap Truth c.table_int-in-GeasTableInt.ensures)
 
 pub returns-in-FznTableBool : goal.returns-in-FznTableBool
 unfolding row_outcome row_at
@@ -354,10 +302,6 @@ pub returns-in-FznRegular : goal.returns-in-FznRegular
 unfolding row_outcome row_at
 returns-in-FznRegular c = arm builtin.FznRegular c.args.view.now c.in-FznRegular.is (ap Truth c.regular.ensures)
 
-pub returns-in-GecodeRegular : goal.returns-in-GecodeRegular
-unfolding row_outcome row_at
-returns-in-GecodeRegular c = arm builtin.GecodeRegular c.args.view.now c.in-GecodeRegular.is (ap Truth c.regular-in-GecodeRegular.ensures)
-
 pub returns-in-FznBinPacking : goal.returns-in-FznBinPacking
 unfolding row_outcome row_at
 returns-in-FznBinPacking c = arm builtin.FznBinPacking c.args.view.now c.in-FznBinPacking.is (ap Truth c.bin_packing.ensures)
@@ -366,41 +310,21 @@ pub returns-in-GecodeBinPackingLoad : goal.returns-in-GecodeBinPackingLoad
 unfolding row_outcome row_at
 returns-in-GecodeBinPackingLoad c = arm builtin.GecodeBinPackingLoad c.args.view.now c.in-GecodeBinPackingLoad.is (ap Truth c.bin_packing_load.ensures)
 
-pub returns-in-FzcheckBinPackingLoad : goal.returns-in-FzcheckBinPackingLoad
-unfolding row_outcome row_at
-returns-in-FzcheckBinPackingLoad c = arm builtin.FzcheckBinPackingLoad c.args.view.now c.in-FzcheckBinPackingLoad.is (ap Truth c.bin_packing_load-in-FzcheckBinPackingLoad.ensures)
-
 pub returns-in-FznLexLessInt : goal.returns-in-FznLexLessInt
 unfolding row_outcome row_at
 returns-in-FznLexLessInt c = arm builtin.FznLexLessInt c.args.view.now c.in-FznLexLessInt.is (ap Truth c.lex_less_int.ensures)
-
-pub returns-in-GecodeArrayIntLt : goal.returns-in-GecodeArrayIntLt
-unfolding row_outcome row_at
-returns-in-GecodeArrayIntLt c = arm builtin.GecodeArrayIntLt c.args.view.now c.in-GecodeArrayIntLt.is (ap Truth c.lex_less_int-in-GecodeArrayIntLt.ensures)
 
 pub returns-in-FznLexLesseqInt : goal.returns-in-FznLexLesseqInt
 unfolding row_outcome row_at
 returns-in-FznLexLesseqInt c = arm builtin.FznLexLesseqInt c.args.view.now c.in-FznLexLesseqInt.is (ap Truth c.lex_lesseq_int.ensures)
 
-pub returns-in-GecodeArrayIntLq : goal.returns-in-GecodeArrayIntLq
-unfolding row_outcome row_at
-returns-in-GecodeArrayIntLq c = arm builtin.GecodeArrayIntLq c.args.view.now c.in-GecodeArrayIntLq.is (ap Truth c.lex_lesseq_int-in-GecodeArrayIntLq.ensures)
-
 pub returns-in-FznLexLessBool : goal.returns-in-FznLexLessBool
 unfolding row_outcome row_at
 returns-in-FznLexLessBool c = arm builtin.FznLexLessBool c.args.view.now c.in-FznLexLessBool.is (ap Truth c.lex_less_bool.ensures)
 
-pub returns-in-GecodeArrayBoolLt : goal.returns-in-GecodeArrayBoolLt
-unfolding row_outcome row_at
-returns-in-GecodeArrayBoolLt c = arm builtin.GecodeArrayBoolLt c.args.view.now c.in-GecodeArrayBoolLt.is (ap Truth c.lex_less_bool-in-GecodeArrayBoolLt.ensures)
-
 pub returns-in-FznLexLesseqBool : goal.returns-in-FznLexLesseqBool
 unfolding row_outcome row_at
 returns-in-FznLexLesseqBool c = arm builtin.FznLexLesseqBool c.args.view.now c.in-FznLexLesseqBool.is (ap Truth c.lex_lesseq_bool.ensures)
-
-pub returns-in-GecodeArrayBoolLq : goal.returns-in-GecodeArrayBoolLq
-unfolding row_outcome row_at
-returns-in-GecodeArrayBoolLq c = arm builtin.GecodeArrayBoolLq c.args.view.now c.in-GecodeArrayBoolLq.is (ap Truth c.lex_lesseq_bool-in-GecodeArrayBoolLq.ensures)
 
 pub returns-in-FznIncreasingInt : goal.returns-in-FznIncreasingInt
 unfolding row_outcome row_at
@@ -481,7 +405,3 @@ returns-in-FznDisjoint c = arm builtin.FznDisjoint c.args.view.now c.in-FznDisjo
 pub returns-in_ok-partition_set-in-FznPartitionSet : goal.returns-in_ok-partition_set-in-FznPartitionSet
 unfolding row_outcome row_at
 returns-in_ok-partition_set-in-FznPartitionSet c = arm builtin.FznPartitionSet c.args.view.now c.in-FznPartitionSet.is (ap Truth c.in_ok-partition_set-in-FznPartitionSet.ensures)
-
-pub returns-in_ok-partition_set-in-GecodeArraySetPartition : goal.returns-in_ok-partition_set-in-GecodeArraySetPartition
-unfolding row_outcome row_at
-returns-in_ok-partition_set-in-GecodeArraySetPartition c = arm builtin.GecodeArraySetPartition c.args.view.now c.in-GecodeArraySetPartition.is (ap Truth c.in_ok-partition_set-in-GecodeArraySetPartition.ensures)

@@ -1,5 +1,5 @@
 use Rattle.std.proofs.Common.{◌≡◌, IfOk, subst}
-use Rattle.fz_meaning.specs.Globals.{counts_lie}
+use Rattle.fz_meaning.specs.Relations.{counts_lie}
 use Rattle.fz_globals.specs.of_view.Views.{arguments_of, assigned}
 use Rattle.fz_builtins.proofs.ElementReadings.{ints_are}
 use Rattle.fz_builtins.proofs.covers.cardinality_between.Goals as goal

@@ -1,20 +1,22 @@
-use Rattle.std.proofs.Common.{◌≡◌, ◌∙◌, sym}
-use Rattle.fz_check.specs.declared.error.CheckError.TheVariants as errors
-use Rattle.fz_check.proofs.Judging.{first_fault, at_index, judged_all, judged_more}
+use Rattle.fz_check.specs.View.{answer_view}
+use Rattle.fz_check.proofs.JuryLemmas.{judged_by}
+use Rattle.fz_check.proofs.PassingLemmas.{at_index, judged_all, judged_first, judged_next, refuses_next}
 use Rattle.fz_check.proofs.checking.judge_blocks.Goals as goal
+
+pub loop-place-init : goal.loop-place-init
+loop-place-init c = judged_first c.args.model.now c.args.blocks.now c.args.claims.now c.in_ok-rest.rest.now c.new-jury.result c.new-entries.result.items c.push_claims.new.entries.items (judged_by c.new-jury.result _ _ c.new-jury.ensures.judge c.new-jury.ensures.tally) c.new-entries.ensures.items c.in_ok-rest.ensures
 
 pub loop-place-preserved : goal.loop-place-preserved
 loop-place-preserved c =
-    judged_more c.args.model.now c.args.blocks.now c.loop-place.place c.loop-place.judge c.judge.new.self c.loop-place.verdicts.items c.push.new.self.items c.index-blocks-place.result c.in-Ok.verdict
-    c.loop-place-test.true c.index-blocks-place.is c.loop-place.invariant c.in-Ok.ensures.judged c.judge.ensures.same_model c.judge.ensures.same_completion c.in_ok-push-in-Ok.ensures.items
+    judged_next c.args.model.now c.args.blocks.now c.args.claims.now c.loop-place.place c.loop-place.jury c.loop-place.entries.items c.loop-place.rest.now c.loop-place.invariant c.index-blocks-place.result c.loop-place-test.true c.index-blocks-place.is
+    c.judge.new.self c.in-Ok.verdict c.push.new.self.items c.push_claims-in-loop-place.new.entries.items c.in_ok-rest-2.rest.now c.in-Ok.ensures.judged c.in_ok-push-in-Ok.ensures.items c.in_ok-rest-2.ensures
 
-pub returns-in-Err-clause-block : goal.returns-in-Err-clause-block
-returns-in-Err-clause-block c = λ n e same.
-    let met : c.block_refusal.result ≡ errors.Block n e = cc in
-    first_fault c.args.model.now c.args.blocks.now c.loop-place.place c.loop-place.judge c.loop-place.verdicts.items c.index-blocks-place.result c.in-Err.error c.loop-place-test.true c.index-blocks-place.is
-    c.loop-place.invariant (c.in-Err.ensures.refused
-    (at_index _ c.args.blocks.now c.loop-place.place c.index-blocks-place.result c.requires.places c.loop-place-test.true c.index-blocks-place.is)
-    (at_index _ c.args.blocks.now c.loop-place.place c.index-blocks-place.result c.requires.within c.loop-place-test.true c.index-blocks-place.is)) n e (sym c.block_refusal.ensures ∙ met)
+pub returns-in-Err-clause-refused : goal.returns-in-Err-clause-refused
+returns-in-Err-clause-refused c =
+    refuses_next c.args.model.now c.args.blocks.now c.args.claims.now c.loop-place.place c.loop-place.jury c.loop-place.entries.items c.loop-place.rest.now c.loop-place.invariant c.index-blocks-place.result c.loop-place-test.true c.index-blocks-place.is
+    _ c.in-Err.error c.in-Err.ensures.refused (at_index _ c.args.blocks.now c.loop-place.place c.index-blocks-place.result c.requires.places c.loop-place-test.true c.index-blocks-place.is)
+    (at_index _ c.args.blocks.now c.loop-place.place c.index-blocks-place.result c.requires.within c.loop-place-test.true c.index-blocks-place.is)
 
-pub returns-clause-judged : goal.returns-clause-judged
-returns-clause-judged c = judged_all c.args.model.now c.args.blocks.now c.loop-place.place c.loop-place.judge c.loop-place.verdicts.items c.loop-place-test.false c.loop-place.invariant
+pub returns-clause-report : goal.returns-clause-report
+returns-clause-report c =
+    judged_all c.args.model.now c.args.blocks.now c.args.claims.now c.loop-place.place c.loop-place.jury c.loop-place.entries.items c.loop-place.rest.now c.loop-place.invariant (answer_view c.answer.result) c.loop-place-test.false c.requires.places c.answer.ensures

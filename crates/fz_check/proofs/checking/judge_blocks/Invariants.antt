@@ -1,5 +1,5 @@
-use Rattle.fz_check.proofs.Judging.{JudgedSoFar}
+use Rattle.fz_check.proofs.PassingLemmas.{JudgedSoFar}
 use Rattle.fz_check.proofs.checking.judge_blocks.Given as goal
 
 abbrev pub invariant-loop-place : goal.invariant-loop-place
-invariant-loop-place l = JudgedSoFar l.model l.blocks l.place l.judge l.verdicts.items
+invariant-loop-place l = JudgedSoFar l.model l.blocks l.claims l.place l.jury l.entries.items l.rest

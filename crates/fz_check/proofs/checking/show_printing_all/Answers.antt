@@ -1,13 +1,5 @@
-use Rattle.std.proofs.Common.{◌≡◌, ◌∙◌, ap, Err}
-use Rattle.fz_check.specs.declared.error.CheckError.TheVariants as errors
 use Rattle.fz_check.proofs.Showing.{shown_printing_all}
 use Rattle.fz_check.proofs.checking.show_printing_all.Goals as goal
-
-pub returns-in-Err-clause-model : goal.returns-in-Err-clause-model
-returns-in-Err-clause-model c = λ e same. (let told : c.in-Err.error ≡ errors.Model e = cc in c.read_sound_tree.ensures.model e (c.in-Err.is ∙ ap Err told))
-
-pub returns-in-Err-clause-names : goal.returns-in-Err-clause-names
-returns-in-Err-clause-names c = λ e same. (let told : c.in-Err.error ≡ errors.Names e = cc in c.read_sound_tree.ensures.names e (c.in-Err.is ∙ ap Err told))
 
 pub returns-clause-shown : goal.returns-clause-shown
 returns-clause-shown c =

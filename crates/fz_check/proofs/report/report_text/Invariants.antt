@@ -1,10 +1,7 @@
-use Rattle.std.proofs.Common.{map, take, vec_len}
-use Rattle.fz_streaming.specs.of_stream.Found.{AreInOrder}
-use Rattle.fz_streaming.specs.of_judge.View.{verdict_view}
-use Rattle.fz_check.specs.Lines.{IsWritten}
+use Rattle.std.proofs.Common.{◌≡◌, map, take}
+use Rattle.fz_check.specs.Report.{event_line, text_of}
+use Rattle.fz_check.specs.View.{entry_view}
 use Rattle.fz_check.proofs.report.report_text.Given as goal
 
-abbrev pub invariant-loop-place : goal.invariant-loop-place
-invariant-loop-place l =
-    AreInOrder 0 (vec_len l.report.verdicts) l.report.claims.items
-    → IsWritten l.text.items (map verdict_view (take l.place l.report.verdicts.items)) l.report.claims.items l.claims (vec_len l.report.verdicts)
+abbrev pub invariant-loop-entry : goal.invariant-loop-entry
+invariant-loop-entry l = l.text.items ≡ text_of event_line (map entry_view (take l.entry-index l.entry-items))

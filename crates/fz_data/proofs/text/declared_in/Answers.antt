@@ -1,38 +1,35 @@
-use Rattle.std.proofs.Common.{List, [], ◌∷◌, ◌++◌, refl, sym, subst, ◌∙◌}
+use Rattle.std.proofs.Common.{List, [], ◌∷◌, ◌++◌, sym, subst, inr}
 use Rattle.std.proofs.lemmas.List.{map-append}
-use Rattle.std.proofs.lemmas.Result.{err_from_is_err_and}
 use Rattle.fz_meaning.specs.Located.{Decl as Located}
 use Rattle.fz_meaning.specs.View.{located_decl}
+use Rattle.fz_meaning.proofs.Offers.{took_all, took_more, took_none}
 use Rattle.fz_data.specs.Stands.{Declares}
+use Rattle.fz_data.proofs.RestOfText.{told_at_decl}
 use Rattle.fz_data.proofs.text.declared_in.Goals as goal
 
 pub loop-scope-init : goal.loop-scope-init
-loop-scope-init c = record { declared = λ ps none at. ([], at, none); kinds = c.requires.kinds; same = refl }
+loop-scope-init c = record { declared = ([], took_none, c.requires.nothing); kinds = c.requires.kinds }
 
-pub returns-in_err-decl-clause-declared : goal.returns-in_err-decl-clause-declared
-returns-in_err-decl-clause-declared c =
-    let p = err_from_is_err_and c.from_residual.result c.from_residual.ensures.1 in
-    λ ps none at. let o = c.loop-scope.invariant.declared ps none at in rw (p.1, p.2) (rw c.loop-scope.invariant.same at (c.in_err-decl.ensures.offers ps o.0 o.1))
-
-pub returns-in-Err-clause-declared : goal.returns-in-Err-clause-declared
-returns-in-Err-clause-declared c = λ ps none at.
-    let o = c.loop-scope.invariant.declared ps none at in
-    rw (c.in_ok-decl.ensures.source ∙ c.loop-scope.invariant.same) at
-    (c.at_decl.ensures ps o.0 c.in-Some.decl ((rw c.in-Some.is at c.in_ok-decl.ensures.offers) ps o.0 o.1) o.2.clean (c.in-Err.ensures.tells _ o.2))
+pub returns-in-Err-clause-refused : goal.returns-in-Err-clause-refused
+returns-in-Err-clause-refused c =
+    let o = c.loop-scope.invariant.declared in
+    let r = c.in_ok-behind_decl-in-Item.ensures.left in
+    let one = (rw c.in-Item.is at c.in_ok-decl.ensures.offers).0 in
+    inr (record { rest = (o.0 ++ c.in-Item.decl ∷ r.0.0, r.0.1); left = o.1.all_left _ (one.all_left r.0 r.1); tells = told_at_decl o.0 c.in-Item.decl r.0 c.in-Err.fault o.2.clean (c.in-Err.ensures.tells _ o.2) })
 
 pub loop-scope-preserved : goal.loop-scope-preserved
-loop-scope-preserved c = record {
-  declared = λ ps none at.
-      let o = c.loop-scope.invariant.declared ps none at in (
-        o.0 ++ c.in-Some.decl ∷ [],
-        (rw c.in-Some.is at c.in_ok-decl.ensures.offers) ps o.0 o.1,
-        subst (λ (ds : List Located). Declares ds c.take_decl.new.scope) (sym (map-append located_decl o.0 (c.in-Some.decl ∷ []))) (c.in_default-take_decl.ensures.more _ o.2),
+loop-scope-preserved c =
+    let o = c.loop-scope.invariant.declared in
+    record {
+      declared = (
+        o.0 ++ c.in-Item.decl ∷ [],
+        took_more _ _ o.1 (rw c.in-Item.is at c.in_ok-decl.ensures.offers).0,
+        subst (λ (ds : List Located). Declares ds c.take_decl.new.scope) (sym (map-append located_decl o.0 (c.in-Item.decl ∷ []))) (c.in_default.ensures.more _ o.2),
       );
-  kinds = c.in_default-take_decl.ensures.kinds;
-  same = c.in_ok-decl.ensures.source ∙ c.loop-scope.invariant.same;
-}
+      kinds = c.in_default.ensures.kinds;
+    }
 
-pub returns-clause-declared : goal.returns-clause-declared
-returns-clause-declared c = λ ps none at.
-    let o = c.loop-scope.invariant.declared ps none at in
-    record { decls = o.0; offered = (rw c.in_default.is at c.in_ok-decl.ensures.offers) ps o.0 o.1; declares = o.2 }
+pub returns-in-End-clause-declared : goal.returns-in-End-clause-declared
+returns-in-End-clause-declared c =
+    let o = c.loop-scope.invariant.declared in
+    record { decls = o.0; took = took_all _ o.1 (rw c.in-End.is at c.in_ok-decl.ensures.offers); declares = o.2 }

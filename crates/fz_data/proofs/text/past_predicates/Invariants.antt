@@ -1,13 +1,10 @@
-use Rattle.std.proofs.Common.{◌≡◌, List, []}
-use Rattle.fz_meaning.specs.of_syntax.Offering.{AtPredicates, left_of}
+use Rattle.std.proofs.Common.{List}
+use Rattle.fz_meaning.specs.of_syntax.Offering.{Took, from_predicates, left_of}
 use Rattle.fz_meaning.specs.of_syntax.declared.Predicate.{Predicate}
 use Rattle.fz_data.proofs.text.past_predicates.Given as goal
 
-abbrev pub invariant-loop-items : goal.invariant-loop-items
-invariant-loop-items l = record {
-  offered : AtPredicates [] l.fn.items → (ps : List Predicate) × AtPredicates ps l.items;
-  same : l.items.source.now ≡ l.fn.items.source.now;
-}
+abbrev pub invariant-loop-predicate : goal.invariant-loop-predicate
+invariant-loop-predicate l = (taken : List Predicate) × Took from_predicates taken l.fn.items.rest l.items.rest
 
-abbrev pub decreases-loop-items : goal.decreases-loop-items
-decreases-loop-items l = left_of l.items
+abbrev pub decreases-loop-predicate : goal.decreases-loop-predicate
+decreases-loop-predicate l = left_of l.items.rest

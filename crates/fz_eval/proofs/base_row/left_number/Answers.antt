@@ -3,17 +3,17 @@ use Rattle.std.specs.Int.{w128, int_min, int_max}
 use Rattle.std.proofs.lemmas.Int.{to_z-of_z}
 use Rattle.fz_base.specs.declared.value.Value.TheVariants.{Int}
 use Rattle.fz_meaning.specs.declared.kind.Kind.TheVariants.{Int as IntKind}
-use Rattle.fz_meaning.specs.Values.{◌=ℤ◌}
-use Rattle.fz_meaning.specs.Builtins.{total, where_true, as_number}
+use Rattle.fz_meaning.specs.Relations.{◌=ℤ◌, total, where_true, as_number}
 use Rattle.fz_meaning.proofs.Values.{int_itself}
 use Rattle.fz_builtins.specs.of_view.Given.{int_at, ints_at, bools_at}
 use Rattle.fz_builtins.specs.of_view.Views.{arguments_of, assigned, ints}
 use Rattle.fz_meaning.specs.Builtins.{row_at}
-use Rattle.fz_meaning.specs.declared.builtin.Builtin.TheVariants.{IntEq, IntPlus, IntTimes, IntMin, IntMax, IntAbs, IntDiv, IntMod, ArrayIntElement, ArrayVarIntElement, ArrayIntMaximum, ArrayIntMinimum, Bool2Int, BoolLinEq, SetCard}
+use Rattle.fz_meaning.specs.Results.{result_of}
+use Rattle.fz_meaning.specs.declared.builtin.Builtin.TheVariants.{IntEq, IntPlus, IntTimes, IntMin, IntMax, IntAbs, IntDiv, IntMod, ArrayIntElement, ArrayIntMaximum, ArrayIntMinimum, Bool2Int, BoolLinEq, SetCard}
 use Rattle.fz_eval.specs.Left.{IsOfKind, IsLeftNumber}
 use Rattle.fz_eval.proofs.Plain.{element_left, best_left}
 use Rattle.fz_builtins.proofs.ElementReadings.{ints_are, bools_are}
-use Rattle.fz_eval.proofs.RowLemmas.{array_int_element_row, array_int_maximum_row, array_int_minimum_row, array_var_int_element_row, bool2int_number_row, bool_lin_eq_row, from_row, int_abs_row, int_eq_place, int_eq_row, passed, set_card_row, only_place, two_numbers}
+use Rattle.fz_eval.proofs.RowLemmas.{array_int_element_row, array_int_maximum_row, array_int_minimum_row, bool2int_number_row, bool_lin_eq_row, from_row, int_abs_row, int_eq_place, int_eq_row, passed, set_card_row, only_place, two_numbers}
 use Rattle.fz_eval.proofs.RowKinds.{leaves_number, number_rows, not_both}
 use Rattle.fz_eval.proofs.base_row.left_number.Goals as goal
 
@@ -30,37 +30,37 @@ returns-in-IntEq c =
     simp to_z-of_z (from_row K xs i IntKind (Some (Int n)) c.args.builtin IntEq c.in-IntEq.is c.requires.result (λ place. int_eq_row K xs i n place fits c.int.ensures.read))
 
 pub returns-in-IntPlus : goal.returns-in-IntPlus
-unfolding row_at
+unfolding row_at result_of
 returns-in-IntPlus c =
     two_numbers (assigned c.args.view.now) (arguments_of c.args.view.now) c.args.place c.args.builtin IntPlus c.in-IntPlus.is c.requires.result (only_place 2 c.args.place)
     (λ a b n. n =ℤ (a +ℤ b)) c.int-in-IntPlus.result c.int-in-IntPlus-2.result c.plus.result (λ n. refl) (search rules) (search rules) c.int-in-IntPlus.ensures.read c.int-in-IntPlus-2.ensures.read c.plus.ensures
 
 pub returns-in-IntTimes : goal.returns-in-IntTimes
-unfolding row_at
+unfolding row_at result_of
 returns-in-IntTimes c =
     two_numbers (assigned c.args.view.now) (arguments_of c.args.view.now) c.args.place c.args.builtin IntTimes c.in-IntTimes.is c.requires.result (only_place 2 c.args.place)
     (λ a b n. n =ℤ (a *ℤ b)) c.int-in-IntTimes.result c.int-in-IntTimes-2.result c.times.result (λ n. refl) (search rules) (search rules) c.int-in-IntTimes.ensures.read c.int-in-IntTimes-2.ensures.read c.times.ensures
 
 pub returns-in-IntMin : goal.returns-in-IntMin
-unfolding row_at
+unfolding row_at result_of
 returns-in-IntMin c =
     two_numbers (assigned c.args.view.now) (arguments_of c.args.view.now) c.args.place c.args.builtin IntMin c.in-IntMin.is c.requires.result (only_place 2 c.args.place)
     (λ a b n. n =ℤ int_min a b) c.int-in-IntMin.result c.int-in-IntMin-2.result c.least.result (λ n. refl) (search rules) (search rules) c.int-in-IntMin.ensures.read c.int-in-IntMin-2.ensures.read c.least.ensures
 
 pub returns-in-IntMax : goal.returns-in-IntMax
-unfolding row_at
+unfolding row_at result_of
 returns-in-IntMax c =
     two_numbers (assigned c.args.view.now) (arguments_of c.args.view.now) c.args.place c.args.builtin IntMax c.in-IntMax.is c.requires.result (only_place 2 c.args.place)
     (λ a b n. n =ℤ int_max a b) c.int-in-IntMax.result c.int-in-IntMax-2.result c.greatest.result (λ n. refl) (search rules) (search rules) c.int-in-IntMax.ensures.read c.int-in-IntMax-2.ensures.read c.greatest.ensures
 
 pub returns-in-IntDiv : goal.returns-in-IntDiv
-unfolding row_at
+unfolding row_at result_of
 returns-in-IntDiv c =
     two_numbers (assigned c.args.view.now) (arguments_of c.args.view.now) c.args.place c.args.builtin IntDiv c.in-IntDiv.is c.requires.result (only_place 2 c.args.place)
     (λ a b n. not (b =ℤ pos 0) && (n =ℤ int_div a b)) c.int-in-IntDiv.result c.int-in-IntDiv-2.result c.quotient.result (λ n. refl) (search rules) (search rules) c.int-in-IntDiv.ensures.read c.int-in-IntDiv-2.ensures.read c.quotient.ensures
 
 pub returns-in-IntMod : goal.returns-in-IntMod
-unfolding row_at
+unfolding row_at result_of
 returns-in-IntMod c =
     two_numbers (assigned c.args.view.now) (arguments_of c.args.view.now) c.args.place c.args.builtin IntMod c.in-IntMod.is c.requires.result (only_place 2 c.args.place)
     (λ a b n. not (b =ℤ pos 0) && (n =ℤ int_rem a b)) c.int-in-IntMod.result c.int-in-IntMod-2.result c.remainder.result (λ n. refl) (search rules) (search rules) c.int-in-IntMod.ensures.read c.int-in-IntMod-2.ensures.read c.remainder.ensures
@@ -89,21 +89,6 @@ returns-in-ArrayIntElement c =
     from_row K xs i IntKind (option_map Int o) c.args.builtin ArrayIntElement c.in-ArrayIntElement.is c.requires.result
     (λ place. array_int_element_row K xs i n b o place (passed a (int_at K xs 0) a_fits c.int-in-ArrayIntElement.ensures.read)
     (ints_are c.elements.result K xs 1 c.elements.ensures.slots c.elements.ensures.under) (element_left n b o fits c.int_element.ensures.exact))
-
-pub returns-in-ArrayVarIntElement : goal.returns-in-ArrayVarIntElement
-returns-in-ArrayVarIntElement c =
-    let K = assigned c.args.view.now in
-    let xs = arguments_of c.args.view.now in
-    let i = c.args.place in
-    let a = c.int-in-ArrayVarIntElement.result in
-    let a_fits : FitsSigned w64 a = search rules in
-    let n = to_z w64 (of_z w64 a) in
-    let b = ints c.elements-in-ArrayVarIntElement.result in
-    let o = c.int_element-in-ArrayVarIntElement.result in
-    let fits : IfSome o (λ x. FitsSigned w64 x) = search rules in
-    from_row K xs i IntKind (option_map Int o) c.args.builtin ArrayVarIntElement c.in-ArrayVarIntElement.is c.requires.result
-    (λ place. array_var_int_element_row K xs i n b o place (passed a (int_at K xs 0) a_fits c.int-in-ArrayVarIntElement.ensures.read)
-    (ints_are c.elements-in-ArrayVarIntElement.result K xs 1 c.elements-in-ArrayVarIntElement.ensures.slots c.elements-in-ArrayVarIntElement.ensures.under) (element_left n b o fits c.int_element-in-ArrayVarIntElement.ensures.exact))
 
 pub returns-in-ArrayIntMaximum : goal.returns-in-ArrayIntMaximum
 returns-in-ArrayIntMaximum c =
@@ -165,4 +150,4 @@ returns-in-SetCard c =
 pub returns-in_default : goal.returns-in_default
 returns-in_default c =
     absurd (not_both c.args.builtin number_rows (leaves_number c.args.builtin c.args.place c.requires.result c.requires.number)
-    (c.requires.other.0, (c.requires.other.1.0, (c.requires.other.1.1.0, (c.requires.other.1.1.1.0, (c.requires.other.1.1.1.1.0, (c.requires.other.1.1.1.1.1.0, (c.requires.other.1.1.1.1.1.1.0, (c.in_default.not-IntEq, (c.in_default.not-IntPlus, (c.in_default.not-IntTimes, (c.in_default.not-IntMin, (c.in_default.not-IntMax, (c.in_default.not-IntAbs, (c.in_default.not-IntDiv, (c.in_default.not-IntMod, (c.in_default.not-ArrayIntElement, (c.in_default.not-ArrayVarIntElement, (c.in_default.not-ArrayIntMaximum, (c.in_default.not-ArrayIntMinimum, (c.in_default.not-Bool2Int, (c.in_default.not-BoolLinEq, (c.in_default.not-SetCard, tt)))))))))))))))))))))))
+    (c.requires.other.0, (c.requires.other.1.0, (c.requires.other.1.1.0, (c.requires.other.1.1.1.0, (c.requires.other.1.1.1.1.0, (c.in_default.not-IntEq, (c.in_default.not-IntPlus, (c.in_default.not-IntTimes, (c.in_default.not-IntMin, (c.in_default.not-IntMax, (c.in_default.not-IntAbs, (c.in_default.not-IntDiv, (c.in_default.not-IntMod, (c.in_default.not-ArrayIntElement, (c.in_default.not-ArrayIntMaximum, (c.in_default.not-ArrayIntMinimum, (c.in_default.not-Bool2Int, (c.in_default.not-BoolLinEq, (c.in_default.not-SetCard, tt))))))))))))))))))))

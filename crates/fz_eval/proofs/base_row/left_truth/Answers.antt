@@ -3,16 +3,16 @@ use Rattle.std.proofs.Common.{rules, ◌&&◌, ◌||◌, not, Some, option_map, 
 use Rattle.std.specs.List.{list_all, list_any}
 use Rattle.fz_base.specs.declared.value.Value.TheVariants.{Bool as Truth}
 use Rattle.fz_meaning.specs.declared.kind.Kind.TheVariants.{Bool as BoolKind}
-use Rattle.fz_meaning.specs.Values.{◌=ᴮ◌}
+use Rattle.fz_meaning.specs.Relations.{◌=ᴮ◌}
 use Rattle.fz_meaning.proofs.Values.{bool_itself}
 use Rattle.fz_builtins.specs.of_view.Given.{bool_at, int_at}
 use Rattle.fz_builtins.specs.of_view.Views.{arguments_of, assigned, bools}
 use Rattle.fz_meaning.specs.Builtins.{row_at}
-use Rattle.fz_meaning.specs.declared.builtin.Builtin.TheVariants.{BoolEq, BoolNot, BoolAnd, BoolOr, BoolXor, ArrayBoolAnd, ArrayBoolOr, ArrayBoolElement, ArrayVarBoolElement, Bool2Int}
+use Rattle.fz_meaning.specs.declared.builtin.Builtin.TheVariants.{BoolEq, BoolNot, BoolAnd, BoolOr, BoolXor, ArrayBoolAnd, ArrayBoolOr, ArrayBoolElement, Bool2Int}
 use Rattle.fz_eval.specs.Left.{IsOfKind}
 use Rattle.fz_eval.proofs.Plain.{element_of}
 use Rattle.fz_builtins.proofs.ElementReadings.{bools_are}
-use Rattle.fz_eval.proofs.RowLemmas.{array_bool_and_row, array_bool_element_row, array_bool_or_row, array_var_bool_element_row, bool2int_truth_row, bool_and_row, bool_eq_place, bool_eq_row, bool_not_place, bool_not_row, bool_or_row, bool_xor_row, from_row, passed, xor_is}
+use Rattle.fz_eval.proofs.RowLemmas.{array_bool_and_row, array_bool_element_row, array_bool_or_row, bool2int_truth_row, bool_and_row, bool_eq_place, bool_eq_row, bool_not_place, bool_not_row, bool_or_row, bool_xor_row, from_row, passed, xor_is}
 use Rattle.fz_eval.proofs.RowKinds.{leaves_truth, truth_rows, not_both}
 use Rattle.fz_eval.proofs.base_row.left_truth.Goals as goal
 
@@ -107,20 +107,6 @@ returns-in-ArrayBoolElement c =
     (λ place. array_bool_element_row K xs i n b o place (passed a (int_at K xs 0) a_fits c.int.ensures.read)
     (bools_are c.elements-in-ArrayBoolElement.result K xs 1 c.elements-in-ArrayBoolElement.ensures.slots c.elements-in-ArrayBoolElement.ensures.under) (element_of ◌=ᴮ◌ bool_itself n b o c.bool_element.ensures.exact))
 
-pub returns-in-ArrayVarBoolElement : goal.returns-in-ArrayVarBoolElement
-returns-in-ArrayVarBoolElement c =
-    let K = assigned c.args.view.now in
-    let xs = arguments_of c.args.view.now in
-    let i = c.args.place in
-    let a = c.int-in-ArrayVarBoolElement.result in
-    let a_fits : FitsSigned w64 a = search rules in
-    let n = to_z w64 (of_z w64 a) in
-    let b = bools c.elements-in-ArrayVarBoolElement.result in
-    let o = c.bool_element-in-ArrayVarBoolElement.result in
-    from_row K xs i BoolKind (option_map Truth o) c.args.builtin ArrayVarBoolElement c.in-ArrayVarBoolElement.is c.requires.result
-    (λ place. array_var_bool_element_row K xs i n b o place (passed a (int_at K xs 0) a_fits c.int-in-ArrayVarBoolElement.ensures.read)
-    (bools_are c.elements-in-ArrayVarBoolElement.result K xs 1 c.elements-in-ArrayVarBoolElement.ensures.slots c.elements-in-ArrayVarBoolElement.ensures.under) (element_of ◌=ᴮ◌ bool_itself n b o c.bool_element-in-ArrayVarBoolElement.ensures.exact))
-
 pub returns-in-Bool2Int : goal.returns-in-Bool2Int
 returns-in-Bool2Int c =
     let K = assigned c.args.view.now in
@@ -135,4 +121,4 @@ returns-in-Bool2Int c =
 pub returns-in_default : goal.returns-in_default
 returns-in_default c =
     absurd (not_both c.args.builtin truth_rows (leaves_truth c.args.builtin c.args.place c.requires.result c.requires.truth)
-    (c.in_default.not-BoolEq, (c.in_default.not-BoolNot, (c.in_default.not-BoolAnd, (c.in_default.not-BoolOr, (c.in_default.not-BoolXor, (c.in_default.not-ArrayBoolAnd, (c.in_default.not-ArrayBoolOr, (c.in_default.not-ArrayBoolElement, (c.in_default.not-ArrayVarBoolElement, (c.in_default.not-Bool2Int, tt)))))))))))
+    (c.in_default.not-BoolEq, (c.in_default.not-BoolNot, (c.in_default.not-BoolAnd, (c.in_default.not-BoolOr, (c.in_default.not-BoolXor, (c.in_default.not-ArrayBoolAnd, (c.in_default.not-ArrayBoolOr, (c.in_default.not-ArrayBoolElement, (c.in_default.not-Bool2Int, tt))))))))))

@@ -1,25 +1,13 @@
 use Rattle.fz_meaning.specs.declared.builtin.Builtin.TheVariants as builtin
 use Rattle.fz_builtins.specs.of_view.Views.{arguments_of, assigned}
-use Rattle.fz_eval.proofs.CountRows.{counted_as, count_row, gecode_count_row, fzn_count_eq_row, among_row, nvalue_row, maximum_row, minimum_row}
+use Rattle.fz_eval.proofs.CountRows.{counted_as, fzn_count_eq_row, among_row, nvalue_row, maximum_row, minimum_row}
 use Rattle.fz_eval.proofs.counted.counted.Goals as goal
-
-pub returns-in-Count : goal.returns-in-Count
-returns-in-Count c =
-    let K = assigned c.args.view.now in
-    let xs = arguments_of c.args.view.now in
-    counted_as K xs c.args.builtin builtin.Count _ c.of_value.result c.in-Count.is (count_row K xs) c.of_value.ensures
-
-pub returns-in-GecodeCount : goal.returns-in-GecodeCount
-returns-in-GecodeCount c =
-    let K = assigned c.args.view.now in
-    let xs = arguments_of c.args.view.now in
-    counted_as K xs c.args.builtin builtin.GecodeCount _ c.of_value-in-GecodeCount.result c.in-GecodeCount.is (gecode_count_row K xs) c.of_value-in-GecodeCount.ensures
 
 pub returns-in-FznCountEq : goal.returns-in-FznCountEq
 returns-in-FznCountEq c =
     let K = assigned c.args.view.now in
     let xs = arguments_of c.args.view.now in
-    counted_as K xs c.args.builtin builtin.FznCountEq _ c.of_value-in-FznCountEq.result c.in-FznCountEq.is (fzn_count_eq_row K xs) c.of_value-in-FznCountEq.ensures
+    counted_as K xs c.args.builtin builtin.FznCountEq _ c.of_value.result c.in-FznCountEq.is (fzn_count_eq_row K xs) c.of_value.ensures
 
 pub returns-in-FznAmong : goal.returns-in-FznAmong
 returns-in-FznAmong c =

@@ -1,6 +1,6 @@
 use Rattle.std.proofs.Common.{rules, ◌≡◌, ℤ, false, int_le, sym, ◌∙◌, FitsSigned, w64}
 use Rattle.std.proofs.lemmas.Int.{to_z-of_z}
-use Rattle.fz_meaning.specs.Globals.{is_index_of_best}
+use Rattle.fz_meaning.specs.Relations.{is_index_of_best}
 use Rattle.fz_builtins.specs.of_view.Views.{arguments_of, assigned, ints}
 use Rattle.fz_builtins.proofs.ElementReadings.{ints_are}
 use Rattle.fz_eval.proofs.counted.of_minimum.Goals as goal

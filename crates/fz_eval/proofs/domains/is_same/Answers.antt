@@ -1,5 +1,5 @@
 use Rattle.std.proofs.Common.{◌≡◌, ap, ◌∙◌}
-use Rattle.fz_meaning.specs.Values.{same_value}
+use Rattle.fz_meaning.specs.Relations.{same_value}
 use Rattle.fz_meaning.proofs.Values.{same_truth, same_value_is, value_itself}
 use Rattle.fz_eval.proofs.domains.is_same.Goals as goal
 

@@ -1,7 +1,8 @@
 use Rattle.std.proofs.Common.{true, cond, sym, ap, ◌∙◌}
 use Rattle.std.proofs.lemmas.List.Folds.{list_all-map}
 use Rattle.fz_meaning.specs.declared.state.State.TheVariants.{Holds, Fails, NoValue}
-use Rattle.fz_meaning.specs.Meaning.{is_outside, judged_by, values}
+use Rattle.fz_meaning.specs.States.{is_outside, judged_by}
+use Rattle.fz_meaning.specs.Meaning.{values}
 use Rattle.fz_builtins.specs.of_data.Shown.{scalar_terms}
 use Rattle.fz_builtins.specs.of_data.Slots.{slot_term}
 use Rattle.fz_builtins.specs.of_view.Given.{has_value}

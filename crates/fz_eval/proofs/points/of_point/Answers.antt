@@ -1,5 +1,5 @@
 use Rattle.std.proofs.Common.{sym, ap, ◌∙◌}
-use Rattle.fz_meaning.specs.Meaning.{state}
+use Rattle.fz_meaning.specs.States.{state}
 use Rattle.fz_builtins.specs.of_data.Shown.{point_view}
 use Rattle.fz_eval.proofs.points.of_point.Goals as goal
 

@@ -1,7 +1,7 @@
 use Rattle.std.proofs.Common.{rules, ◌≡◌, Some, slice_get, sym, ap, ◌∙◌, FitsSigned, w64}
 use Rattle.std.specs.Int.{w128}
 use Rattle.std.proofs.lemmas.Int.{to_z-of_z}
-use Rattle.fz_meaning.specs.Builtins.{total, products}
+use Rattle.fz_meaning.specs.Relations.{total, products}
 use Rattle.fz_builtins.specs.of_view.Given.{ints_at}
 use Rattle.fz_builtins.specs.of_view.Views.{arguments_of, assigned}
 use Rattle.fz_builtins.proofs.ElementReadings.{ints_are}

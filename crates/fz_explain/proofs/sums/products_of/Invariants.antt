@@ -1,5 +1,5 @@
 use Rattle.std.proofs.Common.{◌≡◌, ◌++◌, drop, map}
-use Rattle.fz_filling.specs.of_model.Meaning.{known_products}
+use Rattle.fz_filling.specs.of_model.States.{known_products}
 use Rattle.fz_filling.specs.of_model.Slots.{scalar_term}
 use Rattle.fz_explain.proofs.sums.products_of.Given as goal
 

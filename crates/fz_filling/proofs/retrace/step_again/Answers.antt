@@ -1,7 +1,7 @@
 use Rattle.std.proofs.Common.{sym, subst}
 use Rattle.fz_verdict.specs.of_model.Meaning.{IsPartial, variables_of}
 use Rattle.fz_verdict.specs.of_model.Steps.{terms_of}
-use Rattle.fz_verdict.specs.of_model.Values.{kind_of}
+use Rattle.fz_verdict.specs.of_model.Relations.{kind_of}
 use Rattle.fz_verdict.proofs.of_model.Steps.{only_open_none}
 use Rattle.fz_filling.specs.Runs.{Run}
 use Rattle.fz_filling.specs.Runs.Run.{Goes, Stays}

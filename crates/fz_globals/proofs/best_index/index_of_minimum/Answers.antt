@@ -1,6 +1,6 @@
 use Rattle.std.proofs.Common.{◌≡◌, FitsSigned, w64, rules}
 use Rattle.std.proofs.lemmas.Int.{to_z-of_z}
-use Rattle.fz_meaning.specs.Globals.{index_from}
+use Rattle.fz_meaning.specs.Relations.{index_from}
 use Rattle.fz_kernel.specs.of_view.Views.{ints}
 use Rattle.fz_kernel.proofs.Best.{not_below, downward}
 use Rattle.fz_globals.proofs.OnlyIndex.{only_index, no_index}

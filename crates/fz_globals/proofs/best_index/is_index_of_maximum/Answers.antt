@@ -1,7 +1,7 @@
 use Rattle.std.proofs.Common.{◌≡◌, nat_eq, FitsSigned, w64, of_z, sym, ap, ◌∙◌, rules}
 use Rattle.std.specs.Int.{w128}
 use Rattle.std.proofs.lemmas.Int.{to_z-of_z}
-use Rattle.fz_meaning.specs.Values.{◌=ℤ◌}
+use Rattle.fz_meaning.specs.Relations.{◌=ℤ◌}
 use Rattle.fz_globals.proofs.best_index.is_index_of_maximum.Goals as goal
 
 pub returns-in-Some : goal.returns-in-Some

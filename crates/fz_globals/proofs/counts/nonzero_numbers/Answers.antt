@@ -1,6 +1,6 @@
 use Rattle.std.proofs.Common.{◌≡◌, ◌++◌, ◌∷◌, [], pos, not, FitsSigned, w64, sym, ap, ◌∙◌, arith, rules}
 use Rattle.std.proofs.lemmas.Int.{ints as numerals, to_z-of_z}
-use Rattle.fz_meaning.specs.Globals.{is_nonzero}
+use Rattle.fz_meaning.specs.Relations.{is_nonzero}
 use Rattle.fz_kernel.specs.of_view.Views.{ints}
 use Rattle.fz_globals.proofs.Compared.{is_equal, is_other}
 use Rattle.fz_globals.proofs.Each.{one_kept, one_skipped}

@@ -1,6 +1,6 @@
 use Rattle.std.proofs.Common.{◌≡◌, FitsSigned, w64, true, false, sym, ◌∙◌, rules}
 use Rattle.std.proofs.lemmas.Int.{to_z-of_z}
-use Rattle.fz_meaning.specs.Builtins.{is_among}
+use Rattle.fz_meaning.specs.Relations.{is_among}
 use Rattle.fz_kernel.specs.of_view.Views.{ints}
 use Rattle.fz_globals.proofs.Each.{not_all, still_all}
 use Rattle.fz_globals.proofs.cover.all_stand_in.Goals as goal

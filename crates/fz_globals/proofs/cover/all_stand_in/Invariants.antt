@@ -1,6 +1,6 @@
 use Rattle.std.proofs.Common.{◌≡◌, drop}
 use Rattle.std.specs.List.{list_all}
-use Rattle.fz_meaning.specs.Builtins.{is_among}
+use Rattle.fz_meaning.specs.Relations.{is_among}
 use Rattle.fz_kernel.specs.of_view.Views.{ints}
 use Rattle.fz_globals.proofs.cover.all_stand_in.Given as goal
 

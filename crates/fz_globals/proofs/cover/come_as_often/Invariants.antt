@@ -1,6 +1,5 @@
 use Rattle.std.proofs.Common.{◌≡◌, drop}
-use Rattle.fz_meaning.specs.Values.{◌=ℤ◌}
-use Rattle.fz_meaning.specs.Globals.{all_both, count_of}
+use Rattle.fz_meaning.specs.Relations.{◌=ℤ◌, all_both, count_of}
 use Rattle.fz_kernel.specs.of_view.Views.{ints}
 use Rattle.fz_globals.proofs.cover.come_as_often.Given as goal
 

@@ -1,5 +1,5 @@
 use Rattle.std.proofs.Common.{◌≡◌, drop, int_le}
-use Rattle.fz_meaning.specs.Globals.{all_both, count_of}
+use Rattle.fz_meaning.specs.Relations.{all_both, count_of}
 use Rattle.fz_kernel.specs.of_view.Views.{ints}
 use Rattle.fz_globals.proofs.cover.come_at_least.Given as goal
 

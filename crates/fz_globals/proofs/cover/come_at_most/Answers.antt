@@ -1,6 +1,6 @@
 use Rattle.std.proofs.Common.{◌≡◌, ◌<ℤ◌, ◌≤ℤ◌, int_le, length, FitsSigned, w64, arith, rules}
 use Rattle.std.proofs.lemmas.Int.{ints as numerals, to_z-of_z}
-use Rattle.fz_meaning.specs.Globals.{count_of}
+use Rattle.fz_meaning.specs.Relations.{count_of}
 use Rattle.fz_kernel.specs.of_view.Views.{ints}
 use Rattle.fz_kernel.proofs.Left.{one_ends}
 use Rattle.fz_kernel.proofs.Read.{ints_counted}

@@ -1,6 +1,6 @@
 use Rattle.std.proofs.Common.{◌≡◌, length, arith}
 use Rattle.std.proofs.lemmas.Int.{ints as numerals}
-use Rattle.fz_meaning.specs.Values.{◌=ℤ◌}
+use Rattle.fz_meaning.specs.Relations.{◌=ℤ◌}
 use Rattle.fz_kernel.specs.of_view.Views.{ints}
 use Rattle.fz_kernel.proofs.Read.{ints_counted}
 use Rattle.fz_globals.proofs.Compared.{is_other, is_equal}

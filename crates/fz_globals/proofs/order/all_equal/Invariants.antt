@@ -1,4 +1,4 @@
-use Rattle.fz_meaning.specs.Values.{◌=ℤ◌}
+use Rattle.fz_meaning.specs.Relations.{◌=ℤ◌}
 use Rattle.fz_kernel.specs.of_view.Views.{ints}
 use Rattle.fz_globals.proofs.Neighbours.{PassUpTo}
 use Rattle.fz_globals.proofs.order.all_equal.Given as goal

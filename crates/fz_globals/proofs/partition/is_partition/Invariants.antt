@@ -1,5 +1,5 @@
 use Rattle.std.proofs.Common.{◌≡◌, drop}
-use Rattle.fz_meaning.specs.Globals.{is_partition}
+use Rattle.fz_meaning.specs.Relations.{is_partition}
 use Rattle.fz_kernel.specs.of_view.Views.{sets}
 use Rattle.fz_globals.proofs.partition.is_partition.Given as goal
 

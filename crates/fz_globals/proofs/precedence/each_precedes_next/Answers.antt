@@ -1,6 +1,6 @@
 use Rattle.std.proofs.Common.{◌≡◌, ◌+◌, ◌-◌, ℤ, Bool, true, false, length, FitsSigned, w64, sym, ◌∙◌, arith, rules}
 use Rattle.std.proofs.lemmas.Int.{to_z-of_z}
-use Rattle.fz_meaning.specs.Globals.{all_neighbours, precedes}
+use Rattle.fz_meaning.specs.Relations.{all_neighbours, precedes}
 use Rattle.fz_kernel.specs.of_view.Views.{ints}
 use Rattle.fz_kernel.proofs.Read.{ints_counted}
 use Rattle.fz_globals.proofs.Preceding.{neighbours_pass, neighbours_fail, no_neighbours}

@@ -1,6 +1,6 @@
 use Rattle.std.proofs.Common.{◌≡◌, ◌+◌, ◌-◌, ℤ, pos, Bool, true, false, length, option_map, FitsSigned, w64, sym, ap, ◌∙◌, arith, rules}
 use Rattle.std.proofs.lemmas.Int.{to_z-of_z}
-use Rattle.fz_meaning.specs.Globals.{all_neighbours, index_from, precedes}
+use Rattle.fz_meaning.specs.Relations.{all_neighbours, index_from, precedes}
 use Rattle.fz_kernel.specs.of_view.Views.{ints}
 use Rattle.fz_globals.specs.Keys.{comes_before}
 use Rattle.fz_kernel.proofs.Read.{ints_counted}

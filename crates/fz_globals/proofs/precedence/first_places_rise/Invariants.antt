@@ -1,5 +1,5 @@
 use Rattle.std.proofs.Common.{◌≡◌, ◌-◌, ℤ, List, drop}
-use Rattle.fz_meaning.specs.Globals.{all_neighbours, precedes}
+use Rattle.fz_meaning.specs.Relations.{all_neighbours, precedes}
 use Rattle.fz_kernel.specs.of_view.Views.{ints}
 use Rattle.fz_globals.specs.Keys.{AreKeys}
 use Rattle.fz_globals.proofs.precedence.first_places_rise.Given as goal

@@ -1,5 +1,5 @@
 use Rattle.std.proofs.Common.{◌≡◌, drop}
-use Rattle.fz_meaning.specs.Globals.{precedes}
+use Rattle.fz_meaning.specs.Relations.{precedes}
 use Rattle.fz_kernel.specs.of_view.Views.{ints}
 use Rattle.fz_globals.proofs.precedence.precedes.Given as goal
 

@@ -1,5 +1,5 @@
 use Rattle.std.proofs.Common.{◌≡◌, pos, drop}
-use Rattle.fz_meaning.specs.Globals.{rises_by_one}
+use Rattle.fz_meaning.specs.Relations.{rises_by_one}
 use Rattle.fz_kernel.specs.of_view.Views.{ints}
 use Rattle.fz_globals.proofs.precedence.rises_by_one.Given as goal
 

@@ -1,6 +1,5 @@
 use Rattle.std.proofs.Common.{◌≡◌, ◌*◌, length, refl, sym, ap, ◌∙◌, arith}
-use Rattle.fz_meaning.specs.Values.{◌=ℤ◌}
-use Rattle.fz_meaning.specs.Globals.{is_row_of, is_same_list}
+use Rattle.fz_meaning.specs.Relations.{◌=ℤ◌, is_row_of, is_same_list}
 use Rattle.fz_kernel.specs.of_view.Views.{ints, slots_of}
 use Rattle.fz_kernel.proofs.Read.{ints_counted}
 use Rattle.fz_globals.proofs.InTable.{whole_rows, row_fails}

@@ -1,5 +1,5 @@
 use Rattle.std.proofs.Common.{◌≡◌, ◌+◌, pos, drop}
-use Rattle.fz_meaning.specs.Globals.{as_places, leads_back}
+use Rattle.fz_meaning.specs.Relations.{as_places, leads_back}
 use Rattle.fz_kernel.specs.of_view.Views.{ints}
 use Rattle.fz_globals.proofs.tours.leads_back.Given as goal
 

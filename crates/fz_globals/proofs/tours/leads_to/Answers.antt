@@ -2,9 +2,7 @@ use Rattle.std.proofs.Common.{◌≡◌, ℤ, ◌+◌, pos, ◌-ℤ◌, false, n
 use Rattle.std.specs.Int.{w128}
 use Rattle.std.specs.Option.{option_map_or}
 use Rattle.std.proofs.lemmas.Int.{to_z-of_z}
-use Rattle.fz_meaning.specs.Values.{◌=ℤ◌}
-use Rattle.fz_meaning.specs.Builtins.{element_at}
-use Rattle.fz_meaning.specs.Globals.{as_places}
+use Rattle.fz_meaning.specs.Relations.{◌=ℤ◌, element_at, as_places}
 use Rattle.fz_kernel.specs.of_view.Views.{ints}
 use Rattle.fz_kernel.proofs.Read.{ints_counted}
 use Rattle.fz_kernel.proofs.Passed.{element_found, none_found}

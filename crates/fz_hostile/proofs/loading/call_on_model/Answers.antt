@@ -1,4 +1,4 @@
-use Rattle.std.proofs.Common.{List, [], ◌∷◌, None, map, subst, sym}
+use Rattle.std.proofs.Common.{subst, sym}
 use Rattle.fz_model.specs.Meaning.{IsPartial, variables_of}
 use Rattle.fz_model.proofs.Partials.{nothing_fits}
 use Rattle.fz_hostile.proofs.loading.call_on_model.Goals as goal

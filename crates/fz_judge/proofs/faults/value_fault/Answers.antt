@@ -4,7 +4,7 @@ use Rattle.fz_filling.specs.of_model.Parts.{variable_view}
 use Rattle.fz_filling.specs.of_model.Shown.{what_place}
 use Rattle.fz_filling.specs.of_model.Slots.{scalar_term}
 use Rattle.fz_filling.specs.of_model.View.{located_name}
-use Rattle.fz_filling.specs.of_verdict.Blocks.{value_fault}
+use Rattle.fz_filling.specs.of_verdict.BlockFaults.{value_fault}
 use Rattle.fz_filling.specs.of_verdict.View.{located_printed_value}
 use Rattle.fz_judge.specs.Judged.{refusal}
 use Rattle.fz_judge.proofs.faults.value_fault.Goals as goal

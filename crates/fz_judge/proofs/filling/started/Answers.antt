@@ -1,5 +1,5 @@
 use Rattle.std.proofs.Common.{◌≡◌, IfSome, IsSomeAnd, subst, sym, arith}
-use Rattle.fz_filling.specs.of_verdict.Blocks.{block_fault, items_fault}
+use Rattle.fz_filling.specs.of_verdict.BlockFaults.{block_fault, items_fault}
 use Rattle.fz_filling.specs.of_verdict.View.{located_block, located_items}
 use Rattle.fz_judge.specs.Judged.{TellsFault}
 use Rattle.fz_judge.proofs.Refusing.{kind_tells, moved_tells, told_within}

@@ -2,7 +2,7 @@ use Rattle.std.proofs.Common.{map, sym, ap, ◌∙◌}
 use Rattle.fz_filling.specs.of_model.Meaning.Place.{Array}
 use Rattle.fz_filling.specs.of_model.Shown.{scalar_terms}
 use Rattle.fz_filling.specs.of_model.View.{located_literal}
-use Rattle.fz_filling.specs.of_verdict.Blocks.{printed_values}
+use Rattle.fz_filling.specs.of_verdict.Solutions.{printed_values}
 use Rattle.fz_filling.specs.of_verdict.Verdict.{has_printed}
 use Rattle.fz_filling.specs.of_verdict.View.{located_printed_value}
 use Rattle.fz_judge.specs.Working.{have_values}

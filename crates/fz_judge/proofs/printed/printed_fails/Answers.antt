@@ -1,5 +1,5 @@
 use Rattle.std.proofs.Common.{sym, ◌∙◌}
-use Rattle.fz_filling.specs.of_verdict.Blocks.{printed_fault}
+use Rattle.fz_filling.specs.of_verdict.BlockFaults.{printed_fault}
 use Rattle.fz_filling.specs.of_verdict.Verdict.{printed_fails}
 use Rattle.fz_filling.specs.of_verdict.View.{located_printed}
 use Rattle.fz_judge.specs.View.{fault_view}

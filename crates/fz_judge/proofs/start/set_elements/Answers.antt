@@ -6,7 +6,7 @@ use Rattle.fz_filling.specs.of_model.Slots.{slot_term}
 use Rattle.fz_filling.specs.of_model.Meaning.{Partial}
 use Rattle.fz_filling.specs.of_model.View.{located_literal}
 use Rattle.fz_filling.specs.of_syntax.declared.Literal.{Literal}
-use Rattle.fz_filling.specs.of_verdict.Blocks.{printed_values}
+use Rattle.fz_filling.specs.of_verdict.Solutions.{printed_values}
 use Rattle.fz_filling.specs.of_verdict.Filling.{pairs}
 use Rattle.fz_judge.specs.Working.{IsWithin, agree_all, with_all}
 use Rattle.std.proofs.Math.Bool.{and-true}

@@ -2,7 +2,7 @@ use Rattle.std.proofs.Common.{◌≡◌, None, sym, ap, subst, ◌∙◌}
 use Rattle.fz_filling.specs.of_model.Meaning.{IsPartial, variables_of}
 use Rattle.fz_filling.specs.of_model.Shown.{found_place, what_place}
 use Rattle.fz_filling.specs.of_model.View.{located_name}
-use Rattle.fz_filling.specs.of_verdict.Blocks.{value_fault}
+use Rattle.fz_filling.specs.of_verdict.BlockFaults.{value_fault}
 use Rattle.fz_filling.specs.of_verdict.View.{located_printed_value}
 use Rattle.fz_judge.specs.Judged.{refusal}
 use Rattle.fz_filling.proofs.of_verdict.Start.{map_none}

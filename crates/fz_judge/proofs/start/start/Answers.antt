@@ -2,7 +2,7 @@ use Rattle.std.proofs.Common.{◌≡◌, ◌+◌, ◌&&◌, refl, sym, ap, subst
 use Rattle.std.proofs.lemmas.Result.{err_from_is_err_and}
 use Rattle.fz_filling.specs.of_model.Meaning.{IsPartial, variables_of}
 use Rattle.fz_filling.specs.of_model.Partial.{nothing_for}
-use Rattle.fz_filling.specs.of_verdict.Blocks.{printed_fault}
+use Rattle.fz_filling.specs.of_verdict.BlockFaults.{printed_fault}
 use Rattle.fz_filling.specs.of_verdict.Filling.{printed_scalars, start_from}
 use Rattle.fz_filling.specs.of_verdict.View.{located_items, located_printed}
 use Rattle.fz_judge.specs.declared.start.Proposed.{Proposed}

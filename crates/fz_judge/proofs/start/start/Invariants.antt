@@ -1,7 +1,7 @@
 use Rattle.std.proofs.Common.{◌≡◌, None, take}
 use Rattle.fz_filling.specs.of_model.Meaning.{IsPartial, variables_of}
 use Rattle.fz_filling.specs.of_model.Partial.{nothing_for}
-use Rattle.fz_filling.specs.of_verdict.Blocks.{items_fault}
+use Rattle.fz_filling.specs.of_verdict.BlockFaults.{items_fault}
 use Rattle.fz_filling.specs.of_verdict.Filling.{printed_scalars, start_from}
 use Rattle.fz_filling.specs.of_verdict.View.{located_items}
 use Rattle.fz_judge.specs.Working.{agree_all}

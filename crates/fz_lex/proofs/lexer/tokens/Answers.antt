@@ -1,8 +1,7 @@
 use Rattle.std.proofs.Common.{◌≡◌, slice_range, refl, ◌∙◌}
 use Rattle.std.proofs.lemmas.List.{map-append, append-nil}
 use Rattle.std.proofs.lemmas.Result.{err_from_is_err_and}
-use Rattle.fz_lex.specs.Lexing.{nothing}
-use Rattle.fz_lex.specs.Limits.{IsTokenWithinLimit}
+use Rattle.fz_lex.specs.Lexing.{nothing, IsTokenWithinLimit}
 use Rattle.fz_lex.specs.View.{spanned, all_spanned}
 use Rattle.fz_lex.proofs.Cuts.{cut_then}
 use Rattle.fz_lex.proofs.Next.{fault_after, all_push}

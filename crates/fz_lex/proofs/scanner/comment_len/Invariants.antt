@@ -1,6 +1,6 @@
 use Rattle.std.proofs.Common.{◌≡◌, ◌+◌, ◌-◌, ◌≤◌, length, drop}
 use Rattle.std.specs.List.{position_or_len}
-use Rattle.fz_lex.specs.Byte.{is_line_feed}
+use Rattle.fz_lex.specs.Token.{is_line_feed}
 use Rattle.fz_lex.proofs.scanner.comment_len.Given as goal
 
 abbrev pub invariant-loop-len : goal.invariant-loop-len

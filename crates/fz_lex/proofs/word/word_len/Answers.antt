@@ -1,6 +1,6 @@
 use Rattle.std.proofs.Common.{◌≡◌, ◌+◌, ◌≤◌, length, drop, rules, arith}
 use Rattle.std.proofs.lemmas.List.{length-drop}
-use Rattle.fz_lex.specs.Byte.{is_word_byte}
+use Rattle.fz_lex.specs.Token.{is_word_byte}
 use Rattle.fz_lex.proofs.Lanes.{load_within, load_ends, load_goes_on}
 use Rattle.fz_lex.proofs.word.word_len.Goals as goal
 

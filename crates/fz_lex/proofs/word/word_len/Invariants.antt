@@ -1,6 +1,6 @@
 use Rattle.std.proofs.Common.{◌≡◌, ◌+◌, ◌-◌, ◌≤◌, length, drop}
 use Rattle.std.specs.List.{prefix_len}
-use Rattle.fz_lex.specs.Byte.{is_word_byte}
+use Rattle.fz_lex.specs.Token.{is_word_byte}
 use Rattle.fz_lex.proofs.word.word_len.Given as goal
 
 abbrev pub invariant-loop-len : goal.invariant-loop-len

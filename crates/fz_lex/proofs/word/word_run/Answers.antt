@@ -1,7 +1,7 @@
 use Rattle.std.proofs.Common.{ℕ, leb, cond, bit_and, refl, ◌∙◌, arith}
 use Rattle.std.proofs.lemmas.Simd.{zip2_splat, length-chunk}
 use lib.Lanes.{chunk}
-use Rattle.fz_lex.specs.Byte.{is_word_byte}
+use Rattle.fz_lex.specs.Token.{is_word_byte}
 use Rattle.fz_lex.proofs.Lanes.{joined, splat_is, run_in}
 use Rattle.fz_lex.proofs.word.word_run.Goals as goal
 

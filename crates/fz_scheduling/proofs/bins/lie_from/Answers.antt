@@ -1,7 +1,7 @@
 use Rattle.std.proofs.Common.{◌<◌, pos, ◌+ℤ◌, ◌-ℤ◌, length, w64, to_z, of_z, sym, ap, ◌∙◌, arith, rules}
 use Rattle.std.specs.List.{list_all}
 use Rattle.std.proofs.lemmas.Int.{to_z-of_z}
-use Rattle.fz_meaning.specs.Globals.{lies_between}
+use Rattle.fz_meaning.specs.Relations.{lies_between}
 use Rattle.fz_kernel.specs.of_view.Views.{ints}
 use Rattle.fz_scheduling.specs.Places.{number_at}
 use Rattle.fz_scheduling.proofs.Passing.{one_fails, one_passes}

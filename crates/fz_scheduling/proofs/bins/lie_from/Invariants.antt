@@ -1,6 +1,6 @@
 use Rattle.std.proofs.Common.{◌≡◌, drop, pos, ◌+ℤ◌, ◌-ℤ◌}
 use Rattle.std.specs.List.{list_all}
-use Rattle.fz_meaning.specs.Globals.{lies_between}
+use Rattle.fz_meaning.specs.Relations.{lies_between}
 use Rattle.fz_kernel.specs.of_view.Views.{ints}
 use Rattle.fz_scheduling.proofs.bins.lie_from.Given as goal
 

@@ -1,5 +1,5 @@
 use Rattle.std.proofs.Common.{◌≡◌, drop, pos, ◌+ℤ◌}
-use Rattle.fz_meaning.specs.Globals.{loads_are}
+use Rattle.fz_meaning.specs.Relations.{loads_are}
 use Rattle.fz_kernel.specs.of_view.Views.{ints}
 use Rattle.fz_scheduling.proofs.bins.loads_are.Given as goal
 

@@ -1,7 +1,7 @@
 use Rattle.std.proofs.Common.{◌≡◌, drop}
 use Rattle.std.specs.Prelude.{int_le}
 use Rattle.std.specs.List.{list_all}
-use Rattle.fz_meaning.specs.Globals.{load_of}
+use Rattle.fz_meaning.specs.Relations.{load_of}
 use Rattle.fz_kernel.specs.of_view.Views.{ints}
 use Rattle.fz_scheduling.proofs.bins.loads_are_within.Given as goal
 

@@ -1,5 +1,5 @@
 use Rattle.std.proofs.Common.{◌<◌, length, sym, ◌∙◌, arith, rules}
-use Rattle.fz_meaning.specs.Globals.{all_pairs, boxes}
+use Rattle.fz_meaning.specs.Relations.{all_pairs, boxes}
 use Rattle.fz_kernel.specs.of_view.Views.{ints}
 use Rattle.fz_scheduling.specs.Places.{stand_apart, box_at}
 use Rattle.fz_scheduling.proofs.Passing.{pair_fails, pairs_pass, all_pairs_pass}

@@ -1,5 +1,5 @@
 use Rattle.std.proofs.Common.{◌≡◌, drop}
-use Rattle.fz_meaning.specs.Globals.{all_pairs, boxes}
+use Rattle.fz_meaning.specs.Relations.{all_pairs, boxes}
 use Rattle.fz_kernel.specs.of_view.Views.{ints}
 use Rattle.fz_scheduling.specs.Places.{stand_apart}
 use Rattle.fz_scheduling.proofs.boxes.all_stand_apart.Given as goal

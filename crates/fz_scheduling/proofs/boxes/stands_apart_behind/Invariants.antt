@@ -1,6 +1,6 @@
 use Rattle.std.proofs.Common.{◌≡◌, ◌+◌, drop}
 use Rattle.std.specs.List.{list_all}
-use Rattle.fz_meaning.specs.Globals.{boxes}
+use Rattle.fz_meaning.specs.Relations.{boxes}
 use Rattle.fz_kernel.specs.of_view.Views.{ints}
 use Rattle.fz_scheduling.specs.Places.{stand_apart, box_at}
 use Rattle.fz_scheduling.proofs.boxes.stands_apart_behind.Given as goal

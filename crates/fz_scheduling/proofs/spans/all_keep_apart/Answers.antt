@@ -1,6 +1,6 @@
 use Rattle.std.proofs.Common.{◌<◌, length, sym, ◌∙◌, arith, rules}
 use Rattle.std.specs.List.{zip}
-use Rattle.fz_meaning.specs.Globals.{all_pairs}
+use Rattle.fz_meaning.specs.Relations.{all_pairs}
 use Rattle.fz_kernel.specs.of_view.Views.{ints}
 use Rattle.fz_scheduling.specs.Places.{keep_apart, span_at}
 use Rattle.fz_scheduling.proofs.Passing.{pair_fails, pairs_pass, all_pairs_pass}

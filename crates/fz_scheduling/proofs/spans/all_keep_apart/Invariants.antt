@@ -1,6 +1,6 @@
 use Rattle.std.proofs.Common.{◌≡◌, drop}
 use Rattle.std.specs.List.{zip}
-use Rattle.fz_meaning.specs.Globals.{all_pairs}
+use Rattle.fz_meaning.specs.Relations.{all_pairs}
 use Rattle.fz_kernel.specs.of_view.Views.{ints}
 use Rattle.fz_scheduling.specs.Places.{keep_apart}
 use Rattle.fz_scheduling.proofs.spans.all_keep_apart.Given as goal

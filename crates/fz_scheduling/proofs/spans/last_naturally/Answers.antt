@@ -1,6 +1,6 @@
 use Rattle.std.proofs.Common.{◌<◌, length, sym, ◌∙◌, arith, rules}
 use Rattle.std.specs.List.{zip}
-use Rattle.fz_meaning.specs.Globals.{Span, is_natural, last_naturally}
+use Rattle.fz_meaning.specs.Relations.{Span, is_natural, last_naturally}
 use Rattle.fz_kernel.specs.of_view.Views.{ints}
 use Rattle.fz_scheduling.specs.Places.{span_at}
 use Rattle.fz_scheduling.proofs.Passing.{one_fails, one_passes, all_pass}

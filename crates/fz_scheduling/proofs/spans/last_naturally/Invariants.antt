@@ -1,6 +1,6 @@
 use Rattle.std.proofs.Common.{◌≡◌, drop}
 use Rattle.std.specs.List.{zip}
-use Rattle.fz_meaning.specs.Globals.{last_naturally}
+use Rattle.fz_meaning.specs.Relations.{last_naturally}
 use Rattle.fz_kernel.specs.of_view.Views.{ints}
 use Rattle.fz_scheduling.proofs.spans.last_naturally.Given as goal
 

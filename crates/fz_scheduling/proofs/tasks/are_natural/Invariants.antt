@@ -1,6 +1,6 @@
 use Rattle.std.proofs.Common.{◌≡◌, ◌&&◌, drop}
 use Rattle.std.specs.List.{list_all, zip}
-use Rattle.fz_meaning.specs.Globals.{is_natural}
+use Rattle.fz_meaning.specs.Relations.{is_natural}
 use Rattle.fz_kernel.specs.of_view.Views.{ints}
 use Rattle.fz_scheduling.proofs.tasks.are_natural.Given as goal
 

@@ -1,5 +1,5 @@
 use Rattle.std.proofs.Common.{length, ◌≡◌}
-use Rattle.fz_stream.specs.Lines.{skip_blanks}
+use Rattle.fz_stream.specs.Parts.{skip_blanks}
 use Rattle.fz_stream.proofs.line.after_blanks.Given as goal
 
 abbrev pub invariant-loop-first : goal.invariant-loop-first

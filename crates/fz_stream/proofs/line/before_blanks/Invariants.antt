@@ -1,5 +1,5 @@
 use Rattle.std.proofs.Common.{length, ◌≡◌, reverse}
-use Rattle.fz_stream.specs.Lines.{skip_blanks}
+use Rattle.fz_stream.specs.Parts.{skip_blanks}
 use Rattle.fz_stream.proofs.line.before_blanks.Given as goal
 
 abbrev pub invariant-loop-last : goal.invariant-loop-last

@@ -1,7 +1,7 @@
 use Rattle.std.proofs.Common.{◌≡◌, ◌∷◌, ℕ, List, ◌+◌, ◌==◌, take, drop, length, sym, ◌∙◌, arith, add-one, subst}
 use Rattle.std.proofs.lemmas.List.{length-take-le}
 use Rattle.std.proofs.lemmas.List.Quantifiers.{position-Some}
-use Rattle.fz_stream.specs.Lines.{lines_of}
+use Rattle.fz_stream.specs.Parts.{lines_of}
 use Rattle.fz_stream.proofs.LineLemmas.{lines_of-cut, lines_of-whole}
 use Rattle.fz_stream.proofs.line.first_line.Goals as goal
 

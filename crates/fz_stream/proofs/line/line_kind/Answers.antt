@@ -1,7 +1,7 @@
 use Rattle.std.proofs.Common.{◌≡◌, ℕ, ◌<◌, ◌≤◌, Bool, cond, eqb, List, [], ◌∷◌, length, get_or, reverse, refl, sym, ap, ◌∙◌, arith}
 use Rattle.std.proofs.lemmas.Bool.{eq-eqb, ne_eqb}
 use Rattle.fz_stream.specs.declared.line.LineKind.TheVariants.{Blank, Comment}
-use Rattle.fz_stream.specs.Lines.{skip_blanks, kind_of_words, kind_of_trimmed, kind_of}
+use Rattle.fz_stream.specs.Parts.{skip_blanks, kind_of_words, kind_of_trimmed, kind_of}
 use Rattle.fz_stream.proofs.line.line_kind.Goals as goal
 
 no_words : (words : List ℕ) → length words < 1 → Blank ≡ kind_of_trimmed words

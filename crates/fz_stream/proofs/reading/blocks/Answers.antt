@@ -5,10 +5,8 @@ use Rattle.fz_syntax.specs.View.{bare_items}
 use Rattle.fz_stream.specs.Found.{block_of, HasPlaces, EndsWithin}
 use Rattle.fz_stream.proofs.PartLemmas.{every_append}
 use Rattle.fz_stream.proofs.FoundLemmas.{read_in_order, read_before_markers}
-use Rattle.fz_stream.proofs.SoFar.{start_so_far, now, so_far_goes_on, so_far_block, so_far_claim, so_far_read, so_far_stops_at_end, so_far_text_within}
+use Rattle.fz_stream.proofs.SoFar.{start_so_far, so_far_goes_on, so_far_block, so_far_claim, so_far_read, so_far_stops_at_block, so_far_stops_at_claim, so_far_stops_at_end, so_far_text_within}
 use Rattle.fz_stream.proofs.OnePartLemmas.{stops_no_text}
-use Rattle.fz_stream.proofs.ReadingLemmas.{line_does, text_is}
-use Rattle.fz_stream.proofs.StopLemmas.{breaks_block, breaks_claim, stops_at}
 use Rattle.fz_stream.specs.Broken.{StopsAfter}
 use Rattle.fz_stream.specs.Parts.{StreamPart, IsBlockText, IsStreamText}
 use Rattle.fz_stream.specs.declared.line.ClaimKind.{ClaimKind}
@@ -16,7 +14,6 @@ use Rattle.fz_stream.specs.declared.reading.Claim.{Claim}
 use Rattle.fz_stream.specs.Step.{step_of, IsLineFault}
 use Rattle.fz_stream.specs.declared.error.StreamError.{StreamError}
 use Rattle.fz_stream.specs.declared.error.StreamError.TheVariants.{TooLong, Memory}
-use Rattle.fz_stream.specs.declared.step.Step.TheVariants.{EndsBlock, Breaks}
 use Rattle.fz_stream.proofs.reading.blocks.Goals as goal
 use Rattle.fz_stream.proofs.reading.blocks.Goals.{in-GoesOn, in-EndsBlock+in_ok-block-in-EndsBlock+in_ok-push-in-EndsBlock, in-Claims+in_ok-push-in-Claims}
 
@@ -53,9 +50,8 @@ loop-at-preserved c =
       | in-EndsBlock+in_ok-block-in-EndsBlock+in_ok-push-in-EndsBlock w ↦ record {
         so_far = rw (w.begun-is, w.blocks-is, w.claims-is, w.in_ok-push-in-EndsBlock.ensures.items, map_push) (
             so_far_block _ _ _ _ _ c.loop-at.invariant.so_far _ (take_rest c.args.stream.now c.loop-at.at) c.first_line-line.result.now c.first_line-line.ensures.within c.first_line-line.ensures.cut w.in-EndsBlock.start
-            (ap (step_of _ _) (sym c.line_kind.ensures) ∙ sym w.in-EndsBlock.ensures) (block_of w.in_ok-block-in-EndsBlock.block)
-            w.in_ok-block-in-EndsBlock.ensures.offset w.in_ok-block-in-EndsBlock.ensures.text
-            (subst (λ t. IsBlockText t (bare_items w.in_ok-block-in-EndsBlock.block.items.items)) (sym w.in_ok-block-in-EndsBlock.ensures.text) w.in_ok-block-in-EndsBlock.ensures.items));
+            (ap (step_of _ _) (sym c.line_kind.ensures) ∙ sym w.in-EndsBlock.ensures) _ _ w.in_ok-block-in-EndsBlock.ensures.offset w.in_ok-block-in-EndsBlock.ensures.text
+            (bare_items w.in_ok-block-in-EndsBlock.block.items.items) (subst (λ t. IsBlockText t (bare_items w.in_ok-block-in-EndsBlock.block.items.items)) (sym w.in_ok-block-in-EndsBlock.ensures.text) w.in_ok-block-in-EndsBlock.ensures.items));
         places = rw (w.blocks-is, w.in_ok-push-in-EndsBlock.ensures.items) (every_append HasPlaces _ _ c.loop-at.invariant.places (w.in_ok-block-in-EndsBlock.ensures.places, tt));
         within = rw (w.blocks-is, w.in_ok-push-in-EndsBlock.ensures.items) (
             every_append (EndsWithin (length c.args.stream.now)) _ _ c.loop-at.invariant.within (
@@ -90,19 +86,18 @@ pub returns-in_err-block-in-EndsBlock-clause-stops :
 returns-in_err-block-in-EndsBlock-clause-stops c =
     let p = err_from_is_err_and c.from_residual.result c.from_residual.ensures.1 in
     let s = c.loop-at.invariant.so_far in
-    let n = now _ _ _ _ _ s _ (take_rest c.args.stream.now c.loop-at.at) c.first_line-line.result.now c.first_line-line.ensures.within c.first_line-line.ensures.cut in
-    let d = line_does _ _ _ _ _ _ n (EndsBlock c.in-EndsBlock.start) (ap (step_of _ _) (sym c.line_kind.ensures) ∙ sym c.in-EndsBlock.ensures) in
     rw (p.1, p.2) (λ known _. (
       s.parts,
-      stops_at _ _ _ _ _ _ n _ (breaks_block _ c.in-EndsBlock.start n.body _ d _ (text_is _ _ _ _ _ _ n c.in-EndsBlock.start d.1) (c.in_err-block-in-EndsBlock.ensures.refused known) _ _ d.1 c.in_err-block-in-EndsBlock.ensures.tells),
+      so_far_stops_at_block _ _ _ _ _ s _ (take_rest c.args.stream.now c.loop-at.at) c.first_line-line.result.now c.first_line-line.ensures.within c.first_line-line.ensures.cut c.in-EndsBlock.start (ap (step_of _ _) (sym c.line_kind.ensures) ∙ sym c.in-EndsBlock.ensures) _ _ refl refl
+          (c.in_err-block-in-EndsBlock.ensures.refused known) _ c.in_err-block-in-EndsBlock.ensures.tells,
     ))
 
 pub returns-in-Breaks-clause-stops : goal.returns-in-Breaks-clause-stops
 returns-in-Breaks-clause-stops c _ _ =
-    let s = c.loop-at.invariant.so_far in
-    let n = now _ _ _ _ _ s _ (take_rest c.args.stream.now c.loop-at.at) c.first_line-line.result.now c.first_line-line.ensures.within c.first_line-line.ensures.cut in
-    let d = line_does _ _ _ _ _ _ n (Breaks c.in-Breaks.start) (ap (step_of _ _) (sym c.line_kind.ensures) ∙ sym c.in-Breaks.ensures) in
-    (s.parts, stops_at _ _ _ _ _ _ n _ (breaks_claim _ c.in-Breaks.start n.body _ d _ refl n.place_is))
+    let s = c.loop-at.invariant.so_far in (
+      s.parts,
+      so_far_stops_at_claim _ _ _ _ _ s _ (take_rest c.args.stream.now c.loop-at.at) c.first_line-line.result.now c.first_line-line.ensures.within c.first_line-line.ensures.cut c.in-Breaks.start (ap (step_of _ _) (sym c.line_kind.ensures) ∙ sym c.in-Breaks.ensures) _ refl refl,
+    )
 
 pub returns-in-Some-clause-stops : goal.returns-in-Some-clause-stops
 returns-in-Some-clause-stops c _ _ =
@@ -113,14 +108,14 @@ refused : {X : Type 0} (bytes : List ℕ) (r : Result X StreamError)
     → IfErr r (λ e. e ≢ Memory → e ≢ TooLong → (parts : List StreamPart) × StopsAfter bytes parts e)
     → IfErr r (λ e. e ≢ Memory → e ≢ TooLong → (parts : List StreamPart) → IsStreamText bytes parts → ⊥)
 refused bytes (Ok x) h = tt
-refused bytes (Err e) h = λ known long. (let s = h known long in stops_no_text bytes s.0 e s.1)
+refused bytes (Err e) h = λ known long. (let s = h known long in stops_no_text bytes _ e s.1.1)
 
 pub returns-in_err-block-in-EndsBlock-clause-refused :
     goal.returns-in_err-block-in-EndsBlock-clause-refused
 returns-in_err-block-in-EndsBlock-clause-refused c = refused _ c.from_residual.result (returns-in_err-block-in-EndsBlock-clause-stops c)
 
 pub returns-in-Breaks-clause-refused : goal.returns-in-Breaks-clause-refused
-returns-in-Breaks-clause-refused c known long = (let s = returns-in-Breaks-clause-stops c known long in stops_no_text _ s.0 _ s.1)
+returns-in-Breaks-clause-refused c known long = (let s = returns-in-Breaks-clause-stops c known long in stops_no_text _ _ _ s.1.1)
 
 pub returns-in-Some-clause-refused : goal.returns-in-Some-clause-refused
-returns-in-Some-clause-refused c known long = (let s = returns-in-Some-clause-stops c known long in stops_no_text _ s.0 _ s.1)
+returns-in-Some-clause-refused c known long = (let s = returns-in-Some-clause-stops c known long in stops_no_text _ _ _ s.1.1)

@@ -1,7 +1,7 @@
 use Rattle.std.proofs.Common.{◌≡◌, ℤ, Bool, true, false, Option, None, Some, IfOk, int_lt, refl, sym, ap, subst, ◌∙◌}
 use Rattle.fz_filling.specs.of_model.Meaning.{Aim, Model, Partial, IsPartial, objective}
 use Rattle.fz_filling.specs.of_model.Meaning.Aim.{Satisfy, Minimize, Maximize}
-use Rattle.fz_filling.specs.of_verdict.Blocks.{Block}
+use Rattle.fz_filling.specs.of_verdict.Solutions.{Block}
 use Rattle.fz_filling.specs.of_verdict.Completed.{IsCompleted}
 use Rattle.fz_filling.specs.of_verdict.Completed.IsCompleted.{Found, AsFilled, NotBetterThanFound}
 use Rattle.fz_filling.specs.of_verdict.Verdict.{Fault, Verdict, not_better_if, objective_fails, verdict}

@@ -1,6 +1,6 @@
 use Rattle.std.proofs.Common.{◌≡◌, ℤ, Option, None, Some, IfSome, refl, sym, ap, subst, ◌∙◌}
 use Rattle.fz_filling.specs.of_model.Meaning.{Model, Partial, objective}
-use Rattle.fz_filling.specs.of_verdict.Blocks.{Block}
+use Rattle.fz_filling.specs.of_verdict.Solutions.{Block}
 use Rattle.fz_filling.specs.of_verdict.Completed.{IsCompleted, LacksValuesAtMost}
 use Rattle.fz_filling.specs.of_verdict.Completed.IsCompleted.{Found, AsFilled}
 use Rattle.fz_filling.specs.of_verdict.Verdict.{Reason, Verdict}

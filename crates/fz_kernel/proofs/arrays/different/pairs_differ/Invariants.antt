@@ -1,5 +1,5 @@
 use Rattle.std.proofs.Common.{◌≡◌, drop}
-use Rattle.fz_meaning.specs.Builtins.{all_different}
+use Rattle.fz_meaning.specs.Relations.{all_different}
 use Rattle.fz_arguments.specs.Views.{ints}
 use Rattle.fz_kernel.proofs.arrays.different.pairs_differ.Given as goal
 

@@ -1,5 +1,5 @@
 use Rattle.std.proofs.Common.{◌≡◌, drop}
-use Rattle.fz_meaning.specs.Builtins.{is_among}
+use Rattle.fz_meaning.specs.Relations.{is_among}
 use Rattle.fz_arguments.specs.Views.{ints}
 use Rattle.fz_kernel.proofs.arrays.different.stands_from.Given as goal
 

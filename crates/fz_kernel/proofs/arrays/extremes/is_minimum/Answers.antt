@@ -1,5 +1,5 @@
 use Rattle.std.proofs.Common.{◌≡◌, nat_eq, FitsSigned, w64, of_z, ◌∙◌, rules}
-use Rattle.fz_meaning.specs.Values.{◌=ℤ◌}
+use Rattle.fz_meaning.specs.Relations.{◌=ℤ◌}
 use Rattle.fz_arguments.specs.Views.{ints}
 use Rattle.fz_kernel.proofs.Best.{not_below, downward, is_the_best}
 use Rattle.fz_kernel.proofs.arrays.extremes.is_minimum.Goals as goal

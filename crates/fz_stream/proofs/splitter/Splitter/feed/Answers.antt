@@ -1,26 +1,31 @@
-use Rattle.std.proofs.Common.{◌≡◌, ◌+◌, length, Err, refl, sym, ap, ◌∙◌, subst, ⊎_elim}
+use Rattle.std.proofs.Common.{◌≡◌, ◌+◌, ℕ, List, Err, length, refl, sym, ap, ◌∙◌, subst, ⊎_elim}
 use Rattle.fz_stream.specs.declared.error.StreamError.TheVariants.{TooLong, Failed as FailedBefore}
 use Rattle.fz_stream.specs.declared.splitter.Stage.TheVariants.{Running, Failed}
-use Rattle.fz_stream.specs.Faults.{IsFaultWithin}
-use Rattle.fz_stream.specs.Splitting.{SplitterState}
-use Rattle.fz_stream.proofs.FaultLemmas.{stream_fault, not_failed}
-use Rattle.fz_stream.proofs.FeedLemmas.{fed, kept_by, short_held}
+use Rattle.fz_stream.specs.Faults.{IsCuttingFault, IsFaultWithin}
+use Rattle.fz_stream.specs.Parts.{Frame}
+use Rattle.fz_stream.specs.Keeping.{Stands}
+use Rattle.fz_stream.specs.Splitting.{SplitterState, Fits}
+use Rattle.fz_stream.proofs.FeedLemmas.{fed, cut_off, some_ended, none_ended, stands_for, short_held}
 use Rattle.fz_stream.proofs.splitter.Splitter.feed.Goals as goal
 
 pub returns-in-Ok : goal.returns-in-Ok
 returns-in-Ok c =
     let stage = ap (λ (s : SplitterState). s.stage) c.self.view_is in
     let running : c.self.inside.stage ≡ Running = ⊎_elim (λ r. r) (λ f. absurd (c.requires (sym stage ∙ f))) c.in-Running.is in
+    let d = c.drop_frame.ensures in
+    let t = c.in-Ok.ensures in
+    let stands : (bytes : List ℕ) (frames : List Frame) → Fits c.args.self.now bytes frames → Stands c.drop_frame.new.held bytes frames =
+    stands_for c.args.self.now _ (d.kept ∙ ap (λ (s : SplitterState). s.held) c.self.view_is) (d.line ∙ ap (λ (s : SplitterState). s.line) c.self.view_is) (d.taken ∙ ap (λ (s : SplitterState). s.taken) c.self.view_is) in
     record {
-      fits = fed c.args.self.now c.drop_part.new.held c.take_bytes.new.held c.args.piece.now c.in-Ok.n _ running c.in-Ok.ensures.within
-          (c.drop_part.ensures.kept ∙ ap (λ (s : SplitterState). s.held) c.self.view_is) (c.drop_part.ensures.taken ∙ ap (λ (s : SplitterState). s.taken) c.self.view_is) c.in-Ok.ensures.count c.in-Ok.ended c.in-Ok.ensures.all c.in-Ok.ensures.part;
-      within = c.in-Ok.ensures.within;
+      fits = λ bytes frames f. fed _ _ _ _ _ running t.within t.count c.in-Ok.ended bytes frames (stands bytes frames f) (t.ends bytes frames (stands bytes frames f));
+      ends = λ bytes frames f. cut_off _ _ frames c.in-Ok.ended (t.ends bytes frames (stands bytes frames f));
+      some = λ some. t.some (some_ended c.in-Ok.ended _ _ some);
+      all = λ none. t.all (none_ended c.in-Ok.ended _ _ none);
+      within = t.within;
       ok = running;
-      held = short_held c.in-Ok.ended _ _ c.in-Ok.ensures.most_after;
-      taken = c.in-Ok.ensures.taken_after;
-      room = λ bytes parts f. c.in-Ok.ensures.room bytes parts
-          (kept_by c.args.self.now c.drop_part.new.held (c.drop_part.ensures.kept ∙ ap (λ (s : SplitterState). s.held) c.self.view_is) bytes parts f)
-          (c.drop_part.ensures.taken ∙ ap (λ (s : SplitterState). s.taken) c.self.view_is ∙ f.taken);
+      held = short_held c.in-Ok.ended _ _ t.most_after;
+      taken = t.taken_after;
+      room = λ bytes frames f. t.room bytes frames (stands bytes frames f);
       broken = tt;
       too_long = λ e. absurd cc;
       failed = ((λ e. absurd cc), (λ e. absurd (let no : Running ≡ Failed = sym running ∙ stage ∙ e in cc)));
@@ -33,24 +38,27 @@ pub returns-in-Err : goal.returns-in-Err
 returns-in-Err c =
     let stage = ap (λ (s : SplitterState). s.stage) c.self.view_is in
     let running : c.self.inside.stage ≡ Running = ⊎_elim (λ r. r) (λ f. absurd (c.requires (sym stage ∙ f))) c.in-Running.is in
-    let held = c.drop_part.ensures.kept ∙ ap (λ (s : SplitterState). s.held) c.self.view_is in
-    let taken = c.drop_part.ensures.taken ∙ ap (λ (s : SplitterState). s.taken) c.self.view_is in
+    let d = c.drop_frame.ensures in
+    let taken = d.taken ∙ ap (λ (s : SplitterState). s.taken) c.self.view_is in
+    let stands : (bytes : List ℕ) (frames : List Frame) → Fits c.args.self.now bytes frames → Stands c.drop_frame.new.held bytes frames =
+    stands_for c.args.self.now _ (d.kept ∙ ap (λ (s : SplitterState). s.held) c.self.view_is) (d.line ∙ ap (λ (s : SplitterState). s.line) c.self.view_is) taken in
     record {
       fits = tt;
+      ends = tt;
+      some = tt;
+      all = tt;
       within = tt;
       ok = tt;
       held = tt;
       taken = tt;
       room = tt;
-      broken = λ memory long _ bytes parts f. c.in-Err.ensures.broken memory long bytes parts (kept_by c.args.self.now c.drop_part.new.held held bytes parts f) (taken ∙ f.taken);
-      too_long = λ e bytes parts f. (
-          let same : c.in-Err.e ≡ TooLong = cc in
-          c.take_bytes.ensures.too_long (c.in-Err.is ∙ ap Err same) bytes parts (kept_by c.args.self.now c.drop_part.new.held held bytes parts f) (taken ∙ f.taken));
+      broken = λ memory long _ bytes frames f. c.in-Err.ensures.broken memory long bytes frames (stands bytes frames f);
+      too_long = λ e bytes frames f. (let same : c.in-Err.e ≡ TooLong = cc in c.take_bytes.ensures.too_long (c.in-Err.is ∙ ap Err same) bytes frames (stands bytes frames f));
       failed = (
-        (λ e. absurd (let same : c.in-Err.e ≡ FailedBefore = cc in not_failed c.in-Err.e c.in-Err.ensures.fault same)),
+        (λ e. absurd (let same : c.in-Err.e ≡ FailedBefore = cc in subst IsCuttingFault same c.in-Err.ensures.fault)),
         (λ e. absurd (let no : Running ≡ Failed = sym running ∙ stage ∙ e in cc)),
       );
-      fault = λ _. stream_fault c.in-Err.e c.in-Err.ensures.fault;
+      fault = λ _. c.in-Err.ensures.fault;
       place = subst (λ n. IsFaultWithin (n + length c.args.piece.now) c.in-Err.e) taken c.in-Err.ensures.place;
       err = (refl, refl);
     }

@@ -5,4 +5,4 @@ use Rattle.fz_stream.proofs.splitter.Splitter.new.Goals as goal
 pub returns : goal.returns
 returns c =
     let none : 0 + length c.new.result.items ≡ 0 = omega (arith, ap length c.new.ensures.items) in
-    fits_nothing _ refl none c.new.ensures.items refl
+    fits_nothing _ refl none c.new.ensures.items refl refl

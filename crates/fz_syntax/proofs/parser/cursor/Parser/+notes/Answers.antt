@@ -7,7 +7,7 @@ use Rattle.fz_syntax.proofs.Folds.{note_unfolds, list_unfolds}
 use Rattle.fz_syntax.specs.Walk.{Walk}
 use Rattle.fz_tree.specs.View.{bare_arg, bare_basic}
 use Rattle.fz_syntax.specs.Reading.{any_number, at_most, note_at, note_arg_at, note_basic_at, begins_note_basic}
-use Rattle.fz_tree.specs.Shape.{the_limits}
+use Rattle.fz_tree.specs.Text.{the_limits}
 use Rattle.fz_syntax.proofs.Separated.{separated_fails}
 use Rattle.fz_syntax.proofs.Running.{separated_init, keeps_on, stops, is_whole_list, grown, length_seen}
 use Rattle.fz_syntax.proofs.NoteLaws.{note_list_shrinks, note_args_shrink}

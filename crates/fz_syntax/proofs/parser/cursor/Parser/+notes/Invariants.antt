@@ -4,7 +4,7 @@ use Rattle.fz_syntax.specs.Walk.{Walk, lexemes}
 use Rattle.fz_syntax.specs.Placed.{placed_separated, placed_arg, placed_note_basic}
 use Rattle.fz_tree.specs.View.{bare_arg, bare_basic}
 use Rattle.fz_syntax.specs.Reading.{separated_at, any_number, at_most, note_at, note_arg_at, note_basic_at, begins_note_basic}
-use Rattle.fz_tree.specs.Shape.{the_limits}
+use Rattle.fz_tree.specs.Text.{the_limits}
 use Rattle.fz_syntax.proofs.Running.{Continues}
 use Rattle.fz_syntax.proofs.parser.cursor.Parser.+notes.Given as goal
 

@@ -1,5 +1,5 @@
 use Rattle.fz_syntax.specs.Reading.{bounds_at}
-use Rattle.fz_tree.specs.Shape.{the_limits, IsBounds}
+use Rattle.fz_tree.specs.Text.{the_limits, IsBounds}
 use Rattle.fz_syntax.proofs.ItemLaws.{bounds_takes}
 use Rattle.fz_syntax.proofs.Walks.{read_literal}
 use Rattle.fz_syntax.proofs.parser.cursor.Parser.bounds.Goals as goal

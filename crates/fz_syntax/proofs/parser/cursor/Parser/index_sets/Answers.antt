@@ -3,7 +3,7 @@ use Rattle.std.proofs.lemmas.Result.{err_from_is_err_and}
 use Rattle.fz_syntax.specs.Placed.{placed_literal}
 use Rattle.fz_syntax.proofs.Walks.{walk_zero, walk_more, with_comma}
 use Rattle.fz_tree.specs.View.{bare_literal}
-use Rattle.fz_tree.specs.Shape.{the_limits}
+use Rattle.fz_tree.specs.Text.{the_limits}
 use Rattle.fz_syntax.proofs.Running.{grown}
 use Rattle.fz_syntax.proofs.IndexSets.{counts_begin, counts_on, counts_stop, counts_all}
 use Rattle.fz_syntax.proofs.parser.cursor.Parser.index_sets.Goals as goal
@@ -34,7 +34,7 @@ loop-self-preserved c =
     }
 
 pub returns-clause-read : goal.returns-clause-read
-returns-clause-read c = rw c.trimmed.ensures (counts_all the_limits _ _ _ _ (omega (arith, c.loop-self-test.false, c.len.ensures ∙ c.loop-self.sets.ok.0)) c.loop-self.invariant.counts)
+returns-clause-read c = (counts_all the_limits _ _ _ _ (omega (arith, c.loop-self-test.false, c.len.ensures ∙ c.loop-self.sets.ok.0)) c.loop-self.invariant.counts)
 
 pub returns-clause-walked : goal.returns-clause-walked
-returns-clause-walked c = rw c.trimmed.ensures (c.loop-self.invariant.walked)
+returns-clause-walked c = (c.loop-self.invariant.walked)

@@ -3,7 +3,7 @@ use Rattle.fz_syntax.specs.Walk.{Walk, lexemes}
 use Rattle.fz_syntax.specs.Placed.{placed_indexes}
 use Rattle.fz_tree.specs.View.{bare_literal}
 use Rattle.fz_syntax.specs.ReadingItems.{index_sets_at}
-use Rattle.fz_tree.specs.Shape.{the_limits}
+use Rattle.fz_tree.specs.Text.{the_limits}
 use Rattle.fz_syntax.proofs.IndexSets.{Counts}
 use Rattle.fz_syntax.proofs.parser.cursor.Parser.index_sets.Given as goal
 

@@ -1,5 +1,5 @@
 use Rattle.fz_syntax.specs.Reading.{literal_at}
-use Rattle.fz_tree.specs.Shape.{the_limits, IsLiteral}
+use Rattle.fz_tree.specs.Text.{the_limits, IsLiteral}
 use Rattle.fz_syntax.proofs.ExprLaws.{literal_takes}
 use Rattle.fz_syntax.proofs.Walks.{read_literal}
 use Rattle.fz_syntax.proofs.parser.cursor.Parser.literal.Goals as goal

@@ -6,7 +6,7 @@ use Rattle.fz_syntax.specs.Placed.{unplaced, placed_note}
 use Rattle.fz_syntax.proofs.Walks.{walk_zero, walk_more, walk_then, walk_kept, ate}
 use Rattle.fz_tree.specs.View.{bare_note}
 use Rattle.fz_syntax.specs.Reading.{any_number, note_at}
-use Rattle.fz_tree.specs.Shape.{the_limits}
+use Rattle.fz_tree.specs.Text.{the_limits}
 use Rattle.fz_syntax.proofs.Running.{keeps_on, stops, is_whole_list, grown, notes_begin}
 use Rattle.fz_syntax.proofs.NoteLaws.{notes_shrink}
 use Rattle.fz_syntax.proofs.parser.cursor.Parser.notes.Goals as goal

@@ -4,7 +4,7 @@ use Rattle.fz_syntax.specs.Walk.{Walk, lexemes}
 use Rattle.fz_syntax.specs.Placed.{placed_notes}
 use Rattle.fz_tree.specs.View.{bare_notes}
 use Rattle.fz_syntax.specs.Reading.{any_number, note_at, notes_at}
-use Rattle.fz_tree.specs.Shape.{the_limits}
+use Rattle.fz_tree.specs.Text.{the_limits}
 use Rattle.fz_syntax.proofs.Running.{Continues}
 use Rattle.fz_syntax.proofs.parser.cursor.Parser.notes.Given as goal
 

@@ -4,7 +4,7 @@ use Rattle.std.proofs.lemmas.Result.{err_from_is_err_and}
 use Rattle.fz_lex.specs.declared.token.Mark.TheVariants.{Comma}
 use Rattle.fz_syntax.specs.Walk.{Passed, lexemes}
 use Rattle.fz_syntax.specs.Reading.{at_most, whole_at, is_whole}
-use Rattle.fz_tree.specs.Shape.{the_limits}
+use Rattle.fz_tree.specs.Text.{the_limits}
 use Rattle.fz_syntax.proofs.Walks.{passed_then, passed_none}
 use Rattle.fz_syntax.proofs.Shorter.{at_most_shortens, whole_shortens}
 use Rattle.fz_syntax.proofs.Running.{wants_next, wants_part, wants_fails, wants_more, awaits_first, is_whole_list}

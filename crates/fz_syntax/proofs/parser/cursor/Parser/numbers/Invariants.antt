@@ -1,7 +1,7 @@
 use Rattle.std.proofs.Common.{◌≡◌, ◌≤◌, length}
 use Rattle.fz_syntax.specs.Walk.{Passed, lexemes}
 use Rattle.fz_syntax.specs.Reading.{at_most, separated_at, whole_at, is_whole}
-use Rattle.fz_tree.specs.Shape.{the_limits}
+use Rattle.fz_tree.specs.Text.{the_limits}
 use Rattle.fz_syntax.proofs.Running.{Wants}
 use Rattle.fz_syntax.proofs.parser.cursor.Parser.numbers.Given as goal
 

@@ -1,7 +1,7 @@
 use Rattle.fz_lex.specs.declared.token.Mark.TheVariants.{Colon}
 use Rattle.fz_tree.specs.Tokens.{param_prefix_toks}
 use Rattle.fz_syntax.specs.Reading.{param_prefix_at}
-use Rattle.fz_tree.specs.Shape.{the_limits}
+use Rattle.fz_tree.specs.Text.{the_limits}
 use Rattle.fz_syntax.proofs.ItemLaws.{param_prefix_takes}
 use Rattle.fz_syntax.proofs.Walks.{mark_walk, walk_then, read_walk, var_walk}
 use Rattle.fz_syntax.proofs.parser.cursor.Parser.param.Goals as goal

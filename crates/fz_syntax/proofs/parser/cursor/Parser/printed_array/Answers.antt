@@ -4,7 +4,7 @@ use Rattle.std.proofs.Common.{ℕ, ◌++◌, ◌∙◌, map, sym, ap}
 use Rattle.std.proofs.lemmas.List.{length-map}
 use Rattle.fz_tree.specs.Tokens.{array_word}
 use Rattle.fz_tree.specs.View.{bare_literal}
-use Rattle.fz_tree.specs.Shape.{the_limits}
+use Rattle.fz_tree.specs.Text.{the_limits}
 use Rattle.fz_syntax.proofs.PrintedLaws.{index_sets_take}
 use Rattle.fz_syntax.proofs.Walks.{mark_walk, walk_then}
 use Rattle.fz_syntax.proofs.parser.cursor.Parser.printed_array.Goals as goal

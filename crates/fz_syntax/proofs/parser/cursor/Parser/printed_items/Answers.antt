@@ -5,7 +5,7 @@ use Rattle.fz_syntax.proofs.Walks.{walk_zero, walk_more}
 use Rattle.fz_tree.specs.View.{bare_printed}
 use Rattle.fz_syntax.specs.Reading.{is_name}
 use Rattle.fz_syntax.specs.ReadingItems.{printed_at}
-use Rattle.fz_tree.specs.Shape.{the_limits}
+use Rattle.fz_tree.specs.Text.{the_limits}
 use Rattle.fz_syntax.proofs.Running.{gathers_begin, gathers_on, gathers_stop, gathers_all, grown}
 use Rattle.fz_syntax.proofs.PrintedLaws.{printed_shrink}
 use Rattle.fz_syntax.proofs.parser.cursor.Parser.printed_items.Goals as goal
@@ -35,7 +35,7 @@ pub loop-self-smaller : goal.loop-self-smaller
 loop-self-smaller c = printed_shrink the_limits 0 _ _ _ c.in_ok-item.ensures.read
 
 pub returns-clause-read : goal.returns-clause-read
-returns-clause-read c = rw c.trimmed.ensures (gathers_all is_name (printed_at the_limits) _ _ _ _ c.loop-self-test.false c.begins_name.ensures c.loop-self.invariant.gathers)
+returns-clause-read c = (gathers_all is_name (printed_at the_limits) _ _ _ _ c.loop-self-test.false c.begins_name.ensures c.loop-self.invariant.gathers)
 
 pub returns-clause-walked : goal.returns-clause-walked
-returns-clause-walked c = rw c.trimmed.ensures (c.loop-self.invariant.walked)
+returns-clause-walked c = (c.loop-self.invariant.walked)

@@ -5,8 +5,8 @@ use Rattle.fz_syntax.specs.Placed.{placed_printed}
 use Rattle.fz_tree.specs.View.{bare_printed}
 use Rattle.fz_syntax.specs.Reading.{many_at, any_number, is_name}
 use Rattle.fz_syntax.specs.ReadingItems.{printed_at}
-use Rattle.fz_tree.specs.Shape.{the_limits}
-use Rattle.fz_syntax.specs.Offering.{Gathers}
+use Rattle.fz_tree.specs.Text.{the_limits}
+use Rattle.fz_syntax.proofs.Running.{Gathers}
 use Rattle.fz_syntax.proofs.parser.cursor.Parser.printed_items.Given as goal
 
 abbrev pub invariant-loop-self : goal.invariant-loop-self

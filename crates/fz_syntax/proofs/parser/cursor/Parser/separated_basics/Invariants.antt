@@ -4,7 +4,7 @@ use Rattle.fz_syntax.specs.Walk.{Walk, lexemes}
 use Rattle.fz_syntax.specs.Placed.{placed_separated, placed_basic}
 use Rattle.fz_tree.specs.View.{bare_expression}
 use Rattle.fz_syntax.specs.Reading.{separated_at, at_most, begins_basic, basic_at}
-use Rattle.fz_tree.specs.Shape.{the_limits}
+use Rattle.fz_tree.specs.Text.{the_limits}
 use Rattle.fz_syntax.proofs.Running.{Continues}
 use Rattle.fz_syntax.proofs.parser.cursor.Parser.separated_basics.Given as goal
 

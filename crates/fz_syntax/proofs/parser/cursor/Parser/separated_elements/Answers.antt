@@ -6,7 +6,7 @@ use Rattle.fz_syntax.proofs.Walks.{walk_zero, walk_more, walk_then, walk_kept, w
 use Rattle.fz_syntax.specs.Walk.{Walk, lexemes}
 use Rattle.fz_tree.specs.View.{bare_literal}
 use Rattle.fz_syntax.specs.Reading.{at_most, begins_literal, literal_at}
-use Rattle.fz_tree.specs.Shape.{the_limits}
+use Rattle.fz_tree.specs.Text.{the_limits}
 use Rattle.fz_syntax.proofs.Running.{wants_first, wants_next, wants_part, wants_fails, wants_more, awaits_first, is_whole_list, grown, length_seen}
 use Rattle.fz_syntax.proofs.Listed.{listed_element}
 use Rattle.fz_syntax.proofs.PrintedLaws.{elements_shrink}
@@ -44,12 +44,12 @@ returns-then-not-eat-clause-read c =
     let left : lexemes c.listed-test.self ≡ lexemes c.listed.self = elim c.listed-test.branch [ else-listed-test w ↦ ap lexemes w.self-is | then-listed-test+in_default w ↦ ap lexemes w.self-is ∙ w.in_default.ensures.kept ] in
     let wants = rw (← left) at c.listed.invariant.wants in
     let part = wants_part (at_most the_limits.elements begins_literal (literal_at the_limits)) (elements_shrink the_limits) _ _ _ _ _ _ _ (c.len-in-elements.ensures ∙ c.listed.elements.ok.0 ∙ length_seen bare_literal c.listed.elements.items) (grown bare_literal _ _ _ c.in_ok-push-2.ensures.items) c.in_ok-element.ensures.read wants in
-    rw c.trimmed.ensures (is_whole_list Comma (at_most the_limits.elements begins_literal (literal_at the_limits)) _ _ _ _ _ c.if-not-eat.true c.eat.ensures.found c.eat.ensures.left part)
+    (is_whole_list Comma (at_most the_limits.elements begins_literal (literal_at the_limits)) _ _ _ _ _ c.if-not-eat.true c.eat.ensures.found c.eat.ensures.left part)
 
 pub returns-then-not-eat-clause-walked : goal.returns-then-not-eat-clause-walked
 returns-then-not-eat-clause-walked c =
     let stays : Walk c.listed.self c.listed-test.self [] = elim c.listed-test.branch [ else-listed-test w ↦ subst (λ p. Walk c.listed.self p []) (sym w.self-is) walk_none | then-listed-test+in_default w ↦ subst (λ p. Walk c.listed.self p []) (sym w.self-is) w.in_default.ensures.stays ] in
-    rw c.trimmed.ensures (walk_kept _ c.if-not-eat.true c.eat.ensures.kept (separated_end placed_literal _ _ _ c.in_ok-push-2.ensures.items (walk_end c.listed.invariant.walked stays) c.in_ok-element.ensures.walked))
+    (walk_kept _ c.if-not-eat.true c.eat.ensures.kept (separated_end placed_literal _ _ _ c.in_ok-push-2.ensures.items (walk_end c.listed.invariant.walked stays) c.in_ok-element.ensures.walked))
 
 pub elements-preserved : goal.elements-preserved
 elements-preserved c =

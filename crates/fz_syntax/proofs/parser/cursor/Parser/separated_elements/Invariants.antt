@@ -4,7 +4,7 @@ use Rattle.std.specs.List.{flat_map}
 use Rattle.fz_syntax.specs.Placed.{placed_literal}
 use Rattle.fz_tree.specs.View.{bare_literal}
 use Rattle.fz_syntax.specs.Reading.{separated_at, at_most, begins_literal, literal_at}
-use Rattle.fz_tree.specs.Shape.{the_limits}
+use Rattle.fz_tree.specs.Text.{the_limits}
 use Rattle.fz_syntax.proofs.Running.{Wants}
 use Rattle.fz_syntax.proofs.Walks.{with_comma}
 use Rattle.fz_syntax.proofs.parser.cursor.Parser.separated_elements.Given as goal

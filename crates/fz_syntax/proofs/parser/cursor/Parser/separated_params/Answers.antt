@@ -5,7 +5,7 @@ use Rattle.fz_syntax.specs.Placed.{placed_param}
 use Rattle.fz_syntax.proofs.Walks.{separated_first, separated_more, some_pushed, walk_kept, ate}
 use Rattle.fz_tree.specs.View.{bare_param}
 use Rattle.fz_syntax.specs.Reading.{any_number, param_at}
-use Rattle.fz_tree.specs.Shape.{the_limits}
+use Rattle.fz_tree.specs.Text.{the_limits}
 use Rattle.fz_syntax.proofs.Separated.{separated_fails}
 use Rattle.fz_syntax.proofs.Running.{separated_init, keeps_on, stops, is_whole_list, grown}
 use Rattle.fz_syntax.proofs.ItemLaws.{params_shrink}

@@ -1,0 +1,158 @@
+-- One more block is judged and counted, and one more part is told.
+use Rattle.std.proofs.Common.{◌≡◌, ℕ, suc, ◌+◌, List, [], ◌∷◌, ◌++◌, length, map, Some, None, cond, refl, sym, ap, ◌∙◌, subst, subst₂, arith, length-append}
+use Rattle.std.proofs.lemmas.List.{length-map, map-append}
+use Rattle.std.specs.Option.{option_or}
+use Rattle.std.specs.Prelude.{IfErr, IfOk, OnOk, Result, Ok, Err}
+use Rattle.fz_judge.specs.of_model.Meaning.{Model, Partial, objective}
+use Rattle.fz_judge.specs.of_stream.declared.block.Block as the_block
+use Rattle.fz_judge.specs.of_stream.declared.line.ClaimKind.{ClaimKind}
+use Rattle.fz_judge.specs.of_stream.Found.{EndsWithin, HasPlaces, block_of}
+use Rattle.fz_judge.specs.of_stream.Parts.{blocks_in, StreamPart, BlockPart, ClaimPart}
+use Rattle.fz_judge.proofs.of_stream.PartLemmas.{every_append}
+use Rattle.fz_judge.specs.of_verdict.View.{located_block}
+use Rattle.fz_judge.specs.of_verdict.Solutions.{Block}
+use Rattle.fz_judge.specs.of_verdict.declared.completion.Completion.{Completion}
+use Rattle.fz_judge.specs.of_verdict.Completed.{AreTold, IsToldBy}
+use Rattle.fz_judge.specs.of_verdict.Verdict.{Answer, Verdict, verdict, IsFilled, answer_by, answer_of, is_violated, is_undecided, first_number}
+use Rattle.fz_judge.proofs.of_verdict.Completing.{told_lengths}
+use Rattle.fz_judge.proofs.of_verdict.Loops.{GoesOn, goes_on_after, goes_on_judged, blocks_with_block, blocks_with_claim, first_number_more}
+use Rattle.fz_judge.specs.Judged.{JudgeState, IsJudged, IsBlockRefusal}
+use Rattle.fz_check.specs.declared.error.CheckError.{CheckError}
+use Rattle.fz_check.specs.declared.error.CheckError.TheVariants as errors
+use Rattle.fz_check.specs.declared.jury.Jury.{Jury}
+use Rattle.fz_check.specs.declared.tally.Tally.{Tally}
+use Rattle.fz_check.specs.Report.{Event, HaveVerdicts, events_of}
+use Rattle.fz_check.specs.Report.Event.{Judged, Claimed}
+use Rattle.fz_check.specs.Telling.{Tallies, HasJudged, HasTold, IsFresh, IsUnjudged, IsUntold, JudgesOneMore, TellsOneMore}
+use Rattle.fz_check.proofs.EventLemmas.{events_with_block, events_with_claims, text_with}
+
+tallies_more : (old new : Tally) (vs : List Verdict) (v : Verdict) → new.blocks ≡ old.blocks + 1
+    → new.violated ≡ option_or old.violated (cond (is_violated v) (Some (old.blocks + 1)) None)
+    → new.undecided ≡ option_or old.undecided (cond (is_undecided v) (Some (old.blocks + 1)) None) → Tallies old vs → Tallies new (vs ++ v ∷ [])
+tallies_more old new vs v blocks violated undecided t =
+    let count : old.blocks + 1 ≡ 1 + length vs = omega (arith, t.blocks) in
+    record {
+      blocks = omega (arith, blocks, t.blocks, length-append vs (v ∷ []));
+      violated = violated ∙ ap (λ o. option_or o (cond (is_violated v) (Some (old.blocks + 1)) None)) t.violated ∙ ap (λ n. option_or (first_number 1 is_violated vs) (cond (is_violated v) (Some n) None)) count ∙ sym (first_number_more 1 is_violated vs v);
+      undecided = undecided ∙ ap (λ o. option_or o (cond (is_undecided v) (Some (old.blocks + 1)) None)) t.undecided ∙ ap (λ n. option_or (first_number 1 is_undecided vs) (cond (is_undecided v) (Some n) None)) count ∙ sym (first_number_more 1 is_undecided vs v);
+    }
+
+-- the verdict of a judge that judges in this way against this model
+record IsJudgedAs (c : Completion) (m : Model) (j j' : JudgeState) (block : Block) (v : Verdict) : Type 0 where
+  filling : Partial
+  is_filled : IsFilled m block filling
+  told : IsToldBy c m block j.found filling (verdict m filling block j.before) v j'.found
+  kept_is : j'.before ≡ objective m filling
+
+judged_as : (c : Completion) (m : Model) (j j' : JudgeState) (block : Block) (v : Verdict)
+    → j.completion ≡ c → j.model ≡ m → IsJudged j j' block v → IsJudgedAs c m j j' block v
+judged_as c m j j' block v same_completion same_model judged = subst₂ (λ d n. IsJudgedAs d n j j' block v) same_completion same_model (record { filling = judged.filling; is_filled = judged.is_filled; told = judged.told; kept_is = judged.kept_is })
+
+pub judges_more : (j j' : Jury) (block : Block) (v : Verdict) → IsJudged j.judge j'.judge block v
+    → j'.judge.model ≡ j.judge.model → j'.judge.completion ≡ j.judge.completion
+    → j'.tally.blocks ≡ j.tally.blocks + 1 → j'.tally.violated ≡ option_or j.tally.violated (cond (is_violated v) (Some (j.tally.blocks + 1)) None)
+    → j'.tally.undecided ≡ option_or j.tally.undecided (cond (is_undecided v) (Some (j.tally.blocks + 1)) None) → JudgesOneMore j j' block v
+judges_more j j' block v judged same_model same_completion blocks violated undecided = λ c m bs vs h.
+    let so : IsJudgedAs c m j.judge j'.judge block v = judged_as c m j.judge j'.judge block v h.same_completion h.same_model judged in
+    record {
+      same_model = same_model ∙ h.same_model;
+      same_completion = same_completion ∙ h.same_completion;
+      goes_on = subst (λ k. GoesOn c m (bs ++ block ∷ []) (vs ++ v ∷ []) k j'.judge.found) (sym so.kept_is)
+          (goes_on_after c m bs vs j.judge.before j.judge.found j'.judge.found block v so.filling h.goes_on so.is_filled so.told);
+      tallies = tallies_more j.tally j'.tally vs v blocks violated undecided h.tallies;
+    }
+
+pub judged_none : (j : Jury) → IsFresh j → HasJudged j.judge.completion j.judge.model j [] []
+judged_none j f = record {
+  same_model = refl;
+  same_completion = refl;
+  goes_on = λ more ws told. subst₂ (λ b e. AreTold j.judge.completion j.judge.model b e more ws) f.before f.found told;
+  tallies = record {
+    blocks = ap (λ (t : Tally). t.blocks) f.tally;
+    violated = ap (λ (t : Tally). t.violated) f.tally;
+    undecided = ap (λ (t : Tally). t.undecided) f.tally;
+  };
+}
+
+-- of a model, in a way
+pub judged_by : (j : Jury) (m : Model) (c : Completion)
+    → j.judge ≡ record { model = m; completion = c; before = None; found = None } → j.tally ≡ record { blocks = 0; violated = None; undecided = None } → HasJudged c m j [] []
+judged_by j m c is tally =
+    subst (λ (k : JudgeState). HasJudged k.completion k.model j [] []) is
+    (judged_none j (record { before = ap (λ (k : JudgeState). k.before) is; found = ap (λ (k : JudgeState). k.found) is; tally = tally }))
+
+-- the numbers give the answer
+pub answer_is : (c : Completion) (m : Model) (j : Jury) (bs : List Block) (vs : List Verdict)
+    (answer : Answer) → HasJudged c m j bs vs
+    → answer ≡ answer_by j.tally.violated j.tally.undecided j.tally.blocks → answer ≡ answer_of vs
+answer_is c m j bs vs answer h e =
+    let t = h.tallies in
+    e ∙ ap (λ v. answer_by v j.tally.undecided j.tally.blocks) t.violated ∙ ap (λ u. answer_by (first_number 1 is_violated vs) u j.tally.blocks) t.undecided
+    ∙ ap (answer_by (first_number 1 is_violated vs) (first_number 1 is_undecided vs)) t.blocks
+
+pub told_none : (j : Jury) → IsFresh j → HasTold j.judge.completion j.judge.model j [] []
+told_none j f = record { blocks = []; blocks_are = refl; places = tt; judged = judged_none j f }
+
+module _ (c : Completion) (m : Model) (j : Jury) (parts : List StreamPart) (vs : List Verdict) (h : HasTold c m j parts vs) where
+  abbrev pub have_verdicts : HaveVerdicts c m parts vs
+  have_verdicts = record { blocks = h.blocks; blocks_are = h.blocks_are; places = h.places; are_verdicts = goes_on_judged c m (map located_block h.blocks) vs j.judge.before j.judge.found h.judged.goes_on }
+
+  one_each : length vs ≡ length (blocks_in parts)
+  one_each = sym (told_lengths c m have_verdicts.are_verdicts) ∙ length-map h.blocks located_block ∙ sym (length-map h.blocks block_of) ∙ ap length h.blocks_are
+
+  pub tells_claim : (text : Event → List ℕ) (kind : ClaimKind) (line : List ℕ)
+      → line ≡ text (Claimed kind) → TellsOneMore text c m j parts vs (ClaimPart kind) line
+  tells_claim text kind line is = record {
+    more = vs;
+    told = record { blocks = h.blocks; blocks_are = h.blocks_are ∙ sym (blocks_with_claim parts kind); places = h.places; judged = h.judged };
+    lines = text_with text _ (events_of 0 vs parts) (Claimed kind) line (events_with_claims 0 vs parts (kind ∷ []) one_each) is;
+  }
+
+  pub tells_block : (text : Event → List ℕ) (j' : Jury) (block : the_block.Block) (v : Verdict)
+      (n : ℕ) (line : List ℕ) → JudgesOneMore j j' (located_block block) v → n ≡ j.tally.blocks + 1
+      → line ≡ text (Judged n v) → HasPlaces block
+      → TellsOneMore text c m j' parts vs (BlockPart (block_of block)) line
+  tells_block text j' block v n line judges number is places =
+      let count : n ≡ suc (0 + length vs) = omega (arith, number, h.judged.tallies.blocks) in
+      record {
+        more = vs ++ v ∷ [];
+        told = record {
+          blocks = h.blocks ++ block ∷ [];
+          blocks_are = map-append block_of h.blocks (block ∷ []) ∙ ap (λ l. l ++ block_of block ∷ []) h.blocks_are ∙ sym (blocks_with_block parts (block_of block));
+          places = every_append HasPlaces h.blocks (block ∷ []) h.places (places, tt);
+          judged = subst (λ bs. HasJudged c m j' bs (vs ++ v ∷ [])) (sym (map-append located_block h.blocks (block ∷ []))) (judges c m (map located_block h.blocks) vs h.judged);
+        };
+        lines = text_with text _ (events_of 0 vs parts) (Judged (suc (0 + length vs)) v) line (events_with_block 0 vs parts v (block_of block) one_each) (is ∙ ap (λ k. text (Judged k v)) count);
+      }
+
+  pub leaves_block : (most : ℕ) (block : the_block.Block) (e : CheckError)
+      → IsUnjudged most j block e → HasPlaces block → EndsWithin most block → IsUntold m parts (BlockPart (block_of block)) e
+  leaves_block most block (errors.Block n e) u places within = record {
+    block = block;
+    places = places;
+    part_is = refl;
+    number_is = u.0 ∙ ap suc (h.judged.tallies.blocks ∙ one_each);
+    not_memory = u.1;
+    refused = subst (λ l. IsBlockRefusal l (located_block block) e) h.judged.same_model (u.2 places within);
+  }
+  leaves_block most block errors.Memory u places within = tt
+  leaves_block most block errors.Read u places within = u
+  leaves_block most block errors.Write u places within = u
+  leaves_block most block (errors.Model e) u places within = u
+  leaves_block most block (errors.Names e) u places within = u
+  leaves_block most block (errors.Stream e) u places within = u
+
+-- what follows from a promise of a result
+pub on_ok : {T E P Q : Type 0} (r : Result T E) → (P → Q) → OnOk r P → OnOk r Q
+on_ok (Ok x) f p = f p
+on_ok (Err e) f p = tt
+
+pub if_err : {T E : Type 0} (P Q : E → Type 0) (r : Result T E) → ((e : E) → P e → Q e) → IfErr r P
+    → IfErr r Q
+if_err P Q (Ok x) f p = tt
+if_err P Q (Err e) f p = f e p
+
+pub if_ok : {T E : Type 0} (P Q : T → Type 0) (r : Result T E) → ((x : T) → P x → Q x) → IfOk r P
+    → IfOk r Q
+if_ok P Q (Ok x) f p = f x p
+if_ok P Q (Err e) f p = tt

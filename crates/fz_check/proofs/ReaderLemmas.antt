@@ -1,0 +1,233 @@
+-- What a reader of parts knows after each of its steps.
+use Rattle.std.proofs.Common.{◌≡◌, ◌≢◌, ℕ, inl, inr, subst₂, ◌+◌, ◌-◌, ◌≤◌, List, [], ◌∷◌, ◌++◌, length, map, take, drop, Option, Some, None, IsSome, true, false, ⊎_elim, refl, sym, ap, ◌∙◌, subst, append_assoc, append-nil, arith, length-take, length-append, take-append-drop}
+use Rattle.std.proofs.lemmas.List.{drop_all, drop-take, drop-drop, map_push}
+use Rattle.std.specs.List.{AllByRecursion}
+use Rattle.std.specs.Io.KnownBytes.{IsAtEnd}
+use Rattle.fz_judge.specs.of_stream.declared.error.StreamError.{StreamError}
+use Rattle.fz_judge.specs.of_stream.declared.error.StreamError.TheVariants as stream
+use Rattle.fz_judge.specs.of_stream.declared.splitter.Stage.TheVariants.{Running, Finished, Failed}
+use Rattle.fz_judge.specs.of_stream.Broken.{BreaksAfter, CannotGoOn, CannotEnd, IsBrokenAtEndAfter}
+use Rattle.fz_judge.specs.of_stream.Faults.{IsStreamFault, IsCuttingFault}
+use Rattle.fz_judge.specs.of_stream.Parts.{StreamPart, BlockPart, ClaimPart, Frame, frame_of, HasItems, Covers, IsStreamText}
+use Rattle.fz_judge.specs.of_stream.Splitting.{SplitterState, Holds, Fits, PassesLimit, EndsLast, EndsWith, IsPartOfItems, frames_in, most_taken}
+use Rattle.fz_judge.proofs.of_stream.PartLemmas.{every_append, into_frames}
+use Rattle.fz_check.specs.Reading.{PiecesState, ReaderState, HasRead, HasEnded, WaitsInside, HasNext, StandsAt, HasNoMore, IsRefusedInside, IsRefusedAfter}
+use Rattle.fz_check.specs.Streaming.{EndInside}
+use Rattle.fz_check.specs.Telling.{IsUnread, stream_refusal}
+
+-- what is left of a slice of the buffer
+pub pending_left : (buffer : List ℕ) (next end n : ℕ) → n ≤ length
+    (take (end - next) (drop next buffer)) → take (end - (next + n)) (drop (next + n) buffer)
+    ≡ drop n (take (end - next) (drop next buffer))
+pending_left buffer next end n h =
+    let size : end - next ≡ n + (end - (next + n)) = omega (arith, h, length-take (end - next) (drop next buffer)) in
+    sym (ap (λ m. drop n (take m (drop next buffer))) size ∙ drop-take n (end - (next + n)) (drop next buffer) ∙ ap (λ l. take (end - (next + n)) l) (drop-drop n next buffer))
+
+some_is : {A : Type 0} (o : Option A) → IsSome o → (x : A) × (o ≡ Some x)
+some_is None s = absurd (let no : false ≡ true = s in cc)
+some_is (Some x) s = (x, refl)
+
+none_is : {A : Type 0} (o : Option A) → (IsSome o → ⊥) → o ≡ None
+none_is None n = refl
+none_is (Some x) n = absurd (n refl)
+
+-- what `feed` promises, from what the splitter's own promises
+module _ (old : ReaderState) (s : SplitterState) (p : PiecesState) (view : record { splitter = s; pieces = p } ≡ old) (new : ReaderState) (piece : List ℕ) (n : ℕ) (is : piece ≡ p.pending)
+    (fed : (bytes : List ℕ) (frames : List Frame) → Fits s bytes frames → Fits new.splitter (bytes ++ take n piece) (frames ++ frames_in new.splitter.waits)) (taken : new.pieces.pending ≡ drop n p.pending) (most : new.splitter.taken ≤ most_taken) where
+  pending : piece ≡ old.pieces.pending
+  pending = is ∙ ap (λ (t : ReaderState). t.pieces.pending) view
+
+  behind : new.pieces.pending ≡ drop n piece
+  behind = taken ∙ ap (drop n) (sym is)
+
+  module _ (given : List ℕ) (parts : List StreamPart) (h : HasRead old given parts) where
+    fits_next : Fits new.splitter (h.taken ++ take n piece) (map frame_of parts ++ frames_in new.splitter.waits)
+    fits_next = fed h.taken (map frame_of parts) (subst (λ t. Fits t h.taken (map frame_of parts)) (sym (ap (λ (t : ReaderState). t.splitter) view)) h.fits)
+
+    whole_next : given ≡ (h.taken ++ take n piece) ++ new.pieces.pending
+    whole_next =
+        h.whole ∙ ap (λ l. h.taken ++ l) (sym pending ∙ sym (take-append-drop n piece)) ∙ sym (append_assoc h.taken (take n piece) (drop n piece)) ∙ ap (λ l. (h.taken ++ take n piece) ++ l) (sym behind)
+
+    short_next : length (h.taken ++ take n piece) ≤ most_taken
+    short_next = let f = fits_next in omega (arith, most, f.taken)
+
+    pub fed_more : IsSome new.splitter.waits → (frame : Frame) × (new.splitter.waits ≡ Some frame)
+        × WaitsInside new given parts frame
+    fed_more some =
+        let w = some_is new.splitter.waits some in
+        (w.0, w.1, record { taken = h.taken ++ take n piece; whole = whole_next; fits = subst (λ o. Fits new.splitter (h.taken ++ take n piece) (map frame_of parts ++ frames_in o)) w.1 fits_next; short = short_next })
+
+    pub fed_none : (IsSome new.splitter.waits → ⊥)
+        → (new.splitter.waits ≡ None → n ≡ length piece)
+        → (new.pieces.pending ≡ []) × HasRead new given parts
+    fed_none not_some all =
+        let none = none_is new.splitter.waits not_some in (
+          behind ∙ drop_all n piece (omega (arith, all none)),
+          record {
+            taken = h.taken ++ take n piece;
+            whole = whole_next;
+            fits = subst (Fits new.splitter (h.taken ++ take n piece)) (append-nil (map frame_of parts)) (subst (λ o. Fits new.splitter (h.taken ++ take n piece) (map frame_of parts ++ frames_in o)) none fits_next);
+            items = h.items;
+            short = short_next;
+          },
+        )
+
+-- or it refuses the stream inside the bytes
+module _ (old : ReaderState) (s : SplitterState) (p : PiecesState) (view : record { splitter = s; pieces = p } ≡ old) (piece : List ℕ) (is : piece ≡ p.pending) (given : List ℕ) (parts : List StreamPart) (h : HasRead old given parts) where
+  fits_old : Fits s h.taken (map frame_of parts)
+  fits_old = subst (λ t. Fits t h.taken (map frame_of parts)) (sym (ap (λ (t : ReaderState). t.splitter) view)) h.fits
+
+  whole_old : given ≡ h.taken ++ piece
+  whole_old = h.whole ∙ ap (λ l. h.taken ++ l) (sym (is ∙ ap (λ (t : ReaderState). t.pieces.pending) view))
+
+  pub fed_refused : (e : StreamError)
+      → (e ≢ stream.TooLong → (bytes : List ℕ) (frames : List Frame) → Fits s bytes frames → BreaksAfter CannotGoOn (bytes ++ piece) frames e)
+      → (e ≡ stream.TooLong → (bytes : List ℕ) (frames : List Frame) → Fits s bytes frames → PassesLimit bytes piece frames)
+      → IsRefusedInside given parts e
+  fed_refused stream.TooLong broken long = inl (refl, record { taken = h.taken; piece = piece; whole = whole_old; items = h.items; passes = long refl h.taken (map frame_of parts) fits_old })
+  fed_refused e broken long = inr (h.items, subst (λ l. BreaksAfter CannotGoOn l (map frame_of parts) e) (sym whole_old) (broken (λ q. cc) h.taken (map frame_of parts) fits_old))
+
+-- what `finish` promises, from what the splitter's own promises
+module _ (old new : ReaderState) (s : SplitterState) (same : old.splitter ≡ s) (none : old.pieces.pending ≡ []) (given : List ℕ) (parts : List StreamPart) (h : HasRead old given parts) where
+  all_fits : Fits s given (map frame_of parts)
+  all_fits =
+      let all : h.taken ≡ given = sym (h.whole ∙ ap (λ l. h.taken ++ l) none ∙ append-nil h.taken) in
+      subst (λ l. Fits s l (map frame_of parts)) all (subst (λ t. Fits t h.taken (map frame_of parts)) same h.fits)
+
+  module _ (ends : (bytes : List ℕ) (frames : List Frame) → Fits s bytes frames → EndsWith new.splitter.waits bytes frames) where
+    pub ended_more : IsSome new.splitter.waits → (frame : Frame)
+        × (new.splitter.waits ≡ Some frame) × EndsLast given (map frame_of parts) frame
+    ended_more some =
+        let w = some_is new.splitter.waits some in
+        (w.0, w.1, subst (λ o. EndsWith o given (map frame_of parts)) w.1 (ends given (map frame_of parts) all_fits))
+
+    pub ended_none : (IsSome new.splitter.waits → ⊥) → IsStreamText given parts
+    ended_none not_some = record {
+      framed = subst (λ o. EndsWith o given (map frame_of parts)) (none_is new.splitter.waits not_some) (ends given (map frame_of parts) all_fits);
+      items = h.items;
+    }
+
+  pub ended_broken : (e : StreamError)
+      → ((bytes : List ℕ) (frames : List Frame) → Fits s bytes frames → BreaksAfter CannotEnd bytes frames e)
+      → IsBrokenAtEndAfter given parts e
+  ended_broken e broken = (h.items, broken given (map frame_of parts) all_fits)
+
+pub cutting_fault : (e : StreamError) → IsCuttingFault e → IsStreamFault e
+cutting_fault (stream.Item f) h = absurd h
+cutting_fault (stream.DuplicateName s) h = absurd h
+cutting_fault stream.Failed h = absurd h
+cutting_fault _ h = tt
+
+-- why the stream is refused, as it is told
+pub unread : (left : Option (List ℕ)) (given : List ℕ) (parts : List StreamPart) (e : StreamError)
+    → (e ≢ stream.Memory → IsStreamFault e) → (e ≢ stream.Memory → IsRefusedAfter left given parts e)
+    → IsUnread left given parts (stream_refusal e)
+unread left given parts stream.TooLong fault why = let n : stream.TooLong ≢ stream.Memory = λ m. cc in (fault n, n, why n)
+unread left given parts (stream.Item f) fault why = let n : stream.Item f ≢ stream.Memory = λ m. cc in (fault n, n, why n)
+unread left given parts (stream.DuplicateName s) fault why = let n : stream.DuplicateName s ≢ stream.Memory = λ m. cc in (fault n, n, why n)
+unread left given parts (stream.Unfinished s) fault why = let n : stream.Unfinished s ≢ stream.Memory = λ m. cc in (fault n, n, why n)
+unread left given parts stream.Failed fault why = let n : stream.Failed ≢ stream.Memory = λ m. cc in (fault n, n, why n)
+unread left given parts stream.Memory fault why = tt
+
+-- ---- where a reader stands
+
+pub running : (s : ReaderState) (given : List ℕ) (parts : List StreamPart) → HasRead s given parts
+    → s.splitter.stage ≢ Finished
+running s given parts h f = let no : Running ≡ Finished = sym h.fits.running ∙ f in cc
+
+-- one that has not ended stands where it has read
+pub stands_reading : (s : ReaderState) (left : Option (List ℕ)) (given : List ℕ)
+    (parts : List StreamPart) → s.splitter.stage ≢ Finished → StandsAt s left given parts
+    → HasRead s given parts
+stands_reading s left given parts going st = ⊎_elim (λ h. h.0) (λ h. absurd (going h.1.finished)) st
+
+-- one that is at the end of the bytes
+pub stands_at_end : (s : ReaderState) (left : Option (List ℕ)) (given : List ℕ)
+    (parts : List StreamPart) → s.pieces.at_end ≡ true → StandsAt s left given parts → IsAtEnd left
+stands_at_end s left given parts e st = ⊎_elim (λ h. h.1 e) (λ h. h.0) st
+
+-- and one that has ended at the end of a text
+pub stands_ended : (s : ReaderState) (left : Option (List ℕ)) (given : List ℕ)
+    (parts : List StreamPart) → s.splitter.stage ≡ Finished → StandsAt s left given parts
+    → IsAtEnd left × IsStreamText given parts
+stands_ended s left given parts finished st =
+    ⊎_elim (λ h. absurd (running s given parts h.0 finished))
+    (λ (h : IsAtEnd left × HasEnded s given parts). (h.0, h.1.text)) st
+
+pub read_inside : (s : ReaderState) (left : Option (List ℕ)) (given : List ℕ)
+    (parts : List StreamPart) → HasRead s given parts → EndInside left given parts
+read_inside s left given parts h = inl (h.taken, s.pieces.pending, h.whole, (h.items, (s.splitter.held, h.fits.holds)))
+
+pub stands_inside : (s : ReaderState) (left : Option (List ℕ)) (given : List ℕ)
+    (parts : List StreamPart) → StandsAt s left given parts → EndInside left given parts
+stands_inside s left given parts st =
+    ⊎_elim (λ h. read_inside s left given parts h.0)
+    (λ (h : IsAtEnd left × HasEnded s given parts). inr (h.0, h.1.text)) st
+
+-- the splitter took all
+pub all_taken : (s : ReaderState) (given : List ℕ) (parts : List StreamPart)
+    → s.pieces.pending ≡ [] → HasRead s given parts → HasNoMore given parts
+all_taken s given parts none h =
+    let all : h.taken ≡ given = sym (h.whole ∙ ap (λ l. h.taken ++ l) none ∙ append-nil h.taken) in
+    (h.items, (s.splitter.held, subst (λ l. Holds l (map frame_of parts) s.splitter.held) all h.fits.holds))
+
+-- and more was read
+pub read_more : (s next : ReaderState) (given : List ℕ) (parts : List StreamPart)
+    → s.pieces.pending ≡ [] → next.splitter ≡ s.splitter → HasRead s given parts
+    → HasRead next (given ++ next.pieces.pending) parts
+read_more s next given parts none same h =
+    let all : h.taken ≡ given = sym (h.whole ∙ ap (λ l. h.taken ++ l) none ∙ append-nil h.taken) in
+    record {
+      taken = given;
+      whole = refl;
+      fits = subst₂ (λ t l. Fits t l (map frame_of parts)) (sym same) all h.fits;
+      items = h.items;
+      short = omega (arith, h.short, ap length h.whole, ap length none, length-append h.taken s.pieces.pending);
+    }
+
+-- the part that was read comes next
+module _ (s : ReaderState) (left : Option (List ℕ)) (given : List ℕ) (parts : List StreamPart) (frame : Frame) (n : HasNext s left given parts frame) where
+  module _ (part : StreamPart) (lent : Some (frame_of part) ≡ s.splitter.waits) (own : IsPartOfItems part) where
+    has_items : (p : StreamPart) → IsPartOfItems p → HasItems p
+    has_items (BlockPart block) h = h.0
+    has_items (ClaimPart kind) h = tt
+
+    items : AllByRecursion HasItems (parts ++ part ∷ [])
+    items = every_append HasItems parts (part ∷ []) n.items (has_items part own, tt)
+
+    framed_same : map frame_of parts ++ frame ∷ [] ≡ map frame_of (parts ++ part ∷ [])
+    framed_same =
+        let waits : Some frame ≡ Some (frame_of part) = sym (lent ∙ n.waits) in
+        let frames : frame ≡ frame_of part = cc in
+        ap (λ f. map frame_of parts ++ f ∷ []) frames ∙ sym (map_push frame_of parts part)
+
+    pub stands_next : StandsAt s left given (parts ++ part ∷ [])
+    stands_next =
+        ⊎_elim
+        (λ (w : WaitsInside s given parts frame × (s.pieces.at_end ≡ true → IsAtEnd left)).
+        inl (record { taken = w.0.taken; whole = w.0.whole; fits = subst (Fits s.splitter w.0.taken) framed_same w.0.fits; items = items; short = w.0.short }, w.1))
+        (λ (w : IsAtEnd left × (s.splitter.stage ≡ Finished) × EndsLast given (map frame_of parts) frame).
+        (let covers = into_frames w.2.covers w.2.line frame w.2.closes in
+        inr (w.0, record { finished = w.1; text = record { framed = ([], subst₂ (λ l f. Covers l f [] []) (sym w.2.whole) framed_same covers); items = items } })))
+        n.ends
+
+  -- or is refused
+  pub refused_next : (t : SplitterState) → s.splitter ≡ t → (e : StreamError)
+      → (e ≢ stream.Failed → IsStreamFault e) → (e ≡ stream.Failed → t.stage ≡ Failed)
+      → (e ≢ stream.Memory → e ≢ stream.Failed → (bytes more : List ℕ) (frames : List Frame) (frame : Frame) → Fits t bytes (frames ++ frame ∷ []) → BreaksAfter CannotGoOn (bytes ++ more) frames e)
+      → (e ≢ stream.Memory → e ≢ stream.Failed → (bytes : List ℕ) (frames : List Frame) → EndsWith t.waits bytes frames → BreaksAfter CannotEnd bytes frames e)
+      → IsUnread left given parts (stream_refusal e)
+  refused_next t same e fault failed broken broken_at_end = unread left given parts e (λ _. fault not_failed) why
+    where
+      not_failed : e ≢ stream.Failed
+      not_failed q =
+          ⊎_elim (λ w. let no : Running ≡ Failed = sym w.0.fits.running ∙ ap (λ u. u.stage) same ∙ failed q in cc) (λ w. let no : Finished ≡ Failed = sym w.1 ∙ ap (λ u. u.stage) same ∙ failed q in cc) n.ends
+
+      why : e ≢ stream.Memory → IsRefusedAfter left given parts e
+      why memory =
+          ⊎_elim
+          (λ (w : WaitsInside s given parts frame × (s.pieces.at_end ≡ true → IsAtEnd left)).
+          inl (inr (n.items, subst (λ l. BreaksAfter CannotGoOn l (map frame_of parts) e) (sym w.0.whole) (broken memory not_failed w.0.taken s.pieces.pending (map frame_of parts) frame (subst (λ u. Fits u w.0.taken (map frame_of parts ++ frame ∷ [])) same w.0.fits)))))
+          (λ (w : IsAtEnd left × (s.splitter.stage ≡ Finished) × EndsLast given (map frame_of parts) frame).
+          inr (w.0, (n.items, broken_at_end memory not_failed given (map frame_of parts) (subst (λ o. EndsWith o given (map frame_of parts)) (sym n.waits ∙ ap (λ u. u.waits) same) w.2))))
+          n.ends

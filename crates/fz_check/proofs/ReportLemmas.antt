@@ -1,0 +1,61 @@
+-- What the verdicts of a report say of solutions is so.
+use Rattle.std.proofs.Common.{◌≡◌, ℕ, List, map, Some, sym, ap, ◌∙◌, subst}
+use Rattle.fz_judge.specs.of_model.Located.{LocatedTree}
+use Rattle.fz_judge.specs.of_model.Meaning.{Model}
+use Rattle.fz_judge.specs.of_model.Names.{HasNoFault, model_of}
+use Rattle.fz_judge.specs.of_model.Texts.{IsLoadedFrom}
+use Rattle.fz_judge.proofs.of_model.Scope.{sound_aims}
+use Rattle.fz_judge.specs.of_verdict.Solutions.{Block}
+use Rattle.fz_judge.specs.of_verdict.declared.completion.Completion.{Completion}
+use Rattle.fz_judge.specs.of_verdict.Completed.{AreVerdicts}
+use Rattle.fz_judge.specs.of_verdict.Verdict.{Answer, Verdict}
+use Rattle.fz_judge.specs.of_verdict.Verdict.Answer.{Accepted}
+use Rattle.fz_judge.specs.of_verdict.Verdict.Verdict.{Violated}
+use Rattle.fz_judge.specs.of_verdict.View.{located_block}
+use Rattle.fz_judge.proofs.of_verdict.Accepted.{accepted_solves}
+use Rattle.fz_judge.proofs.of_verdict.Completing.{accepted_judged}
+use Rattle.fz_judge.proofs.of_verdict.Each.{each_satisfied, each_violated, each_not_better}
+use Rattle.fz_judge.proofs.of_verdict.Places.{blocks_are_bare}
+use Rattle.fz_check.specs.Headline.{HasSolutions}
+use Rattle.fz_check.specs.Report.{Event, IsReport}
+use Rattle.fz_check.specs.Reported.{HasReport, AreBorneOut}
+
+pub borne_out : (completion : Completion) (t : LocatedTree) (blocks : List Block)
+    (vs : List Verdict) → HasNoFault t → AreVerdicts completion (model_of t) blocks vs
+    → AreBorneOut (model_of t) blocks vs
+borne_out completion t blocks vs sound are = record {
+  satisfied = λ i block at found. each_satisfied completion t blocks vs i block sound are at found;
+  violated = λ i block f at found other. each_violated completion (model_of t) blocks vs i block f are at found (λ now earlier e. other (now, earlier, e));
+  not_better = λ i block f at found (now, before, e). each_not_better completion (model_of t) blocks vs i block now before are at (found ∙ ap (λ g. Some (Violated g)) e);
+}
+
+module _ (c : Completion) (model : List ℕ) (m : Model) (stream : List ℕ) (events : List Event) (answer : Answer) (loaded : IsLoadedFrom model m) (r : IsReport c m stream events answer) where
+  are : AreVerdicts c (model_of loaded.tree) (map located_block r.have_verdicts.blocks) r.verdicts
+  are = subst (λ n. AreVerdicts c n (map located_block r.have_verdicts.blocks) r.verdicts) loaded.is r.have_verdicts.are_verdicts
+
+  -- the report on the model of a text
+  pub report_of : HasReport c model stream events answer
+  report_of = record {
+    m = m;
+    loaded = loaded;
+    holds = (r, subst (λ n. AreBorneOut n (map located_block r.have_verdicts.blocks) r.verdicts) (sym loaded.is) (borne_out c loaded.tree (map located_block r.have_verdicts.blocks) r.verdicts loaded.no_fault are));
+  }
+
+  -- an accepted stream has solutions
+  pub solutions_of : (count : ℕ) → answer ≡ Accepted count → HasSolutions model stream count
+  solutions_of count accepted =
+      let told = sym r.answer_is ∙ accepted in
+      let (solutions, counted, some) = accepted_solves (model_of loaded.tree) (map located_block r.have_verdicts.blocks) r.verdicts count (sound_aims loaded.tree loaded.no_fault)
+      (accepted_judged c loaded.tree loaded.no_fault (map located_block r.have_verdicts.blocks) r.verdicts count are told) told in
+      record {
+        tree = loaded.tree;
+        text_of_model = loaded.text;
+        no_fault = loaded.no_fault;
+        parts = r.parts;
+        text_of_stream = r.text_of_stream;
+        blocks = map located_block r.have_verdicts.blocks;
+        blocks_are = blocks_are_bare r.have_verdicts.blocks ∙ r.have_verdicts.blocks_are;
+        counted = counted;
+        at_least_one = some;
+        solutions = solutions;
+      }

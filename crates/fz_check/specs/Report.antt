@@ -1,0 +1,103 @@
+-- What a check tells of a stream: its events in order, which make up the report, and the line of
+-- each (this project's profile).
+use Rattle.std.specs.Prelude.{◌≡◌, ℕ, suc, List, [], ◌∷◌, ◌++◌, map, codes, decimal, flat_map}
+use Rattle.std.specs.List.{AllByRecursion}
+use Rattle.std.specs.Fmt.{signed_decimal}
+use Rattle.fz_judge.specs.of_model.Meaning.{Model}
+use Rattle.fz_judge.specs.of_stream.declared.block.Block as the_block
+use Rattle.fz_judge.specs.of_stream.declared.line.ClaimKind.{ClaimKind}
+use Rattle.fz_judge.specs.of_stream.declared.line.ClaimKind.TheVariants.{Complete, Unsatisfiable, Unknown, Unbounded, UnsatOrUnbounded, Error}
+use Rattle.fz_judge.specs.of_stream.Found.{HasPlaces, block_of}
+use Rattle.fz_judge.specs.of_stream.Parts.{blocks_in, StreamPart, BlockPart, ClaimPart, IsStreamText}
+use Rattle.fz_judge.specs.of_verdict.View.{located_block}
+use Rattle.fz_judge.specs.of_verdict.declared.completion.Completion.{Completion}
+use Rattle.fz_judge.specs.of_verdict.Completed.{AreVerdicts}
+use Rattle.fz_judge.specs.of_verdict.Verdict.{Fault, Reason, Verdict, Answer, answer_of}
+use Rattle.fz_judge.specs.of_verdict.Verdict.Fault.{PrintedFault, DomainFault, DefinitionFault, ConstraintFault, NotBetter}
+use Rattle.fz_judge.specs.of_verdict.Verdict.Reason.{NoValueFor, NotKnown, NotShownBetter, SumTooLarge}
+use Rattle.fz_judge.specs.of_verdict.Verdict.Verdict.{Satisfied, Violated, Undecided}
+use Rattle.fz_judge.specs.of_verdict.Verdict.Answer.{Accepted, Rejected, UndecidedAt, NoBlocks}
+
+-- the verdict on the block of this number, from 1; a claim; the answer
+pub data Event : Type 0 where
+  Judged : ℕ → Verdict → Event
+  Claimed : ClaimKind → Event
+  Answered : Answer → Event
+
+-- the events of parts of a stream, with the verdicts of their blocks, where n blocks come before
+-- them
+abbrev pub events_of : ℕ → List Verdict → List StreamPart → List Event
+events_of n vs [] = []
+events_of n vs (ClaimPart k ∷ ps) = Claimed k ∷ events_of n vs ps
+events_of n [] (BlockPart b ∷ ps) = events_of n [] ps
+events_of n (v ∷ vs) (BlockPart b ∷ ps) = Judged (suc n) v ∷ events_of (suc n) vs ps
+
+-- These are the verdicts of the blocks among the parts, with the byte ranges of their names and
+-- literals; no block among them has a fault.
+pub record HaveVerdicts (c : Completion) (m : Model) (parts : List StreamPart)
+    (verdicts : List Verdict) : Type 0 where
+  pub blocks : List the_block.Block
+  pub blocks_are : map block_of blocks ≡ blocks_in parts
+  pub places : AllByRecursion HasPlaces blocks
+  pub are_verdicts : AreVerdicts c m (map located_block blocks) verdicts
+
+-- The stream's bytes are a text of parts. The report tells of each part in order, of a block with
+-- its verdict, and then the answer on these verdicts.
+pub record IsReport (c : Completion) (m : Model) (stream : List ℕ) (events : List Event)
+    (answer : Answer) : Type 0 where
+  pub parts : List StreamPart
+  pub text_of_stream : IsStreamText stream parts
+  pub verdicts : List Verdict
+  pub have_verdicts : HaveVerdicts c m parts verdicts
+  pub answer_is : answer ≡ answer_of verdicts
+  pub events_are : events ≡ events_of 0 verdicts parts ++ Answered answer ∷ []
+
+-- ---- the text
+
+abbrev pub claim_text : ClaimKind → List ℕ
+claim_text Complete = codes "=========="
+claim_text Unsatisfiable = codes "=====UNSATISFIABLE====="
+claim_text Unknown = codes "=====UNKNOWN====="
+claim_text Unbounded = codes "=====UNBOUNDED====="
+claim_text UnsatOrUnbounded = codes "=====UNSATorUNBOUNDED====="
+claim_text Error = codes "=====ERROR====="
+
+abbrev pub fault_text : Fault → List ℕ
+fault_text (PrintedFault name) = codes "printed " ++ name
+fault_text (DomainFault name) = codes "domain of " ++ name
+fault_text (DefinitionFault name) = codes "definition of " ++ name
+fault_text (ConstraintFault k name) = codes "constraint " ++ decimal k ++ codes " " ++ name
+fault_text (NotBetter now before) =
+    codes "objective " ++ signed_decimal now ++ codes " not better than " ++ signed_decimal before
+
+abbrev pub reason_text : Reason → List ℕ
+reason_text (NoValueFor name) = codes "no value for " ++ name
+reason_text (NotKnown k name) =
+    codes "constraint " ++ decimal k ++ codes " " ++ name ++ codes " not known"
+reason_text (SumTooLarge k) = codes "constraint " ++ decimal k ++ codes " too large"
+reason_text (NotShownBetter now found) = codes "objective " ++ signed_decimal now
+    ++ codes " not shown better than " ++ signed_decimal found
+
+abbrev pub verdict_text : Verdict → List ℕ
+verdict_text Satisfied = codes "satisfied"
+verdict_text (Violated f) = codes "violated: " ++ fault_text f
+verdict_text (Undecided r) = codes "undecided: " ++ reason_text r
+
+abbrev pub answer_text : Answer → List ℕ
+answer_text (Accepted n) = codes "accepted: blocks " ++ decimal n
+answer_text (Rejected n) = codes "rejected: block " ++ decimal n
+answer_text (UndecidedAt n) = codes "undecided: block " ++ decimal n
+answer_text NoBlocks = codes "no blocks"
+
+abbrev pub event_text : Event → List ℕ
+event_text (Judged n v) = codes "block " ++ decimal n ++ codes ": " ++ verdict_text v
+event_text (Claimed k) = codes "claim: " ++ claim_text k ++ codes " not judged"
+event_text (Answered a) = answer_text a
+
+-- the line of an event, with its LF
+abbrev pub event_line : Event → List ℕ
+event_line e = event_text e ++ 10 ∷ []
+
+-- the events as bytes, each by such a text
+abbrev pub text_of : (Event → List ℕ) → List Event → List ℕ
+text_of text events = flat_map text events

@@ -1,0 +1,130 @@
+-- What a check over a reader and a writer answers, and what it writes (this project's profile). The
+-- bytes that a reader still has and those that a writer got are options: where there is None, as for
+-- a file, nothing is said of them. `text` says what is written of an event.
+use Rattle.std.specs.Prelude.{◌≡◌, ◌≢◌, ℕ, suc, List, [], ◌∷◌, ◌++◌, ◌⊎◌, ⊤, length, Option}
+use Rattle.std.specs.Io.KnownBytes.{Appends, Consumes, IsAtEnd}
+use Rattle.fz_judge.specs.of_model.Meaning.{Model}
+use Rattle.fz_judge.specs.of_stream.declared.block.Block as the_block
+use Rattle.fz_judge.specs.of_stream.declared.error.StreamError.TheVariants.{Memory as StreamMemory}
+use Rattle.fz_judge.specs.of_stream.Faults.{IsStreamFault}
+use Rattle.fz_judge.specs.of_stream.Found.{HasPlaces, block_of}
+use Rattle.fz_judge.specs.of_stream.Parts.{blocks_in, StreamPart, BlockPart, IsStreamText}
+use Rattle.fz_judge.specs.of_verdict.View.{located_block}
+use Rattle.fz_judge.specs.of_verdict.declared.completion.Completion.{Completion}
+use Rattle.fz_judge.specs.of_verdict.Verdict.{Verdict, Answer, answer_of}
+use Rattle.fz_judge.specs.declared.error.BlockError.{BlockError}
+use Rattle.fz_judge.specs.declared.error.BlockError.TheVariants.{Memory}
+use Rattle.fz_judge.specs.Judged.{IsBlockRefusal}
+use Rattle.fz_check.specs.declared.error.CheckError.{CheckError}
+use Rattle.fz_check.specs.declared.error.CheckError.TheVariants as errors
+use Rattle.fz_check.specs.Reading.{HasNoMore, IsRefusedAfter}
+use Rattle.fz_check.specs.Refused.{HasNameFault, HasTextFault}
+use Rattle.fz_check.specs.Report.{Event, HaveVerdicts, events_of, text_of}
+use Rattle.fz_check.specs.Report.Event.{Answered}
+use Rattle.fz_check.specs.Reported.{HasReport, HoldsOfModel}
+
+-- the most reads of a stream
+abbrev pub most_reads : ℕ
+most_reads = 4294967296
+
+-- The writer got the report on these bytes, and nothing else, and this is its answer.
+pub record IsReportedTo (text : Event → List ℕ) (c : Completion) (model given : List ℕ)
+    (written written' : Option (List ℕ)) (answer : Answer) : Type 0 where
+  pub events : List Event
+  pub has_report : HasReport c model given events answer
+  pub writes : Appends written written' (text_of text events)
+
+-- In the bytes, of which the reader gave the last where it is at its end, these parts end: they
+-- have ended in a front of the bytes, and no others, or all of the bytes are a text of them.
+abbrev pub EndInside : Option (List ℕ) → List ℕ → List StreamPart → Type 0
+EndInside left given parts = ((front : List ℕ) × (rest : List ℕ) × (given ≡ front ++ rest)
+    × HasNoMore front parts) ⊎ (IsAtEnd left × IsStreamText given parts)
+
+-- The block that comes next after the parts has the number, and this is its fault, with its byte
+-- range in the stream.
+pub record BlockIsRefused (m : Model) (left : Option (List ℕ)) (given : List ℕ)
+    (parts : List StreamPart) (number : ℕ) (e : BlockError) : Type 0 where
+  pub block : the_block.Block
+  pub places : HasPlaces block
+  pub next : EndInside left given (parts ++ BlockPart (block_of block) ∷ [])
+  pub number_is : number ≡ suc (length (blocks_in parts))
+  pub not_memory : e ≢ Memory
+  pub refused : IsBlockRefusal m (located_block block) e
+
+-- Why a check ends after these parts of the bytes that were given: the stream is refused behind
+-- them, or the next block is, or a read failed and no further part has ended.
+abbrev pub EndsFor : Model → Option (List ℕ) → List ℕ → List StreamPart → CheckError → Type 0
+EndsFor m left given parts (errors.Stream e) =
+    IsStreamFault e × (e ≢ StreamMemory) × IsRefusedAfter left given parts e
+EndsFor m left given parts (errors.Block n e) = BlockIsRefused m left given parts n e
+EndsFor m left given parts errors.Read = HasNoMore given parts
+EndsFor m left given parts errors.Write = ⊤
+EndsFor m left given parts errors.Memory = ⊤
+EndsFor m left given parts (errors.Model e) = ⊥
+EndsFor m left given parts (errors.Names e) = ⊥
+
+-- The reader gave these bytes, and the writer got the events of all parts before the error, and
+-- nothing else.
+pub record StopsAfterEvents (text : Event → List ℕ) (c : Completion) (m : Model)
+    (left left' written written' : Option (List ℕ)) (e : CheckError) : Type 0 where
+  pub given : List ℕ
+  pub reads : Consumes left left' given
+  pub parts : List StreamPart
+  pub verdicts : List Verdict
+  pub have_verdicts : HaveVerdicts c m parts verdicts
+  pub writes : Appends written written' (text_of text (events_of 0 verdicts parts))
+  pub why : EndsFor m left' given parts e
+
+-- no event, or that of the answer where the bytes have ended
+abbrev pub AreLast : Option (List ℕ) → List ℕ → List StreamPart → List Verdict → List Event
+    → Type 0
+AreLast left given parts verdicts events =
+    (events ≡ []) ⊎ (IsAtEnd left × IsStreamText given parts
+    × (events ≡ Answered (answer_of verdicts) ∷ []))
+
+-- The reader gave these bytes, and the writer got a front of the text of their events, and nothing
+-- else.
+pub record WritesFrontOfEvents (text : Event → List ℕ) (c : Completion) (m : Model)
+    (left left' written written' : Option (List ℕ)) : Type 0 where
+  pub given : List ℕ
+  pub reads : Consumes left left' given
+  pub parts : List StreamPart
+  pub end_inside : EndInside left' given parts
+  pub verdicts : List Verdict
+  pub have_verdicts : HaveVerdicts c m parts verdicts
+  pub last : List Event
+  pub are_last : AreLast left' given parts verdicts last
+  pub front : List ℕ
+  pub rest : List ℕ
+  pub whole : text_of text (events_of 0 verdicts parts ++ last) ≡ front ++ rest
+  pub writes : Appends written written' front
+
+-- the check of a loaded model ends with this error
+abbrev pub IsStopped : (Event → List ℕ) → Completion → Model → Option (List ℕ) → Option (List ℕ)
+    → Option (List ℕ) → Option (List ℕ) → CheckError → Type 0
+IsStopped text c m left left' written written' errors.Write =
+    WritesFrontOfEvents text c m left left' written written'
+IsStopped text c m left left' written written' errors.Memory =
+    WritesFrontOfEvents text c m left left' written written'
+IsStopped text c m left left' written written' e =
+    StopsAfterEvents text c m left left' written written' e
+
+-- nothing was read, and nothing was written
+abbrev pub IsUntouched : Option (List ℕ) → Option (List ℕ) → Option (List ℕ) → Option (List ℕ)
+    → Type 0
+IsUntouched left left' written written' = (left' ≡ left) × (written' ≡ written)
+
+-- The check of a model's text ends with this error. The model is refused only where its bytes are
+-- not a text of any tree, or with the leftmost fault of its names, and before anything is read or
+-- written.
+abbrev pub IsEnded : (Event → List ℕ) → Completion → List ℕ → Option (List ℕ) → Option (List ℕ)
+    → Option (List ℕ) → Option (List ℕ) → CheckError → Type 0
+IsEnded text c model left left' written written' (errors.Model e) =
+    HasTextFault model e × IsUntouched left left' written written'
+IsEnded text c model left left' written written' (errors.Names e) =
+    HasNameFault model e × IsUntouched left left' written written'
+IsEnded text c model left left' written written' errors.Memory =
+    IsUntouched left left' written written'
+    ⊎ HoldsOfModel model (λ m. IsStopped text c m left left' written written' errors.Memory)
+IsEnded text c model left left' written written' e =
+    HoldsOfModel model (λ m. IsStopped text c m left left' written written' e)

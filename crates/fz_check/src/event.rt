@@ -1,0 +1,62 @@
+//! What a check tells of a stream, and who takes it.
+
+ghost use Rattle.std.specs.Prelude.{◌≡◌, ◌++◌, ℕ, List, OnOk};
+ghost use Rattle.fz_check.specs.Report.{Event as PlainEvent, event_line};
+ghost use Rattle.fz_check.specs.View.{event_view};
+
+use crate::line::{push_answer, push_block, push_claim};
+use crate::tally::Answer;
+use fz_judge::Verdict;
+use fz_judge::fz_model::Model;
+use fz_judge::fz_stream::{Block, ClaimKind};
+use std::alloc::AllocError;
+
+/// A block that was judged.
+#[derive(Clone, Copy)]
+pub struct Judged<'e, 'a> {
+    /// the number of the block, from 1
+    pub number: usize,
+    pub block: &'e Block<'e>,
+    pub verdict: Verdict<'a>,
+    /// the objective, with the values that were looked for, where it has one
+    pub objective: Option<i64>,
+    pub model: &'e Model<'a>,
+}
+
+/// What a check tells of a stream, one after another in the stream's order, and the answer last.
+#[derive(Clone, Copy)]
+pub enum Event<'e, 'a> {
+    Block(Judged<'e, 'a>),
+    Claim(ClaimKind),
+    Answer(Answer),
+}
+
+/// Who takes the events of a check, and says what is written of each.
+pub trait Taker {
+    ghost text: { PlainEvent → List ℕ };
+
+    /// Adds to `line` what is to be written of an event.
+    ///
+    /// # Errors
+    ///
+    /// Out of memory. The check ends with it.
+    fn take(&mut self, event: &Event<'_, '_>, line: &mut Vec<u8>) -> Result<(), AllocError>
+        ensures { OnOk result (line.new.items
+            ≡ line.old.items ++ text (event_view event.now)) };
+}
+
+/// The report as text: a line for each event.
+#[derive(Clone, Copy, Debug)]
+pub struct TextTaker;
+
+impl Taker for TextTaker {
+    ghost text = { event_line };
+
+    fn take(&mut self, event: &Event<'_, '_>, line: &mut Vec<u8>) -> Result<(), AllocError> {
+        match event {
+            Event::Block(judged) => push_block(line, judged.number, &judged.verdict),
+            Event::Claim(kind) => push_claim(line, *kind),
+            Event::Answer(answer) => push_answer(line, *answer),
+        }
+    }
+}

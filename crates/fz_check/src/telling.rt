@@ -1,0 +1,129 @@
+ghost use Rattle.std.specs.Prelude.{◌≡◌, ℕ, ◌<◌, ◌≤◌, ◌+◌, List, [], ◌∷◌, ◌++◌, Option, IfErr, OnOk, OnErr, IsSome};
+ghost use Rattle.fz_judge.specs.of_model.Meaning.{Model as PlainModel};
+ghost use Rattle.fz_judge.specs.of_stream.Parts.{StreamPart};
+ghost use Rattle.fz_judge.specs.of_stream.Splitting.{most_taken};
+ghost use Rattle.fz_judge.specs.of_stream.Lending.{part_of, HasPlacesOfItems, PartEndsWithin};
+ghost use Rattle.fz_judge.specs.of_verdict.Verdict.{Verdict as PlainVerdict};
+ghost use Rattle.fz_judge.specs.of_verdict.declared.completion.Completion.{Completion};
+ghost use Rattle.fz_check.specs.Telling.{HasTold, IsUntold, IsUnwritten, LeavesNext, TellsNext, TellsOneMore};
+ghost use Rattle.fz_check.specs.View.{event_view};
+ghost use Rattle.fz_check.specs.Writing.{WritesFront, Wrote};
+
+use crate::error::CheckError;
+use crate::event::{Event, Judged, Taker};
+use crate::jury::Jury;
+use crate::reader::PartReader;
+use crate::writing::{WriteFailed, write_lines};
+use fz_judge::fz_stream::Part;
+use std::alloc::Global;
+use std::io::Write;
+
+/// The most bytes of lines that wait for the next read, but for the last line.
+const MOST_WAITING: usize = 65_536;
+
+/// Makes the line of an event.
+pub(crate) fn make_line<T: Taker>(
+    taker: &mut T,
+    line: &mut Vec<u8>,
+    event: &Event<'_, '_>,
+) -> Result<(), CheckError>
+    ensures made { OnOk result (line.new.items ≡ T.text (event_view event.now)) }
+    ensures kinds { IfErr result (λ e. e ≡ CheckError.Memory) }
+{
+    line.clear();
+    match taker.take(event, line) {
+        Ok(()) => Ok(()),
+        Err(_) => Err(CheckError::Memory),
+    }
+}
+
+/// Makes the line of the next part: of a claim, or of a block's verdict.
+fn tell_part<T: Taker>(
+    alloc: Global,
+    jury: &mut Jury<'_, '_>,
+    taker: &mut T,
+    line: &mut Vec<u8>,
+    part: &Part<'_>,
+) -> Result<(), CheckError>
+    requires { jury.old.tally.blocks < usize.MAX }
+    ensures told { OnOk result ((c : Completion) (m : PlainModel) (parts : List StreamPart)
+        (verdicts : List PlainVerdict) → HasTold c m jury.old parts verdicts
+        → HasPlacesOfItems part.now → TellsOneMore T.text c m jury.new parts verdicts
+        (part_of part.now) line.new.items) }
+    ensures counted { OnOk result (jury.new.tally.blocks ≤ jury.old.tally.blocks + 1) }
+    ensures refused { IfErr result (λ e. (c : Completion) (m : PlainModel)
+        (parts : List StreamPart) (verdicts : List PlainVerdict)
+        → HasTold c m jury.old parts verdicts → HasPlacesOfItems part.now
+        → PartEndsWithin most_taken part.now → IsUntold m parts (part_of part.now) e) }
+{
+    match part {
+        Part::Block(block) => {
+            let verdict = match jury.judge(alloc, block) {
+                Ok(verdict) => verdict,
+                Err(error) => return Err(error),
+            };
+            let number = jury.tally.blocks;
+            let objective = jury.judge.objective();
+            let model = jury.model;
+            let judged = Judged {
+                number,
+                block,
+                verdict,
+                objective,
+                model,
+            };
+            make_line(taker, line, &Event::Block(judged))
+        }
+        Part::Claim(kind) => make_line(taker, line, &Event::Claim(*kind)),
+    }
+}
+
+/// Makes the line of the part that waits, which is read for it.
+pub(crate) fn tell_next<T: Taker>(
+    alloc: Global,
+    parts: &PartReader,
+    jury: &mut Jury<'_, '_>,
+    taker: &mut T,
+    line: &mut Vec<u8>,
+) -> Result<(), CheckError>
+    requires waits { IsSome parts.now.splitter.waits }
+    requires room { jury.old.tally.blocks < usize.MAX }
+    ensures told { OnOk result (TellsNext T.text parts.now jury.old jury.new line.new.items) }
+    ensures counted { OnOk result (jury.new.tally.blocks ≤ jury.old.tally.blocks + 1) }
+    ensures refused { IfErr result (LeavesNext parts.now jury.old) }
+{
+    let part = match parts.take() {
+        Ok(part) => part,
+        Err(error) => return Err(error),
+    };
+    tell_part(alloc, jury, taker, line, &part)
+}
+
+/// Appends the line to those that wait for the next read, or writes them all where they are many:
+/// lines with long names would fill the memory. Where there is no memory for the line, the others
+/// wait as before.
+pub(crate) fn gather<W: Write>(
+    writer: &mut W,
+    lines: &mut Vec<u8>,
+    line: &[u8],
+) -> Result<(), CheckError>
+    ensures gathered { OnOk result (Wrote (W.contents writer.old) (W.contents writer.new)
+        (lines.old.items ++ line.now) lines.new.items) }
+    // Once a front of those that are left is written, it is one of all.
+    ensures front { OnErr result ((next : Option (List ℕ))
+        → WritesFront (W.contents writer.new) next lines.new.items
+        → WritesFront (W.contents writer.old) next (lines.old.items ++ line.now)) }
+    ensures kinds { IfErr result IsUnwritten }
+{
+    match lines.extend_from_slice(line) {
+        Ok(()) => {}
+        Err(_) => return Err(CheckError::Memory),
+    }
+    if lines.len() < MOST_WAITING {
+        return Ok(());
+    }
+    match write_lines(writer, lines) {
+        Ok(()) => Ok(()),
+        Err(WriteFailed) => Err(CheckError::Write),
+    }
+}

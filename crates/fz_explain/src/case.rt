@@ -1,0 +1,115 @@
+//! Blocks that aren't satisfied, to be explained.
+
+use crate::message::{Message, Text};
+use crate::verdict::{Reading, verdict_message, verdict_place};
+use fz_filling::fz_model::Model;
+use fz_filling::fz_syntax::{Ast, parse};
+use fz_filling::fz_verdict::fz_stream::Block;
+use fz_judge::{Verdict, fill_with_steps};
+use std::alloc::{AllocError, Global};
+
+/// A block with its number, the verdict on it and its text, which is a part of the stream's.
+#[derive(Clone, Copy)]
+pub struct Case<'e, 'a> {
+    pub number: usize,
+    pub block: &'e Block<'e>,
+    pub verdict: Verdict<'a>,
+    pub stream: Text<'e>,
+}
+
+/// Explains the verdicts on blocks. The text of the model is parsed at the first explanation.
+#[derive(Drop)]
+pub struct Explainer<'a> {
+    text: Text<'a>,
+    ast: Option<Ast<'a>>,
+    completes: bool,
+}
+
+impl<'a> Explainer<'a> {
+    /// Takes the text of the model, and whether values that the solver left out are looked for.
+    pub fn new(text: Text<'a>, completes: bool) -> Explainer<'a> {
+        Explainer {
+            text,
+            ast: None,
+            completes,
+        }
+    }
+
+    /// Parses the text of the model, where that wasn't done before. The text was loaded, so only
+    /// memory can be lacking for it.
+    fn parse(&mut self, alloc: Global) -> Result<(), AllocError> {
+        if self.ast.is_none() {
+            match parse(alloc, self.text.bytes) {
+                Ok(ast) => self.ast = Some(ast),
+                Err(_) => return Err(AllocError),
+            }
+        }
+        Ok(())
+    }
+
+    /// The line and the column, in the model's text or in the stream, that the verdict on a block is
+    /// about; none where it is satisfied.
+    ///
+    /// # Errors
+    ///
+    /// Out of memory.
+    pub fn place(
+        &mut self,
+        alloc: Global,
+        case: &Case<'_, '_>,
+    ) -> Result<Option<(usize, usize)>, AllocError> {
+        self.parse(alloc)?;
+        match &self.ast {
+            Some(ast) => Ok(line_and_column(ast, self.text, case)),
+            None => Ok(None),
+        }
+    }
+
+    /// The explanation of the verdict on a block, against the model that was loaded from the text;
+    /// none where the block is satisfied.
+    ///
+    /// # Errors
+    ///
+    /// Out of memory.
+    pub fn explanation<'m>(
+        &mut self,
+        alloc: Global,
+        model: &Model<'m>,
+        case: &Case<'_, 'm>,
+    ) -> Result<Option<Message>, AllocError> {
+        self.parse(alloc)?;
+        match &self.ast {
+            Some(ast) => self.tree_explanation(alloc, model, case, ast),
+            None => Ok(None),
+        }
+    }
+
+    /// The same, where the model is parsed.
+    fn tree_explanation<'m>(
+        &self,
+        alloc: Global,
+        model: &Model<'m>,
+        case: &Case<'_, 'm>,
+        ast: &Ast<'a>,
+    ) -> Result<Option<Message>, AllocError> {
+        let Ok((filling, steps)) = fill_with_steps(alloc, model, case.block) else {
+            return Ok(None);
+        };
+        let reading = Reading {
+            case,
+            model,
+            text: self.text,
+            ast,
+            completes: self.completes,
+            filling: &filling,
+            steps: &steps,
+        };
+        verdict_message(alloc, &reading)
+    }
+}
+
+fn line_and_column(ast: &Ast<'_>, text: Text<'_>, case: &Case<'_, '_>) -> Option<(usize, usize)> {
+    let (text, place) = verdict_place(ast, text, case)?;
+    let spot = text.spot_at(place.start)?;
+    Some((spot.line, spot.column))
+}

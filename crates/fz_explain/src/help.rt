@@ -1,0 +1,74 @@
+//! The notes of a message on what to do about a block that is undecided.
+
+use crate::excerpt::shown_text;
+use crate::message::Message;
+use crate::verdict::Reading;
+use fz_filling::fz_model::Model;
+use fz_judge::{Reason, Verdict};
+use std::alloc::{AllocError, Global};
+
+/// A variable has no value, and none was looked for.
+const LOOK_FOR_IT: &str =
+    "look for it by --complete, or let the solver run `fzcheck show --print-all`";
+
+/// A variable has no value, and none was found.
+const PRINT_ALL: &str = "let the solver run `fzcheck show --print-all`";
+
+/// A constraint isn't known.
+const USE_LIBRARY: &str = "compile with the library in minizinc/, or with the standard one";
+
+/// A sum is too large.
+const TIGHTEN_DOMAINS: &str = "tighten the domains, so that no sum leaves 128 bits";
+
+/// Adds what to do about a block that is undecided.
+pub(crate) fn note_help(
+    alloc: Global,
+    reading: &Reading<'_, '_, '_, '_>,
+    message: &mut Message,
+) -> Result<(), AllocError> {
+    let case = reading.case;
+    let Verdict::Undecided(reason) = case.verdict else {
+        return Ok(());
+    };
+    match reason {
+        Reason::NoValue(_) => note_help_on_value(alloc, reading, message),
+        Reason::Unknown(_, _) => note(alloc, message, USE_LIBRARY),
+        Reason::TooLarge(_) => note(alloc, message, TIGHTEN_DOMAINS),
+        Reason::NotShownBetter(_, _) => note(alloc, message, PRINT_ALL),
+    }
+}
+
+fn note(alloc: Global, message: &mut Message, told: &str) -> Result<(), AllocError> {
+    message.note(String::from_str(alloc, told)?)
+}
+
+/// The same, of a block that lacks a value. A constraint that isn't known is mostly the cause, so
+/// the first one of the model is named.
+fn note_help_on_value(
+    alloc: Global,
+    reading: &Reading<'_, '_, '_, '_>,
+    message: &mut Message,
+) -> Result<(), AllocError> {
+    if let Some((number, name)) = first_unknown(reading.model) {
+        let name = shown_text(alloc, name)?;
+        let told = format!(in alloc; "constraint {number} {name} isn't known, which may be why")?;
+        message.note(told)?;
+        note(alloc, message, USE_LIBRARY)?;
+    }
+    let told = if reading.completes {
+        PRINT_ALL
+    } else {
+        LOOK_FOR_IT
+    };
+    note(alloc, message, told)
+}
+
+/// The number, from 1, and the name of the first constraint that isn't known.
+fn first_unknown<'a>(model: &Model<'a>) -> Option<(usize, &'a [u8])> {
+    for (index, posted) in model.constraints().posted.iter().enumerate() {
+        if posted.known.is_none() {
+            return Some((index + 1, posted.name));
+        }
+    }
+    None
+}

@@ -1,0 +1,116 @@
+//! A message: the line and the column that it is about, what is said, the variables there and
+//! notes. Its text is as a compiler writes it, with the line of the source and marks below.
+
+ghost use Rattle.std.specs.Prelude.{◌≡◌, ◌+◌, ◌-◌, ◌<◌, suc, take, min, IfSome, IsNone};
+ghost use Rattle.fz_explain.specs.Lines.{characters, last_line, line_ends};
+
+use crate::excerpt::Excerpt;
+use crate::explained::FIRST_VARIABLES;
+use crate::lines::{Spot, spot_of};
+use crate::notes::{Note, note_text};
+use fz_base::Span;
+use fz_files::Passed;
+use std::alloc::{AllocError, Global};
+
+/// A file or a stream by its name, of which the bytes behind what has passed are given.
+#[derive(Clone, Copy)]
+pub struct Text<'a> {
+    pub name: &'a str,
+    pub bytes: &'a [u8],
+    pub passed: Passed,
+}
+
+impl<'a> Text<'a> {
+    /// Where the byte at this offset of the whole file or stream is; none where it has passed.
+    pub fn spot_at(&self, offset: usize) -> Option<Spot<'a>>
+        ensures line { IfSome result (λ spot. spot.line ≡ min (self.now.passed.lines
+            + suc (line_ends (take (offset - self.now.passed.bytes) self.now.bytes.now)))
+            usize.MAX) }
+        ensures column { IfSome result (λ spot. spot.column ≡ suc (characters (last_line
+            (take (offset - self.now.passed.bytes) self.now.bytes.now)))) }
+        ensures none { IsNone result → offset < self.now.passed.bytes }
+    {
+        let start = offset.checked_sub(self.passed.bytes)?;
+        let spot = spot_of(self.bytes, start);
+        Some(Spot {
+            line: self.passed.lines.saturating_add(spot.line),
+            ..spot
+        })
+    }
+}
+
+/// A message on a byte range of a text.
+#[derive(Drop)]
+pub struct Message {
+    pub line: usize,
+    pub column: usize,
+    pub said: String,
+    pub variables: Vec<Note>,
+    /// How many variables are left out behind the first eight.
+    pub left_out: usize,
+    pub notes: Vec<String>,
+    /// The lines of the text before those of the variables.
+    head: String,
+}
+
+impl Message {
+    pub(crate) fn note(&mut self, told: String) -> Result<(), AllocError> {
+        Ok(self.notes.push(told)?)
+    }
+
+    /// The text of the message, of which each line ends with LF.
+    ///
+    /// # Errors
+    ///
+    /// Out of memory.
+    pub fn text(&self, alloc: Global) -> Result<String, AllocError> {
+        let Message { line, left_out, .. } = self;
+        let digits = format!(in alloc; "{line}")?.len();
+        let mut text = String::from_str(alloc, &self.head)?;
+        for (place, note) in self.variables.iter().enumerate() {
+            if place == FIRST_VARIABLES && *left_out > 0 {
+                writeln!(text, "{:digits$}    = ... and {left_out} more ...", "")?;
+            }
+            let told = note_text(alloc, note)?;
+            writeln!(text, "{:digits$}    = {told}", "")?;
+        }
+        for told in &self.notes {
+            writeln!(text, "{:digits$}    = {told}", "")?;
+        }
+        Ok(text)
+    }
+}
+
+/// A message without variables and notes on a byte range of a text, which counts from the first
+/// byte of the whole file or stream. There is none where the range begins before the bytes that are
+/// given.
+///
+/// # Errors
+///
+/// Out of memory.
+pub fn message_at(
+    alloc: Global,
+    text: &Text<'_>,
+    place: Span,
+    said: String,
+) -> Result<Option<Message>, AllocError> {
+    let Some(spot) = text.spot_at(place.start) else {
+        return Ok(None);
+    };
+    let Text { name, .. } = text;
+    let Spot { line, column, .. } = spot;
+    let marked = place.end.saturating_sub(place.start);
+    let Excerpt { text, front, marks } = Excerpt::new(alloc, spot, marked)?;
+    let digits = format!(in alloc; "{line}")?.len();
+    let mut head = format!(in alloc; "{name}:{line}:{column}: {said}\n   {line} | {text}\n")?;
+    writeln!(head, "   {:digits$} | {:front$}{:^>marks$}", "", "", "")?;
+    Ok(Some(Message {
+        line,
+        column,
+        said,
+        variables: Vec::new(alloc),
+        left_out: 0,
+        notes: Vec::new(alloc),
+        head,
+    }))
+}

@@ -1,0 +1,194 @@
+//! The message on a verdict: the point that it is about, the variables in that, their values and
+//! where these come from.
+
+ghost use Rattle.std.specs.Prelude.{◌<◌, length};
+ghost use Rattle.fz_filling.specs.of_model.Meaning.{points};
+
+use crate::case::Case;
+use crate::domain::declared_domain;
+use crate::failing::{Sought, first_point};
+use crate::help::note_help;
+use crate::message::{Message, Text, message_at};
+use crate::notes::{note_domain, note_variables};
+use crate::place::point_place;
+use crate::sentence::sentence;
+use crate::sums::too_large_at;
+use crate::variables::variables_of;
+use fz_base::Span;
+use fz_filling::Giver;
+use fz_filling::fz_model::{Goal, Model, Partial, Point, Scalar, Term, What, scalar_at};
+use fz_filling::fz_syntax::{Ast, Basic, Goal as GoalItem};
+use fz_judge::{Fault, Reason, Verdict};
+use std::alloc::{AllocError, Global};
+
+/// A case with the model's text and tree, and the block's filling with its steps.
+#[derive(Clone, Copy)]
+pub(crate) struct Reading<'s, 'e, 'a, 't> {
+    pub case: &'s Case<'e, 'a>,
+    pub model: &'s Model<'a>,
+    pub text: Text<'t>,
+    pub ast: &'s Ast<'t>,
+    pub completes: bool,
+    pub filling: &'s Partial,
+    pub steps: &'s [Giver],
+}
+
+/// The text that the verdict on a case is about, and the byte range in it: of a printed name, of
+/// the objective, or of a point's name.
+pub(crate) fn verdict_place<'t>(
+    ast: &Ast<'_>,
+    text: Text<'t>,
+    case: &Case<'t, '_>,
+) -> Option<(Text<'t>, Span)> {
+    let point = match case.verdict {
+        Verdict::Satisfied => return None,
+        Verdict::Violated(Fault::Printed(name)) => {
+            return Some((case.stream, printed_place(case, name)?));
+        }
+        Verdict::Violated(Fault::NotBetter(_, _))
+        | Verdict::Undecided(Reason::NotShownBetter(_, _)) => {
+            return Some((text, objective_place(ast)?));
+        }
+        Verdict::Violated(Fault::Domain(name)) | Verdict::Undecided(Reason::NoValue(name)) => {
+            Point::Domain(name)
+        }
+        Verdict::Violated(Fault::Definition(name)) => Point::Definition(name),
+        Verdict::Violated(Fault::Constraint(number, name))
+        | Verdict::Undecided(Reason::Unknown(number, name)) => Point::Constraint(number, name),
+        Verdict::Undecided(Reason::TooLarge(number)) => Point::Constraint(number, b""),
+    };
+    Some((text, point_place(ast, &point)?))
+}
+
+/// The message on the verdict of a case.
+pub(crate) fn verdict_message(
+    alloc: Global,
+    reading: &Reading<'_, '_, '_, '_>,
+) -> Result<Option<Message>, AllocError> {
+    let case = reading.case;
+    let Some((text, place)) = verdict_place(reading.ast, reading.text, case) else {
+        return Ok(None);
+    };
+    let said = sentence(alloc, case)?;
+    let Some(mut message) = message_at(alloc, &text, place, said)? else {
+        return Ok(None);
+    };
+    match case.verdict {
+        Verdict::Satisfied => {}
+        Verdict::Violated(Fault::Printed(name)) => {
+            let variables = variables_named(alloc, reading.model, name)?;
+            note_variables(alloc, reading, &mut message, &variables)?;
+        }
+        Verdict::Violated(Fault::NotBetter(_, _))
+        | Verdict::Undecided(Reason::NotShownBetter(_, _)) => {
+            note_objective(alloc, reading, &mut message)?;
+        }
+        Verdict::Violated(_) => note_sought(alloc, reading, &mut message, Sought::Failing)?,
+        Verdict::Undecided(_) => note_sought(alloc, reading, &mut message, Sought::Undecided)?,
+    }
+    note_help(alloc, reading, &mut message)?;
+    Ok(Some(message))
+}
+
+/// Adds notes on the first point of the kind that is sought.
+fn note_sought(
+    alloc: Global,
+    reading: &Reading<'_, '_, '_, '_>,
+    message: &mut Message,
+    sought: Sought,
+) -> Result<(), AllocError> {
+    let model = reading.model;
+    match first_point(alloc, model, reading.filling, sought)? {
+        Some(point) if point < model.points() => note_point(alloc, reading, message, point),
+        _ => Ok(()),
+    }
+}
+
+fn note_point(
+    alloc: Global,
+    reading: &Reading<'_, '_, '_, '_>,
+    message: &mut Message,
+    point: usize,
+) -> Result<(), AllocError>
+    requires in_range { point < length (points reading.now.model.now) }
+{
+    let model = reading.model;
+    note_variables(alloc, reading, message, &variables_of(alloc, model, point)?)?;
+    if let Some(domain) = declared_domain(model, point) {
+        note_domain(alloc, message, domain)?;
+    }
+    if let Some(place) = too_large_at(alloc, model, reading.filling, point)? {
+        let told = format!(in alloc; "the sum leaves 128 bits at element {place}")?;
+        message.note(told)?;
+    }
+    Ok(())
+}
+
+fn note_objective(
+    alloc: Global,
+    reading: &Reading<'_, '_, '_, '_>,
+    message: &mut Message,
+) -> Result<(), AllocError> {
+    if let Goal::Minimize(Term::Var(number)) | Goal::Maximize(Term::Var(number)) = reading
+        .model
+        .goal()
+    {
+        note_variables(alloc, reading, message, &[*number])?;
+    }
+    let case = reading.case;
+    let before = case.number.saturating_sub(1);
+    message.note(format!(in alloc; "the other value is that of block {before}")?)
+}
+
+fn objective_place(ast: &Ast<'_>) -> Option<Span> {
+    match &ast.solve.goal {
+        GoalItem::Minimize(basic) | GoalItem::Maximize(basic) => Some(basic_place(basic)),
+        GoalItem::Satisfy => None,
+    }
+}
+
+fn basic_place(basic: &Basic<'_>) -> Span {
+    match basic {
+        Basic::Lit(literal) => literal.span,
+        Basic::Named(name) => name.span,
+    }
+}
+
+/// The byte range, within the stream, of a name that the block of a case prints.
+fn printed_place(case: &Case<'_, '_>, name: &[u8]) -> Option<Span> {
+    let block = case.block;
+    for item in &block.items {
+        if item.name.text == name {
+            let Span { start, end } = item.name.span;
+            return Some(Span {
+                start: block.offset.saturating_add(start),
+                end: block.offset.saturating_add(end),
+            });
+        }
+    }
+    None
+}
+
+/// The variables that a name stands for.
+fn variables_named(
+    alloc: Global,
+    model: &Model<'_>,
+    name: &[u8],
+) -> Result<Vec<usize>, AllocError> {
+    let mut variables = Vec::new(alloc);
+    let Some(found) = model.find(name) else {
+        return Ok(variables);
+    };
+    match found.what {
+        What::Scalar(Scalar::Variable(number)) => variables.push(number)?,
+        What::Scalar(_) => {}
+        What::Array(_, scalars) => {
+            for slot in scalars.slots {
+                if let Scalar::Variable(number) = scalar_at(scalars.constants, *slot) {
+                    variables.push(number)?;
+                }
+            }
+        }
+    }
+    Ok(variables)
+}

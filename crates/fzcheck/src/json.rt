@@ -1,0 +1,304 @@
+//! The report as JSON: an object for each line, each refusal and each explanation. `docs/REPORT.md`
+//! tells their members, and `tests/as_json.py` tests them.
+
+use fz_check::{
+    Answer, CheckError, ClaimKind, Fault, Judged, Reason, Verdict, claim_text, refusal_fault,
+};
+use fz_explain::{MOST_RANGES, Message, Note, Origin, Value};
+use json::Writer;
+use std::alloc::{AllocError, Global};
+
+/// How many blocks have which verdict.
+#[derive(Clone, Copy)]
+pub struct Counts {
+    pub satisfied: usize,
+    pub violated: usize,
+    pub undecided: usize,
+}
+
+impl Counts {
+    /// Before the first block.
+    pub fn new() -> Counts {
+        Counts {
+            satisfied: 0,
+            violated: 0,
+            undecided: 0,
+        }
+    }
+
+    pub fn add(&mut self, verdict: &Verdict<'_>) {
+        match verdict {
+            Verdict::Satisfied => self.satisfied = self.satisfied.saturating_add(1),
+            Verdict::Violated(_) => self.violated = self.violated.saturating_add(1),
+            Verdict::Undecided(_) => self.undecided = self.undecided.saturating_add(1),
+        }
+    }
+
+    /// How many blocks there are.
+    pub fn blocks(self) -> usize {
+        self.satisfied
+            .saturating_add(self.violated)
+            .saturating_add(self.undecided)
+    }
+}
+
+/// An object to which members are added.
+#[derive(Drop)]
+struct Object {
+    alloc: Global,
+    writer: Writer,
+}
+
+impl Object {
+    fn new(alloc: Global) -> Result<Object, AllocError> {
+        let mut writer = Writer::new(Vec::new(alloc));
+        writer.begin_object()?;
+        Ok(Object { alloc, writer })
+    }
+
+    fn text(&mut self, key: &str, text: &str) -> Result<(), AllocError> {
+        self.writer.key(key)?;
+        self.writer.string(text)
+    }
+
+    /// A member whose value is a name, a word of the language: these are ASCII.
+    fn word(&mut self, key: &str, word: &[u8]) -> Result<(), AllocError> {
+        self.text(key, str::from_utf8(word).unwrap_or(""))
+    }
+
+    fn count(&mut self, key: &str, count: usize) -> Result<(), AllocError> {
+        self.writer.key(key)?;
+        self.writer.u64(count as u64)
+    }
+
+    fn number(&mut self, key: &str, number: i64) -> Result<(), AllocError> {
+        self.writer.key(key)?;
+        self.writer.i64(number)
+    }
+
+    fn place(&mut self, line: usize, column: usize) -> Result<(), AllocError> {
+        self.count("line", line)?;
+        self.count("column", column)
+    }
+
+    fn fault(&mut self, fault: Fault<'_>) -> Result<(), AllocError> {
+        let (point, name) = match fault {
+            Fault::Printed(name) => ("printed", name),
+            Fault::Domain(name) => ("domain", name),
+            Fault::Definition(name) => ("definition", name),
+            Fault::Constraint(number, name) => {
+                self.text("point", "constraint")?;
+                self.count("number", number)?;
+                return self.word("name", name);
+            }
+            Fault::NotBetter(now, before) => {
+                self.text("point", "objective")?;
+                self.number("now", now)?;
+                return self.number("before", before);
+            }
+        };
+        self.text("point", point)?;
+        self.word("name", name)
+    }
+
+    fn reason(&mut self, reason: Reason<'_>) -> Result<(), AllocError> {
+        match reason {
+            Reason::NoValue(name) => {
+                self.text("reason", "no value")?;
+                self.word("name", name)
+            }
+            Reason::Unknown(number, name) => {
+                self.text("reason", "not known")?;
+                self.count("number", number)?;
+                self.word("name", name)
+            }
+            Reason::TooLarge(number) => {
+                self.text("reason", "too large")?;
+                self.count("number", number)
+            }
+            Reason::NotShownBetter(now, found) => {
+                self.text("reason", "not shown better")?;
+                self.number("now", now)?;
+                self.number("found", found)
+            }
+        }
+    }
+
+    /// A member whose value is that of a variable. Of the ranges of a set as many are told as in
+    /// the text of a message, and how many are left out.
+    fn value(&mut self, value: &Value) -> Result<(), AllocError> {
+        match value {
+            Value::Int(number) => self.number("value", *number),
+            Value::Bool(truth) => {
+                self.writer.key("value")?;
+                self.writer.boolean(*truth)
+            }
+            Value::Set(set) => {
+                let ranges = set.ranges(self.alloc)?;
+                self.writer.key("value")?;
+                self.writer.begin_array()?;
+                for range in ranges.iter().take(MOST_RANGES) {
+                    self.writer.begin_array()?;
+                    self.writer.i64(range.lo)?;
+                    self.writer.i64(range.hi)?;
+                    self.writer.end_array()?;
+                }
+                self.writer.end_array()?;
+                self.left_out(ranges.len().saturating_sub(MOST_RANGES))
+            }
+        }
+    }
+
+    /// How many are left out, where some are.
+    fn left_out(&mut self, count: usize) -> Result<(), AllocError> {
+        if count == 0 {
+            return Ok(());
+        }
+        self.count("left_out", count)
+    }
+
+    fn note(&mut self, note: &Note) -> Result<(), AllocError> {
+        self.writer.begin_object()?;
+        self.text("name", &note.name)?;
+        if let Some(value) = &note.value {
+            self.value(value)?;
+        }
+        match &note.origin {
+            Origin::Printed => self.text("source", "printed")?,
+            Origin::Given(giver, line) => {
+                self.text("source", giver)?;
+                if let Some(line) = line {
+                    self.count("line", *line)?;
+                }
+            }
+            Origin::Nothing => {}
+        }
+        self.writer.end_object()
+    }
+
+    /// The object on a line.
+    fn line(mut self) -> Result<Vec<u8>, AllocError> {
+        self.writer.end_object()?;
+        let mut line = self.writer.into_inner();
+        line.extend_from_slice(b"\n")?;
+        Ok(line)
+    }
+}
+
+/// The line of a block, whose verdict is about this line and column.
+pub fn block_line(
+    alloc: Global,
+    judged: &Judged<'_, '_>,
+    place: Option<(usize, usize)>,
+) -> Result<Vec<u8>, AllocError> {
+    let mut object = Object::new(alloc)?;
+    object.count("block", judged.number)?;
+    match judged.verdict {
+        Verdict::Satisfied => object.text("verdict", "satisfied")?,
+        Verdict::Violated(fault) => {
+            object.text("verdict", "violated")?;
+            object.fault(fault)?;
+        }
+        Verdict::Undecided(reason) => {
+            object.text("verdict", "undecided")?;
+            object.reason(reason)?;
+        }
+    }
+    if let Some((line, column)) = place {
+        object.place(line, column)?;
+    }
+    if let Some(objective) = judged.objective {
+        object.number("objective", objective)?;
+    }
+    object.line()
+}
+
+/// The line of a claim that comes after so many blocks.
+pub fn claim_line(alloc: Global, kind: ClaimKind, after: usize) -> Result<Vec<u8>, AllocError> {
+    let mut object = Object::new(alloc)?;
+    object.word("claim", claim_text(kind))?;
+    object.count("after", after)?;
+    object.line()
+}
+
+/// The line of the answer.
+pub fn answer_line(alloc: Global, answer: Answer, counts: Counts) -> Result<Vec<u8>, AllocError> {
+    let (word, block) = match answer {
+        Answer::Accepted(_) => ("accepted", None),
+        Answer::Rejected(number) => ("rejected", Some(number)),
+        Answer::Undecided(number) => ("undecided", Some(number)),
+        Answer::NoBlocks => ("no blocks", None),
+    };
+    let mut object = Object::new(alloc)?;
+    object.text("answer", word)?;
+    if let Some(number) = block {
+        object.count("block", number)?;
+    }
+    object.count("blocks", counts.blocks())?;
+    object.count("satisfied", counts.satisfied)?;
+    object.count("violated", counts.violated)?;
+    object.count("undecided", counts.undecided)?;
+    object.line()
+}
+
+/// The line of a refusal, whose fault has this message.
+pub fn refusal_line(
+    alloc: Global,
+    error: &CheckError,
+    message: Option<&Message>,
+) -> Result<Vec<u8>, AllocError> {
+    let mut object = Object::new(alloc)?;
+    object.text("refused", refused_word(error))?;
+    if let CheckError::Block(number, _) = error {
+        object.count("block", *number)?;
+    }
+    if let Some(fault) = refusal_fault(error) {
+        object.word("fault", fault.name)?;
+        if let Some(place) = fault.place {
+            object.count("start", place.start)?;
+            object.count("end", place.end)?;
+        }
+    }
+    if let Some(message) = message {
+        object.place(message.line, message.column)?;
+        object.text("message", &message.said)?;
+    }
+    object.line()
+}
+
+fn refused_word(error: &CheckError) -> &'static str {
+    match error {
+        CheckError::Model(_) | CheckError::Names(_) => "model",
+        CheckError::Stream(_) => "stream",
+        CheckError::Block(_, _) => "block",
+        CheckError::Memory => "memory",
+        CheckError::Read => "read",
+        CheckError::Write => "write",
+    }
+}
+
+/// The line of the explanation of a block.
+pub fn explanation_line(
+    alloc: Global,
+    block: usize,
+    message: &Message,
+) -> Result<Vec<u8>, AllocError> {
+    let mut object = Object::new(alloc)?;
+    object.count("explained", block)?;
+    object.place(message.line, message.column)?;
+    object.text("message", &message.said)?;
+    object.writer.key("variables")?;
+    object.writer.begin_array()?;
+    for note in &message.variables {
+        object.note(note)?;
+    }
+    object.writer.end_array()?;
+    object.left_out(message.left_out)?;
+    object.writer.key("notes")?;
+    object.writer.begin_array()?;
+    for note in &message.notes {
+        object.writer.string(note)?;
+    }
+    object.writer.end_array()?;
+    object.line()
+}

@@ -1,0 +1,185 @@
+//! Who takes the events of a check: the report is written as text or as JSON, and on the way is
+//! shown how far the check is, and why blocks aren't satisfied.
+
+ghost use Rattle.fz_check.specs.Report.{event_line};
+
+use crate::json::{Counts, answer_line, block_line, claim_line, explanation_line};
+use crate::waiting::{Waiting, add_line};
+use fz_check::{Event, Judged, Taker, TextTaker, Verdict};
+use fz_command::{CheckOptions, Explaining, Form};
+use fz_explain::{Case, Explainer, Message, Text};
+use fz_files::{Passed, Progress, Recent};
+use std::alloc::AllocError;
+use std::cell::RefCell;
+
+/// Takes the events of a check.
+#[derive(Drop)]
+pub struct Teller<'r> {
+    rt: &'r HostRuntime,
+    options: CheckOptions,
+    explainer: Explainer<'r>,
+    /// The name of the stream.
+    stream: &'r str,
+    recent: &'r RefCell<Recent>,
+    /// The lines of JSON that wait to be written.
+    waiting: &'r Waiting,
+    progress: Progress<'r>,
+    counts: Counts,
+    /// The number and the explanation of the block that the answer so far names.
+    told: Option<(usize, Message)>,
+}
+
+impl<'r> Teller<'r> {
+    /// Before the first block. What is stored of the stream is in the cell.
+    pub fn new(
+        rt: &'r HostRuntime,
+        options: CheckOptions,
+        explainer: Explainer<'r>,
+        stream: &'r str,
+        recent: &'r RefCell<Recent>,
+        waiting: &'r Waiting,
+    ) -> Teller<'r> {
+        Teller {
+            rt,
+            options,
+            explainer,
+            stream,
+            recent,
+            waiting,
+            progress: Progress::new(rt),
+            counts: Counts::new(),
+            told: None,
+        }
+    }
+
+    /// Removes the line of progress.
+    pub fn clear(&mut self) {
+        self.progress.clear();
+    }
+
+    /// Tells why the block isn't satisfied that the answer names, where that wasn't told before.
+    pub fn tell(&mut self) {
+        if let Some((number, message)) = self.told.take() {
+            // Without memory for an explanation there is none.
+            let _ = self.tell_message(number, &message);
+        }
+    }
+
+    fn tell_message(&mut self, number: usize, message: &Message) -> Result<(), AllocError> {
+        let alloc = self.rt.alloc();
+        match self.options.form {
+            Form::Text => {
+                let text = message.text(alloc)?;
+                self.progress.clear();
+                let _ = eprint!(self.rt; "{text}");
+                Ok(())
+            }
+            Form::Json => add_line(self.waiting, &explanation_line(alloc, number, message)?),
+        }
+    }
+
+    fn note(&mut self, judged: &Judged<'_, '_>) {
+        let Counts {
+            violated,
+            undecided,
+            ..
+        } = self.counts;
+        let is_named = match judged.verdict {
+            Verdict::Satisfied => false,
+            Verdict::Undecided(_) => violated == 0 && undecided == 0,
+            Verdict::Violated(_) => violated == 0,
+        };
+        self.counts.add(&judged.verdict);
+        self.progress
+            .note(matches!(judged.verdict, Verdict::Satisfied));
+        match self.options.explains {
+            Explaining::Nothing => {}
+            Explaining::Answer => {
+                if is_named {
+                    self.told = self.explanation(judged);
+                }
+            }
+            Explaining::All => {
+                self.told = self.explanation(judged);
+                self.tell();
+            }
+        }
+    }
+
+    /// Why a block isn't satisfied; none where it is, or memory runs out.
+    fn explanation(&mut self, judged: &Judged<'_, '_>) -> Option<(usize, Message)> {
+        let case = case_of(self.stream, self.recent, judged).ok()?;
+        let alloc = self.rt.alloc();
+        let message = self
+            .explainer
+            .explanation(alloc, judged.model, &case)
+            .ok()??;
+        Some((judged.number, message))
+    }
+
+    /// Adds the line of JSON of an event, and of what is told before the answer.
+    fn add(&mut self, event: &Event<'_, '_>) -> Result<(), AllocError> {
+        let alloc = self.rt.alloc();
+        let line = match event {
+            Event::Block(judged) => self.block_line(judged)?,
+            Event::Claim(kind) => claim_line(alloc, *kind, self.counts.blocks())?,
+            Event::Answer(answer) => {
+                self.tell();
+                answer_line(alloc, *answer, self.counts)?
+            }
+        };
+        add_line(self.waiting, &line)
+    }
+
+    fn block_line(&mut self, judged: &Judged<'_, '_>) -> Result<Vec<u8>, AllocError> {
+        let alloc = self.rt.alloc();
+        if let Verdict::Satisfied = judged.verdict {
+            return block_line(alloc, judged, None);
+        }
+        let case = case_of(self.stream, self.recent, judged)?;
+        block_line(alloc, judged, self.explainer.place(alloc, &case)?)
+    }
+}
+
+/// A block with the place of its text in the stream. An error says that memory ran out before,
+/// so that what is stored doesn't tell it.
+fn case_of<'e, 'a>(
+    stream: &'e str,
+    recent: &RefCell<Recent>,
+    judged: &Judged<'e, 'a>,
+) -> Result<Case<'e, 'a>, AllocError> {
+    let block = judged.block;
+    let lines = match recent.try_borrow() {
+        Ok(recent) => recent.lines_before(block.offset).ok_or(AllocError)?,
+        Err(_) => return Err(AllocError),
+    };
+    Ok(Case {
+        number: judged.number,
+        block,
+        verdict: judged.verdict,
+        stream: Text {
+            name: stream,
+            bytes: block.text,
+            passed: Passed {
+                bytes: block.offset,
+                lines,
+                blocks: judged.number.saturating_sub(1),
+            },
+        },
+    })
+}
+
+impl Taker for Teller<'_> {
+    ghost text = { event_line };
+
+    fn take(&mut self, event: &Event<'_, '_>, line: &mut Vec<u8>) -> Result<(), AllocError> {
+        TextTaker.take(event, line)?;
+        if let Form::Json = self.options.form {
+            self.add(event)?;
+        }
+        if let Event::Block(judged) = event {
+            self.note(judged);
+        }
+        Ok(())
+    }
+}

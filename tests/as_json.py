@@ -1,0 +1,200 @@
+#!/usr/bin/env python3
+"""Compares the report as JSON with the report as text: as_json.py PROGRAM
+
+Runs a built program on the models and streams of examples/, tests/explained and
+tests/corpus/by_hand, with and without --complete and --explain. From the objects the lines of the
+text are made, those of refusals and explanations too, and compared with what the program writes
+without --json. The last line is 'N passed, M failed'."""
+import glob
+import json
+import os
+import re
+import subprocess
+import sys
+
+TOP = os.path.dirname(os.path.dirname(os.path.abspath(__file__)))
+FOLDERS = "examples", "tests/explained", "tests/corpus/by_hand"
+EXPLAINING = "", "--explain", "--explain=all"
+FAULTS = {
+    "printed": "printed {name}",
+    "domain": "domain of {name}",
+    "definition": "definition of {name}",
+    "constraint": "constraint {number} {name}",
+    "objective": "objective {now} not better than {before}",
+}
+REASONS = {
+    "no value": "no value for {name}",
+    "not known": "constraint {number} {name} not known",
+    "too large": "constraint {number} too large",
+    "not shown better": "objective {now} not shown better than {found}",
+}
+VERDICTS = "satisfied", "violated", "undecided"
+
+
+def cases():
+    """A folder with the names of a model and a stream in it."""
+    yield "examples", "first.fzn", "first.out"
+    for folder in FOLDERS:
+        for path in sorted(glob.glob(f"{folder}/*/*stream.txt", root_dir=TOP)):
+            yield os.path.dirname(path), "model.fzn", os.path.basename(path)
+
+
+def run(program, folder, words):
+    words = [program, "check", *filter(None, words)]
+    ran = subprocess.run(words, cwd=os.path.join(TOP, folder), capture_output=True, timeout=60)
+    return ran.stdout.decode(), ran.stderr.decode(), ran.returncode
+
+
+def block_line(it):
+    told = it["verdict"]
+    if told == "violated":
+        told += ": " + FAULTS[it["point"]].format(**it)
+    elif told == "undecided":
+        told += ": " + REASONS[it["reason"]].format(**it)
+    return f"block {it['block']}: {told}"
+
+
+def answer_line(it):
+    if it["answer"] == "no blocks":
+        return "no blocks"
+    named = f"blocks {it['blocks']}" if it["answer"] == "accepted" else f"block {it['block']}"
+    return f"{it['answer']}: {named}"
+
+
+def refusal_line(it):
+    """The line on standard error; of a file that can't be read the next line isn't told."""
+    who = f"block {it['block']}" if it["refused"] == "block" else it["refused"]
+    fault = f": {it['fault']}" if "fault" in it else ""
+    place = f" at {it['start']}..{it['end']}" if "start" in it else ""
+    return f"refused: {who}{fault}{place}"
+
+
+def value_text(it):
+    value = it["value"]
+    if isinstance(value, bool):
+        return str(value).lower()
+    if isinstance(value, int):
+        return str(value)
+    ranges = [f"{lo}" if lo == hi else f"{lo}..{hi}" for lo, hi in value]
+    if "left_out" in it:
+        ranges.append(f"... and {it['left_out']} more")
+    return "{" + ",".join(ranges) + "}"
+
+
+def variable_text(it):
+    if "value" not in it:
+        return f"{it['name']} = none: no rule gives it one; print it"
+    source = it["source"]
+    if source != "printed":
+        source = f"by {source}"
+    if "line" in it:
+        source += f", line {it['line']}"
+    return f"{it['name']} = {value_text(it)}, {source}"
+
+
+def message_lines(it, model, stream):
+    """The lines of a message but for the excerpt of the source."""
+    notes = [variable_text(variable) for variable in it.get("variables", [])]
+    if "left_out" in it:
+        notes.insert(8, f"... and {it['left_out']} more ...")
+    name = stream if re.match("printed .* differs", it["message"]) else model
+    if "refused" in it and it["refused"] != "model":
+        name = stream
+    return [f"{name}:{it['line']}:{it['column']}: {it['message']}", *notes, *it.get("notes", [])]
+
+
+def told_lines(text):
+    """Those of what was written to standard error, but for the excerpts."""
+    lines = [re.sub("^ +    = ", "", line) for line in text.splitlines()]
+    return [line for line in lines if not re.match(" +([0-9]+ )?[|] ", line)]
+
+
+class Report:
+    """The objects of a report, made into the lines of its text."""
+
+    def __init__(self, text, model, stream):
+        self.out, self.told, self.places = [], [], {}
+        self.objects = [json.loads(line) for line in text.splitlines()]
+        self.wrong = [] if text.endswith("\n") else ["the last line doesn't end"]
+        for it in self.objects:
+            if "verdict" in it:
+                self.out.append(block_line(it))
+                self.places[it["block"]] = it.get("line"), it.get("column")
+            elif "claim" in it:
+                self.out.append(f"claim: {it['claim']} not judged")
+                self.expect(it["after"], len(self.places), "after")
+            elif "answer" in it:
+                self.out.append(answer_line(it))
+                self.expect([it["blocks"], *map(it.get, VERDICTS)], self.counts(), "counts")
+            elif "refused" in it:
+                self.told.append(refusal_line(it))
+                if "line" in it:
+                    self.told += message_lines(it, model, stream)
+            else:
+                self.told += message_lines(it, model, stream)
+                place = it["line"], it["column"]
+                self.expect(self.places[it["explained"]], place, "the place of a block")
+        if not self.objects or not {"answer", "refused"} & set(self.objects[-1]):
+            self.wrong.append("neither an answer nor a refusal is last")
+
+    def counts(self):
+        given = [it["verdict"] for it in self.objects if "verdict" in it]
+        return [len(given), *map(given.count, VERDICTS)]
+
+    def expect(self, got, want, name):
+        if got != want:
+            self.wrong.append(f"{name}: {got}, wanted {want}")
+
+
+def printed_objectives(model, stream):
+    """Of each block that prints the objective, its number and that value."""
+    goal = re.search(rb"\bm(?:in|ax)imize\s+(\w+)\s*;", model)
+    if not goal:
+        return
+    for number, block in enumerate(re.split(rb"\n----------\s*\n", b"\n" + stream)[:-1], 1):
+        value = re.search(rb"^%s = (-?\d+);" % goal[1], block, re.M)
+        if value:
+            yield number, int(value[1])
+
+
+def faults(program, folder, model, stream, options):
+    """What is wrong with the report as JSON, of a run with these options."""
+    files = *filter(None, options), model, stream
+    out, err, status = run(program, folder, files)
+    try:
+        text, json_err, json_status = run(program, folder, ("--json", *files))
+        report = Report(text, model, stream)
+    except (ValueError, KeyError) as error:
+        return [repr(error)]
+    report.expect(json_status, status, "status")
+    report.expect(report.out, out.splitlines(), "lines")
+    refusals = [line for line in err.splitlines() if line.startswith("refused: ")]
+    report.expect(json_err.splitlines(), refusals, "standard error")
+    if "--explain" not in str(options):  # the place of a refusal is in JSON all the same
+        report.told = [line for line in report.told if line.startswith("refused: ")]
+    report.expect(report.told, told_lines(err), "what is told")
+    objects = {it["block"]: it for it in report.objects if "verdict" in it}
+    with open(os.path.join(TOP, folder, model), "rb") as m, open(os.path.join(TOP, folder, stream), "rb") as s:
+        for number, value in printed_objectives(m.read(), s.read()):
+            if number in objects:
+                report.expect(objects[number].get("objective"), value, f"objective {number}")
+    if not any("explained" in it for it in report.objects) and "--explain=all" in options:
+        report.expect(report.counts()[0], report.counts()[1], "blocks without explanation")
+    return report.wrong
+
+
+def main():
+    program = os.path.abspath(sys.argv[1])
+    passed = failed = 0
+    for folder, model, stream in cases():
+        for completing in "", "--complete":
+            for explaining in EXPLAINING:
+                wrong = faults(program, folder, model, stream, (completing, explaining))
+                passed, failed = passed + (not wrong), failed + bool(wrong)
+                for line in wrong:
+                    print(f"failed: {folder}/{stream} {completing} {explaining}: {line}")
+    print(f"{passed} passed, {failed} failed")
+    return 1 if failed else 0
+
+
+sys.exit(main())

@@ -1,0 +1,49 @@
+#!/usr/bin/env python3
+"""Adds up what a reader of the headline has to read: the definitions that docs/THEOREM.md lists
+under "A yes is a yes".
+
+The page tells how many files and lines they are, and a file on the list may import definitions only
+from files on the list, from the standard library and from declared types, which are the code's."""
+import os
+import pathlib
+import re
+import sys
+
+ROOT = pathlib.Path(os.path.abspath(__file__)).parent.parent
+IMPORT = re.compile(r"^(?:pub )?use Rattle\.(\w+)\.specs\.([\w.]+?)(?:\.\{.*\}| as \w+)?$", re.M)
+
+
+def file_of(crate, path):
+    """The file of specs/ that has what an import names, through what crates pass on; none where
+    that is a declared type of the code."""
+    first, _, rest = path.partition(".")
+    if first in ("declared", "contracts"):
+        return None
+    folder = ROOT / "crates" / crate / "specs"
+    if (folder / f"{first}.antt").exists():
+        return folder / f"{first}.antt"
+    for source, alias in re.findall(r"^pub use (\S+)(?: as (\w+))?$", (folder / "Lib.antt").read_text(), re.M):
+        _, below, _, *names = source.split(".")
+        if (alias or names[-1]) == first:
+            return file_of(below, ".".join([*names, *([rest] if rest else [])]))
+    return None
+
+
+def faults(files, told):
+    lines = sum(len(path.read_text().splitlines()) for path in files)
+    if told != (len(files), lines):
+        yield f"THEOREM.md tells of {told[0]} files with {told[1]} lines: {len(files)}, {lines}"
+    for path in files:
+        for crate, name in IMPORT.findall(path.read_text()):
+            if (ROOT / "crates" / crate).exists() and file_of(crate, name) not in (None, *files):
+                yield f"{path.relative_to(ROOT)} cites {crate} {name}, which isn't listed"
+
+
+text = (ROOT / "docs" / "THEOREM.md").read_text().split("\n## A yes is a yes\n")[1].split("\n## ")[0]
+listed = [ROOT / path for path in dict.fromkeys(re.findall(r"`(crates/\w+/specs/\w+\.antt)`", text))]
+told = re.search(r"([\d,]+)\s+files\s+with\s+([\d,]+)\s+lines", text)
+found = list(faults(listed, tuple(int(it.replace(",", "")) for it in told.groups())))
+for fault in found:
+    print(f"failed: {fault}")
+print(f"{len(listed)} passed, {len(found)} failed")
+sys.exit(bool(found))
