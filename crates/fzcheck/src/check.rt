@@ -1,8 +1,8 @@
 //! The command `check`.
 
 use crate::MOST_BYTES;
+use crate::as_json::refusal_line;
 use crate::explain::explanation;
-use crate::json::refusal_line;
 use crate::refuse::{refuse, refuse_at, refuse_file, unread};
 use crate::teller::Teller;
 use crate::waiting::InPlace;

@@ -4,9 +4,9 @@
 //! Tests are in `tests/program.sh` and `tests/explained`.
 #![tactic(auto)]
 
+mod as_json;
 mod check;
 mod explain;
-mod json;
 mod refuse;
 mod show;
 mod teller;

@@ -3,7 +3,7 @@
 
 ghost use Rattle.fz_check.specs.Report.{event_line};
 
-use crate::json::{Counts, answer_line, block_line, claim_line, explanation_line};
+use crate::as_json::{Counts, answer_line, block_line, claim_line, explanation_line};
 use crate::waiting::{Waiting, add_line};
 use fz_check::{Event, Judged, Taker, TextTaker, Verdict};
 use fz_command::{CheckOptions, Explaining, Form};
