@@ -2,7 +2,8 @@
 use Rattle.std.proofs.Common.{◌≡◌, ℕ, List, map, Some, sym, ap, ◌∙◌, subst}
 use Rattle.fz_judge.specs.of_model.Located.{LocatedTree}
 use Rattle.fz_judge.specs.of_model.Meaning.{Model}
-use Rattle.fz_judge.specs.of_model.Names.{HasNoFault, model_of}
+use Rattle.fz_judge.specs.of_model.FirstFault.{HasNoFault}
+use Rattle.fz_judge.specs.of_model.Names.{model_of}
 use Rattle.fz_judge.specs.of_model.Texts.{IsLoadedFrom}
 use Rattle.fz_judge.proofs.of_model.Scope.{sound_aims}
 use Rattle.fz_judge.specs.of_verdict.Solutions.{Block}

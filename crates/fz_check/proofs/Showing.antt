@@ -7,7 +7,7 @@ use Rattle.fz_judge.specs.of_syntax.Tokens.{toks}
 use Rattle.fz_judge.specs.of_syntax.View.{bare}
 use Rattle.fz_judge.specs.of_syntax.declared.Ast as the_ast
 use Rattle.fz_judge.proofs.of_syntax.PrintBack.{read_can_be_written}
-use Rattle.fz_judge.specs.of_model.Names.{HasNoFault}
+use Rattle.fz_judge.specs.of_model.FirstFault.{HasNoFault}
 use Rattle.fz_judge.specs.of_model.Located.{bare_of}
 use Rattle.fz_judge.specs.of_model.View.{located}
 use Rattle.fz_judge.proofs.of_model.Places.{located_is_bare}

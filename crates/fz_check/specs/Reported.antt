@@ -4,7 +4,8 @@ use Rattle.std.specs.List.{slice_get}
 use Rattle.fz_judge.specs.of_model.Located.{LocatedTree}
 use Rattle.fz_judge.specs.of_model.Meaning.{Model, Assignment, IsSolution}
 use Rattle.fz_judge.specs.of_model.States.{IsKnownSolution}
-use Rattle.fz_judge.specs.of_model.Names.{HasNoFault, model_of}
+use Rattle.fz_judge.specs.of_model.FirstFault.{HasNoFault}
+use Rattle.fz_judge.specs.of_model.Names.{model_of}
 use Rattle.fz_judge.specs.of_model.Texts.{IsLoadedFrom}
 use Rattle.fz_judge.specs.of_stream.Parts.{StreamPart}
 use Rattle.fz_judge.specs.of_verdict.declared.completion.Completion.{Completion}

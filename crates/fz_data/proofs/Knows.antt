@@ -18,7 +18,7 @@ use Rattle.fz_meaning.specs.Meaning as meaning
 use Rattle.fz_meaning.specs.Meaning.{Place, first_some}
 use Rattle.fz_meaning.specs.Meaning.Place.{Scalar, Array}
 use Rattle.fz_meaning.specs.Names.{parts, kind_of_base, is_scalar, named_as, declares, declaration, number_of, scalar_variable_number, literal_of, scalar_term, term_of, place_of, place_of_declared, definition_of, differs_in_length, argument_of, defined_by, posted_of, aim_of}
-use Rattle.fz_meaning.specs.Names.FaultKind.{DuplicateName, WrongKind, WrongLength}
+use Rattle.fz_meaning.specs.FirstFault.FaultKind.{DuplicateName, WrongKind, WrongLength}
 use Rattle.fz_meaning.proofs.Values.{and_first}
 use Rattle.fz_meaning.specs.of_syntax.Tree.{Note, NoteBasic}
 use Rattle.fz_meaning.specs.of_syntax.Tree.Note.{Called}

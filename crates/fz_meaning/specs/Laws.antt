@@ -9,7 +9,8 @@ use Rattle.fz_syntax.specs.View.{bare}
 use Rattle.fz_syntax.specs.declared.Ast.{Ast}
 use Rattle.fz_meaning.specs.View.{located}
 use Rattle.fz_meaning.specs.Located.{LocatedTree, Decl, bare_of}
-use Rattle.fz_meaning.specs.Names.{HasNoFault, number_of, scalar_variables}
+use Rattle.fz_meaning.specs.FirstFault.{HasNoFault}
+use Rattle.fz_meaning.specs.Names.{number_of, scalar_variables}
 use Rattle.fz_meaning.specs.Meaning.{Model, Partial, Point, Posted, points, give, row_of, HoldsUnder}
 use Rattle.fz_meaning.specs.States.{state}
 use Rattle.fz_meaning.specs.Meaning.Point.{ConstraintPoint}

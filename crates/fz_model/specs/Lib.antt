@@ -3,6 +3,7 @@ pub use Rattle.fz_meaning.specs.Builtins
 pub use Rattle.fz_meaning.specs.Results
 pub use Rattle.fz_meaning.specs.Meaning
 pub use Rattle.fz_meaning.specs.Names
+pub use Rattle.fz_meaning.specs.FirstFault
 pub use Rattle.fz_meaning.specs.View
 pub use Rattle.fz_meaning.specs.Steps
 pub use Rattle.fz_meaning.specs.Laws
@@ -17,4 +18,3 @@ pub use Rattle.fz_eval.specs.Overviews
 pub use Rattle.fz_eval.specs.Openings
 pub use Rattle.fz_meaning.specs.Relations
 pub use Rattle.fz_meaning.specs.States
-pub use Rattle.fz_meaning.specs.Leftmost

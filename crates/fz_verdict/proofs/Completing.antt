@@ -4,7 +4,8 @@ use Rattle.std.proofs.Common.{◌≡◌, ℕ, suc, zero, ℤ, List, [], ◌∷�
 use Rattle.std.specs.List.{AllByRecursion}
 use Rattle.fz_model.specs.Located.{LocatedTree}
 use Rattle.fz_model.specs.Meaning.{Model, Partial, Assignment, objective, IsPartial, IsSolution}
-use Rattle.fz_model.specs.Names.{HasNoFault, model_of}
+use Rattle.fz_model.specs.FirstFault.{HasNoFault}
+use Rattle.fz_model.specs.Names.{model_of}
 use Rattle.fz_verdict.specs.declared.completion.Completion.{Completion}
 use Rattle.fz_verdict.specs.declared.completion.Completion.TheVariants.{Off, On}
 use Rattle.fz_verdict.specs.Solutions.{Block, Extends}

@@ -3,7 +3,8 @@ use Rattle.std.proofs.Common.{◌≡◌, ℕ, suc, zero, ℤ, List, Option, Some
 use Rattle.fz_model.specs.Located.{LocatedTree}
 use Rattle.fz_model.specs.Meaning.{Model, Partial, Assignment, objective, IsSolution}
 use Rattle.fz_model.specs.States.{IsKnownSolution}
-use Rattle.fz_model.specs.Names.{HasNoFault, model_of}
+use Rattle.fz_model.specs.FirstFault.{HasNoFault}
+use Rattle.fz_model.specs.Names.{model_of}
 use Rattle.fz_verdict.specs.Solutions.{Block, Extends, Improves}
 use Rattle.fz_verdict.specs.declared.completion.Completion.{Completion}
 use Rattle.fz_verdict.specs.Completed.{AreVerdicts}

@@ -7,7 +7,8 @@ use Rattle.fz_base.specs.declared.value.Value.{Value}
 use Rattle.fz_model.specs.declared.Kind.{Kind}
 use Rattle.fz_model.specs.Relations.{kind_of, same_kind}
 use Rattle.fz_model.specs.Located.{Name, Literal, LocatedTree}
-use Rattle.fz_model.specs.Names.{HasNoFault, literal_value, model_of}
+use Rattle.fz_model.specs.FirstFault.{HasNoFault}
+use Rattle.fz_model.specs.Names.{literal_value, model_of}
 use Rattle.fz_model.specs.Meaning.{Place, Variable, Model, Partial, give, variables_of, find_name, first_some, FitVariables, IsPartial}
 use Rattle.fz_model.specs.declared.Term.{Term}
 use Rattle.fz_model.specs.declared.Term.TheVariants.{Var, Fixed}

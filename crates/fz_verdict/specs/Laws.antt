@@ -3,7 +3,8 @@
 use Rattle.std.specs.Prelude.{◌≡◌, ℕ, suc, ◌≤◌, ℤ, List, map, Option, None, Some, length}
 use Rattle.std.specs.List.{slice_get}
 use Rattle.fz_model.specs.Located.{LocatedTree}
-use Rattle.fz_model.specs.Names.{HasNoFault, model_of}
+use Rattle.fz_model.specs.FirstFault.{HasNoFault}
+use Rattle.fz_model.specs.Names.{model_of}
 use Rattle.fz_model.specs.Meaning.{Model, Partial, Assignment, objective, IsPartial, IsSolution, whole}
 use Rattle.fz_model.specs.States.{IsKnownSolution}
 use Rattle.fz_verdict.specs.Solutions.{Block, Extends, bare_of_block, Improves, HaveSolutions}
