@@ -4,20 +4,14 @@ use Rattle.std.proofs.lemmas.Bool.{cases_lt}
 use Rattle.fz_judge.specs.of_syntax.SyntaxError.{SyntaxError}
 use Rattle.fz_judge.specs.of_syntax.SyntaxError.TheVariants as syntax
 use Rattle.fz_judge.specs.of_syntax.Lexing.{most_bytes}
-use Rattle.fz_judge.specs.of_syntax.Offering.{IsRefused, IsTextOfAll, items_of_tree}
-use Rattle.fz_judge.specs.of_syntax.declared.Ast as the_ast
-use Rattle.fz_judge.specs.of_model.declared.ModelError.{ModelError}
-use Rattle.fz_judge.specs.of_model.declared.ModelError.TheVariants as names
-use Rattle.fz_judge.specs.of_model.Leftmost.{IsInReadingOrder}
-use Rattle.fz_judge.specs.of_model.View.{TellsFirstFault, located}
-use Rattle.fz_judge.proofs.of_model.Reading.{in_reading_order}
+use Rattle.fz_judge.specs.of_syntax.Offering.{IsRefused}
 use Rattle.fz_judge.specs.of_stream.declared.error.StreamError.{StreamError}
 use Rattle.fz_judge.specs.of_stream.declared.error.StreamError.TheVariants as stream
 use Rattle.fz_judge.specs.of_stream.Faults.{IsStreamFault}
 use Rattle.fz_judge.specs.of_stream.Parts.{StreamPart, IsStreamText}
 use Rattle.fz_judge.specs.of_stream.Broken.{StopsAfter}
 use Rattle.fz_check.specs.Passing.{IsStreamRefusal}
-use Rattle.fz_check.specs.Refused.{HasNameFault, HasStreamFault, HasTextFault, IsBroken}
+use Rattle.fz_check.specs.Refused.{HasStreamFault, HasTextFault, IsBroken}
 use Rattle.fz_check.specs.Telling.{stream_refusal}
 
 -- ---- texts
@@ -26,16 +20,6 @@ pub text_fault : (model : List ℕ) (e : SyntaxError) → e ≢ syntax.Memory �
     → (e ≡ syntax.TooLong → most_bytes < length model)
     → (most_bytes < length model → e ≡ syntax.TooLong) → HasTextFault model e
 text_fault model e other refused long too_long = record { no_tree = λ t text. other (refused.no_tree t text); too_long = (long, too_long); order = refused.order; place = refused.place; not_memory = other }
-
--- ---- names
-
-pub name_fault : (model : List ℕ) (a : the_ast.Ast) (e : ModelError)
-    → IsTextOfAll model (items_of_tree a) → e ≢ names.Memory
-    → (IsInReadingOrder (located a) → TellsFirstFault (located a) e) → HasNameFault model e
-name_fault model a e text other told = record {
-  fault = record { all = items_of_tree a; text = text; tells = told (in_reading_order model (length model) a text.stands) };
-  not_memory = other;
-}
 
 -- ---- streams
 

@@ -39,7 +39,7 @@ pub record HasTextFault (model : List ℕ) (e : SyntaxError) : Type 0 where
   pub not_memory : e ≢ TextMemory
 
 -- The model's bytes are a text of a tree whose names and literals have their byte ranges in it, and
--- this is the tree's leftmost fault.
+-- this is the tree's first fault.
 pub record HasNameFault (model : List ℕ) (e : ModelError) : Type 0 where
   pub fault : IsNameFault model e
   pub not_memory : e ≢ NameMemory

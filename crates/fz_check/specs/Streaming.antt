@@ -115,7 +115,7 @@ abbrev pub IsUntouched : Option (List ℕ) → Option (List ℕ) → Option (Lis
 IsUntouched left left' written written' = (left' ≡ left) × (written' ≡ written)
 
 -- The check of a model's text ends with this error. The model is refused only where its bytes are
--- not a text of any tree, or with the leftmost fault of its names, and before anything is read or
+-- not a text of any tree, or with the first fault of its names, and before anything is read or
 -- written.
 abbrev pub IsEnded : (Event → List ℕ) → Completion → List ℕ → Option (List ℕ) → Option (List ℕ)
     → Option (List ℕ) → Option (List ℕ) → CheckError → Type 0

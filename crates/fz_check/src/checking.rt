@@ -143,7 +143,7 @@ fn judge_blocks<'a>(
 ///
 /// # Errors
 ///
-/// `Model` where the model's bytes are not a text of any tree, `Names` with the leftmost fault of
+/// `Model` where the model's bytes are not a text of any tree, `Names` with the first fault of
 /// its names, `Stream` where the stream's bytes are too many or not a text of blocks and claims,
 /// `Block` with the first fault of the first block that has one, and `Memory` where memory runs
 /// out.
@@ -157,7 +157,7 @@ pub fn check<'a>(alloc: Global, model: &'a [u8], stream: &[u8]) -> Result<Report
     ensures report { IfOk result (λ r. HasReport Completion.Off model.now stream.now
         (report_view r) (answer_view r.answer)) }
     ensures short { IfOk result (λ _. length stream.now ≤ most_bytes) }
-    // The model is refused only where its bytes are not a text of any tree, or with the leftmost
+    // The model is refused only where its bytes are not a text of any tree, or with the first
     // fault of its names; the stream only where the model has no fault, and the stream's bytes are
     // too many or not a text of parts; a block only with the first fault.
     ensures refused { IfErr result (IsRefusal model.now stream.now) }
@@ -178,12 +178,12 @@ pub fn check<'a>(alloc: Global, model: &'a [u8], stream: &[u8]) -> Result<Report
 ///
 /// # Errors
 ///
-/// `Model` where the bytes are not a text of any tree, `Names` with the leftmost fault of its
+/// `Model` where the bytes are not a text of any tree, `Names` with the first fault of its
 /// names, and `Memory` where memory runs out.
 pub fn show(alloc: Global, model: &[u8]) -> Result<Vec<u8>, CheckError>
     // The bytes are a text of a tree without faults, and the result is that tree's text.
     ensures shown { IfOk result (λ text. IsShown model.now text.items) }
-    // It is refused only where the bytes are not a text of any tree, or with the leftmost fault of
+    // It is refused only where the bytes are not a text of any tree, or with the first fault of
     // its names.
     ensures refused { IfErr result (IsModelRefusal model.now) }
 {
@@ -207,7 +207,7 @@ pub fn show_printing_all(alloc: Global, model: &[u8]) -> Result<Vec<u8>, CheckEr
     // annotation at each scalar variable. It is a text of the same model, with the same names,
     // domains, constraints and objective.
     ensures shown { IfOk result (λ text. IsShownPrintingAll model.now text.items) }
-    // It is refused only where the bytes are not a text of any tree, or with the leftmost fault of
+    // It is refused only where the bytes are not a text of any tree, or with the first fault of
     // its names.
     ensures refused { IfErr result (IsModelRefusal model.now) }
 {

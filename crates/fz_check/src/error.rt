@@ -16,7 +16,7 @@ pub enum CheckError {
     /// The model's bytes are not a text of any tree.
     #[error("model: {0}")]
     Model(SyntaxError),
-    /// The model's tree has a fault of names; this is the leftmost.
+    /// The model's tree has a fault of names; this is the first.
     #[error("model: {0}")]
     Names(ModelError),
     /// The stream's bytes are not a text of blocks and claims.

@@ -17,7 +17,7 @@ use Rattle.fz_meaning.specs.Located.Goal.{Satisfy, Minimize, Maximize}
 use Rattle.fz_meaning.specs.Meaning as meaning
 use Rattle.fz_meaning.specs.Meaning.{Place, first_some}
 use Rattle.fz_meaning.specs.Meaning.Place.{Scalar, Array}
-use Rattle.fz_meaning.specs.Names.{parts, kind_of_base, is_scalar, named_as, declares, declaration, number_of, scalar_variable_number, literal_of, scalar_term, term_of, place_of, place_of_declared, definition_of, differs_in_length, argument_of, defined_by, posted_of, aim_of}
+use Rattle.fz_meaning.specs.Names.{parts, kind_of_base, is_scalar, named_as, declares, declaration, number_of, scalar_variable_number, literal_of, scalar_term, term_of, place_of, place_of_declared, definition_of, differs_in_length, argument_of, defined_by, posted_of, aim_of, named_fault, part_fault, parts_fault, decl_fault, constraint_fault, goal_fault}
 use Rattle.fz_meaning.specs.Names.FaultKind.{DuplicateName, WrongKind, WrongLength}
 use Rattle.fz_meaning.proofs.Values.{and_first}
 use Rattle.fz_meaning.specs.of_syntax.Tree.{Note, NoteBasic}
@@ -25,7 +25,6 @@ use Rattle.fz_meaning.specs.of_syntax.Tree.Note.{Called}
 use Rattle.fz_meaning.specs.of_syntax.Tree.NoteArgs.{NoMoreArgs, MoreArgs}
 use Rattle.fz_meaning.specs.of_syntax.Tree.NoteArg.{OneBasic, ListOf}
 use Rattle.fz_meaning.specs.of_syntax.Tree.NoteBasic.{NoteLiteral, NoteFloat, NoteString, Inner}
-use Rattle.fz_meaning.specs.FirstFault.{named_fault, part_fault, parts_fault, decl_fault, constraint_fault, goal_fault}
 use Rattle.fz_meaning.proofs.KnownNames.{clean_name, found_stays, term_found}
 use Rattle.fz_meaning.proofs.Names.{AreNew, variable_number, number_by_name}
 use Rattle.fz_meaning.proofs.ScanSteps.{first_none, second_none, constraint_by_arguments}

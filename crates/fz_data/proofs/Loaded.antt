@@ -1,21 +1,16 @@
 -- What was read is laid out as the model of the tree.
-use Rattle.std.proofs.Common.{◌≡◌, true, false, cond, List, [], ◌∷◌, ◌++◌, map, Vec, Global, Some, None, refl, sym, ap, subst, ◌∙◌, flat_map, append_assoc}
+use Rattle.std.proofs.Common.{◌≡◌, List, [], ◌∷◌, ◌++◌, map, Vec, Global, Some, None, refl, sym, ap, subst, ◌∙◌, flat_map, append_assoc}
 use Rattle.std.specs.List.{AllByRecursion}
 use Rattle.std.proofs.lemmas.List.{append-nil}
 use Rattle.fz_meaning.specs.declared.error.ModelError.{ModelError}
-use Rattle.fz_meaning.specs.declared.error.ModelError.TheVariants as errors
 use Rattle.fz_meaning.specs.declared.kind.Kind.TheVariants.{Int as IntKind}
 use Rattle.fz_meaning.specs.Located.{Decl, LocatedTree}
-use Rattle.fz_meaning.specs.Meaning.{declared_points, numbered_from, name_of, place_named, variable_of, first_some, find_name, row_of}
-use Rattle.fz_meaning.specs.Meaning.Declared.{Parameter, ScalarVariable, ArrayOfVariables}
-use Rattle.fz_meaning.specs.Leftmost.{IsInReadingOrder}
-use Rattle.fz_meaning.specs.Names.{goal_parts, parts, kind_of_base, domain_of, is_scalar, number_of, variable_declared, definition_of, term_of, place_of_declared, declared_of, posted_of, aim_of, model_of}
-use Rattle.fz_meaning.specs.View.{TellsFault, TellsFirstFault}
+use Rattle.fz_meaning.specs.Meaning.{declared_points, numbered_from, place_named, variable_of, first_some, find_name, row_of}
+use Rattle.fz_meaning.specs.Names.{goal_parts, number_of, place_of_declared, declared_of, posted_of, aim_of, model_of, decls_fault, constraint_fault, constraints_fault, goal_fault, first_fault}
 use Rattle.fz_data.specs.Kinds.{PlaceFits, PostedFits}
-use Rattle.fz_meaning.specs.FirstFault.{FirstFaultIsLeftmost, decls_fault, constraint_fault, constraints_fault, goal_fault, first_fault}
-use Rattle.fz_meaning.proofs.FoundFaults.{scanned}
+use Rattle.fz_meaning.specs.View.{Tells}
 use Rattle.fz_meaning.proofs.KnownNames.{next_number, number_here}
-use Rattle.fz_meaning.proofs.Names.{AreNew, are_new, numbered_after, numbered_is, place_named_is}
+use Rattle.fz_meaning.proofs.Names.{AreNew, are_new, declared_name, numbered_after, numbered_is, place_named_is}
 use Rattle.fz_data.specs.declared.model.Model.TheInside.{Inside}
 use Rattle.fz_data.specs.declared.parts.Goal as the_goal
 use Rattle.fz_data.specs.declared.parts.Posted as the_posted
@@ -23,7 +18,7 @@ use Rattle.fz_data.specs.declared.scope.Scope.{Scope}
 use Rattle.fz_store.specs.declared.store.Store.{Store}
 use Rattle.fz_data.specs.Parts.{posted_view, kept_row, goal_view, declared_point}
 use Rattle.fz_data.specs.Layout.{model_view, named_place, IsLaidOut, IsPlaced}
-use Rattle.fz_data.specs.Scope.{Tells, posted_in, aim_in, faults_in, constraint_fault_in}
+use Rattle.fz_data.specs.Scope.{posted_in, aim_in, faults_in, constraint_fault_in}
 use Rattle.fz_data.specs.Posting.{Posts}
 use Rattle.fz_data.specs.Stands.{Declares, StandsFor, entry_view, entry_place, is_kept, declared_pair}
 use Rattle.fz_meaning.proofs.ScanSteps.{in_constraints, in_goal, nowhere}
@@ -36,13 +31,6 @@ use Rattle.fz_data.proofs.Knows.{faults_same, constraint_same, all_posted_same, 
 
 -- ---- names
 
-own_name : (all : List Decl) (d : Decl) → name_of (declared_of all d) ≡ d.name.text
-own_name all d =
-    elim d.is_var as (λ b. name_of (cond b (cond (is_scalar d) (ScalarVariable (variable_declared d) (definition_of all d.value)) (ArrayOfVariables d.name.text (kind_of_base d.base) (domain_of d.base) (map (term_of all) (parts d.value)))) (Parameter d.name.text (place_of_declared all d))) ≡ d.name.text) [
-      | false ↦ refl
-      | true ↦ elim (is_scalar d) as (λ c. name_of (cond c (ScalarVariable (variable_declared d) (definition_of all d.value)) (ArrayOfVariables d.name.text (kind_of_base d.base) (domain_of d.base) (map (term_of all) (parts d.value)))) ≡ d.name.text) [ true ↦ refl | false ↦ refl ]
-    ]
-
 named_pairs : (all before ds : List Decl) → before ++ ds ≡ all → AreNew before ds
     → map named_place (numbered_after all before ds) ≡ map (declared_pair all) ds
 named_pairs all before [] e new = refl
@@ -50,7 +38,7 @@ named_pairs all before (d ∷ ds) e new =
     let place : place_named (next_number before) (declared_of all d) ≡ place_of_declared all d =
     place_named_is (next_number before) all d (λ is. subst (λ zs. number_of zs d.name.text ≡ next_number before) e (number_here before d ds new.0 is)) in
     let later : map named_place (numbered_after all (before ++ d ∷ []) ds) ≡ map (declared_pair all) ds = named_pairs all (before ++ d ∷ []) ds (append_assoc before (d ∷ []) ds ∙ e) new.1 in
-    λ i. (own_name all d i, place i) ∷ later i
+    λ i. (declared_name all d i, place i) ∷ later i
 
 -- ---- the scope by itself
 
@@ -112,23 +100,6 @@ module _ (t : LocatedTree) (s : Scope) (held : Store) (cs : Vec the_posted.Poste
     kinds = λ x p e. subst (λ m. PlaceFits m p) (sym model_is) (name_fits t clean own x p (subst (λ m. find_name m x ≡ Some p) model_is e));
     posted_kinds = subst (λ m. AllByRecursion (PostedFits m) m.constraints) (sym model_is) (posted_fit t clean own t.constraints);
   }
-
--- ---- what an error tells
-
-pub tells_fault : (t : LocatedTree) (e : ModelError) → Tells e (first_fault t) → TellsFault t e
-tells_fault t (errors.DuplicateName at) h = (scanned t).tells _ at h
-tells_fault t (errors.UnknownName at) h = (scanned t).tells _ at h
-tells_fault t (errors.Kind at) h = (scanned t).tells _ at h
-tells_fault t (errors.Length at) h = (scanned t).tells _ at h
-tells_fault t errors.Memory h = tt
-
-pub tells_first : (t : LocatedTree) (e : ModelError) → FirstFaultIsLeftmost → IsInReadingOrder t
-    → Tells e (first_fault t) → TellsFirstFault t e
-tells_first t (errors.DuplicateName at) law order h = law t order _ at h
-tells_first t (errors.UnknownName at) law order h = law t order _ at h
-tells_first t (errors.Kind at) law order h = law t order _ at h
-tells_first t (errors.Length at) law order h = law t order _ at h
-tells_first t errors.Memory law order h = tt
 
 -- ---- the faults behind the declarations
 

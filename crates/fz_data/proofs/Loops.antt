@@ -5,7 +5,6 @@ use Rattle.std.specs.Map.{lookup}
 use Rattle.std.proofs.lemmas.List.{map-append}
 use Rattle.std.proofs.lemmas.Slice.Eq.{bytes_eq-Decides}
 use Rattle.fz_meaning.specs.Meaning.{first_some}
-use Rattle.fz_meaning.proofs.Lists.{all_append}
 use Rattle.fz_meaning.proofs.ScanSteps.{first_stops, take_one_more}
 use Rattle.fz_names.specs.Naming.{has_text}
 use Rattle.fz_meaning.specs.of_syntax.Tree as tree
@@ -13,29 +12,10 @@ use Rattle.fz_meaning.specs.of_syntax.View.{arg_list, bare_arg}
 use Rattle.fz_meaning.specs.of_syntax.declared.NoteArg.{NoteArg}
 use Rattle.fz_data.specs.Scope.{only_arg}
 
--- one more is found: what it stands for, and what holds of it
-pub one_found : {A B C V : Type 0} (g : A → B) (want : B → V) (view : C → V) (xs : List A) (i : ℕ)
-    (x : A) (cs new : List C) (c : C) → i < length xs → x ≡ get_or xs i x
-    → map view cs ≡ map want (map g (take i xs)) → view c ≡ want (g x) → new ≡ cs ++ c ∷ [] → map view new ≡ map want (map g (take (i + 1) xs))
-one_found g want view xs i x cs new c lt at so_far here grew =
-    ap (map view) grew ∙ map-append view cs (c ∷ []) ∙ (λ j. so_far j ++ here j ∷ []) ∙ sym (ap (map want) (take_one_more g xs i x lt at) ∙ map-append want (map g (take i xs)) (g x ∷ []))
-
-pub all_found : {C : Type 0} (P : C → Type 0) (cs new : List C) (c : C) → AllByRecursion P cs → P c
-    → new ≡ cs ++ c ∷ [] → AllByRecursion P new
-all_found P cs new c h k grew = subst (AllByRecursion P) (sym grew) (all_append P cs (c ∷ []) h (k, tt))
-
 pub two_more : {A B C : Type 0} (f : B → C) (g : A → B) (xs : List A) (i : ℕ) (x : A)
     → i < length xs → x ≡ get_or xs i x
     → map f (map g (take (i + 1) xs)) ≡ map f (map g (take i xs)) ++ f (g x) ∷ []
 two_more f g xs i x lt at = ap (map f) (take_one_more g xs i x lt at) ∙ map-append f (map g (take i xs)) (g x ∷ [])
-
--- one more is stored with its row
-pub rows_found : {P Q V C R : Type 0} (want : Q → V) (fit : V → R) (located : P → Q) (kept : C → R)
-    (ps : List P) (k : ℕ) (p : P) (cs new : List C) (c : C) → k < length ps → p ≡ get_or ps k p
-    → map kept cs ≡ map fit (map want (map located (take k ps))) → kept c ≡ fit (want (located p)) → new ≡ cs ++ c ∷ [] → map kept new ≡ map fit (map want (map located (take (k + 1) ps)))
-rows_found want fit located kept ps k p cs new c lt at so_far here grew =
-    ap (map kept) grew ∙ map-append kept cs (c ∷ []) ∙ (λ i. so_far i ++ here i ∷ [])
-    ∙ sym (ap (map fit) (two_more want located ps k p lt at) ∙ map-append fit (map want (map located (take k ps))) (want (located p) ∷ []))
 
 -- the first answer
 some_answer : {A : Type 0} (o : Option A) → is_some o ≡ true → (y : A) × (o ≡ Some y)

@@ -1,11 +1,10 @@
 -- One more declaration.
 use Rattle.std.proofs.Common.{◌≡◌, ℕ, true, cond, List, [], ◌∷◌, ◌++◌, length, Option, Some, None, is_some, is_none, refl, sym, ap, ◌∙◌}
 use Rattle.std.specs.Map.{lookup}
-use Rattle.std.proofs.lemmas.List.{length-map, map-append}
+use Rattle.std.proofs.lemmas.List.{length-map}
 use Rattle.fz_meaning.specs.Located.{Decl}
-use Rattle.fz_meaning.specs.Names.{parts, kind_of_base, differs_in_length, variable_declared, scalar_variables}
+use Rattle.fz_meaning.specs.Names.{parts, kind_of_base, differs_in_length, variable_declared, scalar_variables, Fault, decl_fault}
 use Rattle.fz_meaning.specs.Names.FaultKind.{DuplicateName, WrongLength}
-use Rattle.fz_meaning.specs.FirstFault.{Fault, decl_fault}
 use Rattle.fz_meaning.proofs.KnownNames.{parts_clean, next_number}
 use Rattle.fz_meaning.proofs.ScanSteps.{is_new, first_none}
 use Rattle.fz_data.specs.declared.scope.Item.{Item}
@@ -13,8 +12,7 @@ use Rattle.fz_data.specs.declared.scope.Item.TheVariants as items
 use Rattle.fz_data.specs.declared.scope.Scope.{Scope}
 use Rattle.fz_data.specs.Parts.{variable_view}
 use Rattle.fz_names.specs.Naming.{has_text}
-use Rattle.fz_data.specs.Scope.{HasKinds, IsNewName, IsAdded, IsItem, name_fault_in, decl_fault_in, faults_in, kept_with, new_variables, new_arrays, new_points}
-use Rattle.fz_data.specs.Fitting.{kinds_among}
+use Rattle.fz_data.specs.Scope.{IsNewName, IsAdded, IsItem, name_fault_in, decl_fault_in, faults_in, kept_with, new_variables, new_arrays, new_points}
 use Rattle.fz_data.specs.Stands.{StandsFor}
 use Rattle.fz_data.proofs.Stands.{Adds, stands_more}
 use Rattle.fz_data.proofs.Added.{adds_parameter, adds_variable, adds_array}
@@ -53,8 +51,3 @@ module _ (all known rest : List Decl) (d : Decl) (split : all ≡ known ++ d ∷
   stands_next it new is added =
       rw (added.names, added.variables, added.arrays, added.points)
       (stands_more all known d s.names (k, kept_with s it) s.variables.items (new_variables it) s.arrays.items (new_arrays it) s.points.items (new_points s it) st (adds it is))
-
--- the kinds are still those of the variables, in their order
-pub kinds_next : (it : Item) (s : Scope) (k : List ℕ) (new : Scope) → HasKinds s
-    → IsAdded s k it new → HasKinds new
-kinds_next it s k new kinds added = added.kinds ∙ ap (λ ks. ks ++ kinds_among (new_variables it)) kinds ∙ sym (map-append (λ v. v.kind) s.variables.items (new_variables it)) ∙ ap kinds_among (sym added.variables)

@@ -1,7 +1,7 @@
 -- One more declaration is taken in, and one more constraint.
 use Rattle.std.proofs.Common.{◌≡◌, List, [], ◌∷◌, ◌++◌, None, map, refl, sym, ap, subst, ◌∙◌, append_assoc}
 use Rattle.fz_meaning.specs.Located.{Decl}
-use Rattle.fz_meaning.specs.FirstFault.{decl_fault}
+use Rattle.fz_meaning.specs.Names.{decl_fault}
 use Rattle.fz_meaning.proofs.ScanSteps.{decls_one_more}
 use Rattle.fz_data.specs.declared.scope.Item.{Item}
 use Rattle.fz_data.specs.declared.scope.Scope.{Scope}

@@ -12,14 +12,12 @@ use Rattle.fz_meaning.specs.Located.Basic.{Lit, Named}
 use Rattle.fz_meaning.specs.Located.Expr.{One, Several}
 use Rattle.fz_meaning.specs.Meaning.{Place, find_name}
 use Rattle.fz_meaning.specs.Meaning.Place.{Scalar, Array}
-use Rattle.fz_meaning.specs.Names.{argument_of, declaration, is_scalar, kind_of_base, literal_of, model_of, number_of, parts, place_of, place_of_declared, posted_of, scalar_term, term_of}
+use Rattle.fz_meaning.specs.Names.{argument_of, declaration, is_scalar, kind_of_base, literal_of, model_of, number_of, parts, place_of, place_of_declared, posted_of, scalar_term, term_of, decl_fault, decls_fault, part_fault, parts_fault}
 use Rattle.fz_meaning.specs.Steps.{kind_at}
 use Rattle.fz_meaning.proofs.Determined.{at_found}
-use Rattle.fz_meaning.proofs.Scope.{kind_of_number, same_kind_is}
+use Rattle.fz_meaning.proofs.Scope.{kind_of_number, literal_is_of, same_kind_is}
 use Rattle.fz_meaning.proofs.Values.{no, and_first, and_second}
-use Rattle.fz_meaning.specs.FirstFault.{decl_fault, decls_fault, part_fault, parts_fault}
 use Rattle.fz_meaning.proofs.KnownNames.{clean_name, found_stays, has_name, parts_clean, term_found}
-use Rattle.fz_meaning.proofs.Laid.{literal_is_of}
 use Rattle.fz_meaning.proofs.Names.{are_new, find_declared}
 use Rattle.fz_meaning.proofs.ScanSteps.{first_none, second_none}
 use Rattle.fz_meaning.proofs.Table.{array_by_place, scalar_by_place}

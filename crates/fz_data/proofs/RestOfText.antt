@@ -1,26 +1,24 @@
 -- A fault of names at an item is the first of the whole text, whatever is left behind it.
-use Rattle.std.proofs.Common.{◌≡◌, ℕ, List, [], ◌∷◌, ◌++◌, map, length, None, refl, ap, subst, ◌∙◌, inl, inr}
+use Rattle.std.proofs.Common.{◌≡◌, ℕ, List, [], ◌∷◌, ◌++◌, map, None, refl, ap, subst, ◌∙◌, inl, inr}
 use Rattle.std.specs.Prelude.{◌≢◌, ◌⊎◌}
 use Rattle.std.proofs.lemmas.List.{map-append}
 use Rattle.fz_meaning.specs.of_syntax.Offering.{TreeItems, IsRefused, IsTextOfAll, all_items}
 use Rattle.fz_meaning.specs.of_syntax.declared.Decl.{Decl}
 use Rattle.fz_meaning.specs.of_syntax.declared.Constraint.{Constraint}
 use Rattle.fz_meaning.specs.of_syntax.declared.Solve.{Solve}
-use Rattle.fz_meaning.specs.FirstFault.{decl_fault, decls_fault, first_fault}
+use Rattle.fz_meaning.specs.Names.{decl_fault, decls_fault, first_fault}
 use Rattle.fz_meaning.specs.Meaning.{first_some}
-use Rattle.fz_meaning.specs.View.{located_all, located_constraint, located_decl}
+use Rattle.fz_meaning.specs.View.{Tells, located_all, located_constraint, located_decl}
 use Rattle.fz_meaning.specs.declared.error.ModelError.{ModelError}
 use Rattle.fz_meaning.specs.declared.error.ModelError.TheVariants as names
-use Rattle.fz_meaning.proofs.FoundFaults.{is_first}
-use Rattle.fz_meaning.proofs.Reading.{all_in_reading_order}
 use Rattle.fz_meaning.proofs.ScanSteps.{decls_stop, first_append}
 use Rattle.fz_data.specs.declared.error.LoadError.{LoadError}
 use Rattle.fz_data.specs.declared.error.LoadError.TheVariants as errors
 use Rattle.fz_data.specs.declared.scope.Scope.{Scope}
-use Rattle.fz_data.specs.Scope.{Tells, constraint_fault_in}
+use Rattle.fz_data.specs.Scope.{constraint_fault_in}
 use Rattle.fz_data.specs.Stands.{Declares}
 use Rattle.fz_data.specs.Texts.{TellsOf, IsNameFault, IsLoadRefusal}
-use Rattle.fz_data.proofs.Loaded.{all_stand, told_in_constraints, tells_first}
+use Rattle.fz_data.proofs.Loaded.{all_stand, told_in_constraints}
 use Rattle.fz_data.proofs.Tells.{tells_further}
 
 -- what is left is put together with what was taken before
@@ -51,12 +49,8 @@ told_at_constraint ds cs c r s e h clean tells =
     told_in_constraints (located_all (all_items ([], (ds, (cs ++ c ∷ r.0, r.1))))) s (all_stand (located_all (all_items ([], (ds, (cs ++ c ∷ r.0, r.1))))) s h) h.clean e
     (tells_further e _ _ (λ y here. ap (first_some (constraint_fault_in s)) (map-append located_constraint cs (c ∷ r.0)) ∙ first_append (constraint_fault_in s) (map located_constraint cs) (located_constraint c ∷ map located_constraint r.0) ∙ rw (clean, here) refl) tells)
 
--- a refusal of names tells the leftmost fault
-pub leftmost : (source : List ℕ) (e : ModelError) → e ≢ names.Memory
+-- a refusal of names tells the first fault
+pub first_told : (source : List ℕ) (e : ModelError) → e ≢ names.Memory
     → (e ≡ names.Memory) ⊎ TellsOf (IsTextOfAll source) (λ t. t) e → IsNameFault source e
-leftmost source e other (inl memory) = absurd (other memory)
-leftmost source e other (inr h) = record {
-  all = h.rest;
-  text = h.left;
-  tells = tells_first (located_all h.rest) e is_first (all_in_reading_order source (length source) h.rest h.left.stands) h.tells;
-}
+first_told source e other (inl memory) = absurd (other memory)
+first_told source e other (inr h) = record { all = h.rest; text = h.left; tells = h.tells }

@@ -1,11 +1,11 @@
 -- An error tells the same of what has the same fault.
-use Rattle.std.proofs.Common.{◌≡◌, ℕ, ◌<◌, List, map, length, take, get_or, Option, Some, None, sym, subst}
+use Rattle.std.proofs.Common.{◌≡◌, ℕ, ◌<◌, List, map, length, take, get_or, Option, Some, None}
 use Rattle.fz_meaning.specs.declared.error.ModelError.{ModelError}
 use Rattle.fz_meaning.specs.declared.error.ModelError.TheVariants as errors
 use Rattle.fz_meaning.specs.Meaning.{first_some}
-use Rattle.fz_meaning.specs.FirstFault.{Fault}
+use Rattle.fz_meaning.specs.Names.{Fault}
+use Rattle.fz_meaning.specs.View.{Tells}
 use Rattle.fz_meaning.proofs.ScanSteps.{first_stops}
-use Rattle.fz_data.specs.Scope.{Tells}
 
 -- where the second has the fault that the first has
 pub tells_further : (e : ModelError) (f g : Option Fault) → ((x : Fault) → f ≡ Some x → g ≡ Some x)
@@ -15,9 +15,6 @@ tells_further (errors.UnknownName at) f g same h = same _ h
 tells_further (errors.Kind at) f g same h = same _ h
 tells_further (errors.Length at) f g same h = same _ h
 tells_further errors.Memory f g same h = tt
-
-pub tells_memory : (e : ModelError) (f : Option Fault) → e ≡ errors.Memory → Tells e f
-tells_memory e f is = subst (λ (x : ModelError). Tells x f) (sym is) tt
 
 -- the first fault of a list, where none was met before
 pub tells_stop : {A B : Type 0} (f : B → Option Fault) (g : A → B) (xs : List A) (i : ℕ) (x : A)

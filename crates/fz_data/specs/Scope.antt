@@ -1,11 +1,9 @@
 -- Only private functions use these: what the names that were declared so far stand for, as the
--- loader stores them, and what an error tells.
-use Rattle.std.specs.Prelude.{◌≡◌, ◌++◌, ◌∷◌, ℕ, pos, ⊤, Bool, true, false, List, [], Option, Some, None, cond, bytes_eq, option_map, map, length, is_some, is_none, not, ◌&&◌, codes, option_and_then}
+-- loader stores them.
+use Rattle.std.specs.Prelude.{◌≡◌, ◌++◌, ◌∷◌, ℕ, pos, Bool, true, false, List, [], Option, Some, None, cond, bytes_eq, option_map, map, length, is_some, is_none, not, ◌&&◌, codes, option_and_then}
 use Rattle.std.specs.Map.{lookup}
 use Rattle.fz_base.specs.declared.span.Span.{Span}
 use Rattle.fz_base.specs.declared.value.Value.TheVariants.{Int}
-use Rattle.fz_meaning.specs.declared.error.ModelError.{ModelError}
-use Rattle.fz_meaning.specs.declared.error.ModelError.TheVariants as errors
 use Rattle.fz_meaning.specs.declared.kind.Kind.{Kind}
 use Rattle.fz_meaning.specs.declared.kind.Kind.TheVariants.{Int as IntKind}
 use Rattle.fz_meaning.specs.declared.term.Term.{Term}
@@ -25,9 +23,8 @@ use Rattle.fz_meaning.specs.Meaning.{Place, Argument, Posted, Aim, first_some, i
 use Rattle.fz_meaning.specs.Meaning.Argument.{One as OneArgument, ListOf}
 use Rattle.std.specs.Option.{option_or}
 use Rattle.fz_meaning.specs.Meaning.Place.{Scalar, Array}
-use Rattle.fz_meaning.specs.Names.{literal_value, literal_of, parts, kind_of_base, domain_of, is_scalar, differs_in_length, variable_declared}
+use Rattle.fz_meaning.specs.Names.{literal_value, literal_of, parts, kind_of_base, domain_of, is_scalar, differs_in_length, variable_declared, Fault, literal_fault}
 use Rattle.fz_meaning.specs.Names.FaultKind.{DuplicateName, UnknownName, WrongKind, WrongLength}
-use Rattle.fz_meaning.specs.FirstFault.{Fault, literal_fault}
 use Rattle.fz_data.specs.declared.scope.Scope.{Scope}
 use Rattle.fz_data.specs.declared.scope.Item.{Item}
 use Rattle.fz_data.specs.declared.scope.Item.TheVariants as items
@@ -39,14 +36,6 @@ use Rattle.fz_data.specs.declared.parts.DeclaredPoint.TheVariants as points
 use Rattle.fz_data.specs.declared.parts.Variable.{Variable}
 use Rattle.fz_data.specs.Parts.{variable_view, elements_of}
 use Rattle.fz_data.specs.Declarations.{declared_place}
-
--- the error tells the fault, unless memory ran out
-abbrev pub Tells : ModelError → Option Fault → Type 0
-Tells (errors.DuplicateName at) f = f ≡ Some (DuplicateName, at)
-Tells (errors.UnknownName at) f = f ≡ Some (UnknownName, at)
-Tells (errors.Kind at) f = f ≡ Some (WrongKind, at)
-Tells (errors.Length at) f = f ≡ Some (WrongLength, at)
-Tells errors.Memory f = ⊤
 
 -- what a name stands for
 abbrev pub place_in : Scope → List ℕ → Option Place

@@ -3,10 +3,9 @@
 use Rattle.std.specs.Prelude.{◌≡◌, ℕ, ◌++◌, List, [], None, map, flat_map}
 use Rattle.std.specs.List.{AllByRecursion}
 use Rattle.fz_meaning.specs.Located.{Decl}
-use Rattle.fz_meaning.specs.FirstFault.{decls_fault}
+use Rattle.fz_meaning.specs.Names.{decls_fault, scalar_variables, place_of_declared, declared_of, variable_declared}
 use Rattle.fz_meaning.specs.Meaning as meaning
 use Rattle.fz_meaning.specs.Meaning.{Place, declared_points, numbered_from}
-use Rattle.fz_meaning.specs.Names.{scalar_variables, place_of_declared, declared_of, variable_declared}
 use Rattle.fz_data.specs.declared.parts.Array as the_array
 use Rattle.fz_names.specs.Naming as the_declared
 use Rattle.fz_data.specs.declared.parts.DeclaredPoint.{DeclaredPoint}

@@ -6,15 +6,13 @@ use Rattle.fz_meaning.specs.of_syntax.declared.reader.Rest.{Rest}
 use Rattle.fz_meaning.specs.of_syntax.declared.Solve.{Solve}
 use Rattle.fz_meaning.specs.of_syntax.declared.Decl.{Decl}
 use Rattle.fz_meaning.specs.of_syntax.declared.Constraint.{Constraint}
-use Rattle.fz_meaning.specs.FirstFault.{first_fault}
+use Rattle.fz_meaning.specs.Names.{HasNoFault, first_fault, model_of}
 use Rattle.fz_meaning.specs.Located.{LocatedTree, bare_of}
 use Rattle.fz_meaning.specs.Meaning.{Model}
-use Rattle.fz_meaning.specs.Names.{HasNoFault, model_of}
-use Rattle.fz_meaning.specs.View.{TellsFirstFault, located_all, located_constraint, located_decl}
+use Rattle.fz_meaning.specs.View.{Tells, located_all, located_constraint, located_decl}
 use Rattle.fz_meaning.specs.declared.error.ModelError.{ModelError}
 use Rattle.fz_meaning.specs.declared.error.ModelError.TheVariants as names
 use Rattle.fz_data.specs.Posting.{Posts}
-use Rattle.fz_data.specs.Scope.{Tells}
 use Rattle.fz_data.specs.Stands.{Declares}
 use Rattle.fz_data.specs.declared.parts.Posted.{Posted}
 use Rattle.fz_data.specs.declared.scope.Scope.{Scope}
@@ -30,11 +28,11 @@ pub record IsLoadedFrom (source : List ℕ) (m : Model) : Type 0 where
   pub is : m ≡ model_of tree
 
 -- The source is a text of these items, whose names and literals stand in it, and this is the
--- leftmost fault of their tree.
+-- first fault of their tree.
 pub record IsNameFault (source : List ℕ) (e : ModelError) : Type 0 where
   pub all : TreeItems
   pub text : IsTextOfAll source all
-  pub tells : TellsFirstFault (located_all all) e
+  pub tells : Tells e (first_fault (located_all all))
 
 -- ---- only private functions use these
 

@@ -5,8 +5,8 @@ ghost use Rattle.fz_meaning.specs.Relations.{kind_of, same_kind};
 ghost use Rattle.fz_meaning.specs.Names.{differs_in_length, kind_of_base, literal_of, parts, variable_declared};
 ghost use Rattle.fz_meaning.specs.Located.Expr.{One};
 ghost use Rattle.fz_data.specs.Parts.{variable_view};
-ghost use Rattle.fz_meaning.specs.View.{located_basic, located_decl, located_expr, located_value};
-ghost use Rattle.fz_data.specs.Scope.{HasKinds, IsArrayOf, IsItem, Tells, decl_fault_in, definition_in, fault_in, faults_in, name_fault_in};
+ghost use Rattle.fz_meaning.specs.View.{Tells, located_basic, located_decl, located_expr, located_value};
+ghost use Rattle.fz_data.specs.Scope.{HasKinds, IsArrayOf, IsItem, decl_fault_in, definition_in, fault_in, faults_in, name_fault_in};
 ghost use Rattle.fz_data.specs.declared.scope.Scope.{Scope};
 
 use crate::parts::{Array, Variable};

@@ -4,11 +4,9 @@
 ghost use Rattle.std.specs.Prelude.{◌≡◌, ◌++◌, ◌∷◌, [], IfErr, IfOk, List, None, OnOk, map};
 ghost use Rattle.fz_meaning.specs.Located.{Decl as LocatedDecl};
 ghost use Rattle.fz_meaning.specs.declared.error.ModelError.TheVariants.{Memory};
-ghost use Rattle.fz_meaning.specs.Names.{HasNoFault, model_of};
-ghost use Rattle.fz_meaning.specs.Leftmost.{IsInReadingOrder};
-ghost use Rattle.fz_meaning.specs.View.{TellsFault, TellsFirstFault, located, located_decl};
-ghost use Rattle.fz_meaning.specs.FirstFault.{decl_fault, decls_fault, first_fault};
-ghost use Rattle.fz_data.specs.Scope.{HasKinds, Tells};
+ghost use Rattle.fz_meaning.specs.Names.{model_of, HasNoFault, decl_fault, decls_fault, first_fault};
+ghost use Rattle.fz_meaning.specs.View.{Tells, located, located_decl};
+ghost use Rattle.fz_data.specs.Scope.{HasKinds};
 ghost use Rattle.fz_data.specs.Stands.{Declares};
 
 use crate::declaring::item_of;
@@ -70,29 +68,18 @@ fn declared<'a>(alloc: Global, decls: &[Decl<'a>]) -> Result<Scope<'a>, ModelErr
     Ok(scope)
 }
 
-/// The model of a tree, or the fault that is met first.
-fn read<'a>(alloc: Global, ast: &Ast<'a>) -> Result<Model<'a>, ModelError>
-    ensures clean { IfOk result (λ _. first_fault (located ast.now) ≡ None) }
+/// The model of a tree. It refuses a tree that has faults, and tells the first; any other it refuses
+/// only where memory runs out.
+pub fn load<'a>(alloc: Global, ast: &Ast<'a>) -> Result<Model<'a>, ModelError>
+    ensures no_fault { IfOk result (λ _. HasNoFault (located ast.now)) }
     ensures model { IfOk result (λ m. m ≡ model_of (located ast.now)) }
-    ensures tells { IfErr result (λ e. Tells e (first_fault (located ast.now))) }
+    // This holds of any tree, wherever its names are in the source: the fault is told at the byte
+    // range that the tree has for it.
+    ensures first { IfErr result (λ e. Tells e (first_fault (located ast.now))) }
 {
     let scope = declared(alloc, &ast.decls)?;
     let mut store = Store::new(alloc);
     let constraints = all_posted(alloc, &scope, &mut store, &ast.constraints)?;
     let goal = goal_of(alloc, &scope, &ast.solve.goal)?;
     Ok(Model::assembled(scope, store, constraints, goal))
-}
-
-/// The model of a tree. It refuses a tree that has faults, and tells the leftmost; any other it
-/// refuses only where memory runs out.
-pub fn load<'a>(alloc: Global, ast: &Ast<'a>) -> Result<Model<'a>, ModelError>
-    ensures no_fault { IfOk result (λ _. HasNoFault (located ast.now)) }
-    ensures model { IfOk result (λ m. m ≡ model_of (located ast.now)) }
-    // This holds of any tree, wherever its names are in the source: the fault is told at the byte
-    // range that the tree has for it.
-    ensures only { IfErr result (TellsFault (located ast.now)) }
-    ensures first { IsInReadingOrder (located ast.now)
-        → IfErr result (TellsFirstFault (located ast.now)) }
-{
-    read(alloc, ast)
 }

@@ -6,12 +6,12 @@ ghost use Rattle.fz_meaning.specs.declared.kind.Kind.TheVariants.{Int as IntKind
 ghost use Rattle.fz_meaning.specs.Located.Basic.{Named};
 ghost use Rattle.fz_meaning.specs.Meaning.{first_some, row_of};
 ghost use Rattle.fz_meaning.specs.Names.{goal_parts};
-ghost use Rattle.fz_meaning.specs.View.{located_basic, located_constraint, located_expr, located_goal, located_name};
+ghost use Rattle.fz_meaning.specs.View.{Tells, located_basic, located_constraint, located_expr, located_goal, located_name};
 ghost use Rattle.fz_meaning.specs.of_syntax.View.{arg_list, bare_arg, bare_basic, bare_note, bare_notes};
 ghost use Rattle.fz_meaning.specs.of_syntax.Tree.NoteArg.{OneBasic};
 ghost use Rattle.fz_data.specs.Parts.{goal_view, kept_row, posted_view};
 ghost use Rattle.fz_data.specs.Posting.{AreArgumentsOf, ArePlacesOf, IsArgumentOf, IsLonger, IsPlaceOf, IsPostedOf, Posts};
-ghost use Rattle.fz_data.specs.Scope.{HasKinds, Tells, aim_in, argument_fault, argument_in, constraint_fault_in, defined_in, bare_name_of, fault_in, faults_in, inner_of, only_arg, place_in, place_of_part, posted_in, variable_at_term, variable_by_place};
+ghost use Rattle.fz_data.specs.Scope.{HasKinds, aim_in, argument_fault, argument_in, constraint_fault_in, defined_in, bare_name_of, fault_in, faults_in, inner_of, only_arg, place_in, place_of_part, posted_in, variable_at_term, variable_by_place};
 ghost use Rattle.fz_store.specs.Slots.{IsGrown};
 
 use crate::parts::{Goal, Posted};

@@ -1,16 +1,15 @@
 //! What was declared so far.
 
 ghost use Rattle.std.specs.Prelude.{◌≡◌, ◌++◌, ◌∷◌, [], IfErr, IfOk, OnOk, None, Some, cond, is_none, length, map, true};
-ghost use Rattle.fz_meaning.specs.View.{located_basic};
+ghost use Rattle.fz_meaning.specs.View.{Tells, located_basic};
 ghost use Rattle.fz_meaning.specs.declared.term.Term.TheVariants.{Fixed, Var};
-ghost use Rattle.fz_meaning.specs.FirstFault.{literal_fault};
-ghost use Rattle.fz_meaning.specs.Names.{literal_value};
+ghost use Rattle.fz_meaning.specs.Names.{literal_fault, literal_value};
 ghost use Rattle.fz_meaning.specs.Relations.{kind_of};
 ghost use Rattle.fz_meaning.specs.of_syntax.View.{bare_literal_kind};
 ghost use Rattle.fz_data.specs.Parts.{kind_of_term, terms_of};
 ghost use Rattle.fz_data.specs.declared.scope.Item.TheVariants.{Parameter, Variable as item_variable, Array as item_array};
 ghost use Rattle.fz_meaning.specs.declared.error.ModelError.TheVariants.{Memory};
-ghost use Rattle.fz_data.specs.Scope.{HasKinds, IsAdded, Tells, fault_in, faults_in, has_elements_point, IsNewName, place_fault, place_in, term_at, term_in};
+ghost use Rattle.fz_data.specs.Scope.{HasKinds, IsAdded, fault_in, faults_in, has_elements_point, IsNewName, place_fault, place_in, term_at, term_in};
 
 use crate::parts::{Array, DeclaredPoint, ScalarList, Variable};
 use crate::rows::{Cited, term_kind, variable_kind};

@@ -8,12 +8,12 @@ ghost use Rattle.fz_meaning.specs.of_syntax.SyntaxError.{SyntaxError as SyntaxFa
 ghost use Rattle.fz_meaning.specs.of_syntax.SyntaxError.TheVariants.{TooLong};
 ghost use Rattle.fz_meaning.specs.of_syntax.declared.Decl as the_decl;
 ghost use Rattle.fz_meaning.specs.of_syntax.declared.Predicate as the_predicate;
-ghost use Rattle.fz_meaning.specs.FirstFault.{decl_fault};
-ghost use Rattle.fz_meaning.specs.View.{located_constraint, located_decl};
+ghost use Rattle.fz_meaning.specs.Names.{decl_fault};
+ghost use Rattle.fz_meaning.specs.View.{Tells, located_constraint, located_decl};
 ghost use Rattle.fz_meaning.specs.declared.error.ModelError.{ModelError as NameFault};
 ghost use Rattle.fz_meaning.specs.declared.error.ModelError.TheVariants.{Memory};
 ghost use Rattle.fz_data.specs.Posting.{Posts};
-ghost use Rattle.fz_data.specs.Scope.{HasKinds, Tells, constraint_fault_in};
+ghost use Rattle.fz_data.specs.Scope.{HasKinds, constraint_fault_in};
 ghost use Rattle.fz_data.specs.Stands.{Declares};
 ghost use Rattle.fz_data.specs.Texts.{HasDeclared, HasPosted, IsLoadRefusal, IsLoadedFrom, IsNameFault};
 
@@ -197,7 +197,7 @@ pub fn load_text<'a>(alloc: Global, source: &'a [u8]) -> Result<Model<'a>, LoadE
     // faults.
     ensures text { (e : SyntaxFault) → result ≡ Err (LoadError.Text e) → IsRefused source.now e }
     ensures too_long { (result ≡ Err (LoadError.Text TooLong)) ↔ (most_bytes < length source.now) }
-    // The source is a text of a tree, whose leftmost fault is told, unless memory ran out.
+    // The source is a text of a tree, whose first fault is told, unless memory ran out.
     ensures names { (e : NameFault) → result ≡ Err (LoadError.Names e) → e ≢ Memory
         → IsNameFault source.now e }
 {

@@ -16,15 +16,8 @@ pub mod FoundRows
 pub mod TableRows
 pub mod WithTruth
 pub mod Ends
-pub mod Scan
-pub mod FoundFaults
 pub mod ScanSteps
 pub mod KnownNames
 pub mod Names
-pub mod Reading
 pub mod Table
-pub mod Refusals
-pub mod Whole
-pub mod Laid
-pub mod Targets
 pub use Rattle.fz_syntax.proofs.Offers

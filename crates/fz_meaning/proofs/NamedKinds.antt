@@ -1,19 +1,14 @@
 -- In the model of a tree without faults each variable that a name stands for, alone or as an
 -- array's element, has the kind of that name.
-use Rattle.std.proofs.Common.{◌≡◌, ℕ, suc, pos, Bool, true, false, cond, ◌&&◌, List, [], ◌∷◌, ◌++◌, map, Some, None, refl, sym, ap, subst, ◌∙◌, flat_map, find, inl, inr, IsFalse, IsSomeAnd, bytes_eq, append_assoc}
+use Rattle.std.proofs.Common.{◌≡◌, ℕ, suc, true, false, cond, ◌&&◌, List, [], ◌∷◌, ◌++◌, map, Some, None, refl, sym, ap, subst, ◌∙◌, flat_map, bytes_eq, append_assoc}
 use Rattle.std.specs.Prelude.{⊤}
 use Rattle.std.specs.List.{AllByRecursion}
-use Rattle.std.specs.Option.{option_map_or, option_or}
-use Rattle.std.proofs.lemmas.Slice.Eq.{bytes_eq-Decides}
-use Rattle.fz_base.specs.declared.span.Span.{Span}
-use Rattle.fz_base.specs.declared.value.Value.TheVariants.{Int}
+use Rattle.std.specs.Option.{option_or}
 use Rattle.fz_meaning.specs.declared.kind.Kind.{Kind}
 use Rattle.fz_meaning.specs.Relations.{same_kind}
 use Rattle.fz_meaning.specs.Located.{Basic, Decl, LocatedTree}
 use Rattle.fz_meaning.specs.Located.Basic.{Lit, Named}
-use Rattle.fz_meaning.specs.Names.{HasNoFault, Some_of, Use, use_of, goal_parts, InOrder, in_order, in_order_after, uses, UnknownAt, WrongKindAt, declaration, named_as, is_scalar, is_scalar_of, is_scalar_variable, number_of, scalar_term, term_of, literal_of, kind_of_base, parts, parts_of_arguments, declared_of, variable_declared, model_of, definition_of, domain_of, place_of_declared}
-use Rattle.fz_meaning.specs.Names.FaultKind.{UnknownName, WrongKind}
-use Rattle.fz_meaning.specs.declared.kind.Kind.TheVariants.{Int as IntKind}
+use Rattle.fz_meaning.specs.Names.{HasNoFault, part_fault, parts_fault, decl_fault, decls_fault, declaration, is_scalar, number_of, scalar_term, term_of, literal_of, kind_of_base, parts, declared_of, variable_declared, model_of, definition_of, domain_of, place_of_declared}
 use Rattle.fz_meaning.specs.Meaning.{Place, Declared, Model, numbered, numbered_from, declared_points, definition_points, array_points, constraint_points, name_of, place_named, place_if_named, find_name, first_some}
 use Rattle.fz_meaning.specs.declared.term.Term.{Term}
 use Rattle.fz_meaning.specs.declared.term.Term.TheVariants.{Var, Fixed}
@@ -22,7 +17,9 @@ use Rattle.fz_meaning.specs.Meaning.Declared.{Parameter, ScalarVariable, ArrayOf
 use Rattle.fz_meaning.specs.Steps.{kind_at}
 use Rattle.fz_meaning.proofs.Lists.{all_left, all_right}
 use Rattle.fz_meaning.proofs.Points.{points_fit}
-use Rattle.fz_meaning.proofs.Scope.{same_kind_is, else_true, found_passes, declared_found, kind_of_number, some_left, some_right}
+use Rattle.fz_meaning.proofs.KnownNames.{clean_name, found_stays, has_name, parts_clean, term_found}
+use Rattle.fz_meaning.proofs.Scope.{same_kind_is, kind_of_number}
+use Rattle.fz_meaning.proofs.ScanSteps.{first_none, second_none, declarations_clean}
 use Rattle.fz_meaning.proofs.Steps.{PointFits}
 use Rattle.fz_meaning.proofs.Values.{and_first, and_second}
 
@@ -53,38 +50,38 @@ places_fit m n (ArrayOfVariables x k d ts ∷ ds) h p = (h.0, places_fit m n ds 
 
 -- ---- the parts of a declared value
 
-find_left : (t : Decl → Bool) (xs ys : List Decl) (d : Decl) → find t xs ≡ Some d
-    → find t (xs ++ ys) ≡ Some d
-find_left t [] ys d e = cc
-find_left t (x ∷ xs) ys d e = (elim (t x) as (λ b. cond b (Some x) (find t xs) ≡ Some d → cond b (Some x) (find t (xs ++ ys)) ≡ Some d) [ true ↦ λ e. e | false ↦ λ e. find_left t xs ys d e ]) e
-
-abbrev Known : List Decl → Kind → Basic → Type 0
-Known before k b = ((at : Span) → UnknownAt before b at → ⊥) × ((at : Span) → WrongKindAt before (Some k) b at → ⊥)
-
 module _ (t : LocatedTree) where
   term_fits : (before rest : List Decl) → before ++ rest ≡ t.decls → (k : Kind) (b : Basic)
-      → Known before k b → TermFits (model_of t) k (term_of t.decls b)
-  term_fits before rest all k (Lit l) known = tt
-  term_fits before rest all k (Named x) known =
-      let (d, found_before) = declared_found (named_as x.text) before (else_true _ (λ e. known.0 x.span (e, refl))) in
-      let scalar : is_scalar_of k d ≡ true = else_true _ (λ e. known.1 x.span (subst (λ o. IsSomeAnd o (λ d. IsFalse (is_scalar_of k d))) (sym found_before) e, refl)) in
-      let is_kind : kind_of_base d.base ≡ k = same_kind_is (kind_of_base d.base) k (and_second (is_scalar d) (same_kind (kind_of_base d.base) k) scalar) in
-      let found : declaration t.decls x.text ≡ Some d = subst (λ ds. find (named_as x.text) ds ≡ Some d) all (find_left (named_as x.text) before rest d found_before) in
-      let name : d.name.text ≡ x.text = (bytes_eq-Decides d.name.text x.text).0 (found_passes (named_as x.text) t.decls d found) in
-      subst (λ o. TermFits (model_of t) k (option_map_or (scalar_term t.decls) o (Fixed (Int (pos 0))))) (sym found)
-      ((elim d.is_var as (λ b. d.is_var ≡ b → TermFits (model_of t) k (cond b (Var (number_of t.decls d.name.text)) (Fixed (literal_of d.value)))) [
+      → part_fault before (Some k) b ≡ None → TermFits (model_of t) k (term_of t.decls b)
+  term_fits before rest all k (Lit l) e = tt
+  term_fits before rest all k (Named x) e =
+      let (d, known, is) = clean_name k (declaration before x.text) x.span e in
+      let is_kind : kind_of_base d.base ≡ k = same_kind_is (kind_of_base d.base) k
+      (and_second (is_scalar d) (same_kind (kind_of_base d.base) k) is) in
+      let found : declaration t.decls x.text ≡ Some d =
+      subst (λ ds. declaration ds x.text ≡ Some d) all (found_stays before rest x.text d known) in
+      subst (TermFits (model_of t) k) (sym (term_found t.decls x d found))
+      ((elim d.is_var as (λ b. d.is_var ≡ b → TermFits (model_of t) k
+      (cond b (Var (number_of t.decls d.name.text)) (Fixed (literal_of d.value)))) [
         | true ↦ λ is_var.
-            let scalar_variable : is_scalar_variable d ≡ true = ap (λ b. b && is_scalar d) is_var ∙ and_first (is_scalar d) (same_kind (kind_of_base d.base) k) scalar in
-            ap (λ n. kind_at (model_of t) (number_of t.decls n)) name ∙ kind_of_number t x.text d found scalar_variable ∙ ap Some is_kind
+            let scalar : is_scalar d ≡ true =
+            and_first (is_scalar d) (same_kind (kind_of_base d.base) k) is in
+            ap (λ n. kind_at (model_of t) (number_of t.decls n)) (has_name t.decls x.text d found)
+            ∙ kind_of_number t x.text d found (ap (λ b. b && is_scalar d) is_var ∙ scalar)
+            ∙ ap Some is_kind
         | false ↦ λ _. tt
       ]) refl)
 
   terms_fit : (before rest : List Decl) → before ++ rest ≡ t.decls → (k : Kind) (bs : List Basic)
-      → ((at : Span) → Some_of (λ u. UnknownAt u.known u.what at) (map (use_of before (Some k)) bs) → ⊥) → ((at : Span) → Some_of (λ u. WrongKindAt u.known u.wanted u.what at) (map (use_of before (Some k)) bs) → ⊥)
+      → parts_fault before (Some k) bs ≡ None
       → AllByRecursion (TermFits (model_of t) k) (map (term_of t.decls) bs)
-  terms_fit before rest all k [] unknown wrong = tt
-  terms_fit before rest all k (b ∷ bs) unknown wrong =
-      (term_fits before rest all k b ((λ at h. unknown at (inl h)), (λ at h. wrong at (inl h))), terms_fit before rest all k bs (λ at h. unknown at (inr h)) (λ at h. wrong at (inr h)))
+  terms_fit before rest all k [] e = tt
+  terms_fit before rest all k (b ∷ bs) e = (
+    term_fits before rest all k b
+        (first_none (part_fault before (Some k) b) (parts_fault before (Some k) bs) e),
+    terms_fit before rest all k bs
+        (second_none (part_fault before (Some k) b) (parts_fault before (Some k) bs) e),
+  )
 
   declared_fits : (d : Decl) → AllByRecursion (TermFits (model_of t) (kind_of_base d.base))
       (map (term_of t.decls) (parts d.value)) → DeclaredFits (model_of t) (declared_of t.decls d)
@@ -97,18 +94,16 @@ module _ (t : LocatedTree) where
         ]
       ]) refl
 
-  abbrev uses_of : InOrder → List Use
-  uses_of o = map (use_of o.before (Some (kind_of_base o.here.base))) (parts o.here.value)
-
   all_declared_fit : (before ds : List Decl) → before ++ ds ≡ t.decls
-      → ((at : Span) → Some_of (λ u. UnknownAt u.known u.what at) (flat_map uses_of (in_order_after before ds)) → ⊥) → ((at : Span) → Some_of (λ u. WrongKindAt u.known u.wanted u.what at) (flat_map uses_of (in_order_after before ds)) → ⊥)
+      → decls_fault before ds ≡ None
       → AllByRecursion (DeclaredFits (model_of t)) (map (declared_of t.decls) ds)
-  all_declared_fit before [] all unknown wrong = tt
-  all_declared_fit before (d ∷ ds) all unknown wrong =
-      let here : List Use = uses_of (record { before = before; here = d }) in
-      let later : List Use = flat_map uses_of (in_order_after (before ++ d ∷ []) ds) in (
-        declared_fits d (terms_fit before (d ∷ ds) all (kind_of_base d.base) (parts d.value) (λ at h. unknown at (some_left (λ u. UnknownAt u.known u.what at) here later h)) (λ at h. wrong at (some_left (λ u. WrongKindAt u.known u.wanted u.what at) here later h))),
-        all_declared_fit (before ++ d ∷ []) ds (append_assoc before (d ∷ []) ds ∙ all) (λ at h. unknown at (some_right (λ u. UnknownAt u.known u.what at) here later h)) (λ at h. wrong at (some_right (λ u. WrongKindAt u.known u.wanted u.what at) here later h)),
+  all_declared_fit before [] all e = tt
+  all_declared_fit before (d ∷ ds) all e =
+      let later : List Decl = before ++ d ∷ [] in (
+        declared_fits d (terms_fit before (d ∷ ds) all (kind_of_base d.base) (parts d.value)
+            (parts_clean before d (first_none (decl_fault before d) (decls_fault later ds) e))),
+        all_declared_fit later ds (append_assoc before (d ∷ []) ds ∙ all)
+            (second_none (decl_fault before d) (decls_fault later ds) e),
       )
 
 -- ---- what a name stands for
@@ -126,11 +121,7 @@ place_found m x ((n, d) ∷ qs) p h e =
 pub named_fits : (t : LocatedTree) → HasNoFault t → (x : List ℕ) (p : Place)
     → find_name (model_of t) x ≡ Some p → PlaceFits (model_of t) p
 named_fits t sound x p found =
-    let others : List Use = flat_map (λ c. map (use_of t.decls None) (parts_of_arguments c.args)) t.constraints ++ map (use_of t.decls (Some IntKind)) (goal_parts t.solve.goal) in
-    let split : uses t ≡ flat_map (uses_of t) (in_order t) ++ others = append_assoc (flat_map (uses_of t) (in_order t)) (flat_map (λ c. map (use_of t.decls None) (parts_of_arguments c.args)) t.constraints) (map (use_of t.decls (Some IntKind)) (goal_parts t.solve.goal)) in
     let declared : AllByRecursion (DeclaredFits (model_of t)) (map (declared_of t.decls) t.decls) =
-    all_declared_fit t [] t.decls refl
-    (λ at h. sound UnknownName at (subst (Some_of (λ u. UnknownAt u.known u.what at)) (sym split) (some_left (λ u. UnknownAt u.known u.what at) (flat_map (uses_of t) (in_order t)) others h)))
-    (λ at h. sound WrongKind at (subst (Some_of (λ u. WrongKindAt u.known u.wanted u.what at)) (sym split) (some_left (λ u. WrongKindAt u.known u.wanted u.what at) (flat_map (uses_of t) (in_order t)) others h))) in
+    all_declared_fit t [] t.decls refl (declarations_clean t sound) in
     place_found (model_of t) x (numbered (model_of t)) p
     (places_fit (model_of t) 0 (map (declared_of t.decls) t.decls) declared (all_left (PointFits (model_of t)) (flat_map declared_points (numbered (model_of t))) (constraint_points 1 (model_of t).constraints) (points_fit (model_of t)))) found

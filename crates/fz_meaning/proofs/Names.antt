@@ -5,17 +5,14 @@ use Rattle.std.specs.Prelude.{⊤}
 use Rattle.std.specs.List.{list_any}
 use Rattle.std.specs.Option.{option_or}
 use Rattle.std.proofs.lemmas.List.Folds.{list_any-append}
-use Rattle.std.proofs.lemmas.List.{append-nil}
 use Rattle.fz_meaning.specs.declared.term.Term.TheVariants.{Var, Fixed}
 use Rattle.fz_meaning.specs.Located.{Decl, LocatedTree}
 use Rattle.fz_meaning.specs.Meaning.{Declared, numbered, numbered_from, name_of, place_named, place_if_named, find_name, first_some}
 use Rattle.fz_meaning.specs.Meaning.Declared.{Parameter, ScalarVariable, ArrayOfVariables}
 use Rattle.fz_meaning.specs.Meaning.Place.{Scalar, Array}
-use Rattle.fz_meaning.specs.Names.{HasNoFault, declares, declaration, named_as, parts, kind_of_base, is_scalar, is_scalar_variable, scalar_variables, number_of, scalar_variable_number, literal_of, scalar_term, term_of, place_of_declared, definition_of, declared_of, variable_declared, domain_of, model_of}
+use Rattle.fz_meaning.specs.Names.{HasNoFault, declares, declaration, named_as, parts, kind_of_base, is_scalar, is_scalar_variable, scalar_variables, number_of, scalar_variable_number, literal_of, scalar_term, term_of, place_of_declared, definition_of, declared_of, variable_declared, domain_of, model_of, decl_fault, decls_fault}
 use Rattle.fz_meaning.proofs.Values.{no}
-use Rattle.fz_meaning.specs.FirstFault.{decl_fault, decls_fault}
-use Rattle.fz_meaning.proofs.FoundFaults.{not_found, has_none}
-use Rattle.fz_meaning.proofs.KnownNames.{declaration_here, number_here, next_number, next_number_more, has_name, none_among, any_among}
+use Rattle.fz_meaning.proofs.KnownNames.{not_found, number_here, next_number, next_number_more, has_name, none_among, any_among}
 use Rattle.fz_meaning.proofs.ScanSteps.{first_none, second_none, is_new, declarations_clean}
 
 -- ---- distinct names
@@ -32,27 +29,7 @@ are_new before (d ∷ ds) e =
 
 -- the declarations of a tree without faults
 pub sound_names : (t : LocatedTree) → HasNoFault t → AreNew [] t.decls
-sound_names t sound = are_new [] t.decls (declarations_clean t (has_none t sound))
-
-new_at : (before xs : List Decl) (d : Decl) (ys : List Decl) → AreNew before (xs ++ d ∷ ys)
-    → declares (before ++ xs) d.name.text ≡ false
-new_at before [] d ys h = ap (λ zs. declares zs d.name.text) (append-nil before) ∙ h.0
-new_at before (x ∷ xs) d ys h = ap (λ zs. declares zs d.name.text) (sym (append_assoc before (x ∷ []) xs)) ∙ new_at (before ++ x ∷ []) xs d ys h.1
-
--- where each name is declared once, none is declared before its declaration
-pub none_earlier : (before : List Decl) (d : Decl) (rest : List Decl)
-    → AreNew [] (before ++ d ∷ rest) → declares before d.name.text ≡ false
-none_earlier before d rest h = new_at [] before d rest h
-
--- the name stands for its declaration
-pub own_declaration : (before : List Decl) (d : Decl) (rest : List Decl)
-    → AreNew [] (before ++ d ∷ rest) → declaration (before ++ d ∷ rest) d.name.text ≡ Some d
-own_declaration before d rest h = declaration_here before d rest (none_earlier before d rest h)
-
--- a scalar variable has the number of those before it
-pub own_number : (before : List Decl) (d : Decl) (rest : List Decl) → AreNew [] (before ++ d ∷ rest)
-    → is_scalar_variable d ≡ true → number_of (before ++ d ∷ rest) d.name.text ≡ next_number before
-own_number before d rest h is = number_here before d rest (none_earlier before d rest h) is
+sound_names t sound = are_new [] t.decls (declarations_clean t sound)
 
 -- ---- the numbered declarations of a model
 
@@ -86,17 +63,6 @@ numbered_by all before (d ∷ ds) =
 -- each declaration of a model has the number of scalar variables before it
 pub numbered_is : (t : LocatedTree) → numbered (model_of t) ≡ numbered_after t.decls [] t.decls
 numbered_is t = numbered_by t.decls [] t.decls
-
-pub numbered_append : (all before xs ys : List Decl) → numbered_after all before (xs ++ ys)
-    ≡ numbered_after all before xs ++ numbered_after all (before ++ xs) ys
-numbered_append all before [] ys = ap (λ zs. numbered_after all zs ys) (sym (append-nil before))
-numbered_append all before (d ∷ xs) ys =
-    ap (λ qs. numbered_decl all before d ∷ qs) (numbered_append all (before ++ d ∷ []) xs ys ∙ ap (λ zs. numbered_after all (before ++ d ∷ []) xs ++ numbered_after all zs ys) (append_assoc before (d ∷ []) xs))
-
--- with one more
-pub numbered_more : (all before : List Decl) (d : Decl) → numbered_after all [] (before ++ d ∷ [])
-    ≡ numbered_after all [] before ++ numbered_decl all before d ∷ []
-numbered_more all before d = numbered_append all [] before (d ∷ [])
 
 -- ---- what the model finds by a name
 

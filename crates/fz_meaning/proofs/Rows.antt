@@ -18,7 +18,7 @@ use Rattle.fz_meaning.specs.Located.{Expr, Decl, LocatedTree}
 use Rattle.fz_meaning.specs.Located.Basic.{Lit, Named}
 use Rattle.fz_meaning.specs.Located.Expr.{One, Several}
 use Rattle.fz_meaning.specs.Located.Goal.{Satisfy, Minimize}
-use Rattle.fz_meaning.specs.Names.{model_of, HasFault}
+use Rattle.fz_meaning.specs.Names.{model_of, first_fault}
 use Rattle.fz_meaning.specs.Names.FaultKind.{DuplicateName, UnknownName, WrongKind, WrongLength}
 use Rattle.fz_meaning.specs.Meaning.{Partial, Point, points}
 use Rattle.fz_meaning.specs.Meaning.Point.{ConstraintPoint}
@@ -291,29 +291,41 @@ past_the_least = refl
 abbrev b_is_3 : Decl
 b_is_3 = record { is_var = false; array_length = None; base = BoolBase; name = name_at (codes "b") 6 7; notes = []; value = Some (One (Lit (record { what = Number (pos 3); span = span_at 10 11 }))) }
 
-kind_fault : HasFault (model_tree (b_is_3 ∷ []) [] Satisfy) WrongKind (span_at 10 11)
-kind_fault = inl (refl, refl)
+kind_fault : first_fault (model_tree (b_is_3 ∷ []) [] Satisfy) ≡ Some (WrongKind, span_at 10 11)
+kind_fault = refl
 
--- bool: b = true; array [1..2] of int: b = [1]; solve satisfy;
-abbrev two_bs : LocatedTree
-two_bs = model_tree (
+-- bool: b = true; array [1..2] of int: NAME = [1]; solve satisfy;
+abbrev with_array : List ℕ → LocatedTree
+with_array name = model_tree (
     record { is_var = false; array_length = None; base = BoolBase; name = name_at (codes "b") 6 7; notes = []; value = Some (t true) }
-    ∷ record { is_var = false; array_length = Some 2; base = IntBase None; name = name_at (codes "b") 37 38; notes = []; value = Some (Several (num 1 ∷ [])) } ∷ []) [] Satisfy
+    ∷ record { is_var = false; array_length = Some 2; base = IntBase None; name = name_at name 37 38; notes = []; value = Some (Several (num 1 ∷ [])) } ∷ []) [] Satisfy
 
-declared_twice : HasFault two_bs DuplicateName (span_at 37 38)
-declared_twice = inr (inl (refl, refl))
+-- at one name that it is declared twice comes first
+declared_twice : first_fault (with_array (codes "b")) ≡ Some (DuplicateName, span_at 37 38)
+declared_twice = refl
 
-also_length : HasFault two_bs WrongLength (span_at 37 38)
-also_length = inr (inl (refl, refl))
+only_length : first_fault (with_array (codes "c")) ≡ Some (WrongLength, span_at 37 38)
+only_length = refl
 
 -- solve minimize c;
-nothing_named : HasFault (model_tree [] []
-    (Minimize (Named (name_at (codes "c") 15 16)))) UnknownName (span_at 15 16)
-nothing_named = inl (refl, refl)
+nothing_named : first_fault (model_tree [] [] (Minimize (Named (name_at (codes "c") 15 16))))
+    ≡ Some (UnknownName, span_at 15 16)
+nothing_named = refl
 
 -- array [1..0] of int: a = []; solve minimize a;
-array_minimized : HasFault (model_tree (record { is_var = false; array_length = Some 0; base = IntBase None; name = name_at (codes "a") 21 22; notes = []; value = Some (Several []) } ∷ []) [] (Minimize (Named (name_at (codes "a") 44 45)))) WrongKind (span_at 44 45)
-array_minimized = inl (refl, refl)
+abbrev empty_array : Decl
+empty_array = record { is_var = false; array_length = Some 0; base = IntBase None; name = name_at (codes "a") 21 22; notes = []; value = Some (Several []) }
+
+array_minimized : first_fault
+    (model_tree (empty_array ∷ []) [] (Minimize (Named (name_at (codes "a") 44 45))))
+    ≡ Some (WrongKind, span_at 44 45)
+array_minimized = refl
+
+-- bool: b = 3; solve minimize c;
+first_of_two : first_fault
+    (model_tree (b_is_3 ∷ []) [] (Minimize (Named (name_at (codes "c") 28 29))))
+    ≡ Some (WrongKind, span_at 10 11)
+first_of_two = refl
 
 -- ---- forced steps
 

@@ -1,15 +1,13 @@
 -- Steps of loops: what is met first in a list of which a part was read, and one more declaration,
 -- constraint or part.
-use Rattle.std.proofs.Common.{◌≡◌, ℕ, ◌+◌, ◌<◌, ◌≤◌, Bool, true, false, cond, ◌||◌, List, [], ◌∷◌, ◌++◌, map, length, get_or, take, drop, Option, Some, None, refl, sym, ap, ◌∙◌, flat_map, append_assoc, add-one, drop-cons}
+use Rattle.std.proofs.Common.{◌≡◌, ℕ, ◌+◌, ◌<◌, Bool, true, false, cond, List, [], ◌∷◌, ◌++◌, map, length, get_or, take, drop, Option, Some, None, refl, sym, ap, ◌∙◌, flat_map, append_assoc, add-one, drop-cons}
 use Rattle.std.specs.Option.{option_or}
-use Rattle.std.proofs.lemmas.List.{take-append-drop, map-append, append-nil, take_all}
+use Rattle.std.proofs.lemmas.List.{take-append-drop, map-append, append-nil}
 use Rattle.std.proofs.Math.Seq.{take-suc}
-use Rattle.std.proofs.lemmas.List.Folds.{find-append, list_any-append}
 use Rattle.fz_meaning.specs.Located.{Decl, Constraint, LocatedTree}
 use Rattle.fz_meaning.specs.Meaning.{first_some}
 use Rattle.fz_meaning.specs.Names.FaultKind.{DuplicateName, WrongLength}
-use Rattle.fz_meaning.specs.Names.{differs_in_length, declares, declaration, named_as, parts, kind_of_base}
-use Rattle.fz_meaning.specs.FirstFault.{Fault, part_fault, parts_fault, name_fault, decl_fault, decls_fault, constraint_fault, constraints_fault, goal_fault, first_fault}
+use Rattle.fz_meaning.specs.Names.{differs_in_length, declares, parts, kind_of_base, Fault, part_fault, parts_fault, name_fault, decl_fault, decls_fault, constraint_fault, constraints_fault, goal_fault, first_fault}
 
 -- ---- a list of which a part was read
 
@@ -78,11 +76,6 @@ first_stops f g xs i x y h e none here =
     ap (first_some f) (whole_at g xs i x h e) ∙ first_append f (map g (take i xs)) (g x ∷ map g (drop (i + 1) xs)) ∙ ap (λ o. option_or o (option_or (f (g x)) (first_some f (map g (drop (i + 1) xs))))) none
     ∙ ap (λ o. option_or o (first_some f (map g (drop (i + 1) xs)))) here
 
--- none up to the end
-pub first_ends : {A B C : Type 0} (f : B → Option C) (g : A → B) (xs : List A) (i : ℕ)
-    → length xs ≤ i → first_some f (map g (take i xs)) ≡ None → first_some f (map g xs) ≡ None
-first_ends f g xs i h none = ap (λ ys. first_some f (map g ys)) (sym (take_all i xs h)) ∙ none
-
 -- ---- declarations
 
 pub decls_append : (before xs ys : List Decl) → decls_fault before (xs ++ ys)
@@ -105,44 +98,13 @@ decls_stop before d rest f none here =
     decls_append [] before (d ∷ rest) ∙ ap (λ o. option_or o (option_or (decl_fault before d) (decls_fault (before ++ d ∷ []) rest))) none
     ∙ ap (λ o. option_or o (decls_fault (before ++ d ∷ []) rest)) here
 
--- none in what was read, as none is in the whole list
-pub none_before : (before rest : List Decl) → decls_fault [] (before ++ rest) ≡ None
-    → decls_fault [] before ≡ None
-none_before before rest e = first_none (decls_fault [] before) (decls_fault before rest) (sym (decls_append [] before rest) ∙ e)
-
-pub none_at : (before : List Decl) (d : Decl) (rest : List Decl)
-    → decls_fault [] (before ++ d ∷ rest) ≡ None → decl_fault before d ≡ None
-none_at before d rest e =
-    first_none (decl_fault before d) (decls_fault (before ++ d ∷ []) rest)
-    (second_none (decls_fault [] before) (option_or (decl_fault before d) (decls_fault (before ++ d ∷ []) rest)) (sym (decls_append [] before (d ∷ rest)) ∙ e))
-
 -- the same in a loop over the code's declarations, whose logical value is `g x`
-pub decls_more : {A : Type 0} (g : A → Decl) (xs : List A) (i : ℕ) (x : A) → i < length xs
-    → x ≡ get_or xs i x → decls_fault [] (map g (take i xs)) ≡ None
-    → decl_fault (map g (take i xs)) (g x) ≡ None → decls_fault [] (map g (take (i + 1) xs)) ≡ None
-decls_more g xs i x h e none here = ap (decls_fault []) (take_one_more g xs i x h e) ∙ decls_one_more (map g (take i xs)) (g x) none here
-
 pub decls_stops : {A : Type 0} (g : A → Decl) (xs : List A) (i : ℕ) (x : A) (f : Fault)
     → i < length xs → x ≡ get_or xs i x → decls_fault [] (map g (take i xs)) ≡ None
     → decl_fault (map g (take i xs)) (g x) ≡ Some f → decls_fault [] (map g xs) ≡ Some f
 decls_stops g xs i x f h e none here = ap (decls_fault []) (whole_at g xs i x h e) ∙ decls_stop (map g (take i xs)) (g x) (map g (drop (i + 1) xs)) f none here
 
 -- ---- at one declaration
-
--- a name that is new, and a value of the declared length with no fault
-pub decl_clean : (before : List Decl) (d : Decl) → name_fault before d ≡ None
-    → parts_fault before (Some (kind_of_base d.base)) (parts d.value) ≡ None
-    → decl_fault before d ≡ None
-decl_clean before d name value = both_none (name_fault before d) (parts_fault before (Some (kind_of_base d.base)) (parts d.value)) name value
-
-pub decl_at_name : (before : List Decl) (d : Decl) (f : Fault) → name_fault before d ≡ Some f
-    → decl_fault before d ≡ Some f
-decl_at_name before d f e = ap (λ o. option_or o (parts_fault before (Some (kind_of_base d.base)) (parts d.value))) e
-
-pub decl_at_part : (before : List Decl) (d : Decl) (f : Fault) → name_fault before d ≡ None
-    → parts_fault before (Some (kind_of_base d.base)) (parts d.value) ≡ Some f
-    → decl_fault before d ≡ Some f
-decl_at_part before d f none e = ap (λ o. option_or o (parts_fault before (Some (kind_of_base d.base)) (parts d.value))) none ∙ e
 
 nothing_first : (b : Bool) (f : Fault) (o : Option Fault) → cond b (Some f) o ≡ None → b ≡ false
 nothing_first true f o e = cc
@@ -153,31 +115,12 @@ pub is_new : (before : List Decl) (d : Decl) → decl_fault before d ≡ None
     → declares before d.name.text ≡ false
 is_new before d e = nothing_first (declares before d.name.text) (DuplicateName, d.name.span) (cond (differs_in_length d) (Some (WrongLength, d.name.span)) None) (first_none (name_fault before d) (parts_fault before (Some (kind_of_base d.base)) (parts d.value)) e)
 
--- ---- what is declared, with one more
-
-pub declares_more : (before : List Decl) (d : Decl) (x : List ℕ)
-    → declares (before ++ d ∷ []) x ≡ (declares before x || named_as x d)
-declares_more before d x = list_any-append (named_as x) before (d ∷ []) ∙ ap (λ b. declares before x || b) (or_false (named_as x d))
-  where
-    or_false : (b : Bool) → (b || false) ≡ b
-    or_false true = refl
-    or_false false = refl
-
-pub declaration_more : (before : List Decl) (d : Decl) (x : List ℕ)
-    → declaration (before ++ d ∷ []) x
-    ≡ option_or (declaration before x) (cond (named_as x d) (Some d) None)
-declaration_more before d x = find-append (named_as x) before (d ∷ [])
-
 -- ---- constraints and the objective
 
 -- a constraint's fault is the first one at its arguments
 pub constraint_by_arguments : (known : List Decl) (c : Constraint)
     → constraint_fault known c ≡ first_some (λ e. parts_fault known None (parts (Some e))) c.args
 constraint_by_arguments known c = first_flat (part_fault known None) (λ e. parts (Some e)) c.args
-
-pub in_declarations : (t : LocatedTree) (f : Fault) → decls_fault [] t.decls ≡ Some f
-    → first_fault t ≡ Some f
-in_declarations t f e = ap (λ o. option_or o (option_or (constraints_fault t.decls t.constraints) (goal_fault t.decls t.solve.goal))) e
 
 pub in_constraints : (t : LocatedTree) (f : Fault) → decls_fault [] t.decls ≡ None
     → constraints_fault t.decls t.constraints ≡ Some f → first_fault t ≡ Some f
@@ -199,3 +142,8 @@ nowhere t a b c = both_none (decls_fault [] t.decls) (option_or (constraints_fau
 
 pub declarations_clean : (t : LocatedTree) → first_fault t ≡ None → decls_fault [] t.decls ≡ None
 declarations_clean t e = first_none (decls_fault [] t.decls) (option_or (constraints_fault t.decls t.constraints) (goal_fault t.decls t.solve.goal)) e
+
+pub goal_clean : (t : LocatedTree) → first_fault t ≡ None → goal_fault t.decls t.solve.goal ≡ None
+goal_clean t e =
+    second_none (constraints_fault t.decls t.constraints) (goal_fault t.decls t.solve.goal)
+    (second_none (decls_fault [] t.decls) (option_or (constraints_fault t.decls t.constraints) (goal_fault t.decls t.solve.goal)) e)

@@ -9,8 +9,5 @@ pub mod Steps
 pub mod Laws
 pub mod Known
 pub mod TableData
-pub mod FirstFault
-pub mod ReadingOrder
 pub mod States
-pub mod Leftmost
 pub use Rattle.fz_syntax.specs as of_syntax

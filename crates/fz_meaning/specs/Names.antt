@@ -1,9 +1,8 @@
--- The names of a model: the faults of a tree, and the model that a tree without faults is (MiniZinc
--- Handbook, FlatZinc, "Parameter declaration items" and "Variable declaration items"; which of
--- several faults is told is this project's profile).
-use Rattle.std.specs.Prelude.{◌≡◌, ℕ, pos, Bool, false, not, cond, ◌&&◌, List, [], ◌∷◌, ◌++◌, length, map, ◌==◌, Option, Some, None, bytes_eq, IsTrue, IsFalse, IsSomeAnd, ◌⊎◌, flat_map, find, codes, is_some}
+-- The names of a tree, its first fault, and the model that a tree without faults is (MiniZinc
+-- Handbook, FlatZinc, "Parameter declaration items" and "Variable declaration items").
+use Rattle.std.specs.Prelude.{◌≡◌, ℕ, pos, Bool, false, not, cond, ◌&&◌, List, [], ◌∷◌, ◌++◌, length, map, ◌==◌, Option, Some, None, bytes_eq, flat_map, find, codes, is_some}
 use Rattle.std.specs.List.{list_any, filter, position_or_len}
-use Rattle.std.specs.Option.{option_map_or}
+use Rattle.std.specs.Option.{option_map_or, option_or}
 use Rattle.fz_base.specs.Sets.{numbers_between}
 use Rattle.fz_base.specs.declared.span.Span.{Span}
 use Rattle.fz_base.specs.declared.value.Value.{Value}
@@ -72,55 +71,10 @@ parts (Some (Several bs)) = bs
 abbrev pub parts_of_arguments : List Expr → List Basic
 parts_of_arguments es = flat_map (λ e. parts (Some e)) es
 
--- ---- faults
-
-pub data FaultKind : Type 0 where
-  DuplicateName : FaultKind
-  UnknownName : FaultKind
-  WrongKind : FaultKind
-  WrongLength : FaultKind
-
--- P holds of one of the list
-abbrev pub Some_of : {A : Type 0} → (A → Type 0) → List A → Type 0
-Some_of P [] = ⊥
-Some_of P (x ∷ xs) = P x ⊎ Some_of P xs
-
--- each declaration with those before it
-pub record InOrder : Type 0 where
-  pub before : List Decl
-  pub here : Decl
-
-abbrev pub in_order_after : List Decl → List Decl → List InOrder
-in_order_after before [] = []
-in_order_after before (d ∷ ds) = record { before = before; here = d }
-    ∷ in_order_after (before ++ d ∷ []) ds
-
-abbrev pub in_order : LocatedTree → List InOrder
-in_order t = in_order_after [] t.decls
-
--- a literal or a name that the tree uses, with the declarations that are known there, and the kind
--- that is wanted of it
-pub record Use : Type 0 where
-  pub what : Basic
-  pub known : List Decl
-  pub wanted : Option Kind
-
-abbrev pub use_of : List Decl → Option Kind → Basic → Use
-use_of known wanted b = record { what = b; known = known; wanted = wanted }
-
 abbrev pub goal_parts : Goal → List Basic
 goal_parts Satisfy = []
 goal_parts (Minimize b) = b ∷ []
 goal_parts (Maximize b) = b ∷ []
-
--- Uses are the parts of declared values, where the declared kind is wanted; of the constraints'
--- arguments, where any kind is; and the objective, which is to be an integer.
-abbrev pub uses : LocatedTree → List Use
-uses t =
-    flat_map (λ o. map (use_of o.before (Some (kind_of_base o.here.base))) (parts o.here.value))
-    (in_order t)
-    ++ flat_map (λ c. map (use_of t.decls None) (parts_of_arguments c.args)) t.constraints
-    ++ map (use_of t.decls (Some IntKind)) (goal_parts t.solve.goal)
 
 -- a declared array's value has another number of elements than its length says
 abbrev pub differs_in_length : Decl → Bool
@@ -130,33 +84,87 @@ differs_in_length d = option_map_or (λ n. not (length (parts d.value) == n)) d.
 abbrev pub is_scalar_of : Kind → Decl → Bool
 is_scalar_of k d = is_scalar d && same_kind (kind_of_base d.base) k
 
--- the name is not declared before its use
-abbrev pub UnknownAt : List Decl → Basic → Span → Type 0
-UnknownAt known (Lit l) at = ⊥
-UnknownAt known (Named x) at = IsFalse (declares known x.text) × (at ≡ x.span)
+-- ---- faults
+--
+-- The first fault of names in a tree, in the order of the text (that of several faults the first is
+-- told is this project's profile). Items come in source order: declarations, constraints, the
+-- objective. In a declaration the name comes first, and then its value from left to right.
 
--- the literal, or what the name declares, is no scalar of the kind that is wanted
-abbrev pub WrongKindAt : List Decl → Option Kind → Basic → Span → Type 0
-WrongKindAt known None b at = ⊥
-WrongKindAt known (Some k) (Lit l) at =
-    IsFalse (same_kind (kind_of (literal_value l.what)) k) × (at ≡ l.span)
-WrongKindAt known (Some k) (Named x) at =
-    IsSomeAnd (declaration known x.text) (λ d. IsFalse (is_scalar_of k d)) × (at ≡ x.span)
+pub data FaultKind : Type 0 where
+  DuplicateName : FaultKind
+  UnknownName : FaultKind
+  WrongKind : FaultKind
+  WrongLength : FaultKind
 
--- The faults of a tree, each with its byte range. They are a set over the whole tree.
-abbrev pub HasFault : LocatedTree → FaultKind → Span → Type 0
--- a name is declared twice: told at the later declaration
-HasFault t DuplicateName at = Some_of
-    (λ o. IsTrue (declares o.before o.here.name.text) × (at ≡ o.here.name.span)) (in_order t)
--- a name is used that no earlier item declares
-HasFault t UnknownName at = Some_of (λ u. UnknownAt u.known u.what at) (uses t)
--- a declared value, an element of a declared array, or the objective is no scalar of the kind
-HasFault t WrongKind at = Some_of (λ u. WrongKindAt u.known u.wanted u.what at) (uses t)
--- an array has another number of elements than its declared length: told at the declared name
-HasFault t WrongLength at = Some_of (λ d. IsTrue (differs_in_length d) × (at ≡ d.name.span)) t.decls
+-- a fault and the byte range of the name or literal that has it
+abbrev pub Fault : Type 0
+Fault = FaultKind × Span
+
+-- ---- at a literal or a name, where a scalar of a kind is wanted, or anything
+
+-- a literal is of another kind
+abbrev pub literal_fault : Option Kind → Kind → Span → Option Fault
+literal_fault None j at = None
+literal_fault (Some k) j at = cond (same_kind j k) None (Some (WrongKind, at))
+
+-- a name stands for no scalar of the kind
+abbrev pub declared_fault : Option Kind → Decl → Span → Option Fault
+declared_fault None d at = None
+declared_fault (Some k) d at = cond (is_scalar_of k d) None (Some (WrongKind, at))
+
+-- or no earlier item declares it
+abbrev pub named_fault : Option Kind → Option Decl → Span → Option Fault
+named_fault wanted None at = Some (UnknownName, at)
+named_fault wanted (Some d) at = declared_fault wanted d at
+
+-- with the declarations that are known there
+abbrev pub part_fault : List Decl → Option Kind → Basic → Option Fault
+part_fault known wanted (Lit l) = literal_fault wanted (kind_of (literal_value l.what)) l.span
+part_fault known wanted (Named x) = named_fault wanted (declaration known x.text) x.span
+
+-- at the first of several
+abbrev pub parts_fault : List Decl → Option Kind → List Basic → Option Fault
+parts_fault known wanted bs = first_some (part_fault known wanted) bs
+
+-- ---- at an item
+
+-- At a declared name: it was declared before, or an array's value has another number of elements
+-- than its declared length.
+abbrev pub name_fault : List Decl → Decl → Option Fault
+name_fault before d = cond (declares before d.name.text) (Some (DuplicateName, d.name.span))
+    (cond (differs_in_length d) (Some (WrongLength, d.name.span)) None)
+
+-- At a declaration: at its name, or else in its value, whose literals and names are to be scalars of
+-- the declared kind.
+abbrev pub decl_fault : List Decl → Decl → Option Fault
+decl_fault before d = option_or (name_fault before d)
+    (parts_fault before (Some (kind_of_base d.base)) (parts d.value))
+
+-- at the first of several declarations, each with those before it
+abbrev pub decls_fault : List Decl → List Decl → Option Fault
+decls_fault before [] = None
+decls_fault before (d ∷ ds) = option_or (decl_fault before d) (decls_fault (before ++ d ∷ []) ds)
+
+-- at a constraint: a name in its arguments is not declared
+abbrev pub constraint_fault : List Decl → Constraint → Option Fault
+constraint_fault known c = parts_fault known None (parts_of_arguments c.args)
+
+abbrev pub constraints_fault : List Decl → List Constraint → Option Fault
+constraints_fault known cs = first_some (constraint_fault known) cs
+
+-- at the objective, which is to be an integer
+abbrev pub goal_fault : List Decl → Goal → Option Fault
+goal_fault known g = parts_fault known (Some IntKind) (goal_parts g)
+
+-- ---- in a tree
+
+-- the first fault, if there is one
+abbrev pub first_fault : LocatedTree → Option Fault
+first_fault t = option_or (decls_fault [] t.decls)
+    (option_or (constraints_fault t.decls t.constraints) (goal_fault t.decls t.solve.goal))
 
 abbrev pub HasNoFault : LocatedTree → Type 0
-HasNoFault t = (k : FaultKind) (at : Span) → HasFault t k at → ⊥
+HasNoFault t = first_fault t ≡ None
 
 -- ---- what a name stands for
 --

@@ -1,5 +1,5 @@
 -- What the rows of the table of builtins speak of (MiniZinc Handbook, "FlatZinc builtins").
-use Rattle.std.specs.Prelude.{ℕ, suc, zero, ℤ, pos, negsuc, ◌+ℤ◌, ◌*ℤ◌, Bool, true, false, not, ◌&&◌, ◌-◌, List, [], ◌∷◌, int_le, Option, Some, None, ◌%◌, ◌-ℤ◌, ◌||◌, if◌then◌else◌, nat_eq, drop, take, length, map, int_lt, unsigned_abs, option_and_then}
+use Rattle.std.specs.Prelude.{ℕ, suc, zero, ℤ, pos, negsuc, ◌+ℤ◌, ◌*ℤ◌, Bool, true, false, not, ◌&&◌, List, [], ◌∷◌, int_le, Option, Some, None, ◌%◌, ◌-ℤ◌, ◌||◌, if◌then◌else◌, nat_eq, drop, take, length, map, int_lt, unsigned_abs, option_and_then}
 use Rattle.std.specs.List.{list_all, list_any, filter, zip}
 use Rattle.std.specs.Option.{option_map_or}
 use Rattle.std.specs.Ordering.{int_eq}

@@ -1,7 +1,7 @@
--- What the parser's tree and a refusal of names stand for: the located tree, and the leftmost fault
--- (this project's profile).
-use Rattle.std.specs.Prelude.{map, option_map, Option, ⊤}
-use Rattle.fz_syntax.specs.Offering.{TreeItems}
+-- What the parser's tree and an error stand for: the located tree, and a fault of its names (this
+-- project's profile).
+use Rattle.std.specs.Prelude.{◌≡◌, map, option_map, Option, Some, ⊤}
+use Rattle.fz_syntax.specs.Offering.{TreeItems, items_of_tree}
 use Rattle.fz_syntax.specs.View.{bare_literal, bare_base, bare_notes, bare_predicate}
 use Rattle.fz_syntax.specs.declared.Ast.{Ast}
 use Rattle.fz_syntax.specs.declared.Basic as the_basic
@@ -17,14 +17,11 @@ use Rattle.fz_syntax.specs.declared.Name as the_name
 use Rattle.fz_syntax.specs.declared.Solve as the_solve
 use Rattle.fz_meaning.specs.declared.error.ModelError.{ModelError}
 use Rattle.fz_meaning.specs.declared.error.ModelError.TheVariants as errors
+use Rattle.fz_meaning.specs.Names.{Fault, DuplicateName, UnknownName, WrongKind, WrongLength}
 use Rattle.fz_meaning.specs.Located.{Name, Literal, Basic, Expr, Decl, Constraint, Goal, Solve, LocatedTree}
 use Rattle.fz_meaning.specs.Located.Basic.{Lit, Named}
 use Rattle.fz_meaning.specs.Located.Expr.{One, Several}
 use Rattle.fz_meaning.specs.Located.Goal.{Satisfy, Minimize, Maximize}
-use Rattle.fz_meaning.specs.Names.{HasFault, DuplicateName, UnknownName, WrongKind, WrongLength}
-use Rattle.fz_meaning.specs.Leftmost.{IsFirstFault}
-
--- ---- trees
 
 abbrev pub located_name : the_name.Name → Name
 located_name n = record { text = n.text.now; span = n.span }
@@ -68,15 +65,6 @@ located_goal (goals.Maximize b) = Maximize (located_basic b)
 abbrev pub located_solve : the_solve.Solve → Solve
 located_solve s = record { notes = bare_notes s.notes.items; goal = located_goal s.goal }
 
--- the located tree
-abbrev pub located : Ast → LocatedTree
-located a = record {
-  predicates = map bare_predicate a.predicates.items;
-  decls = map located_decl a.decls.items;
-  constraints = map located_constraint a.constraints.items;
-  solve = located_solve a.solve;
-}
-
 -- the located tree of a tree that is given by its items
 abbrev pub located_all : TreeItems → LocatedTree
 located_all t = record {
@@ -86,21 +74,16 @@ located_all t = record {
   solve = located_solve t.solve;
 }
 
--- ---- refusals
+-- the located tree
+abbrev pub located : Ast → LocatedTree
+located a = located_all (items_of_tree a)
 
--- what a refusal says of the tree: a fault that it has, at the byte range told, or nothing where
--- memory ran out
-abbrev pub TellsFault : LocatedTree → ModelError → Type 0
-TellsFault t (errors.DuplicateName at) = HasFault t DuplicateName at
-TellsFault t (errors.UnknownName at) = HasFault t UnknownName at
-TellsFault t (errors.Kind at) = HasFault t WrongKind at
-TellsFault t (errors.Length at) = HasFault t WrongLength at
-TellsFault t errors.Memory = ⊤
+-- ---- errors
 
--- the same, where the fault is the leftmost one
-abbrev pub TellsFirstFault : LocatedTree → ModelError → Type 0
-TellsFirstFault t (errors.DuplicateName at) = IsFirstFault t DuplicateName at
-TellsFirstFault t (errors.UnknownName at) = IsFirstFault t UnknownName at
-TellsFirstFault t (errors.Kind at) = IsFirstFault t WrongKind at
-TellsFirstFault t (errors.Length at) = IsFirstFault t WrongLength at
-TellsFirstFault t errors.Memory = ⊤
+-- an error tells the fault and its byte range, or that memory ran out
+abbrev pub Tells : ModelError → Option Fault → Type 0
+Tells (errors.DuplicateName at) f = f ≡ Some (DuplicateName, at)
+Tells (errors.UnknownName at) f = f ≡ Some (UnknownName, at)
+Tells (errors.Kind at) f = f ≡ Some (WrongKind, at)
+Tells (errors.Length at) f = f ≡ Some (WrongLength, at)
+Tells errors.Memory f = ⊤

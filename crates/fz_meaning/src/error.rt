@@ -4,8 +4,7 @@ use fz_base::Span;
 use std::alloc::{AllocError, AllocFailed};
 use thiserror::Error;
 
-/// Why a tree is no model: the leftmost fault of its names, kinds and lengths, or that memory ran
-/// out.
+/// Why a tree is no model: the first fault of its names, kinds and lengths, or that memory ran out.
 #[derive(Clone, Copy, Debug, PartialEq, Eq, Error)]
 pub enum ModelError {
     /// A name is declared a second time.

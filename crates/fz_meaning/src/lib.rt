@@ -1,5 +1,5 @@
 //! What a FlatZinc model means: names, the table of builtins, points and their states, forced
-//! steps, and the leftmost fault of names. An internal crate of `fz_model`, which offers all of it.
+//! steps, and the first fault of names. An internal crate of `fz_model`, which offers all of it.
 //!
 //! The table of builtins is data here too. [`Known::find`] says what a constraint's name means: a
 //! [`Builtin`], or a reified [`Form`] of it. A [`Known`] tells what its row asks: the kinds of its
@@ -20,9 +20,7 @@ mod state;
 mod term;
 mod text;
 
-ghost use Rattle.fz_meaning.specs.FirstFault.{FirstFaultIsLeftmost, NoneIsFirst, NoneIsFound};
 ghost use Rattle.fz_meaning.specs.Laws.{LocatedIsBare, NumbersAgree, StepsAreForced, UnknownIsNotKnown};
-ghost use Rattle.fz_meaning.specs.ReadingOrder.{SourcesAreInReadingOrder};
 
 pub use builtin::Builtin;
 pub use error::ModelError;
@@ -52,24 +50,4 @@ pub fn unknown_is_not_known()
 /// The located tree without its byte ranges is the parser's plain tree.
 pub fn located_is_bare()
     ensures { LocatedIsBare }
-{}
-
-// Where no fault is met as the tree is read in source order, the tree has none.
-fn none_is_found()
-    ensures { NoneIsFound }
-{}
-
-// In a tree without faults none is met.
-fn none_is_first()
-    ensures { NoneIsFirst }
-{}
-
-// The fault that is met first is the leftmost one.
-fn first_fault_is_leftmost()
-    ensures { FirstFaultIsLeftmost }
-{}
-
-/// A tree whose names and literals follow each other in a source is in reading order.
-pub fn sources_are_in_reading_order()
-    ensures { SourcesAreInReadingOrder }
 {}

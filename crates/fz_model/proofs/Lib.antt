@@ -11,6 +11,5 @@ pub use Rattle.fz_meaning.proofs.States
 pub use Rattle.fz_meaning.proofs.Places
 pub use Rattle.fz_meaning.proofs.NamedKinds
 pub use Rattle.fz_meaning.proofs.Writing
-pub use Rattle.fz_meaning.proofs.Reading
 pub use Rattle.fz_eval.proofs.of_data.Tabled
 pub use Rattle.fz_eval.proofs.Gaps

@@ -17,4 +17,3 @@ pub use Rattle.fz_eval.specs.Overviews
 pub use Rattle.fz_eval.specs.Openings
 pub use Rattle.fz_meaning.specs.Relations
 pub use Rattle.fz_meaning.specs.States
-pub use Rattle.fz_meaning.specs.Leftmost

@@ -18,5 +18,5 @@ pub use fz_eval::fz_data::{
 pub use fz_eval::{Opening, Overview, Spot, all_hold, forced, only_number, opening_of, state};
 pub use fz_meaning::{
     Builtin, Domain, Filled, Form, Kind, Known, ModelError, Shape, State, Term, located_is_bare,
-    numbers_agree, sources_are_in_reading_order, steps_are_forced, unknown_is_not_known,
+    numbers_agree, steps_are_forced, unknown_is_not_known,
 };

@@ -1,6 +1,7 @@
 use Rattle.std.proofs.Common.{Some, subst}
 use Rattle.std.proofs.lemmas.Result.{err_from_is_err_and}
-use Rattle.fz_data.specs.Scope.{Tells, faults_in}
+use Rattle.fz_meaning.specs.View.{Tells}
+use Rattle.fz_data.specs.Scope.{faults_in}
 use Rattle.fz_data.proofs.declaring.array_of.Goals as goal
 
 pub returns-in_err-elements-clause-tells : goal.returns-in_err-elements-clause-tells

@@ -1,8 +1,8 @@
 use Rattle.std.proofs.Common.{Some, sym, ◌∙◌, subst}
 use Rattle.std.proofs.lemmas.Result.{err_from_is_err_and}
 use Rattle.fz_meaning.specs.Names.{parts}
-use Rattle.fz_meaning.specs.View.{located_value}
-use Rattle.fz_data.specs.Scope.{Tells, faults_in}
+use Rattle.fz_meaning.specs.View.{Tells, located_value}
+use Rattle.fz_data.specs.Scope.{faults_in}
 use Rattle.fz_data.proofs.declaring.unnamed_item.Goals as goal
 
 pub returns-in_err-value-clause-tells : goal.returns-in_err-value-clause-tells

@@ -3,7 +3,6 @@ use Rattle.std.proofs.lemmas.Result.{err_from_is_err_and}
 use Rattle.fz_meaning.specs.of_syntax.Offering.{IsLeft, IsTextOfAll, TreeItems, all_items, from_constraints, from_decls}
 use Rattle.fz_meaning.specs.of_syntax.Text.{IsTextOfTree}
 use Rattle.fz_meaning.specs.View.{located_all}
-use Rattle.fz_meaning.proofs.FoundFaults.{no_fault}
 use Rattle.fz_meaning.proofs.Places.{all_are_bare}
 use Rattle.fz_data.proofs.Loaded.{all_laid_out, goal_told, loaded_model, no_fault_told}
 use Rattle.fz_data.proofs.OneMore.{declares_none}
@@ -56,6 +55,6 @@ returns-clause-loaded c =
     record {
       tree = located_all all;
       text = subst (IsTextOfTree c.args.source.now) (sym (all_are_bare all)) text.text;
-      no_fault = no_fault (located_all all) (no_fault_told (located_all all) c.in_ok-items-2.scope declared.declares c.posted_in.new.store c.in_ok-constraints.constraints posted.posts c.in_ok-goal.goal c.in_ok-goal.ensures.clean c.in_ok-goal.ensures.aim);
+      no_fault = no_fault_told (located_all all) c.in_ok-items-2.scope declared.declares c.posted_in.new.store c.in_ok-constraints.constraints posted.posts c.in_ok-goal.goal c.in_ok-goal.ensures.clean c.in_ok-goal.ensures.aim;
       is = c.assembled.ensures.view ∙ loaded_model (located_all all) c.in_ok-items-2.scope declared.declares c.posted_in.new.store c.in_ok-constraints.constraints posted.posts c.in_ok-goal.goal c.in_ok-goal.ensures.clean c.in_ok-goal.ensures.aim;
     }
