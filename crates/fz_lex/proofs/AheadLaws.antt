@@ -1,8 +1,7 @@
 -- Laws of `tokens_ahead`: each step of the lexer takes the first of these tokens, and those of a
 -- source without a fault are the ones that it lexes to.
 use Rattle.std.proofs.Common.{◌≡◌, ◌≢◌, ℕ, zero, suc, ◌+◌, ◌<◌, ◌≤◌, ◌^◌, List, [], ◌∷◌, ◌++◌, length, drop, get_or, ℤ, pos, negsuc, Option, Some, None, true, false, eqb, ⊎_elim, refl, sym, ap, ◌∙◌, subst, arith}
-use Rattle.std.specs.Prelude.{Result, Ok, Err, IfOk, IfErr, OnOk, IsOk}
-use Rattle.std.specs.Result.{result_unwrap_or}
+use Rattle.std.specs.Prelude.{Result, Ok, Err, IfOk, IfErr, OnOk, OnErr, IsOk}
 use Rattle.std.specs.List.{position_or_len, AllByRecursion}
 use Rattle.std.proofs.lemmas.List.{length-drop, append-nil, get_or_past}
 use Rattle.std.proofs.lemmas.Bool.{eqb-true, eqb-false, cases_Bool, cases_lt, ltb-true, ltb-false}
@@ -268,13 +267,14 @@ ahead_fault source place (TooMany span) h f = absurd f
 ahead_fault source place Memory h f = absurd f
 
 -- what a reader has left after a step of the lexer: the tokens ahead of where the lexer was
-pub step_leaves : (source : List ℕ) (place end : ℕ) (r : Result (Option Token) SyntaxError)
-    → place ≤ length source → end ≤ length source → IfOk r (NextFrom source place end)
-    → IfErr r (FaultFrom source place)
-    → first_and (result_unwrap_or r None) (tokens_ahead source end) ≡ tokens_ahead source place
-step_leaves source place end (Ok (Some t)) h k n f = sym (ahead_token source place end t h k n)
-step_leaves source place end (Ok None) h k n f = sym (ahead_none source place end h n)
-step_leaves source place end (Err e) h k n f = sym (ahead_fault source place e h f)
+pub step_leaves : (source : List ℕ) (place end : ℕ) (r : Result (Unit {0}) SyntaxError)
+    (next : Option Token) → place ≤ length source → end ≤ length source
+    → IfOk r (λ _. NextFrom source place end next) → IfErr r (FaultFrom source place)
+    → OnErr r (next ≡ None)
+    → first_and next (tokens_ahead source end) ≡ tokens_ahead source place
+step_leaves source place end (Ok v) (Some t) h k n f e = sym (ahead_token source place end t h k n)
+step_leaves source place end (Ok v) None h k n f e = sym (ahead_none source place end h n)
+step_leaves source place end (Err e) next h k n f w = rw w (sym (ahead_fault source place e h f))
 
 -- ---- where reading stops
 --

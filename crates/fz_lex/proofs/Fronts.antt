@@ -1,9 +1,10 @@
 -- What `front_of` gives, by the first byte.
-use Rattle.std.proofs.Common.{◌≡◌, ◌≢◌, ◌∷◌, [], ℕ, ◌+◌, ◌<◌, ◌≤◌, List, drop, get_or, true, false, ◌⊎◌, ⊎_elim, refl, ap, ◌∙◌, inl, inr, arith}
+use Rattle.std.proofs.Common.{◌≡◌, ◌≢◌, ◌∷◌, [], ℕ, ◌+◌, ◌<◌, ◌≤◌, List, take, drop, get_or, true, false, ◌⊎◌, ⊎_elim, refl, ap, ◌∙◌, inl, inr, arith}
 use Rattle.std.proofs.lemmas.Bool.Decides.{nat_tests}
 use Rattle.std.proofs.lemmas.Bool.{or_cases, eqb-true}
 use Rattle.std.specs.Char.{is_digit}
-use Rattle.fz_lex.specs.Token.{is_blank, is_word_start, Marked, mark_text}
+use Rattle.std.specs.List.{prefix_len}
+use Rattle.fz_lex.specs.Token.{is_blank, is_word_start, is_word_byte, Word, Marked, mark_text}
 use Rattle.fz_lex.specs.Scan.{front_of, mark_front, number_front, number_token, found, none}
 use Rattle.fz_lex.specs.declared.token.Mark.{Mark}
 use Rattle.fz_lex.specs.declared.token.Mark.TheVariants.{OpenParen, CloseParen, OpenBracket, CloseBracket, OpenBrace, CloseBrace, Comma, Semicolon, Colon, ColonColon, Equals, DotDot}
@@ -65,3 +66,9 @@ lone_front bytes Colon b t c e = absurd (let colon : b ≡ 58 = cc in c colon)
 lone_front bytes ColonColon b t c e = absurd cc
 lone_front bytes Equals b t c e = let first : get_or bytes 0 0 ≡ 61 = cc in rw first refl
 lone_front bytes DotDot b t c e = absurd cc
+
+-- a word
+pub word_front : (bytes : List ℕ) (n : ℕ) → is_word_start (get_or bytes 0 0) ≡ true
+    → n ≡ prefix_len is_word_byte bytes → front_of bytes ≡ found (Word (take n bytes)) n
+unfolding front_of
+word_front bytes n w e = rw (e, w) refl

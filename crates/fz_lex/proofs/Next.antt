@@ -1,11 +1,11 @@
 -- What comes at an offset after blanks and comments, from what the code finds there.
-use Rattle.std.proofs.Common.{◌≡◌, ◌≢◌, ℕ, ◌+◌, ◌-◌, ◌<◌, ◌≤◌, List, [], ◌∷◌, ◌++◌, length, take, drop, get_or, slice_range, IsFalse, refl, sym, ap, ◌∙◌, subst, arith}
-use Rattle.std.proofs.lemmas.List.{take_rest, length-drop, append-nil}
+use Rattle.std.proofs.Common.{◌≡◌, ◌≢◌, ℕ, ◌+◌, ◌<◌, ◌≤◌, List, [], ◌∷◌, ◌++◌, length, take, drop, get_or, slice_range, IsFalse, refl, sym, ap, ◌∙◌, subst, arith}
+use Rattle.std.proofs.lemmas.List.{length-drop, append-nil}
 use Rattle.std.specs.List.{AllByRecursion}
 use Rattle.fz_lex.specs.Token.{is_blank}
 use Rattle.fz_lex.specs.Ahead.{comma_at}
 use Rattle.fz_lex.specs.Lexing.{SpannedToken, nothing, CutBetween, CutUpTo, IsLongestSpelling, IsTokenWithinLimit, AreWithinLimit}
-use Rattle.fz_lex.specs.View.{token_value, IsLexicalFault}
+use Rattle.fz_lex.specs.View.{NothingBegins, token_value, IsLexicalFault}
 use Rattle.fz_lex.specs.Found.{IsFrontOf, FaultFrom}
 use Rattle.fz_lex.specs.declared.token.Mark.TheVariants.{Comma}
 use Rattle.fz_lex.specs.declared.token.TokenKind.{TokenKind}
@@ -17,21 +17,17 @@ use Rattle.fz_lex.proofs.Laws.{found_is_longest, longest_is_positive, none_begin
 use Rattle.fz_lex.proofs.Fronts.{lone_front}
 use Rattle.fz_lex.proofs.Cuts.{gap_then_token, cut_then, cut_forward, at_place}
 
--- the rest of the source, as the code sees it
-abbrev pub rest_from : List ℕ → ℕ → List ℕ
-rest_from source start = take (length source - start) (drop start source)
-
 module _ (source : List ℕ) (place start : ℕ) (in_range : start ≤ length source) (gap : CutBetween source place start []) where
-  found_longest : (kind : TokenKind) (len : ℕ) → IsFrontOf (rest_from source start) (Found kind len)
+  found_longest : (kind : TokenKind) (len : ℕ) → IsFrontOf (drop start source) (Found kind len)
       → IsLongestSpelling (drop start source) len (token_value kind (take len (drop start source)))
-  found_longest kind len f = let e = (rw take_rest at f.0) in found_is_longest (drop start source) _ len e
+  found_longest kind len f = found_is_longest (drop start source) _ len f.0
 
   pub found_within : (kind : TokenKind) (len : ℕ)
-      → IsFrontOf (rest_from source start) (Found kind len) → start + len ≤ length source
+      → IsFrontOf (drop start source) (Found kind len) → start + len ≤ length source
   found_within kind len f = let l = found_longest kind len f in let w = l.within in omega (arith, length-drop start source)
 
   pub found_moves : (kind : TokenKind) (len : ℕ)
-      → IsFrontOf (rest_from source start) (Found kind len) → place < start + len
+      → IsFrontOf (drop start source) (Found kind len) → place < start + len
   found_moves kind len f =
       let l = longest_is_positive _ _ len (found_longest kind len f) in
       let g = cut_forward gap in
@@ -41,51 +37,49 @@ module _ (source : List ℕ) (place start : ℕ) (in_range : start ≤ length so
   slice_is len = ap (λ n. take n (drop start source)) (omega arith)
 
   pub found_cut : (kind : TokenKind) (len : ℕ) (t : SpannedToken)
-      → IsFrontOf (rest_from source start) (Found kind len) → t.start ≡ start → t.end ≡ start + len
+      → IsFrontOf (drop start source) (Found kind len) → t.start ≡ start → t.end ≡ start + len
       → t.token ≡ token_value kind (slice_range source start (start + len))
       → CutBetween source place (start + len) (t ∷ [])
   found_cut kind len t f s e v =
       let is : t.token ≡ token_value kind (take len (drop start source)) = v ∙ ap (token_value kind) (slice_is len) in
       gap_then_token source place start len t gap s e (subst (λ u. IsLongestSpelling (drop start source) len u) (sym is) (found_longest kind len f))
 
-  pub found_limit : (kind : TokenKind) (len : ℕ) → IsFrontOf (rest_from source start)
+  pub found_limit : (kind : TokenKind) (len : ℕ) → IsFrontOf (drop start source)
       (Found kind len) → IsTokenWithinLimit
       (token_value kind (slice_range source start (start + len)))
   found_limit kind len f =
-      let same : take len (rest_from source start) ≡ slice_range source start (start + len) = ap (take len) (take_rest source start) ∙ sym (slice_is len) in
-      subst (λ text. IsTokenWithinLimit (token_value kind text)) same f.1
+      subst (λ text. IsTokenWithinLimit (token_value kind text)) (sym (slice_is len)) f.1
 
-  pub outside_within : (len : ℕ) → IsFrontOf (rest_from source start) (OutsideLimit len)
+  pub outside_within : (len : ℕ) → IsFrontOf (drop start source) (OutsideLimit len)
       → start + len ≤ length source
   outside_within len f =
-      let e = (rw take_rest at f.1) in
-      let l = found_is_longest (drop start source) _ len e in
+      let l = found_is_longest (drop start source) _ len f.1 in
       let w = l.within in
       omega (arith, length-drop start source)
 
-  pub outside_fault : (len : ℕ) → IsFrontOf (rest_from source start) (OutsideLimit len) → FaultFrom source place (TooLarge (record { start = start; end = start + len }))
-  outside_fault len f =
-      let e = (rw take_rest at f.1) in
-      (len, f.0, gap, found_is_longest (drop start source) _ len e, f.2, refl)
+  pub outside_fault : (len : ℕ) → IsFrontOf (drop start source) (OutsideLimit len)
+      → FaultFrom source place (TooLarge (record { start = start; end = start + len }))
+  outside_fault len f = (len, f.0, gap, found_is_longest (drop start source) _ len f.1, f.2, refl)
 
-  pub nothing_fault : IsFrontOf (rest_from source start) Nothing → start < length source → IsFalse (is_blank (get_or source start 0)) → get_or source start 0 ≢ 37 → FaultFrom source place (BadByte (record { start = start; end = start + 1 }))
+  pub nothing_fault : IsFrontOf (drop start source) Nothing → start < length source
+      → IsFalse (is_blank (get_or source start 0)) → get_or source start 0 ≢ 37
+      → FaultFrom source place (BadByte (record { start = start; end = start + 1 }))
   nothing_fault f l b k =
-      let e = (rw take_rest at f) in (
-        gap,
-        record {
-          a_byte = omega (arith, length-drop start source);
-          no_blank = rw at_place b;
-          no_comment = λ h. k (sym (at_place source start) ∙ h);
-          no_spelling = none_begins (drop start source) e;
-        },
-        refl,
-      )
+      let begins : NothingBegins (drop start source) = record {
+        a_byte = omega (arith, length-drop start source);
+        no_blank = rw at_place b;
+        no_comment = λ h. k (sym (at_place source start) ∙ h);
+        no_spelling = none_begins (drop start source) f;
+      } in
+      (gap, begins, refl)
 
 -- a comma right at an offset is the token there
 pub comma_cut : (source : List ℕ) (place : ℕ) → place < length source → get_or source place 0 ≡ 44
     → CutBetween source place (place + 1) (comma_at place ∷ [])
 comma_cut source place h b =
-    let front : IsFrontOf (rest_from source place) (Found (kinds.Mark Comma) 1) = (rw take_rest (lone_front (drop place source) Comma 44 refl (λ e. absurd (omega arith)) (at_place source place ∙ b)), tt) in
+    let byte = at_place source place ∙ b in
+    let mark = lone_front (drop place source) Comma 44 refl (λ e. absurd (omega arith)) byte in
+    let front : IsFrontOf (drop place source) (Found (kinds.Mark Comma) 1) = (mark, tt) in
     found_cut source place place (omega arith) (nothing place) (kinds.Mark Comma) 1 (comma_at place) front refl refl refl
 
 -- a fault behind tokens that are cut off already is a fault of the source

@@ -104,7 +104,7 @@ impl<'a> Tokens<'a> {
     {
         let token = self.first?;
         let comma = self.lexer.eat_comma()?;
-        self.load_listed();
+        self.load();
         Some(Listed { token, comma })
     }
 
@@ -134,19 +134,6 @@ impl<'a> Tokens<'a> {
         ensures left { left self.new ≡ tokens_ahead self.old.lexer.source.now self.old.lexer.place }
         ensures source { source_of self.new ≡ source_of self.old }
     {
-        self.first = self.lexer.next_token().unwrap_or(None);
-    }
-
-    /// Loads the next token inside a list, where most tokens are short numbers with nothing before
-    /// them: these are read inline, and every other token by a call.
-    #[inline(always)]
-    fn load_listed(&mut self)
-        ensures left { left self.new ≡ tokens_ahead self.old.lexer.source.now self.old.lexer.place }
-        ensures source { source_of self.new ≡ source_of self.old }
-    {
-        match self.lexer.eat_short() {
-            Some(token) => self.first = Some(token),
-            None => self.load(),
-        }
+        let _ = self.lexer.read(&mut self.first);
     }
 }

@@ -1,15 +1,19 @@
 //! Goes over a source token by token, and lists its tokens.
 
-ghost use Rattle.std.specs.Prelude.{◌≡◌, ◌≢◌, ◌+◌, ◌<◌, ◌≤◌, ◌∷◌, [], Some, IfSome, IfNone, List, length, slice_index, IsFalse, IfOk, IfErr, OnErr, MatchResult};
+ghost use Rattle.std.specs.Prelude.{◌≡◌, ◌≢◌, ◌+◌, ◌<◌, ◌≤◌, ◌∷◌, [], Some, None, IfSome, IfNone, List, length, drop, false, slice_index, IsFalse, IfOk, IfErr, OnErr, MatchResult};
 ghost use Rattle.fz_lex.specs.Token as bytes_spec;
 ghost use Rattle.fz_lex.specs.Lexing.{most_bytes, LexesWithinLimits, SpannedToken, CutBetween};
-ghost use Rattle.fz_lex.specs.Found.{AreInOrder, NextFrom, FaultFrom, IsLexed};
+ghost use Rattle.fz_lex.specs.Found.{AreInOrder, NextFrom, FaultFrom, IsFrontOf, IsLexed};
+ghost use Rattle.fz_lex.specs.declared.scanner.Front.TheVariants.{Found};
 ghost use Rattle.fz_lex.specs.View.{all_spanned, TextsAreSlices, IsLexicalFault, IsPlacedWithin};
 ghost use Rattle.fz_lex.specs.Ahead.{comma_at, tokens_ahead, stop_ahead};
 
 use crate::error::SyntaxError;
-use crate::scanner::{Front, comment_len, is_blank, read_front, short_whole};
+use crate::scanner::{
+    Front, comment_len, is_blank, is_word_start, lone_mark, read_other_front, short_whole,
+};
 use crate::token::{Token, TokenKind};
+use crate::word::word_len;
 use fz_base::Span;
 use std::alloc::Global;
 
@@ -73,48 +77,59 @@ impl<'a> Lexer<'a> {
         Some(Span { start, end })
     }
 
-    /// Takes the short integer, where one begins at the next byte, and gives it as a token.
+    /// Takes the token of this kind and length that begins at an offset.
     #[inline(always)]
-    pub(crate) fn eat_short(&mut self) -> Option<Token<'a>>
+    fn take(&mut self, start: usize, kind: TokenKind, len: usize) -> Token<'a>
+        requires within { start ≤ length self.old.source.now }
+        requires gap { CutBetween self.old.source.now self.old.place start [] }
+        requires front { IsFrontOf (drop start self.old.source.now) (Found kind len) }
         ensures source { self.new.source.now ≡ self.old.source.now }
-        ensures token { IfSome result (λ t. NextFrom self.old.source.now self.old.place
-            self.new.place (Some t)) }
-        ensures kept { IfNone result (self.new ≡ self.old) }
+        ensures next { NextFrom self.old.source.now self.old.place self.new.place (Some result) }
     {
-        let source = self.source;
-        let start = self.place;
-        let whole = short_whole(&source[start..])?;
-        let end = start + whole.len;
+        let end = start + len;
         self.place = end;
-        Some(Token {
-            kind: TokenKind::Whole(whole.value),
+        Token {
+            kind,
             span: Span { start, end },
-            text: &source[start..end],
-        })
+            text: &self.source[start..end],
+        }
     }
 
-    /// The next token, or none at the end of the text. After an error the lexer is where it was.
+    /// Writes the next token, or none at the end of the text or at a fault, where the lexer stays.
+    /// Most tokens are words, marks of one byte and short numbers, so each of these has an arm of
+    /// its own, in which little is left to be written.
     #[inline(always)]
-    pub(crate) fn next_token(&mut self) -> Result<Option<Token<'a>>, SyntaxError>
+    pub(crate) fn read(&mut self, next: &mut Option<Token<'a>>) -> Result<(), SyntaxError>
         ensures source { self.new.source.now ≡ self.old.source.now }
-        ensures token { IfOk result (NextFrom self.old.source.now self.old.place self.new.place) }
+        ensures token { IfOk result (λ _. NextFrom self.old.source.now self.old.place
+            self.new.place next.new) }
         ensures fault { IfErr result (FaultFrom self.old.source.now self.old.place) }
+        ensures none { OnErr result (next.new ≡ None) }
         ensures stays { OnErr result (self.new.place ≡ self.old.place) }
     {
-        let source = self.source;
-        let start = gap_end(source, self.place);
-        if start == source.len() {
-            return Ok(None);
+        let start = gap_end(self.source, self.place);
+        if start == self.source.len() {
+            *next = None;
+            return Ok(());
         }
-        match read_front(&source[start..]) {
+        let bytes = &self.source[start..];
+        if is_word_start(bytes[0]) {
+            *next = Some(self.take(start, TokenKind::Word, word_len(bytes)));
+            return Ok(());
+        }
+        if let Some(mark) = lone_mark(bytes[0]) {
+            *next = Some(self.take(start, TokenKind::Mark(mark), 1));
+            return Ok(());
+        }
+        if let Some(whole) = short_whole(bytes) {
+            *next = Some(self.take(start, TokenKind::Whole(whole.value), whole.len));
+            return Ok(());
+        }
+        *next = None;
+        match read_other_front(bytes) {
             Front::Found(kind, len) => {
-                let end = start + len;
-                self.place = end;
-                Ok(Some(Token {
-                    kind,
-                    span: Span { start, end },
-                    text: &source[start..end],
-                }))
+                *next = Some(self.take(start, kind, len));
+                Ok(())
             }
             Front::OutsideLimit(len) => Err(SyntaxError::TooLarge(Span {
                 start,
@@ -125,6 +140,19 @@ impl<'a> Lexer<'a> {
                 end: start + 1,
             })),
         }
+    }
+
+    /// The next token, or none at the end of the text. After an error the lexer is where it was.
+    #[inline(always)]
+    pub(crate) fn next_token(&mut self) -> Result<Option<Token<'a>>, SyntaxError>
+        ensures source { self.new.source.now ≡ self.old.source.now }
+        ensures token { IfOk result (NextFrom self.old.source.now self.old.place self.new.place) }
+        ensures fault { IfErr result (FaultFrom self.old.source.now self.old.place) }
+        ensures stays { OnErr result (self.new.place ≡ self.old.place) }
+    {
+        let mut next = None;
+        self.read(&mut next)?;
+        Ok(next)
     }
 }
 

@@ -10,7 +10,6 @@ ghost use Rattle.fz_lex.specs.Scan as scan;
 ghost use Rattle.fz_lex.specs.Found.{IsFrontOf, IsNumberFound};
 
 use crate::token::{Mark, TokenKind};
-use crate::word::word_len;
 
 /// The least and the greatest integer that is accepted.
 const LEAST_WHOLE: i64 = i64::MIN;
@@ -36,7 +35,7 @@ pub(crate) fn is_blank(byte: u8) -> bool
 }
 
 #[inline(always)]
-fn is_word_start(byte: u8) -> bool
+pub(crate) fn is_word_start(byte: u8) -> bool
     ensures { result ≡ bytes_spec.is_word_start byte }
 {
     byte.is_ascii_alphabetic() || byte == b'_'
@@ -346,7 +345,7 @@ fn number_found(negative: bool, len: usize, magnitude: Option<u64>) -> Front
 
 /// The mark that this byte is, whatever bytes follow it.
 #[inline(always)]
-fn lone_mark(byte: u8) -> Option<Mark>
+pub(crate) fn lone_mark(byte: u8) -> Option<Mark>
     ensures { IfSome result (λ m. (mark_text m ≡ byte ∷ []) × (byte ≢ 58)) }
 {
     match byte {
@@ -397,7 +396,7 @@ pub(crate) fn short_whole(bytes: &[u8]) -> Option<WholeFront>
 
 /// What is at the front, where that is no word.
 #[tactic(auto, unfolding(crate::specs::Scan::front_of))]
-fn read_other_front(bytes: &[u8]) -> Front
+pub(crate) fn read_other_front(bytes: &[u8]) -> Front
     requires { is_word_start (slice_index bytes.now 0) ≡ false }
     ensures { IsFrontOf bytes.now result }
 {
@@ -418,26 +417,5 @@ fn read_other_front(bytes: &[u8]) -> Front
             Some((mark, len)) => Front::Found(TokenKind::Mark(mark), len),
             None => Front::Nothing,
         },
-    }
-}
-
-/// What is at the front. Most tokens are words, short numbers and marks of one byte, so these are
-/// tried first.
-#[tactic(auto, unfolding(crate::specs::Scan::front_of))]
-#[inline(always)]
-pub(crate) fn read_front(bytes: &[u8]) -> Front
-    requires { 0 < length bytes.now }
-    ensures { IsFrontOf bytes.now result }
-{
-    let first = byte_at(bytes, 0);
-    if is_word_start(first) {
-        return Front::Found(TokenKind::Word, word_len(bytes));
-    }
-    if let Some(whole) = short_whole(bytes) {
-        return Front::Found(TokenKind::Whole(whole.value), whole.len);
-    }
-    match lone_mark(first) {
-        Some(mark) => Front::Found(TokenKind::Mark(mark), 1),
-        None => read_other_front(bytes),
     }
 }
