@@ -1,5 +1,5 @@
 -- What a comparison of two numbers says of the tests.
-use Rattle.std.proofs.Common.{◌≡◌, ℤ, ◌<ℤ◌, ◌≤ℤ◌, int_le, int_lt, Bool, true, false, refl, arith}
+use Rattle.std.proofs.Common.{◌≡◌, ℤ, ◌<ℤ◌, ◌≤ℤ◌, int_le, Bool, true, false, refl, arith}
 use Rattle.std.proofs.lemmas.Int.{ints}
 use Rattle.std.proofs.lemmas.Bool.Decides.{Decides-int_eq}
 use mathlib.Core.Bool.{beq}
@@ -14,17 +14,8 @@ is_other a b other = elim (a =ℤ b) as (λ s. (a =ℤ b) ≡ s → s ≡ false)
 pub above_is_other : (a b : ℤ) → a <ℤ b → (b =ℤ a) ≡ false
 above_is_other a b h = is_other b a (λ same. omega (arith, ints))
 
-pub is_less : (a b : ℤ) → a <ℤ b → int_lt a b ≡ true
-is_less a b h = grind (arith, ints)
-
-pub not_less : (a b : ℤ) → b ≤ℤ a → int_lt a b ≡ false
-not_less a b h = grind (arith, ints)
-
 pub is_at_most : (a b : ℤ) → a ≤ℤ b → int_le a b ≡ true
 is_at_most a b h = grind (arith, ints)
-
-pub not_at_most : (a b : ℤ) → b <ℤ a → int_le a b ≡ false
-not_at_most a b h = grind (arith, ints)
 
 pub at_most : (a b : ℤ) → int_le a b ≡ true → a ≤ℤ b
 at_most a b e = grind (arith, ints)

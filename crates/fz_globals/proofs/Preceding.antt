@@ -1,9 +1,8 @@
--- Which values come before which, and neighbours that pass a test.
-use Rattle.std.proofs.Common.{◌≡◌, ℕ, ◌+◌, ◌≤◌, ℤ, pos, ◌+ℤ◌, Bool, true, false, not, ◌&&◌, ◌||◌, List, [], ◌∷◌, drop, length, int_le, Some, slice_get, refl, sym, ap, ◌∙◌, arith}
+-- Which values come before which.
+use Rattle.std.proofs.Common.{◌≡◌, ℕ, ◌+◌, ◌≤◌, ℤ, pos, ◌+ℤ◌, Bool, true, false, not, ◌&&◌, ◌||◌, List, drop, length, int_le, Some, slice_get, refl, sym, ap, ◌∙◌}
 use Rattle.std.specs.Int.{int_max}
-use Rattle.std.proofs.lemmas.List.{length-drop}
 use Rattle.std.proofs.lemmas.Bool.Decides.{Decides-int_eq}
-use Rattle.fz_meaning.specs.Relations.{◌=ℤ◌, all_neighbours, precedes, rises_by_one}
+use Rattle.fz_meaning.specs.Relations.{◌=ℤ◌, precedes, rises_by_one}
 use Rattle.fz_globals.proofs.Tested.{other_int}
 use Rattle.fz_kernel.proofs.Left.{next, none_left}
 
@@ -26,29 +25,6 @@ module _ (s t : ℤ) (xs : List ℤ) (i : ℕ) (r : Bool) (so_far : r ≡ preced
 
   pub none_comes : length xs ≤ i → true ≡ r
   none_comes end = sym (so_far ∙ ap (precedes s t) (none_left xs i end))
-
--- ---- neighbours
-
-few : {A : Type 0} (p : A → A → Bool) (xs : List A) → length xs ≤ 1 → all_neighbours p xs ≡ true
-few p [] h = refl
-few p (x ∷ []) h = refl
-few p (x ∷ y ∷ xs) h = absurd (omega arith)
-
-module _ {A : Type 0} (p : A → A → Bool) (xs : List A) (i j : ℕ) (follows : j ≡ i + 1) (r : Bool) (so_far : r ≡ all_neighbours p (drop i xs)) where
-  module _ (x y : A) (at_x : slice_get xs i ≡ Some x) (at_y : slice_get xs j ≡ Some y) where
-    pair : r ≡ (p x y && all_neighbours p (drop j xs))
-    pair =
-        let rest : drop (i + 1) xs ≡ y ∷ drop (j + 1) xs = ap (λ n. drop n xs) (sym follows) ∙ next xs j y at_y in
-        so_far ∙ ap (all_neighbours p) (next xs i x at_x ∙ ap (λ l. x ∷ l) rest) ∙ ap (λ l. p x y && all_neighbours p l) (sym (next xs j y at_y))
-
-    pub neighbours_pass : (k : ℕ) → k ≡ j → p x y ≡ true → r ≡ all_neighbours p (drop k xs)
-    neighbours_pass k is passed = pair ∙ ap (λ b. b && all_neighbours p (drop j xs)) passed ∙ ap (λ n. all_neighbours p (drop n xs)) (sym is)
-
-    pub neighbours_fail : p x y ≡ false → false ≡ r
-    neighbours_fail failed = sym (pair ∙ ap (λ b. b && all_neighbours p (drop j xs)) failed)
-
-  pub no_neighbours : length xs ≤ j → true ≡ r
-  no_neighbours end = sym (so_far ∙ few p (drop i xs) (omega (arith, length-drop i xs)))
 
 -- ---- values that rise
 

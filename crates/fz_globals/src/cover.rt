@@ -7,6 +7,7 @@ ghost use Rattle.fz_meaning.specs.Relations.{◌=ℤ◌, is_among, all_both, cou
 ghost use Rattle.fz_kernel.specs.of_view.Views.{ints};
 
 use crate::ordered::{count_in_order, numbers_in_order, stands_in_order};
+use crate::testing::{all_pass, both_pass};
 use fz_kernel::fz_arguments::Elements;
 use std::alloc::{AllocError, Global};
 
@@ -51,55 +52,27 @@ fn come_as_often(sorted: &[i64], cover: &Elements, counts: &Elements) -> bool
     requires { IsSorted int_cmp sorted.now }
     ensures { result ≡ counts_are sorted.now (ints cover.now) (ints counts.now) }
 {
-    for place in 0..cover.len().min(counts.len()) {
-        if count_in_order(sorted, cover.int(place)) != i128::from(counts.int(place)) {
-            return false;
-        }
-    }
-    true
+    both_pass(cover, counts, |value, count| {
+        count_in_order(sorted, value) == i128::from(count)
+    })
 }
 
 fn come_within(sorted: &[i64], cover: &Elements, least: &Elements, most: &Elements) -> bool
     requires { IsSorted int_cmp sorted.now }
     ensures { result ≡ counts_lie sorted.now (ints cover.now) (ints least.now) (ints most.now) }
 {
-    come_at_least(sorted, cover, least) && come_at_most(sorted, cover, most)
-}
-
-fn come_at_least(sorted: &[i64], cover: &Elements, least: &Elements) -> bool
-    requires { IsSorted int_cmp sorted.now }
-    ensures { result ≡ all_both (λ v n. int_le n (count_of sorted.now v)) (ints cover.now)
-        (ints least.now) }
-{
-    for place in 0..cover.len().min(least.len()) {
-        if count_in_order(sorted, cover.int(place)) < i128::from(least.int(place)) {
-            return false;
-        }
-    }
-    true
-}
-
-fn come_at_most(sorted: &[i64], cover: &Elements, most: &Elements) -> bool
-    requires { IsSorted int_cmp sorted.now }
-    ensures { result ≡ all_both (λ v n. int_le (count_of sorted.now v) n) (ints cover.now)
-        (ints most.now) }
-{
-    for place in 0..cover.len().min(most.len()) {
-        if count_in_order(sorted, cover.int(place)) > i128::from(most.int(place)) {
-            return false;
-        }
-    }
-    true
+    let enough = both_pass(cover, least, |value, count| {
+        i128::from(count) <= count_in_order(sorted, value)
+    });
+    enough
+        && both_pass(cover, most, |value, count| {
+            count_in_order(sorted, value) <= i128::from(count)
+        })
 }
 
 fn all_stand_in(sorted: &[i64], elements: &Elements) -> bool
     requires { IsSorted int_cmp sorted.now }
     ensures { result ≡ list_all (λ x. is_among x sorted.now) (ints elements.now) }
 {
-    for place in 0..elements.len() {
-        if !stands_in_order(sorted, elements.int(place)) {
-            return false;
-        }
-    }
-    true
+    all_pass(elements, |element| stands_in_order(sorted, element))
 }

@@ -21,6 +21,7 @@ mod ordered;
 pub mod partition;
 pub mod precedence;
 pub mod tables;
+mod testing;
 pub mod tours;
 
 pub use fz_kernel;

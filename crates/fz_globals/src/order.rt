@@ -4,6 +4,7 @@ ghost use Rattle.fz_meaning.specs.Relations.{◌=ℤ◌, all_neighbours, is_same
 ghost use Rattle.fz_kernel.specs.of_view.Views.{ints, bools};
 
 use crate::ordered::numbers_in_order;
+use crate::testing::neighbours_pass;
 use fz_kernel::fz_arguments::Elements;
 use std::alloc::{AllocError, Global};
 
@@ -11,48 +12,28 @@ use std::alloc::{AllocError, Global};
 pub fn all_equal(elements: &Elements) -> bool
     ensures exact { result ≡ all_neighbours ◌=ℤ◌ (ints elements.now) }
 {
-    for place in 1..elements.len() {
-        if elements.int(place - 1) != elements.int(place) {
-            return false;
-        }
-    }
-    true
+    neighbours_pass(elements, |x, y| x == y)
 }
 
 /// Whether no number is less than the one before it.
 pub fn is_increasing(elements: &Elements) -> bool
     ensures exact { result ≡ all_neighbours int_le (ints elements.now) }
 {
-    for place in 1..elements.len() {
-        if elements.int(place - 1) > elements.int(place) {
-            return false;
-        }
-    }
-    true
+    neighbours_pass(elements, |x, y| x <= y)
 }
 
 /// Whether each number but the first is greater than the one before it.
 pub fn is_strictly_increasing(elements: &Elements) -> bool
     ensures exact { result ≡ all_neighbours int_lt (ints elements.now) }
 {
-    for place in 1..elements.len() {
-        if elements.int(place - 1) >= elements.int(place) {
-            return false;
-        }
-    }
-    true
+    neighbours_pass(elements, |x, y| x < y)
 }
 
 /// Whether no number is greater than the one before it.
 pub fn is_decreasing(elements: &Elements) -> bool
     ensures exact { result ≡ all_neighbours (λ x y. int_le y x) (ints elements.now) }
 {
-    for place in 1..elements.len() {
-        if elements.int(place - 1) < elements.int(place) {
-            return false;
-        }
-    }
-    true
+    neighbours_pass(elements, |x, y| x >= y)
 }
 
 /// Whether no false comes after a true.

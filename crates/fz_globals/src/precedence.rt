@@ -7,6 +7,7 @@ ghost use Rattle.fz_kernel.specs.of_view.Views.{ints};
 ghost use Rattle.fz_globals.specs.Keys.{AreKeys, comes_before};
 
 use crate::firsts::{first_place, keys_in_order};
+use crate::testing::neighbours_pass;
 use fz_kernel::fz_arguments::Elements;
 use std::alloc::{AllocError, Global};
 
@@ -66,12 +67,7 @@ pub fn rises_by_one(elements: &Elements) -> bool
 fn each_precedes_next(chain: &Elements, elements: &Elements) -> bool
     ensures { result ≡ all_neighbours (λ s t. precedes s t (ints elements.now)) (ints chain.now) }
 {
-    for place in 1..chain.len() {
-        if !precedes(chain.int(place - 1), chain.int(place), elements) {
-            return false;
-        }
-    }
-    true
+    neighbours_pass(chain, |first, second| precedes(first, second, elements))
 }
 
 // The same, with the keys of the elements in order.
@@ -80,13 +76,15 @@ fn first_places_rise(chain: &Elements, keys: &[i128]) -> bool
     ensures { (xs : List ℤ) → AreKeys xs keys.now
         → result ≡ all_neighbours (λ s t. precedes s t xs) (ints chain.now) }
 {
-    for place in 1..chain.len() {
-        let first = first_place(keys, chain.int(place - 1));
-        if !comes_before(first, first_place(keys, chain.int(place))) {
-            return false;
-        }
-    }
-    true
+    neighbours_pass(chain, |first, second| comes_first(keys, first, second))
+}
+
+// Whether the second number comes only after the first one.
+fn comes_first(keys: &[i128], first: i64, second: i64) -> bool
+    requires { IsSorted int_cmp keys.now }
+    ensures { (xs : List ℤ) → AreKeys xs keys.now → result ≡ precedes first second xs }
+{
+    comes_before(first_place(keys, first), first_place(keys, second))
 }
 
 // Whether the first index is less than the second, where there is a second.

@@ -12,6 +12,7 @@
 
 pub mod arrays;
 pub mod distinct;
+pub mod indices;
 pub mod numbers;
 pub mod sets;
 

@@ -2,6 +2,5 @@ pub mod Before
 pub mod Chosen
 pub mod Followed
 pub mod Laden
-pub mod Passing
 pub mod Windowed
 pub mod Zipped

@@ -7,18 +7,18 @@ ghost use Rattle.fz_scheduling.specs.Places.{number_at};
 
 use crate::reading::{common_places, number_at, number_count};
 use fz_kernel::fz_arguments::Elements;
+use fz_kernel::indices::all_between;
 
 /// Whether the load of each bin that something lies in is at most the capacity.
 pub fn loads_are_within(bins: &Elements, weights: &Elements, capacity: i64) -> bool
     ensures exact { result ≡ list_all
         (λ v. int_le (load_of (ints bins.now) (ints weights.now) v) capacity) (ints bins.now) }
 {
-    for place in 0..number_count(bins) {
-        if !is_within(bins, weights, capacity, place) {
-            return false;
-        }
-    }
-    true
+    all_between(
+        0,
+        number_count(bins),
+        |place| is_within(bins, weights, capacity, place),
+    )
 }
 
 // Whether the load of the bin at an index of the list is at most the capacity.
@@ -44,12 +44,11 @@ fn lie_from(first: i64, count: usize, numbers: &Elements) -> bool
     ensures { result ≡ list_all (lies_between first ((first +ℤ pos count) -ℤ pos 1))
         (ints numbers.now) }
 {
-    for place in 0..number_count(numbers) {
-        if !lies_from(first, count, numbers, place) {
-            return false;
-        }
-    }
-    true
+    all_between(
+        0,
+        number_count(numbers),
+        |place| lies_from(first, count, numbers, place),
+    )
 }
 
 #[inline(always)]

@@ -8,6 +8,7 @@ ghost use Rattle.fz_scheduling.specs.Places.{box_at, number_at, stand_apart};
 use crate::reading::{common_places, is_zero_at};
 use crate::spans::are_apart;
 use fz_kernel::fz_arguments::Elements;
+use fz_kernel::indices::all_pairs;
 
 /// Whether no two boxes overlap; even one with no area must not lie within another.
 pub fn overlap_nowhere(x: &Elements, y: &Elements, width: &Elements, height: &Elements) -> bool
@@ -43,35 +44,11 @@ fn all_stand_apart(
     ensures { result ≡ all_pairs (stand_apart spare)
         (boxes (ints x.now) (ints y.now) (ints width.now) (ints height.now)) }
 {
-    for one in 0..count(x, y, width, height) {
-        if !stands_apart_behind(spare, x, y, width, height, one) {
-            return false;
-        }
-    }
-    true
-}
-
-// Whether the box at an index has nothing in common with each later one.
-fn stands_apart_behind(
-    spare: bool,
-    x: &Elements,
-    y: &Elements,
-    width: &Elements,
-    height: &Elements,
-    one: usize,
-) -> bool
-    requires { one < length (boxes (ints x.now) (ints y.now) (ints width.now) (ints height.now)) }
-    ensures { result ≡ list_all (stand_apart spare (box_at (ints x.now) (ints y.now)
-        (ints width.now) (ints height.now) one))
-        (drop (one + 1) (boxes (ints x.now) (ints y.now) (ints width.now) (ints height.now))) }
-{
     let count = count(x, y, width, height);
-    for other in one + 1..count {
-        if !stand_apart(spare, x, y, width, height, one, other) {
-            return false;
-        }
-    }
-    true
+    all_pairs(
+        count,
+        |one, other| stand_apart(spare, x, y, width, height, one, other),
+    )
 }
 
 // Whether two boxes have nothing in common; where boxes with no area are exempt, it is enough that

@@ -8,6 +8,7 @@ ghost use Rattle.fz_kernel.specs.of_view.Views.{ints};
 use crate::reading::{is_natural_at, number_count};
 use fz_kernel::arrays::sum_of_products;
 use fz_kernel::fz_arguments::Elements;
+use fz_kernel::indices::all_between;
 
 /// Whether `xs` of the things have this weight and this profit; none where a partial sum of
 /// products leaves signed 128 bits.
@@ -34,10 +35,5 @@ pub fn is_knapsack(
 fn are_natural(xs: &Elements) -> bool
     ensures { result ≡ list_all is_natural (ints xs.now) }
 {
-    for place in 0..number_count(xs) {
-        if !is_natural_at(xs, place) {
-            return false;
-        }
-    }
-    true
+    all_between(0, number_count(xs), |place| is_natural_at(xs, place))
 }

@@ -7,6 +7,7 @@ ghost use Rattle.fz_scheduling.specs.Places.{keep_apart, span_at};
 
 use crate::reading::{common_places, is_natural_at, is_zero_at, number_at};
 use fz_kernel::fz_arguments::Elements;
+use fz_kernel::indices::{all_between, all_pairs};
 use fz_kernel::numbers::sum;
 
 /// Whether the span at an index covers the number.
@@ -46,41 +47,21 @@ fn keep_apart(spare: bool, starts: &Elements, lengths: &Elements, one: usize, ot
         || are_apart(starts, lengths, one, other)
 }
 
-// Whether the span at an index has nothing in common with each later one.
-fn keeps_apart_behind(spare: bool, starts: &Elements, lengths: &Elements, one: usize) -> bool
-    requires { one < length (zip (ints starts.now) (ints lengths.now)) }
-    ensures { result ≡ list_all (keep_apart spare (span_at (ints starts.now)
-        (ints lengths.now) one)) (drop (one + 1) (zip (ints starts.now) (ints lengths.now))) }
-{
-    let count = common_places(starts, lengths);
-    for other in one + 1..count {
-        if !keep_apart(spare, starts, lengths, one, other) {
-            return false;
-        }
-    }
-    true
-}
-
 /// Whether no two spans have anything in common; empty ones may be exempt.
 pub fn all_keep_apart(spare: bool, starts: &Elements, lengths: &Elements) -> bool
     ensures { result ≡ all_pairs (keep_apart spare) (zip (ints starts.now) (ints lengths.now)) }
 {
-    for one in 0..common_places(starts, lengths) {
-        if !keeps_apart_behind(spare, starts, lengths, one) {
-            return false;
-        }
-    }
-    true
+    let count = common_places(starts, lengths);
+    all_pairs(
+        count,
+        |one, other| keep_apart(spare, starts, lengths, one, other),
+    )
 }
 
 /// Whether no span has a negative length.
 pub fn last_naturally(starts: &Elements, lengths: &Elements) -> bool
     ensures { result ≡ last_naturally (zip (ints starts.now) (ints lengths.now)) }
 {
-    for place in 0..common_places(starts, lengths) {
-        if !is_natural_at(lengths, place) {
-            return false;
-        }
-    }
-    true
+    let count = common_places(starts, lengths);
+    all_between(0, count, |place| is_natural_at(lengths, place))
 }

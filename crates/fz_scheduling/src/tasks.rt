@@ -8,6 +8,7 @@ ghost use Rattle.fz_scheduling.specs.Places.{keeps_within, number_at, span_at};
 use crate::reading::{common_places, is_natural_at, is_zero_at, number_at, number_count};
 use crate::spans::{all_keep_apart, last_naturally, runs_at};
 use fz_kernel::fz_arguments::Elements;
+use fz_kernel::indices::all_between;
 
 /// Whether no two tasks that last run at one time, and no duration is negative.
 pub fn is_disjunctive(starts: &Elements, durations: &Elements) -> bool
@@ -47,12 +48,8 @@ fn are_natural(starts: &Elements, durations: &Elements, uses: &Elements) -> bool
     ensures { result ≡ list_all (λ k. is_natural k.0.1 && is_natural k.1)
         (zip (zip (ints starts.now) (ints durations.now)) (ints uses.now)) }
 {
-    for task in 0..count(starts, durations, uses) {
-        if !is_natural_task(durations, uses, task) {
-            return false;
-        }
-    }
-    true
+    let count = count(starts, durations, uses);
+    all_between(0, count, |task| is_natural_task(durations, uses, task))
 }
 
 #[inline(always)]
@@ -68,12 +65,12 @@ fn none_exceeds(starts: &Elements, durations: &Elements, uses: &Elements, most: 
     ensures { result ≡ list_all (keeps_within most (zip (zip (ints starts.now) (ints durations.now))
         (ints uses.now))) (zip (zip (ints starts.now) (ints durations.now)) (ints uses.now)) }
 {
-    for task in 0..count(starts, durations, uses) {
-        if !keeps_within(starts, durations, uses, most, task) {
-            return false;
-        }
-    }
-    true
+    let count = count(starts, durations, uses);
+    all_between(
+        0,
+        count,
+        |task| keeps_within(starts, durations, uses, most, task),
+    )
 }
 
 // Whether the use stays within `most` at the start of a task, or the task doesn't count.

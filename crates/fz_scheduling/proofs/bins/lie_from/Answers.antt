@@ -1,28 +1,14 @@
-use Rattle.std.proofs.Common.{◌<◌, pos, ◌+ℤ◌, ◌-ℤ◌, length, w64, to_z, of_z, sym, ap, ◌∙◌, arith, rules}
-use Rattle.std.specs.List.{list_all}
-use Rattle.std.proofs.lemmas.Int.{to_z-of_z}
+use Rattle.std.proofs.Common.{pos, ◌+ℤ◌, ◌-ℤ◌, ◌∙◌, arith, rules}
 use Rattle.fz_meaning.specs.Relations.{lies_between}
 use Rattle.fz_kernel.specs.of_view.Views.{ints}
+use Rattle.fz_kernel.proofs.Between.{all_of}
 use Rattle.fz_scheduling.specs.Places.{number_at}
-use Rattle.fz_scheduling.proofs.Passing.{one_fails, one_passes}
 use Rattle.fz_scheduling.proofs.Zipped.{next_number}
 use Rattle.fz_scheduling.proofs.bins.lie_from.Goals as goal
 
-pub returns-then-not-lies_from : goal.returns-then-not-lies_from
-returns-then-not-lies_from c =
+pub returns : goal.returns
+returns c =
     let xs = ints c.args.numbers.now in
-    let first = to_z w64 (of_z w64 c.args.first) in
-    let test = lies_between first ((first +ℤ pos c.args.count) -ℤ pos 1) in
-    let i = c.loop-place.place in
-    let inside : i < length xs = omega arith in
-    one_fails test xs i (number_at xs i) (list_all test xs) c.loop-place.invariant (next_number xs i inside) (sym c.lies_from.ensures ∙ search rules)
-    ∙ ap (λ o. list_all (lies_between o ((o +ℤ pos c.args.count) -ℤ pos 1)) xs) (to_z-of_z w64 c.args.first c.ranges.first)
-
-pub loop-place-preserved : goal.loop-place-preserved
-loop-place-preserved c =
-    let xs = ints c.args.numbers.now in
-    let first = to_z w64 (of_z w64 c.args.first) in
-    let test = lies_between first ((first +ℤ pos c.args.count) -ℤ pos 1) in
-    let i = c.loop-place.place in
-    let inside : i < length xs = omega arith in
-    one_passes test xs i (number_at xs i) (list_all test xs) c.loop-place.invariant (next_number xs i inside) (sym c.lies_from.ensures ∙ search rules)
+    let test = lies_between c.args.first ((c.args.first +ℤ pos c.args.count) -ℤ pos 1) in
+    c.all_between.ensures.exact (λ k. test (number_at xs k)) (λ k b from below r. search rules)
+    ∙ all_of xs (number_at xs) (next_number xs) test 0 _ (omega arith)

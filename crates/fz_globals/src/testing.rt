@@ -1,0 +1,51 @@
+//! Tests of the elements of arrays: each alone, each with the next one, or of two arrays side by
+//! side.
+ghost use Rattle.std.specs.Prelude.{◌≡◌, ℤ, Bool};
+ghost use Rattle.std.specs.List.{list_all};
+ghost use Rattle.fz_meaning.specs.Relations.{all_both, all_neighbours};
+ghost use Rattle.fz_kernel.specs.of_view.Views.{ints};
+ghost use Rattle.fz_globals.specs.Tests.{Is, IsOfTwo};
+
+use fz_kernel::fz_arguments::Elements;
+
+/// Whether each number passes.
+pub(crate) fn all_pass<F: Fn(i64) -> bool>(elements: &Elements, passes: F) -> bool
+    requires { F.IsAlwaysCallable passes }
+    ensures { (p : ℤ → Bool) → Is (F.post passes) p → result ≡ list_all p (ints elements.now) }
+{
+    for place in 0..elements.len() {
+        if !passes(elements.int(place)) {
+            return false;
+        }
+    }
+    true
+}
+
+/// Whether each number passes with the next one.
+pub(crate) fn neighbours_pass<F: Fn(i64, i64) -> bool>(elements: &Elements, pass: F) -> bool
+    requires { F.IsAlwaysCallable pass }
+    ensures { (p : ℤ → ℤ → Bool) → IsOfTwo (F.post pass) p
+        → result ≡ all_neighbours p (ints elements.now) }
+{
+    for place in 1..elements.len() {
+        if !pass(elements.int(place - 1), elements.int(place)) {
+            return false;
+        }
+    }
+    true
+}
+
+/// Whether each number of one array passes with that of the other at the same index, as far as both
+/// go.
+pub(crate) fn both_pass<F: Fn(i64, i64) -> bool>(a: &Elements, b: &Elements, pass: F) -> bool
+    requires { F.IsAlwaysCallable pass }
+    ensures { (p : ℤ → ℤ → Bool) → IsOfTwo (F.post pass) p
+        → result ≡ all_both p (ints a.now) (ints b.now) }
+{
+    for place in 0..a.len().min(b.len()) {
+        if !pass(a.int(place), b.int(place)) {
+            return false;
+        }
+    }
+    true
+}
