@@ -74,6 +74,7 @@ pub(crate) fn bool_element(view: &ArgumentView<'_, '_>) -> bool
 }
 
 /// Whether an element of the first is true, or one of the second false.
+#[inline(always)]
 pub(crate) fn bool_clause(view: &ArgumentView<'_, '_>) -> bool
     ensures { result ≡ (list_any (λ x. x) (truths view.now 0)
         || list_any (λ x. not x) (truths view.now 1)) }

@@ -12,6 +12,7 @@ use fz_globals::fz_kernel::fz_arguments::ArgumentView;
 use fz_scheduling::packed::is_knapsack;
 
 /// Whether the sum of products is the third argument.
+#[inline(always)]
 pub(crate) fn int_lin_eq(view: &ArgumentView<'_, '_>) -> Outcome
     ensures { result ≡ sum_outcome (leaves_128 (products (ints view.now 0) (ints view.now 1)))
         (total (products (ints view.now 0) (ints view.now 1)) =ℤ int view.now 2) }
@@ -23,6 +24,7 @@ pub(crate) fn int_lin_eq(view: &ArgumentView<'_, '_>) -> Outcome
 }
 
 /// Whether the sum of products is not the third argument.
+#[inline(always)]
 pub(crate) fn int_lin_ne(view: &ArgumentView<'_, '_>) -> Outcome
     ensures { result ≡ sum_outcome (leaves_128 (products (ints view.now 0) (ints view.now 1)))
         (not (total (products (ints view.now 0) (ints view.now 1)) =ℤ int view.now 2)) }
@@ -34,6 +36,7 @@ pub(crate) fn int_lin_ne(view: &ArgumentView<'_, '_>) -> Outcome
 }
 
 /// Whether the sum of products is at most the third argument.
+#[inline(always)]
 pub(crate) fn int_lin_le(view: &ArgumentView<'_, '_>) -> Outcome
     ensures { result ≡ sum_outcome (leaves_128 (products (ints view.now 0) (ints view.now 1)))
         (int_le (total (products (ints view.now 0) (ints view.now 1))) (int view.now 2)) }

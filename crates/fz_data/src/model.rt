@@ -1,6 +1,7 @@
 //! The loaded model.
 
 ghost use Rattle.std.specs.Prelude.{◌≡◌, ◌<◌, IfSome, Some, length, map, option_map, slice_get};
+ghost use Rattle.std.specs.List.{AllByRecursion};
 ghost use Rattle.fz_meaning.specs.Meaning.{constraint_points, find_name, points, row_of, variables_of};
 ghost use Rattle.fz_meaning.specs.States.{shown_point};
 ghost use Rattle.fz_meaning.specs.Known.{known_row};
@@ -60,6 +61,7 @@ impl<'a> Model<'a> {
         ensures all { map (posted_view result.variables.now result.arrays.now result.store.now)
             result.posted.now ≡ self.now.constraints }
         ensures rows { map kept_row result.posted.now ≡ map row_of self.now.constraints }
+        ensures kinds { AllByRecursion (PostedFits self.now) self.now.constraints }
     {
         Constraints {
             posted: &self.constraints,

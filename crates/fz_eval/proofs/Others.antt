@@ -10,7 +10,6 @@ use Rattle.fz_eval.specs.Holding.{is_held, point_holds}
 use Rattle.fz_eval.specs.Overviews.{others_from, holds_at}
 use Rattle.fz_eval.specs.Whole.{is_domain, lie_inside}
 use Rattle.fz_meaning.proofs.Lists.{there_is}
-use Rattle.fz_eval.proofs.Together.{declared_first}
 use Rattle.fz_eval.proofs.Valued.{HoldsIfDomain, domains_hold}
 
 -- ---- one point more
@@ -96,9 +95,10 @@ module _ (m : Model) (xs : List ℕ) (is : xs ≡ others_from 0 (flat_map declar
 
   -- where the values lie inside their domains, whether the points of the declarations hold is
   -- whether the others do
-  pub others_tell : (K : Partial) (before : ℕ) → before + length m.constraints ≡ length (points m)
-      → lie_inside (variables_of m) K ≡ true
-      → list_all (holds_at K (points m)) xs ≡ list_all (point_holds K) (take before (points m))
-  others_tell K before count within =
-      ap (list_all (holds_at K (points m))) is ∙ others_held K [] (flat_map declared_points (numbered m)) (constraint_points 1 m.constraints) 0 refl (domains_hold m K within)
-      ∙ ap (list_all (point_holds K)) (sym (declared_first m K before count))
+  pub others_tell : (K : Partial) → lie_inside (variables_of m) K ≡ true
+      → list_all (holds_at K (points m)) xs
+      ≡ list_all (point_holds K) (flat_map declared_points (numbered m))
+  others_tell K within =
+      ap (list_all (holds_at K (points m))) is
+      ∙ others_held K [] (flat_map declared_points (numbered m)) (constraint_points 1 m.constraints)
+      0 refl (domains_hold m K within)

@@ -27,10 +27,7 @@ use Rattle.fz_meaning.proofs.Scope.{same_kind_is}
 use Rattle.fz_meaning.proofs.Values.{no, and_first, and_second}
 use Rattle.fz_builtins.specs.of_data.declared.parts.Variable.{Variable}
 use Rattle.fz_builtins.specs.of_data.Kinds.{TermFits, PlaceFits, ArgumentFits, PostedFits}
-use Rattle.fz_builtins.specs.of_data.declared.point.PointParts.{PointParts}
-use Rattle.fz_builtins.specs.of_data.declared.point.PointParts.TheVariants as parts
-use Rattle.fz_builtins.specs.of_data.Parts.{constraint_view, variable_view}
-use Rattle.fz_builtins.specs.of_data.Shown.{IfConstraint}
+use Rattle.fz_builtins.specs.of_data.Parts.{variable_view}
 use Rattle.fz_builtins.specs.of_view.Given.{is_read, argument_is_read, are_read}
 use Rattle.fz_builtins.proofs.of_view.Ready.{slots_are_terms}
 use Rattle.fz_eval.specs.Holding.{is_held, point_holds}
@@ -122,15 +119,6 @@ module _ (m : Model) (K : Partial) (within : lie_inside (variables_of m) K ≡ t
 
   pub posted_ready : (p : Posted) → PostedFits m p → IsReady K p
   posted_ready p h r e = arguments_read r.shapes p.arguments (row_fits p r e) h
-
--- where the point is a constraint, it is ready
-pub point_ready : (m : Model) (K : Partial) → lie_inside (variables_of m) K ≡ true
-    → (p : PointParts) → IfConstraint p (λ c. PostedFits m (constraint_view c))
-    → IfConstraint p (λ c. IsReady K (constraint_view c))
-point_ready m K within (parts.Domain x n) h = tt
-point_ready m K within (parts.Definition x n e) h = tt
-point_ready m K within (parts.Elements x d ts) h = tt
-point_ready m K within (parts.Constraint c) h = posted_ready m K within (constraint_view c) h
 
 -- ---- the points of domains
 

@@ -2,8 +2,8 @@
 use Rattle.std.specs.Prelude.{Bool, true, false}
 use Rattle.fz_meaning.specs.declared.state.State.{State}
 use Rattle.fz_meaning.specs.declared.state.State.TheVariants.{Holds}
-use Rattle.fz_meaning.specs.Meaning.{Partial, Point}
-use Rattle.fz_meaning.specs.States.{state}
+use Rattle.fz_meaning.specs.Meaning.{Partial, Point, Posted, row_of}
+use Rattle.fz_meaning.specs.States.{state, state_of_row}
 
 abbrev pub is_held : State → Bool
 is_held Holds = true
@@ -11,3 +11,7 @@ is_held _ = false
 
 abbrev pub point_holds : Partial → Point → Bool
 point_holds K p = is_held (state K p)
+
+-- of a constraint (private functions only)
+abbrev pub posted_holds : Partial → Posted → Bool
+posted_holds K p = is_held (state_of_row K p.arguments (row_of p))

@@ -1,6 +1,6 @@
 //! Constraints.
 
-ghost use Rattle.std.specs.Prelude.{◌≡◌, IfOk, IsTrue, Some, true, length, map, option_map};
+ghost use Rattle.std.specs.Prelude.{◌≡◌, IfOk, Some, true, length, map, option_map};
 ghost use Rattle.std.specs.List.{list_any};
 ghost use Rattle.fz_meaning.specs.Meaning.{have_shapes, row_of};
 ghost use Rattle.fz_meaning.specs.States.{state_of_row};
@@ -11,7 +11,6 @@ ghost use Rattle.fz_builtins.specs.of_view.Given.{are_read, read_leave};
 ghost use Rattle.fz_builtins.specs.of_view.Views.{arguments_of, assigned};
 ghost use Rattle.fz_builtins.specs.Outcomes.{row_outcome};
 ghost use Rattle.fz_builtins.specs.Readings.{truth};
-ghost use Rattle.fz_eval.specs.Whole.{IsReady};
 
 use fz_builtins::fz_arguments::{ArgumentView, Readiness};
 use fz_builtins::fz_data::{ConstraintParts, Partial};
@@ -20,28 +19,21 @@ use fz_meaning::{Form, Known, State};
 use std::alloc::{AllocError, Global};
 
 /// The state of a constraint: unknown without a row, whatever its values are; then without a value;
-/// then too large; then by its row. Where the arguments are known to be ready, that isn't tested.
+/// then too large; then by its row.
 #[inline(always)]
 pub(crate) fn of_constraint(
     alloc: Global,
     parts: ConstraintParts<'_, '_>,
     partial: &Partial,
-    ready: bool,
 ) -> Result<State, AllocError>
     requires known { option_map known_row parts.posted.now.known ≡ row_of (constraint_view parts) }
-    requires ready { IsTrue ready → IsReady partial.now (constraint_view parts) }
     ensures { IfOk result (λ s. s ≡ state_of_row partial.now (constraint_view parts.entry).arguments
         (row_of (constraint_view parts.entry))) }
 {
     let Some(known) = parts.posted.known else {
         return Ok(State::Unknown);
     };
-    let view = ArgumentView::new(parts, partial);
-    if ready {
-        of_ready(alloc, known, &view)
-    } else {
-        of_view(alloc, known, &view)
-    }
+    of_view(alloc, known, &ArgumentView::new(parts, partial))
 }
 
 #[inline]
@@ -63,7 +55,11 @@ fn of_view(alloc: Global, known: Known, view: &ArgumentView<'_, '_>) -> Result<S
 
 /// The state of a constraint whose scalars have values of the kinds that its row asks for.
 #[inline(always)]
-fn of_ready(alloc: Global, known: Known, view: &ArgumentView<'_, '_>) -> Result<State, AllocError>
+pub(crate) fn of_ready(
+    alloc: Global,
+    known: Known,
+    view: &ArgumentView<'_, '_>,
+) -> Result<State, AllocError>
     requires fits { have_shapes (known_row known).shapes (arguments_of view.now) ≡ true }
     requires ready { are_read (assigned view.now) (known_row known).shapes (arguments_of view.now)
         ≡ true }

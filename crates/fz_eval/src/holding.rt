@@ -1,16 +1,20 @@
 //! Whether all points hold.
 
-ghost use Rattle.std.specs.Prelude.{◌≡◌, ◌≤◌, ◌<◌, ◌+◌, IfOk, IsTrue, Some, length, slice_get, take, true};
+ghost use Rattle.std.specs.Prelude.{◌≡◌, ◌<◌, IfOk, length, option_map, true};
 ghost use Rattle.std.specs.List.{AllByRecursion, list_all};
-ghost use Rattle.fz_meaning.specs.Meaning.{Point, points, variables_of};
-ghost use Rattle.fz_eval.specs.Holding.{is_held, point_holds};
+ghost use Rattle.fz_meaning.specs.Known.{known_row};
+ghost use Rattle.fz_meaning.specs.Meaning.{points, row_of, variables_of};
+ghost use Rattle.fz_builtins.specs.of_data.Parts.{constraint_view};
+ghost use Rattle.fz_eval.specs.Holding.{is_held, point_holds, posted_holds};
 ghost use Rattle.fz_eval.specs.Overviews.{IsOverview, holds_at};
-ghost use Rattle.fz_eval.specs.Whole.{lie_inside};
+ghost use Rattle.fz_eval.specs.Whole.{IsReady, lie_inside};
 
+use crate::constraints::of_ready;
 use crate::overview::Overview;
-use crate::points::{of_point, state};
+use crate::points::state;
 use crate::whole::lie_inside;
-use fz_builtins::fz_data::{Model, Partial};
+use fz_builtins::fz_arguments::ArgumentView;
+use fz_builtins::fz_data::{ConstraintParts, Model, Partial, item_at};
 use fz_meaning::State;
 use std::alloc::{AllocError, Global};
 
@@ -39,74 +43,61 @@ fn others_hold(
     Ok(true)
 }
 
-/// Whether the first so many points of the declarations hold. Where the values are known to lie
-/// inside their domains, that isn't tested again.
-fn declared_hold(
-    alloc: Global,
-    model: &Model<'_>,
-    overview: &Overview,
-    count: usize,
-    partial: &Partial,
-    inside: bool,
-) -> Result<bool, AllocError>
-    requires overview { IsOverview model.now overview.now }
-    requires counted { count + length model.now.constraints ≡ length (points model.now) }
-    requires inside { IsTrue inside → lie_inside (variables_of model.now) partial.now ≡ true }
-    ensures { IfOk result (λ b. b ≡ list_all (point_holds partial.now)
-        (take count (points model.now))) }
+/// Whether each point holds.
+fn each_holds(alloc: Global, model: &Model<'_>, partial: &Partial) -> Result<bool, AllocError>
+    ensures { IfOk result (λ b. b ≡ list_all (point_holds partial.now) (points model.now)) }
 {
-    if inside {
-        others_hold(alloc, model, &overview.others, partial)
-    } else {
-        rest_holds(alloc, model, 0, count, partial, false)
-    }
-}
-
-/// Whether the point of a number holds. Where the assignment is known to be whole, it isn't tested
-/// whether a constraint's arguments are ready.
-#[inline(always)]
-fn number_holds(
-    alloc: Global,
-    model: &Model<'_>,
-    number: usize,
-    partial: &Partial,
-    whole: bool,
-) -> Result<bool, AllocError>
-    requires in_range { number < length (points model.now) }
-    requires whole { IsTrue whole → lie_inside (variables_of model.now) partial.now ≡ true }
-    ensures { IfOk result (λ b. (p : Point) → slice_get (points model.now) number ≡ Some p
-        → b ≡ point_holds partial.now p) }
-{
-    let found = of_point(alloc, model.point_parts(number), partial, whole)?;
-    Ok(is_held(found))
-}
-
-/// Whether the points before an end hold, where those before a number do.
-fn rest_holds(
-    alloc: Global,
-    model: &Model<'_>,
-    from: usize,
-    end: usize,
-    partial: &Partial,
-    whole: bool,
-) -> Result<bool, AllocError>
-    requires in_range { end ≤ length (points model.now) }
-    requires whole { IsTrue whole → lie_inside (variables_of model.now) partial.now ≡ true }
-    requires before { list_all (point_holds partial.now) (take from (take end (points model.now)))
-        ≡ true }
-    ensures { IfOk result (λ b. b ≡ list_all (point_holds partial.now)
-        (take end (points model.now))) }
-{
-    for number in from..end {
-        if !number_holds(alloc, model, number, partial, whole)? {
+    for number in 0..model.points() {
+        let found = state(alloc, model, number, partial)?;
+        if !is_held(found) {
             return Ok(false);
         }
     }
     Ok(true)
 }
 
-/// Whether all points hold under a partial assignment. It takes memory where `state` does, and
-/// refuses only where there is none.
+/// Whether a constraint holds whose scalars have values of the kinds that its row asks for.
+#[inline(always)]
+fn constraint_holds(
+    alloc: Global,
+    parts: ConstraintParts<'_, '_>,
+    partial: &Partial,
+) -> Result<bool, AllocError>
+    requires known { option_map known_row parts.posted.now.known ≡ row_of (constraint_view parts) }
+    requires ready { IsReady partial.now (constraint_view parts) }
+    ensures { IfOk result (λ b. b ≡ posted_holds partial.now (constraint_view parts.entry)) }
+{
+    let Some(known) = parts.posted.known else {
+        return Ok(false);
+    };
+    let found = of_ready(alloc, known, &ArgumentView::new(parts, partial))?;
+    Ok(is_held(found))
+}
+
+/// Whether the constraints hold, where the values lie inside their domains, so that all are ready.
+fn constraints_hold(alloc: Global, model: &Model<'_>, partial: &Partial) -> Result<bool, AllocError>
+    requires inside { lie_inside (variables_of model.now) partial.now ≡ true }
+    ensures { IfOk result (λ b. b ≡ list_all (posted_holds partial.now) model.now.constraints) }
+{
+    let all = model.constraints();
+    for place in 0..all.posted.len() {
+        let parts = ConstraintParts {
+            number: place + 1,
+            posted: item_at(all.posted, place),
+            variables: all.variables,
+            arrays: all.arrays,
+            store: all.store,
+        };
+        if !constraint_holds(alloc, parts, partial)? {
+            return Ok(false);
+        }
+    }
+    Ok(true)
+}
+
+/// Whether all points hold under a partial assignment. Where the values are known to lie inside
+/// their domains, that isn't tested again, nor whether constraints are ready. It takes memory where
+/// `state` does, and refuses only where there is none.
 pub fn all_hold(
     alloc: Global,
     model: &Model<'_>,
@@ -116,11 +107,11 @@ pub fn all_hold(
     requires overview { IsOverview model.now overview.now }
     ensures exact { IfOk result (λ b. b ≡ list_all (point_holds partial.now) (points model.now)) }
 {
-    let count = model.points();
-    let declared = count - model.constraints().posted.len();
-    let inside = lie_inside(model.variables(), partial.values());
-    if !declared_hold(alloc, model, overview, declared, partial, inside)? {
+    if !lie_inside(model.variables(), partial.values()) {
+        return each_holds(alloc, model, partial);
+    }
+    if !others_hold(alloc, model, &overview.others, partial)? {
         return Ok(false);
     }
-    Ok(rest_holds(alloc, model, declared, count, partial, inside)?)
+    constraints_hold(alloc, model, partial)
 }

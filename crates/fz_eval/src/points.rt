@@ -1,12 +1,11 @@
 //! The state of a point.
 
-ghost use Rattle.std.specs.Prelude.{◌≡◌, ◌<◌, IfOk, IsTrue, Some, length, option_map, slice_get};
+ghost use Rattle.std.specs.Prelude.{◌≡◌, ◌<◌, IfOk, Some, length, option_map, slice_get};
 ghost use Rattle.fz_meaning.specs.Known.{known_row};
 ghost use Rattle.fz_meaning.specs.Meaning.{Point, points, row_of};
 ghost use Rattle.fz_meaning.specs.States.{state};
 ghost use Rattle.fz_builtins.specs.of_data.Parts.{constraint_view};
 ghost use Rattle.fz_builtins.specs.of_data.Shown.{IfConstraint, point_view};
-ghost use Rattle.fz_eval.specs.Whole.{IsReady};
 
 use crate::constraints::of_constraint;
 use crate::domains::{of_definition, of_domain, of_elements};
@@ -14,19 +13,15 @@ use fz_builtins::fz_data::{Model, Partial, PointParts};
 use fz_meaning::State;
 use std::alloc::{AllocError, Global};
 
-/// The state of a point with its parts. Where a constraint's arguments are known to be ready, that
-/// isn't tested.
+/// The state of a point with its parts.
 #[inline(always)]
-pub(crate) fn of_point(
+fn of_point(
     alloc: Global,
     point: PointParts<'_, '_>,
     partial: &Partial,
-    ready: bool,
 ) -> Result<State, AllocError>
     requires known { IfConstraint point
         (λ c. option_map known_row c.posted.now.known ≡ row_of (constraint_view c)) }
-    requires ready { IsTrue ready → IfConstraint point
-        (λ c. IsReady partial.now (constraint_view c)) }
     ensures exact { IfOk result (λ s. s ≡ state partial.now (point_view point.entry)) }
 {
     match point {
@@ -35,7 +30,7 @@ pub(crate) fn of_point(
             Ok(of_definition(partial.get(place), partial.value(term)))
         }
         PointParts::Elements(_, domain, elements) => Ok(of_elements(partial, domain, elements)),
-        PointParts::Constraint(parts) => of_constraint(alloc, parts, partial, ready),
+        PointParts::Constraint(parts) => of_constraint(alloc, parts, partial),
     }
 }
 
@@ -53,5 +48,5 @@ pub fn state(
     ensures exact { IfOk result (λ s. (p : Point) → slice_get (points model.now) number ≡ Some p
         → s ≡ state partial.now p) }
 {
-    of_point(alloc, model.point_parts(number), partial, false)
+    of_point(alloc, model.point_parts(number), partial)
 }

@@ -19,6 +19,7 @@ pub fn all_true(elements: &Elements) -> bool
 }
 
 /// Whether at least one is true.
+#[inline(always)]
 pub fn any_true(elements: &Elements) -> bool
     ensures exact { result ≡ list_any (λ x. x) (bools elements.now) }
 {
@@ -31,6 +32,7 @@ pub fn any_true(elements: &Elements) -> bool
 }
 
 /// Whether at least one is false.
+#[inline(always)]
 pub fn any_false(elements: &Elements) -> bool
     ensures exact { result ≡ list_any (λ x. not x) (bools elements.now) }
 {

@@ -3,38 +3,20 @@ use Rattle.std.specs.Prelude.{IfOk}
 use Rattle.fz_meaning.specs.Meaning.{have_shapes, row_of}
 use Rattle.fz_meaning.specs.Known.{known_row}
 use Rattle.fz_builtins.specs.of_data.Parts.{constraint_view}
-use Rattle.fz_builtins.specs.of_view.Given.{are_read}
 use Rattle.fz_builtins.specs.of_view.Views.{arguments_of, assigned}
 use Rattle.fz_eval.proofs.States.{row_fits, same_state}
 use Rattle.fz_eval.proofs.constraints.of_constraint.Goals as goal
-
-pub of_ready-requires : goal.of_ready-requires
-of_ready-requires c =
-    let p = constraint_view c.args.parts in
-    let r = known_row c.in-Some.known in
-    let e : row_of p ≡ Some r = sym c.requires.known ∙ ap (option_map known_row) c.in-Some.is in
-    record {
-      fits = ap (have_shapes r.shapes) c.new-view.ensures.arguments ∙ row_fits p r e;
-      ready = (λ i. are_read (c.new-view.ensures.assigned i) r.shapes (c.new-view.ensures.arguments i)) ∙ c.requires.ready c.if-ready.true r e;
-    }
 
 pub of_view-requires : goal.of_view-requires
 of_view-requires c =
     let p = constraint_view c.args.parts in
     let r = known_row c.in-Some.known in
     let e : row_of p ≡ Some r = sym c.requires.known ∙ ap (option_map known_row) c.in-Some.is in
-    record { fits = ap (have_shapes r.shapes) c.new-view.ensures.arguments ∙ row_fits p r e }
+    record { fits = ap (have_shapes r.shapes) c.new.ensures.arguments ∙ row_fits p r e }
 
-pub returns-then-ready : goal.returns-then-ready
-returns-then-ready c =
+pub returns : goal.returns
+returns c =
     let p = constraint_view c.args.parts in
     let r = known_row c.in-Some.known in
     let e : row_of p ≡ Some r = sym c.requires.known ∙ ap (option_map known_row) c.in-Some.is in
-    subst (λ t. IfOk c.of_ready.result (λ s. s ≡ t)) (same_state (assigned c.new-view.result) c.args.partial.now (arguments_of c.new-view.result) p.arguments r (row_of p) c.new-view.ensures.assigned c.new-view.ensures.arguments e) c.of_ready.ensures
-
-pub returns-else-ready : goal.returns-else-ready
-returns-else-ready c =
-    let p = constraint_view c.args.parts in
-    let r = known_row c.in-Some.known in
-    let e : row_of p ≡ Some r = sym c.requires.known ∙ ap (option_map known_row) c.in-Some.is in
-    subst (λ t. IfOk c.of_view.result (λ s. s ≡ t)) (same_state (assigned c.new-view.result) c.args.partial.now (arguments_of c.new-view.result) p.arguments r (row_of p) c.new-view.ensures.assigned c.new-view.ensures.arguments e) c.of_view.ensures
+    subst (λ t. IfOk c.of_view.result (λ s. s ≡ t)) (same_state (assigned c.new.result) c.args.partial.now (arguments_of c.new.result) p.arguments r (row_of p) c.new.ensures.assigned c.new.ensures.arguments e) c.of_view.ensures

@@ -1,5 +1,7 @@
-use Rattle.std.proofs.Common.{map, ap, ◌∙◌}
+use Rattle.std.proofs.Common.{map, ap, subst, ◌∙◌}
+use Rattle.std.specs.List.{AllByRecursion}
 use Rattle.fz_meaning.specs.Meaning as meaning
+use Rattle.fz_data.specs.Kinds.{PostedFits}
 use Rattle.fz_data.specs.Parts.{kept_row, posted_view}
 use Rattle.fz_data.proofs.model.Model.constraints.Goals as goal
 
@@ -9,4 +11,6 @@ returns c = record {
       ∙ ap (λ (m : meaning.Model). m.constraints) c.self.view_is;
   rows = (λ i. map kept_row (c.deref.ensures.value i)) ∙ c.self.invariant.rows
       ∙ ap (λ (m : meaning.Model). map meaning.row_of m.constraints) c.self.view_is;
+  kinds = subst (λ (m : meaning.Model). AllByRecursion (PostedFits m) m.constraints)
+      c.self.view_is c.self.invariant.posted_kinds;
 }
