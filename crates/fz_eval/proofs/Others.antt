@@ -6,10 +6,11 @@ use Rattle.std.proofs.lemmas.List.{append-nil}
 use Rattle.fz_meaning.specs.declared.state.State.{State}
 use Rattle.fz_meaning.specs.Meaning.{Model, Partial, Point, constraint_points, declared_points, numbered, points, variables_of}
 use Rattle.fz_meaning.specs.States.{state}
-use Rattle.fz_eval.specs.Holding.{is_held, point_holds}
+use Rattle.fz_eval.specs.Holding.{is_held, point_holds, posted_holds}
 use Rattle.fz_eval.specs.Overviews.{others_from, holds_at}
 use Rattle.fz_eval.specs.Whole.{is_domain, lie_inside}
 use Rattle.fz_meaning.proofs.Lists.{there_is}
+use Rattle.fz_eval.proofs.Together.{hold_together}
 use Rattle.fz_eval.proofs.Valued.{HoldsIfDomain, domains_hold}
 
 -- ---- one point more
@@ -93,12 +94,18 @@ module _ (m : Model) (xs : List ℕ) (is : xs ≡ others_from 0 (flat_map declar
       subst (AllByRecursion (λ n. n < length (points m))) (sym is)
       (others_within 0 (flat_map declared_points (numbered m)) (length (points m)) (omega (arith, length-append (flat_map declared_points (numbered m)) (constraint_points 1 m.constraints))))
 
-  -- where the values lie inside their domains, whether the points of the declarations hold is
-  -- whether the others do
-  pub others_tell : (K : Partial) → lie_inside (variables_of m) K ≡ true
-      → list_all (holds_at K (points m)) xs
-      ≡ list_all (point_holds K) (flat_map declared_points (numbered m))
-  others_tell K within =
-      ap (list_all (holds_at K (points m))) is
-      ∙ others_held K [] (flat_map declared_points (numbered m)) (constraint_points 1 m.constraints)
-      0 refl (domains_hold m K within)
+  -- where the values lie inside their domains, all points hold where the others of the
+  -- declarations and the constraints do
+  module _ (K : Partial) (within : lie_inside (variables_of m) K ≡ true) (b : Bool)
+      (tells : b ≡ list_all (holds_at K (points m)) xs) where
+    others_tell : b ≡ list_all (point_holds K) (flat_map declared_points (numbered m))
+    others_tell =
+        tells ∙ ap (list_all (holds_at K (points m))) is
+        ∙ others_held K [] (flat_map declared_points (numbered m)) (constraint_points 1 m.constraints)
+        0 refl (domains_hold m K within)
+
+    pub apart : (c : Bool) → b ≡ c → (c && list_all (posted_holds K) m.constraints)
+        ≡ list_all (point_holds K) (points m)
+    apart c e =
+        ap (λ d. d && list_all (posted_holds K) m.constraints) (sym e ∙ others_tell)
+        ∙ sym (hold_together K m)

@@ -1,9 +1,6 @@
-use Rattle.std.proofs.Common.{◌≡◌, ◌&&◌, sym, ap, subst, ◌∙◌}
+use Rattle.std.proofs.Common.{◌≡◌, false, true, subst, ◌∙◌}
 use Rattle.std.specs.Prelude.{IfOk}
-use Rattle.std.specs.List.{list_all}
-use Rattle.fz_eval.specs.Holding.{posted_holds}
-use Rattle.fz_eval.proofs.Others.{all_in_range, others_tell}
-use Rattle.fz_eval.proofs.Together.{hold_together}
+use Rattle.fz_eval.proofs.Others.{all_in_range, apart}
 use Rattle.fz_eval.proofs.Valued.{seen_inside}
 use Rattle.fz_eval.proofs.holding.all_hold.Goals as goal
 
@@ -12,13 +9,8 @@ others_hold-requires c = record { in_range = all_in_range c.args.model.now c.der
 
 pub returns-then-not-branch : goal.returns-then-not-branch
 returns-then-not-branch c =
-    let m = c.args.model.now in
-    let K = c.args.partial.now in
-    let inside = seen_inside m K _ _ _ c.variables.ensures.all c.values.ensures.all c.lie_inside.ensures c.if-not-lie_inside.false in
-    let others = others_tell m c.deref.result.now (c.deref.ensures.value ∙ c.requires.overview) K inside in
-    record {
-      exact = sym (hold_together K m ∙ ap (λ b. b && list_all (posted_holds K) m.constraints) (sym others ∙ sym c.in_ok-others_hold.ensures ∙ c.if-not-branch.true));
-    }
+    let inside = seen_inside c.args.model.now c.args.partial.now _ _ _ c.variables.ensures.all c.values.ensures.all c.lie_inside.ensures c.if-not-lie_inside.false in
+    record { exact = apart c.args.model.now c.deref.result.now (c.deref.ensures.value ∙ c.requires.overview) c.args.partial.now inside _ c.in_ok-others_hold.ensures false c.if-not-branch.true }
 
 pub constraints_hold-requires : goal.constraints_hold-requires
 constraints_hold-requires c = record {
@@ -27,12 +19,8 @@ constraints_hold-requires c = record {
 
 pub returns : goal.returns
 returns c =
-    let m = c.args.model.now in
-    let K = c.args.partial.now in
-    let inside = seen_inside m K _ _ _ c.variables.ensures.all c.values.ensures.all c.lie_inside.ensures c.if-not-lie_inside.false in
-    let others = others_tell m c.deref.result.now (c.deref.ensures.value ∙ c.requires.overview) K inside in
+    let inside = seen_inside c.args.model.now c.args.partial.now _ _ _ c.variables.ensures.all c.values.ensures.all c.lie_inside.ensures c.if-not-lie_inside.false in
     record {
       exact = subst (λ t. IfOk c.constraints_hold.result (λ b. b ≡ t))
-          (sym (hold_together K m ∙ ap (λ b. b && list_all (posted_holds K) m.constraints) (sym others ∙ sym c.in_ok-others_hold.ensures ∙ c.if-not-branch.false)))
-          c.constraints_hold.ensures;
+          (apart c.args.model.now c.deref.result.now (c.deref.ensures.value ∙ c.requires.overview) c.args.partial.now inside _ c.in_ok-others_hold.ensures true c.if-not-branch.false) c.constraints_hold.ensures;
     }

@@ -22,24 +22,18 @@ constraint_holds-requires c =
 
 pub returns-then-not-branch : goal.returns-then-not-branch
 returns-then-not-branch c =
-    let m = c.args.model.now in
-    let all = c.constraints-all.result in
-    let k = c.loop-place.place in
-    all_stops (posted_holds c.args.partial.now) m.constraints k _ (stands m all k c.item_at.result.now c.item_at.ensures c.constraints-all.ensures.all)
+    all_stops (posted_holds c.args.partial.now) c.args.model.now.constraints c.loop-place.place _
+    (stands c.args.model.now c.constraints-all.result _ _ c.item_at.ensures c.constraints-all.ensures.all)
     (sym c.in_ok-constraint_holds.ensures ∙ c.if-not-branch.true)
 
 pub loop-place-preserved : goal.loop-place-preserved
 loop-place-preserved c =
-    let m = c.args.model.now in
-    let all = c.constraints-all.result in
-    let k = c.loop-place.place in
-    all_next (posted_holds c.args.partial.now) m.constraints k _ (stands m all k c.item_at.result.now c.item_at.ensures c.constraints-all.ensures.all)
+    all_next (posted_holds c.args.partial.now) c.args.model.now.constraints c.loop-place.place _
+    (stands c.args.model.now c.constraints-all.result _ _ c.item_at.ensures c.constraints-all.ensures.all)
     c.loop-place.invariant (sym c.in_ok-constraint_holds.ensures ∙ c.if-not-branch.false)
 
 pub returns : goal.returns
 returns c =
-    let m = c.args.model.now in
-    let all = c.constraints-all.result in
-    all_seen (posted_holds c.args.partial.now) m.constraints c.loop-place.place
-    (omega (arith, same_length kept_row row_of all.posted.now m.constraints c.constraints-all.ensures.rows, c.loop-place-test.false))
-    c.loop-place.invariant
+    let rows = same_length kept_row row_of c.constraints-all.result.posted.now c.args.model.now.constraints c.constraints-all.ensures.rows in
+    all_seen (posted_holds c.args.partial.now) c.args.model.now.constraints c.loop-place.place
+    (omega (arith, rows, c.loop-place-test.false)) c.loop-place.invariant
