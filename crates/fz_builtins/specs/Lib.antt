@@ -1,4 +1,5 @@
 pub mod Readings
 pub mod Outcomes
+pub mod Said
 pub use Rattle.fz_globals.specs.of_view
 pub use Rattle.fz_globals.specs.of_data

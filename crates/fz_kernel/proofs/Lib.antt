@@ -1,4 +1,3 @@
-pub mod SetRelations
 pub mod Different
 pub mod Left
 pub mod Added
