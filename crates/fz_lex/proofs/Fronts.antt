@@ -1,13 +1,12 @@
 -- What `front_of` gives, by the first byte.
-use Rattle.std.proofs.Common.{◌≡◌, ◌≢◌, ◌∷◌, [], ℕ, ◌+◌, ◌<◌, ◌≤◌, List, take, drop, get_or, true, false, ◌⊎◌, ⊎_elim, refl, ap, ◌∙◌, inl, inr, arith}
+use Rattle.std.proofs.Common.{◌≡◌, ℕ, ◌+◌, ◌<◌, ◌≤◌, List, take, drop, get_or, true, false, ◌⊎◌, ⊎_elim, refl, ap, ◌∙◌, inl, inr, arith}
 use Rattle.std.proofs.lemmas.Bool.Decides.{nat_tests}
 use Rattle.std.proofs.lemmas.Bool.{or_cases, eqb-true}
 use Rattle.std.specs.Char.{is_digit}
 use Rattle.std.specs.List.{prefix_len}
-use Rattle.fz_lex.specs.Token.{is_blank, is_word_start, is_word_byte, Word, Marked, mark_text}
+use Rattle.fz_lex.specs.Token.{is_blank, is_word_start, is_word_byte, Word, Marked}
 use Rattle.fz_lex.specs.Scan.{front_of, mark_front, number_front, number_token, found, none}
-use Rattle.fz_lex.specs.declared.token.Mark.{Mark}
-use Rattle.fz_lex.specs.declared.token.Mark.TheVariants.{OpenParen, CloseParen, OpenBracket, CloseBracket, OpenBrace, CloseBrace, Comma, Semicolon, Colon, ColonColon, Equals, DotDot}
+use Rattle.fz_lex.specs.declared.token.Mark.TheVariants.{Comma}
 
 pub decimal_digit : (b : ℕ) → 48 ≤ b → b < 58 → is_digit b 10 ≡ true
 decimal_digit b l h = grind (arith, nat_tests)
@@ -50,22 +49,11 @@ blank_none bytes h = byte_none bytes (get_or bytes 0 0) refl (blank_cases (get_o
 pub comment_none : (bytes : List ℕ) → get_or bytes 0 0 ≡ 37 → front_of bytes ≡ none
 comment_none bytes h = byte_none bytes 37 h (inr (inr (inr (inr refl))))
 
--- a mark that one byte decides
-pub lone_front : (bytes : List ℕ) (m : Mark) (b : ℕ) → mark_text m ≡ b ∷ [] → b ≢ 58
-    → get_or bytes 0 0 ≡ b → front_of bytes ≡ found (Marked m) 1
+-- a comma
+pub comma_front : (bytes : List ℕ) → get_or bytes 0 0 ≡ 44
+    → front_of bytes ≡ found (Marked Comma) 1
 unfolding front_of mark_front
-lone_front bytes OpenParen b t c e = let first : get_or bytes 0 0 ≡ 40 = cc in rw first refl
-lone_front bytes CloseParen b t c e = let first : get_or bytes 0 0 ≡ 41 = cc in rw first refl
-lone_front bytes OpenBracket b t c e = let first : get_or bytes 0 0 ≡ 91 = cc in rw first refl
-lone_front bytes CloseBracket b t c e = let first : get_or bytes 0 0 ≡ 93 = cc in rw first refl
-lone_front bytes OpenBrace b t c e = let first : get_or bytes 0 0 ≡ 123 = cc in rw first refl
-lone_front bytes CloseBrace b t c e = let first : get_or bytes 0 0 ≡ 125 = cc in rw first refl
-lone_front bytes Comma b t c e = let first : get_or bytes 0 0 ≡ 44 = cc in rw first refl
-lone_front bytes Semicolon b t c e = let first : get_or bytes 0 0 ≡ 59 = cc in rw first refl
-lone_front bytes Colon b t c e = absurd (let colon : b ≡ 58 = cc in c colon)
-lone_front bytes ColonColon b t c e = absurd cc
-lone_front bytes Equals b t c e = let first : get_or bytes 0 0 ≡ 61 = cc in rw first refl
-lone_front bytes DotDot b t c e = absurd cc
+comma_front bytes e = rw e refl
 
 -- a word
 pub word_front : (bytes : List ℕ) (n : ℕ) → is_word_start (get_or bytes 0 0) ≡ true

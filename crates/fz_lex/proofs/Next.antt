@@ -14,7 +14,7 @@ use Rattle.fz_lex.specs.declared.scanner.Front.TheVariants.{Found, OutsideLimit,
 use Rattle.fz_lex.specs.declared.error.SyntaxError.{SyntaxError}
 use Rattle.fz_lex.specs.declared.error.SyntaxError.TheVariants.{TooLong, BadByte, TooLarge, Float, Syntax, TooDeep, TooMany, Memory}
 use Rattle.fz_lex.proofs.Laws.{found_is_longest, longest_is_positive, none_begins}
-use Rattle.fz_lex.proofs.Fronts.{lone_front}
+use Rattle.fz_lex.proofs.Fronts.{comma_front}
 use Rattle.fz_lex.proofs.Cuts.{gap_then_token, cut_then, cut_forward, at_place}
 
 module _ (source : List ℕ) (place start : ℕ) (in_range : start ≤ length source) (gap : CutBetween source place start []) where
@@ -77,8 +77,7 @@ module _ (source : List ℕ) (place start : ℕ) (in_range : start ≤ length so
 pub comma_cut : (source : List ℕ) (place : ℕ) → place < length source → get_or source place 0 ≡ 44
     → CutBetween source place (place + 1) (comma_at place ∷ [])
 comma_cut source place h b =
-    let byte = at_place source place ∙ b in
-    let mark = lone_front (drop place source) Comma 44 refl (λ e. absurd (omega arith)) byte in
+    let mark = comma_front (drop place source) (at_place source place ∙ b) in
     let front : IsFrontOf (drop place source) (Found (kinds.Mark Comma) 1) = (mark, tt) in
     found_cut source place place (omega arith) (nothing place) (kinds.Mark Comma) 1 (comma_at place) front refl refl refl
 

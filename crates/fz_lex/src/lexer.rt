@@ -10,7 +10,7 @@ ghost use Rattle.fz_lex.specs.Ahead.{comma_at, tokens_ahead, stop_ahead};
 
 use crate::error::SyntaxError;
 use crate::scanner::{
-    Front, comment_len, is_blank, is_word_start, lone_mark, read_other_front, short_whole,
+    Front, comment_len, is_blank, is_word_start, mark_front, read_other_front, short_whole,
 };
 use crate::token::{Token, TokenKind};
 use crate::word::word_len;
@@ -96,7 +96,7 @@ impl<'a> Lexer<'a> {
     }
 
     /// Writes the next token, or none at the end of the text or at a fault, where the lexer stays.
-    /// Most tokens are words, marks of one byte and short numbers, so each of these has an arm of
+    /// Most tokens are words, marks and short numbers, so each of these has an arm of
     /// its own, in which little is left to be written.
     #[inline(always)]
     pub(crate) fn read(&mut self, next: &mut Option<Token<'a>>) -> Result<(), SyntaxError>
@@ -117,8 +117,8 @@ impl<'a> Lexer<'a> {
             *next = Some(self.take(start, TokenKind::Word, word_len(bytes)));
             return Ok(());
         }
-        if let Some(mark) = lone_mark(bytes[0]) {
-            *next = Some(self.take(start, TokenKind::Mark(mark), 1));
+        if let Some((mark, len)) = mark_front(bytes) {
+            *next = Some(self.take(start, TokenKind::Mark(mark), len));
             return Ok(());
         }
         if let Some(whole) = short_whole(bytes) {

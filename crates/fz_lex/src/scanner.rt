@@ -1,10 +1,10 @@
 //! Reads the token at the front of some bytes, where one begins there.
 
-ghost use Rattle.std.specs.Prelude.{◌≡◌, ◌≢◌, ◌-◌, ◌^◌, ◌<◌, ◌≤◌, ◌∷◌, [], false, length, min, slice_index, IsFalse, IfSome, Some, true, IfNone, option_map};
+ghost use Rattle.std.specs.Prelude.{◌≡◌, ◌≢◌, ◌-◌, ◌^◌, ◌<◌, ◌≤◌, false, length, min, slice_index, IsFalse, IfSome, None, Some, true, IfNone, option_map};
 ghost use Rattle.std.specs.List.{position_or_len};
 ghost use Rattle.std.specs.Char.{digit_value, is_digit};
 ghost use Rattle.fz_lex.specs.Token as bytes_spec;
-ghost use Rattle.fz_lex.specs.Token.{is_word_start, Whole, mark_text};
+ghost use Rattle.fz_lex.specs.Token.{is_word_start, Whole, Marked};
 ghost use Rattle.fz_lex.specs.Lexing.{IsWithinLimit};
 ghost use Rattle.fz_lex.specs.Scan as scan;
 ghost use Rattle.fz_lex.specs.Found.{IsFrontOf, IsNumberFound};
@@ -285,9 +285,11 @@ fn string_rest_len(bytes: &[u8]) -> Option<usize>
 }
 
 /// The mark at the front and its length.
-#[tactic(auto, unfolding(crate::specs::Scan::mark_front))]
-fn mark_front(bytes: &[u8]) -> Option<(Mark, usize)>
-    ensures { result ≡ scan.mark_front bytes.now }
+#[tactic(auto, unfolding(crate::specs::Scan::mark_front, crate::specs::Scan::front_of))]
+#[inline(always)]
+pub(crate) fn mark_front(bytes: &[u8]) -> Option<(Mark, usize)>
+    ensures mark { result ≡ scan.mark_front bytes.now }
+    ensures front { IfSome result (λ m. scan.front_of bytes.now ≡ scan.found (Marked m.0) m.1) }
 {
     match byte_at(bytes, 0) {
         b'(' => Some((Mark::OpenParen, 1)),
@@ -343,25 +345,6 @@ fn number_found(negative: bool, len: usize, magnitude: Option<u64>) -> Front
     }
 }
 
-/// The mark that this byte is, whatever bytes follow it.
-#[inline(always)]
-pub(crate) fn lone_mark(byte: u8) -> Option<Mark>
-    ensures { IfSome result (λ m. (mark_text m ≡ byte ∷ []) × (byte ≢ 58)) }
-{
-    match byte {
-        b'(' => Some(Mark::OpenParen),
-        b')' => Some(Mark::CloseParen),
-        b'[' => Some(Mark::OpenBracket),
-        b']' => Some(Mark::CloseBracket),
-        b'{' => Some(Mark::OpenBrace),
-        b'}' => Some(Mark::CloseBrace),
-        b',' => Some(Mark::Comma),
-        b';' => Some(Mark::Semicolon),
-        b'=' => Some(Mark::Equals),
-        _ => None,
-    }
-}
-
 /// An integer within the limit and the length of its text.
 #[derive(Drop)]
 pub(crate) struct WholeFront {
@@ -394,10 +377,11 @@ pub(crate) fn short_whole(bytes: &[u8]) -> Option<WholeFront>
     }
 }
 
-/// What is at the front, where that is no word.
+/// What is at the front, where that is no word and no mark.
 #[tactic(auto, unfolding(crate::specs::Scan::front_of))]
 pub(crate) fn read_other_front(bytes: &[u8]) -> Front
-    requires { is_word_start (slice_index bytes.now 0) ≡ false }
+    requires no_word { is_word_start (slice_index bytes.now 0) ≡ false }
+    requires no_mark { scan.mark_front bytes.now ≡ None }
     ensures { IsFrontOf bytes.now result }
 {
     match byte_at(bytes, 0) {
@@ -413,9 +397,6 @@ pub(crate) fn read_other_front(bytes: &[u8]) -> Front
             Some(len) => Front::Found(TokenKind::Str, 1 + len),
             None => Front::Nothing,
         },
-        _ => match mark_front(bytes) {
-            Some((mark, len)) => Front::Found(TokenKind::Mark(mark), len),
-            None => Front::Nothing,
-        },
+        _ => Front::Nothing,
     }
 }

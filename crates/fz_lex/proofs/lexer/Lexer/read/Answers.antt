@@ -1,6 +1,6 @@
-use Rattle.std.proofs.Common.{rules, ◌<◌, drop, length, refl, sym, arith, ◌∙◌}
+use Rattle.std.proofs.Common.{rules, ◌<◌, drop, length, sym, arith, ◌∙◌}
 use Rattle.std.proofs.lemmas.List.{take_rest}
-use Rattle.fz_lex.proofs.Fronts.{word_front, lone_front}
+use Rattle.fz_lex.proofs.Fronts.{word_front}
 use Rattle.fz_lex.proofs.Next.{outside_within, outside_fault, nothing_fault}
 use Rattle.fz_lex.proofs.lexer.Lexer.read.Goals as goal
 
@@ -13,9 +13,8 @@ take-requires-clause-front c =
 
 pub take-requires-in-Some-clause-front : goal.take-requires-in-Some-clause-front
 take-requires-in-Some-clause-front c =
-    let bytes = drop c.gap_end-start.result c.args.self.now.source.now in
-    let mark = rw take_rest at c.in-Some.ensures in
-    (lone_front bytes c.in-Some.mark _ mark.0 mark.1 refl, tt)
+    let front = rw c.in-Some.is at c.mark_front.ensures.front in
+    (rw take_rest at front, tt)
 
 pub overflow_add-result : goal.overflow_add-result
 overflow_add-result c =
