@@ -5,9 +5,10 @@ use Rattle.std.specs.Prelude.{◌≤◌, ◌<◌, ◌⊎◌, Option, Some, None,
 use Rattle.std.specs.List.{flat_map}
 use Rattle.std.proofs.lemmas.List.{append-nil}
 use Rattle.fz_lex.specs.Ahead.{tokens_ahead}
-use Rattle.fz_lex.specs.Left.{source_of}
+use Rattle.fz_lex.specs.Left.{left, source_of}
 use Rattle.fz_lex.specs.Lexing.{SpannedToken, LexesToSpanned, most_bytes, AreWithinLimit, LexesWithinLimits}
 use Rattle.fz_lex.specs.View.{IsLexicalFault, IsPlacedWithin, spanned}
+use Rattle.fz_lex.specs.declared.ahead.Tokens.{Tokens}
 use Rattle.fz_lex.specs.declared.token.Token.{Token}
 use Rattle.fz_lex.specs.Token.{TokenValue}
 use Rattle.fz_lex.specs.declared.error.SyntaxError.{SyntaxError}
@@ -29,7 +30,7 @@ use Rattle.fz_syntax.specs.Walk.{ahead, lexemes, Walk}
 use Rattle.fz_syntax.specs.Offering.{bare_all, placed_all, IsTextOfAll, IsRefused, IsRefusedBy, by_lexer, by_grammar, Part, kind_before, from_solve, from_predicates, all_items, IsLeft, IsWithin, Kind, Leaves, Took, TookAll, TookOne, changed}
 use Rattle.fz_syntax.proofs.Lists.{Shrinks, put_first, many_step, many_ends, many_fails}
 use Rattle.fz_syntax.proofs.Separated.{fails_bind, fails_like}
-use Rattle.fz_syntax.proofs.Walks.{walk_none, walk_then}
+use Rattle.fz_syntax.proofs.Walks.{walk_none, walk_still, walk_then}
 use Rattle.fz_syntax.proofs.Whole.{refused_so, refused_more, grammar_refuses, lexer_refuses}
 use Rattle.fz_syntax.proofs.Parsed.{tree_found, tree_read}
 use Rattle.fz_syntax.proofs.Fits.{placed_in, stands_of}
@@ -80,6 +81,26 @@ step_within before after bare all old new s h = record {
   ends = s.end ∙ h.ends ∙ ap length (sym s.same);
   no_tree = λ f fails t text. h.no_tree f (ap whole s.read ∙ whole_changed bare (after.read (lexemes new.parser)) f fails) t (subst (λ (source : List ℕ). IsTextOfTree source t) s.same text);
 }
+
+changed_same : {A : Type 0} (read : Read A) → changed (λ (a : A). a) read ≡ read
+changed_same (Ok r) = refl
+changed_same (Err e) = refl
+
+-- What is left stays, whatever else of the parser changes.
+pub still : {R B : Type 0} (part : Part R B) (old new : Rest) → new.source.now ≡ old.source.now
+    → new.parser.tokens ≡ old.parser.tokens → new.parser.reached ≡ old.parser.reached
+    → new.parser.end ≡ old.parser.end → Leaves part part (λ r. r) old new
+still {R} {B} part old new same tokens upto end =
+    step_leaves part part (λ (b : B). b) (λ (r : R). r) old new
+    (record {
+      same = same;
+      end = end;
+      taken = [];
+      walked = walk_still old.parser new.parser (ap left tokens) upto (ap source_of tokens);
+      read = ap (λ (ts : Tokens). part.read (map (λ t. t.token) (left ts))) (sym tokens) ∙ sym (changed_same (part.read (lexemes new.parser)));
+      bares = λ r. refl;
+      places = λ r. refl;
+    })
 
 -- ---- a refusal
 
@@ -237,6 +258,11 @@ module _ {X A R B : Type 0} (kind : Kind X A) (behind : Part R B) where
 pub took_none : {X A R B : Type 0} {part : Part (List X × R) (List A × B)} {i : Rest}
     → Took part [] i i
 took_none = record { same = refl; all_left = λ r left. left }
+
+-- nothing more is taken
+pub took_still : {X A R B : Type 0} {part : Part (List X × R) (List A × B)} {a b c : Rest}
+    (xs : List X) → Took part xs a b → Took part [] b c → Took part xs a c
+took_still xs h k = record { same = k.same ∙ h.same; all_left = λ r left. h.all_left _ (k.all_left r left) }
 
 pub took_more : {X A R B : Type 0} {part : Part (List X × R) (List A × B)} {a b c : Rest}
     (xs : List X) (x : X) → Took part xs a b → Took part (x ∷ []) b c → Took part (xs ++ x ∷ []) a c

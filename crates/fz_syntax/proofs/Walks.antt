@@ -10,7 +10,7 @@ use Rattle.std.proofs.lemmas.Grind.{flat_map-append}
 use Rattle.fz_lex.specs.of_base.declared.span.Span.{Span}
 use Rattle.fz_lex.specs.Token.{TokenValue, Word, Marked}
 use Rattle.fz_lex.specs.Lexing.{SpannedToken}
-use Rattle.fz_lex.specs.Left.{listed_comma, source_of}
+use Rattle.fz_lex.specs.Left.{left, listed_comma, source_of}
 use Rattle.fz_lex.specs.declared.ahead.Listed.{Listed}
 use Rattle.fz_lex.specs.View.{token_value, spanned}
 use Rattle.fz_lex.specs.declared.token.Mark.{Mark}
@@ -127,6 +127,11 @@ pub walk_then : {p q r : Parser} {s t : List PlacedToken} → Walk p q s → Wal
     → Walk p r (s ++ t)
 walk_then {p} {q} {r} {s} {t} w v = record { taken = w.taken ++ v.taken; on = consumed_then w.on v.on; agree = agree_then s t w.taken v.taken w.agree v.agree }
 
+-- the parser had the same left to read
+pub walk_as : {p q r : Parser} {s : List PlacedToken} → q.tokens ≡ p.tokens
+    → q.reached ≡ p.reached → Walk q r s → Walk p r s
+walk_as {p} {q} same upto w = walk_then (walk_still p q (ap left same) upto (ap source_of same)) w
+
 pub walk_end : {p q r : Parser} {s : List PlacedToken} → Walk p q s → Walk q r [] → Walk p r s
 walk_end {p} {q} {r} {s} w v = subst (λ (t : List PlacedToken). Walk p r t) (append-nil s) (walk_then w v)
 
@@ -176,7 +181,13 @@ pub word_walk : {p q : Parser} (text : List ℕ) → Passed p q
     → word_at text (lexemes p) ≡ Ok (tt, lexemes q) → Walk p q (placed_word text)
 word_walk {p} {q} text w e = plain_walk (word text) w (word_takes text (lexemes p) (tt, lexemes q) e).parts
 
--- one that was looked for and found
+-- a word that was looked for and found is taken
+pub word_begun : (text : List ℕ) (ts rest : List TokenValue) → next_word text ts ≡ true
+    → rest ≡ drop 1 ts → word_at text ts ≡ Ok (tt, rest)
+unfolding word_at
+word_begun text ts rest begun behind = rw (begun, behind) refl
+
+-- a mark that was looked for and found
 pub ate : {p q : Parser} (m : Mark) (b : Bool) → b ≡ true → b ≡ next_is m (lexemes p)
     → lexemes q ≡ (if next_is m (lexemes p) then drop 1 (lexemes p) else lexemes p) → Passed p q
     → Walk p q (placed_mark m)

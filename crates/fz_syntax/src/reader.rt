@@ -5,13 +5,13 @@
 ghost use Rattle.std.specs.Prelude.{◌≡◌, ◌<◌, [], length, IfErr, IfOk, Err};
 ghost use Rattle.fz_lex.specs.Lexing.{most_bytes};
 ghost use Rattle.fz_lex.specs.declared.error.SyntaxError.TheVariants.{TooLong};
-ghost use Rattle.fz_syntax.specs.Offering.{IsLeft, IsRefused, IsRefusedBy, IsTextOfAll, IsWithin, Offers, TookAll, TookOne, all_items, from_constraints, from_decls, from_predicates, from_solve};
+ghost use Rattle.fz_syntax.specs.Offering.{IsLeft, IsRefused, IsRefusedBy, IsTextOfAll, IsWithin, Offers, Took, TookAll, TookOne, all_items, from_constraints, from_decls, from_predicates, from_solve, left_of};
 
 use crate::parser::cursor::Parser;
 use crate::parser::lists::trimmed;
 use crate::parser::refusal::Refusal;
 use fz_lex::{MOST_BYTES, SyntaxError, check_tokens};
-use fz_tree::{Constraint, Decl, Expr, Predicate, Solve};
+use fz_tree::{Constraint, Decl, Predicate, Solve};
 use std::alloc::Global;
 
 /// What is left of a text. No item is stored.
@@ -78,8 +78,6 @@ pub struct DeclItems<'a> {
 #[derive(Drop)]
 pub struct ConstraintItems<'a> {
     pub(crate) rest: Rest<'a>,
-    /// A buffer for the arguments of a constraint, used again for each constraint.
-    spare: Vec<Expr<'a>>,
     ghost within: { IsWithin from_constraints rest },
 }
 
@@ -164,13 +162,22 @@ impl<'a> DeclItems<'a> {
     {
         let DeclItems { mut rest } = self;
         if !rest.parser.begins_decl() {
-            let spare = Vec::new(rest.parser.alloc);
-            return Ok(Offer::End(ConstraintItems { rest, spare }));
+            return Ok(Offer::End(ConstraintItems { rest }));
         }
         match rest.parser.decl() {
             Ok(item) => Ok(Offer::Item(item, DeclItems { rest })),
             Err(refusal) => Err(rest.refused(refusal)),
         }
+    }
+
+    /// Takes the lists of a declaration that is done with, for the items to come.
+    pub fn give_back(&mut self, item: Decl<'a>)
+        ensures same { Took from_decls [] self.old.rest self.new.rest }
+        ensures left { left_of self.new.rest ≡ left_of self.old.rest }
+    {
+        let rest = &mut self.rest;
+        let parser = &mut rest.parser;
+        parser.spare.give_back_decl(item);
     }
 
     /// All declarations, and the constraints.
@@ -205,17 +212,24 @@ impl<'a> ConstraintItems<'a> {
             (λ c more. TookOne from_constraints c self.entry.rest more.rest)
             (λ solve. IsLeft from_constraints self.entry.rest ([], solve)) result }
     {
-        let ConstraintItems {
-            mut rest,
-            mut spare,
-        } = self;
+        let ConstraintItems { mut rest } = self;
         if !rest.parser.next_word(b"constraint") {
             return Ok(Offer::End(rest.solve()?));
         }
-        match rest.parser.constraint(&mut spare) {
-            Ok(item) => Ok(Offer::Item(item, ConstraintItems { rest, spare })),
+        match rest.parser.constraint() {
+            Ok(item) => Ok(Offer::Item(item, ConstraintItems { rest })),
             Err(refusal) => Err(rest.refused(refusal)),
         }
+    }
+
+    /// Takes the lists of a constraint that is done with, for the items to come.
+    pub fn give_back(&mut self, item: Constraint<'a>)
+        ensures same { Took from_constraints [] self.old.rest self.new.rest }
+        ensures left { left_of self.new.rest ≡ left_of self.old.rest }
+    {
+        let rest = &mut self.rest;
+        let parser = &mut rest.parser;
+        parser.spare.give_back_constraint(item);
     }
 
     /// All constraints, and the solve item.

@@ -68,13 +68,13 @@ impl<'a> Parser<'a> {
             (placed_separated placed_arg v.items)) }
         ensures some { IfOk result (λ v. 0 < length v.items) }
     {
-        let mut arguments = Vec::new(self.alloc);
+        let mut arguments = self.spare.note_args.list(self.alloc);
         arguments.push(self.note_arg(depth)?)?;
         'more_args: while self.eat(Mark::Comma) {
             let arg = self.note_arg(depth)?;
             arguments.push(arg)?;
         }
-        Ok(trimmed(self.alloc, arguments))
+        Ok(self.spare.note_args.filled(self.alloc, arguments))
     }
 
     #[cycle(notes)]
@@ -191,11 +191,11 @@ impl<'a> Parser<'a> {
         ensures end { self.new.end ≡ self.old.end }
         ensures walked { IfOk result (λ v. Walk self.old self.new (placed_notes v.items)) }
     {
-        let mut notes = Vec::new(self.alloc);
+        let mut notes = self.spare.notes.list(self.alloc);
         while self.eat(Mark::ColonColon) {
             let note = self.note(MAX_DEPTH)?;
             notes.push(note)?;
         }
-        Ok(trimmed(self.alloc, notes))
+        Ok(self.spare.notes.filled(self.alloc, notes))
     }
 }

@@ -12,6 +12,7 @@ ghost use Rattle.fz_syntax.specs.Reading.{next_is, next_word, next_passes, is_fl
 use crate::parser::kinds::{
     begins_decl, begins_index, begins_literal, is_float, is_name, is_quoted,
 };
+use crate::parser::lists::SpareLists;
 use crate::parser::refusal::Refusal;
 use fz_lex::fz_base::Span;
 use fz_lex::{Mark, SyntaxError, TokenKind, Tokens};
@@ -33,6 +34,7 @@ pub(crate) struct Parser<'a> {
     pub(crate) reached: usize,
     /// The length of the source.
     pub(crate) end: usize,
+    pub(crate) spare: SpareLists<'a>,
     ghost within: { All (λ t. (t.start ≤ t.end) × (t.end ≤ end)) (left tokens) },
 }
 
@@ -54,6 +56,7 @@ impl<'a> Parser<'a> {
             tokens: Tokens::new(source),
             reached: 0,
             end: source.len(),
+            spare: SpareLists::new(alloc),
         }
     }
 

@@ -250,13 +250,13 @@ impl<'a> Parser<'a> {
         ensures walked { IfOk result (λ v. Walk self.old self.new
             (placed_separated placed_basic v.items)) }
     {
-        let mut basics = Vec::new(self.alloc);
+        let mut basics = self.spare.basics.list(self.alloc);
         basics.push(self.listed_basic(0)?)?;
         while self.eat(Mark::Comma) {
             let basic = self.listed_basic(basics.len())?;
             basics.push(basic)?;
         }
-        Ok(trimmed(self.alloc, basics))
+        Ok(self.spare.basics.filled(self.alloc, basics))
     }
 
     /// A list's elements, after the bracket that opens it.
@@ -327,13 +327,13 @@ impl<'a> Parser<'a> {
         ensures walked { IfOk result (λ v. Walk self.old self.new
             (placed_separated placed_basic v.items)) }
     {
-        let mut literals = Vec::new(self.alloc);
+        let mut literals = self.spare.basics.list(self.alloc);
         literals.push(self.listed_literal(0)?)?;
         while self.eat(Mark::Comma) {
             let literal = self.listed_literal(literals.len())?;
             literals.push(literal)?;
         }
-        Ok(trimmed(self.alloc, literals))
+        Ok(self.spare.basics.filled(self.alloc, literals))
     }
 
     /// A list's literals, after the bracket that opens it.

@@ -1,9 +1,9 @@
 //! Reads the items of a model.
 
-ghost use Rattle.std.specs.Prelude.{◌≡◌, ◌≤◌, ◌++◌, length, map, IfOk};
+ghost use Rattle.std.specs.Prelude.{◌≡◌, ◌≤◌, ◌++◌, codes, length, map, true, IfOk};
 ghost use Rattle.fz_tree.specs.View.{bare_expr, bare_param, bare_predicate, bare_constraint, bare_goal, bare_solve, bare_value, bare_decl};
 ghost use Rattle.fz_syntax.specs.Outcome.{Gives};
-ghost use Rattle.fz_syntax.specs.Reading.{mark_at, separated_at, expr_at, any_number, param_at, predicate_at, list_at, constraint_at, goal_at, solve_at, decl_at, value_at, given_value_at, may_lack_value};
+ghost use Rattle.fz_syntax.specs.Reading.{mark_at, separated_at, expr_at, any_number, param_at, predicate_at, list_at, next_word, constraint_at, goal_at, solve_at, decl_at, value_at, given_value_at, may_lack_value};
 ghost use Rattle.fz_lex.specs.declared.token.Mark.TheVariants.{CloseParen};
 ghost use Rattle.fz_tree.specs.Text.{the_limits};
 ghost use Rattle.fz_syntax.specs.Placed.{placed_mark, placed_separated, placed_expr, placed_param, placed_predicate, placed_constraint, placed_goal, placed_solve, placed_value, placed_decl};
@@ -11,7 +11,7 @@ ghost use Rattle.fz_syntax.specs.Walk.{Walk, lexemes};
 
 use crate::parser::cursor::Parser;
 use crate::parser::kinds::may_lack_value;
-use crate::parser::lists::{moved_out, trimmed};
+use crate::parser::lists::trimmed;
 use crate::parser::refusal::Refusal;
 use fz_lex::Mark;
 use fz_tree::{Constraint, Decl, Expr, Goal, Param, Predicate, Solve};
@@ -90,11 +90,7 @@ impl<'a> Parser<'a> {
         Ok(Predicate { name, params })
     }
 
-    /// The arguments are gathered in a buffer that is used again for the next constraint.
-    pub(crate) fn separated_args(
-        &mut self,
-        spare: &mut Vec<Expr<'a>>,
-    ) -> Result<Vec<Expr<'a>>, Refusal>
+    pub(crate) fn separated_args(&mut self) -> Result<Vec<Expr<'a>>, Refusal>
         ensures read { Gives (λ v. map bare_expr v.items) result
             (separated_at (any_number (expr_at the_limits)) (lexemes self.old)) (lexemes self.new) }
         ensures shorter { length (lexemes self.new) ≤ length (lexemes self.old) }
@@ -102,20 +98,17 @@ impl<'a> Parser<'a> {
         ensures walked { IfOk result (λ v. Walk self.old self.new
             (placed_separated placed_expr v.items)) }
     {
-        spare.clear();
-        spare.push(self.expr()?)?;
+        let mut arguments = self.spare.exprs.list(self.alloc);
+        arguments.push(self.expr()?)?;
         while self.eat(Mark::Comma) {
             let expr = self.expr()?;
-            spare.push(expr)?;
+            arguments.push(expr)?;
         }
-        Ok(moved_out(self.alloc, spare)?)
+        Ok(self.spare.exprs.filled(self.alloc, arguments))
     }
 
     #[tactic(auto, unfolding(crate::specs::Reading::list_at, crate::specs::Reading::mark_at), using(crate::proofs::Walks::passed_then, crate::proofs::Walks::passed_none, crate::proofs::Walks::passed, crate::proofs::Walks::walk_none, crate::proofs::Errors::fails_unexpected, crate::proofs::Separated::fails_bind))]
-    pub(crate) fn constraint_args(
-        &mut self,
-        spare: &mut Vec<Expr<'a>>,
-    ) -> Result<Vec<Expr<'a>>, Refusal>
+    pub(crate) fn constraint_args(&mut self) -> Result<Vec<Expr<'a>>, Refusal>
         ensures read { Gives (λ v. map bare_expr v.items) result
             (list_at CloseParen (any_number (expr_at the_limits)) (lexemes self.old))
             (lexemes self.new) }
@@ -127,26 +120,25 @@ impl<'a> Parser<'a> {
         if self.eat(Mark::CloseParen) {
             return Ok(Vec::new(self.alloc));
         }
-        let args = self.separated_args(spare)?;
+        let args = self.separated_args()?;
         self.expect(Mark::CloseParen)?;
         Ok(args)
     }
 
-    #[tactic(auto, unfolding(crate::specs::Reading::constraint_at), using(crate::proofs::Walks::passed_then, crate::proofs::Walks::passed_none, crate::proofs::Walks::passed, crate::proofs::Walks::walk_none, crate::proofs::Errors::fails_unexpected, crate::proofs::Separated::fails_bind))]
-    pub(crate) fn constraint(
-        &mut self,
-        spare: &mut Vec<Expr<'a>>,
-    ) -> Result<Constraint<'a>, Refusal>
+    #[tactic(auto, unfolding(crate::specs::Reading::constraint_at, crate::specs::Reading::word_at), using(crate::proofs::Walks::passed_then, crate::proofs::Walks::passed_none, crate::proofs::Walks::passed, crate::proofs::Walks::walk_none, crate::proofs::Errors::fails_unexpected, crate::proofs::Separated::fails_bind))]
+    /// A constraint, whose first word has been looked at.
+    pub(crate) fn constraint(&mut self) -> Result<Constraint<'a>, Refusal>
+        requires begun { next_word (codes "constraint") (lexemes self.old) ≡ true }
         ensures read { Gives (bare_constraint) result (constraint_at the_limits (lexemes self.old))
             (lexemes self.new) }
         ensures shorter { length (lexemes self.new) ≤ length (lexemes self.old) }
         ensures end { self.new.end ≡ self.old.end }
         ensures walked { IfOk result (λ c. Walk self.old self.new (placed_constraint c)) }
     {
-        self.expect_word(b"constraint")?;
+        self.skip();
         let name = self.name()?;
         self.expect(Mark::OpenParen)?;
-        let args = self.constraint_args(spare)?;
+        let args = self.constraint_args()?;
         let notes = self.notes()?;
         self.expect(Mark::Semicolon)?;
         Ok(Constraint { name, args, notes })

@@ -23,3 +23,6 @@ returns-clause-stands c = (text_given c).stands
 
 pub returns-clause-found : goal.returns-clause-found
 returns-clause-found c = (text_given c).text
+
+pub returns-clause-in_place : goal.returns-clause-in_place
+returns-clause-in_place c = (text_given c).placed

@@ -24,5 +24,5 @@ returns-in-Ok c =
     let reads : Reads predicate_kind c.args.self.rest now c.in-Ok.item = record { same = refl; end = c.in-Ok.ensures.end; begun = sym c.next_word.ensures ∙ c.if-not-next_word.false; found = c.in-Ok.ensures.read; walked = c.in-Ok.ensures.walked } in
     record { offers = item_took predicate_kind from_decls (predicates_shrink the_limits) c.in-Ok.item c.args.self.rest now reads }
 
-pub returns-in-Err : goal.returns-in-Err
-returns-in-Err c = record { offers = item_refused predicate_kind from_decls c.args.self.rest c.in-Err.refusal c.refused.result _ (sym c.next_word.ensures ∙ c.if-not-next_word.false) c.in-Err.ensures.read c.args.self.within (c.refused.ensures (c.in-Err.ensures.end ∙ c.args.self.within.ends)) }
+pub returns : goal.returns
+returns c = record { offers = item_refused predicate_kind from_decls c.args.self.rest c.in-Err.refusal c.refused.result _ (sym c.next_word.ensures ∙ c.if-not-next_word.false) c.in-Err.ensures.read c.args.self.within (c.refused.ensures (c.in-Err.ensures.end ∙ c.args.self.within.ends)) }

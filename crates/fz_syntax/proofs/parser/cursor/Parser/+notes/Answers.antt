@@ -2,7 +2,7 @@ use Rattle.std.proofs.Common.{sym, subst, ◌∙◌, ap, map, refl, arith}
 use Rattle.std.proofs.lemmas.Result.{err_from_is_err_and}
 use Rattle.fz_lex.specs.declared.token.Mark.TheVariants.{OpenParen, CloseParen, OpenBracket, CloseBracket, Comma}
 use Rattle.fz_syntax.specs.Placed.{placed_arg, placed_note_basic}
-use Rattle.fz_syntax.proofs.Walks.{separated_first, separated_more, some_pushed, walk_then, walk_from, walk_kept, walk_empty, no_args_walk, ate, mark_walk, args_walk, note_list_walk}
+use Rattle.fz_syntax.proofs.Walks.{separated_first, separated_more, some_pushed, walk_then, walk_from, walk_as, walk_end, walk_kept, walk_still, walk_empty, no_args_walk, ate, mark_walk, args_walk, note_list_walk}
 use Rattle.fz_syntax.proofs.Folds.{note_unfolds, list_unfolds}
 use Rattle.fz_syntax.specs.Walk.{Walk}
 use Rattle.fz_tree.specs.View.{bare_arg, bare_basic}
@@ -20,10 +20,10 @@ separated_note_args-returns-in_err-note_arg-clause-read t c =
 
 pub separated_note_args-more_args-init : goal.separated_note_args-more_args-init
 separated_note_args-more_args-init t c = record {
-  continues = separated_init (any_number (note_arg_at the_limits c.args.depth (note_at the_limits c.args.depth))) _ _ _ _ _ (ap (map bare_arg) c.new-arguments.ensures.items) (grown bare_arg _ _ _ c.in_ok-push.ensures.items) c.in_ok-note_arg.ensures.read;
+  continues = separated_init (any_number (note_arg_at the_limits c.args.depth (note_at the_limits c.args.depth))) _ _ _ _ _ (ap (map bare_arg) c.list-arguments.ensures) (grown bare_arg _ _ _ c.in_ok-push.ensures.items) c.in_ok-note_arg.ensures.read;
   shorter = omega arith;
   same_end = omega arith;
-  walked = separated_first placed_arg _ _ _ c.new-arguments.ensures.items c.in_ok-push.ensures.items c.in_ok-note_arg.ensures.walked;
+  walked = separated_first placed_arg _ _ _ c.list-arguments.ensures c.in_ok-push.ensures.items (walk_as refl refl c.in_ok-note_arg.ensures.walked);
   some = some_pushed _ _ _ c.in_ok-push.ensures.items;
 }
 
@@ -42,7 +42,7 @@ separated_note_args-more_args-preserved t c = record {
 }
 
 pub separated_note_args-returns-clause-read : goal.separated_note_args-returns-clause-read
-separated_note_args-returns-clause-read t c = rw c.trimmed.ensures (is_whole_list Comma (any_number (note_arg_at the_limits c.args.depth (note_at the_limits c.args.depth))) _ _ _ _ _ c.more_args-test.false c.eat.ensures.found c.eat.ensures.left c.more_args.invariant.continues)
+separated_note_args-returns-clause-read t c = rw c.filled.ensures (is_whole_list Comma (any_number (note_arg_at the_limits c.args.depth (note_at the_limits c.args.depth))) _ _ _ _ _ c.more_args-test.false c.eat.ensures.found c.eat.ensures.left c.more_args.invariant.continues)
 
 pub separated_note_basics-returns-in_err-listed_note_basic-clause-read : goal.separated_note_basics-returns-in_err-listed_note_basic-clause-read
 separated_note_basics-returns-in_err-listed_note_basic-clause-read t c =
@@ -76,13 +76,13 @@ pub separated_note_basics-returns-clause-read : goal.separated_note_basics-retur
 separated_note_basics-returns-clause-read t c = rw c.trimmed.ensures (is_whole_list Comma (at_most the_limits.elements (begins_note_basic c.args.depth) (note_basic_at the_limits (note_at the_limits c.args.depth))) _ _ _ _ _ c.more_basics-test.false c.eat.ensures.found c.eat.ensures.left c.more_basics.invariant.continues)
 
 pub separated_note_args-returns-clause-walked : goal.separated_note_args-returns-clause-walked
-separated_note_args-returns-clause-walked t c = rw c.trimmed.ensures (walk_kept _ c.more_args-test.false c.eat.ensures.kept c.more_args.invariant.walked)
+separated_note_args-returns-clause-walked t c = rw c.filled.ensures (walk_end (walk_kept _ c.more_args-test.false c.eat.ensures.kept c.more_args.invariant.walked) (walk_still _ _ refl refl refl))
 
 pub separated_note_basics-returns-clause-walked : goal.separated_note_basics-returns-clause-walked
 separated_note_basics-returns-clause-walked t c = rw c.trimmed.ensures (walk_kept _ c.more_basics-test.false c.eat.ensures.kept c.more_basics.invariant.walked)
 
 pub separated_note_args-returns-clause-some : goal.separated_note_args-returns-clause-some
-separated_note_args-returns-clause-some t c = rw c.trimmed.ensures c.more_args.invariant.some
+separated_note_args-returns-clause-some t c = rw c.filled.ensures c.more_args.invariant.some
 
 pub note-returns-clause-walked : goal.note-returns-clause-walked
 note-returns-clause-walked t c =

@@ -3,7 +3,7 @@ use Rattle.std.proofs.Common.{◌∷◌, ap, map, refl, arith}
 use Rattle.std.proofs.lemmas.Result.{err_from_is_err_and}
 use Rattle.fz_lex.specs.declared.token.Mark.TheVariants.{ColonColon}
 use Rattle.fz_syntax.specs.Placed.{unplaced, placed_note}
-use Rattle.fz_syntax.proofs.Walks.{walk_zero, walk_more, walk_then, walk_kept, ate}
+use Rattle.fz_syntax.proofs.Walks.{walk_zero, walk_more, walk_then, walk_as, walk_end, walk_kept, walk_still, ate}
 use Rattle.fz_tree.specs.View.{bare_note}
 use Rattle.fz_syntax.specs.Reading.{any_number, note_at}
 use Rattle.fz_tree.specs.Text.{the_limits}
@@ -13,10 +13,10 @@ use Rattle.fz_syntax.proofs.parser.cursor.Parser.notes.Goals as goal
 
 pub loop-self-init : goal.loop-self-init
 loop-self-init c = record {
-  continues = notes_begin the_limits _ _ (ap (map bare_note) c.new-notes.ensures.items);
+  continues = notes_begin the_limits _ _ (ap (map bare_note) c.list-notes.ensures);
   shorter = omega arith;
   same_end = omega arith;
-  walked = walk_zero (λ n. unplaced (Marked ColonColon) ∷ placed_note n) _ c.new-notes.ensures.items;
+  walked = walk_as refl refl (walk_zero (λ n. unplaced (Marked ColonColon) ∷ placed_note n) _ c.list-notes.ensures);
 }
 
 pub returns-in_err-note-clause-read : goal.returns-in_err-note-clause-read
@@ -33,7 +33,7 @@ loop-self-preserved c = record {
 }
 
 pub returns-clause-read : goal.returns-clause-read
-returns-clause-read c = rw c.trimmed.ensures (is_whole_list ColonColon (any_number (note_at the_limits 32)) _ _ _ _ _ c.loop-self-test.false c.eat.ensures.found c.eat.ensures.left c.loop-self.invariant.continues)
+returns-clause-read c = rw c.filled.ensures (is_whole_list ColonColon (any_number (note_at the_limits 32)) _ _ _ _ _ c.loop-self-test.false c.eat.ensures.found c.eat.ensures.left c.loop-self.invariant.continues)
 
 pub returns-clause-walked : goal.returns-clause-walked
-returns-clause-walked c = rw c.trimmed.ensures (walk_kept _ c.loop-self-test.false c.eat.ensures.kept c.loop-self.invariant.walked)
+returns-clause-walked c = rw c.filled.ensures (walk_end (walk_kept _ c.loop-self-test.false c.eat.ensures.kept c.loop-self.invariant.walked) (walk_still _ _ refl refl refl))

@@ -2,7 +2,7 @@ use Rattle.std.proofs.Common.{ap, map, refl, arith}
 use Rattle.std.proofs.lemmas.Result.{err_from_is_err_and}
 use Rattle.fz_lex.specs.declared.token.Mark.TheVariants.{Comma}
 use Rattle.fz_syntax.specs.Placed.{placed_expr}
-use Rattle.fz_syntax.proofs.Walks.{separated_first, separated_more, some_pushed, walk_kept, ate}
+use Rattle.fz_syntax.proofs.Walks.{separated_first, separated_more, some_pushed, walk_as, walk_end, walk_kept, walk_still, ate}
 use Rattle.fz_tree.specs.View.{bare_expr}
 use Rattle.fz_syntax.specs.Reading.{any_number, expr_at}
 use Rattle.fz_tree.specs.Text.{the_limits}
@@ -18,10 +18,10 @@ returns-in_err-expr-clause-read c =
 
 pub loop-self-init : goal.loop-self-init
 loop-self-init c = record {
-  continues = separated_init (any_number (expr_at the_limits)) _ _ _ _ _ (ap (map bare_expr) c.clear.ensures.items) (grown bare_expr _ _ _ c.in_ok-push.ensures.items) c.in_ok-expr.ensures.read;
+  continues = separated_init (any_number (expr_at the_limits)) _ _ _ _ _ (ap (map bare_expr) c.list-arguments.ensures) (grown bare_expr _ _ _ c.in_ok-push.ensures.items) c.in_ok-expr.ensures.read;
   shorter = omega arith;
   same_end = omega arith;
-  walked = separated_first placed_expr _ _ _ c.clear.ensures.items c.in_ok-push.ensures.items c.in_ok-expr.ensures.walked;
+  walked = separated_first placed_expr _ _ _ c.list-arguments.ensures c.in_ok-push.ensures.items (walk_as refl refl c.in_ok-expr.ensures.walked);
   some = some_pushed _ _ _ c.in_ok-push.ensures.items;
 }
 
@@ -40,7 +40,7 @@ loop-self-preserved c = record {
 }
 
 pub returns-clause-read : goal.returns-clause-read
-returns-clause-read c = rw c.in_ok-moved_out.ensures (is_whole_list Comma (any_number (expr_at the_limits)) _ _ _ _ _ c.loop-self-test.false c.eat.ensures.found c.eat.ensures.left c.loop-self.invariant.continues)
+returns-clause-read c = rw c.filled.ensures (is_whole_list Comma (any_number (expr_at the_limits)) _ _ _ _ _ c.loop-self-test.false c.eat.ensures.found c.eat.ensures.left c.loop-self.invariant.continues)
 
 pub returns-clause-walked : goal.returns-clause-walked
-returns-clause-walked c = rw c.in_ok-moved_out.ensures (walk_kept _ c.loop-self-test.false c.eat.ensures.kept c.loop-self.invariant.walked)
+returns-clause-walked c = rw c.filled.ensures (walk_end (walk_kept _ c.loop-self-test.false c.eat.ensures.kept c.loop-self.invariant.walked) (walk_still _ _ refl refl refl))

@@ -10,12 +10,12 @@ use Rattle.fz_syntax.proofs.parser.cursor.Parser.separated_args.Given as goal
 
 abbrev pub invariant-loop-self : goal.invariant-loop-self
 invariant-loop-self l = record {
-  continues : Continues Comma (any_number (expr_at the_limits)) (map bare_expr l.spare.items)
+  continues : Continues Comma (any_number (expr_at the_limits)) (map bare_expr l.arguments.items)
       (lexemes l.self) (separated_at (any_number (expr_at the_limits)) (lexemes l.fn.self));
   shorter : length (lexemes l.self) ≤ length (lexemes l.fn.self);
   same_end : l.self.end ≡ l.fn.self.end;
-  walked : Walk l.fn.self l.self (placed_separated placed_expr l.spare.items);
-  some : 0 < length l.spare.items;
+  walked : Walk l.fn.self l.self (placed_separated placed_expr l.arguments.items);
+  some : 0 < length l.arguments.items;
 }
 
 abbrev pub decreases-loop-self : goal.decreases-loop-self

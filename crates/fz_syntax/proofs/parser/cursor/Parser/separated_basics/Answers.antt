@@ -1,8 +1,8 @@
-use Rattle.std.proofs.Common.{◌∙◌, ap, map, arith}
+use Rattle.std.proofs.Common.{◌∙◌, ap, map, refl, arith}
 use Rattle.std.proofs.lemmas.Result.{err_from_is_err_and}
 use Rattle.fz_lex.specs.declared.token.Mark.TheVariants.{Comma}
 use Rattle.fz_syntax.specs.Placed.{placed_basic}
-use Rattle.fz_syntax.proofs.Walks.{separated_first, separated_more, some_pushed, walk_kept, ate}
+use Rattle.fz_syntax.proofs.Walks.{separated_first, separated_more, some_pushed, walk_as, walk_end, walk_kept, walk_still, ate}
 use Rattle.fz_tree.specs.View.{bare_expression}
 use Rattle.fz_syntax.specs.Reading.{at_most, begins_basic, basic_at}
 use Rattle.fz_tree.specs.Text.{the_limits}
@@ -18,10 +18,10 @@ returns-in_err-listed_basic-clause-read c =
 
 pub loop-self-init : goal.loop-self-init
 loop-self-init c = record {
-  continues = separated_init (at_most the_limits.elements begins_basic (basic_at the_limits)) _ _ _ _ _ (ap (map bare_expression) c.new-basics.ensures.items) (grown bare_expression _ _ _ c.in_ok-push.ensures.items) c.in_ok-listed_basic.ensures.read;
+  continues = separated_init (at_most the_limits.elements begins_basic (basic_at the_limits)) _ _ _ _ _ (ap (map bare_expression) c.list-basics.ensures) (grown bare_expression _ _ _ c.in_ok-push.ensures.items) c.in_ok-listed_basic.ensures.read;
   shorter = omega arith;
   same_end = omega arith;
-  walked = separated_first placed_basic _ _ _ c.new-basics.ensures.items c.in_ok-push.ensures.items c.in_ok-listed_basic.ensures.walked;
+  walked = separated_first placed_basic _ _ _ c.list-basics.ensures c.in_ok-push.ensures.items (walk_as refl refl c.in_ok-listed_basic.ensures.walked);
   some = some_pushed _ _ _ c.in_ok-push.ensures.items;
 }
 
@@ -40,7 +40,7 @@ loop-self-preserved c = record {
 }
 
 pub returns-clause-read : goal.returns-clause-read
-returns-clause-read c = rw c.trimmed.ensures (is_whole_list Comma (at_most the_limits.elements begins_basic (basic_at the_limits)) _ _ _ _ _ c.loop-self-test.false c.eat.ensures.found c.eat.ensures.left c.loop-self.invariant.continues)
+returns-clause-read c = rw c.filled.ensures (is_whole_list Comma (at_most the_limits.elements begins_basic (basic_at the_limits)) _ _ _ _ _ c.loop-self-test.false c.eat.ensures.found c.eat.ensures.left c.loop-self.invariant.continues)
 
 pub returns-clause-walked : goal.returns-clause-walked
-returns-clause-walked c = rw c.trimmed.ensures (walk_kept _ c.loop-self-test.false c.eat.ensures.kept c.loop-self.invariant.walked)
+returns-clause-walked c = rw c.filled.ensures (walk_end (walk_kept _ c.loop-self-test.false c.eat.ensures.kept c.loop-self.invariant.walked) (walk_still _ _ refl refl refl))
