@@ -2,14 +2,15 @@
 #                  on where it was stopped, and uses JOBS processors (all)
 # make test        the gate: every proof from nothing, the must-fail edits, the tests, the program
 # make corpus      runs the built program over tests/corpus and examples, beside the second checker
-#                  (tests/corpus/slow.py) on random models, and with minizinc/ where MiniZinc is
-#                  installed
+#                  (tests/corpus/slow.py) on random models, and with minizinc/, and inside MiniZinc,
+#                  where that is installed
 # make fuzz        runs it on random broken texts beside that checker, for SECONDS (600), by SEED
 # make bench       measures the built program beside the plain program in plain/ (some minutes)
 # make quick       judges examples/first.fzn with NO proof, or MODEL=FILE [STREAM=FILE], with the
 #                  program's OPTIONS='--complete --explain'; with a MODEL and no STREAM it reads
 #                  standard input; it tells the program's status
-# make install     puts the program and its manual page in place, below PREFIX (/usr/local)
+# make install     puts the program, its manual page and minizinc/ in place, below PREFIX
+#                  (/usr/local)
 # make fmt         lays out the sources
 # make clean       drops what was built
 
@@ -43,6 +44,7 @@ test:
 	tests/headline.py
 	tests/program.sh build/fzcheck
 	tests/as_json.py build/fzcheck
+	tests/solver.py build/fzcheck
 	tests/broken/run.py build/fzcheck
 	tests/cases/run.py build/fzcheck crates/fz_hostile/out/fz_hostile
 	tests/corpus/run.py build/fzcheck tests/corpus examples
@@ -54,6 +56,7 @@ corpus: build/fzcheck
 	tests/corpus/left_out.py build/fzcheck
 	tests/corpus/differ.py build/fzcheck - 300
 	tests/minizinc.py build/fzcheck
+	tests/inside.py build/fzcheck
 
 fuzz: build/fzcheck
 	tests/hostile/fuzz.py build/fzcheck $(SECONDS) $(SEED)
@@ -74,8 +77,10 @@ quick:
 	@tests/quick.sh "$(MODEL)" "$(STREAM)" $(OPTIONS)
 
 install: build/fzcheck
-	install -D build/fzcheck $(DESTDIR)$(PREFIX)/bin/fzcheck
+	install -D -t $(DESTDIR)$(PREFIX)/bin build/fzcheck minizinc/fzcheck-*
 	install -D -m 644 docs/fzcheck.1 $(DESTDIR)$(PREFIX)/share/man/man1/fzcheck.1
+	install -D -m 644 -t $(DESTDIR)$(PREFIX)/share/fzcheck minizinc/fzcheck.msc
+	install -D -m 644 -t $(DESTDIR)$(PREFIX)/share/fzcheck/fzcheck minizinc/fzcheck/*.mzn
 
 fmt:
 	for crate in $(CRATES); do (cd crates/$$crate && rt fmt); done

@@ -6,9 +6,9 @@
 Each model of tests/minizinc names the rows that have to be kept. Where `fzn-gecode` is there too, it
 solves what the standard library makes of the model, by decompositions: its solutions must be accepted
 against both, and a solution with a value turned must not be satisfied against the one and violated
-against the other. Then the commands of docs/MINIZINC.md, and those of the README that begin with
-MiniZinc's, are run as they are, on the model below. Where MiniZinc isn't installed it says so, and
-nothing is tried."""
+against the other. Then the commands of the pages below, of the README those that call MiniZinc, are
+run as they are, on the model below. Where MiniZinc isn't installed it says so, and nothing is
+tried."""
 import glob
 import os
 import random
@@ -24,7 +24,17 @@ STANDARD = ("-G", "std")
 MARKER = "----------\n"
 SOLUTIONS, TURNED = 200, 400
 VALUE = re.compile(r"\b(?:\d+|true|false)\b(?![.(])")
-PAGES = ("README.md", "docs/MINIZINC.md")
+# Of each page, what its commands print at least.
+PAGES = {
+    "README.md": "\naccepted: ",
+    "docs/MINIZINC.md": "\naccepted: ",
+    "docs/ORGANISERS.md": "NAME.json +accepted ",
+    "docs/SOLVER_AUTHORS.md": "column = ",
+}
+PREPARED = """mkdir models streams
+minizinc -G std -c model.mzn data.dzn --fzn models/NAME.fzn --no-output-ozn
+fzn-gecode models/NAME.fzn > streams/NAME.out
+"""
 FILES = {
     "data.dzn": "n = 6;\n",
     "model.mzn": """include "alldifferent.mzn";
@@ -118,32 +128,34 @@ def faults_of_streams(program, ours, standard, folder):
             yield f"{verdicts[0]} against ours, {verdicts[1]} against the standard library's:\n{block}"
 
 
-def commands(page):
-    """The lines of a page's indented blocks; of the README, of those that call MiniZinc."""
+def blocks(page):
+    """A page's indented blocks; of the README, those that call MiniZinc."""
     with open(os.path.join(ROOT, page)) as f:
-        blocks = re.findall(r"^\n((?:    .*\n)+)", f.read(), re.M)
-    blocks = [block for block in blocks if page != "README.md" or "    minizinc " in block]
-    return [line.strip() for block in blocks for line in block.splitlines()]
+        found = re.findall(r"^\n((?:    .*\n)+)", f.read(), re.M)
+    return [block for block in found if page != "README.md" or "    minizinc " in block]
 
 
 def faults_of_page(program, page, folder):
     """What goes wrong with a page's commands, in a folder that has what they name."""
     os.mkdir(os.path.join(folder, "bin"))
     os.symlink(program, os.path.join(folder, "bin", "fzcheck"))
-    os.symlink(os.path.join(ROOT, "minizinc"), os.path.join(folder, "minizinc"))
+    for name in ("fzcheck-solver", "fzcheck-configure"):
+        os.symlink(os.path.join(ROOT, "minizinc", name), os.path.join(folder, "bin", name))
+    for name in ("minizinc", "examples"):
+        os.symlink(os.path.join(ROOT, name), os.path.join(folder, name))
     for name, text in FILES.items():
         with open(os.path.join(folder, name), "w") as f:
             f.write(text)
     path = os.path.join(folder, "bin") + os.pathsep + os.environ["PATH"]
     told = ""
-    for command in commands(page):
-        ran = subprocess.run(command, shell=True, cwd=folder, env={**os.environ, "PATH": path},
-                             capture_output=True, text=True)
-        told = ran.stdout
-        if ran.returncode != 0:
-            yield f"{command}: status {ran.returncode}: {ran.stdout}{ran.stderr}"
-    if "\naccepted: " not in told:
-        yield f"the last command's answer isn't accepted: {told}"
+    for block in [PREPARED, *blocks(page)]:
+        ran = subprocess.run(("bash", "-ec", block), cwd=folder, capture_output=True, text=True,
+                             env={**os.environ, "PATH": path, "HOME": folder})
+        told += ran.stdout
+        if ran.returncode != 0 or "fzcheck: " in ran.stderr:
+            yield f"{block}status {ran.returncode}: {ran.stdout}{ran.stderr}"
+    if not re.search(PAGES[page], told):
+        yield f"{PAGES[page]} isn't printed: {told}"
 
 
 def main():
