@@ -1,5 +1,5 @@
 -- From what a row says to what is left to its result.
-use Rattle.std.proofs.Common.{◌≡◌, ℕ, zero, suc, ℤ, Bool, true, false, nat_eq, List, [], ◌∷◌, Option, Some, None, refl, sym, ap, subst, ◌∙◌, ◌⊎◌, inl, inr, Contains, option_map, slice_get, arith}
+use Rattle.std.proofs.Common.{◌≡◌, ℕ, zero, suc, ℤ, Bool, true, false, nat_eq, List, [], ◌∷◌, Option, Some, None, refl, sym, ap, subst, ◌∙◌, ◌⊎◌, inl, inr, Contains, option_map, arith}
 use Rattle.std.specs.List.{list_any}
 use Rattle.fz_base.specs.Sets.{NumberSet}
 use Rattle.fz_base.specs.declared.value.Value.{Value}
@@ -8,7 +8,6 @@ use Rattle.fz_meaning.specs.declared.kind.Kind.{Kind}
 use Rattle.fz_meaning.specs.declared.kind.Kind.TheVariants.{Int as IntKind, Bool as BoolKind, Set as SetKind}
 use Rattle.fz_meaning.specs.Relations.{◌=ℤ◌, ◌=ᴮ◌, ◌=ˢ◌}
 use Rattle.fz_meaning.specs.Builtins.{Row}
-use Rattle.fz_meaning.specs.Builtins.Shape.{ScalarOf}
 use Rattle.fz_meaning.specs.Results.{Result, result_of}
 use Rattle.fz_meaning.specs.Results.Result.{NoResult, Places, UnitTerm}
 use Rattle.fz_meaning.specs.Meaning.{Argument, Partial}
@@ -18,7 +17,7 @@ use Rattle.fz_builtins.specs.Said.{HasNone, HasResult, IsSaid, asked_place, is_r
 use Rattle.fz_builtins.specs.declared.said.Said.{Said}
 use Rattle.fz_builtins.specs.declared.said.Said.TheVariants as said
 use Rattle.fz_builtins.proofs.Rows.{with_is}
-use Rattle.fz_eval.specs.Left.{IsLeft, IsLeftNumber, IsLeftPlain, IsOfKind, IsPlaceOf, holds_with, is_too_large}
+use Rattle.fz_eval.specs.Left.{IsLeft, IsLeftAt, IsLeftNumber, IsLeftPlain, IsOfKind, IsPlaceOf, holds_with, is_too_large}
 
 -- ---- plain values as values
 
@@ -105,39 +104,40 @@ module _ (r : Row) (K : Partial) (xs : List Argument) (i : ℕ) (place : IsPlace
   said_fits (said.Set j s) h large = no (ap (list_any (read_leave K xs)) (sym h.0.2) ∙ large)
   said_fits (said.Given j o) h large = no (ap (list_any (read_leave K xs)) (sym h.0.2) ∙ large)
 
-  module _ (k : Kind) (kind : IsOfKind r.shapes i k) where
-    -- a value there, as it is read and as it is put there
-    value_there : (j : ℕ) (q : Kind) → HasResult r first j q → (v : Value)
-        → holds_with r K xs i v ≡ row_with r K xs j v
-    value_there j q has v =
-        sym (with_is K xs 0 r.shapes r.holds i k kind v)
-        ∙ ap (λ n. row_with r K xs n v) (sym (placed (result_of r) i j place has.0))
+  shape_there : (j : ℕ) (k : Kind) → HasResult r first j k → IsOfKind r.shapes i k
+  shape_there j k has = subst (λ n. IsOfKind r.shapes n k) (placed (result_of r) i j place has.0) has.1
 
-    same_kind : (j : ℕ) (q : Kind) → HasResult r first j q → q ≡ k
-    same_kind j q has =
-        let at : slice_get r.shapes i ≡ Some (ScalarOf q) =
-        subst (λ n. slice_get r.shapes n ≡ Some (ScalarOf q)) (placed (result_of r) i j place has.0) has.1 in
-        let same : Some (ScalarOf q) ≡ Some (ScalarOf k) = sym at ∙ kind in
-        cc
+  -- a value there, as it is put there and as it is read
+  value_there : (j : ℕ) (k : Kind) → HasResult r first j k → (v : Value)
+      → holds_with r K xs i v ≡ row_with r K xs j v
+  value_there j k has v =
+      sym (with_is K xs 0 r.shapes r.holds i k (shape_there j k has) v)
+      ∙ ap (λ n. row_with r K xs n v) (sym (placed (result_of r) i j place has.0))
 
-    pub number_said : (j : ℕ) (o p : Option ℤ) → IsSaid r first K xs (said.Number j o)
-        → IsLeftNumber (is_result ◌=ℤ◌ o) p → IsLeft k (holds_with r K xs i) (option_map Int p)
-    number_said j o p h left =
-        subst (λ q. IsLeft q (holds_with r K xs i) (option_map Int p)) (same_kind j IntKind h.0)
-        (number_left (holds_with r K xs i) p (same_numbers (is_result ◌=ℤ◌ o) (λ n. holds_with r K xs i (Int n)) p
-        (λ n. value_there j IntKind h.0 (Int n) ∙ h.1 n) left))
+  pub number_said : (j : ℕ) (o p : Option ℤ) → IsSaid r first K xs (said.Number j o)
+      → IsLeftNumber (is_result ◌=ℤ◌ o) p → IsLeftAt r K xs i (option_map Int p)
+  number_said j o p h left = record {
+    kind = IntKind;
+    shape = shape_there j IntKind h.0;
+    left = number_left (holds_with r K xs i) p (same_numbers (is_result ◌=ℤ◌ o)
+        (λ n. holds_with r K xs i (Int n)) p (λ n. value_there j IntKind h.0 (Int n) ∙ h.1 n) left);
+  }
 
-    pub truth_said : (j : ℕ) (o : Option Bool) → IsSaid r first K xs (said.Boolean j o)
-        → IsLeft k (holds_with r K xs i) (option_map Truth o)
-    truth_said j o h =
-        subst (λ q. IsLeft q (holds_with r K xs i) (option_map Truth o)) (same_kind j BoolKind h.0)
-        (truth_left (holds_with r K xs i) o (the_result ◌=ᴮ◌ bool_itself (λ b. holds_with r K xs i (Truth b)) o
-        (λ b. value_there j BoolKind h.0 (Truth b) ∙ h.1 b)))
+  pub truth_said : (j : ℕ) (o : Option Bool) → IsSaid r first K xs (said.Boolean j o)
+      → IsLeftAt r K xs i (option_map Truth o)
+  truth_said j o h = record {
+    kind = BoolKind;
+    shape = shape_there j BoolKind h.0;
+    left = truth_left (holds_with r K xs i) o (the_result ◌=ᴮ◌ bool_itself
+        (λ b. holds_with r K xs i (Truth b)) o (λ b. value_there j BoolKind h.0 (Truth b) ∙ h.1 b));
+  }
 
-    pub set_said : (j : ℕ) (o : Option NumberSet) → HasResult r first j SetKind
-        → ((s : NumberSet) → row_with r K xs j (Set s) ≡ is_result ◌=ˢ◌ o s)
-        → IsLeft k (holds_with r K xs i) (option_map Set o)
-    set_said j o has is =
-        subst (λ q. IsLeft q (holds_with r K xs i) (option_map Set o)) (same_kind j SetKind has)
-        (set_left (holds_with r K xs i) o (the_result ◌=ˢ◌ set_itself (λ s. holds_with r K xs i (Set s)) o
-        (λ s. value_there j SetKind has (Set s) ∙ is s)))
+  pub set_said : (j : ℕ) (o : Option NumberSet) → HasResult r first j SetKind
+      → ((s : NumberSet) → row_with r K xs j (Set s) ≡ is_result ◌=ˢ◌ o s)
+      → IsLeftAt r K xs i (option_map Set o)
+  set_said j o has is = record {
+    kind = SetKind;
+    shape = shape_there j SetKind has;
+    left = set_left (holds_with r K xs i) o (the_result ◌=ˢ◌ set_itself
+        (λ s. holds_with r K xs i (Set s)) o (λ s. value_there j SetKind has (Set s) ∙ is s));
+  }

@@ -1,15 +1,13 @@
 //! The value that a row leaves, whatever its kind.
 
 ghost use Rattle.std.specs.Prelude.{◌≡◌, ℕ, List, length, nat_eq, None, IfOk, IsFalse, IsTrue, option_map};
-ghost use Rattle.fz_meaning.specs.declared.kind.Kind.{Kind};
-ghost use Rattle.fz_meaning.specs.declared.kind.Kind.TheVariants.{Bool as BoolKind};
 ghost use Rattle.fz_meaning.specs.Builtins.{Row, reified, row_at};
 ghost use Rattle.fz_meaning.specs.Known.{known_row};
 ghost use Rattle.fz_meaning.specs.Meaning.{Argument, Partial};
 ghost use Rattle.fz_meaning.specs.Results.{result_of};
 ghost use Rattle.fz_builtins.specs.of_view.Views.{arguments_of, assigned};
 ghost use Rattle.fz_builtins.specs.Said.{IsSaid};
-ghost use Rattle.fz_eval.specs.Left.{IsLeft, IsOfKind, IsPlaceOf, holds_with, is_too_large};
+ghost use Rattle.fz_eval.specs.Left.{IsLeftAt, IsPlaceOf, is_too_large};
 
 use crate::numbers::narrowed;
 use fz_base::{IntSet, SetError, Value};
@@ -28,10 +26,9 @@ pub(crate) fn left_value(
     view: &ArgumentView<'_, '_>,
 ) -> Result<Option<Value>, AllocError>
     requires result { IsPlaceOf (result_of (known_row known)) place }
-    ensures left { (k : Kind) → IsOfKind (known_row known).shapes place k
-        → IsFalse (is_too_large (known_row known) (assigned view.now) (arguments_of view.now))
-        → IfOk result (λ left. IsLeft k
-        (holds_with (known_row known) (assigned view.now) (arguments_of view.now) place) left) }
+    ensures left { IsFalse (is_too_large (known_row known) (assigned view.now)
+        (arguments_of view.now)) → IfOk result
+        (IsLeftAt (known_row known) (assigned view.now) (arguments_of view.now) place) }
     ensures too_large { IsTrue (is_too_large (known_row known) (assigned view.now)
         (arguments_of view.now)) → IfOk result (λ left. left ≡ None) }
 {
@@ -51,9 +48,8 @@ fn left_form(
 ) -> Result<Option<Value>, AllocError>
     requires { place ≡ length (row_at builtin).shapes }
     ensures left { IsFalse (is_too_large (row_at builtin) (assigned view.now)
-        (arguments_of view.now)) → IfOk result (λ left. IsLeft BoolKind
-        (holds_with (reified (row_at builtin)) (assigned view.now)
-        (arguments_of view.now) place) left) }
+        (arguments_of view.now)) → IfOk result
+        (IsLeftAt (reified (row_at builtin)) (assigned view.now) (arguments_of view.now) place) }
     ensures too_large { IsTrue (is_too_large (row_at builtin) (assigned view.now)
         (arguments_of view.now)) → IfOk result (λ left. left ≡ None) }
 {
@@ -72,9 +68,8 @@ fn left_base(
     view: &ArgumentView<'_, '_>,
 ) -> Result<Option<Value>, AllocError>
     requires { IsPlaceOf (result_of (row_at builtin)) place }
-    ensures left { (k : Kind) → IsOfKind (row_at builtin).shapes place k
-        → IfOk result (λ left. IsLeft k
-        (holds_with (row_at builtin) (assigned view.now) (arguments_of view.now) place) left) }
+    ensures left { IfOk result
+        (IsLeftAt (row_at builtin) (assigned view.now) (arguments_of view.now) place) }
     ensures too_large { IsTrue (is_too_large (row_at builtin) (assigned view.now)
         (arguments_of view.now)) → IfOk result (λ left. left ≡ None) }
 {
@@ -86,9 +81,8 @@ fn left_base(
 
 // What a row leaves to its result that says this. It is no value for a number past 64 bits.
 fn left_by(alloc: Global, said: Said<'_>) -> Result<Option<Value>, AllocError>
-    ensures { (r : Row) (K : Partial) (xs : List Argument) (i : ℕ) (k : Kind)
-        → IsPlaceOf (result_of r) i → IsSaid r (nat_eq i 0) K xs said.entry
-        → IsOfKind r.shapes i k → IfOk result (λ left. IsLeft k (holds_with r K xs i) left) }
+    ensures { (r : Row) (K : Partial) (xs : List Argument) (i : ℕ) → IsPlaceOf (result_of r) i
+        → IsSaid r (nat_eq i 0) K xs said.entry → IfOk result (IsLeftAt r K xs i) }
 {
     match said {
         Said::Whether(_) => Ok(None),

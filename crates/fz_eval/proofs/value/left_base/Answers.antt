@@ -4,9 +4,9 @@ use Rattle.fz_eval.proofs.Lefts.{said_fits}
 use Rattle.fz_eval.proofs.value.left_base.Goals as goal
 
 pub returns-in-Ok-clause-left : goal.returns-in-Ok-clause-left
-returns-in-Ok-clause-left c = λ k kind.
-    c.left_by.ensures (row_at c.args.builtin) (assigned c.args.view.now) (arguments_of c.args.view.now)
-    c.args.place k c.requires c.in-Ok.ensures kind
+returns-in-Ok-clause-left c =
+    c.left_by.ensures (row_at c.args.builtin) (assigned c.args.view.now)
+    (arguments_of c.args.view.now) c.args.place c.requires c.in-Ok.ensures
 
 pub returns-in-Ok-clause-too_large : goal.returns-in-Ok-clause-too_large
 returns-in-Ok-clause-too_large c = λ large.
