@@ -45,16 +45,16 @@ OTHERS = {
 }
 
 
-def add(place, name, text):
-    """A solver of that name, which MiniZinc compiles for as for Gecode, and a checked one."""
+def add(place, name, text, library="-Ggecode"):
+    """A solver of that name, with that library, and checked ones."""
     path = place.path(name)
     place.file(name, text)
     os.chmod(path, 0o755)
     place.file(f"home/.minizinc/solvers/{name}.msc", f"""{{
-        "id": "org.other.{name}", "name": "{name}", "version": "1", "mznlib": "-Ggecode",
+        "id": "org.other.{name}", "name": "{name}", "version": "1", "mznlib": "{library}",
         "executable": "{path}", "stdFlags": ["-a", "-n", "-s", "-t"], "supportsFzn": true,
         "needsSolns2Out": true }}""")
-    expect(f"configure {name}", 0, place.run(CONFIGURE, name)[0])
+    expect(f"configure {name}", 0, place.run(CONFIGURE, "--library", name)[0])
 
 
 def minizinc(place, *words, **variables):
@@ -144,6 +144,19 @@ def failures(place, program):
     os.symlink(program, place.path("bin/fzcheck"))
 
 
+def lax(place):
+    """A solver whose library lets queens attack one another: only our library shows it."""
+    queens = os.path.join(ROOT, "tests", "inside", "queens.mzn")
+    os.mkdir(place.path("library"))
+    place.file("library/fzn_all_different_int.mzn",
+               "predicate fzn_all_different_int(array [int] of var int: x) = true;\n")
+    add(place, "lax", '#!/bin/sh\nexec fzn-gecode "$@"\n', place.path("library"))
+    own = minizinc(place, "lax-checked", queens)
+    expect("against its own library", (0, ""), (own[0], own[2]))
+    ours = minizinc(place, "lax-checked-library", queens)
+    expect("against ours", (True, True), (VIOLATED in ours[1], VIOLATED in ours[2]))
+
+
 def full(place):
     """With a temporary folder that is full MiniZinc fails, and a checked solver as it does."""
     folder, queens = place.path("full"), os.path.join(ROOT, "tests", "inside", "queens.mzn")
@@ -181,6 +194,7 @@ def main():
             caught(place, model)
         interrupted(place)
         failures(place, program)
+        lax(place)
         full(place)
     print(f"{solver.passed} passed, {solver.failed} failed")
     return 1 if solver.failed else 0

@@ -95,8 +95,8 @@ class Place:
         self.file("stream", stream)
         got = self.run(**variables)
         expect(what, (status, out), got[:2])
-        for word in told or ("",):
-            expect(f"{what}, told", bool(word), word in got[2] and got[2] != "")
+        left = [word for word in told if word not in got[2]]
+        expect(f"{what}, told", ([], bool(told)), (left, got[2] != ""))
 
     def processes(self):
         """Those that have this folder in their environment."""
@@ -106,7 +106,7 @@ class Place:
 
     def is_deserted(self):
         """Whether soon no process is left."""
-        for _ in range(50):
+        for _ in range(200):
             if not self.processes():
                 return True
             time.sleep(0.1)
