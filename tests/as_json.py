@@ -2,9 +2,9 @@
 """Compares the report as JSON with the report as text: as_json.py PROGRAM
 
 Runs a built program on the models and streams of examples/, tests/explained and
-tests/corpus/by_hand, with and without --complete and --explain. From the objects the lines of the
-text are made, those of refusals and explanations too, and compared with what the program writes
-without --json. The last line is 'N passed, M failed'."""
+tests/corpus/by_hand, with and without --complete, --cut and --explain. From the objects the lines
+of the text are made, those of refusals and explanations too, and compared with what the program
+writes without --json. The last line is 'N passed, M failed'."""
 import glob
 import json
 import os
@@ -14,6 +14,7 @@ import sys
 
 TOP = os.path.dirname(os.path.dirname(os.path.abspath(__file__)))
 FOLDERS = "examples", "tests/explained", "tests/corpus/by_hand"
+OPTIONS = "", "--complete", "--cut"
 EXPLAINING = "", "--explain", "--explain=all"
 FAULTS = {
     "printed": "printed {name}",
@@ -123,6 +124,8 @@ class Report:
             elif "claim" in it:
                 self.out.append(f"claim: {it['claim']} not judged")
                 self.expect(it["after"], len(self.places), "after")
+            elif "cut" in it:
+                self.out.append("cut: {}..{}".format(*it["cut"]))
             elif "answer" in it:
                 self.out.append(answer_line(it))
                 self.expect([it["blocks"], *map(it.get, VERDICTS)], self.counts(), "counts")
@@ -187,12 +190,12 @@ def main():
     program = os.path.abspath(sys.argv[1])
     passed = failed = 0
     for folder, model, stream in cases():
-        for completing in "", "--complete":
+        for option in OPTIONS:
             for explaining in EXPLAINING:
-                wrong = faults(program, folder, model, stream, (completing, explaining))
+                wrong = faults(program, folder, model, stream, (option, explaining))
                 passed, failed = passed + (not wrong), failed + bool(wrong)
                 for line in wrong:
-                    print(f"failed: {folder}/{stream} {completing} {explaining}: {line}")
+                    print(f"failed: {folder}/{stream} {option} {explaining}: {line}")
     print(f"{passed} passed, {failed} failed")
     return 1 if failed else 0
 

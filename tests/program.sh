@@ -25,7 +25,7 @@ expect() {
   fi
 }
 
-usage='usage: fzcheck show [--print-all] MODEL | check [--complete] [--explain[=all]] [--json] MODEL [STREAM]'
+usage='usage: fzcheck show [--print-all] MODEL | check [--complete] [--cut] [--explain[=all]] [--json] MODEL [STREAM]'
 accepted=$'block 1: satisfied\naccepted: blocks 1'
 printf 'x = 1;\n----------\n' >"$folder/wrong.out"
 printf 'x = 3;\n' >"$folder/open.out"
@@ -44,6 +44,7 @@ wrong "error: unrecognized subcommand 'chekc'" chekc examples/first.fzn
 wrong "error: unexpected argument 'examples/first.out' found" show examples/first.fzn examples/first.out
 wrong "error: unexpected argument '--complete' found" show --complete examples/first.fzn
 wrong "error: unexpected argument '--json' found" show --json examples/first.fzn
+wrong "error: unexpected argument '--cut' found" show --cut examples/first.fzn
 wrong "error: unexpected argument '--print-all' found" check --print-all examples/first.fzn
 wrong "$wanting" check
 wrong "$wanting" check --explain
@@ -54,7 +55,7 @@ for words in help --help -h 'help check' 'check --help' 'show -h'; do
   # shellcheck disable=SC2086
   expect "a request for help: $words" 5 "$page" "$usage" "$program" $words
 done
-for word in check show --complete --explain --json --print-all --version STREAM; do
+for word in check show --complete --cut --explain --json --print-all --version STREAM; do
   expect "help names $word" 0 '' '' grep -q -- "$word" "$folder/page"
 done
 version="fzcheck $(sed -n 's/^## \([0-9][0-9.]*\).*/\1/p' CHANGELOG.md | head -1)"
@@ -77,6 +78,16 @@ expect 'the first model, by --' 0 "$accepted" '' "$program" check -- examples/fi
 expect 'standard input without a block' 3 'no blocks' '' "$program" check examples/first.fzn
 expect 'a violated block' 1 $'block 1: violated: constraint 1 int_le\nrejected: block 1' '' "$program" check examples/first.fzn "$folder/wrong.out"
 expect 'an open block' 4 '' 'refused: stream: Unfinished at 0..7' "$program" check examples/first.fzn "$folder/open.out"
+expect 'an open block, cut off' 3 $'cut: 0..7\nno blocks' '' "$program" check --cut examples/first.fzn "$folder/open.out"
+cat "$folder/wrong.out" "$folder/open.out" >"$folder/killed.out"
+expect 'a killed solver' 1 $'block 1: violated: constraint 1 int_le\ncut: 18..25\nrejected: block 1' \
+  "$(printf '%s\n' 'examples/first.fzn:2:12: constraint 1 int_le fails in block 1' '   2 | constraint int_le(2,x);' \
+    '     |            ^^^^^^' '     = x = 1, printed')" \
+  "$program" check --complete --cut --explain=all examples/first.fzn "$folder/killed.out"
+expect 'a killed solver, as JSON' 1 '{"block":1,"verdict":"violated","point":"constraint","number":1,"name":"int_le","line":2,"column":12}
+{"cut":[18,25]}
+{"answer":"rejected","block":1,"blocks":1,"satisfied":0,"violated":1,"undecided":0}' '' \
+  "$program" check --json --cut examples/first.fzn "$folder/killed.out"
 printf 'var 0..9: x;\nvar 0..9: y;\nconstraint int_mod(x,3,y);\nsolve satisfy;\n' >"$folder/left.fzn"
 printf 'x = 7;\n----------\n' >"$folder/left.out"
 expect 'a value that was left out' 2 $'block 1: undecided: no value for y\nundecided: block 1' '' "$program" check "$folder/left.fzn" "$folder/left.out"

@@ -1,5 +1,6 @@
 """The models and streams that the runs begin with, and what the second checker says of a pair."""
 import os
+import re
 import sys
 
 from running import ROOT
@@ -53,6 +54,18 @@ def second(model, stream):
     except slow.TooLargeToList:
         return None
     return STATUSES[lines[-1].split(":")[0]], text_of(lines), b""
+
+
+def second_cut(model, stream):
+    """The same with --cut: where the end is inside a block, what is said of the bytes before it."""
+    want = second(model, stream)
+    unfinished = rb"refused: stream: Unfinished at (\d+)\.\.(\d+)\n"
+    opened = re.fullmatch(unfinished, want[2]) if want else None
+    if not opened or b"\n" in stream[int(opened[2]) :]:
+        return want  # behind the block is a claim's line, with its LF
+    status, out, err = second(model, stream[: int(opened[1])])
+    *lines, answer = out.splitlines(True)
+    return status, b"".join([*lines, b"cut: %b..%b\n" % opened.groups(), answer]), err
 
 
 def text_of(lines):

@@ -13,6 +13,7 @@ from beside import (
     content,
     examples,
     second,
+    second_cut,
 )
 from running import FOLDER, Tally, run
 
@@ -32,13 +33,16 @@ CUTS = (
 )
 
 
-def of_improving(n):
-    """The status, standard output and standard error on the first n bytes of the improving
-    stream."""
+def of_improving(n, cuts):
+    """The status, standard output and standard error on the first n bytes of the improving stream,
+    with --cut or without."""
     lines, opened, accepted = next(cut[1:] for cut in CUTS if n <= cut[0])
     written = b"".join(LINES[:lines])
-    if opened is not None:
+    if opened is not None and not cuts:
         return 4, written, b"refused: stream: Unfinished at %d..%d\n" % (opened, n)
+    if opened is not None:
+        accepted = lines  # no claim is among them
+        written += b"cut: %d..%d\n" % (opened, n)
     if accepted == 0:
         return 3, written + b"no blocks\n", b""
     return 0, written + b"accepted: blocks %d\n" % accepted, b""
@@ -50,8 +54,10 @@ def improving(program):
         model.write(IMPROVING_MODEL)
         model.flush()
         for n in range(len(IMPROVING_STREAM) + 1):
-            ran = run([program, "check", model.name], IMPROVING_STREAM[:n])
-            tally.expect(f"the first {n} bytes of the stream", ran.answer, of_improving(n))
+            for cuts, words in (False, ["check"]), (True, ["check", "--cut"]):
+                ran = run([program, *words, model.name], IMPROVING_STREAM[:n])
+                name = f"the first {n} bytes of the stream, by {words}"
+                tally.expect(name, ran.answer, of_improving(n, cuts))
     return tally
 
 
@@ -86,6 +92,8 @@ def of_stream(program, name, model, stream):
     for n in range(len(whole) + 1):
         got = run([program, "check", model], whole[:n]).answer
         tally.expect(f"{name}: the stream's first {n} bytes", got, second(against, whole[:n]))
+        got = run([program, "check", "--cut", model], whole[:n]).answer
+        tally.expect(f"{name}: the first {n} bytes, cut", got, second_cut(against, whole[:n]))
     return tally
 
 

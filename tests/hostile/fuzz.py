@@ -15,7 +15,7 @@ import tempfile
 import time
 from multiprocessing import Pool
 
-from beside import CORPUS, content, examples, pairs, second, slow
+from beside import CORPUS, content, examples, pairs, second, second_cut, slow
 from running import FOLDER, ROOT, Tally, run
 
 AT_ONCE = 200  # pairs of one job
@@ -256,6 +256,10 @@ def differs(program, folder, model, stream, rand):
     got = run([program, "check", *paths]).answer
     if want is not None and got != want:
         return f"gave {got}, the second checker {want}"
+    if b"Unfinished" in got[2]:
+        want, cut = second_cut(model, stream), run([program, "check", "--cut", *paths]).answer
+        if want is not None and cut != want:
+            return f"gave {cut} with --cut, the second checker {want}"
     pieces = in_pieces([program, "check", paths[0]], stream, rand).answer
     return None if pieces == got else f"gave {got}, in pieces {pieces}"
 

@@ -26,6 +26,8 @@ def words_of_runs():
         yield f"{name} shown, all printed", ["show", "--print-all", model], b""
     yield "standard input", ["check", FIRST_MODEL], content(FIRST_STREAM)
     yield "a cut stream", ["check", FIRST_MODEL], content(FIRST_STREAM) + b"x = 4;\n"
+    cuts = ["check", "--cut", "--explain=all", FIRST_MODEL]
+    yield "a cut stream, cut off", cuts, b"x = 1;\n----------\nx = 4;\n"
     yield "a broken model", ["show", FIRST_STREAM], b""
     explain = ["check", "--explain", FIRST_MODEL]
     yield "a cut stream, explained", explain, content(FIRST_STREAM) + b"x = 4;\n"

@@ -3,6 +3,7 @@ pub mod Appending
 pub mod WritingLemmas
 pub mod EventLemmas
 pub mod JuryLemmas
+pub mod CutLemmas
 pub mod ReaderLemmas
 pub mod ReportLemmas
 pub mod StreamingLemmas

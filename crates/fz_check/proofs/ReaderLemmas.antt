@@ -2,6 +2,7 @@
 use Rattle.std.proofs.Common.{◌≡◌, ◌≢◌, ℕ, inl, inr, subst₂, ◌+◌, ◌-◌, ◌≤◌, List, [], ◌∷◌, ◌++◌, length, map, take, drop, Option, Some, None, IsSome, true, false, ⊎_elim, refl, sym, ap, ◌∙◌, subst, append_assoc, append-nil, arith, length-take, length-append, take-append-drop}
 use Rattle.std.proofs.lemmas.List.{drop_all, drop-take, drop-drop, map_push}
 use Rattle.std.specs.List.{AllByRecursion}
+use Rattle.std.specs.Prelude.{IfErr, Result, Ok, Err}
 use Rattle.std.specs.Io.KnownBytes.{IsAtEnd}
 use Rattle.fz_judge.specs.of_stream.declared.error.StreamError.{StreamError}
 use Rattle.fz_judge.specs.of_stream.declared.error.StreamError.TheVariants as stream
@@ -11,9 +12,14 @@ use Rattle.fz_judge.specs.of_stream.Faults.{IsStreamFault, IsCuttingFault}
 use Rattle.fz_judge.specs.of_stream.Parts.{StreamPart, BlockPart, ClaimPart, Frame, frame_of, HasItems, Covers, IsStreamText}
 use Rattle.fz_judge.specs.of_stream.Splitting.{SplitterState, Holds, Fits, PassesLimit, EndsLast, EndsWith, IsPartOfItems, frames_in, most_taken}
 use Rattle.fz_judge.proofs.of_stream.PartLemmas.{every_append, into_frames}
-use Rattle.fz_check.specs.Reading.{PiecesState, ReaderState, HasRead, HasEnded, WaitsInside, HasNext, StandsAt, HasNoMore, IsRefusedInside, IsRefusedAfter}
+use Rattle.fz_base.specs.declared.span.Span.{Span}
+use Rattle.fz_check.specs.declared.ending.Ending.{Ending}
+use Rattle.fz_check.specs.declared.ending.Ending.TheVariants.{Whole, Cut}
+use Rattle.fz_check.specs.declared.reader.Step.TheVariants.{Part, End}
+use Rattle.fz_check.specs.Reading.{PiecesState, ReaderState, HasRead, HasEnded, WaitsInside, HasNext, StandsAt, HasNoMore, IsRefusedInside, IsRefusedBy}
 use Rattle.fz_check.specs.Streaming.{EndInside}
-use Rattle.fz_check.specs.Telling.{IsUnread, stream_refusal}
+use Rattle.fz_check.specs.Telling.{IsEndOf, IsUnread, broken_end, stream_refusal}
+use Rattle.fz_check.proofs.CutLemmas.{after_by, front_framed, front_of, inside_by, is_cut, last_not_open}
 
 -- what is left of a slice of the buffer
 pub pending_left : (buffer : List ℕ) (next end n : ℕ) → n ≤ length
@@ -119,15 +125,68 @@ cutting_fault stream.Failed h = absurd h
 cutting_fault _ h = tt
 
 -- why the stream is refused, as it is told
-pub unread : (left : Option (List ℕ)) (given : List ℕ) (parts : List StreamPart) (e : StreamError)
-    → (e ≢ stream.Memory → IsStreamFault e) → (e ≢ stream.Memory → IsRefusedAfter left given parts e)
-    → IsUnread left given parts (stream_refusal e)
-unread left given parts stream.TooLong fault why = let n : stream.TooLong ≢ stream.Memory = λ m. cc in (fault n, n, why n)
-unread left given parts (stream.Item f) fault why = let n : stream.Item f ≢ stream.Memory = λ m. cc in (fault n, n, why n)
-unread left given parts (stream.DuplicateName s) fault why = let n : stream.DuplicateName s ≢ stream.Memory = λ m. cc in (fault n, n, why n)
-unread left given parts (stream.Unfinished s) fault why = let n : stream.Unfinished s ≢ stream.Memory = λ m. cc in (fault n, n, why n)
-unread left given parts stream.Failed fault why = let n : stream.Failed ≢ stream.Memory = λ m. cc in (fault n, n, why n)
-unread left given parts stream.Memory fault why = tt
+pub unread : (ending : Ending) (left : Option (List ℕ)) (given : List ℕ)
+    (parts : List StreamPart) (e : StreamError) → (e ≢ stream.Memory → IsStreamFault e)
+    → (e ≢ stream.Memory → IsRefusedBy ending left given parts e)
+    → IsUnread ending left given parts (stream_refusal e)
+unread ending left given parts stream.Memory fault why = tt
+unread ending left given parts stream.TooLong fault why =
+    let n : stream.TooLong ≢ stream.Memory = λ m. cc in
+    (fault n, n, why n)
+unread ending left given parts (stream.Item f) fault why =
+    let n : stream.Item f ≢ stream.Memory = λ m. cc in
+    (fault n, n, why n)
+unread ending left given parts (stream.DuplicateName s) fault why =
+    let n : stream.DuplicateName s ≢ stream.Memory = λ m. cc in
+    (fault n, n, why n)
+unread ending left given parts (stream.Unfinished s) fault why =
+    let n : stream.Unfinished s ≢ stream.Memory = λ m. cc in
+    (fault n, n, why n)
+unread ending left given parts stream.Failed fault why =
+    let n : stream.Failed ≢ stream.Memory = λ m. cc in
+    (fault n, n, why n)
+
+-- what holds of each error that a result may be
+pub if_err_is : {T E : Type 0} (r : Result T E) (P : E → Type 0)
+    → ((e : E) → r ≡ Err e → P e) → IfErr r P
+if_err_is (Ok x) P f = tt
+if_err_is (Err e) P f = f e refl
+
+-- a stream that can't end as it is, is refused at its end
+pub ended_refused : (ending : Ending) (left : Option (List ℕ)) (given : List ℕ)
+    (parts : List StreamPart) (e : StreamError) → IsCuttingFault e × (e ≢ stream.TooLong)
+    → IsAtEnd left → IsBrokenAtEndAfter given parts e
+    → IfErr (broken_end ending e) (IsUnread ending left given parts)
+ended_refused Whole left given parts e fault end broken =
+    unread Whole left given parts e (λ _. cutting_fault e fault.0) (λ _. inr (end, broken))
+ended_refused Cut left given parts (stream.Unfinished s) fault end broken = tt
+ended_refused Cut left given parts stream.Memory fault end broken = tt
+ended_refused Cut left given parts stream.TooLong fault end broken = absurd (fault.1 refl)
+ended_refused Cut left given parts _ fault end broken = absurd fault.0
+
+-- or cut
+pub ended_cut : (ending : Ending) (given : List ℕ) (parts : List StreamPart)
+    (e : StreamError) → IsBrokenAtEndAfter given parts e → (cut : Option Span)
+    → broken_end ending e ≡ Ok (End cut)
+    → IsEndOf ending given parts cut
+ended_cut Whole given parts e broken cut is =
+    absurd (let no : Err (stream_refusal e) ≡ Ok (End cut) = is in cc)
+ended_cut Cut given parts (stream.Unfinished s) broken cut is =
+    let same : Some s ≡ cut = cc in
+    let frames = map frame_of parts in
+    let text : IsStreamText (front_of given frames s broken.1) parts =
+    record { framed = front_framed given frames s broken.1; items = broken.0 } in
+    subst (IsEndOf Cut given parts) same (refl, (_, is_cut given frames s broken.1, text))
+ended_cut Cut given parts e broken cut is =
+    absurd (let no : Err (stream_refusal e) ≡ Ok (End cut) = is in cc)
+
+-- and no part comes
+pub ended_no_part : (ending : Ending) (e : StreamError)
+    → broken_end ending e ≡ Ok Part → ⊥
+ended_no_part Whole e is = (let no : Err (stream_refusal e) ≡ Ok Part = is in cc)
+ended_no_part Cut (stream.Unfinished s) is =
+    (let no : Ok (End (Some s)) ≡ Ok Part = is in cc)
+ended_no_part Cut e is = (let no : Err (stream_refusal e) ≡ Ok Part = is in cc)
 
 -- ---- where a reader stands
 
@@ -216,18 +275,26 @@ module _ (s : ReaderState) (left : Option (List ℕ)) (given : List ℕ) (parts 
       → (e ≢ stream.Failed → IsStreamFault e) → (e ≡ stream.Failed → t.stage ≡ Failed)
       → (e ≢ stream.Memory → e ≢ stream.Failed → (bytes more : List ℕ) (frames : List Frame) (frame : Frame) → Fits t bytes (frames ++ frame ∷ []) → BreaksAfter CannotGoOn (bytes ++ more) frames e)
       → (e ≢ stream.Memory → e ≢ stream.Failed → (bytes : List ℕ) (frames : List Frame) → EndsWith t.waits bytes frames → BreaksAfter CannotEnd bytes frames e)
-      → IsUnread left given parts (stream_refusal e)
-  refused_next t same e fault failed broken broken_at_end = unread left given parts e (λ _. fault not_failed) why
+      → (ending : Ending) → IsUnread ending left given parts (stream_refusal e)
+  refused_next t same e fault failed broken broken_at_end ending =
+      unread ending left given parts e (λ _. fault not_failed) why
     where
       not_failed : e ≢ stream.Failed
       not_failed q =
           ⊎_elim (λ w. let no : Running ≡ Failed = sym w.0.fits.running ∙ ap (λ u. u.stage) same ∙ failed q in cc) (λ w. let no : Finished ≡ Failed = sym w.1 ∙ ap (λ u. u.stage) same ∙ failed q in cc) n.ends
 
-      why : e ≢ stream.Memory → IsRefusedAfter left given parts e
+      why : e ≢ stream.Memory → IsRefusedBy ending left given parts e
       why memory =
           ⊎_elim
           (λ (w : WaitsInside s given parts frame × (s.pieces.at_end ≡ true → IsAtEnd left)).
-          inl (inr (n.items, subst (λ l. BreaksAfter CannotGoOn l (map frame_of parts) e) (sym w.0.whole) (broken memory not_failed w.0.taken s.pieces.pending (map frame_of parts) frame (subst (λ u. Fits u w.0.taken (map frame_of parts ++ frame ∷ [])) same w.0.fits)))))
+          inside_by ending left given parts e (inr (n.items, subst (λ l. BreaksAfter CannotGoOn l (map frame_of parts) e) (sym w.0.whole) (broken memory not_failed w.0.taken s.pieces.pending (map frame_of parts) frame (subst (λ u. Fits u w.0.taken (map frame_of parts ++ frame ∷ [])) same w.0.fits)))))
           (λ (w : IsAtEnd left × (s.splitter.stage ≡ Finished) × EndsLast given (map frame_of parts) frame).
-          inr (w.0, (n.items, broken_at_end memory not_failed given (map frame_of parts) (subst (λ o. EndsWith o given (map frame_of parts)) (sym n.waits ∙ ap (λ u. u.waits) same) w.2))))
+          let frames = map frame_of parts in
+          let waits = sym n.waits ∙ ap (λ u. u.waits) same in
+          let ends = subst (λ o. EndsWith o given frames) waits w.2 in
+          let broken_here = broken_at_end memory not_failed given frames ends in
+          let closed : (span : Span) → e ≡ stream.Unfinished span → ⊥ = λ span is.
+          (let left_open = subst (BreaksAfter CannotEnd given frames) is broken_here in
+          last_not_open given frames frame span w.2 left_open) in
+          after_by ending left given parts e closed (inr (w.0, (n.items, broken_here))))
           n.ends

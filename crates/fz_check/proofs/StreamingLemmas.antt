@@ -1,6 +1,7 @@
 -- What a check over a reader and a writer knows between two steps, and where it ends.
 use Rattle.std.proofs.Common.{◌≡◌, ◌≢◌, ℕ, Bool, ◌+◌, ◌*◌, ◌<◌, ◌≤◌, true, false, cond, List, [], ◌∷◌, ◌++◌, length, map, Option, None, inl, inr, ⊎_elim, refl, sym, ap, ◌∙◌, subst, append-nil, length-append, arith}
-use Rattle.std.specs.Prelude.{IfOk, IfErr, Result}
+use Rattle.std.specs.Prelude.{IfOk, IfErr, OnOk, OnErr, Result, Ok, Err}
+use Rattle.std.proofs.lemmas.Grind.{flat_map-append}
 use Rattle.std.proofs.KnownBytes.{Appends-nil, Consumes-nil, Consumes-trans}
 use Rattle.std.specs.Io.KnownBytes.{Appends, Consumes, IsAtEnd}
 use Rattle.fz_judge.specs.of_model.Meaning.{Model}
@@ -11,21 +12,24 @@ use Rattle.fz_judge.specs.of_verdict.View.{located_block}
 use Rattle.fz_judge.specs.of_verdict.declared.completion.Completion.{Completion}
 use Rattle.fz_judge.specs.of_verdict.Verdict.{Verdict, Answer, answer_by, answer_of}
 use Rattle.fz_judge.specs.Judged.{JudgeState}
+use Rattle.fz_base.specs.declared.span.Span.{Span}
+use Rattle.fz_check.specs.declared.ending.Ending.{Ending}
 use Rattle.fz_check.specs.declared.error.CheckError.{CheckError}
 use Rattle.fz_check.specs.declared.error.CheckError.TheVariants as errors
 use Rattle.fz_check.specs.declared.jury.Jury.{Jury}
 use Rattle.fz_check.specs.declared.tally.Tally.{Tally}
 use Rattle.fz_check.specs.declared.tally.Answer as the_tally
 use Rattle.fz_check.specs.declared.tally.Answer.TheVariants as answers
+use Rattle.fz_check.specs.Cutting.{HoldsOfJudged}
 use Rattle.fz_check.specs.Headline.{HasSolutions, HoldsOfStream}
 use Rattle.fz_check.specs.Reading.{PiecesState, ReaderState, HasRead, HasNext, StandsAt, SpendsReads, is_going, piece_size, reads_without, steps_left}
 use Rattle.fz_check.specs.Report.{Event, events_of, text_of}
 use Rattle.fz_check.specs.Report.Event.{Answered}
-use Rattle.fz_check.specs.Streaming.{AreLast, EndInside, EndsFor, IsEnded, IsReportedTo, IsStopped, StopsAfterEvents, WritesFrontOfEvents}
-use Rattle.fz_check.specs.Telling.{AnswersOnceWritten, HasTold, IsFresh, IsUnread, IsUntold, IsUnwritten, LeavesNext, Stands, StopsOnceWritten, TellsNext, TellsOneMore}
+use Rattle.fz_check.specs.Streaming.{AreLast, EndInside, EndsFor, IsEndedBy, IsReportedWith, IsStopped, StopsAfterEvents, WritesFrontOfEvents}
+use Rattle.fz_check.specs.Telling.{AnswersOnceWritten, HasTold, IsEndOf, IsFresh, IsToldWith, IsUnread, IsUntold, IsUnwritten, LeavesNext, Stands, StopsOnceWritten, TellsNext, TellsOneMore, cut_events}
 use Rattle.fz_check.specs.View.{answer_view}
 use Rattle.fz_check.specs.Writing.{WritesFront, Wrote}
-use Rattle.fz_check.proofs.EventLemmas.{text_with}
+use Rattle.fz_check.proofs.CutLemmas.{holds_at_end, if_judged}
 use Rattle.fz_check.proofs.JuryLemmas.{answer_is, have_verdicts, if_err, if_ok, told_none}
 use Rattle.fz_check.proofs.ReaderLemmas.{all_taken, read_inside, read_more, stands_inside, stands_reading}
 use Rattle.fz_check.proofs.ReportLemmas.{report_of, solutions_of}
@@ -66,45 +70,45 @@ living_first text s j reads left w lines fresh read pieces none = record {
 -- ---- where a check ends
 
 -- a front of the lines was written
-pub stands_front : (text : Event → List ℕ) (c : Completion) (m : Model) (reads : ℕ)
+pub stands_front : (ending : Ending) (text : Event → List ℕ) (c : Completion) (m : Model) (reads : ℕ)
     (left left' w w' next : Option (List ℕ)) (lines : List ℕ)
-    → Stands text c m reads left left' w w' lines → WritesFront w' next lines → WritesFrontOfEvents text c m left left' w next
-stands_front text c m reads left left' w w' next lines h f =
+    → Stands ending text c m reads left left' w w' lines → WritesFront w' next lines → WritesFrontOfEvents ending text c m left left' w next
+stands_front ending text c m reads left left' w w' next lines h f =
     let g = h.front next f in
     record { given = h.given; reads = h.consumes; parts = h.parts; end_inside = h.end_inside; verdicts = h.verdicts; have_verdicts = h.have_verdicts; last = h.last; are_last = h.are_last; front = g.front; rest = g.rest; whole = g.whole; writes = g.appends }
 
 -- no more lines were written where a write failed, or memory ran out
-pub stops_unwritten : (text : Event → List ℕ) (c : Completion) (m : Model) (reads : ℕ)
+pub stops_unwritten : (ending : Ending) (text : Event → List ℕ) (c : Completion) (m : Model) (reads : ℕ)
     (left left' w w' : Option (List ℕ)) (lines : List ℕ) (e : CheckError)
-    → Stands text c m reads left left' w w' lines → IsUnwritten e → StopsOnceWritten text c m left left' w w' lines e
-stops_unwritten text c m reads left left' w w' lines errors.Write h u = λ next a. stands_front text c m reads left left' w w' next lines h (all_is_front w' next lines a)
-stops_unwritten text c m reads left left' w w' lines errors.Memory h u = λ next a. stands_front text c m reads left left' w w' next lines h (all_is_front w' next lines a)
-stops_unwritten text c m reads left left' w w' lines errors.Read h u = absurd u
-stops_unwritten text c m reads left left' w w' lines (errors.Model e) h u = absurd u
-stops_unwritten text c m reads left left' w w' lines (errors.Names e) h u = absurd u
-stops_unwritten text c m reads left left' w w' lines (errors.Stream e) h u = absurd u
-stops_unwritten text c m reads left left' w w' lines (errors.Block n e) h u = absurd u
+    → Stands ending text c m reads left left' w w' lines → IsUnwritten e → StopsOnceWritten ending text c m left left' w w' lines e
+stops_unwritten ending text c m reads left left' w w' lines errors.Write h u = λ next a. stands_front ending text c m reads left left' w w' next lines h (all_is_front w' next lines a)
+stops_unwritten ending text c m reads left left' w w' lines errors.Memory h u = λ next a. stands_front ending text c m reads left left' w w' next lines h (all_is_front w' next lines a)
+stops_unwritten ending text c m reads left left' w w' lines errors.Read h u = absurd u
+stops_unwritten ending text c m reads left left' w w' lines (errors.Model e) h u = absurd u
+stops_unwritten ending text c m reads left left' w w' lines (errors.Names e) h u = absurd u
+stops_unwritten ending text c m reads left left' w w' lines (errors.Stream e) h u = absurd u
+stops_unwritten ending text c m reads left left' w w' lines (errors.Block n e) h u = absurd u
 
-module _ (text : Event → List ℕ) (c : Completion) (m : Model) (reads : ℕ) (j : Jury) (left left' w w' : Option (List ℕ)) (lines given : List ℕ) (consumes : Consumes left left' given)
+module _ (ending : Ending) (text : Event → List ℕ) (c : Completion) (m : Model) (reads : ℕ) (j : Jury) (left left' w w' : Option (List ℕ)) (lines given : List ℕ) (consumes : Consumes left left' given)
     (few : length given ≤ reads * piece_size) (parts : List StreamPart) (verdicts : List Verdict) (told : HasTold c m j parts verdicts) where
   -- all of the parts were told, with the lines that wait
-  module _ (last : List Event) (inside : EndInside left' given parts) (are_last : AreLast left' given parts verdicts last) (gathered : Wrote w w' (text_of text (events_of 0 verdicts parts ++ last)) lines) where
-    pub stand : Stands text c m reads left left' w w' lines
+  module _ (last : List Event) (inside : EndInside left' given parts) (are_last : AreLast ending left' given parts verdicts last) (gathered : Wrote w w' (text_of text (events_of 0 verdicts parts ++ last)) lines) where
+    pub stand : Stands ending text c m reads left left' w w' lines
     stand = record { given = given; consumes = consumes; few = few; parts = parts; end_inside = inside; verdicts = verdicts; have_verdicts = have_verdicts c m j parts verdicts told; last = last; are_last = are_last; front = λ next f. wrote_part w w' next _ lines gathered f }
 
   module _ (inside : EndInside left' given parts) (gathered : Wrote w w' (text_of text (events_of 0 verdicts parts)) lines) where
-    pub stand_so_far : Stands text c m reads left left' w w' lines
+    pub stand_so_far : Stands ending text c m reads left left' w w' lines
     stand_so_far = stand [] inside (inl refl) (subst (λ es. Wrote w w' (text_of text es) lines) (sym (append-nil (events_of 0 verdicts parts))) gathered)
 
     stop : (next : Option (List ℕ)) → Appends w' next lines → (e : CheckError)
-        → EndsFor m left' given parts e → StopsAfterEvents text c m left left' w next e
+        → EndsFor ending m left' given parts e → StopsAfterEvents ending text c m left left' w next e
     stop next a e why = record { given = given; reads = consumes; parts = parts; verdicts = verdicts; have_verdicts = have_verdicts c m j parts verdicts told; writes = wrote_all w w' next _ lines gathered a; why = why }
 
     -- this is why no more are told
-    pub stops_for : (e : CheckError) → EndsFor m left' given parts e
-        → StopsOnceWritten text c m left left' w w' lines e
-    stops_for errors.Write why = stops_unwritten text c m reads left left' w w' lines errors.Write stand_so_far tt
-    stops_for errors.Memory why = stops_unwritten text c m reads left left' w w' lines errors.Memory stand_so_far tt
+    pub stops_for : (e : CheckError) → EndsFor ending m left' given parts e
+        → StopsOnceWritten ending text c m left left' w w' lines e
+    stops_for errors.Write why = stops_unwritten ending text c m reads left left' w w' lines errors.Write stand_so_far tt
+    stops_for errors.Memory why = stops_unwritten ending text c m reads left left' w w' lines errors.Memory stand_so_far tt
     stops_for errors.Read why = λ next a. stop next a errors.Read why
     stops_for (errors.Stream e) why = λ next a. stop next a (errors.Stream e) why
     stops_for (errors.Block n e) why = λ next a. stop next a (errors.Block n e) why
@@ -112,20 +116,20 @@ module _ (text : Event → List ℕ) (c : Completion) (m : Model) (reads : ℕ) 
     stops_for (errors.Names e) why = absurd why
 
 -- the stream is refused
-unread_ends : (m : Model) (left : Option (List ℕ)) (given : List ℕ) (parts : List StreamPart)
-    (e : CheckError) → IsUnread left given parts e → EndsFor m left given parts e
-unread_ends m left given parts (errors.Stream e) u = u
-unread_ends m left given parts errors.Memory u = tt
-unread_ends m left given parts errors.Read u = absurd u
-unread_ends m left given parts errors.Write u = tt
-unread_ends m left given parts (errors.Model e) u = u
-unread_ends m left given parts (errors.Names e) u = u
-unread_ends m left given parts (errors.Block n e) u = absurd u
+unread_ends : (ending : Ending) (m : Model) (left : Option (List ℕ)) (given : List ℕ) (parts : List StreamPart)
+    (e : CheckError) → IsUnread ending left given parts e → EndsFor ending m left given parts e
+unread_ends ending m left given parts (errors.Stream e) u = u
+unread_ends ending m left given parts errors.Memory u = tt
+unread_ends ending m left given parts errors.Read u = absurd u
+unread_ends ending m left given parts errors.Write u = tt
+unread_ends ending m left given parts (errors.Model e) u = u
+unread_ends ending m left given parts (errors.Names e) u = u
+unread_ends ending m left given parts (errors.Block n e) u = absurd u
 
 -- the next part is
-untold_ends : (m : Model) (left : Option (List ℕ)) (given : List ℕ) (parts : List StreamPart)
-    (part : StreamPart) (e : CheckError) → EndInside left given (parts ++ part ∷ []) → IsUntold m parts part e → EndsFor m left given parts e
-untold_ends m left given parts part (errors.Block n e) inside u = record {
+untold_ends : (ending : Ending) (m : Model) (left : Option (List ℕ)) (given : List ℕ) (parts : List StreamPart)
+    (part : StreamPart) (e : CheckError) → EndInside left given (parts ++ part ∷ []) → IsUntold m parts part e → EndsFor ending m left given parts e
+untold_ends ending m left given parts part (errors.Block n e) inside u = record {
   block = u.block;
   places = u.places;
   next = subst (λ p. EndInside left given (parts ++ p ∷ [])) u.part_is inside;
@@ -133,28 +137,28 @@ untold_ends m left given parts part (errors.Block n e) inside u = record {
   not_memory = u.not_memory;
   refused = u.refused;
 }
-untold_ends m left given parts part errors.Memory inside u = tt
-untold_ends m left given parts part errors.Read inside u = absurd u
-untold_ends m left given parts part errors.Write inside u = tt
-untold_ends m left given parts part (errors.Model e) inside u = u
-untold_ends m left given parts part (errors.Names e) inside u = u
-untold_ends m left given parts part (errors.Stream e) inside u = absurd u
+untold_ends ending m left given parts part errors.Memory inside u = tt
+untold_ends ending m left given parts part errors.Read inside u = absurd u
+untold_ends ending m left given parts part errors.Write inside u = tt
+untold_ends ending m left given parts part (errors.Model e) inside u = u
+untold_ends ending m left given parts part (errors.Names e) inside u = u
+untold_ends ending m left given parts part (errors.Stream e) inside u = absurd u
 
-module _ (text : Event → List ℕ) (c : Completion) (m : Model) (reads : ℕ) (s : ReaderState) (j : Jury) (left left' w w' : Option (List ℕ)) (lines : List ℕ) (l : Living text c m reads s j left left' w w' lines) where
+module _ (ending : Ending) (text : Event → List ℕ) (c : Completion) (m : Model) (reads : ℕ) (s : ReaderState) (j : Jury) (left left' w w' : Option (List ℕ)) (lines : List ℕ) (l : Living text c m reads s j left left' w w' lines) where
   so_few : length l.given ≤ reads * piece_size
   so_few = omega (arith, l.few)
 
   inside : EndInside left' l.given l.parts
   inside = stands_inside s left' l.given l.parts l.stands
 
-  pub living_stands : Stands text c m reads left left' w w' lines
-  living_stands = stand_so_far text c m reads j left left' w w' lines l.given l.consumes so_few l.parts l.verdicts l.told inside l.gathered
+  pub living_stands : Stands ending text c m reads left left' w w' lines
+  living_stands = stand_so_far ending text c m reads j left left' w w' lines l.given l.consumes so_few l.parts l.verdicts l.told inside l.gathered
 
   pub living_unread : (e : CheckError)
-      → ((left : Option (List ℕ)) (given : List ℕ) (parts : List StreamPart) → StandsAt s left given parts → IsUnread left given parts e)
-      → StopsOnceWritten text c m left left' w w' lines e
+      → ((left : Option (List ℕ)) (given : List ℕ) (parts : List StreamPart) → StandsAt s left given parts → IsUnread ending left given parts e)
+      → StopsOnceWritten ending text c m left left' w w' lines e
   living_unread e unread =
-      stops_for text c m reads j left left' w w' lines l.given l.consumes so_few l.parts l.verdicts l.told inside l.gathered e (unread_ends m left' l.given l.parts e (unread left' l.given l.parts l.stands))
+      stops_for ending text c m reads j left left' w w' lines l.given l.consumes so_few l.parts l.verdicts l.told inside l.gathered e (unread_ends ending m left' l.given l.parts e (unread left' l.given l.parts l.stands))
 
   -- one more part is told
   module _ (next : ReaderState) (going : s.splitter.stage ≢ Finished)
@@ -165,13 +169,13 @@ module _ (text : Event → List ℕ) (c : Completion) (m : Model) (reads : ℕ) 
 
     -- or not told
     pub living_untold : (e : CheckError) → LeavesNext next j e
-        → StopsOnceWritten text c m left left' w w' lines e
+        → StopsOnceWritten ending text c m left left' w w' lines e
     living_untold e leaves =
         let f = more left' l.given l.parts l.stands in
-        let why : EndsFor m left' l.given l.parts e =
-        ⊎_elim (unread_ends m left' l.given l.parts e) (λ p. untold_ends m left' l.given l.parts p.0 e (stands_inside next left' l.given (l.parts ++ p.0 ∷ []) p.1) p.2)
-        (leaves c m left' l.given l.parts f.0 l.verdicts f.1 l.told) in
-        stops_for text c m reads j left left' w w' lines l.given l.consumes so_few l.parts l.verdicts l.told inside l.gathered e why
+        let why : EndsFor ending m left' l.given l.parts e =
+        ⊎_elim (unread_ends ending m left' l.given l.parts e) (λ p. untold_ends ending m left' l.given l.parts p.0 e (stands_inside next left' l.given (l.parts ++ p.0 ∷ []) p.1) p.2)
+        (leaves ending c m left' l.given l.parts f.0 l.verdicts f.1 l.told) in
+        stops_for ending text c m reads j left left' w w' lines l.given l.consumes so_few l.parts l.verdicts l.told inside l.gathered e why
 
     module _ (j' : Jury) (line : List ℕ) (tells : TellsNext text next j j' line) where
       read_and_told : (part : StreamPart) × StandsAt next left' l.given (l.parts ++ part ∷ []) × TellsOneMore text c m j' l.parts l.verdicts part line
@@ -211,7 +215,7 @@ module _ (text : Event → List ℕ) (c : Completion) (m : Model) (reads : ℕ) 
 
       -- but its line is not written
       pub living_ungathered : (w'' : Option (List ℕ)) (lines' : List ℕ)
-          → ((n : Option (List ℕ)) → WritesFront w'' n lines' → WritesFront w' n (lines ++ line)) → Stands text c m reads left left' w w'' lines'
+          → ((n : Option (List ℕ)) → WritesFront w'' n lines' → WritesFront w' n (lines ++ line)) → Stands ending text c m reads left left' w w'' lines'
       living_ungathered w'' lines' front = record {
         given = l.given;
         consumes = l.consumes;
@@ -229,7 +233,7 @@ module _ (text : Event → List ℕ) (c : Completion) (m : Model) (reads : ℕ) 
 
   -- a front of the lines that waited was written
   pub living_lost : (w'' : Option (List ℕ)) (rest : List ℕ) → WritesFront w' w'' lines → rest ≡ []
-      → Stands text c m reads left left' w w'' rest
+      → Stands ending text c m reads left left' w w'' rest
   living_lost w'' rest f none = record {
     given = l.given;
     consumes = l.consumes;
@@ -263,11 +267,11 @@ module _ (text : Event → List ℕ) (c : Completion) (m : Model) (reads : ℕ) 
       few_now : length given ≤ reads * piece_size
       few_now = omega (arith, so_few, ap length still, length-append l.given next.pieces.pending)
 
-      pub living_unread_stands : Stands text c m reads left left'' w w'' rest
-      living_unread_stands = stand_so_far text c m reads j left left'' w w'' rest given gave_all few_now l.parts l.verdicts l.told (read_inside next left'' given l.parts read_all) wrote
+      pub living_unread_stands : Stands ending text c m reads left left'' w w'' rest
+      living_unread_stands = stand_so_far ending text c m reads j left left'' w w'' rest given gave_all few_now l.parts l.verdicts l.told (read_inside next left'' given l.parts read_all) wrote
 
-      pub living_no_bytes : StopsOnceWritten text c m left left'' w w'' rest errors.Read
-      living_no_bytes = stops_for text c m reads j left left'' w w'' rest given gave_all few_now l.parts l.verdicts l.told (read_inside next left'' given l.parts read_all) wrote errors.Read (all_taken next given l.parts still read_all)
+      pub living_no_bytes : StopsOnceWritten ending text c m left left'' w w'' rest errors.Read
+      living_no_bytes = stops_for ending text c m reads j left left'' w w'' rest given gave_all few_now l.parts l.verdicts l.told (read_inside next left'' given l.parts read_all) wrote errors.Read (all_taken next given l.parts still read_all)
 
     pub living_read : next.pieces.reads + 1 ≡ s.pieces.reads → length next.pieces.pending ≤ piece_size
         → (next.pieces.at_end ≡ true → (next.pieces.pending ≡ []) × IsAtEnd left'') → s.splitter.stage ≢ Finished
@@ -288,67 +292,148 @@ module _ (text : Event → List ℕ) (c : Completion) (m : Model) (reads : ℕ) 
 
   -- ---- the stream has ended
 
-  module _ (ended : (left : Option (List ℕ)) (given : List ℕ) (parts : List StreamPart) → StandsAt s left given parts → IsAtEnd left × IsStreamText given parts) where
-    at_end : IsAtEnd left' × IsStreamText l.given l.parts
+  module _ (cut : Option Span)
+      (ended : (left : Option (List ℕ)) (given : List ℕ) (parts : List StreamPart)
+      → StandsAt s left given parts → IsAtEnd left × IsEndOf ending given parts cut) where
+    at_end : IsAtEnd left' × IsEndOf ending l.given l.parts cut
     at_end = ended left' l.given l.parts l.stands
 
-    module _ (answer : Answer) (is : answer ≡ answer_by j.tally.violated j.tally.undecided j.tally.blocks) (line lines' : List ℕ) (made : line ≡ text (Answered answer)) (added : lines' ≡ lines ++ line) where
-      answered : answer ≡ answer_of l.verdicts
-      answered = answer_is c m j (map located_block l.told.blocks) l.verdicts answer l.told.judged is
+    module _ (answer : the_tally.Answer)
+        (is : answer_view answer ≡ answer_by j.tally.violated j.tally.undecided j.tally.blocks)
+        (lines' : List ℕ) where
+      answered : answer_view answer ≡ answer_of l.verdicts
+      answered =
+          answer_is c m j (map located_block l.told.blocks) l.verdicts _ l.told.judged is
 
-      gathered_all : Wrote w w' (text_of text (events_of 0 l.verdicts l.parts ++ Answered answer ∷ [])) lines'
-      gathered_all = wrote_longer w w' _ lines _ lines' line l.gathered (text_with text _ (events_of 0 l.verdicts l.parts) (Answered answer) line refl made) added
+      abbrev pub last : List Event
+      last = cut_events cut ++ Answered (answer_view answer) ∷ []
 
-      pub living_answered_stands : Stands text c m reads left left' w w' lines'
-      living_answered_stands = stand text c m reads j left left' w w' lines' l.given l.consumes so_few l.parts l.verdicts l.told (Answered answer ∷ []) (inr at_end) (inr (at_end.0, at_end.1, ap (λ a. Answered a ∷ []) answered)) gathered_all
+      module _ (added : lines' ≡ lines ++ text_of text last) where
+        gathered_all : Wrote w w' (text_of text (events_of 0 l.verdicts l.parts ++ last)) lines'
+        gathered_all =
+            let more = flat_map-append text (events_of 0 l.verdicts l.parts) last in
+            wrote_longer w w' _ lines _ lines' (text_of text last) l.gathered more added
 
-      pub living_answered : s.pieces.at_end ≡ true
-          → AnswersOnceWritten text c m reads left left' w w' lines' answer
-      living_answered found = record {
-        given = l.given;
-        consumes = l.consumes;
-        end = at_end.0;
-        few = omega (arith, l.few, ap {B = ℕ} (λ b. cond b 1 0) found);
-        events = events_of 0 l.verdicts l.parts ++ Answered answer ∷ [];
-        report = record { parts = l.parts; text_of_stream = at_end.1; verdicts = l.verdicts; have_verdicts = have_verdicts c m j l.parts l.verdicts l.told; answer_is = answered; events_are = refl };
-        writes = λ next a. wrote_all w w' next _ lines' gathered_all a;
-      }
+        are_last : AreLast ending left' l.given l.parts l.verdicts last
+        are_last = inr (
+          at_end.0,
+          holds_at_end ending l.given l.parts cut (λ front before. IsStreamText front l.parts
+              × (last ≡ before ++ Answered (answer_of l.verdicts) ∷ [])) at_end.1
+              (λ front t. (t, ap (λ a. cut_events cut ++ Answered a ∷ []) answered)),
+        )
+
+        answered_stands : Stands ending text c m reads left left' w w' lines'
+        answered_stands = stand ending text c m reads j left left' w w' lines' l.given l.consumes
+            so_few l.parts l.verdicts l.told last inside are_last gathered_all
+
+        told_of : (front : List ℕ) → IsStreamText front l.parts
+            → IsToldWith (cut_events cut) text c m front w w' lines' (answer_view answer)
+        told_of front t = record {
+          events = events_of 0 l.verdicts l.parts;
+          report = record {
+            parts = l.parts;
+            text_of_stream = t;
+            verdicts = l.verdicts;
+            have_verdicts = have_verdicts c m j l.parts l.verdicts l.told;
+            answer_is = answered;
+            events_are = refl;
+          };
+          writes = λ next a. wrote_all w w' next _ lines' gathered_all a;
+        }
+
+        answers_then : s.pieces.at_end ≡ true → AnswersOnceWritten ending text c m reads left left' w w'
+            lines' (answer_view answer)
+        answers_then found = record {
+          given = l.given;
+          consumes = l.consumes;
+          end = at_end.0;
+          few = omega (arith, l.few, ap {B = ℕ} (λ b. cond b 1 0) found);
+          report = holds_at_end ending l.given l.parts cut
+              (λ front before. IsToldWith before text c m front w w' lines' (answer_view answer))
+              at_end.1 told_of;
+        }
+
+      -- the answer is told, or memory ran out
+      pub living_ended : (r : Result the_tally.Answer CheckError)
+          → OnOk r (lines' ≡ lines ++ text_of text last) → OnErr r (lines' ≡ lines)
+          → Stands ending text c m reads left left' w w' lines'
+      living_ended (Ok a) told same = answered_stands told
+      living_ended (Err e) told same =
+          subst (Stands ending text c m reads left left' w w') (sym same) living_stands
+
+      pub living_answered : (r : Result the_tally.Answer CheckError)
+          → OnOk r (lines' ≡ lines ++ text_of text last) → IfOk r (λ a. a ≡ answer)
+          → s.pieces.at_end ≡ true
+          → IfOk r (λ a. AnswersOnceWritten ending text c m reads left left' w w' lines' (answer_view a))
+      living_answered (Ok a) told same found = subst (λ b. AnswersOnceWritten ending text c m reads left left' w w' lines' (answer_view b)) (sym same) (answers_then told found)
+      living_answered (Err e) told same found = tt
+
+      pub living_unanswered : (r : Result the_tally.Answer CheckError)
+          → OnOk r (lines' ≡ lines ++ text_of text last) → OnErr r (lines' ≡ lines)
+          → IfErr r (λ e. e ≡ errors.Memory)
+          → IfErr r (StopsOnceWritten ending text c m left left' w w' lines')
+      living_unanswered (Ok a) told same kinds = tt
+      living_unanswered (Err e) told same kinds = stops_unwritten ending text c m reads left left' w w' lines' e (living_ended (Err e) told same) (subst IsUnwritten (sym kinds) tt)
 
 -- ---- once the lines that are left are written, of the model of a text
 
-ended_by : (text : Event → List ℕ) (c : Completion) (model : List ℕ) (m : Model)
-    (left left' w w' : Option (List ℕ)) (e : CheckError) → IsLoadedFrom model m → IsStopped text c m left left' w w' e → IsEnded text c model left left' w w' e
-ended_by text c model m left left' w w' (errors.Model e) loaded h = absurd h.why
-ended_by text c model m left left' w w' (errors.Names e) loaded h = absurd h.why
-ended_by text c model m left left' w w' errors.Memory loaded h = inr (record { m = m; loaded = loaded; holds = h })
-ended_by text c model m left left' w w' errors.Write loaded h = record { m = m; loaded = loaded; holds = h }
-ended_by text c model m left left' w w' errors.Read loaded h = record { m = m; loaded = loaded; holds = h }
-ended_by text c model m left left' w w' (errors.Stream e) loaded h = record { m = m; loaded = loaded; holds = h }
-ended_by text c model m left left' w w' (errors.Block n e) loaded h = record { m = m; loaded = loaded; holds = h }
+ended_by : (ending : Ending) (text : Event → List ℕ) (c : Completion) (model : List ℕ) (m : Model)
+    (left left' w w' : Option (List ℕ)) (e : CheckError) → IsLoadedFrom model m → IsStopped ending text c m left left' w w' e → IsEndedBy ending text c model left left' w w' e
+ended_by ending text c model m left left' w w' (errors.Model e) loaded h = absurd h.why
+ended_by ending text c model m left left' w w' (errors.Names e) loaded h = absurd h.why
+ended_by ending text c model m left left' w w' errors.Memory loaded h = inr (record { m = m; loaded = loaded; holds = h })
+ended_by ending text c model m left left' w w' errors.Write loaded h = record { m = m; loaded = loaded; holds = h }
+ended_by ending text c model m left left' w w' errors.Read loaded h = record { m = m; loaded = loaded; holds = h }
+ended_by ending text c model m left left' w w' (errors.Stream e) loaded h = record { m = m; loaded = loaded; holds = h }
+ended_by ending text c model m left left' w w' (errors.Block n e) loaded h = record { m = m; loaded = loaded; holds = h }
 
-module _ (text : Event → List ℕ) (c : Completion) (model : List ℕ) (m : Model) (reads : ℕ) (left left' w w' w'' : Option (List ℕ)) (lines : List ℕ) (loaded : IsLoadedFrom model m) (j : JudgeState) (same : j ≡ record { model = m; completion = c; before = None; found = None }) where
+module _ (ending : Ending) (text : Event → List ℕ) (c : Completion) (model : List ℕ) (m : Model) (reads : ℕ) (left left' w w' w'' : Option (List ℕ)) (lines : List ℕ) (loaded : IsLoadedFrom model m) (j : JudgeState) (same : j ≡ record { model = m; completion = c; before = None; found = None }) where
   -- what holds of the judge's model and way of judging
   at : (P : Completion → Model → Type 0) → P j.completion j.model → P c m
   at P h = subst (λ (k : JudgeState). P k.completion k.model) same h
 
+  -- but for some that can't be
+  pub unwritten_then : Stands ending text j.completion j.model reads left left' w w' lines
+      → WritesFront w' w'' lines
+      → IsEndedBy ending text c model left left' w w'' errors.Write
+  unwritten_then stands f =
+      let here : Stands ending text c m reads left left' w w' lines =
+      at (λ d n. Stands ending text d n reads left left' w w' lines) stands in
+      let holds = stands_front ending text c m reads left left' w w' w'' lines here f in
+      record { m = m; loaded = loaded; holds = holds }
+
   module _ (r : Result the_tally.Answer CheckError) where
-    module _ (answered : IfOk r (λ a. AnswersOnceWritten text j.completion j.model reads left left' w w' lines (answer_view a))) where
-      now : IfOk r (λ a. AnswersOnceWritten text c m reads left left' w w' lines (answer_view a))
-      now = at (λ d n. IfOk r (λ a. AnswersOnceWritten text d n reads left left' w w' lines (answer_view a))) answered
+    module _ (answered : IfOk r (λ a. AnswersOnceWritten ending text j.completion j.model reads left left' w w' lines (answer_view a))) where
+      now : IfOk r (λ a. AnswersOnceWritten ending text c m reads left left' w w' lines (answer_view a))
+      now = at (λ d n. IfOk r (λ a. AnswersOnceWritten ending text d n reads left left' w w' lines (answer_view a))) answered
 
       pub accepted_then : IfOk r (λ a. (count : ℕ) → a ≡ answers.Accepted count
-          → HoldsOfStream left left' (λ given. HasSolutions model given count))
-      accepted_then = if_ok _ _ r (λ a h count is. record { given = h.given; reads = h.consumes; end = h.end; holds = solutions_of c model m h.given h.events (answer_view a) loaded h.report count (ap answer_view is) }) now
+          → HoldsOfStream left left'
+          (λ given. HoldsOfJudged ending given (λ front _. HasSolutions model front count)))
+      accepted_then = if_ok _ _ r (λ a h count is. record {
+        given = h.given;
+        reads = h.consumes;
+        end = h.end;
+        holds = if_judged ending h.given (λ front cut. IsToldWith cut text c m front w w' lines (answer_view a)) (λ front _. HasSolutions model front count)
+            (λ front cut t. solutions_of c model m front (t.events ++ Answered (answer_view a) ∷ []) (answer_view a) loaded t.report count (ap answer_view is)) h.report;
+      }) now
 
       pub end_read_then : IfOk r (λ _. SpendsReads reads 1 left left')
       end_read_then = if_ok _ _ r (λ a h. record { given = h.given; consumes = h.consumes; few = omega (arith, h.few) }) now
 
       -- the lines that were left are written
-      pub reported_then : Appends w' w'' lines → IfOk r (λ a. HoldsOfStream left left'
-          (λ given. IsReportedTo text c model given w w'' (answer_view a)))
-      reported_then appends = if_ok _ _ r (λ a h. record { given = h.given; reads = h.consumes; end = h.end; holds = record { events = h.events; has_report = report_of c model m h.given h.events (answer_view a) loaded h.report; writes = h.writes w'' appends } }) now
+      pub reported_then : Appends w' w'' lines
+          → IfOk r (λ a. HoldsOfStream left left' (λ given. HoldsOfJudged ending given
+          (λ front cut. IsReportedWith cut text c model front w w'' (answer_view a))))
+      reported_then appends = if_ok _ _ r (λ a h. record {
+        given = h.given;
+        reads = h.consumes;
+        end = h.end;
+        holds = if_judged ending h.given (λ front cut. IsToldWith cut text c m front w w' lines (answer_view a)) (λ front cut. IsReportedWith cut text c model front w w'' (answer_view a))
+            (λ front cut t. record { events = t.events; has_report = report_of c model m front (t.events ++ Answered (answer_view a) ∷ []) (answer_view a) loaded t.report; writes = t.writes w'' appends }) h.report;
+      }) now
 
     pub refused_then : Appends w' w'' lines
-        → IfErr r (StopsOnceWritten text j.completion j.model left left' w w' lines)
-        → IfErr r (IsEnded text c model left left' w w'')
-    refused_then appends h = if_err _ _ r (λ e stops. ended_by text c model m left left' w w'' e loaded (stops w'' appends)) (at (λ d n. IfErr r (StopsOnceWritten text d n left left' w w' lines)) h)
+        → IfErr r (StopsOnceWritten ending text j.completion j.model left left' w w' lines)
+        → IfErr r (IsEndedBy ending text c model left left' w w'')
+    refused_then appends h = if_err _ _ r (λ e stops. ended_by ending text c model m left left' w w'' e loaded (stops w'' appends)) (at (λ d n. IfErr r (StopsOnceWritten ending text d n left left' w w' lines)) h)

@@ -1,6 +1,7 @@
 pub mod Report
 pub mod Reported
 pub mod Headline
+pub mod Cutting
 pub mod Refused
 pub mod Writing
 pub mod Reading

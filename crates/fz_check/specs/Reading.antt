@@ -5,12 +5,14 @@ use Rattle.std.specs.Prelude.{◌≡◌, ℕ, Bool, true, cond, ◌+◌, ◌*◌
 use Rattle.std.specs.List.{AllByRecursion}
 use Rattle.std.specs.Io.KnownBytes.{Consumes, IsAtEnd}
 use Rattle.fz_judge.specs.of_stream.declared.error.StreamError.{StreamError}
-use Rattle.fz_judge.specs.of_stream.declared.error.StreamError.TheVariants.{TooLong}
+use Rattle.fz_judge.specs.of_stream.declared.error.StreamError.TheVariants.{TooLong, Unfinished}
 use Rattle.fz_judge.specs.of_stream.declared.splitter.Stage.{Stage}
 use Rattle.fz_judge.specs.of_stream.declared.splitter.Stage.TheVariants.{Running, Finished, Failed}
 use Rattle.fz_judge.specs.of_stream.Broken.{IsBrokenAfter, IsBrokenAtEndAfter}
 use Rattle.fz_judge.specs.of_stream.Parts.{StreamPart, Frame, frame_of, HasItems, IsStreamText}
 use Rattle.fz_judge.specs.of_stream.Splitting.{SplitterState, Holds, Fits, EndsLast, PassesLimit, most_taken}
+use Rattle.fz_check.specs.declared.ending.Ending.{Ending}
+use Rattle.fz_check.specs.declared.ending.Ending.TheVariants.{Whole, Cut}
 
 -- What was read and not taken yet, how many more reads may be made, and whether the last one found
 -- the end of the stream.
@@ -84,6 +86,12 @@ IsRefusedInside given parts e =
 abbrev pub IsRefusedAfter : Option (List ℕ) → List ℕ → List StreamPart → StreamError → Type 0
 IsRefusedAfter left given parts e =
     IsRefusedInside given parts e ⊎ (IsAtEnd left × IsBrokenAtEndAfter given parts e)
+
+-- Where cutting is on, a block that the end leaves open is no reason.
+abbrev pub IsRefusedBy : Ending → Option (List ℕ) → List ℕ → List StreamPart → StreamError → Type 0
+IsRefusedBy Whole left given parts e = IsRefusedAfter left given parts e
+IsRefusedBy Cut left given parts (Unfinished span) = IsRefusedInside given parts (Unfinished span)
+IsRefusedBy Cut left given parts e = IsRefusedAfter left given parts e
 
 -- the most bytes of one read
 abbrev pub piece_size : ℕ

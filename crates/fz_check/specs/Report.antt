@@ -3,6 +3,7 @@
 use Rattle.std.specs.Prelude.{◌≡◌, ℕ, suc, List, [], ◌∷◌, ◌++◌, map, codes, decimal, flat_map}
 use Rattle.std.specs.List.{AllByRecursion}
 use Rattle.std.specs.Fmt.{signed_decimal}
+use Rattle.fz_base.specs.declared.span.Span.{Span}
 use Rattle.fz_judge.specs.of_model.Meaning.{Model}
 use Rattle.fz_judge.specs.of_stream.declared.block.Block as the_block
 use Rattle.fz_judge.specs.of_stream.declared.line.ClaimKind.{ClaimKind}
@@ -18,10 +19,11 @@ use Rattle.fz_judge.specs.of_verdict.Verdict.Reason.{NoValueFor, NotKnown, NotSh
 use Rattle.fz_judge.specs.of_verdict.Verdict.Verdict.{Satisfied, Violated, Undecided}
 use Rattle.fz_judge.specs.of_verdict.Verdict.Answer.{Accepted, Rejected, UndecidedAt, NoBlocks}
 
--- the verdict on the block of this number, from 1; a claim; the answer
+-- the verdict on the block of this number, from 1; a claim; what was cut off; the answer
 pub data Event : Type 0 where
   Judged : ℕ → Verdict → Event
   Claimed : ClaimKind → Event
+  CutOff : Span → Event
   Answered : Answer → Event
 
 -- the events of parts of a stream, with the verdicts of their blocks, where n blocks come before
@@ -92,6 +94,7 @@ answer_text NoBlocks = codes "no blocks"
 abbrev pub event_text : Event → List ℕ
 event_text (Judged n v) = codes "block " ++ decimal n ++ codes ": " ++ verdict_text v
 event_text (Claimed k) = codes "claim: " ++ claim_text k ++ codes " not judged"
+event_text (CutOff span) = codes "cut: " ++ decimal span.start ++ codes ".." ++ decimal span.end
 event_text (Answered a) = answer_text a
 
 -- the line of an event, with its LF

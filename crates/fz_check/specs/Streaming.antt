@@ -15,9 +15,12 @@ use Rattle.fz_judge.specs.of_verdict.Verdict.{Verdict, Answer, answer_of}
 use Rattle.fz_judge.specs.declared.error.BlockError.{BlockError}
 use Rattle.fz_judge.specs.declared.error.BlockError.TheVariants.{Memory}
 use Rattle.fz_judge.specs.Judged.{IsBlockRefusal}
+use Rattle.fz_check.specs.declared.ending.Ending.{Ending}
+use Rattle.fz_check.specs.declared.ending.Ending.TheVariants.{Whole}
 use Rattle.fz_check.specs.declared.error.CheckError.{CheckError}
 use Rattle.fz_check.specs.declared.error.CheckError.TheVariants as errors
-use Rattle.fz_check.specs.Reading.{HasNoMore, IsRefusedAfter}
+use Rattle.fz_check.specs.Cutting.{HoldsOfJudged}
+use Rattle.fz_check.specs.Reading.{HasNoMore, IsRefusedBy}
 use Rattle.fz_check.specs.Refused.{HasNameFault, HasTextFault}
 use Rattle.fz_check.specs.Report.{Event, HaveVerdicts, events_of, text_of}
 use Rattle.fz_check.specs.Report.Event.{Answered}
@@ -27,12 +30,18 @@ use Rattle.fz_check.specs.Reported.{HasReport, HoldsOfModel}
 abbrev pub most_reads : ℕ
 most_reads = 4294967296
 
--- The writer got the report on these bytes, and nothing else, and this is its answer.
-pub record IsReportedTo (text : Event → List ℕ) (c : Completion) (model given : List ℕ)
-    (written written' : Option (List ℕ)) (answer : Answer) : Type 0 where
+-- The writer got the report on these bytes, with this told before the answer, and nothing else, and
+-- this is its answer.
+pub record IsReportedWith (cut : List Event) (text : Event → List ℕ) (c : Completion)
+    (model given : List ℕ) (written written' : Option (List ℕ)) (answer : Answer) : Type 0 where
   pub events : List Event
-  pub has_report : HasReport c model given events answer
-  pub writes : Appends written written' (text_of text events)
+  pub has_report : HasReport c model given (events ++ Answered answer ∷ []) answer
+  pub writes : Appends written written' (text_of text (events ++ (cut ++ Answered answer ∷ [])))
+
+-- with nothing told but the report
+abbrev pub IsReportedTo : (Event → List ℕ) → Completion → List ℕ → List ℕ → Option (List ℕ)
+    → Option (List ℕ) → Answer → Type 0
+IsReportedTo = IsReportedWith []
 
 -- In the bytes, of which the reader gave the last where it is at its end, these parts end: they
 -- have ended in a front of the bytes, and no others, or all of the bytes are a text of them.
@@ -53,19 +62,20 @@ pub record BlockIsRefused (m : Model) (left : Option (List ℕ)) (given : List �
 
 -- Why a check ends after these parts of the bytes that were given: the stream is refused behind
 -- them, or the next block is, or a read failed and no further part has ended.
-abbrev pub EndsFor : Model → Option (List ℕ) → List ℕ → List StreamPart → CheckError → Type 0
-EndsFor m left given parts (errors.Stream e) =
-    IsStreamFault e × (e ≢ StreamMemory) × IsRefusedAfter left given parts e
-EndsFor m left given parts (errors.Block n e) = BlockIsRefused m left given parts n e
-EndsFor m left given parts errors.Read = HasNoMore given parts
-EndsFor m left given parts errors.Write = ⊤
-EndsFor m left given parts errors.Memory = ⊤
-EndsFor m left given parts (errors.Model e) = ⊥
-EndsFor m left given parts (errors.Names e) = ⊥
+abbrev pub EndsFor : Ending → Model → Option (List ℕ) → List ℕ → List StreamPart → CheckError
+    → Type 0
+EndsFor ending m left given parts (errors.Stream e) =
+    IsStreamFault e × (e ≢ StreamMemory) × IsRefusedBy ending left given parts e
+EndsFor ending m left given parts (errors.Block n e) = BlockIsRefused m left given parts n e
+EndsFor ending m left given parts errors.Read = HasNoMore given parts
+EndsFor ending m left given parts errors.Write = ⊤
+EndsFor ending m left given parts errors.Memory = ⊤
+EndsFor ending m left given parts (errors.Model e) = ⊥
+EndsFor ending m left given parts (errors.Names e) = ⊥
 
 -- The reader gave these bytes, and the writer got the events of all parts before the error, and
 -- nothing else.
-pub record StopsAfterEvents (text : Event → List ℕ) (c : Completion) (m : Model)
+pub record StopsAfterEvents (ending : Ending) (text : Event → List ℕ) (c : Completion) (m : Model)
     (left left' written written' : Option (List ℕ)) (e : CheckError) : Type 0 where
   pub given : List ℕ
   pub reads : Consumes left left' given
@@ -73,19 +83,19 @@ pub record StopsAfterEvents (text : Event → List ℕ) (c : Completion) (m : Mo
   pub verdicts : List Verdict
   pub have_verdicts : HaveVerdicts c m parts verdicts
   pub writes : Appends written written' (text_of text (events_of 0 verdicts parts))
-  pub why : EndsFor m left' given parts e
+  pub why : EndsFor ending m left' given parts e
 
--- no event, or that of the answer where the bytes have ended
-abbrev pub AreLast : Option (List ℕ) → List ℕ → List StreamPart → List Verdict → List Event
-    → Type 0
-AreLast left given parts verdicts events =
-    (events ≡ []) ⊎ (IsAtEnd left × IsStreamText given parts
-    × (events ≡ Answered (answer_of verdicts) ∷ []))
+-- no event, or that of the answer where the bytes have ended, behind what was cut off
+abbrev pub AreLast : Ending → Option (List ℕ) → List ℕ → List StreamPart → List Verdict
+    → List Event → Type 0
+AreLast ending left given parts verdicts events =
+    (events ≡ []) ⊎ (IsAtEnd left × HoldsOfJudged ending given (λ front cut.
+    IsStreamText front parts × (events ≡ cut ++ Answered (answer_of verdicts) ∷ [])))
 
 -- The reader gave these bytes, and the writer got a front of the text of their events, and nothing
 -- else.
-pub record WritesFrontOfEvents (text : Event → List ℕ) (c : Completion) (m : Model)
-    (left left' written written' : Option (List ℕ)) : Type 0 where
+pub record WritesFrontOfEvents (ending : Ending) (text : Event → List ℕ) (c : Completion)
+    (m : Model) (left left' written written' : Option (List ℕ)) : Type 0 where
   pub given : List ℕ
   pub reads : Consumes left left' given
   pub parts : List StreamPart
@@ -93,21 +103,21 @@ pub record WritesFrontOfEvents (text : Event → List ℕ) (c : Completion) (m :
   pub verdicts : List Verdict
   pub have_verdicts : HaveVerdicts c m parts verdicts
   pub last : List Event
-  pub are_last : AreLast left' given parts verdicts last
+  pub are_last : AreLast ending left' given parts verdicts last
   pub front : List ℕ
   pub rest : List ℕ
   pub whole : text_of text (events_of 0 verdicts parts ++ last) ≡ front ++ rest
   pub writes : Appends written written' front
 
 -- the check of a loaded model ends with this error
-abbrev pub IsStopped : (Event → List ℕ) → Completion → Model → Option (List ℕ) → Option (List ℕ)
-    → Option (List ℕ) → Option (List ℕ) → CheckError → Type 0
-IsStopped text c m left left' written written' errors.Write =
-    WritesFrontOfEvents text c m left left' written written'
-IsStopped text c m left left' written written' errors.Memory =
-    WritesFrontOfEvents text c m left left' written written'
-IsStopped text c m left left' written written' e =
-    StopsAfterEvents text c m left left' written written' e
+abbrev pub IsStopped : Ending → (Event → List ℕ) → Completion → Model → Option (List ℕ)
+    → Option (List ℕ) → Option (List ℕ) → Option (List ℕ) → CheckError → Type 0
+IsStopped ending text c m left left' written written' errors.Write =
+    WritesFrontOfEvents ending text c m left left' written written'
+IsStopped ending text c m left left' written written' errors.Memory =
+    WritesFrontOfEvents ending text c m left left' written written'
+IsStopped ending text c m left left' written written' e =
+    StopsAfterEvents ending text c m left left' written written' e
 
 -- nothing was read, and nothing was written
 abbrev pub IsUntouched : Option (List ℕ) → Option (List ℕ) → Option (List ℕ) → Option (List ℕ)
@@ -117,14 +127,19 @@ IsUntouched left left' written written' = (left' ≡ left) × (written' ≡ writ
 -- The check of a model's text ends with this error. The model is refused only where its bytes are
 -- not a text of any tree, or with the first fault of its names, and before anything is read or
 -- written.
+abbrev pub IsEndedBy : Ending → (Event → List ℕ) → Completion → List ℕ → Option (List ℕ)
+    → Option (List ℕ) → Option (List ℕ) → Option (List ℕ) → CheckError → Type 0
+IsEndedBy ending text c model left left' written written' (errors.Model e) =
+    HasTextFault model e × IsUntouched left left' written written'
+IsEndedBy ending text c model left left' written written' (errors.Names e) =
+    HasNameFault model e × IsUntouched left left' written written'
+IsEndedBy ending text c model left left' written written' errors.Memory =
+    IsUntouched left left' written written'
+    ⊎ HoldsOfModel model (λ m. IsStopped ending text c m left left' written written' errors.Memory)
+IsEndedBy ending text c model left left' written written' e =
+    HoldsOfModel model (λ m. IsStopped ending text c m left left' written written' e)
+
+-- where nothing is cut
 abbrev pub IsEnded : (Event → List ℕ) → Completion → List ℕ → Option (List ℕ) → Option (List ℕ)
     → Option (List ℕ) → Option (List ℕ) → CheckError → Type 0
-IsEnded text c model left left' written written' (errors.Model e) =
-    HasTextFault model e × IsUntouched left left' written written'
-IsEnded text c model left left' written written' (errors.Names e) =
-    HasNameFault model e × IsUntouched left left' written written'
-IsEnded text c model left left' written written' errors.Memory =
-    IsUntouched left left' written written'
-    ⊎ HoldsOfModel model (λ m. IsStopped text c m left left' written written' errors.Memory)
-IsEnded text c model left left' written written' e =
-    HoldsOfModel model (λ m. IsStopped text c m left left' written written' e)
+IsEnded = IsEndedBy Whole

@@ -1,6 +1,6 @@
 -- What is judged and told while the parts of a stream come. Private functions alone cite this file,
 -- and a reader need not believe it.
-use Rattle.std.specs.Prelude.{◌≡◌, ◌≢◌, ℕ, suc, ◌+◌, ◌*◌, ◌≤◌, List, [], ◌∷◌, ◌++◌, length, map, Option, None, ⊤, ◌⊎◌}
+use Rattle.std.specs.Prelude.{◌≡◌, ◌≢◌, ℕ, suc, ◌+◌, ◌*◌, ◌≤◌, List, [], ◌∷◌, ◌++◌, length, map, Option, Some, None, Result, Ok, Err, ⊤, ◌⊎◌}
 use Rattle.std.specs.List.{AllByRecursion}
 use Rattle.std.specs.Io.KnownBytes.{Appends, Consumes, IsAtEnd}
 use Rattle.fz_judge.specs.of_model.Meaning.{Model}
@@ -10,7 +10,7 @@ use Rattle.fz_judge.specs.of_stream.declared.error.StreamError.TheVariants as st
 use Rattle.fz_judge.specs.of_stream.declared.error.StreamError.TheVariants.{Memory as StreamMemory}
 use Rattle.fz_judge.specs.of_stream.Faults.{IsStreamFault}
 use Rattle.fz_judge.specs.of_stream.Found.{EndsWithin, HasPlaces, block_of}
-use Rattle.fz_judge.specs.of_stream.Parts.{blocks_in, StreamPart, BlockPart, Frame}
+use Rattle.fz_judge.specs.of_stream.Parts.{blocks_in, StreamPart, BlockPart, Frame, IsStreamText}
 use Rattle.fz_judge.specs.of_verdict.Solutions.{Block}
 use Rattle.fz_judge.specs.of_verdict.View.{located_block}
 use Rattle.fz_judge.specs.of_verdict.declared.completion.Completion.{Completion}
@@ -19,12 +19,19 @@ use Rattle.fz_judge.specs.of_verdict.Verdict.{Answer, Verdict, first_number, is_
 use Rattle.fz_judge.specs.declared.error.BlockError.{BlockError}
 use Rattle.fz_judge.specs.declared.error.BlockError.TheVariants.{Memory}
 use Rattle.fz_judge.specs.Judged.{IsBlockRefusal}
+use Rattle.fz_base.specs.declared.span.Span.{Span}
+use Rattle.fz_check.specs.declared.ending.Ending.{Ending}
+use Rattle.fz_check.specs.declared.ending.Ending.TheVariants.{Whole, Cut}
 use Rattle.fz_check.specs.declared.error.CheckError.{CheckError}
 use Rattle.fz_check.specs.declared.error.CheckError.TheVariants as errors
 use Rattle.fz_check.specs.declared.jury.Jury.{Jury}
 use Rattle.fz_check.specs.declared.tally.Tally.{Tally}
+use Rattle.fz_check.specs.declared.reader.Step.{Step}
+use Rattle.fz_check.specs.declared.reader.Step.TheVariants.{End}
+use Rattle.fz_check.specs.Cutting.{HoldsOfJudged, IsCutOff}
 use Rattle.fz_check.specs.Report.{Event, HaveVerdicts, IsReport, events_of, text_of}
-use Rattle.fz_check.specs.Reading.{HasNext, IsRefusedAfter, ReaderState, StandsAt, piece_size}
+use Rattle.fz_check.specs.Report.Event.{CutOff, Answered}
+use Rattle.fz_check.specs.Reading.{HasNext, IsRefusedBy, ReaderState, StandsAt, piece_size}
 use Rattle.fz_check.specs.Streaming.{AreLast, EndInside, IsStopped}
 use Rattle.fz_check.specs.Writing.{WritesFront}
 
@@ -32,6 +39,23 @@ use Rattle.fz_check.specs.Writing.{WritesFront}
 abbrev pub stream_refusal : StreamError → CheckError
 stream_refusal stream.Memory = errors.Memory
 stream_refusal e = errors.Stream e
+
+-- how a stream ends that can't end as it is
+abbrev pub broken_end : Ending → StreamError → Result Step CheckError
+broken_end Whole e = Err (stream_refusal e)
+broken_end Cut (stream.Unfinished span) = Ok (End (Some span))
+broken_end Cut e = Err (stream_refusal e)
+
+-- the parts are those of the bytes that are judged, where this is cut off
+abbrev pub IsEndOf : Ending → List ℕ → List StreamPart → Option Span → Type 0
+IsEndOf ending given parts None = IsStreamText given parts
+IsEndOf ending given parts (Some span) = (ending ≡ Cut)
+    × ((front : List ℕ) × IsCutOff given front span × IsStreamText front parts)
+
+-- what is told of it
+abbrev pub cut_events : Option Span → List Event
+cut_events None = []
+cut_events (Some span) = CutOff span ∷ []
 
 -- the numbers are those of blocks with these verdicts
 pub record Tallies (t : Tally) (verdicts : List Verdict) : Type 0 where
@@ -105,11 +129,11 @@ IsUntold m parts part errors.Memory = ⊤
 IsUntold m parts part _ = ⊥
 
 -- the stream is refused behind these parts of the bytes that were given, or memory ran out
-abbrev pub IsUnread : Option (List ℕ) → List ℕ → List StreamPart → CheckError → Type 0
-IsUnread left given parts (errors.Stream e) =
-    IsStreamFault e × (e ≢ StreamMemory) × IsRefusedAfter left given parts e
-IsUnread left given parts errors.Memory = ⊤
-IsUnread left given parts _ = ⊥
+abbrev pub IsUnread : Ending → Option (List ℕ) → List ℕ → List StreamPart → CheckError → Type 0
+IsUnread ending left given parts (errors.Stream e) =
+    IsStreamFault e × (e ≢ StreamMemory) × IsRefusedBy ending left given parts e
+IsUnread ending left given parts errors.Memory = ⊤
+IsUnread ending left given parts _ = ⊥
 
 -- Where a frame waits behind parts that were told, it is read as a part, which is told too.
 abbrev pub TellsNext : (Event → List ℕ) → ReaderState → Jury → Jury → List ℕ → Type 0
@@ -123,9 +147,10 @@ TellsNext text s j j' line =
 -- there it can't be read, or is read and not told
 abbrev pub LeavesNext : ReaderState → Jury → CheckError → Type 0
 LeavesNext s j e =
-    (c : Completion) (m : Model) (left : Option (List ℕ)) (given : List ℕ) (parts : List StreamPart)
-    (frame : Frame) (verdicts : List Verdict) → HasNext s left given parts frame
-    → HasTold c m j parts verdicts → IsUnread left given parts e
+    (ending : Ending) (c : Completion) (m : Model) (left : Option (List ℕ)) (given : List ℕ)
+    (parts : List StreamPart) (frame : Frame) (verdicts : List Verdict)
+    → HasNext s left given parts frame
+    → HasTold c m j parts verdicts → IsUnread ending left given parts e
     ⊎ ((part : StreamPart) × StandsAt s left given (parts ++ part ∷ []) × IsUntold m parts part e)
 
 -- a failed write, or out of memory
@@ -136,7 +161,7 @@ IsUnwritten _ = ⊥
 
 -- How a check stands that has told of these parts, whether it goes on or not: these bytes were read,
 -- in at most so many reads, and once a front of the lines that wait is written, it is one of all.
-pub record Stands (text : Event → List ℕ) (c : Completion) (m : Model) (reads : ℕ)
+pub record Stands (ending : Ending) (text : Event → List ℕ) (c : Completion) (m : Model) (reads : ℕ)
     (left left' written written' : Option (List ℕ)) (lines : List ℕ) : Type 0 where
   pub given : List ℕ
   pub consumes : Consumes left left' given
@@ -146,25 +171,32 @@ pub record Stands (text : Event → List ℕ) (c : Completion) (m : Model) (read
   pub verdicts : List Verdict
   pub have_verdicts : HaveVerdicts c m parts verdicts
   pub last : List Event
-  pub are_last : AreLast left' given parts verdicts last
+  pub are_last : AreLast ending left' given parts verdicts last
   pub front : (next : Option (List ℕ)) → WritesFront written' next lines
       → WritesFront written next (text_of text (events_of 0 verdicts parts ++ last))
 
 -- the check ends with this error, once all of the lines that wait are written
-abbrev pub StopsOnceWritten : (Event → List ℕ) → Completion → Model → Option (List ℕ)
+abbrev pub StopsOnceWritten : Ending → (Event → List ℕ) → Completion → Model → Option (List ℕ)
     → Option (List ℕ) → Option (List ℕ) → Option (List ℕ) → List ℕ → CheckError → Type 0
-StopsOnceWritten text c m left left' written written' lines e = (next : Option (List ℕ))
-    → Appends written' next lines → IsStopped text c m left left' written next e
+StopsOnceWritten ending text c m left left' written written' lines e = (next : Option (List ℕ))
+    → Appends written' next lines → IsStopped ending text c m left left' written next e
 
--- and the answer is the report's, which is written then
-pub record AnswersOnceWritten (text : Event → List ℕ) (c : Completion) (m : Model) (reads : ℕ)
-    (left left' written written' : Option (List ℕ)) (lines : List ℕ)
+-- there is a report on the bytes, which is written then, with this told before the answer
+pub record IsToldWith (cut : List Event) (text : Event → List ℕ) (c : Completion) (m : Model)
+    (bytes : List ℕ) (written written' : Option (List ℕ)) (lines : List ℕ)
+    (answer : Answer) : Type 0 where
+  pub events : List Event
+  pub report : IsReport c m bytes (events ++ Answered answer ∷ []) answer
+  pub writes : (next : Option (List ℕ)) → Appends written' next lines
+      → Appends written next (text_of text (events ++ (cut ++ Answered answer ∷ [])))
+
+-- and the answer is the report's
+pub record AnswersOnceWritten (ending : Ending) (text : Event → List ℕ) (c : Completion) (m : Model)
+    (reads : ℕ) (left left' written written' : Option (List ℕ)) (lines : List ℕ)
     (answer : Answer) : Type 0 where
   pub given : List ℕ
   pub consumes : Consumes left left' given
   pub end : IsAtEnd left'
   pub few : length given + piece_size ≤ reads * piece_size
-  pub events : List Event
-  pub report : IsReport c m given events answer
-  pub writes : (next : Option (List ℕ)) → Appends written' next lines
-      → Appends written next (text_of text events)
+  pub report : HoldsOfJudged ending given
+      (λ front cut. IsToldWith cut text c m front written written' lines answer)

@@ -10,7 +10,7 @@ use Rattle.fz_check.specs.declared.report.Report.{Report}
 use Rattle.fz_check.specs.declared.report.Entry.{Entry}
 use Rattle.fz_check.specs.declared.report.Entry.TheVariants as entries
 use Rattle.fz_check.specs.Report.{Event}
-use Rattle.fz_check.specs.Report.Event.{Judged, Claimed, Answered}
+use Rattle.fz_check.specs.Report.Event.{Judged, Claimed, CutOff, Answered}
 
 abbrev pub answer_view : Answer → plain.Answer
 answer_view (answers.Accepted n) = plain.Answer.Accepted n
@@ -21,6 +21,7 @@ answer_view answers.NoBlocks = plain.Answer.NoBlocks
 abbrev pub event_view : the_event.Event → Event
 event_view (events.Block j) = Judged j.number (verdict_view j.verdict)
 event_view (events.Claim k) = Claimed k
+event_view (events.Cut span) = CutOff span
 event_view (events.Answer a) = Answered (answer_view a)
 
 abbrev pub entry_view : Entry → Event

@@ -4,8 +4,9 @@ ghost use Rattle.std.specs.Prelude.{◌≡◌, ◌++◌, ℕ, List, OnOk};
 ghost use Rattle.fz_check.specs.Report.{Event as PlainEvent, event_line};
 ghost use Rattle.fz_check.specs.View.{event_view};
 
-use crate::line::{push_answer, push_block, push_claim};
+use crate::line::{push_answer, push_block, push_claim, push_cut};
 use crate::tally::Answer;
+use fz_base::Span;
 use fz_judge::Verdict;
 use fz_judge::fz_model::Model;
 use fz_judge::fz_stream::{Block, ClaimKind};
@@ -28,6 +29,8 @@ pub struct Judged<'e, 'a> {
 pub enum Event<'e, 'a> {
     Block(Judged<'e, 'a>),
     Claim(ClaimKind),
+    /// What was cut off, where the stream ends inside a block.
+    Cut(Span),
     Answer(Answer),
 }
 
@@ -56,6 +59,7 @@ impl Taker for TextTaker {
         match event {
             Event::Block(judged) => push_block(line, judged.number, &judged.verdict),
             Event::Claim(kind) => push_claim(line, *kind),
+            Event::Cut(span) => push_cut(line, *span),
             Event::Answer(answer) => push_answer(line, *answer),
         }
     }

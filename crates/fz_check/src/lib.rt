@@ -6,6 +6,7 @@
 #![tactic(auto)]
 
 mod checking;
+mod ending;
 mod error;
 mod event;
 mod jury;
@@ -20,9 +21,11 @@ mod telling;
 mod text;
 mod writing;
 
+ghost use Rattle.fz_check.specs.Cutting.{IsCutOnlyWhereOpen};
 ghost use Rattle.fz_check.specs.Reported.{WrittenLinesAreBorneOut};
 
 pub use checking::{check, show, show_printing_all};
+pub use ending::Ending;
 pub use error::CheckError;
 pub use event::{Event, Judged, Taker, TextTaker};
 pub use fz_base::Span;
@@ -40,4 +43,9 @@ pub use tally::Answer;
 /// What the lines say that were written before a refusal is so, as it is of a report.
 pub fn written_lines_are_borne_out()
     ensures { WrittenLinesAreBorneOut }
+{}
+
+/// A stream that ends outside a block is cut nowhere.
+pub fn cut_streams_end_inside()
+    ensures { IsCutOnlyWhereOpen }
 {}

@@ -2,12 +2,13 @@
 
 ghost use Rattle.std.specs.Prelude.{◌≡◌, ◌++◌, ◌∷◌, [], OnOk, codes, decimal};
 ghost use Rattle.fz_check.specs.Report.{claim_text, event_line, verdict_text};
-ghost use Rattle.fz_check.specs.Report.Event.{Answered, Claimed, Judged};
+ghost use Rattle.fz_check.specs.Report.Event.{Answered, Claimed, CutOff, Judged};
 ghost use Rattle.fz_judge.specs.View.{verdict_view};
 ghost use Rattle.fz_check.specs.View.{answer_view};
 
 use crate::tally::Answer;
 use crate::text::{push_bytes, push_count, push_fault, push_reason};
+use fz_base::Span;
 use fz_judge::Verdict;
 use fz_judge::fz_stream::ClaimKind;
 use std::alloc::AllocError;
@@ -71,6 +72,19 @@ pub(crate) fn push_block(
     push_bytes(text, b"block ")?;
     push_count(text, number)?;
     push_verdict(text, verdict)?;
+    Ok(())
+}
+
+/// Adds the line of what was cut off.
+pub(crate) fn push_cut(text: &mut Vec<u8>, span: Span) -> Result<(), AllocError>
+    ensures { OnOk result (text.new.items
+        ≡ text.old.items ++ event_line (CutOff span)) }
+{
+    push_bytes(text, b"cut: ")?;
+    push_count(text, span.start)?;
+    push_bytes(text, b"..")?;
+    push_count(text, span.end)?;
+    push_bytes(text, b"\n")?;
     Ok(())
 }
 

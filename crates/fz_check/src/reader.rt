@@ -3,11 +3,13 @@ ghost use Rattle.std.specs.Io.KnownBytes.{Consumes, IsAtEnd};
 ghost use Rattle.fz_judge.specs.of_stream.Parts.{StreamPart, Frame, frame_of, IsStreamText};
 ghost use Rattle.fz_judge.specs.of_stream.Splitting.{EndsLast, most_taken};
 ghost use Rattle.fz_check.specs.Reading.{HasNext, HasRead, StandsAt, WaitsInside, piece_size, steps_left};
-ghost use Rattle.fz_check.specs.Telling.{IsUnread};
+ghost use Rattle.fz_check.specs.Telling.{IsEndOf, IsUnread, broken_end};
 
+use crate::ending::Ending;
 use crate::error::{CheckError, stream_refusal};
 use crate::pieces::{Pieces, ReadFailed};
-use fz_judge::fz_stream::{Part, Splitter};
+use fz_base::Span;
+use fz_judge::fz_stream::{Part, Splitter, StreamError};
 use std::alloc::Global;
 use std::io::Read;
 use std::marker::Model;
@@ -19,8 +21,21 @@ pub(crate) enum Step {
     Part,
     /// All bytes that were read are taken: more have to be read.
     Bytes,
-    /// The stream has ended, and all of its parts were read.
-    End,
+    /// The stream has ended, and all of its parts were read; this was cut off, where something was.
+    End(Option<Span>),
+}
+
+/// What there is to do with a stream that can't end as it is.
+fn broken_end(ending: Ending, error: StreamError) -> Result<Step, CheckError>
+    ensures { result ≡ broken_end ending error }
+{
+    match ending {
+        Ending::Whole => Err(stream_refusal(error)),
+        Ending::Cut => match error {
+            StreamError::Unfinished(span) => Ok(Step::End(Some(span))),
+            error => Err(stream_refusal(error)),
+        },
+    }
 }
 
 /// The parts of a stream whose bytes a reader gives, one after another. At most 4,096 bytes are
@@ -45,6 +60,8 @@ impl Model for PartReader {
 }
 
 impl PartReader {
+    ghost use Rattle.fz_base.specs.declared.span.Span.{Span as SpanData};
+    ghost use Rattle.fz_check.specs.declared.ending.Ending.{Ending};
     ghost use Rattle.fz_judge.specs.of_stream.declared.splitter.Stage.TheVariants.{Running, Finished};
     ghost use Rattle.fz_judge.specs.of_stream.Lending.{part_of, HasPlacesOfItems, PartEndsWithin};
 
@@ -77,10 +94,10 @@ impl PartReader {
         ensures none { result ≡ Ok Step.Bytes → (given : List ℕ) (parts : List StreamPart)
             → HasRead self.old given parts
             → (self.new.pieces.pending ≡ []) × HasRead self.new given parts }
-        ensures not_end { result ≢ Ok Step.End }
-        ensures refused { IfErr result (λ e. (left : Option (List ℕ)) (given : List ℕ)
-            (parts : List StreamPart) → HasRead self.old given parts
-            → IsUnread left given parts e) }
+        ensures not_end { (cut : Option SpanData) → result ≢ Ok (Step.End cut) }
+        ensures refused { IfErr result (λ e. (ending : Ending) (left : Option (List ℕ))
+            (given : List ℕ) (parts : List StreamPart) → HasRead self.old given parts
+            → IsUnread ending left given parts e) }
     {
         let PartReader {
             splitter,
@@ -99,31 +116,32 @@ impl PartReader {
     }
 
     /// Ends the stream, whose bytes were all taken.
-    fn finish(&mut self) -> Result<Step, CheckError>
+    fn finish(&mut self, ending: Ending) -> Result<Step, CheckError>
         requires at_end { self.old.pieces.at_end ≡ true }
         requires going { self.old.splitter.stage ≢ Finished }
         ensures same { self.new.pieces ≡ self.old.pieces }
-        ensures ended { OnOk result (self.new.splitter.stage ≡ Finished) }
+        ensures ended { result ≡ Ok Step.Part → self.new.splitter.stage ≡ Finished }
         ensures waits { result ≡ Ok Step.Part → IsSome self.new.splitter.waits }
         ensures more { result ≡ Ok Step.Part → (given : List ℕ) (parts : List StreamPart)
             → HasRead self.old given parts → (frame : Frame)
             × (self.new.splitter.waits ≡ Some frame) × EndsLast given (map frame_of parts) frame }
-        ensures none { result ≡ Ok Step.End → (given : List ℕ) (parts : List StreamPart)
-            → HasRead self.old given parts → IsStreamText given parts }
+        ensures end { (cut : Option SpanData) → result ≡ Ok (Step.End cut) → (given : List ℕ)
+            (parts : List StreamPart) → HasRead self.old given parts
+            → IsEndOf ending given parts cut }
         ensures not_bytes { result ≢ Ok Step.Bytes }
         ensures refused { IfErr result (λ e. (left : Option (List ℕ)) (given : List ℕ)
             (parts : List StreamPart) → HasRead self.old given parts → IsAtEnd left
-            → IsUnread left given parts e) }
+            → IsUnread ending left given parts e) }
     {
         match self.splitter.finish() {
             Ok(()) => {}
-            Err(error) => return Err(stream_refusal(error)),
+            Err(error) => return broken_end(ending, error),
         }
         self.has_ended = true;
         if self.splitter.waiting() {
             return Ok(Step::Part);
         }
-        Ok(Step::End)
+        Ok(Step::End(None))
     }
 
     /// Goes on to the end of the next part in what was read. After an error it fails for good.
@@ -131,7 +149,7 @@ impl PartReader {
     /// # Errors
     ///
     /// The stream's first fault, or `Memory` where memory runs out.
-    pub(crate) fn advance(&mut self) -> Result<Step, CheckError>
+    pub(crate) fn advance(&mut self, ending: Ending) -> Result<Step, CheckError>
         ensures part { result ≡ Ok Step.Part → (left : Option (List ℕ)) (given : List ℕ)
             (parts : List StreamPart) → StandsAt self.old left given parts
             → (frame : Frame) × HasNext self.new left given parts frame }
@@ -143,23 +161,25 @@ impl PartReader {
             (parts : List StreamPart) → StandsAt self.old left given parts
             → (self.new.pieces.pending ≡ []) × HasRead self.new given parts }
         ensures open { result ≡ Ok Step.Bytes → self.new.pieces.at_end ≡ false }
-        // The bytes have ended, and are a text of the parts so far.
-        ensures end { result ≡ Ok Step.End → (left : Option (List ℕ)) (given : List ℕ)
-            (parts : List StreamPart) → StandsAt self.old left given parts
-            → IsAtEnd left × IsStreamText given parts }
-        ensures found_end { result ≡ Ok Step.End → self.old.pieces.at_end ≡ true }
-        ensures ended { self.old.splitter.stage ≡ Finished → result ≡ Ok Step.End }
+        // The bytes have ended, and are a text of the parts so far, but for what is cut off.
+        ensures end { (cut : Option SpanData) → result ≡ Ok (Step.End cut)
+            → (left : Option (List ℕ)) (given : List ℕ) (parts : List StreamPart)
+            → StandsAt self.old left given parts
+            → IsAtEnd left × IsEndOf ending given parts cut }
+        ensures found_end { (cut : Option SpanData) → result ≡ Ok (Step.End cut)
+            → self.old.pieces.at_end ≡ true }
+        ensures ended { self.old.splitter.stage ≡ Finished → result ≡ Ok (Step.End None) }
         ensures reads { self.new.pieces.reads ≡ self.old.pieces.reads }
         ensures at_end { self.new.pieces.at_end ≡ self.old.pieces.at_end }
         ensures refused { IfErr result (λ e. (left : Option (List ℕ)) (given : List ℕ)
             (parts : List StreamPart) → StandsAt self.old left given parts
-            → IsUnread left given parts e) }
+            → IsUnread ending left given parts e) }
     {
         if self.has_ended {
-            return Ok(Step::End);
+            return Ok(Step::End(None));
         }
         if self.pieces.at_end() {
-            return self.finish();
+            return self.finish(ending);
         }
         self.feed()
     }
@@ -199,9 +219,9 @@ impl PartReader {
         ensures part { IfOk result (λ part. (left : Option (List ℕ)) (given : List ℕ)
             (parts : List StreamPart) (frame : Frame) → HasNext self.now left given parts frame
             → StandsAt self.now left given (parts ++ part_of part ∷ [])) }
-        ensures refused { IfErr result (λ e. (left : Option (List ℕ)) (given : List ℕ)
-            (parts : List StreamPart) (frame : Frame) → HasNext self.now left given parts frame
-            → IsUnread left given parts e) }
+        ensures refused { IfErr result (λ e. (ending : Ending) (left : Option (List ℕ))
+            (given : List ℕ) (parts : List StreamPart) (frame : Frame)
+            → HasNext self.now left given parts frame → IsUnread ending left given parts e) }
     {
         match self.splitter.take() {
             Ok(Some(part)) => Ok(part),

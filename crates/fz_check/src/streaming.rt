@@ -2,21 +2,23 @@
 //! another, while the reader gives its bytes, and a taker says what is written of each.
 
 ghost use Rattle.std.specs.Prelude.{◌≡◌, ℕ, [], IfOk, IfErr};
+ghost use Rattle.fz_check.specs.Cutting.{HoldsOfJudged};
 ghost use Rattle.fz_check.specs.Headline.{HasSolutions, HoldsOfStream};
 ghost use Rattle.fz_check.specs.Reading.{SpendsReads};
 ghost use Rattle.fz_check.specs.Report.{event_line};
-ghost use Rattle.fz_check.specs.Streaming.{IsEnded, IsReportedTo, most_reads};
+ghost use Rattle.fz_check.specs.Streaming.{IsEnded, IsEndedBy, IsReportedTo, IsReportedWith, most_reads};
 ghost use Rattle.fz_check.specs.Telling.{AnswersOnceWritten, IsFresh, Stands, StopsOnceWritten};
 ghost use Rattle.fz_check.specs.View.{answer_view};
 
 use crate::checking::read_model;
+use crate::ending::Ending;
 use crate::error::CheckError;
-use crate::event::{Event, Taker, TextTaker};
+use crate::event::{Taker, TextTaker};
 use crate::jury::Jury;
 use crate::pieces::ReadFailed;
 use crate::reader::{PartReader, Step};
 use crate::tally::Answer;
-use crate::telling::{gather, make_line, tell_next};
+use crate::telling::{gather, tell_end, tell_next};
 use crate::writing::{WriteFailed, write_lines};
 use fz_judge::fz_verdict::Completion;
 use std::alloc::Global;
@@ -31,17 +33,19 @@ fn tell_parts<R: Read, W: Write, T: Taker>(
     writer: &mut W,
     taker: &mut T,
     reads: u64,
+    ending: Ending,
     lines: &mut Vec<u8>,
 ) -> Result<Answer, CheckError>
     requires fresh { IsFresh jury }
     requires none { lines.old.items ≡ [] }
-    ensures stands { Stands T.text jury.entry.judge.completion jury.entry.judge.model reads
+    ensures stands { Stands ending T.text jury.entry.judge.completion jury.entry.judge.model reads
         (R.remaining reader.old) (R.remaining reader.new) (W.contents writer.old)
         (W.contents writer.new) lines.new.items }
-    ensures answered { IfOk result (λ a. AnswersOnceWritten T.text jury.entry.judge.completion
-        jury.entry.judge.model reads (R.remaining reader.old) (R.remaining reader.new)
-        (W.contents writer.old) (W.contents writer.new) lines.new.items (answer_view a)) }
-    ensures refused { IfErr result (StopsOnceWritten T.text jury.entry.judge.completion
+    ensures answered { IfOk result (λ a. AnswersOnceWritten ending T.text
+        jury.entry.judge.completion jury.entry.judge.model reads (R.remaining reader.old)
+        (R.remaining reader.new) (W.contents writer.old) (W.contents writer.new) lines.new.items
+        (answer_view a)) }
+    ensures refused { IfErr result (StopsOnceWritten ending T.text jury.entry.judge.completion
         jury.entry.judge.model (R.remaining reader.old) (R.remaining reader.new)
         (W.contents writer.old) (W.contents writer.new) lines.new.items) }
 {
@@ -49,7 +53,7 @@ fn tell_parts<R: Read, W: Write, T: Taker>(
     // A line is made apart, so that running out of memory in its midst leaves whole lines.
     let mut line = Vec::new(alloc);
     loop {
-        match parts.advance() {
+        match parts.advance(ending) {
             Ok(Step::Part) => {
                 match tell_next(alloc, &parts, &mut jury, taker, &mut line) {
                     Ok(()) => {}
@@ -70,18 +74,11 @@ fn tell_parts<R: Read, W: Write, T: Taker>(
                     Err(ReadFailed) => return Err(CheckError::Read),
                 }
             }
-            Ok(Step::End) => break,
+            Ok(Step::End(cut)) => {
+                return tell_end(taker, &mut line, lines, cut, jury.tally.answer());
+            }
             Err(error) => return Err(error),
         }
-    }
-    let answer = jury.tally.answer();
-    match make_line(taker, &mut line, &Event::Answer(answer)) {
-        Ok(()) => {}
-        Err(error) => return Err(error),
-    }
-    match lines.extend_from_slice(&line) {
-        Ok(()) => Ok(answer),
-        Err(_) => Err(CheckError::Memory),
     }
 }
 
@@ -93,6 +90,10 @@ fn tell_parts<R: Read, W: Write, T: Taker>(
 /// judged as the filling is: it makes no block violated. It can make an undecided block satisfied,
 /// and a satisfied one undecided, where its objective isn't better than one that was found for the
 /// block before.
+///
+/// Where cutting is on, a stream that ends inside a block is no fault: the block is cut off, which
+/// is told before the answer, and the bytes before it are judged. A claim's line without LF in that
+/// block, at the end, is cut off with it.
 ///
 /// # Errors
 ///
@@ -109,19 +110,23 @@ pub fn check_events<R: Read, W: Write, T: Taker>(
     taker: &mut T,
     reads: u64,
     completion: Completion,
+    ending: Ending,
 ) -> Result<Answer, CheckError>
     // What is accepted has solutions.
     ensures accepted { IfOk result (λ a. (count : ℕ) → a ≡ Answer.Accepted count
         → HoldsOfStream (R.remaining reader.old) (R.remaining reader.new)
-        (λ given. HasSolutions model.now given count)) }
-    // The writer got the report on all that the reader gave up to its end, and nothing else.
+        (λ given. HoldsOfJudged ending given (λ front _. HasSolutions model.now front count))) }
+    // The writer got the report on all that the reader gave up to its end, but for what is cut off,
+    // which is told, and nothing else.
     ensures report { IfOk result (λ a. HoldsOfStream (R.remaining reader.old)
-        (R.remaining reader.new) (λ given. IsReportedTo T.text completion model.now given
-        (W.contents writer.old) (W.contents writer.new) (answer_view a))) }
+        (R.remaining reader.new) (λ given. HoldsOfJudged ending given
+        (λ front cut. IsReportedWith cut T.text completion model.now front
+        (W.contents writer.old) (W.contents writer.new) (answer_view a)))) }
     // The model, the stream or a block is refused only for its first fault. What was told of the
     // parts before it was written, and nothing else.
-    ensures refused { IfErr result (IsEnded T.text completion model.now (R.remaining reader.old)
-        (R.remaining reader.new) (W.contents writer.old) (W.contents writer.new)) }
+    ensures refused { IfErr result (IsEndedBy ending T.text completion model.now
+        (R.remaining reader.old) (R.remaining reader.new) (W.contents writer.old)
+        (W.contents writer.new)) }
     // No more bytes were read than so many reads of 4,096 bytes can bring, and where there is an
     // answer no more than one read fewer can.
     ensures reads { SpendsReads reads 0 (R.remaining reader.old) (R.remaining reader.new) }
@@ -134,14 +139,16 @@ pub fn check_events<R: Read, W: Write, T: Taker>(
     };
     let jury = Jury::new(&loaded, completion);
     let mut lines = Vec::new(alloc);
-    let outcome = tell_parts(alloc, jury, reader, writer, taker, reads, &mut lines);
+    let outcome = tell_parts(
+        alloc, jury, reader, writer, taker, reads, ending, &mut lines,
+    );
     match write_lines(writer, &mut lines) {
         Ok(()) => outcome,
         Err(WriteFailed) => Err(CheckError::Write),
     }
 }
 
-/// As `check_events`, where the report is written as text.
+/// As `check_events`, where the report is written as text, and nothing is cut off.
 ///
 /// # Errors
 ///
@@ -168,7 +175,10 @@ pub fn check_stream_up_to<R: Read, W: Write>(
         (λ _. SpendsReads reads 1 (R.remaining reader.old) (R.remaining reader.new)) }
 {
     let mut taker = TextTaker;
-    check_events(alloc, model, reader, writer, &mut taker, reads, completion)
+    let ending = Ending::Whole;
+    check_events(
+        alloc, model, reader, writer, &mut taker, reads, completion, ending,
+    )
 }
 
 /// The most reads that `check_stream` makes.

@@ -1,28 +1,32 @@
-ghost use Rattle.std.specs.Prelude.{◌≡◌, ℕ, ◌<◌, ◌≤◌, ◌+◌, List, [], ◌∷◌, ◌++◌, Option, IfErr, OnOk, OnErr, IsSome};
+ghost use Rattle.std.specs.Prelude.{◌≡◌, ℕ, ◌<◌, ◌≤◌, ◌+◌, List, [], ◌∷◌, ◌++◌, Option, IfOk, IfErr, OnOk, OnErr, IsSome};
 ghost use Rattle.fz_judge.specs.of_model.Meaning.{Model as PlainModel};
 ghost use Rattle.fz_judge.specs.of_stream.Parts.{StreamPart};
 ghost use Rattle.fz_judge.specs.of_stream.Splitting.{most_taken};
 ghost use Rattle.fz_judge.specs.of_stream.Lending.{part_of, HasPlacesOfItems, PartEndsWithin};
 ghost use Rattle.fz_judge.specs.of_verdict.Verdict.{Verdict as PlainVerdict};
 ghost use Rattle.fz_judge.specs.of_verdict.declared.completion.Completion.{Completion};
-ghost use Rattle.fz_check.specs.Telling.{HasTold, IsUntold, IsUnwritten, LeavesNext, TellsNext, TellsOneMore};
-ghost use Rattle.fz_check.specs.View.{event_view};
+ghost use Rattle.fz_check.specs.Report.{text_of};
+ghost use Rattle.fz_check.specs.Report.Event.{Answered};
+ghost use Rattle.fz_check.specs.Telling.{HasTold, IsUntold, IsUnwritten, LeavesNext, TellsNext, TellsOneMore, cut_events};
+ghost use Rattle.fz_check.specs.View.{answer_view, event_view};
 ghost use Rattle.fz_check.specs.Writing.{WritesFront, Wrote};
 
 use crate::error::CheckError;
 use crate::event::{Event, Judged, Taker};
 use crate::jury::Jury;
 use crate::reader::PartReader;
+use crate::tally::Answer;
 use crate::writing::{WriteFailed, write_lines};
+use fz_base::Span;
 use fz_judge::fz_stream::Part;
-use std::alloc::Global;
+use std::alloc::{AllocError, Global};
 use std::io::Write;
 
 /// The most bytes of lines that wait for the next read, but for the last line.
 const MOST_WAITING: usize = 65_536;
 
 /// Makes the line of an event.
-pub(crate) fn make_line<T: Taker>(
+fn make_line<T: Taker>(
     taker: &mut T,
     line: &mut Vec<u8>,
     event: &Event<'_, '_>,
@@ -76,6 +80,39 @@ fn tell_part<T: Taker>(
         }
         Part::Claim(kind) => make_line(taker, line, &Event::Claim(*kind)),
     }
+}
+
+/// Adds the line of what was cut off, where something was.
+fn add_cut<T: Taker>(taker: &mut T, line: &mut Vec<u8>, cut: Option<Span>) -> Result<(), AllocError>
+    ensures { OnOk result (line.new.items
+        ≡ line.old.items ++ text_of T.text (cut_events cut)) }
+{
+    match cut {
+        Some(span) => taker.take(&Event::Cut(span), line),
+        None => Ok(()),
+    }
+}
+
+/// Appends the line of the answer to those that wait, behind that of what was cut off. Where there
+/// is no memory for both, the others wait as before.
+pub(crate) fn tell_end<T: Taker>(
+    taker: &mut T,
+    line: &mut Vec<u8>,
+    lines: &mut Vec<u8>,
+    cut: Option<Span>,
+    answer: Answer,
+) -> Result<Answer, CheckError>
+    ensures told { OnOk result (lines.new.items ≡ lines.old.items
+        ++ text_of T.text (cut_events cut ++ Answered (answer_view answer) ∷ [])) }
+    ensures answer { IfOk result (λ a. a ≡ answer) }
+    ensures unchanged { OnErr result (lines.new.items ≡ lines.old.items) }
+    ensures kinds { IfErr result (λ e. e ≡ CheckError.Memory) }
+{
+    line.clear();
+    add_cut(taker, line, cut)?;
+    taker.take(&Event::Answer(answer), line)?;
+    lines.extend_from_slice(line)?;
+    Ok(answer)
 }
 
 /// Makes the line of the part that waits, which is read for it.

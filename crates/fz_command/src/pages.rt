@@ -3,7 +3,7 @@
 /// The line on standard error where the command line is wrong, or asks for help.
 pub const USAGE: &str = "\
 usage: fzcheck show [--print-all] MODEL \
-| check [--complete] [--explain[=all]] [--json] MODEL [STREAM]";
+| check [--complete] [--cut] [--explain[=all]] [--json] MODEL [STREAM]";
 
 /// The answer to `--version`: the program and its version.
 pub const VERSION: &str = "fzcheck 0.4.0";
@@ -12,11 +12,13 @@ pub const VERSION: &str = "fzcheck 0.4.0";
 pub const HELP: &str = "\
 fzcheck: checks the output of a FlatZinc solver against its model
 
-fzcheck check [--complete] [--explain[=all]] [--json] MODEL [STREAM]
+fzcheck check [--complete] [--cut] [--explain[=all]] [--json] MODEL [STREAM]
     Judges each solution block of the file STREAM, or of standard input where it is left out,
     against the model in the file MODEL. There is a line for each block and claim, and then the
     answer.
     --complete  looks for values that the solver left out, and judges what it finds
+    --cut       where the stream ends inside a block, as that of a solver does that was killed,
+                judges what comes before that block, and tells the byte range of what it left out
     --explain   shows on standard error what stands behind the verdict that the answer names,
                 or where the fault stands that a refusal tells of
     --explain=all

@@ -33,6 +33,8 @@ pub enum Printing {
 pub struct CheckOptions {
     /// Whether values that the solver left out are searched for.
     pub completes: bool,
+    /// Whether a block is cut off in which the stream ends.
+    pub cuts: bool,
     pub explains: Explaining,
     pub form: Form,
 }
@@ -118,6 +120,7 @@ fn request_of<'a>(matches: &ArgMatches<'a>) -> Result<Request<'a>, Refused> {
             stream: given.get_str("STREAM"),
             options: CheckOptions {
                 completes: given.get_flag("complete"),
+                cuts: given.get_flag("cut"),
                 explains: explaining_of(given),
                 form: form_of(given),
             },
@@ -178,6 +181,7 @@ fn check_command<'a>(alloc: Global) -> Result<Command<'a>, AllocError> {
     over_model(alloc, "check")?
         .arg(file_word(alloc, "STREAM"))?
         .arg(flag(alloc, "complete"))?
+        .arg(flag(alloc, "cut"))?
         .arg(flag(alloc, "json"))?
         .arg(explain_option(alloc))
 }

@@ -2,7 +2,7 @@
 //! tells their members, and `tests/as_json.py` tests them.
 
 use fz_check::{
-    Answer, CheckError, ClaimKind, Fault, Judged, Reason, Verdict, claim_text, refusal_fault,
+    Answer, CheckError, ClaimKind, Fault, Judged, Reason, Span, Verdict, claim_text, refusal_fault,
 };
 use fz_explain::{MOST_RANGES, Message, Note, Origin, Value};
 use json::Writer;
@@ -218,6 +218,17 @@ pub fn claim_line(alloc: Global, kind: ClaimKind, after: usize) -> Result<Vec<u8
     let mut object = Object::new(alloc)?;
     object.word("claim", claim_text(kind))?;
     object.count("after", after)?;
+    object.line()
+}
+
+/// The line of what was cut off, with its byte range.
+pub fn cut_line(alloc: Global, span: Span) -> Result<Vec<u8>, AllocError> {
+    let mut object = Object::new(alloc)?;
+    object.writer.key("cut")?;
+    object.writer.begin_array()?;
+    object.writer.u64(span.start as u64)?;
+    object.writer.u64(span.end as u64)?;
+    object.writer.end_array()?;
     object.line()
 }
 

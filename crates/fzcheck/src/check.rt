@@ -6,7 +6,7 @@ use crate::explain::explanation;
 use crate::refuse::{refuse, refuse_at, refuse_file, unread};
 use crate::teller::Teller;
 use crate::waiting::InPlace;
-use fz_check::{Answer, CheckError, Completion, MOST_READS, check_events, status};
+use fz_check::{Answer, CheckError, Completion, Ending, MOST_READS, check_events, status};
 use fz_command::{CheckOptions, Explaining, Form};
 use fz_explain::{Explainer, Message, Text};
 use fz_files::{NOTHING, Recent, Recorder, read_up_to};
@@ -128,6 +128,7 @@ fn check_to<S: Read, W: Write>(
     teller: &mut Teller<'_>,
 ) -> Result<Answer, CheckError> {
     let completion = completion_of(task.options.completes);
+    let ending = ending_of(task.options.cuts);
     check_events(
         rt.alloc(),
         model,
@@ -136,6 +137,7 @@ fn check_to<S: Read, W: Write>(
         teller,
         MOST_READS,
         completion,
+        ending,
     )
 }
 
@@ -145,6 +147,10 @@ fn completion_of(completes: bool) -> Completion {
     } else {
         Completion::Off
     }
+}
+
+fn ending_of(cuts: bool) -> Ending {
+    if cuts { Ending::Cut } else { Ending::Whole }
 }
 
 /// Refuses the check since a file can't be read.

@@ -3,7 +3,7 @@
 
 ghost use Rattle.fz_check.specs.Report.{event_line};
 
-use crate::as_json::{Counts, answer_line, block_line, claim_line, explanation_line};
+use crate::as_json::{Counts, answer_line, block_line, claim_line, cut_line, explanation_line};
 use crate::waiting::{Waiting, add_line};
 use fz_check::{Event, Judged, Taker, TextTaker, Verdict};
 use fz_command::{CheckOptions, Explaining, Form};
@@ -123,6 +123,7 @@ impl<'r> Teller<'r> {
         let line = match event {
             Event::Block(judged) => self.block_line(judged)?,
             Event::Claim(kind) => claim_line(alloc, *kind, self.counts.blocks())?,
+            Event::Cut(span) => cut_line(alloc, *span)?,
             Event::Answer(answer) => {
                 self.tell();
                 answer_line(alloc, *answer, self.counts)?

@@ -18,7 +18,7 @@ returns-clause-told g c =
 
 pub returns-clause-refused : goal.returns-clause-refused
 returns-clause-refused g c =
-    on_err c.tell_part.result (λ e refused by m left given parts frame verdicts n h. inr (part_of c.in-Ok.part, c.in-Ok.ensures.part left given parts frame n, refused by m parts verdicts h c.in-Ok.ensures.places c.in-Ok.ensures.within)) c.tell_part.ensures.refused
+    on_err c.tell_part.result (λ e refused ending by m left given parts frame verdicts n h. inr (part_of c.in-Ok.part, c.in-Ok.ensures.part left given parts frame n, refused by m parts verdicts h c.in-Ok.ensures.places c.in-Ok.ensures.within)) c.tell_part.ensures.refused
 
 pub returns-in-Err-clause-refused : goal.returns-in-Err-clause-refused
-returns-in-Err-clause-refused g c = λ by m left given parts frame verdicts n h. inl (c.in-Err.ensures.refused left given parts frame n)
+returns-in-Err-clause-refused g c = λ ending by m left given parts frame verdicts n h. inl (c.in-Err.ensures.refused ending left given parts frame n)

@@ -1,13 +1,8 @@
-use Rattle.std.proofs.Common.{◌≡◌, ◌≢◌, ◌∙◌, ap, sym, inl, inr, true, false, length, arith, Result, Ok, Err, OnOk}
+use Rattle.std.proofs.Common.{◌≡◌, ◌≢◌, ◌∙◌, ap, sym, inl, inr, true, false, length, arith}
 use Rattle.fz_judge.specs.of_stream.declared.splitter.Stage.TheVariants.{Finished}
 use Rattle.fz_check.specs.Reading.{PiecesState, ReaderState, is_going}
 use Rattle.fz_check.proofs.ReaderLemmas.{stands_reading, stands_at_end}
 use Rattle.fz_check.proofs.reader.PartReader.advance.Goals as goal
-
--- what holds of an answer
-on_ok : {A E P : Type 0} {x : A} (r : Result A E) → r ≡ Ok x → OnOk r P → P
-on_ok (Ok y) e p = p
-on_ok (Err y) e p = absurd (let no : Err y ≡ Ok _ = e in cc)
 
 pub returns-then-at_end-clause-part : goal.returns-then-at_end-clause-part
 returns-then-at_end-clause-part c = λ is left given parts st.
@@ -15,13 +10,13 @@ returns-then-at_end-clause-part c = λ is left given parts st.
     let end = stands_at_end c.args.self.now left given parts (sym (ap (λ (s : ReaderState). s.pieces.at_end) c.self.view_is) ∙ sym c.at_end.ensures ∙ c.if-at_end.true) st in
     let h = stands_reading c.args.self.now left given parts going st in
     let more = c.finish.ensures.more is given parts h in
-    (more.0, record { waits = more.1; items = h.items; ends = inr (end, on_ok c.finish.result is c.finish.ensures.ended, more.2) }))
+    (more.0, record { waits = more.1; items = h.items; ends = inr (end, c.finish.ensures.ended is, more.2) }))
 
 pub returns-then-at_end-clause-fewer : goal.returns-then-at_end-clause-fewer
 returns-then-at_end-clause-fewer c = λ is left given parts st.
     (let going : c.args.self.now.splitter.stage ≢ Finished = λ f. (let no : false ≡ true = sym c.if-self.false ∙ c.self.invariant.ended.1 (ap (λ (s : ReaderState). s.splitter.stage) c.self.view_is ∙ f) in cc) in
     let h = stands_reading c.args.self.now left given parts going st in
-    omega (arith, ap is_going (on_ok c.finish.result is c.finish.ensures.ended), ap is_going h.fits.running, ap (λ (p : PiecesState). p.reads) c.finish.ensures.same, ap (λ (p : PiecesState). length p.pending) c.finish.ensures.same))
+    omega (arith, ap is_going (c.finish.ensures.ended is), ap is_going h.fits.running, ap (λ (p : PiecesState). p.reads) c.finish.ensures.same, ap (λ (p : PiecesState). length p.pending) c.finish.ensures.same))
 
 pub returns-clause-part : goal.returns-clause-part
 returns-clause-part c = λ is left given parts st.
@@ -38,10 +33,10 @@ returns-clause-fewer c = λ is left given parts st.
     omega (arith, ap is_going more.2.fits.running, ap is_going h.fits.running, c.feed.ensures.reads, c.feed.ensures.fewer is given parts h))
 
 pub returns-then-at_end-clause-end : goal.returns-then-at_end-clause-end
-returns-then-at_end-clause-end c = λ is left given parts st.
+returns-then-at_end-clause-end c = λ cut is left given parts st.
     (let going : c.args.self.now.splitter.stage ≢ Finished = λ f. (let no : false ≡ true = sym c.if-self.false ∙ c.self.invariant.ended.1 (ap (λ (s : ReaderState). s.splitter.stage) c.self.view_is ∙ f) in cc) in
     let end = stands_at_end c.args.self.now left given parts (sym (ap (λ (s : ReaderState). s.pieces.at_end) c.self.view_is) ∙ sym c.at_end.ensures ∙ c.if-at_end.true) st in
-    (end, c.finish.ensures.none is given parts (stands_reading c.args.self.now left given parts going st)))
+    (end, c.finish.ensures.end cut is given parts (stands_reading c.args.self.now left given parts going st)))
 
 pub returns-clause-bytes : goal.returns-clause-bytes
 returns-clause-bytes c = λ is left given parts st.

@@ -1,8 +1,9 @@
-use Rattle.std.proofs.Common.{◌≡◌, ◌≢◌, ◌∙◌, ap, sym, subst, inl, Err, true, false}
+use Rattle.std.proofs.Common.{◌≡◌, ◌≢◌, ◌∙◌, ap, sym, subst, Err, true, false}
 use Rattle.fz_judge.specs.of_stream.declared.error.StreamError.TheVariants as stream
 use Rattle.fz_judge.specs.of_stream.declared.splitter.Stage.TheVariants.{Running, Failed}
 use Rattle.fz_check.specs.Reading.{ReaderState}
 use Rattle.fz_check.specs.Telling.{IsUnread}
+use Rattle.fz_check.proofs.CutLemmas.{inside_by}
 use Rattle.fz_check.proofs.ReaderLemmas.{fed_more, fed_none, fed_refused, cutting_fault, unread}
 use Rattle.fz_check.proofs.reader.PartReader.feed.Goals as goal
 
@@ -16,7 +17,7 @@ returns-clause-none c = λ _ given parts h.
     (λ s. let no : false ≡ true = sym c.if-waiting.false ∙ c.waiting.ensures.1 s in cc) c.in-Ok.ensures.all
 
 pub returns-in-Err-clause-refused : goal.returns-in-Err-clause-refused
-returns-in-Err-clause-refused c = λ left given parts h.
+returns-in-Err-clause-refused c = λ ending left given parts h.
     (let failed : c.in-Err.error ≢ stream.Failed = λ e. (let no : Running ≡ Failed = sym h.fits.running ∙ sym (ap (λ (s : ReaderState). s.splitter.stage) c.self.view_is) ∙ c.feed.ensures.failed.0 (c.in-Err.is ∙ ap Err e) in cc) in
-    subst (IsUnread left given parts) (sym c.stream_refusal.ensures) (unread left given parts c.in-Err.error (λ _. cutting_fault c.in-Err.error (c.in-Err.ensures.fault failed)) (λ memory.
-    inl (fed_refused c.args.self.now c.self.inside.splitter c.self.inside.pieces c.self.view_is c.pending.result.now c.pending.ensures given parts h c.in-Err.error (λ long. c.in-Err.ensures.broken memory long failed) (λ e. c.feed.ensures.too_long (c.in-Err.is ∙ ap Err e))))))
+    subst (IsUnread ending left given parts) (sym c.stream_refusal.ensures) (unread ending left given parts c.in-Err.error (λ _. cutting_fault c.in-Err.error (c.in-Err.ensures.fault failed)) (λ memory.
+    inside_by ending left given parts c.in-Err.error (fed_refused c.args.self.now c.self.inside.splitter c.self.inside.pieces c.self.view_is c.pending.result.now c.pending.ensures given parts h c.in-Err.error (λ long. c.in-Err.ensures.broken memory long failed) (λ e. c.feed.ensures.too_long (c.in-Err.is ∙ ap Err e))))))

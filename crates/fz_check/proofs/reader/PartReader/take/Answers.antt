@@ -14,5 +14,5 @@ returns-in-Ok-Some-clause-part c = λ left given parts frame n.
     (subst (λ o. IfSome o (λ p. IsPartOfItems (part_of p))) c.in-Ok-Some.field-0-is c.in-Ok-Some.ensures.items)
 
 pub returns-in-Err-clause-refused : goal.returns-in-Err-clause-refused
-returns-in-Err-clause-refused c = λ left given parts frame n.
-    subst (IsUnread left given parts) (sym c.stream_refusal.ensures) (refused_next c.args.self.now left given parts frame n c.self.inside.splitter (sym (ap (λ (s : ReaderState). s.splitter) c.self.view_is)) c.in-Err.error c.in-Err.ensures.fault (λ e. c.take.ensures.failed.0 (c.in-Err.is ∙ ap Err e)) c.in-Err.ensures.broken c.in-Err.ensures.broken_at_end)
+returns-in-Err-clause-refused c = λ ending left given parts frame n.
+    subst (IsUnread ending left given parts) (sym c.stream_refusal.ensures) (refused_next c.args.self.now left given parts frame n c.self.inside.splitter (sym (ap (λ (s : ReaderState). s.splitter) c.self.view_is)) c.in-Err.error c.in-Err.ensures.fault (λ e. c.take.ensures.failed.0 (c.in-Err.is ∙ ap Err e)) c.in-Err.ensures.broken c.in-Err.ensures.broken_at_end ending)
