@@ -1,8 +1,8 @@
-//! Loading a text item by item: each item is dropped once it is loaded, so no tree is held.
+//! Loading a text item by item: once one is loaded it gives its lists back, so no tree is held.
 
 ghost use Rattle.std.specs.Prelude.{◌≡◌, ◌≢◌, ◌<◌, ◌↔◌, Err, ◌++◌, ◌∷◌, [], IfErr, IfOk, List, OnOk, length, map};
 ghost use Rattle.fz_meaning.specs.Located.{Constraint as LocatedConstraint, Decl as LocatedDecl};
-ghost use Rattle.fz_meaning.specs.of_syntax.Offering.{IsLeft, IsRefused, IsTextOfAll, TookAll, all_items, from_constraints, from_decls, from_predicates};
+ghost use Rattle.fz_meaning.specs.of_syntax.Offering.{IsLeft, IsRefused, IsTextOfAll, Took, TookAll, all_items, from_constraints, from_decls, from_predicates, left_of};
 ghost use Rattle.fz_meaning.specs.of_syntax.Lexing.{most_bytes};
 ghost use Rattle.fz_meaning.specs.of_syntax.SyntaxError.{SyntaxError as SyntaxFault};
 ghost use Rattle.fz_meaning.specs.of_syntax.SyntaxError.TheVariants.{TooLong};
@@ -76,16 +76,25 @@ fn behind_decl(mut items: DeclItems<'_>) -> Result<(), SyntaxError>
     }
 }
 
-/// Adds what one more declaration declares, and drops the item.
-fn take_decl<'a>(alloc: Global, scope: &mut Scope<'a>, decl: Decl<'a>) -> Result<(), ModelError>
+/// Adds what one more declaration declares, and gives its lists back.
+fn take_decl<'a>(
+    alloc: Global,
+    scope: &mut Scope<'a>,
+    decl: Decl<'a>,
+    items: &mut DeclItems<'a>,
+) -> Result<(), ModelError>
     requires kinds { HasKinds scope.old }
     ensures more { (known : List LocatedDecl) → Declares known scope.old
         → OnOk result (Declares (known ++ located_decl decl.entry ∷ []) scope.new) }
     ensures kinds { OnOk result (HasKinds scope.new) }
     ensures tells { (known : List LocatedDecl) → Declares known scope.old
         → IfErr result (λ e. Tells e (decl_fault known (located_decl decl.entry))) }
+    ensures same { Took from_decls [] items.old.rest items.new.rest }
+    ensures left { left_of items.new.rest ≡ left_of items.old.rest }
 {
-    declare(alloc, scope, &decl)
+    let declared = declare(alloc, scope, &decl);
+    items.give_back(decl);
+    declared
 }
 
 /// What all declarations declare, and the items after them. Where one has a fault of names, the
@@ -105,8 +114,8 @@ fn declared_in<'a>(
 {
     loop {
         match items.next()? {
-            Offer::Item(decl, more) => {
-                if let Err(fault) = take_decl(alloc, &mut scope, decl) {
+            Offer::Item(decl, mut more) => {
+                if let Err(fault) = take_decl(alloc, &mut scope, decl, &mut more) {
                     behind_decl(more)?;
                     return Err(LoadError::Names(fault));
                 }
@@ -117,13 +126,14 @@ fn declared_in<'a>(
     }
 }
 
-/// Appends one more constraint, and drops the item.
+/// Appends one more constraint, and gives its lists back.
 fn take_constraint<'a>(
     alloc: Global,
     scope: &Scope<'a>,
     store: &mut Store,
     found: &mut Vec<Posted<'a>>,
     constraint: Constraint<'a>,
+    items: &mut ConstraintItems<'a>,
 ) -> Result<(), ModelError>
     requires kinds { HasKinds scope.now }
     ensures more { (known : List LocatedConstraint)
@@ -132,8 +142,12 @@ fn take_constraint<'a>(
         (known ++ located_constraint constraint.entry ∷ []) store.new found.new.items) }
     ensures tells { IfErr result (λ e. Tells e
         (constraint_fault_in scope.now (located_constraint constraint.entry))) }
+    ensures same { Took from_constraints [] items.old.rest items.new.rest }
+    ensures left { left_of items.new.rest ≡ left_of items.old.rest }
 {
-    post(alloc, scope, store, found, &constraint)
+    let posted = post(alloc, scope, store, found, &constraint);
+    items.give_back(constraint);
+    posted
 }
 
 /// All constraints, and the solve item after them. A fault of names comes last here too.
@@ -153,8 +167,10 @@ fn posted_in<'a>(
     let mut found = Vec::new(alloc);
     loop {
         match items.next()? {
-            Offer::Item(constraint, more) => {
-                if let Err(fault) = take_constraint(alloc, scope, store, &mut found, constraint) {
+            Offer::Item(constraint, mut more) => {
+                if let Err(fault) = take_constraint(
+                    alloc, scope, store, &mut found, constraint, &mut more,
+                ) {
                     behind_constraint(more)?;
                     return Err(LoadError::Names(fault));
                 }
