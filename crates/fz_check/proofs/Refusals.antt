@@ -1,5 +1,6 @@
 -- What a check is refused for.
-use Rattle.std.proofs.Common.{◌≡◌, ◌≢◌, ℕ, ◌≤◌, ◌<◌, List, length, refl, arith, ⊎_elim}
+use Rattle.std.proofs.Common.{◌≡◌, ◌≢◌, ℕ, ◌≤◌, ◌<◌, List, length, map, refl, arith, ⊎_elim}
+use Rattle.std.specs.List.{AllByRecursion}
 use Rattle.std.proofs.lemmas.Bool.{cases_lt}
 use Rattle.fz_judge.specs.of_syntax.SyntaxError.{SyntaxError}
 use Rattle.fz_judge.specs.of_syntax.SyntaxError.TheVariants as syntax
@@ -10,8 +11,15 @@ use Rattle.fz_judge.specs.of_stream.declared.error.StreamError.TheVariants as st
 use Rattle.fz_judge.specs.of_stream.Faults.{IsStreamFault}
 use Rattle.fz_judge.specs.of_stream.Parts.{StreamPart, IsStreamText}
 use Rattle.fz_judge.specs.of_stream.Broken.{StopsAfter}
-use Rattle.fz_check.specs.Passing.{IsStreamRefusal}
-use Rattle.fz_check.specs.Refused.{HasStreamFault, HasTextFault, IsBroken}
+use Rattle.fz_judge.specs.of_model.Meaning.{Model}
+use Rattle.fz_judge.specs.of_model.Texts.{IsLoadedFrom}
+use Rattle.fz_judge.specs.of_stream.Found.{HasPlaces, IsReadAs, block_of}
+use Rattle.fz_judge.specs.of_stream.declared.reading.Claim.{Claim}
+use Rattle.fz_judge.specs.of_stream.declared.block.Block as the_block
+use Rattle.fz_check.specs.declared.error.CheckError.{CheckError}
+use Rattle.fz_check.specs.declared.error.CheckError.TheVariants as errors
+use Rattle.fz_check.specs.Passing.{IsJudgingRefusal, IsStreamRefusal}
+use Rattle.fz_check.specs.Refused.{HasStreamFault, IsRefusal, HasTextFault, IsBroken}
 use Rattle.fz_check.specs.Telling.{stream_refusal}
 
 -- ---- texts
@@ -63,3 +71,22 @@ stream_fault_on bytes e long too_long none stops fault =
     by (stream.DuplicateName s) is = is (λ m. cc)
     by (stream.Unfinished s) is = is (λ m. cc)
     by stream.Failed is = is (λ m. cc)
+
+-- ---- blocks
+
+-- what a block is refused for, where the model and the stream are read
+pub block_refused : (model bytes : List ℕ) (m : Model) (blocks : List the_block.Block)
+    (claims : List Claim) → IsLoadedFrom model m → length bytes ≤ most_bytes
+    → IsReadAs bytes (map block_of blocks) claims → AllByRecursion HasPlaces blocks
+    → (e : CheckError) → IsJudgingRefusal m blocks e → IsRefusal model bytes e
+block_refused model bytes m blocks claims loaded short read places (errors.Block n e) h = record {
+  m = m;
+  loaded = loaded;
+  holds = record { short = short; parts = read.parts; text_of_stream = read.text; blocks = blocks; blocks_are = read.blocks_are; places = places; first = h };
+}
+block_refused model bytes m blocks claims loaded short read places errors.Memory h = tt
+block_refused model bytes m blocks claims loaded short read places (errors.Model e) h = absurd h
+block_refused model bytes m blocks claims loaded short read places (errors.Names e) h = absurd h
+block_refused model bytes m blocks claims loaded short read places (errors.Stream e) h = absurd h
+block_refused model bytes m blocks claims loaded short read places errors.Read h = absurd h
+block_refused model bytes m blocks claims loaded short read places errors.Write h = absurd h

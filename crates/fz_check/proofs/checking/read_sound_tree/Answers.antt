@@ -6,9 +6,15 @@ use Rattle.fz_check.proofs.checking.read_sound_tree.Goals as goal
 pub returns-in-Err-load : goal.returns-in-Err-load
 returns-in-Err-load c =
     let other : c.in-Err-load.error ≢ names.Memory = search rules in
-    let fault = record {
-      all = items_of_tree c.in-Ok.ast;
-      text = c.in-Ok.ensures.text;
-      tells = c.in-Err-load.ensures.first;
-    } in
-    record { text = tt; no_fault = tt; refused = record { fault = fault; not_memory = other } }
+    record {
+      text = tt;
+      no_fault = tt;
+      refused = record {
+        fault = record {
+          all = items_of_tree c.in-Ok.ast;
+          text = c.in-Ok.ensures.text;
+          tells = c.in-Err-load.ensures.first;
+        };
+        not_memory = other;
+      };
+    }
