@@ -82,22 +82,37 @@ def value_text(it):
     return "{" + ",".join(ranges) + "}"
 
 
-def variable_text(it):
+def model_lines(it):
+    """What the compiler wrote at a point: names, and the place in the model behind the last."""
+    lines = list(it.get("model", {}).get("names", []))
+    if "place" in it.get("model", {}):
+        loops = ", ".join(it["model"]["loops"])
+        place = it["model"]["place"] + (f", with {loops}" if loops else "")
+        lines.append(", ".join([*lines[-1:], place]))
+        del lines[-2:-1]
+    return lines
+
+
+def variable_lines(it):
+    name = f"{it['element']} ({it['name']})" if "element" in it else it["name"]
     if "value" not in it:
-        return f"{it['name']} = none: no rule gives it one; print it"
+        return [f"{name} = none: no rule gives it one; print it"]
     source = it["source"]
     if source != "printed":
         source = f"by {source}"
     if "line" in it:
         source += f", line {it['line']}"
-    return f"{it['name']} = {value_text(it)}, {source}"
+    behind = [f"  {line}" for line in model_lines(it)]
+    return [f"{name} = {value_text(it)}, {source}", *behind]
 
 
 def message_lines(it, model, stream):
     """The lines of a message but for the excerpt of the source."""
-    notes = [variable_text(variable) for variable in it.get("variables", [])]
+    notes = [variable_lines(variable) for variable in it.get("variables", [])]
     if "left_out" in it:
-        notes.insert(8, f"... and {it['left_out']} more ...")
+        notes.insert(8, [f"... and {it['left_out']} more ..."])
+    notes = [*model_lines(it), *(line for lines in notes for line in lines)]
+    notes += [f"{each['name']} = {each['value']}, fixed" for each in it.get("fixed", [])]
     name = stream if re.match("printed .* differs", it["message"]) else model
     if "refused" in it and it["refused"] != "model":
         name = stream

@@ -6,3 +6,7 @@ pub mod Explained
 pub mod Domains
 pub mod Leaving
 pub mod Lines
+pub mod Annotations
+pub mod Elements
+pub mod Paths
+pub mod Fixings

@@ -10,19 +10,25 @@ is_end byte = byte == 10
 abbrev pub line_ends : List ℕ → ℕ
 line_ends bytes = length (filter is_end bytes)
 
--- the bytes before the first LF, or all where there is none
+-- the bytes before the first one that is this, or all where there is none
+abbrev pub first_part : ℕ → List ℕ → List ℕ
+first_part end [] = []
+first_part end (b ∷ bytes) = cond (b == end) [] (b ∷ first_part end bytes)
+
+-- the current part with these bytes added: the byte that is this begins a new one
+abbrev pub part_after : ℕ → List ℕ → List ℕ → List ℕ
+part_after end part [] = part
+part_after end part (b ∷ bytes) = part_after end (cond (b == end) [] (part ++ b ∷ [])) bytes
+
+-- the bytes after the last one that is this, or all where there is none
+abbrev pub last_part : ℕ → List ℕ → List ℕ
+last_part end bytes = part_after end [] bytes
+
 abbrev pub first_line : List ℕ → List ℕ
-first_line [] = []
-first_line (b ∷ bytes) = cond (is_end b) [] (b ∷ first_line bytes)
+first_line bytes = first_part 10 bytes
 
--- the current line with these bytes added: an LF begins a new one
-abbrev pub line_after : List ℕ → List ℕ → List ℕ
-line_after line [] = line
-line_after line (b ∷ bytes) = line_after (cond (is_end b) [] (line ++ b ∷ [])) bytes
-
--- the bytes after the last LF, or all where there is none
 abbrev pub last_line : List ℕ → List ℕ
-last_line bytes = line_after [] bytes
+last_line bytes = last_part 10 bytes
 
 -- any byte but the second and further ones of a character of UTF-8, which are 128 to 191
 abbrev pub begins_character : ℕ → Bool

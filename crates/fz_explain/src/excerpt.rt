@@ -66,6 +66,17 @@ fn cut(letters: &mut Vec<char>, room: usize) -> Result<(), AllocError> {
     letters.extend_from_slice(&CUT)
 }
 
+/// The text of bytes as it is shown, cut to the columns of a message.
+///
+/// # Errors
+///
+/// Out of memory.
+pub(crate) fn cut_text(alloc: Global, bytes: &[u8]) -> Result<String, AllocError> {
+    let mut letters = letters_of(alloc, bytes)?;
+    cut(&mut letters, MOST_COLUMNS)?;
+    letters.iter().copied().collect(alloc)
+}
+
 /// What a message shows of a line: its text, how many columns come before the position that it is
 /// about, and how many are marked from there on.
 #[derive(Drop)]

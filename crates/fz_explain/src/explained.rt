@@ -12,7 +12,7 @@ use fz_filling::fz_model::Partial;
 use std::alloc::{AllocError, Global};
 
 /// The most variables of an explanation.
-const MOST_VARIABLES: usize = 12;
+pub(crate) const MOST_VARIABLES: usize = 12;
 
 /// Where there are more, how many are taken from the front; the others are the last ones.
 pub(crate) const FIRST_VARIABLES: usize = 8;

@@ -5,16 +5,21 @@
 //! words and layout, which `tests/explained` tests.
 #![tactic(auto)]
 
+mod annotation;
 mod case;
 mod domain;
+mod element;
 mod excerpt;
 mod explained;
 mod failing;
+mod fixed;
 mod help;
 mod lines;
 mod message;
 mod notes;
+mod path;
 mod place;
+mod remarks;
 mod scalars;
 mod sentence;
 mod source;
@@ -24,14 +29,18 @@ mod verdict;
 
 pub use case::{Case, Explainer};
 pub use domain::declared_domain;
+pub use element::{Element, element_of};
 pub use explained::{Explained, Explanation, explain};
 pub use failing::{Sought, first_point};
+pub use fixed::{Fixing, fixing_of};
 pub use fz_base::{Range, Value};
 pub use fz_filling::Giver;
 pub use lines::{Spot, spot_of};
 pub use message::{Message, Text, message_at};
-pub use notes::{MOST_RANGES, Note, Origin};
+pub use notes::{FixedNote, MOST_RANGES, Note, Origin};
+pub use path::{ModelPlace, model_place};
 pub use place::point_place;
+pub use remarks::Remarks;
 pub use source::{Source, sources_are_earlier};
 pub use sums::too_large_at;
 pub use variables::variables_of;

@@ -2,7 +2,7 @@
 //! before and after it.
 
 ghost use Rattle.std.specs.Prelude.{◌≡◌, ◌≤◌, suc, take, drop, length, filter};
-ghost use Rattle.fz_explain.specs.Lines.{begins_character, characters, first_line, is_end, last_line, line_ends};
+ghost use Rattle.fz_explain.specs.Lines.{begins_character, characters, first_line, first_part, is_end, last_line, last_part, line_ends};
 
 /// The byte that ends a line.
 const LF: u8 = b'\n';
@@ -26,12 +26,12 @@ pub fn spot_of<'a>(text: &'a [u8], offset: usize) -> Spot<'a>
     ensures behind { result.behind.now ≡ first_line (drop offset text.now) }
 {
     let (before, rest) = text.split_at(offset.min(text.len()));
-    let front = &before[line_start(before)..];
+    let front = &before[part_start(before, LF)..];
     Spot {
         line: count_ends(before) + 1,
         column: count_characters(front) + 1,
         front,
-        behind: &rest[..line_len(rest)],
+        behind: &rest[..part_len(rest, LF)],
     }
 }
 
@@ -58,27 +58,27 @@ fn count_ends(bytes: &[u8]) -> usize
     bytes.iter().filter(|byte| **byte == LF).count()
 }
 
-/// Where the last line begins.
-fn line_start(bytes: &[u8]) -> usize
+/// Where the part after the last byte that is this begins.
+pub(crate) fn part_start(bytes: &[u8], end: u8) -> usize
     ensures within { result ≤ length bytes.now }
-    ensures line { drop result bytes.now ≡ last_line bytes.now }
+    ensures part { drop result bytes.now ≡ last_part end bytes.now }
 {
     let mut start = 0;
     for (index, &byte) in bytes.iter().enumerate() {
-        if byte == LF {
+        if byte == end {
             start = index + 1;
         }
     }
     start
 }
 
-/// How long the first line is.
-fn line_len(bytes: &[u8]) -> usize
+/// How long the part before the first byte that is this is.
+pub(crate) fn part_len(bytes: &[u8], end: u8) -> usize
     ensures within { result ≤ length bytes.now }
-    ensures line { take result bytes.now ≡ first_line bytes.now }
+    ensures part { take result bytes.now ≡ first_part end bytes.now }
 {
     for (index, &byte) in bytes.iter().enumerate() {
-        if byte == LF {
+        if byte == end {
             return index;
         }
     }

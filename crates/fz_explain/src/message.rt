@@ -7,7 +7,8 @@ ghost use Rattle.fz_explain.specs.Lines.{characters, last_line, line_ends};
 use crate::excerpt::Excerpt;
 use crate::explained::FIRST_VARIABLES;
 use crate::lines::{Spot, spot_of};
-use crate::notes::{Note, note_text};
+use crate::notes::{FixedNote, Note, giver_lines, note_text};
+use crate::remarks::Remarks;
 use fz_base::Span;
 use fz_files::Passed;
 use std::alloc::{AllocError, Global};
@@ -45,9 +46,12 @@ pub struct Message {
     pub line: usize,
     pub column: usize,
     pub said: String,
+    /// What the compiler wrote at the point.
+    pub remarks: Remarks,
     pub variables: Vec<Note>,
     /// How many variables are left out behind the first eight.
     pub left_out: usize,
+    pub fixed: Vec<FixedNote>,
     pub notes: Vec<String>,
     /// The lines of the text before those of the variables.
     head: String,
@@ -67,12 +71,21 @@ impl Message {
         let Message { line, left_out, .. } = self;
         let digits = format!(in alloc; "{line}")?.len();
         let mut text = String::from_str(alloc, &self.head)?;
+        for told in self.remarks.lines(alloc)? {
+            writeln!(text, "{:digits$}    = {told}", "")?;
+        }
         for (place, note) in self.variables.iter().enumerate() {
             if place == FIRST_VARIABLES && *left_out > 0 {
                 writeln!(text, "{:digits$}    = ... and {left_out} more ...", "")?;
             }
             let told = note_text(alloc, note)?;
             writeln!(text, "{:digits$}    = {told}", "")?;
+            for told in giver_lines(alloc, note)? {
+                writeln!(text, "{:digits$}    =   {told}", "")?;
+            }
+        }
+        for FixedNote { name, value } in &self.fixed {
+            writeln!(text, "{:digits$}    = {name} = {value}, fixed", "")?;
         }
         for told in &self.notes {
             writeln!(text, "{:digits$}    = {told}", "")?;
@@ -108,8 +121,10 @@ pub fn message_at(
         line,
         column,
         said,
+        remarks: Remarks::none(alloc),
         variables: Vec::new(alloc),
         left_out: 0,
+        fixed: Vec::new(alloc),
         notes: Vec::new(alloc),
         head,
     }))

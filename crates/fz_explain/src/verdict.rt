@@ -9,8 +9,9 @@ use crate::domain::declared_domain;
 use crate::failing::{Sought, first_point};
 use crate::help::note_help;
 use crate::message::{Message, Text, message_at};
-use crate::notes::{note_domain, note_variables};
-use crate::place::point_place;
+use crate::notes::{note_domain, note_fixed, note_variables};
+use crate::place::{constraint_of, point_place};
+use crate::remarks::remarks_on;
 use crate::sentence::sentence;
 use crate::sums::too_large_at;
 use crate::variables::variables_of;
@@ -33,6 +34,24 @@ pub(crate) struct Reading<'s, 'e, 'a, 't> {
     pub steps: &'s [Giver],
 }
 
+/// The point that the verdict on a case is about; none of a printed name or the objective.
+fn verdict_point<'a>(verdict: Verdict<'a>) -> Option<Point<'a>> {
+    match verdict {
+        Verdict::Violated(Fault::Domain(name)) | Verdict::Undecided(Reason::NoValue(name)) => {
+            Some(Point::Domain(name))
+        }
+        Verdict::Violated(Fault::Definition(name)) => Some(Point::Definition(name)),
+        Verdict::Violated(Fault::Constraint(number, name))
+        | Verdict::Undecided(Reason::Unknown(number, name)) => {
+            Some(Point::Constraint(number, name))
+        }
+        Verdict::Undecided(Reason::TooLarge(number)) => Some(Point::Constraint(number, b"")),
+        Verdict::Satisfied
+        | Verdict::Violated(Fault::Printed(_) | Fault::NotBetter(_, _))
+        | Verdict::Undecided(Reason::NotShownBetter(_, _)) => None,
+    }
+}
+
 /// The text that the verdict on a case is about, and the byte range in it: of a printed name, of
 /// the objective, or of a point's name.
 pub(crate) fn verdict_place<'t>(
@@ -40,24 +59,14 @@ pub(crate) fn verdict_place<'t>(
     text: Text<'t>,
     case: &Case<'t, '_>,
 ) -> Option<(Text<'t>, Span)> {
-    let point = match case.verdict {
-        Verdict::Satisfied => return None,
+    match case.verdict {
         Verdict::Violated(Fault::Printed(name)) => {
-            return Some((case.stream, printed_place(case, name)?));
+            Some((case.stream, printed_place(case, name)?))
         }
         Verdict::Violated(Fault::NotBetter(_, _))
-        | Verdict::Undecided(Reason::NotShownBetter(_, _)) => {
-            return Some((text, objective_place(ast)?));
-        }
-        Verdict::Violated(Fault::Domain(name)) | Verdict::Undecided(Reason::NoValue(name)) => {
-            Point::Domain(name)
-        }
-        Verdict::Violated(Fault::Definition(name)) => Point::Definition(name),
-        Verdict::Violated(Fault::Constraint(number, name))
-        | Verdict::Undecided(Reason::Unknown(number, name)) => Point::Constraint(number, name),
-        Verdict::Undecided(Reason::TooLarge(number)) => Point::Constraint(number, b""),
-    };
-    Some((text, point_place(ast, &point)?))
+        | Verdict::Undecided(Reason::NotShownBetter(_, _)) => Some((text, objective_place(ast)?)),
+        verdict => Some((text, point_place(ast, &verdict_point(verdict)?)?)),
+    }
 }
 
 /// The message on the verdict of a case.
@@ -73,15 +82,18 @@ pub(crate) fn verdict_message(
     let Some(mut message) = message_at(alloc, &text, place, said)? else {
         return Ok(None);
     };
+    if let Some(point) = verdict_point(case.verdict) {
+        note_text(alloc, reading, &mut message, &point)?;
+    }
     match case.verdict {
         Verdict::Satisfied => {}
         Verdict::Violated(Fault::Printed(name)) => {
             let variables = variables_named(alloc, reading.model, name)?;
             note_variables(alloc, reading, &mut message, &variables)?;
         }
-        Verdict::Violated(Fault::NotBetter(_, _))
-        | Verdict::Undecided(Reason::NotShownBetter(_, _)) => {
-            note_objective(alloc, reading, &mut message)?;
+        Verdict::Violated(Fault::NotBetter(now, before))
+        | Verdict::Undecided(Reason::NotShownBetter(now, before)) => {
+            note_objective(alloc, reading, &mut message, now, before)?;
         }
         Verdict::Violated(_) => note_sought(alloc, reading, &mut message, Sought::Failing)?,
         Verdict::Undecided(_) => note_sought(alloc, reading, &mut message, Sought::Undecided)?,
@@ -104,6 +116,23 @@ fn note_sought(
     }
 }
 
+/// Adds what the text of the model has at the point of a verdict: what the compiler wrote there, and
+/// the values that are fixed.
+fn note_text(
+    alloc: Global,
+    reading: &Reading<'_, '_, '_, '_>,
+    message: &mut Message,
+    point: &Point<'_>,
+) -> Result<(), AllocError> {
+    message.remarks = remarks_on(alloc, reading.ast, point)?;
+    if let Point::Constraint(number, _) = point
+        && let Some(constraint) = constraint_of(reading.ast, *number)
+    {
+        note_fixed(alloc, reading, message, constraint)?;
+    }
+    Ok(())
+}
+
 fn note_point(
     alloc: Global,
     reading: &Reading<'_, '_, '_, '_>,
@@ -115,7 +144,7 @@ fn note_point(
     let model = reading.model;
     note_variables(alloc, reading, message, &variables_of(alloc, model, point)?)?;
     if let Some(domain) = declared_domain(model, point) {
-        note_domain(alloc, message, domain)?;
+        note_domain(alloc, reading, message, &model.point(point), domain)?;
     }
     if let Some(place) = too_large_at(alloc, model, reading.filling, point)? {
         let told = format!(in alloc; "the sum leaves 128 bits at element {place}")?;
@@ -128,6 +157,8 @@ fn note_objective(
     alloc: Global,
     reading: &Reading<'_, '_, '_, '_>,
     message: &mut Message,
+    now: i64,
+    before: i64,
 ) -> Result<(), AllocError> {
     if let Goal::Minimize(Term::Var(number)) | Goal::Maximize(Term::Var(number)) = reading
         .model
@@ -135,9 +166,9 @@ fn note_objective(
     {
         note_variables(alloc, reading, message, &[*number])?;
     }
-    let case = reading.case;
-    let before = case.number.saturating_sub(1);
-    message.note(format!(in alloc; "the other value is that of block {before}")?)
+    let number = reading.case.number;
+    let last = number.saturating_sub(1);
+    message.note(format!(in alloc; "block {last} has {before}, and block {number} has {now}")?)
 }
 
 fn objective_place(ast: &Ast<'_>) -> Option<Span> {

@@ -4,7 +4,7 @@
 use fz_check::{
     Answer, CheckError, ClaimKind, Fault, Judged, Reason, Span, Verdict, claim_text, refusal_fault,
 };
-use fz_explain::{MOST_RANGES, Message, Note, Origin, Value};
+use fz_explain::{FixedNote, MOST_RANGES, Message, Note, Origin, Remarks, Value};
 use json::Writer;
 use std::alloc::{AllocError, Global};
 
@@ -160,20 +160,64 @@ impl Object {
     fn note(&mut self, note: &Note) -> Result<(), AllocError> {
         self.writer.begin_object()?;
         self.text("name", &note.name)?;
+        if let Some(element) = &note.element {
+            self.text("element", element)?;
+        }
         if let Some(value) = &note.value {
             self.value(value)?;
         }
         match &note.origin {
             Origin::Printed => self.text("source", "printed")?,
-            Origin::Given(giver, line) => {
+            Origin::Given(giver, line, remarks) => {
                 self.text("source", giver)?;
                 if let Some(line) = line {
                     self.count("line", *line)?;
                 }
+                self.remarks(remarks)?;
             }
             Origin::Nothing => {}
         }
         self.writer.end_object()
+    }
+
+    /// A member that tells what the compiler wrote at a point, where it wrote something.
+    fn remarks(&mut self, remarks: &Remarks) -> Result<(), AllocError> {
+        if remarks.names.is_empty() && remarks.place.is_none() {
+            return Ok(());
+        }
+        self.writer.key("model")?;
+        self.writer.begin_object()?;
+        self.texts("names", &remarks.names)?;
+        if let Some(place) = &remarks.place {
+            self.text("place", place)?;
+        }
+        self.texts("loops", &remarks.loops)?;
+        self.writer.end_object()
+    }
+
+    /// A member that lists what is fixed, where something is.
+    fn fixed(&mut self, fixed: &[FixedNote]) -> Result<(), AllocError> {
+        if fixed.is_empty() {
+            return Ok(());
+        }
+        self.writer.key("fixed")?;
+        self.writer.begin_array()?;
+        for note in fixed {
+            self.writer.begin_object()?;
+            self.text("name", &note.name)?;
+            self.text("value", &note.value)?;
+            self.writer.end_object()?;
+        }
+        self.writer.end_array()
+    }
+
+    fn texts(&mut self, key: &str, texts: &[String]) -> Result<(), AllocError> {
+        self.writer.key(key)?;
+        self.writer.begin_array()?;
+        for text in texts {
+            self.writer.string(text)?;
+        }
+        self.writer.end_array()
     }
 
     /// The object on a line.
@@ -298,6 +342,7 @@ pub fn explanation_line(
     object.count("explained", block)?;
     object.place(message.line, message.column)?;
     object.text("message", &message.said)?;
+    object.remarks(&message.remarks)?;
     object.writer.key("variables")?;
     object.writer.begin_array()?;
     for note in &message.variables {
@@ -305,11 +350,7 @@ pub fn explanation_line(
     }
     object.writer.end_array()?;
     object.left_out(message.left_out)?;
-    object.writer.key("notes")?;
-    object.writer.begin_array()?;
-    for note in &message.notes {
-        object.writer.string(note)?;
-    }
-    object.writer.end_array()?;
+    object.fixed(&message.fixed)?;
+    object.texts("notes", &message.notes)?;
     object.line()
 }
