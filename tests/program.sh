@@ -147,7 +147,7 @@ far | "$program" check --explain "$folder/far.fzn" 2>"$folder/told" >/dev/null
 expect 'a printed value far on in a pipe' 0 '(standard input):602:1: printed a differs in block 301
    602 | a = array1d(1..1,[4]);
        | ^
-       = x = 3, printed' '' cat "$folder/told"
+       = a[1] (x) = 3, printed' '' cat "$folder/told"
 far | "$program" check --json "$folder/far.fzn" >"$folder/lines"
 expect 'a printed value far on in a pipe, as JSON' 0 '{"block":301,"verdict":"violated","point":"printed","name":"a","line":602,"column":1}' '' \
   grep violated.,.point "$folder/lines"
