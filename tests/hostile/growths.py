@@ -8,7 +8,8 @@ import os
 from beside import BY_HAND, CORPUS, FIRST_MODEL, FIRST_STREAM, content, examples, pairs
 from running import ROOT, Tally, run
 
-WANT = 7, b"refused: memory\n"
+MEMORY = 7
+OUT_OF_MEMORY = b"refused: memory\n"
 REFUSED = 4  # the least status of a refusal
 MOST_BYTES = 4_000  # of a model: longer ones of the corpus have the same growths, more of them
 
@@ -52,13 +53,15 @@ def each_refused(name, words, stdin, onward):
     """Refuses the first growth, the second and so on, until a run meets no refusal."""
     tally = Tally()
     ample = run(words, stdin).answer
+    # With `--explain=all` blocks are explained as they come.
+    refused = [front + OUT_OF_MEMORY for front in fronts(ample[2], False)]
     more = {"REFUSE_ONWARD": "1"} if onward else {}
     for number in itertools.count(1):
         ran = run(words, stdin, {"REFUSE_GROWTH": str(number)} | more)
         if not ran.met:
             tally.expect(f"{name}: no growth {number}", ran.answer, ample)
             return tally
-        wants = (ran.status, ran.err) == WANT and ample[1].startswith(ran.out)
+        wants = ran.status == MEMORY and ran.err in refused and ample[1].startswith(ran.out)
         fewer = ran.answer[:2] == ample[:2] and ran.err in fronts(ample[2], ample[0] >= REFUSED)
         tally.check(f"{name}: growth {number}", wants or fewer or ran.answer == ample, ran)
 

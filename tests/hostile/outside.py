@@ -14,7 +14,7 @@ WRITE = 6, b"", b"refused: write\n"
 MEMORY = 7, b"refused: memory\n"
 NOBODY = 65_534
 
-STACK = 64  # KB
+STACK = 80  # KB
 LEAST_MEMORY, MOST_MEMORY = 4_096, 131_072  # KB of address space
 DEEP = b"solve :: " + b"a([" * 31 + b"a" + b"])" * 31 + b" satisfy;\n"
 
@@ -133,7 +133,7 @@ def no_leave(program):
 
 
 def little_stack(program):
-    """A stack of 64 KB gives what an ample one gives."""
+    """A stack of 80 KB gives what an ample one gives."""
     tally = Tally()
     limited = f'ulimit -s {STACK}; exec env -i "$@"'
     for name, model, stream in examples():
