@@ -1,7 +1,7 @@
 //! Loading a tree: its declarations, constraints and goal are taken in source order, and each name
 //! is looked up once.
 
-ghost use Rattle.std.specs.Prelude.{◌≡◌, ◌++◌, ◌∷◌, [], IfErr, IfOk, List, None, OnOk, map};
+ghost use Rattle.std.specs.Prelude.{◌≡◌, ◌++◌, ◌∷◌, [], IfErr, IfOk, List, OnOk, map};
 ghost use Rattle.fz_meaning.specs.Located.{Decl as LocatedDecl};
 ghost use Rattle.fz_meaning.specs.declared.error.ModelError.TheVariants.{Memory};
 ghost use Rattle.fz_meaning.specs.Names.{model_of, HasNoFault, decl_fault, decls_fault, first_fault};

@@ -1,6 +1,7 @@
 -- A block's refusal: it tells the fault of the first item that has one, and the fault's place lies
 -- in the block's text.
-use Rattle.std.proofs.Common.{◌≡◌, ℕ, ◌+◌, ◌≤◌, ◌<◌, true, false, not, ◌==◌, List, [], ◌∷◌, ◌++◌, map, flat_map, length, get_or, take, drop, Option, Some, None, IsSomeAnd, option_map, refl, sym, ap, subst, ◌∙◌, arith, append_assoc}
+use Rattle.std.proofs.Common.{◌≡◌, ◌<◌, ℕ, ◌+◌, ◌≤◌, true, false, not, ◌==◌, List, [], ◌∷◌, map, length, get_or, take, drop, Option, Some, None, IsSomeAnd, option_map, refl, sym, ap, subst, ◌∙◌, arith}
+use Rattle.std.specs.List.{AllByRecursion}
 use Rattle.std.specs.Option.{option_or}
 use Rattle.fz_base.specs.declared.span.Span.{Span}
 use Rattle.fz_filling.specs.of_model.declared.Kind.{Kind}
@@ -14,11 +15,9 @@ use Rattle.fz_filling.specs.of_syntax.declared.Literal as the_literal
 use Rattle.fz_filling.specs.of_syntax.declared.Printed as the_printed
 use Rattle.fz_filling.specs.of_syntax.declared.PrintedValue as the_value
 use Rattle.fz_filling.specs.of_syntax.declared.PrintedValue.TheVariants as printed
-use Rattle.fz_filling.proofs.of_syntax.Fits.{stands_of}
-use Rattle.fz_filling.proofs.of_syntax.PlacedLaws.{fits_items}
-use Rattle.fz_filling.specs.of_syntax.Placed.{ArePlacedIn, placed_items}
+use Rattle.fz_filling.proofs.of_syntax.Standing.{LieBetween, elements_lie, lie_each, lie_in, literal_lies, printed_lies}
+use Rattle.fz_filling.specs.of_syntax.Placed.{ArePlacedIn, placed_items, placed_literal, placed_printed, placed_printed_value}
 use Rattle.fz_filling.specs.of_syntax.Places.{IsSpanWithin}
-use Rattle.fz_filling.specs.of_syntax.Spots.{Spot, Stand, name_spot, literal_spot, literal_spots, printed_value_spots, printed_spots, item_spots}
 use Rattle.fz_filling.specs.of_verdict.Solutions.{Printed, Block}
 use Rattle.fz_filling.specs.of_verdict.BlockFaults.{BlockFault, BlockFaultKind, fault_if, literal_fault, value_fault, printed_fault, items_fault, block_fault, moved}
 use Rattle.fz_filling.specs.of_verdict.BlockFaults.BlockFaultKind.{UnknownName, WrongKind, WrongLength}
@@ -28,7 +27,6 @@ use Rattle.fz_judge.specs.declared.error.BlockError.TheVariants as errors
 use Rattle.fz_judge.specs.Judged.{TellsFault, TellsKind}
 use Rattle.fz_judge.specs.Working.{IsPlacedWithin, moved_error}
 use Rattle.fz_filling.proofs.of_model.ScanSteps.{whole_at, first_append}
-use Rattle.fz_filling.proofs.of_stream.PlaceLemmas.{stand_before, stand_behind}
 
 -- ---- what an error tells
 
@@ -52,65 +50,74 @@ tells_stop f g xs i x e lt at none h = tells_further e (f (g x)) (first_some f (
 
 -- ---- the fault's place
 
-module _ (source : List ℕ) (upto : ℕ) where
-  -- the first of the spots lies within
-  spot_within : (from : ℕ) (s : Spot) (spots : List Spot) → Stand source from upto (s ∷ spots)
-      → (s.start ≤ s.end) × (s.end ≤ upto)
-  spot_within from s spots h = (omega (arith, h.1), stand_before source upto s.end spots h.3)
+module _ (upto : ℕ) where
+  fault_within : (at : Span) (k : BlockFaultKind) (f : BlockFault) → IsSpanWithin upto at
+      → ◌≡◌ {A = Option BlockFault} (Some (record { kind = k; at = at })) (Some f)
+      → IsSpanWithin upto f.at
+  fault_within at k f h e =
+      let same : record { kind = k; at = at } ≡ f = cc in
+      subst (IsSpanWithin upto) (ap (λ (g : BlockFault). g.at) same) h
 
-  literal_within : (k : Kind) (l : the_literal.Literal) (f : BlockFault) (from : ℕ)
-      (spots : List Spot) → literal_fault k (located_literal l) ≡ Some f
-      → Stand source from upto (literal_spots l ++ spots) → IsSpanWithin upto f.at
-  literal_within k l f from spots e h =
-      (elim (not (same_kind (kind_of (literal_value (located_literal l).what)) k)) as (λ b. fault_if b WrongKind l.span ≡ Some f → IsSpanWithin upto f.at) [
-        | true ↦ λ e. let same : record { kind = WrongKind; at = l.span } ≡ f = cc in subst (IsSpanWithin upto) (ap (λ (g : BlockFault). g.at) same) (spot_within from (literal_spot l) spots h)
+  literal_within : (k : Kind) (l : the_literal.Literal) (f : BlockFault)
+      → literal_fault k (located_literal l) ≡ Some f → IsSpanWithin upto l.span
+      → IsSpanWithin upto f.at
+  literal_within k l f e h =
+      (elim (not (same_kind (kind_of (literal_value (located_literal l).what)) k)) as (λ b.
+      fault_if b WrongKind l.span ≡ Some f → IsSpanWithin upto f.at) [
+        | true ↦ λ e. fault_within l.span WrongKind f h e
         | false ↦ λ e. cc
       ]) e
 
-  literals_within : (k : Kind) (ls : List the_literal.Literal) (f : BlockFault) (from : ℕ)
-      (spots : List Spot) → first_some (literal_fault k) (map located_literal ls) ≡ Some f
-      → Stand source from upto (flat_map literal_spots ls ++ spots) → IsSpanWithin upto f.at
-  literals_within k [] f from spots e h = cc
-  literals_within k (l ∷ ls) f from spots e h =
-      (elim (literal_fault k (located_literal l)) as (λ o. literal_fault k (located_literal l) ≡ o → option_or o (first_some (literal_fault k) (map located_literal ls)) ≡ Some f → IsSpanWithin upto f.at) [
-        | None ↦ λ _ e. literals_within k ls f l.span.end spots e h.3
-        | Some g ↦ λ here e. let same : g ≡ f = cc in literal_within k l f from (flat_map literal_spots ls ++ spots) (here ∙ ap Some same) h
+  literals_within : (k : Kind) (ls : List the_literal.Literal) (f : BlockFault)
+      → first_some (literal_fault k) (map located_literal ls) ≡ Some f
+      → AllByRecursion (λ l. LieBetween 0 upto (placed_literal l)) ls → IsSpanWithin upto f.at
+  literals_within k [] f e h = cc
+  literals_within k (l ∷ ls) f e h =
+      (elim (literal_fault k (located_literal l)) as (λ o. literal_fault k (located_literal l) ≡ o
+      → option_or o (first_some (literal_fault k) (map located_literal ls)) ≡ Some f
+      → IsSpanWithin upto f.at) [
+        | None ↦ λ _ e. literals_within k ls f e h.1
+        | Some g ↦ λ here e.
+            let same : g ≡ f = cc in
+            literal_within k l f (here ∙ ap Some same) (literal_lies l 0 upto h.0)
       ]) refl e
 
-  name_fault_within : (at : Span) (k : BlockFaultKind) (f : BlockFault) → IsSpanWithin upto at → ◌≡◌ {A = Option BlockFault} (Some (record { kind = k; at = at })) (Some f) → IsSpanWithin upto f.at
-  name_fault_within at k f h e = let same : record { kind = k; at = at } ≡ f = cc in subst (IsSpanWithin upto) (ap (λ (g : BlockFault). g.at) same) h
-
-  value_within : (x : Name) (p : Place) (v : the_value.PrintedValue) (f : BlockFault) (from : ℕ)
-      (spots : List Spot) → IsSpanWithin upto x.span → value_fault x p (located_printed_value v)
-      ≡ Some f → Stand source from upto (printed_value_spots v ++ spots) → IsSpanWithin upto f.at
-  value_within x (Scalar k t) (printed.One l) f from spots n e h = literal_within k l f from spots e h
-  value_within x (Scalar k t) (printed.Array is ls) f from spots n e h = name_fault_within x.span WrongKind f n e
-  value_within x (Array y k ts) (printed.One l) f from spots n e h = name_fault_within x.span WrongKind f n e
-  value_within x (Array y k ts) (printed.Array is ls) f from spots n e h =
-      let w = stand_behind source upto from (flat_map literal_spots is.items) (flat_map literal_spots ls.items ++ spots) (subst (Stand source from upto) (append_assoc (flat_map literal_spots is.items) (flat_map literal_spots ls.items) spots) h) in
-      (elim (not (length (map located_literal ls.items) == length ts)) as (λ b. option_or (fault_if b WrongLength x.span) (first_some (literal_fault k) (map located_literal ls.items)) ≡ Some f → IsSpanWithin upto f.at) [
-        | true ↦ λ e. name_fault_within x.span WrongLength f n e
-        | false ↦ λ e. literals_within k ls.items f w.0 spots e w.1
+  value_within : (x : Name) (p : Place) (v : the_value.PrintedValue) (f : BlockFault)
+      → IsSpanWithin upto x.span → value_fault x p (located_printed_value v) ≡ Some f
+      → LieBetween 0 upto (placed_printed_value v) → IsSpanWithin upto f.at
+  value_within x (Scalar k t) (printed.One l) f n e h =
+      literal_within k l f e (literal_lies l 0 upto h)
+  value_within x (Scalar k t) (printed.Array is ls) f n e h = fault_within x.span WrongKind f n e
+  value_within x (Array y k ts) (printed.One l) f n e h = fault_within x.span WrongKind f n e
+  value_within x (Array y k ts) (printed.Array is ls) f n e h =
+      (elim (not (length (map located_literal ls.items) == length ts)) as (λ b. option_or
+      (fault_if b WrongLength x.span) (first_some (literal_fault k) (map located_literal ls.items))
+      ≡ Some f → IsSpanWithin upto f.at) [
+        | true ↦ λ e. fault_within x.span WrongLength f n e
+        | false ↦ λ e. literals_within k ls.items f e (elements_lie 0 upto is ls h)
       ]) e
 
-  item_within : (m : Model) (p : the_printed.Printed) (f : BlockFault) (from : ℕ)
-      (spots : List Spot) → printed_fault m (located_printed p) ≡ Some f
-      → Stand source from upto (printed_spots p ++ spots) → IsSpanWithin upto f.at
-  item_within m p f from spots e h =
-      let name : IsSpanWithin upto p.name.span = spot_within from (name_spot p.name) (printed_value_spots p.value ++ spots) h in
-      (elim (find_name m p.name.text.now) as (λ o. (elim o [ None ↦ Some (record { kind = UnknownName; at = p.name.span }) | Some q ↦ value_fault (located_name p.name) q (located_printed_value p.value) ]) ≡ Some f → IsSpanWithin upto f.at) [
-        | None ↦ λ e. name_fault_within p.name.span UnknownName f name e
-        | Some q ↦ λ e. value_within (located_name p.name) q p.value f p.name.span.end spots name e h.3
-      ]) e
-
-  items_within : (m : Model) (items : List the_printed.Printed) (f : BlockFault) (from : ℕ)
-      → items_fault m (located_items items) ≡ Some f → Stand source from upto (item_spots items)
+  item_within : (m : Model) (p : the_printed.Printed) (f : BlockFault)
+      → printed_fault m (located_printed p) ≡ Some f → LieBetween 0 upto (placed_printed p)
       → IsSpanWithin upto f.at
-  items_within m [] f from e h = cc
-  items_within m (p ∷ items) f from e h =
-      (elim (printed_fault m (located_printed p)) as (λ o. printed_fault m (located_printed p) ≡ o → option_or o (items_fault m (located_items items)) ≡ Some f → IsSpanWithin upto f.at) [
-        | None ↦ λ _ e. let w = stand_behind source upto from (printed_spots p) (item_spots items) h in items_within m items f w.0 e w.1
-        | Some g ↦ λ here e. let same : g ≡ f = cc in item_within m p f from (item_spots items) (here ∙ ap Some same) h
+  item_within m p f e h =
+      let (name, value) = printed_lies p 0 upto h in
+      (elim (find_name m p.name.text.now) as (λ o. (elim o [ None ↦ Some (record { kind = UnknownName; at = p.name.span }) | Some q ↦ value_fault (located_name p.name) q (located_printed_value p.value) ]) ≡ Some f → IsSpanWithin upto f.at) [
+        | None ↦ λ e. fault_within p.name.span UnknownName f name e
+        | Some q ↦ λ e. value_within (located_name p.name) q p.value f name e value
+      ]) e
+
+  items_within : (m : Model) (items : List the_printed.Printed) (f : BlockFault)
+      → items_fault m (located_items items) ≡ Some f
+      → AllByRecursion (λ p. LieBetween 0 upto (placed_printed p)) items → IsSpanWithin upto f.at
+  items_within m [] f e h = cc
+  items_within m (p ∷ items) f e h =
+      (elim (printed_fault m (located_printed p)) as (λ o.
+      printed_fault m (located_printed p) ≡ o
+      → option_or o (items_fault m (located_items items)) ≡ Some f → IsSpanWithin upto f.at) [
+        | None ↦ λ _ e. items_within m items f e h.1
+        | Some g ↦ λ here e.
+            let same : g ≡ f = cc in item_within m p f (here ∙ ap Some same) h.0
       ]) refl e
 
 -- ---- the refusal of a block
@@ -134,14 +141,19 @@ kind_tells m b (errors.Kind at) h = subst (λ o. IsSomeAnd (option_map (at_place
 kind_tells m b (errors.Length at) h = subst (λ o. IsSomeAnd (option_map (at_place b.offset) o) (λ x. x.kind ≡ WrongLength)) (sym h) refl
 kind_tells m b errors.Memory h = tt
 
-span_within : (n upto : ℕ) (s : Span) → upto ≤ n → IsSpanWithin upto s → IsSpanWithin n s
-span_within n upto s le h = (h.0, omega (arith, h.1, le))
+fault_lies : (m : Model) (text : List ℕ) (items : List the_printed.Printed) (n : ℕ)
+    (f : BlockFault) → length text ≤ n → ArePlacedIn text (placed_items items)
+    → items_fault m (located_items items) ≡ Some f → IsSpanWithin n f.at
+fault_lies m text items n f le h e =
+    let all = lie_each placed_printed 0 (length text) items (lie_in text (placed_items items) h) in
+    let within : IsSpanWithin (length text) f.at = items_within (length text) m items f e all in
+    (within.0, omega (arith, within.1, le))
 
 -- and lies where it can be moved
 pub told_within : (m : Model) (text : List ℕ) (items : List the_printed.Printed) (n : ℕ)
     (e : BlockError) → length text ≤ n → ArePlacedIn text (placed_items items)
     → TellsFault e (items_fault m (located_items items)) → IsPlacedWithin n e
-told_within m text items n (errors.UnknownName at) le h told = span_within n (length text) at le (items_within text (length text) m items _ 0 told (stands_of text (fits_items items) h))
-told_within m text items n (errors.Kind at) le h told = span_within n (length text) at le (items_within text (length text) m items _ 0 told (stands_of text (fits_items items) h))
-told_within m text items n (errors.Length at) le h told = span_within n (length text) at le (items_within text (length text) m items _ 0 told (stands_of text (fits_items items) h))
+told_within m text items n (errors.UnknownName at) le h told = fault_lies m text items n _ le h told
+told_within m text items n (errors.Kind at) le h told = fault_lies m text items n _ le h told
+told_within m text items n (errors.Length at) le h told = fault_lies m text items n _ le h told
 told_within m text items n errors.Memory le h told = tt

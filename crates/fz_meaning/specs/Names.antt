@@ -134,8 +134,8 @@ abbrev pub name_fault : List Decl → Decl → Option Fault
 name_fault before d = cond (declares before d.name.text) (Some (DuplicateName, d.name.span))
     (cond (differs_in_length d) (Some (WrongLength, d.name.span)) None)
 
--- At a declaration: at its name, or else in its value, whose literals and names are to be scalars of
--- the declared kind.
+-- At a declaration: at its name, or else in its value, whose literals and names are to be scalars
+-- of the declared kind.
 abbrev pub decl_fault : List Decl → Decl → Option Fault
 decl_fault before d = option_or (name_fault before d)
     (parts_fault before (Some (kind_of_base d.base)) (parts d.value))

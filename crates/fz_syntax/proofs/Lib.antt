@@ -22,7 +22,5 @@ pub mod More
 pub mod Listed
 pub mod Walks
 pub mod Folds
-pub mod Fits
-pub mod PlacedNotes
-pub mod PlacedLaws
+pub mod Standing
 pub use Rattle.fz_tree.proofs.PrintBack

@@ -33,8 +33,7 @@ use Rattle.fz_syntax.proofs.Separated.{fails_bind, fails_like}
 use Rattle.fz_syntax.proofs.Walks.{walk_none, walk_still, walk_then}
 use Rattle.fz_syntax.proofs.Whole.{refused_so, refused_more, grammar_refuses, lexer_refuses}
 use Rattle.fz_syntax.proofs.Parsed.{tree_found, tree_read}
-use Rattle.fz_syntax.proofs.Fits.{placed_in, stands_of}
-use Rattle.fz_syntax.proofs.PlacedLaws.{fits_all, to_right}
+use Rattle.fz_syntax.proofs.Standing.{placed_in, stands_of}
 
 -- ---- what is read, with its value changed
 
@@ -337,12 +336,18 @@ unfolding tree_of ended
 all_left source i all same r left =
     let lexed : LexesWithinLimits source (tokens_ahead source 0) = subst (λ (s : List ℕ). LexesWithinLimits s (tokens_ahead s 0)) same left.lexed in
     let read : tree_of the_limits (lexemes i.parser) ≡ Ok (bare_all (all_items r)) = ap whole (tree_parts (lexemes i.parser) ∙ ap (changed tree_of_parts) left.read) in
-    let walked : Walk i.parser left.last (placed_all (all_items r)) = subst (λ (s : List PlacedToken). Walk i.parser left.last s) (sym (to_right (flat_map placed_predicate r.0) (flat_map placed_decl r.1.0) (flat_map placed_constraint r.1.1.0) (placed_solve r.1.1.1))) left.walked in
+    let predicates = flat_map placed_predicate r.0 in
+    let decls = flat_map placed_decl r.1.0 in
+    let behind = flat_map placed_constraint r.1.1.0 in
+    let solve = placed_solve r.1.1.1 in
+    let walked : Walk i.parser left.last (placed_all (all_items r)) =
+    subst (Walk i.parser left.last) (sym (append_assoc (predicates ++ decls) behind solve
+    ∙ append_assoc predicates decls (behind ++ solve))) left.walked in
     let placed = placed_in source i.parser left.last (placed_all (all_items r)) all walked left.ended lexed.lexes in
     record {
       text = tree_found source i.parser all (bare_all (all_items r)) lexed.short lexed.lexes lexed.numbers read;
       placed = placed;
-      stands = stands_of source (fits_all (all_items r)) placed;
+      stands = stands_of source (placed_all (all_items r)) placed;
     }
 
 pub all_within : (source : List ℕ) (i : Rest) → ahead i.parser ≡ tokens_ahead source 0

@@ -2,7 +2,7 @@
 -- believe only what is above `Part`. The rest says what is left to be offered: `PredicateItems::new`
 -- promises that what is left then is all of the text, each call that with the item that it offers
 -- what is left behind it was left before, and the last one that nothing is left.
-use Rattle.std.specs.Prelude.{◌≡◌, ◌<◌, ◌≤◌, ℕ, List, [], ◌∷◌, ◌++◌, map, length, codes, Bool, Result, Ok, Err}
+use Rattle.std.specs.Prelude.{◌≡◌, ◌<◌, ◌≤◌, ℕ, List, [], ◌∷◌, ◌++◌, map, length, codes, Bool, None, Result, Ok, Err}
 use Rattle.std.specs.List.{flat_map}
 use Rattle.fz_lex.specs.View.{IsLexicalFault, IsPlacedWithin}
 use Rattle.fz_lex.specs.Lexing.{most_bytes, LexesWithinLimits, SpannedToken}
@@ -26,7 +26,7 @@ use Rattle.fz_tree.specs.declared.tree.Solve.{Solve}
 use Rattle.fz_tree.specs.View.{bare_predicate, bare_decl, bare_constraint, bare_solve}
 use Rattle.fz_syntax.specs.Placed.{PlacedToken, ArePlacedIn, placed_predicate, placed_decl, placed_constraint, placed_solve}
 use Rattle.fz_tree.specs.Text.{the_limits, IsTextOfTree}
-use Rattle.fz_syntax.specs.Spots.{Spot, Stand, predicate_spots, decl_spots, constraint_spots, solve_spots}
+use Rattle.fz_syntax.specs.Spots.{Stand, spots_from}
 use Rattle.fz_syntax.specs.Reading.{Fault, Read, Reader, ◌>>=◌, many_at, any_number, is_word, begins_decl, predicate_at, decl_at, constraint_at, solve_at, whole}
 use Rattle.fz_tree.specs.Refusals.{IsRefusalOf}
 use Rattle.fz_syntax.specs.Walk.{ahead, lexemes, Walk}
@@ -58,16 +58,12 @@ abbrev pub placed_all : TreeItems → List PlacedToken
 placed_all t = flat_map placed_predicate t.predicates ++ flat_map placed_decl t.decls
     ++ flat_map placed_constraint t.constraints ++ placed_solve t.solve
 
-abbrev pub spots_all : TreeItems → List Spot
-spots_all t = flat_map predicate_spots t.predicates ++ (flat_map decl_spots t.decls
-    ++ (flat_map constraint_spots t.constraints ++ solve_spots t.solve))
-
 -- The source is a text of these items, and they have the byte ranges of their tokens, so the names
 -- and literals follow one another.
 pub record IsTextOfAll (source : List ℕ) (t : TreeItems) : Type 0 where
   pub text : IsTextOfTree source (bare_all t)
   pub placed : ArePlacedIn source (placed_all t)
-  pub stands : Stand source 0 (length source) (spots_all t)
+  pub stands : Stand source 0 (length source) (spots_from None (placed_all t))
 
 -- The source is a text of no tree, unless memory ran out, and the fault is the first in the order
 -- of faults.

@@ -26,12 +26,12 @@ returns-in-Err c =
 
 pub moved_span-requires : goal.moved_span-requires
 moved_span-requires c =
-    let w = again_within c.args.text.now _ _ (again_in _ _ _ c.in-Some.span c.in-Some.is c.deref.ensures.value c.in_ok-span.ensures.place) c.in-Ok.ensures.stands in
+    let w = again_within c.args.text.now _ _ (again_in _ _ _ c.in-Some.span c.in-Some.is c.deref.ensures.value c.in_ok-span.ensures.place) c.in-Ok.ensures.in_place in
     (w.0, omega (arith, w.1, c.requires.fits))
 
 pub returns-in-Some-clause-place : goal.returns-in-Some-clause-place
 returns-in-Some-clause-place c =
-    let w = again_within c.args.text.now _ _ (again_in _ _ _ c.in-Some.span c.in-Some.is c.deref.ensures.value c.in_ok-span.ensures.place) c.in-Ok.ensures.stands in
+    let w = again_within c.args.text.now _ _ (again_in _ _ _ c.in-Some.span c.in-Some.is c.deref.ensures.value c.in_ok-span.ensures.place) c.in-Ok.ensures.in_place in
     subst (IsSpanWithin (c.args.offset + length c.args.text.now)) (sym c.moved_span.ensures) (omega (arith, w.0), omega (arith, w.1))
 
 pub returns-in-Some-clause-tells : goal.returns-in-Some-clause-tells

@@ -6,8 +6,7 @@ use Rattle.fz_syntax.specs.Placed.{placed_items}
 use Rattle.fz_syntax.proofs.Parsed.{items_found, items_only, empty_of_only}
 use Rattle.fz_syntax.proofs.More.{same_of_items}
 use Rattle.fz_syntax.proofs.Whole.{grammar_refuses}
-use Rattle.fz_syntax.proofs.Fits.{placed_in, stands_of}
-use Rattle.fz_syntax.proofs.PlacedLaws.{fits_items}
+use Rattle.fz_syntax.proofs.Standing.{placed_in, stands_of}
 use Rattle.fz_syntax.proofs.parser.read_items.Goals as goal
 
 pub returns-in-Ok-clause-found : goal.returns-in-Ok-clause-found
@@ -30,7 +29,7 @@ returns-in-Ok-clause-in_place c =
     placed_in c.args.source.now c.new-parser.result c.read_all_items.new.parser (placed_items c.in-Ok.items.items) c.new-parser.ensures.all c.in-Ok.ensures.walked c.in-Ok.ensures.ended lexes
 
 pub returns-in-Ok-clause-stands : goal.returns-in-Ok-clause-stands
-returns-in-Ok-clause-stands c = stands_of c.args.source.now (fits_items c.in-Ok.items.items) (returns-in-Ok-clause-in_place c)
+returns-in-Ok-clause-stands c = stands_of c.args.source.now (placed_items c.in-Ok.items.items) (returns-in-Ok-clause-in_place c)
 
 pub returns-clause-only : goal.returns-clause-only
 returns-clause-only c = items_only c.args.source.now c.new-parser.result c.new-parser.ensures.all (Err c.in-Err.error) c.in-Err.ensures.whole
