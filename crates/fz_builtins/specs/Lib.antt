@@ -1,5 +1,4 @@
 pub mod Readings
 pub mod Outcomes
-pub mod Said
 pub use Rattle.fz_globals.specs.of_view
 pub use Rattle.fz_globals.specs.of_data

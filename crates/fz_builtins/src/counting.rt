@@ -10,11 +10,11 @@ use fz_globals::counts::{count_in, count_of, is_listed, is_truth_listed, nonzero
 use fz_globals::fz_kernel::fz_arguments::ArgumentView;
 use std::alloc::{AllocError, Global};
 
-/// How often the second argument is an element of the first.
-pub(crate) fn count_eq(view: &ArgumentView<'_, '_>) -> i128
-    ensures { result ≡ count_of (ints view.now 0) (int view.now 1) }
+/// Whether the third argument is how often the second is an element of the first.
+pub(crate) fn count_eq(view: &ArgumentView<'_, '_>) -> bool
+    ensures { result ≡ (int view.now 2 =ℤ count_of (ints view.now 0) (int view.now 1)) }
 {
-    count_of(&view.elements(0), view.int(1))
+    i128::from(view.int(2)) == count_of(&view.elements(0), view.int(1))
 }
 
 /// Whether the third argument isn't how often the second is an element of the first.
@@ -52,11 +52,11 @@ pub(crate) fn count_lt(view: &ArgumentView<'_, '_>) -> bool
     i128::from(view.int(2)) < count_of(&view.elements(0), view.int(1))
 }
 
-/// The number of elements that are in the set.
-pub(crate) fn among(view: &ArgumentView<'_, '_>) -> i128
-    ensures { result ≡ count_in (ints view.now 1) (numbers view.now 2) }
+/// Whether the first argument is the number of elements that are in the set.
+pub(crate) fn among(view: &ArgumentView<'_, '_>) -> bool
+    ensures { result ≡ (int view.now 0 =ℤ count_in (ints view.now 1) (numbers view.now 2)) }
 {
-    count_in(&view.elements(1), view.set(2))
+    i128::from(view.int(0)) == count_in(&view.elements(1), view.set(2))
 }
 
 /// Whether the third argument is an element at least as often as the first says.
@@ -80,14 +80,15 @@ pub(crate) fn exactly(view: &ArgumentView<'_, '_>) -> bool
     i128::from(view.int(0)) == count_of(&view.elements(1), view.int(2))
 }
 
-/// The number of different elements.
+/// Whether the first argument is the number of different elements.
 pub(crate) fn number_of_values(
     alloc: Global,
     view: &ArgumentView<'_, '_>,
-) -> Result<i128, AllocError>
-    ensures { IfOk result (λ n. n ≡ pos (length (values_of (ints view.now 1)))) }
+) -> Result<bool, AllocError>
+    ensures { IfOk result (λ r. r ≡
+        (int view.now 0 =ℤ pos (length (values_of (ints view.now 1))))) }
 {
-    counts::number_of_values(alloc, &view.elements(1))
+    Ok(i128::from(view.int(0)) == counts::number_of_values(alloc, &view.elements(1))?)
 }
 
 /// Whether no two elements that aren't 0 are equal.

@@ -15,16 +15,14 @@ mod numbers;
 mod ordering;
 mod outcome;
 mod places;
-mod said;
 mod scheduling;
 mod sets;
 mod sums;
 mod truths;
 
-pub use builtins::{of_builtin, said_of};
+pub use builtins::of_builtin;
 pub use fz_globals;
 pub use fz_globals::fz_kernel;
 pub use fz_globals::fz_kernel::{fz_arguments, fz_data};
 pub use outcome::Outcome;
-pub use said::Said;
 pub use sums::products_leave;

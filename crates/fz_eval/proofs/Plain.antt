@@ -1,9 +1,13 @@
--- Sums with one element changed.
-use Rattle.std.proofs.Common.{◌≡◌, ℕ, suc, zero, ℤ, pos, negsuc, ◌+ℤ◌, ◌*ℤ◌, ◌-ℤ◌, neg_ℤ, List, [], ◌∷◌, Some, sym, ap, ◌∙◌, slice_get, slice_set, arith}
+-- Lists of numbers: sums with one element changed, elements by their indices, the greatest and the
+-- least.
+use Rattle.std.proofs.Common.{◌≡◌, ℕ, suc, zero, ℤ, pos, negsuc, ◌+ℤ◌, ◌*ℤ◌, ◌-ℤ◌, neg_ℤ, Bool, true, false, ◌&&◌, List, [], ◌∷◌, Option, Some, None, sym, ap, ◌∙◌, slice_get, slice_set, arith, IfSome, IfNone, FitsSigned, w64}
 use Rattle.std.proofs.lemmas.Int.{ints}
 use Rattle.std.proofs.Math.IntN.{*ℤ-zero, *ℤ_comm, *ℤ-one, *ℤ-negsuc}
-use Rattle.fz_meaning.specs.Relations.{◌=ℤ◌, total, products}
-use Rattle.fz_meaning.proofs.Values.{same_int, int_itself, same_truth}
+use Rattle.std.specs.List.{list_all}
+use Rattle.std.specs.Option.{option_map_or}
+use Rattle.fz_meaning.specs.Relations.{◌=ℤ◌, element_at, is_element, is_among, total, products}
+use Rattle.fz_meaning.proofs.Values.{no, same_int, int_itself, same_truth}
+use Rattle.fz_eval.specs.Left.{IsLeftNumber, IsLeftPlain}
 
 -- ---- sums
 
@@ -52,3 +56,25 @@ made_up_by_one s u n w e = ap (λ z. (s +ℤ z) =ℤ w) (ap (λ z. z *ℤ n) e �
 
 pub made_up_by_less_one : (s u n w : ℤ) → u ≡ negsuc 0 → ((s +ℤ (u *ℤ n)) =ℤ w) ≡ (n =ℤ (s -ℤ w))
 made_up_by_less_one s u n w e = ap (λ z. (s +ℤ z) =ℤ w) (ap (λ z. z *ℤ n) e ∙ less_one_times n) ∙ minus_goes s n w
+
+-- ---- elements, the greatest and the least
+
+abbrev Fits : Option ℤ → Type 0
+Fits o = IfSome o (λ n. FitsSigned w64 n)
+
+pub element_left : (n : ℤ) (b : List ℤ) (o : Option ℤ) → Fits o → o ≡ element_at b n
+    → IsLeftNumber (λ c. is_element ◌=ℤ◌ n b c) o
+element_left n b (Some x) fits e = (fits, ap (λ o. option_map_or (λ z. z =ℤ x) o false) (sym e) ∙ int_itself x)
+element_left n b None fits e = λ c _ passes. no (ap (λ o. option_map_or (λ z. z =ℤ c) o false) e ∙ passes)
+
+pub element_of : {A : Type 0} (same : A → A → Bool) (itself : (x : A) → same x x ≡ true) (n : ℤ)
+    (b : List A) (o : Option A) → o ≡ element_at b n → IsLeftPlain (λ c. is_element same n b c) o
+element_of same itself n b (Some x) e = ap (λ o. option_map_or (λ z. same z x) o false) (sym e) ∙ itself x
+element_of same itself n b None e = λ c passes. no (ap (λ o. option_map_or (λ z. same z c) o false) e ∙ passes)
+
+-- the best of a list, which has none where it is empty
+pub best_left : (below : ℤ → ℤ → Bool) (b : List ℤ) (o : Option ℤ) → Fits o
+    → IfSome o (λ m. (is_among m b && list_all (λ x. below x m) b) ≡ true) → IfNone o (b ≡ [])
+    → IsLeftNumber (λ a. is_among a b && list_all (λ x. below x a) b) o
+best_left below b (Some m) fits best none = (fits, best)
+best_left below b None fits best none = λ n _ passes. no (ap (λ l. is_among n l && list_all (λ x. below x n) l) (sym none) ∙ passes)

@@ -1,14 +1,17 @@
--- What the rows of the table have in common: which rows add sums up, and which one fills an element.
-use Rattle.std.proofs.Common.{◌≡◌, Bool, true, false, cond, ◌&&◌, List, [], ◌∷◌, find, Some, refl, sym, subst}
+-- What the rows of the table have in common: where scalars are filled, which rows add sums up, and
+-- which one fills an element.
+use Rattle.std.proofs.Common.{◌≡◌, ℕ, zero, suc, Bool, true, false, cond, ◌&&◌, List, [], ◌∷◌, find, Some, slice_get, Contains, refl, sym, subst, arith}
 use Rattle.std.specs.List.{list_all}
+use Rattle.std.specs.Option.{option_map_or}
+use Rattle.fz_meaning.specs.declared.kind.Kind.{Kind}
 use Rattle.fz_meaning.specs.declared.kind.Kind.TheVariants.{Int as IntKind}
-use Rattle.fz_meaning.specs.Builtins.{Row, builtins, is_named, row_at, rows}
-use Rattle.fz_meaning.specs.Results.{result_of}
+use Rattle.fz_meaning.specs.Builtins.{Shape, Row, builtins, is_named, row_at, rows}
+use Rattle.fz_meaning.specs.Results.{Result, result_of}
 use Rattle.fz_meaning.specs.Builtins.Shape.{ScalarOf, ArrayOf}
-use Rattle.fz_meaning.specs.Results.Result.{UnitTerm}
+use Rattle.fz_meaning.specs.Results.Result.{NoResult, Places, UnitTerm}
 use Rattle.fz_meaning.specs.Meaning.{Argument, Partial, fits, have_shapes}
 use Rattle.fz_meaning.specs.States.{sums_leave}
-use Rattle.fz_meaning.proofs.Values.{and_first, and_second}
+use Rattle.fz_meaning.proofs.Values.{no, and_first, and_second}
 use Rattle.fz_meaning.specs.declared.builtin.Builtin.{Builtin}
 use Rattle.fz_meaning.specs.declared.builtin.Builtin.TheVariants.{IntLinEq}
 use Rattle.fz_meaning.specs.declared.known.Known.{Known}
@@ -16,7 +19,7 @@ use Rattle.fz_meaning.specs.Known.{form_at, known_row}
 use Rattle.fz_meaning.specs.declared.known.Form.{Form}
 use Rattle.fz_meaning.specs.declared.known.Form.TheVariants.{Base, Reified, Implied}
 use Rattle.fz_builtins.proofs.of_view.Sums.{are_ints, sums_leave_are}
-use Rattle.fz_eval.specs.Left.{is_too_large}
+use Rattle.fz_eval.specs.Left.{IsOfKind, IsPlaceOf, is_too_large}
 use Rattle.fz_eval.specs.Forced.{IsRow}
 
 -- what is asked of each row holds of the one that is found
@@ -31,6 +34,47 @@ found_all q t (y ∷ ys) x h e =
 
 of_row : (q : Row → Bool) → list_all q rows ≡ true → (r : Row) → IsRow r → q r ≡ true
 of_row q h r (p, e) = found_all q (λ r. is_named p.name r && fits r p.arguments) rows r h e
+
+-- ---- an argument that may be filled is a scalar
+
+is_scalar : Shape → Bool
+is_scalar (ScalarOf k) = true
+is_scalar (ArrayOf k) = false
+
+is_scalar_at : List Shape → ℕ → Bool
+is_scalar_at ss i = option_map_or is_scalar (slice_get ss i) false
+
+are_scalars : List Shape → Result → Bool
+are_scalars ss NoResult = true
+are_scalars ss (Places is) = list_all (is_scalar_at ss) is
+are_scalars ss UnitTerm = true
+
+all_fill_scalars : list_all (λ r. are_scalars r.shapes (result_of r)) rows ≡ true
+unfolding rows row_at builtins result_of is_scalar is_scalar_at are_scalars
+all_fill_scalars = refl
+
+passes_at : (q : ℕ → Bool) (is : List ℕ) (i : ℕ) → list_all q is ≡ true → Contains is i → q i ≡ true
+passes_at q [] i h (k, below, is) = absurd (omega arith)
+passes_at q (j ∷ js) i h (zero, below, is) = subst (λ z. q z ≡ true) is (and_first (q j) _ h)
+passes_at q (j ∷ js) i h (suc k, below, is) = passes_at q js i (and_second (q j) _ h) (k, omega arith, is)
+
+scalar_there : (ss : List Shape) (i : ℕ) → is_scalar_at ss i ≡ true → (k : Kind) × IsOfKind ss i k
+unfolding is_scalar is_scalar_at
+scalar_there [] i h = no h
+scalar_there (ScalarOf k ∷ ss) zero h = (k, refl)
+scalar_there (ArrayOf k ∷ ss) zero h = no h
+scalar_there (s ∷ ss) (suc i) h = scalar_there ss i h
+
+scalar_filled : (ss : List Shape) (o : Result) (i : ℕ) → are_scalars ss o ≡ true → IsPlaceOf o i
+    → (k : Kind) × IsOfKind ss i k
+unfolding are_scalars
+scalar_filled ss NoResult i h place = absurd place
+scalar_filled ss (Places is) i h place = scalar_there ss i (passes_at (is_scalar_at ss) is i h place)
+scalar_filled ss UnitTerm i h place = absurd place
+
+pub place_is_scalar : (r : Row) → IsRow r → (i : ℕ) → IsPlaceOf (result_of r) i
+    → (k : Kind) × IsOfKind r.shapes i k
+place_is_scalar r row i place = scalar_filled r.shapes (result_of r) i (of_row (λ r. are_scalars r.shapes (result_of r)) all_fill_scalars r row) place
 
 -- ---- a row adds products of arrays of numbers
 

@@ -46,12 +46,6 @@ IsPlaceOf UnitTerm i = ⊥
 abbrev pub IsOfKind : List Shape → ℕ → Kind → Type 0
 IsOfKind shapes i k = slice_get shapes i ≡ Some (ScalarOf k)
 
--- what is left to the argument at an index, of the kind that it has
-pub record IsLeftAt (r : Row) (K : Partial) (xs : List Argument) (i : ℕ) (o : Option Value) : Type 0 where
-  pub kind : Kind
-  pub shape : IsOfKind r.shapes i kind
-  pub left : IsLeft kind (holds_with r K xs i) o
-
 -- A partial sum of the products of the first two arguments leaves 128 bits. An element without a
 -- value is read as 0, so it adds nothing.
 abbrev pub products_leave : Partial → List Argument → Bool

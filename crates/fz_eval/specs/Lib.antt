@@ -2,6 +2,7 @@ pub mod Holding
 pub mod Whole
 pub mod Overviews
 pub mod Left
+pub mod Counted
 pub mod Forced
 pub mod Kinds
 pub mod Openings

@@ -13,7 +13,9 @@
 //! Its worked cases are in `tests/cases` (`builtins.txt`, `calls.txt`).
 #![tactic(auto)]
 
+mod base_row;
 mod constraints;
+mod counted;
 mod domains;
 mod holding;
 mod numbers;

@@ -36,8 +36,7 @@ fn of_point(
 
 /// The state of the point of a number, from 0, under a partial assignment. Rows that compare or
 /// sort many values take memory (all different, counts of values, cardinality, sorting, chains of
-/// precedence, subcircuits, partitions), and so may unions, sections and differences of sets; it
-/// refuses only where there is none.
+/// precedence, subcircuits, partitions); it refuses only where there is none.
 #[inline]
 pub fn state(
     alloc: Global,

@@ -1,19 +1,23 @@
 //! The value that a row leaves, whatever its kind.
 
-ghost use Rattle.std.specs.Prelude.{◌≡◌, ℕ, List, length, nat_eq, None, IfOk, IsFalse, IsTrue, option_map};
-ghost use Rattle.fz_meaning.specs.Builtins.{Row, reified, row_at};
-ghost use Rattle.fz_meaning.specs.Known.{known_row};
-ghost use Rattle.fz_meaning.specs.Meaning.{Argument, Partial};
+ghost use Rattle.std.specs.Prelude.{◌≡◌, ℕ, length, None, IfNone, IfOk, IfSome, IsFalse, IsTrue, option_map};
+ghost use Rattle.fz_base.specs.declared.value.Value.TheVariants.{Bool as Truth};
+ghost use Rattle.fz_meaning.specs.declared.kind.Kind.{Kind};
+ghost use Rattle.fz_meaning.specs.Builtins.{reified};
 ghost use Rattle.fz_meaning.specs.Results.{result_of};
+ghost use Rattle.fz_meaning.specs.declared.kind.Kind.TheVariants.{Bool as BoolKind, Int as IntKind};
 ghost use Rattle.fz_builtins.specs.of_view.Views.{arguments_of, assigned};
-ghost use Rattle.fz_builtins.specs.Said.{IsSaid};
-ghost use Rattle.fz_eval.specs.Left.{IsLeftAt, IsPlaceOf, is_too_large};
+ghost use Rattle.fz_meaning.specs.Builtins.{row_at};
+ghost use Rattle.fz_meaning.specs.Known.{known_row};
+ghost use Rattle.fz_eval.specs.Left.{IsLeft, IsOfKind, IsPlaceOf, holds_with, is_too_large};
 
-use crate::numbers::narrowed;
-use fz_base::{IntSet, SetError, Value};
+use crate::base_row::{left_number, left_set, left_truth};
+use crate::counted::{Tally, counted};
+use crate::numbers::narrow;
+use fz_base::{SetError, Value};
 use fz_builtins::fz_arguments::ArgumentView;
-use fz_builtins::{Outcome, Said, of_builtin, said_of};
-use fz_meaning::{Builtin, Form, Known};
+use fz_builtins::{Outcome, of_builtin};
+use fz_meaning::{Builtin, Form, Kind, Known, Shape};
 use std::alloc::{AllocError, Global};
 
 /// The value that a row leaves to the argument at an index that `defines_var` may name, by the
@@ -26,9 +30,10 @@ pub(crate) fn left_value(
     view: &ArgumentView<'_, '_>,
 ) -> Result<Option<Value>, AllocError>
     requires result { IsPlaceOf (result_of (known_row known)) place }
-    ensures left { IsFalse (is_too_large (known_row known) (assigned view.now)
-        (arguments_of view.now)) → IfOk result
-        (IsLeftAt (known_row known) (assigned view.now) (arguments_of view.now) place) }
+    ensures left { (k : Kind) → IsOfKind (known_row known).shapes place k
+        → IsFalse (is_too_large (known_row known) (assigned view.now) (arguments_of view.now))
+        → IfOk result (λ left. IsLeft k
+        (holds_with (known_row known) (assigned view.now) (arguments_of view.now) place) left) }
     ensures too_large { IsTrue (is_too_large (known_row known) (assigned view.now)
         (arguments_of view.now)) → IfOk result (λ left. left ≡ None) }
 {
@@ -48,8 +53,9 @@ fn left_form(
 ) -> Result<Option<Value>, AllocError>
     requires { place ≡ length (row_at builtin).shapes }
     ensures left { IsFalse (is_too_large (row_at builtin) (assigned view.now)
-        (arguments_of view.now)) → IfOk result
-        (IsLeftAt (reified (row_at builtin)) (assigned view.now) (arguments_of view.now) place) }
+        (arguments_of view.now)) → IfOk result (λ left. IsLeft BoolKind
+        (holds_with (reified (row_at builtin)) (assigned view.now)
+        (arguments_of view.now) place) left) }
     ensures too_large { IsTrue (is_too_large (row_at builtin) (assigned view.now)
         (arguments_of view.now)) → IfOk result (λ left. left ≡ None) }
 {
@@ -59,7 +65,7 @@ fn left_form(
     }
 }
 
-// What a base row leaves to its result: the value that it says the result has.
+// What a base row leaves.
 #[inline(always)]
 fn left_base(
     alloc: Global,
@@ -68,36 +74,55 @@ fn left_base(
     view: &ArgumentView<'_, '_>,
 ) -> Result<Option<Value>, AllocError>
     requires { IsPlaceOf (result_of (row_at builtin)) place }
-    ensures left { IfOk result
-        (IsLeftAt (row_at builtin) (assigned view.now) (arguments_of view.now) place) }
-    ensures too_large { IsTrue (is_too_large (row_at builtin) (assigned view.now)
-        (arguments_of view.now)) → IfOk result (λ left. left ≡ None) }
+    ensures { (k : Kind) → IsOfKind (row_at builtin).shapes place k
+        → IfOk result (λ left. IsLeft k
+        (holds_with (row_at builtin) (assigned view.now) (arguments_of view.now) place) left) }
 {
-    match said_of(alloc, builtin, place == 0, view) {
-        Ok(said) => left_by(alloc, said),
-        Err(SetError::Memory) => Err(AllocError),
+    let Some(kind) = kind_at(builtin, place) else {
+        return Ok(None);
+    };
+    match kind {
+        Kind::Int => left_int(alloc, builtin, place, view),
+        Kind::Bool => Ok(left_truth(builtin, place, view).map(Value::Bool)),
+        Kind::Set => match left_set(alloc, builtin, place, view) {
+            Ok(set) => Ok(set.map(Value::Set)),
+            Err(SetError::Memory) => Err(AllocError),
+        },
     }
 }
 
-// What a row leaves to its result that says this. It is no value for a number past 64 bits.
-fn left_by(alloc: Global, said: Said<'_>) -> Result<Option<Value>, AllocError>
-    ensures { (r : Row) (K : Partial) (xs : List Argument) (i : ℕ) → IsPlaceOf (result_of r) i
-        → IsSaid r (nat_eq i 0) K xs said.entry → IfOk result (IsLeftAt r K xs i) }
+// What a base row leaves to a result that is an integer: a count or an index, or a number that it
+// computes.
+fn left_int(
+    alloc: Global,
+    builtin: Builtin,
+    place: usize,
+    view: &ArgumentView<'_, '_>,
+) -> Result<Option<Value>, AllocError>
+    requires result { IsPlaceOf (result_of (row_at builtin)) place }
+    requires number { IsOfKind (row_at builtin).shapes place IntKind }
+    ensures { IfOk result (λ left. IsLeft IntKind
+        (holds_with (row_at builtin) (assigned view.now) (arguments_of view.now) place) left) }
 {
-    match said {
-        Said::Whether(_) => Ok(None),
-        Said::Number(_, number) => Ok(narrowed(number).map(Value::Int)),
-        Said::Boolean(_, truth) => Ok(truth.map(Value::Bool)),
-        Said::Set(_, set) => Ok(Some(Value::Set(set))),
-        Said::Given(_, set) => Ok(copied(alloc, set)?.map(Value::Set)),
-    }
+    let number = match counted(alloc, builtin, view)? {
+        Tally::Exactly(number) => narrow(number),
+        Tally::Nothing => None,
+        Tally::Other => left_number(builtin, place, view),
+    };
+    Ok(number.map(Value::Int))
 }
 
-fn copied(alloc: Global, set: Option<&IntSet>) -> Result<Option<IntSet>, AllocError>
-    ensures { IfOk result (λ copy. copy ≡ option_map (λ s. s.now) set.entry) }
+// The kind of the scalar that is the argument of a base row at an index.
+fn kind_at(builtin: Builtin, place: usize) -> Option<Kind>
+    ensures found { IfSome result (λ k. IsOfKind (row_at builtin).shapes place k) }
+    ensures none { IfNone result ((k : Kind) → IsOfKind (row_at builtin).shapes place k → ⊥) }
 {
-    match set {
-        Some(set) => Ok(Some(set.copy(alloc)?)),
-        None => Ok(None),
+    let base = Known {
+        builtin,
+        form: Form::Base,
+    };
+    match base.shapes().get(place)? {
+        Shape::Scalar(kind) => Some(*kind),
+        Shape::Array(_) => None,
     }
 }

@@ -33,6 +33,26 @@ pub fn index_of_minimum(elements: &Elements, first: i64) -> Option<i128>
     }
 }
 
+/// Whether the index, counted from `first`, is that of the first greatest element, if there is any.
+pub fn is_index_of_maximum(elements: &Elements, first: i64, index: i64) -> bool
+    ensures exact { result ≡ is_index_of_best (λ x m. int_le x m) (ints elements.now) first index }
+{
+    match index_of_maximum(elements, first) {
+        Some(best) => i128::from(index) == best,
+        None => false,
+    }
+}
+
+/// Whether the index, counted from `first`, is that of the first least element, if there is any.
+pub fn is_index_of_minimum(elements: &Elements, first: i64, index: i64) -> bool
+    ensures exact { result ≡ is_index_of_best (λ x m. int_le m x) (ints elements.now) first index }
+{
+    match index_of_minimum(elements, first) {
+        Some(best) => i128::from(index) == best,
+        None => false,
+    }
+}
+
 // The index of the first element that is the number.
 fn index_of(number: i64, elements: &Elements, first: i64) -> Option<i128>
     ensures { result ≡ index_from first (ints elements.now) number }

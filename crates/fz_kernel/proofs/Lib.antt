@@ -1,3 +1,4 @@
+pub mod SetRelations
 pub mod Different
 pub mod Left
 pub mod Added

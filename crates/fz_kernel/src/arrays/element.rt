@@ -1,8 +1,9 @@
 // The element at an index.
 ghost use Rattle.std.specs.Prelude.{◌≡◌, ◌+◌, ◌≤◌, ◌<◌, ℕ, pos, IfSome, IfNone, option_map};
-ghost use Rattle.fz_meaning.specs.Relations.{element_at};
+ghost use Rattle.fz_meaning.specs.Relations.{◌=ℤ◌, ◌=ᴮ◌, ◌=ˢ◌, element_at, is_element};
 ghost use Rattle.fz_arguments.specs.Views.{ints, bools, sets};
 
+use crate::sets::same_set;
 use fz_arguments::Elements;
 use fz_base::IntSet;
 
@@ -53,5 +54,35 @@ pub fn set_element<'s>(index: i64, elements: &Elements<'s>) -> Option<&'s IntSet
     match place_of(i128::from(index), elements.len()) {
         Some(place) => Some(elements.set(place)),
         None => None,
+    }
+}
+
+/// Whether the element at an index counted from 1 is `c`.
+pub fn is_int_element(index: i64, elements: &Elements, c: i64) -> bool
+    ensures exact { result ≡ is_element ◌=ℤ◌ index (ints elements.now) c }
+{
+    match int_element(index, elements) {
+        Some(element) => element == c,
+        None => false,
+    }
+}
+
+/// Whether the element at an index counted from 1 is `c`.
+pub fn is_bool_element(index: i64, elements: &Elements, c: bool) -> bool
+    ensures exact { result ≡ is_element ◌=ᴮ◌ index (bools elements.now) c }
+{
+    match bool_element(index, elements) {
+        Some(element) => element == c,
+        None => false,
+    }
+}
+
+/// Whether the element at an index counted from 1 is `c`.
+pub fn is_set_element(index: i64, elements: &Elements, c: &IntSet) -> bool
+    ensures exact { result ≡ is_element ◌=ˢ◌ index (sets elements.now) c.now }
+{
+    match set_element(index, elements) {
+        Some(element) => same_set(element, c),
+        None => false,
     }
 }

@@ -4,7 +4,7 @@ use Rattle.fz_meaning.specs.Known.{known_row}
 use Rattle.fz_builtins.specs.of_view.Views.{arguments_of, assigned}
 use Rattle.fz_eval.specs.Left.{IsPlaceOf}
 use Rattle.fz_eval.proofs.Held.{nothing_placed}
-use Rattle.fz_eval.proofs.Tables.{same_sums}
+use Rattle.fz_eval.proofs.Tables.{place_is_scalar, same_sums}
 use Rattle.fz_eval.proofs.Chosen.{scalar_chosen}
 use Rattle.fz_eval.proofs.row.value_at.Goals as goal
 
@@ -14,7 +14,7 @@ returns-then-is_place c =
     let xs = arguments_of c.args.view.now in
     let r = known_row c.args.known in
     let place = subst (λ o. IsPlaceOf o c.args.spot.argument) c.filled-2.ensures (c.if-is_place.ensures.0 refl) in
-    scalar_chosen K xs r c.args.spot c.requires.ready place (same_sums K xs r c.requires.row c.requires.ready.shaped)
+    scalar_chosen K xs r c.args.spot c.requires.ready (place_is_scalar r c.requires.row c.args.spot.argument place) place (same_sums K xs r c.requires.row c.requires.ready.shaped)
     c.left_value.result c.left_value.ensures.left c.left_value.ensures.too_large
 
 pub returns : goal.returns

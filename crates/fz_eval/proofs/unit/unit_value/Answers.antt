@@ -5,7 +5,7 @@ use Rattle.fz_meaning.specs.Relations.{total, products}
 use Rattle.fz_builtins.specs.of_view.Given.{ints_at}
 use Rattle.fz_builtins.specs.of_view.Views.{arguments_of, assigned}
 use Rattle.fz_builtins.proofs.ElementReadings.{ints_are}
-use Rattle.fz_eval.proofs.UnitRow.{unit_row}
+use Rattle.fz_eval.proofs.RowLemmas.{unit_row}
 use Rattle.fz_eval.proofs.unit.unit_value.Goals as goal
 
 pub returns-clause-left : goal.returns-clause-left
